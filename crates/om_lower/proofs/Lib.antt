@@ -12,6 +12,7 @@ pub mod Coding
 pub mod SiteBodies
 pub mod FunctionBodies
 pub mod Rounds
+pub mod Knowing
 pub mod Ready
 pub mod Refusing
 pub mod Assembled

@@ -1,47 +1,58 @@
 -- What a function's bodies are before they are lowered.
-use Rattle.std.proofs.Common.{◌≡◌, ℕ, List, [], ◌∷◌, All, sym, subst}
+use Rattle.std.proofs.Common.{◌≡◌, ℕ, List, [], ◌∷◌, ◌++◌, All, map, sym, ap, subst, ◌∙◌}
 use Rattle.std.proofs.lemmas.List.Elements.{All-nil, All-cons, All-head, All-tail}
+use Rattle.om_lower.specs.declared.functions.Next.{Next}
 use Rattle.om_lower.specs.Limits.{HasFewSlots}
-use Rattle.om_lower.specs.Sites.{IsReady}
+use Rattle.om_lower.specs.Made.{IsNext, next_function, next_numbers}
+use Rattle.om_lower.specs.Sites.{IsPlaced, IsReady}
+use Rattle.om_lower.proofs.Knowing.{placed_by}
 use Rattle.om_lower.proofs.Rounds.{IsRound, round_function}
 use Rattle.om_resolved.specs.ResolvedTree.{ResolvedFunctionTree}
-use Rattle.om_rows.specs.Bodies.{BodySite, Numbers, function_bodies}
+use Rattle.om_rows.specs.Bodies.{BodySite, Numbers, function_bodies, variables_of}
 use Rattle.om_rows.specs.Coded.{BodyHasCode}
-use Rattle.om_rows.specs.Mentions.{extents_of}
-use Rattle.om_rows.specs.Slots.{Extent, cells_in}
-use Rattle.om_tables.specs.Ends.{HasSiteEnds}
+use Rattle.om_rows.specs.Slots.{Extent}
+use Rattle.om_tables.specs.Ends.{KnownBodies}
+use Rattle.om_tables.specs.declared.tables.Tables.{Tables}
+use Rattle.om_tables.specs.Tables.{AreCellsOf, ends_in, known_of}
 
 -- a body has code
 abbrev HasCode : BodySite → Type 0
 HasCode b = BodyHasCode b.function b.tree
 
--- a table of the cells of a function's variables
-abbrev IsTable : List Extent → ResolvedFunctionTree → Type 0
-IsTable extents f = (variable : ℕ) → cells_in extents variable ≡ cells_in (extents_of f) variable
-
-ready : (ends : List Numbers) (extents : List Extent) (f : ResolvedFunctionTree) (sites : List BodySite)
-    → IsTable extents f
-    → All HasFewSlots sites → All (IsRound f) sites → All HasCode sites → All (HasSiteEnds ends) sites
-    → All (IsReady ends extents) sites
-ready ends extents f [] table few round code known = All-nil (IsReady ends extents)
-ready ends extents f (b ∷ sites) table few round code known =
+ready : (known : KnownBodies) (extents : List Extent) (f : ResolvedFunctionTree) (sites : List BodySite)
+    → AreCellsOf f extents
+    → All HasFewSlots sites → All (IsRound f) sites → All HasCode sites → All (IsPlaced known) sites
+    → All (IsReady known extents) sites
+ready known extents f [] table few round code placed = All-nil (IsReady known extents)
+ready known extents f (b ∷ sites) table few round code placed =
     let here = All-head (IsRound f) b sites round in
-    All-cons (IsReady ends extents) b sites
+    All-cons (IsReady known extents) b sites
     (record {
-      cells = subst (λ g. IsTable extents g) (sym here.0) table;
+      cells = subst (λ g. AreCellsOf g extents) (sym here.0) table;
       few = All-head HasFewSlots b sites few;
       round = here.1;
       code = All-head HasCode b sites code;
-      known = All-head (HasSiteEnds ends) b sites known;
+      placed = All-head (IsPlaced known) b sites placed;
     })
-    (ready ends extents f sites table (All-tail HasFewSlots b sites few) (All-tail (IsRound f) b sites round)
-    (All-tail HasCode b sites code) (All-tail (HasSiteEnds ends) b sites known))
+    (ready known extents f sites table (All-tail HasFewSlots b sites few) (All-tail (IsRound f) b sites round)
+    (All-tail HasCode b sites code) (All-tail (IsPlaced known) b sites placed))
 
-pub function_ready : (ends : List Numbers) (extents : List Extent) (f : ResolvedFunctionTree) (n : Numbers)
-    (sites : List BodySite) → sites ≡ function_bodies n f → IsTable extents f
-    → All HasFewSlots sites → All HasCode (function_bodies n f) → All (HasSiteEnds ends) (function_bodies n f)
-    → All (IsReady ends extents) sites
-function_ready ends extents f n sites same table few code known =
-    let slots = subst (λ all. All HasFewSlots all) same few in
-    subst (λ all. All (IsReady ends extents) all) (sym same)
-    (ready ends extents f (function_bodies n f) table slots (round_function f n slots) code known)
+pub function_ready : (known : KnownBodies) (extents : List Extent) (f : ResolvedFunctionTree) (n : Numbers)
+    → AreCellsOf f extents → All HasFewSlots (function_bodies n f) → All HasCode (function_bodies n f)
+    → All (IsPlaced known) (function_bodies n f) → All (IsReady known extents) (function_bodies n f)
+function_ready known extents f n table few code placed =
+    ready known extents f (function_bodies n f) table few (round_function f n few) code placed
+
+-- those of the function that comes next, once their variables are found
+pub next_ready : (tables : Tables) (old slots : List (List ℕ)) (next : Next) (sites : List BodySite)
+    → IsNext tables old next → sites ≡ function_bodies (next_numbers next) (next_function next)
+    → slots ≡ old ++ map variables_of sites → All HasFewSlots sites
+    → All (IsReady (known_of tables slots) next.extents.now)
+    (function_bodies (next_numbers next) (next_function next))
+next_ready tables old slots next sites is same added few =
+    let n = next_numbers next in
+    let f = next_function next in
+    let few_here = subst (λ all. All HasFewSlots all) same few in
+    function_ready (known_of tables slots) next.extents.now f n is.cells few_here is.code
+    (placed_by (ends_in tables) old slots f n is.ends is.before
+    (added ∙ ap (λ all. old ++ map variables_of all) same) few_here)

@@ -10,14 +10,23 @@ use Rattle.om_emit.specs.Settled.{ListsStand, number_of}
 use Rattle.om_lower.specs.declared.bodies.Bodies.{Bodies}
 use Rattle.om_lower.specs.declared.bodies.LoweredBody.{LoweredBody}
 use Rattle.om_lower.specs.declared.functions.Lowered.{Lowered}
+use Rattle.om_lower.specs.declared.functions.Next.{Next}
 use Rattle.om_lower.specs.Heights.{AreLow, IsFirst}
 use Rattle.om_lower.specs.Limits.{HasRoom, IsCodeAt, IsOver}
 use Rattle.om_lower.specs.Once.{site_picks}
 use Rattle.om_resolved.specs.ResolvedTree.{ResolvedFunctionTree, ResolvedTree}
 use Rattle.om_rows.specs.Bodies.{BodySite, Numbers, behind_function, behind_functions, bodies_from, first_numbers}
 use Rattle.om_rows.specs.Bodies.{function_bodies}
+use Rattle.om_rows.specs.Bodies.{variables_of}
 use Rattle.om_rows.specs.Code.{given_of, slots_of}
+use Rattle.om_rows.specs.Coded.{BodyHasCode}
 use Rattle.om_rows.specs.Names.{names_of}
+use Rattle.om_rows.specs.Positions.{StandsAt}
+use Rattle.om_resolved.specs.ResolvedView.{view_resolved_function}
+use Rattle.om_tables.specs.declared.tables.Tables.{Tables}
+use Rattle.om_tables.specs.Ends.{function_ends}
+use Rattle.om_tables.specs.Numbering.{numbers_of}
+use Rattle.om_tables.specs.Tables.{AreCellsOf, ends_in}
 
 -- a body of the tree, in every program that has these lists of PICK
 pub record IsMade (tree : ResolvedTree) (lists : List PickList) (b : BodySite) (body : Body) : Type 0 where
@@ -76,6 +85,25 @@ AddsFunction tree n f old new false = FitsFunction tree n f None
     × (new.functions ≡ old.functions) × (new.lists ≡ old.lists)
 AddsFunction tree n f old new true = (bodies : Bodies) × FitsFunction tree n f (Some bodies)
     × (new.functions ≡ old.functions ++ bodies.bodies ∷ []) × (new.lists ≡ old.lists ++ bodies.lists)
+
+-- the variables of a function's bodies are put behind those of the bodies before them
+abbrev pub AddsSlots : Numbers → ResolvedFunctionTree → (old new : List (List ℕ)) → Type 0
+AddsSlots n f old new = new ≡ old ++ map variables_of (function_bodies n f)
+
+abbrev pub next_function : Next → ResolvedFunctionTree
+next_function next = view_resolved_function next.function.now
+
+abbrev pub next_numbers : Next → Numbers
+next_numbers next = numbers_of next.numbers
+
+-- a function can be lowered next: its bodies have code, its cells and the numbers behind its bodies are known, and
+-- so are the variables of all bodies before them
+pub record IsNext (tables : Tables) (slots : List (List ℕ)) (next : Next) : Type 0 where
+  pub cells : AreCellsOf (next_function next) next.extents.now
+  pub code : All (λ b. BodyHasCode b.function b.tree) (function_bodies (next_numbers next) (next_function next))
+  pub ends : StandsAt (ends_in tables) (next_numbers next).bodies
+      (function_ends (next_numbers next) (next_function next))
+  pub before : length slots ≡ (next_numbers next).bodies
 
 -- the first function without bodies passes a limit
 pub record Stops (tree : ResolvedTree) (functions : List (List Body)) : Type 0 where

@@ -5,7 +5,7 @@ ghost use Rattle.om_lower.specs.Emitted.{HasLists, HasRow};
 ghost use Rattle.om_lower.specs.Frames.{FitsFrame};
 ghost use Rattle.om_lower.specs.Limits.{HasFewSlots, HasManySlots, HasSlots};
 ghost use Rattle.om_lower.specs.Made.{AddsBody, FitsBodies, FitsBody, FitsCode};
-ghost use Rattle.om_lower.specs.Sites.{IsReady, bodies_in, body_in, body_round, innermost, part_tree, round_with, seen_body, variables_at};
+ghost use Rattle.om_lower.specs.Sites.{IsListed, IsReady, bodies_in, body_in, body_round, innermost, known_with, part_tree, round_with, seen_body, variables_at};
 ghost use Rattle.om_resolved.specs.ResolvedView.{view_resolved, view_resolved_clause, view_resolved_function, view_resolved_statement};
 ghost use Rattle.om_rows.specs.Bodies.{region_variables, variables_of};
 ghost use Rattle.om_rows.specs.Code.{captures_of, given_of, slots_of};
@@ -13,9 +13,9 @@ ghost use Rattle.om_rows.specs.Coded.{BodyHasCode};
 ghost use Rattle.om_rows.specs.Names as named;
 ghost use Rattle.om_rows.specs.Slots.{slot_of};
 ghost use Rattle.om_rows.specs.Statements.{given_copies};
-ghost use Rattle.om_tables.specs.Ends.{HasSiteEnds};
+ghost use Rattle.om_tables.specs.Ends.{HasBodyEnds};
 ghost use Rattle.om_tables.specs.Scopes.{names_of};
-ghost use Rattle.om_tables.specs.Tables.{IsTablesOf, ends_in};
+ghost use Rattle.om_tables.specs.Tables.{IsTablesOf, known_in};
 
 use crate::body::{function_body, parallel_body, task_body};
 use crate::emitted::Emitted;
@@ -36,26 +36,40 @@ use om_tables::{
 use om_visible::{function_names, names_with, parallel_names, task_names};
 use std::alloc::{AllocError, Global};
 
-/// Whether none of these bodies has more than 256 slots.
-pub(crate) fn have_few_slots(alloc: Global, sites: &[Site<'_>]) -> Result<bool, AllocError>
+/// Adds the variables of these bodies behind those of other ones; false where a body has more than 256 slots.
+pub(crate) fn add_slots(
+    slots: &mut Vec<Variables>,
+    alloc: Global,
+    sites: &[Site<'_>],
+) -> Result<bool, AllocError>
     ensures few { IfOk result (λ few. few ≡ true → All HasFewSlots (bodies_in [] sites.now)) }
+    ensures added { IfOk result (λ few. few ≡ true →
+        slots.new.items ≡ slots.old.items ++ map variables_of (bodies_in [] sites.now)) }
     ensures many { IfOk result (λ few.
         few ≡ false → Any HasManySlots (bodies_in [] sites.now)) }
 {
     for site in sites {
-        if !has_few_slots(alloc, site)? {
+        if !add_variables(slots, alloc, site)? {
             return Ok(false);
         }
     }
     Ok(true)
 }
 
-/// Whether a body has at most 256 slots.
-fn has_few_slots(alloc: Global, site: &Site<'_>) -> Result<bool, AllocError>
-    ensures { IfOk result (λ few. HasSlots few (body_in [] site.now)) }
+/// Adds the variables of a body; false where it has more than 256 slots.
+fn add_variables(
+    slots: &mut Vec<Variables>,
+    alloc: Global,
+    site: &Site<'_>,
+) -> Result<bool, AllocError>
+    ensures few { IfOk result (λ few. HasSlots few (body_in [] site.now)) }
+    ensures added { OnOk result
+        (slots.new.items ≡ slots.old.items ++ variables_of (body_in [] site.now) ∷ []) }
 {
     let variables = variables_in(alloc, site)?;
-    Ok(variables.len() <= SLOT_LIMIT)
+    let few = variables.len() <= SLOT_LIMIT;
+    slots.push(variables)?;
+    Ok(few)
 }
 
 /// Bodies, and the lists of the PICKs in them.
@@ -72,6 +86,15 @@ pub(crate) struct LoweredBody {
     pub(crate) lists: Vec<PickList>,
 }
 
+/// What the bodies of a function are lowered with, besides the tables of their program.
+#[derive(Clone, Copy)]
+pub(crate) struct Known<'a> {
+    /// The variables of the first bodies of the program by their numbers, these bodies among them.
+    pub(crate) slots: &'a [Variables],
+    /// How many cells the variables of the function have.
+    pub(crate) extents: &'a Extents,
+}
+
 /// A body that is lowered, with its variables and those of the body round it; a function's own body
 /// has none round it.
 #[derive(Clone, Copy)]
@@ -82,13 +105,14 @@ pub(crate) struct SeenBody<'a> {
 }
 
 /// These bodies of a function; `None` where one passes a limit on cells or instructions.
-pub(crate) fn lower_bodies(
+pub(crate) fn lower_bodies<'a>(
     whole: &Whole<'_>,
-    extents: &Extents,
-    sites: &[Site<'_>],
+    known: &Known<'a>,
+    sites: &'a [Site<'a>],
 ) -> Result<Option<Bodies>, AllocError>
     requires tables { IsTablesOf (view_resolved whole.now.resolved.now) whole.now.tables.now }
-    requires ready { All (IsReady (ends_in whole.now.tables.now) extents.now) (bodies_in [] sites.now) }
+    requires ready { All (IsReady (known_with whole.now.tables.now known.now) known.now.extents.now)
+        (bodies_in [] sites.now) }
     ensures { let tree = view_resolved whole.now.resolved.now in
         IfOk result (λ made. FitsBodies tree (bodies_in [] sites.now) made) }
 {
@@ -98,7 +122,7 @@ pub(crate) fn lower_bodies(
     };
     let mut round = Vec::new(whole.alloc);
     for site in sites {
-        if !add_next(&mut made, &mut round, whole, extents, site)? {
+        if !add_next(&mut made, &mut round, whole, known, site)? {
             return Ok(None);
         }
     }
@@ -106,60 +130,72 @@ pub(crate) fn lower_bodies(
 }
 
 /// Adds the next body; false where it passes a limit on cells or instructions. The variables of the
-/// bodies that are not yet over are kept, from the outermost in: so each body's are found once.
-fn add_next(
+/// bodies that are not yet over stand in `round`, from the outermost in.
+fn add_next<'a>(
     made: &mut Bodies,
-    round: &mut Vec<Variables>,
+    round: &mut Vec<&'a Variables>,
     whole: &Whole<'_>,
-    extents: &Extents,
-    site: &Site<'_>,
+    known: &Known<'a>,
+    site: &'a Site<'a>,
 ) -> Result<bool, AllocError>
     requires tables { IsTablesOf (view_resolved whole.now.resolved.now) whole.now.tables.now }
-    requires ready { IsReady (ends_in whole.now.tables.now) extents.now (body_round round.old.items site.now) }
+    requires ready { let b = body_round (map (λ one. one.now) round.old.items) site.now in
+        IsReady (known_with whole.now.tables.now known.now) known.now.extents.now b }
     ensures adds { let tree = view_resolved whole.now.resolved.now in
-        let b = body_round round.old.items site.now in
+        let b = body_round (map (λ one. one.now) round.old.items) site.now in
         IfOk result (λ fits. AddsBody tree b made.old made.new fits) }
-    ensures round { OnOk result (round.new.items ≡ round_with round.old.items site.now) }
+    ensures round { OnOk result (map (λ one. one.now) round.new.items
+        ≡ round_with (map (λ one. one.now) round.old.items) site.now) }
 {
     round.truncate(site.depth);
-    let variables = variables_in(whole.alloc, site)?;
+    let variables = own_variables(known, site);
     let none = Variables::new(whole.alloc);
     let outer = innermost(round.as_slice(), &none);
     let seen = SeenBody {
         site,
-        variables: &variables,
+        variables,
         outer,
     };
-    let fits = add_body(made, whole, extents, &seen)?;
+    let fits = add_body(made, whole, known, &seen)?;
     round.push(variables)?;
     Ok(fits)
 }
 
 /// The variables of the innermost body, if there is one, and these otherwise.
-fn innermost<'a>(round: &'a [Variables], none: &'a Variables) -> &'a Variables
+fn innermost<'a>(round: &[&'a Variables], none: &'a Variables) -> &'a Variables
     requires { none.now ≡ [] }
-    ensures { result.now ≡ innermost round.now }
+    ensures { result.now ≡ innermost (map (λ one. one.now) round.now) }
 {
     match round.last() {
         None => none,
-        Some(variables) => variables,
+        Some(variables) => *variables,
     }
+}
+
+/// The variables of a body, which stand at its number.
+fn own_variables<'a>(known: &Known<'a>, site: &Site<'_>) -> &'a Variables
+    requires { IsListed known.now.slots.now (body_in [] site.now) }
+    ensures { result.now ≡ variables_of (body_in [] site.now) }
+{
+    let number = site.numbers.bodies - 1;
+    &known.slots[number as usize]
 }
 
 /// Adds a body; false where it passes a limit on cells or instructions.
 fn add_body(
     made: &mut Bodies,
     whole: &Whole<'_>,
-    extents: &Extents,
+    known: &Known<'_>,
     seen: &SeenBody<'_>,
 ) -> Result<bool, AllocError>
     requires tables { IsTablesOf (view_resolved whole.now.resolved.now) whole.now.tables.now }
-    requires ready { IsReady (ends_in whole.now.tables.now) extents.now (seen_body seen.now) }
+    requires ready { IsReady (known_with whole.now.tables.now known.now) known.now.extents.now
+        (seen_body seen.now) }
     requires variables { seen.now.variables.now ≡ variables_of (seen_body seen.now) }
     ensures { let tree = view_resolved whole.now.resolved.now in
         IfOk result (λ fits. AddsBody tree (seen_body seen.now) made.old made.new fits) }
 {
-    match lower_body(whole, extents, seen)? {
+    match lower_body(whole, known, seen)? {
         None => Ok(false),
         Some(body) => {
             put_body(made, body)?;
@@ -181,30 +217,33 @@ fn put_body(made: &mut Bodies, lowered: LoweredBody) -> Result<(), AllocError>
 /// A body; `None` where it passes a limit on cells or instructions.
 fn lower_body(
     whole: &Whole<'_>,
-    extents: &Extents,
+    known: &Known<'_>,
     seen: &SeenBody<'_>,
 ) -> Result<Option<LoweredBody>, AllocError>
     requires tables { IsTablesOf (view_resolved whole.now.resolved.now) whole.now.tables.now }
-    requires ready { IsReady (ends_in whole.now.tables.now) extents.now (seen_body seen.now) }
+    requires ready { IsReady (known_with whole.now.tables.now known.now) known.now.extents.now
+        (seen_body seen.now) }
     requires variables { seen.now.variables.now ≡ variables_of (seen_body seen.now) }
     ensures { let tree = view_resolved whole.now.resolved.now in
         IfOk result (λ made. FitsBody tree (seen_body seen.now) made) }
 {
-    let Some(slots) = frame_in(whole, extents, seen)? else {
+    let Some(slots) = frame_in(whole, known, seen)? else {
         return Ok(None);
     };
-    body_on(whole, seen, slots)
+    body_on(whole, known, seen, slots)
 }
 
 /// The same, where its slots are made.
 fn body_on(
     whole: &Whole<'_>,
+    known: &Known<'_>,
     seen: &SeenBody<'_>,
     slots: Seq<Slot>,
 ) -> Result<Option<LoweredBody>, AllocError>
     requires tables { IsTablesOf (view_resolved whole.now.resolved.now) whole.now.tables.now }
     requires code { BodyHasCode (seen_body seen.now).function (seen_body seen.now).tree }
-    requires ends { HasSiteEnds (ends_in whole.now.tables.now) (seen_body seen.now) }
+    requires regions { let b = seen_body seen.now in
+        HasBodyEnds (known_with whole.now.tables.now known.now) b.numbers b.function b.tree }
     requires slots { FitsFrame (variables_of (seen_body seen.now)) (slots_of (seen_body seen.now))
         (Some slots) }
     requires round { length seen.now.outer.now ≤ 256 }
@@ -212,7 +251,7 @@ fn body_on(
     ensures { let tree = view_resolved whole.now.resolved.now in
         IfOk result (λ made. FitsBody tree (seen_body seen.now) made) }
 {
-    match code_in(whole, seen)? {
+    match code_in(whole, known, seen)? {
         None => Ok(None),
         Some(emitted) => {
             let given = given_in(whole.alloc, seen)?;
@@ -266,17 +305,18 @@ fn captures_in<'a>(part: &BodyPart<'a>) -> &'a [Capture]
 /// The slots of a body; `None` where it passes a limit.
 fn frame_in(
     whole: &Whole<'_>,
-    extents: &Extents,
+    known: &Known<'_>,
     seen: &SeenBody<'_>,
 ) -> Result<Option<Seq<Slot>>, AllocError>
-    requires ready { IsReady (ends_in whole.now.tables.now) extents.now (seen_body seen.now) }
+    requires ready { IsReady (known_with whole.now.tables.now known.now) known.now.extents.now
+        (seen_body seen.now) }
     requires variables { seen.now.variables.now ≡ variables_of (seen_body seen.now) }
     ensures { let b = seen_body seen.now in
         IfOk result (λ frame. FitsFrame (variables_of b) (slots_of b) frame) }
 {
     frame_of(
         whole.alloc,
-        extents,
+        known.extents,
         seen.outer,
         captures_in(&seen.site.part),
         seen.variables,
@@ -284,17 +324,28 @@ fn frame_in(
 }
 
 /// The code of a body; `None` where it has too many instructions.
-fn code_in(whole: &Whole<'_>, seen: &SeenBody<'_>) -> Result<Option<Emitted>, AllocError>
+fn code_in(
+    whole: &Whole<'_>,
+    known: &Known<'_>,
+    seen: &SeenBody<'_>,
+) -> Result<Option<Emitted>, AllocError>
     requires tables { IsTablesOf (view_resolved whole.now.resolved.now) whole.now.tables.now }
     requires code { BodyHasCode (seen_body seen.now).function (seen_body seen.now).tree }
-    requires ends { HasSiteEnds (ends_in whole.now.tables.now) (seen_body seen.now) }
+    requires regions { let b = seen_body seen.now in
+        HasBodyEnds (known_with whole.now.tables.now known.now) b.numbers b.function b.tree }
     requires few { HasFewSlots (seen_body seen.now) }
     requires variables { seen.now.variables.now ≡ variables_of (seen_body seen.now) }
     ensures { let tree = view_resolved whole.now.resolved.now in
         IfOk result (λ code. FitsCode tree (seen_body seen.now) code) }
 {
     let is_main = is_main(seen.site.function);
-    let scope = Scope::new(whole.resolved, whole.tables, seen.variables, is_main);
+    let scope = Scope::new(
+        whole.resolved,
+        whole.tables,
+        known.slots,
+        seen.variables,
+        is_main,
+    );
     let emitted = emitted_in(whole.alloc, &scope, seen.site)?;
     if emitted.code.len() > INSTRUCTION_LIMIT {
         return Ok(None);
@@ -305,7 +356,8 @@ fn code_in(whole: &Whole<'_>, seen: &SeenBody<'_>) -> Result<Option<Emitted>, Al
 /// The code of a body, of whatever length.
 fn emitted_in(alloc: Global, scope: &Scope<'_>, site: &Site<'_>) -> Result<Emitted, AllocError>
     requires code { BodyHasCode (body_in [] site.now).function (body_in [] site.now).tree }
-    requires ends { HasSiteEnds (ends_in scope.now.tables.now) (body_in [] site.now) }
+    requires regions { let b = body_in [] site.now in
+        HasBodyEnds (known_in scope.now) b.numbers b.function b.tree }
     ensures row { let b = body_in [] site.now in
         IfOk result (HasRow (names_of scope.now) b.numbers b.function b.tree) }
     ensures lists { let b = body_in [] site.now in

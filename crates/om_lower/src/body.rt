@@ -9,7 +9,7 @@ ghost use Rattle.om_rows.specs.Coded.{BodyHasCode, StatementHasCode};
 ghost use Rattle.om_tables.specs.Ends.{HasBodyEnds, HasEnds};
 ghost use Rattle.om_tables.specs.Numbering.{numbers_of};
 ghost use Rattle.om_tables.specs.Scopes.{names_of};
-ghost use Rattle.om_tables.specs.Tables.{ends_in};
+ghost use Rattle.om_tables.specs.Tables.{known_in};
 
 use crate::emitted::{Emitted, settled};
 use crate::region::Region;
@@ -30,7 +30,7 @@ pub(crate) fn function_body(
     function: &ResolvedFunction,
 ) -> Result<Emitted, AllocError>
     requires code { BodyHasCode (view_resolved_function function.now) FunctionBody }
-    requires ends { HasBodyEnds (ends_in scope.now.tables.now) (numbers_of numbers)
+    requires ends { HasBodyEnds (known_in scope.now) (numbers_of numbers)
         (view_resolved_function function.now) FunctionBody }
     ensures row { let seen = view_resolved_function function.now in
         IfOk result (HasRow (names_of scope.now) (numbers_of numbers) seen FunctionBody) }
@@ -53,7 +53,7 @@ pub(crate) fn parallel_body(
     region: &Region<'_>,
 ) -> Result<Emitted, AllocError>
     requires code { StatementHasCode false false (statement_of region.now) }
-    requires ends { HasEnds (ends_in scope.now.tables.now) (numbers_of numbers)
+    requires ends { HasEnds (known_in scope.now) (numbers_of numbers)
         (statement_of region.now) }
     ensures row { let tree = parallel_tree region.now in
         IfOk result (HasRegionRow (names_of scope.now) (numbers_of numbers) tree) }
@@ -75,7 +75,7 @@ pub(crate) fn task_body(
     region: &Region<'_>,
 ) -> Result<Emitted, AllocError>
     requires code { StatementHasCode false false (statement_of region.now) }
-    requires ends { HasEnds (ends_in scope.now.tables.now) (numbers_of numbers)
+    requires ends { HasEnds (known_in scope.now) (numbers_of numbers)
         (statement_of region.now) }
     ensures row { let tree = task_tree region.now in
         IfOk result (HasRegionRow (names_of scope.now) (numbers_of numbers) tree) }

@@ -1,23 +1,22 @@
 //! The bodies of functions, each within its limits.
 
-ghost use Rattle.std.specs.Prelude.{◌≡◌, ◌∷◌, ◌++◌, [], All, IfOk, OnOk, map};
-ghost use Rattle.om_lower.specs.Made.{AddsFunction, FitsFunction, IsGathered};
-ghost use Rattle.om_lower.specs.Sites.{bodies_in};
+ghost use Rattle.std.specs.Prelude.{◌≡◌, ◌<◌, ◌∷◌, ◌++◌, [], All, IfOk, OnOk, Some, length, slice_get, true};
+ghost use Rattle.om_lower.specs.Made.{AddsFunction, AddsSlots, IsGathered, IsNext, next_function, next_numbers};
+ghost use Rattle.om_lower.specs.Sites.{IsReady, bodies_in};
 ghost use Rattle.om_resolved.specs.ResolvedView.{view_resolved, view_resolved_function};
 ghost use Rattle.om_resolved.specs.Uses.{is_main_function};
 ghost use Rattle.om_rows.specs.Bodies.{function_bodies};
-ghost use Rattle.om_rows.specs.Coded.{BodyHasCode, TreeHasCode};
-ghost use Rattle.om_tables.specs.Ends.{HasSiteEnds};
+ghost use Rattle.om_rows.specs.Coded.{TreeHasCode};
 ghost use Rattle.om_tables.specs.Numbering.{numbers_of};
-ghost use Rattle.om_tables.specs.Tables.{IsTablesOf, ends_in};
+ghost use Rattle.om_tables.specs.Tables.{IsTablesOf, ends_in, known_of};
 
-use crate::bodies::{Bodies, have_few_slots, lower_bodies};
+use crate::bodies::{Bodies, Known, add_slots, lower_bodies};
 use crate::sites::{Site, sites_of};
 use om_code::Body;
 use om_emit::draft::PickList;
 use om_resolved::{Resolved, ResolvedFunction};
 use om_seq::Seq;
-use om_tables::{Numbers, Tables, behind_function, extents_of};
+use om_tables::{Extents, Numbers, Tables, Variables};
 use std::alloc::{AllocError, Global};
 
 /// How many instructions a body may have.
@@ -68,53 +67,116 @@ pub(crate) fn lower_functions(whole: &Whole<'_>) -> Result<Lowered, AllocError>
         count: 0,
         is_whole: true,
     };
-    add_functions(&mut lowered, whole)?;
+    let mut slots = Vec::new(whole.alloc);
+    add_functions(&mut lowered, &mut slots, whole)?;
     Ok(lowered)
 }
 
-/// Adds the bodies of all functions, or of those before the first that passes a limit.
-fn add_functions(lowered: &mut Lowered, whole: &Whole<'_>) -> Result<(), AllocError>
+/// A function that is lowered, how many cells its variables have, and the numbers before it.
+#[derive(Clone, Copy)]
+pub(crate) struct Next<'a> {
+    pub(crate) function: &'a ResolvedFunction,
+    pub(crate) extents: &'a Extents,
+    pub(crate) numbers: Numbers,
+}
+
+/// Adds the bodies of all functions, or of those before the first that passes a limit. The variables
+/// of each body are found once, and kept by its number.
+fn add_functions(
+    lowered: &mut Lowered,
+    slots: &mut Vec<Variables>,
+    whole: &Whole<'_>,
+) -> Result<(), AllocError>
     requires tables { IsTablesOf (view_resolved whole.now.resolved.now) whole.now.tables.now }
     requires has_code { TreeHasCode (view_resolved whole.now.resolved.now) }
     requires functions { lowered.old.functions ≡ [] }
     requires lists { lowered.old.lists ≡ [] }
+    requires slots { slots.old.items ≡ [] }
     ensures { let tree = view_resolved whole.now.resolved.now in
         OnOk result
         (IsGathered tree lowered.new.lists lowered.new.count lowered.new.functions
         lowered.new.is_whole) }
 {
     let mut numbers = Numbers::first();
-    for function in whole.resolved.functions.as_slice() {
-        if !add_function(lowered, whole, function, numbers)? {
+    for (index, function) in whole.resolved.functions.as_slice().iter().enumerate() {
+        let next = Next {
+            function,
+            extents: extents_at(whole.tables, index),
+            numbers,
+        };
+        if !add_function(lowered, slots, whole, &next)? {
             lowered.count = numbers.picks;
             lowered.is_whole = false;
             return Ok(());
         }
-        numbers = behind_function(numbers, function)?;
+        numbers = numbers_behind(whole.tables, numbers.bodies);
     }
     lowered.count = numbers.picks;
     lowered.is_whole = true;
     Ok(())
 }
 
+/// How many cells the variables of the function at an index have.
+fn extents_at<'a>(tables: &'a Tables, index: usize) -> &'a Extents
+    requires { index < length tables.now.extents.items }
+    ensures { slice_get tables.now.extents.items index ≡ Some result.now }
+{
+    &tables.extents[index]
+}
+
+/// The numbers behind the body of this number.
+fn numbers_behind(tables: &Tables, body: u32) -> Numbers
+    requires { body < length (ends_in tables.now) }
+    ensures { slice_get (ends_in tables.now) body ≡ Some (numbers_of result) }
+{
+    tables.ends[body as usize]
+}
+
 /// Adds the bodies of a function; false where one passes a limit on slots, cells or instructions.
 fn add_function(
     lowered: &mut Lowered,
+    slots: &mut Vec<Variables>,
     whole: &Whole<'_>,
-    function: &ResolvedFunction,
-    numbers: Numbers,
+    next: &Next<'_>,
 ) -> Result<bool, AllocError>
     requires tables { IsTablesOf (view_resolved whole.now.resolved.now) whole.now.tables.now }
-    requires has_code { let f = view_resolved_function function.now in
-        All (λ b. BodyHasCode b.function b.tree) (function_bodies (numbers_of numbers) f) }
-    requires has_ends { let f = view_resolved_function function.now in
-        All (HasSiteEnds (ends_in whole.now.tables.now)) (function_bodies (numbers_of numbers) f) }
-    ensures { let tree = view_resolved whole.now.resolved.now in
-        let f = view_resolved_function function.now in
-        IfOk result
-        (λ fits. AddsFunction tree (numbers_of numbers) f lowered.old lowered.new fits) }
+    requires next { IsNext whole.now.tables.now slots.old.items next.now }
+    ensures adds { let tree = view_resolved whole.now.resolved.now in
+        IfOk result (λ fits. AddsFunction tree (next_numbers next.now) (next_function next.now)
+        lowered.old lowered.new fits) }
+    ensures slots { IfOk result (λ fits. fits ≡ true →
+        AddsSlots (next_numbers next.now) (next_function next.now) slots.old.items slots.new.items) }
 {
-    match lower_function(whole, function, numbers)? {
+    let sites = sites_of(whole.alloc, next.function, next.numbers)?;
+    if !add_slots(slots, whole.alloc, sites.as_slice())? {
+        return Ok(false);
+    }
+    let fits = add_bodies(lowered, slots.as_slice(), whole, next, sites.as_slice())?;
+    Ok(fits)
+}
+
+/// The same, where the function's bodies are found and none has too many slots.
+fn add_bodies<'a>(
+    lowered: &mut Lowered,
+    slots: &'a [Variables],
+    whole: &Whole<'_>,
+    next: &Next<'a>,
+    sites: &'a [Site<'a>],
+) -> Result<bool, AllocError>
+    requires tables { IsTablesOf (view_resolved whole.now.resolved.now) whole.now.tables.now }
+    requires sites { bodies_in [] sites.now
+        ≡ function_bodies (next_numbers next.now) (next_function next.now) }
+    requires ready { All (IsReady (known_of whole.now.tables.now slots.now) next.now.extents.now)
+        (function_bodies (next_numbers next.now) (next_function next.now)) }
+    ensures { let tree = view_resolved whole.now.resolved.now in
+        IfOk result (λ fits. AddsFunction tree (next_numbers next.now) (next_function next.now)
+        lowered.old lowered.new fits) }
+{
+    let known = Known {
+        slots,
+        extents: next.extents,
+    };
+    match lower_bodies(whole, &known, sites)? {
         None => Ok(false),
         Some(bodies) => {
             put_function(lowered, bodies)?;
@@ -132,50 +194,6 @@ fn put_function(lowered: &mut Lowered, bodies: Bodies) -> Result<(), AllocError>
     let Bodies { bodies, lists } = bodies;
     lowered.lists.append(lists)?;
     lowered.functions.push(bodies)
-}
-
-/// The bodies of a function; `None` where one passes a limit on slots, cells or instructions.
-fn lower_function(
-    whole: &Whole<'_>,
-    function: &ResolvedFunction,
-    numbers: Numbers,
-) -> Result<Option<Bodies>, AllocError>
-    requires tables { IsTablesOf (view_resolved whole.now.resolved.now) whole.now.tables.now }
-    requires has_code { let f = view_resolved_function function.now in
-        All (λ b. BodyHasCode b.function b.tree) (function_bodies (numbers_of numbers) f) }
-    requires has_ends { let f = view_resolved_function function.now in
-        All (HasSiteEnds (ends_in whole.now.tables.now)) (function_bodies (numbers_of numbers) f) }
-    ensures { let tree = view_resolved_function function.now in
-        IfOk result (λ made.
-        FitsFunction (view_resolved whole.now.resolved.now) (numbers_of numbers) tree made) }
-{
-    let sites = sites_of(whole.alloc, function, numbers)?;
-    lower_sites(whole, function, numbers, sites.as_slice())
-}
-
-/// The same, where the function's bodies are found.
-fn lower_sites(
-    whole: &Whole<'_>,
-    function: &ResolvedFunction,
-    numbers: Numbers,
-    sites: &[Site<'_>],
-) -> Result<Option<Bodies>, AllocError>
-    requires tables { IsTablesOf (view_resolved whole.now.resolved.now) whole.now.tables.now }
-    requires sites { let f = view_resolved_function function.now in
-        bodies_in [] sites.now ≡ function_bodies (numbers_of numbers) f }
-    requires has_code { let f = view_resolved_function function.now in
-        All (λ b. BodyHasCode b.function b.tree) (function_bodies (numbers_of numbers) f) }
-    requires has_ends { let f = view_resolved_function function.now in
-        All (HasSiteEnds (ends_in whole.now.tables.now)) (function_bodies (numbers_of numbers) f) }
-    ensures { let tree = view_resolved_function function.now in
-        IfOk result (λ made.
-        FitsFunction (view_resolved whole.now.resolved.now) (numbers_of numbers) tree made) }
-{
-    if !have_few_slots(whole.alloc, sites)? {
-        return Ok(None);
-    }
-    let extents = extents_of(whole.alloc, function)?;
-    lower_bodies(whole, &extents, sites)
 }
 
 /// Whether a function is `main`.

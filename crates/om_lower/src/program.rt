@@ -180,7 +180,7 @@ fn main_body(whole: &Whole<'_>) -> u32
 {
     let main = main_of(whole.resolved);
     let variables = Variables::new(whole.alloc);
-    let scope = Scope::new(whole.resolved, whole.tables, &variables, true);
+    let scope = Scope::new(whole.resolved, whole.tables, &[], &variables, true);
     scope.called_body(main)
 }
 

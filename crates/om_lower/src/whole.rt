@@ -10,7 +10,7 @@ ghost use Rattle.om_rows.specs.Coded.{BodyHasCode, StatementHasCode};
 ghost use Rattle.om_tables.specs.Ends.{HasBodyEnds, HasEnds};
 ghost use Rattle.om_tables.specs.Numbering.{numbers_of};
 ghost use Rattle.om_tables.specs.Scopes.{names_of};
-ghost use Rattle.om_tables.specs.Tables.{ends_in};
+ghost use Rattle.om_tables.specs.Tables.{known_in};
 
 use crate::region::Region;
 use om_code::Instr;
@@ -32,7 +32,7 @@ pub(crate) fn write_function(
     function: &ResolvedFunction,
 ) -> Result<(), AllocError>
     requires code { BodyHasCode (view_resolved_function function.now) FunctionBody }
-    requires ends { HasBodyEnds (ends_in scope.now.tables.now) (numbers_of numbers)
+    requires ends { HasBodyEnds (known_in scope.now) (numbers_of numbers)
         (view_resolved_function function.now) FunctionBody }
     ensures { let seen = view_resolved_function function.now in
         let names = names_of scope.now in
@@ -65,7 +65,7 @@ pub(crate) fn write_parallel(
     region: &Region<'_>,
 ) -> Result<(), AllocError>
     requires code { StatementHasCode false false (statement_of region.now) }
-    requires ends { HasEnds (ends_in scope.now.tables.now) (numbers_of numbers)
+    requires ends { HasEnds (known_in scope.now) (numbers_of numbers)
         (statement_of region.now) }
     ensures { let tree = parallel_tree region.now in
         let names = names_of scope.now in
@@ -91,7 +91,7 @@ pub(crate) fn write_task(
     region: &Region<'_>,
 ) -> Result<(), AllocError>
     requires code { StatementHasCode false false (statement_of region.now) }
-    requires ends { HasEnds (ends_in scope.now.tables.now) (numbers_of numbers)
+    requires ends { HasEnds (known_in scope.now) (numbers_of numbers)
         (statement_of region.now) }
     ensures { let tree = task_tree region.now in
         let names = names_of scope.now in

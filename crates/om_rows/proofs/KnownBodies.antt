@@ -38,7 +38,7 @@ use Rattle.om_rows.proofs.NamedBodies.{Bodies}
 use Rattle.om_rows.proofs.NamedExpressions.{Program, same_bytes, same_nat}
 use Rattle.om_rows.proofs.NamedStatements as heads
 use Rattle.om_rows.proofs.Placed.{IsPlaced}
-use Rattle.om_rows.proofs.Positions.{function_body_there, stands_whole}
+use Rattle.om_rows.specs.Positions.{function_body_there, stands_whole}
 
 -- what stands beside the k-th of one list in the other
 zip_there : {A B : Type 0} (R : A → B → Type 0) (xs : List A) (ys : List B) (k : ℕ) (x : A) → AllZip R xs ys

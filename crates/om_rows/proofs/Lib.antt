@@ -18,7 +18,6 @@ pub mod RowsCode
 pub mod WholeMentions
 pub mod TreeCode
 pub mod NamedStatements
-pub mod Positions
 pub mod NamedBodies
 pub mod Placed
 pub mod Given

@@ -39,7 +39,7 @@ use Rattle.om_rows.proofs.Named.{Named, named_end, named_ins, named_part, number
 use Rattle.om_rows.proofs.NamedExpressions as expressions
 use Rattle.om_rows.proofs.NamedExpressions.{Program}
 use Rattle.om_rows.proofs.NamedStatements as heads
-use Rattle.om_rows.proofs.Positions.{StandsAt, stands_front, stands_back, stands_head, regions_long, all_regions_long}
+use Rattle.om_rows.specs.Positions.{StandsAt, stands_front, stands_back, stands_head, regions_long, all_regions_long}
 
 -- what the code of a body can count on beside that: its program's locks and lists, and the bodies that it makes
 pub record Bodies (tree : ResolvedTree) (raw : Raw) (at : Site) (slots : List Slot)

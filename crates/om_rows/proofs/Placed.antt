@@ -29,8 +29,8 @@ use Rattle.om_rows.specs.Mentions.{extents_of}
 use Rattle.om_rows.specs.Slots.{Extent, cells_of_length}
 use Rattle.om_rows.proofs.Named.{Has, has_front, has_back, table_has}
 use Rattle.om_rows.proofs.NamedExpressions.{same_bytes}
-use Rattle.om_rows.proofs.Positions.{StandsAt, stands_whole, stands_front, stands_back, stands_tail, regions_long}
-use Rattle.om_rows.proofs.Positions.{all_regions_long, function_long}
+use Rattle.om_rows.specs.Positions.{StandsAt, stands_whole, stands_front, stands_back, stands_tail, regions_long}
+use Rattle.om_rows.specs.Positions.{all_regions_long, function_long}
 use Rattle.om_rows.proofs.WholeMentions.{items_all}
 
 -- a region, with what stands round it

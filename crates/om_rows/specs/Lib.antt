@@ -3,6 +3,7 @@ pub mod Operators
 pub mod Tables
 pub mod Slots
 pub mod Bodies
+pub mod Positions
 pub mod Mentions
 pub mod Expressions
 pub mod Statements

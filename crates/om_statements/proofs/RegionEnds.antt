@@ -1,91 +1,99 @@
 -- The numbers behind the regions in a statement are those behind the regions in its parts.
-use Rattle.std.proofs.Common.{◌≡◌, ◌+◌, ◌∷◌, List, Some, drop, map, slice_get, sym, ap, ◌∙◌, subst}
+use Rattle.std.proofs.Common.{◌≡◌, ◌+◌, ◌∷◌, List, drop, map, sym, ap, ◌∙◌, subst}
 use Rattle.om_resolved.specs.declared.resolved.ResolvedStatement.{ResolvedStatement}
 use Rattle.om_resolved.specs.declared.resolved.ResolvedStatement.TheVariants as v
 use Rattle.om_resolved.specs.ResolvedTree as trees
 use Rattle.om_resolved.specs.ResolvedTree.{ResolvedPartsTree, ResolvedStatementTree, ResolvedStatementsTree}
 use Rattle.om_resolved.specs.ResolvedView.{view_resolved_clause, view_resolved_part, view_resolved_statement}
-use Rattle.om_rows.specs.Bodies.{Numbers, behind, behind_all, next_body, next_pick}
+use Rattle.om_rows.specs.Bodies.{Numbers, behind, behind_all, next_body, next_pick, region_variables}
 use Rattle.om_statements.specs.declared.spot.Spot.{Spot}
-use Rattle.om_tables.specs.Ends.{HasAllEnds, HasEnds, HasPartsEnds}
+use Rattle.om_tables.specs.Ends.{HasAllEnds, HasEnds, HasPartsEnds, IsKnown, KnownBodies}
 use Rattle.om_tables.specs.Numbering.{numbers_of}
 use Rattle.om_statements.proofs.Views.{view_construct, view_do, view_for, view_if, view_if_else, view_loop}
 use Rattle.om_statements.proofs.Views.{view_parallel, view_sections, view_task, view_while}
 
-pub if_ends : (ends : List Numbers) (n : Numbers) (tree : ResolvedStatement) (at : _) (c : _) (s : _)
+pub if_ends : (ends : KnownBodies) (n : Numbers) (tree : ResolvedStatement) (at : _) (c : _) (s : _)
     → tree ≡ v.If at c s → HasEnds ends n (view_resolved_statement tree)
     → HasEnds ends n (view_resolved_statement s.value)
 if_ends ends n tree at c s is has =
     subst (λ z. HasEnds ends n z) (ap view_resolved_statement is ∙ view_if at c s) has
 
-pub if_else_ends : (ends : List Numbers) (n : Numbers) (tree : ResolvedStatement) (at : _) (c : _) (s : _) (t : _)
+pub if_else_ends : (ends : KnownBodies) (n : Numbers) (tree : ResolvedStatement) (at : _) (c : _) (s : _) (t : _)
     → tree ≡ v.IfElse at c s t → HasEnds ends n (view_resolved_statement tree)
     → HasEnds ends n (view_resolved_statement s.value)
     × HasEnds ends (behind n (view_resolved_statement s.value)) (view_resolved_statement t.value)
 if_else_ends ends n tree at c s t is has =
     subst (λ z. HasEnds ends n z) (ap view_resolved_statement is ∙ view_if_else at c s t) has
 
-pub while_ends : (ends : List Numbers) (n : Numbers) (tree : ResolvedStatement) (at : _) (c : _) (s : _)
+pub while_ends : (ends : KnownBodies) (n : Numbers) (tree : ResolvedStatement) (at : _) (c : _) (s : _)
     → tree ≡ v.While at c s → HasEnds ends n (view_resolved_statement tree)
     → HasEnds ends n (view_resolved_statement s.value)
 while_ends ends n tree at c s is has =
     subst (λ z. HasEnds ends n z) (ap view_resolved_statement is ∙ view_while at c s) has
 
-pub do_ends : (ends : List Numbers) (n : Numbers) (tree : ResolvedStatement) (at : _) (s : _) (c : _)
+pub do_ends : (ends : KnownBodies) (n : Numbers) (tree : ResolvedStatement) (at : _) (s : _) (c : _)
     → tree ≡ v.Do at s c → HasEnds ends n (view_resolved_statement tree)
     → HasEnds ends n (view_resolved_statement s.value)
 do_ends ends n tree at s c is has =
     subst (λ z. HasEnds ends n z) (ap view_resolved_statement is ∙ view_do at s c) has
 
-pub for_ends : (ends : List Numbers) (n : Numbers) (tree : ResolvedStatement) (at : _) (h : _) (s : _)
+pub for_ends : (ends : KnownBodies) (n : Numbers) (tree : ResolvedStatement) (at : _) (h : _) (s : _)
     → tree ≡ v.For at h s → HasEnds ends n (view_resolved_statement tree)
     → HasEnds ends n (view_resolved_statement s.value)
 for_ends ends n tree at h s is has =
     subst (λ z. HasEnds ends n z) (ap view_resolved_statement is ∙ view_for at h s) has
 
-pub loop_ends : (ends : List Numbers) (n : Numbers) (tree : ResolvedStatement) (at : _) (clauses : _)
+pub loop_ends : (ends : KnownBodies) (n : Numbers) (tree : ResolvedStatement) (at : _) (clauses : _)
     (nowait : _) (l : _) (s : _) → tree ≡ v.Loop at clauses nowait l s
     → HasEnds ends n (view_resolved_statement tree)
     → HasEnds ends n (view_resolved_statement s.value)
 loop_ends ends n tree at clauses nowait l s is has =
     subst (λ z. HasEnds ends n z) (ap view_resolved_statement is ∙ view_loop at clauses nowait l s) has
 
-pub construct_ends : (ends : List Numbers) (n : Numbers) (tree : ResolvedStatement) (at : _) (kind : _)
+pub construct_ends : (ends : KnownBodies) (n : Numbers) (tree : ResolvedStatement) (at : _) (kind : _)
     (clauses : _) (s : _) → tree ≡ v.Construct at kind clauses s
     → HasEnds ends n (view_resolved_statement tree)
     → HasEnds ends n (view_resolved_statement s.value)
 construct_ends ends n tree at kind clauses s is has =
     subst (λ z. HasEnds ends n z) (ap view_resolved_statement is ∙ view_construct at kind clauses s) has
 
-pub sections_ends : (ends : List Numbers) (n : Numbers) (tree : ResolvedStatement) (at : _) (clauses : _)
+pub sections_ends : (ends : KnownBodies) (n : Numbers) (tree : ResolvedStatement) (at : _) (clauses : _)
     (nowait : _) (parts : _) → tree ≡ v.Sections at clauses nowait parts
     → HasEnds ends n (view_resolved_statement tree)
     → HasPartsEnds ends (next_pick n) (trees.parts (map view_resolved_part parts.items))
 sections_ends ends n tree at clauses nowait parts is has =
     subst (λ z. HasEnds ends n z) (ap view_resolved_statement is ∙ view_sections at clauses nowait parts) has
 
-pub parallel_ends : (ends : List Numbers) (n : Numbers) (tree x : ResolvedStatement) (at : _) (clauses : _)
-    (captures : _) (s : _) → tree ≡ v.Parallel at clauses captures s → x ≡ s.value
+pub parallel_ends : (ends : KnownBodies) (n : Numbers) (tree x : ResolvedStatement) (at : _) (clauses : _)
+    (captures : _) (s : _) (xs : _) → tree ≡ v.Parallel at clauses captures s → x ≡ s.value → xs ≡ clauses.items
     → HasEnds ends n (view_resolved_statement tree)
-    → slice_get ends n.bodies ≡ Some (behind (next_body n) (view_resolved_statement x))
-parallel_ends ends n tree x at clauses captures s is same has =
+    → IsKnown ends n.bodies (behind (next_body n) (view_resolved_statement x))
+    (region_variables (map view_resolved_clause xs) (view_resolved_statement x))
+parallel_ends ends n tree x at clauses captures s xs is same listed has =
     let known : HasEnds ends n (trees.Parallel at (map view_resolved_clause clauses.items) captures
     (view_resolved_statement s.value)) =
     subst (λ z. HasEnds ends n z) (ap view_resolved_statement is ∙ view_parallel at clauses captures s) has in
-    known ∙ ap (λ z. Some (behind (next_body n) (view_resolved_statement z))) (sym same)
+    subst (λ ys. IsKnown ends n.bodies (behind (next_body n) (view_resolved_statement x))
+    (region_variables (map view_resolved_clause ys) (view_resolved_statement x))) (sym listed)
+    (subst (λ z. IsKnown ends n.bodies (behind (next_body n) (view_resolved_statement z))
+    (region_variables (map view_resolved_clause clauses.items) (view_resolved_statement z))) (sym same) known)
 
-pub task_ends : (ends : List Numbers) (n : Numbers) (tree x : ResolvedStatement) (at : _) (clauses : _)
-    (captures : _) (s : _) → tree ≡ v.Task at clauses captures s → x ≡ s.value
+pub task_ends : (ends : KnownBodies) (n : Numbers) (tree x : ResolvedStatement) (at : _) (clauses : _)
+    (captures : _) (s : _) (xs : _) → tree ≡ v.Task at clauses captures s → x ≡ s.value → xs ≡ clauses.items
     → HasEnds ends n (view_resolved_statement tree)
-    → slice_get ends n.bodies ≡ Some (behind (next_body n) (view_resolved_statement x))
-task_ends ends n tree x at clauses captures s is same has =
+    → IsKnown ends n.bodies (behind (next_body n) (view_resolved_statement x))
+    (region_variables (map view_resolved_clause xs) (view_resolved_statement x))
+task_ends ends n tree x at clauses captures s xs is same listed has =
     let known : HasEnds ends n (trees.Task at (map view_resolved_clause clauses.items) captures
     (view_resolved_statement s.value)) =
     subst (λ z. HasEnds ends n z) (ap view_resolved_statement is ∙ view_task at clauses captures s) has in
-    known ∙ ap (λ z. Some (behind (next_body n) (view_resolved_statement z))) (sym same)
+    subst (λ ys. IsKnown ends n.bodies (behind (next_body n) (view_resolved_statement x))
+    (region_variables (map view_resolved_clause ys) (view_resolved_statement x))) (sym listed)
+    (subst (λ z. IsKnown ends n.bodies (behind (next_body n) (view_resolved_statement z))
+    (region_variables (map view_resolved_clause clauses.items) (view_resolved_statement z))) (sym same) known)
 
 -- where it stands at a spot
-pub ends_at : (ends : List Numbers) (x y : Spot) (s t : ResolvedStatement) → x ≡ y → s ≡ t
+pub ends_at : (ends : KnownBodies) (x y : Spot) (s t : ResolvedStatement) → x ≡ y → s ≡ t
     → HasEnds ends (numbers_of y.numbers) (view_resolved_statement t)
     → HasEnds ends (numbers_of x.numbers) (view_resolved_statement s)
 ends_at ends x y s t e f h =
@@ -93,7 +101,7 @@ ends_at ends x y s t e f h =
     (subst (λ z. HasEnds ends (numbers_of y.numbers) (view_resolved_statement z)) (sym f) h)
 
 -- behind another statement
-pub ends_behind : (ends : List Numbers) (x y : Spot) (n : Numbers) (before s t u : ResolvedStatement)
+pub ends_behind : (ends : KnownBodies) (x y : Spot) (n : Numbers) (before s t u : ResolvedStatement)
     → x ≡ y → numbers_of y.numbers ≡ behind n (view_resolved_statement before) → before ≡ u → s ≡ t
     → HasEnds ends (behind n (view_resolved_statement u)) (view_resolved_statement t)
     → HasEnds ends (numbers_of x.numbers) (view_resolved_statement s)
@@ -105,14 +113,14 @@ ends_behind ends x y n before s t u e is same f h =
 
 -- ---- in a loop
 
-pub ends_next : (ends : List Numbers) (now after : Numbers) (left rest : ResolvedStatementsTree)
+pub ends_next : (ends : KnownBodies) (now after : Numbers) (left rest : ResolvedStatementsTree)
     (s : ResolvedStatementTree) → left ≡ trees.Statement s rest → after ≡ behind now s
     → HasAllEnds ends now left → HasAllEnds ends after rest
 ends_next ends now after left rest s here is has =
     let both : HasAllEnds ends now (trees.Statement s rest) = subst (λ z. HasAllEnds ends now z) here has in
     subst (λ m. HasAllEnds ends m rest) (sym is) both.1
 
-pub ends_here : (ends : List Numbers) (x y : Spot) (left rest : ResolvedStatementsTree)
+pub ends_here : (ends : KnownBodies) (x y : Spot) (left rest : ResolvedStatementsTree)
     (s : ResolvedStatementTree) → x ≡ y → left ≡ trees.Statement s rest
     → HasAllEnds ends (numbers_of y.numbers) left → HasEnds ends (numbers_of x.numbers) s
 ends_here ends x y left rest s e here has =
@@ -120,14 +128,14 @@ ends_here ends x y left rest s e here has =
     subst (λ z. HasAllEnds ends (numbers_of y.numbers) z) here has in
     subst (λ z. HasEnds ends (numbers_of z.numbers) s) (sym e) both.0
 
-pub parts_ends_next : (ends : List Numbers) (now after : Numbers) (left rest : ResolvedPartsTree)
+pub parts_ends_next : (ends : KnownBodies) (now after : Numbers) (left rest : ResolvedPartsTree)
     (items : ResolvedStatementsTree) → left ≡ trees.Part items rest → after ≡ behind_all now items
     → HasPartsEnds ends now left → HasPartsEnds ends after rest
 parts_ends_next ends now after left rest items here is has =
     let both : HasPartsEnds ends now (trees.Part items rest) = subst (λ z. HasPartsEnds ends now z) here has in
     subst (λ m. HasPartsEnds ends m rest) (sym is) both.1
 
-pub parts_ends_here : (ends : List Numbers) (x y : Spot) (left rest : ResolvedPartsTree)
+pub parts_ends_here : (ends : KnownBodies) (x y : Spot) (left rest : ResolvedPartsTree)
     (xs ys : List ResolvedStatement) → x ≡ y → xs ≡ ys
     → left ≡ trees.Part (trees.statements (map view_resolved_statement ys)) rest
     → HasPartsEnds ends (numbers_of y.numbers) left

@@ -1,7 +1,8 @@
 -- A `parallel` and a `task`, in the body that meets them.
-use Rattle.std.proofs.Common.{◌≡◌, ℕ, List, Bool, length, sym, ap, ◌∙◌, subst, arith}
+use Rattle.std.proofs.Common.{◌≡◌, ◌≤◌, ℕ, List, [], ◌∷◌, Bool, true, false, length, nat_eq, sym, ap, ◌∙◌, subst, arith}
+use Rattle.std.proofs.Common.{if◌then◌else◌}
 use Rattle.std.specs.Prelude.{is_some}
-use Rattle.std.proofs.lemmas.List.{length-map}
+use Rattle.std.proofs.lemmas.List.{length-append, length-map}
 use Rattle.om_statements.specs.Stretches.{EmitsRow, fork_row, spawn_row}
 use Rattle.om_emit.specs.Drafts.{Written}
 use Rattle.om_emit.specs.Emits.{site}
@@ -12,6 +13,7 @@ use Rattle.om_rows.specs.Bodies.{Numbers}
 use Rattle.om_rows.specs.Expressions.{value}
 use Rattle.om_rows.specs.Rows.{each, perhaps}
 use Rattle.om_rows.specs.Slots as rows
+use Rattle.om_rows.specs.Slots.{by_slots, first_copy_at}
 use Rattle.om_rows.specs.Statements.{clause_value, given_copies, load_original}
 use Rattle.om_statements.specs.declared.labels.JumpLabels.{JumpLabels}
 use Rattle.om_statements.specs.Emits.{EmitsStatement}
@@ -24,6 +26,29 @@ use Rattle.om_tables.specs.Names.{Names}
 pub counted : (copies : List FirstCopy) (given : List rows.FirstCopy) (values : ℕ) → first_copies_of copies ≡ given
     → values ≡ length copies → values ≡ length given
 counted copies given values is count = count ∙ sym (length-map copies first_copy) ∙ ap length is
+
+-- a slot has one of them at most
+first_few : (copies : List rows.FirstCopy) (variable : ℕ) → length (first_copy_at copies variable) ≤ 1
+first_few [] variable = omega arith
+first_few (copy ∷ rest) variable = by (nat_eq copy.variable variable) (first_few rest variable)
+  where
+    by : (found : Bool) → length (first_copy_at rest variable) ≤ 1
+        → length (if found then copy ∷ [] else first_copy_at rest variable) ≤ 1
+    by true le = omega arith
+    by false le = le
+
+pub given_few : (slots : List ℕ) (copies : List rows.FirstCopy) → length (by_slots slots copies) ≤ length slots
+given_few [] copies = omega arith
+given_few (variable ∷ slots) copies =
+    let one = first_few copies variable in
+    let rest = given_few slots copies in
+    let all = length-append (first_copy_at copies variable) (by_slots slots copies) in
+    omega (arith, one, rest, all)
+
+-- so there are as few as there are slots
+pub count_few : (slots : List ℕ) (copies : List rows.FirstCopy) (count : ℕ) → length slots ≤ 256
+    → count ≡ length (by_slots slots copies) → count ≤ 256
+count_few slots copies count few is = let le = given_few slots copies in omega (arith, few, is, le)
 
 -- and that they are those of the region
 pub given_loaded : (names : Names) (l : ℕ) (loaded given : List rows.FirstCopy) (a b : Written) → loaded ≡ given

@@ -18,7 +18,7 @@ use Rattle.om_resolved.specs.ResolvedView.{view_resolved_part, view_resolved_sta
 use Rattle.om_rows.specs.Bodies.{Numbers, behind, next_pick}
 use Rattle.om_rows.specs.Coded.{PartsHaveCode, StatementHasCode, StatementsHaveCode}
 use Rattle.om_tables.specs.declared.numbers.Numbers as tables
-use Rattle.om_tables.specs.Ends.{HasAllEnds, HasEnds, HasPartsEnds}
+use Rattle.om_tables.specs.Ends.{HasAllEnds, HasEnds, HasPartsEnds, KnownBodies}
 use Rattle.om_tables.specs.Numbering.{numbers_of}
 use Rattle.om_statements.proofs.Inside.{code_at, construct_code, construct_inside, do_code, do_inside, else_inside}
 use Rattle.om_statements.proofs.Inside.{for_code, for_inside, if_code, if_else_code, if_inside, loop_code, loop_inside}
@@ -27,7 +27,7 @@ use Rattle.om_statements.proofs.RegionEnds.{construct_ends, do_ends, ends_at, en
 use Rattle.om_statements.proofs.RegionEnds.{if_else_ends, loop_ends, sections_ends, while_ends}
 use Rattle.om_statements.proofs.Views.{view_block, view_sections}
 
-abbrev Within : (ends : List Numbers) → (tree s : ResolvedStatement) → Spot → Type 0
+abbrev Within : (ends : KnownBodies) → (tree s : ResolvedStatement) → Spot → Type 0
 Within ends tree s x = (size-ResolvedStatement s < size-ResolvedStatement tree)
     × StatementHasCode (is_some x.jumps.over) (is_some x.jumps.next) (view_resolved_statement s)
     × HasEnds ends (numbers_of x.numbers) (view_resolved_statement s)
@@ -37,10 +37,10 @@ abbrev HasCodeAt : Spot → ResolvedStatement → Type 0
 HasCodeAt x tree = StatementHasCode (is_some x.jumps.over) (is_some x.jumps.next) (view_resolved_statement tree)
 
 -- the numbers behind its regions are known there
-abbrev HasEndsAt : (ends : List Numbers) → Spot → ResolvedStatement → Type 0
+abbrev HasEndsAt : (ends : KnownBodies) → Spot → ResolvedStatement → Type 0
 HasEndsAt ends x tree = HasEnds ends (numbers_of x.numbers) (view_resolved_statement tree)
 
-pub if_within : (ends : List Numbers) (y : Spot) (tree s : ResolvedStatement) (at : _) (c : _) (body : _)
+pub if_within : (ends : KnownBodies) (y : Spot) (tree s : ResolvedStatement) (at : _) (c : _) (body : _)
     → tree ≡ v.If at c body → s ≡ body.value → HasCodeAt y tree → HasEndsAt ends y tree → Within ends tree s y
 if_within ends y tree s at c body is same code has = (
   if_inside tree s at c body is same,
@@ -48,7 +48,7 @@ if_within ends y tree s at c body is same code has = (
   ends_at ends y y s body.value refl same (if_ends ends _ tree at c body is has),
 )
 
-pub then_within : (ends : List Numbers) (y : Spot) (tree s : ResolvedStatement) (at : _) (c : _) (body : _) (other : _)
+pub then_within : (ends : KnownBodies) (y : Spot) (tree s : ResolvedStatement) (at : _) (c : _) (body : _) (other : _)
     → tree ≡ v.IfElse at c body other → s ≡ body.value → HasCodeAt y tree → HasEndsAt ends y tree
     → Within ends tree s y
 then_within ends y tree s at c body other is same code has = (
@@ -57,7 +57,7 @@ then_within ends y tree s at c body other is same code has = (
   ends_at ends y y s body.value refl same (if_else_ends ends _ tree at c body other is has).0,
 )
 
-pub else_within : (ends : List Numbers) (x y : Spot) (between : tables.Numbers) (tree before s : ResolvedStatement)
+pub else_within : (ends : KnownBodies) (x y : Spot) (between : tables.Numbers) (tree before s : ResolvedStatement)
     (at : _) (c : _) (body : _) (other : _) → tree ≡ v.IfElse at c body other → before ≡ body.value → s ≡ other.value
     → x ≡ record { numbers = between; jumps = y.jumps }
     → numbers_of between ≡ behind (numbers_of y.numbers) (view_resolved_statement before)
@@ -74,7 +74,7 @@ else_within ends x y between tree before s at c body other is first same e behin
 abbrev in_loop : tables.Numbers → (over next : ℕ) → Spot
 in_loop n over next = record { numbers = n; jumps = record { over = Some over; next = Some next } }
 
-pub while_within : (ends : List Numbers) (x y : Spot) (over next : ℕ) (tree s : ResolvedStatement) (at : _) (c : _)
+pub while_within : (ends : KnownBodies) (x y : Spot) (over next : ℕ) (tree s : ResolvedStatement) (at : _) (c : _)
     (body : _)
     → tree ≡ v.While at c body → s ≡ body.value → x ≡ in_loop y.numbers over next → HasCodeAt y tree
     → HasEndsAt ends y tree → Within ends tree s x
@@ -84,7 +84,7 @@ while_within ends x y over next tree s at c body is same e code has = (
   ends_at ends x (in_loop y.numbers over next) s body.value e same (while_ends ends _ tree at c body is has),
 )
 
-pub do_within : (ends : List Numbers) (x y : Spot) (over next : ℕ) (tree s : ResolvedStatement) (at : _) (body : _)
+pub do_within : (ends : KnownBodies) (x y : Spot) (over next : ℕ) (tree s : ResolvedStatement) (at : _) (body : _)
     (c : _)
     → tree ≡ v.Do at body c → s ≡ body.value → x ≡ in_loop y.numbers over next → HasCodeAt y tree
     → HasEndsAt ends y tree → Within ends tree s x
@@ -94,7 +94,7 @@ do_within ends x y over next tree s at body c is same e code has = (
   ends_at ends x (in_loop y.numbers over next) s body.value e same (do_ends ends _ tree at body c is has),
 )
 
-pub for_within : (ends : List Numbers) (x y : Spot) (over next : ℕ) (tree s : ResolvedStatement) (at : _) (h : _)
+pub for_within : (ends : KnownBodies) (x y : Spot) (over next : ℕ) (tree s : ResolvedStatement) (at : _) (h : _)
     (body : _)
     → tree ≡ v.For at h body → s ≡ body.value → x ≡ in_loop y.numbers over next → HasCodeAt y tree
     → HasEndsAt ends y tree → Within ends tree s x
@@ -104,7 +104,7 @@ for_within ends x y over next tree s at h body is same e code has = (
   ends_at ends x (in_loop y.numbers over next) s body.value e same (for_ends ends _ tree at h body is has),
 )
 
-pub loop_within : (ends : List Numbers) (x y : Spot) (next : ℕ) (tree s : ResolvedStatement) (at : _) (clauses : _)
+pub loop_within : (ends : KnownBodies) (x y : Spot) (next : ℕ) (tree s : ResolvedStatement) (at : _) (clauses : _)
     (nowait : _) (l : _) (body : _)
     → tree ≡ v.Loop at clauses nowait l body → s ≡ body.value
     → x ≡ record { numbers = y.numbers; jumps = record { over = None; next = Some next } } → HasCodeAt y tree
@@ -117,7 +117,7 @@ loop_within ends x y next tree s at clauses nowait l body is same e code has = (
       (loop_ends ends _ tree at clauses nowait l body is has),
 )
 
-pub construct_within : (ends : List Numbers) (x y : Spot) (tree s : ResolvedStatement) (at : _)
+pub construct_within : (ends : KnownBodies) (x y : Spot) (tree s : ResolvedStatement) (at : _)
     (kind : ConstructKind) (clauses : _) (body : _)
     → IsNoAtomic kind → tree ≡ v.Construct at kind clauses body → s ≡ body.value
     → x ≡ record { numbers = y.numbers; jumps = record { over = None; next = None } } → HasCodeAt y tree
@@ -132,7 +132,7 @@ construct_within ends x y tree s at kind clauses body plain is same e code has =
 
 -- ---- lists
 
-pub block_within : (ends : List Numbers) (y : Spot) (tree : ResolvedStatement) (xs : List ResolvedStatement) (at : _)
+pub block_within : (ends : KnownBodies) (y : Spot) (tree : ResolvedStatement) (xs : List ResolvedStatement) (at : _)
     (items : _) → tree ≡ v.Block at items → xs ≡ items.items → HasCodeAt y tree → HasEndsAt ends y tree
     → (most size-ResolvedStatement xs < size-ResolvedStatement tree)
     × StatementsHaveCode (is_some y.jumps.over) (is_some y.jumps.next)
@@ -153,7 +153,7 @@ block_within ends y tree xs at items is same code has =
           (subst (λ z. HasEnds ends (numbers_of y.numbers) z) seen has),
     )
 
-pub parts_within : (ends : List Numbers) (m : Numbers) (y : Spot) (tree : ResolvedStatement) (xs : List ResolvedPart)
+pub parts_within : (ends : KnownBodies) (m : Numbers) (y : Spot) (tree : ResolvedStatement) (xs : List ResolvedPart)
     (at : _) (clauses : _) (nowait : _) (parts : _) → tree ≡ v.Sections at clauses nowait parts → xs ≡ parts.items
     → m ≡ next_pick (numbers_of y.numbers) → HasCodeAt y tree → HasEndsAt ends y tree
     → (most size-ResolvedPart xs < size-ResolvedStatement tree)

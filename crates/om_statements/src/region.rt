@@ -1,6 +1,6 @@
 //! A `parallel` and a `task`, in the body that meets them.
 
-ghost use Rattle.std.specs.Prelude.{◌≡◌, IfOk, IfSome, OnOk, Some, length, map, slice_get};
+ghost use Rattle.std.specs.Prelude.{◌≡◌, ◌≤◌, IfOk, IfSome, OnOk, length, map};
 ghost use Rattle.om_statements.specs.declared.labels.JumpLabels.{JumpLabels};
 ghost use Rattle.om_statements.specs.Stretches.{EmitsRow};
 ghost use Rattle.om_resolved.specs.ResolvedTree as trees;
@@ -12,13 +12,14 @@ ghost use Rattle.om_rows.specs.Statements.{clause_value, given_copies, load_orig
 ghost use Rattle.om_statements.specs.Emits.{EmitsStatement};
 ghost use Rattle.om_tables.specs.Numbering.{numbers_of};
 ghost use Rattle.om_tables.specs.Scopes.{names_of};
-ghost use Rattle.om_tables.specs.Tables.{ends_in};
+ghost use Rattle.om_tables.specs.Tables.{known_in};
+ghost use Rattle.om_tables.specs.Ends.{IsKnown};
 
 use crate::stand_in::{fork, load_originals, spawn, team_size};
 use om_emit::draft::Draft;
 use om_lexer::Span;
 use om_resolved::{Capture, ResolvedClause, ResolvedStatement};
-use om_tables::{Numbers, Scope, given_copies};
+use om_tables::{Numbers, Scope, Variables, given_copies_in};
 use std::alloc::{AllocError, Global};
 
 /// A `parallel` or a `task`, by its parts.
@@ -42,9 +43,10 @@ pub(crate) fn parallel(
 ) -> Result<Numbers, AllocError>
     requires code { IfSome (clause_value (map view_resolved_clause region.now.clauses.now))
         ValueHasCode }
-    requires ends { let body = view_resolved_statement region.now.statement.now in
-        slice_get (ends_in scope.now.tables.now) numbers.bodies
-        ≡ Some (rows.behind (rows.next_body (numbers_of numbers)) body) }
+    requires known { let body = view_resolved_statement region.now.statement.now in
+        IsKnown (known_in scope.now) numbers.bodies
+        (rows.behind (rows.next_body (numbers_of numbers)) body)
+        (rows.region_variables (map view_resolved_clause region.now.clauses.now) body) }
     ensures behind { let body = view_resolved_statement region.now.statement.now in
         IfOk result
         (λ after. numbers_of after ≡ rows.behind (rows.next_body (numbers_of numbers)) body) }
@@ -56,7 +58,8 @@ pub(crate) fn parallel(
 {
     let line = region.at.line;
     let sized = team_size(draft, scope, line, region.clauses)?;
-    let count = load_given(alloc, draft, scope, region)?;
+    let variables = scope.region_variables(numbers.bodies);
+    let count = load_given(alloc, draft, scope, region, variables)?;
     fork(draft, line, numbers.bodies, sized, count)?;
     Ok(scope.behind_region(numbers.bodies))
 }
@@ -70,9 +73,10 @@ pub(crate) fn task(
     numbers: Numbers,
     region: &RegionHead<'_>,
 ) -> Result<Numbers, AllocError>
-    requires ends { let body = view_resolved_statement region.now.statement.now in
-        slice_get (ends_in scope.now.tables.now) numbers.bodies
-        ≡ Some (rows.behind (rows.next_body (numbers_of numbers)) body) }
+    requires known { let body = view_resolved_statement region.now.statement.now in
+        IsKnown (known_in scope.now) numbers.bodies
+        (rows.behind (rows.next_body (numbers_of numbers)) body)
+        (rows.region_variables (map view_resolved_clause region.now.clauses.now) body) }
     ensures behind { let body = view_resolved_statement region.now.statement.now in
         IfOk result
         (λ after. numbers_of after ≡ rows.behind (rows.next_body (numbers_of numbers)) body) }
@@ -82,18 +86,26 @@ pub(crate) fn task(
         OnOk result ((jumps : JumpLabels)
         → EmitsStatement (names_of scope.now) (numbers_of numbers) tree jumps draft.old draft.new) }
 {
-    let count = load_given(alloc, draft, scope, region)?;
+    let variables = scope.region_variables(numbers.bodies);
+    let count = load_given(alloc, draft, scope, region, variables)?;
     spawn(draft, region.at.line, numbers.bodies, count)?;
     Ok(scope.behind_region(numbers.bodies))
 }
 
-/// Loads the originals of the firstprivate copies of a region, and says how many there are.
+/// Loads the originals of the firstprivate copies of a region whose body has these variables, and says how
+/// many there are.
 fn load_given(
     alloc: Global,
     draft: &mut Draft,
     scope: &Scope<'_>,
     region: &RegionHead<'_>,
+    variables: &Variables,
 ) -> Result<usize, AllocError>
+    requires variables { let trees = map view_resolved_clause region.now.clauses.now in
+        let body = view_resolved_statement region.now.statement.now in
+        variables.now ≡ rows.region_variables trees body }
+    requires few { length variables.now ≤ 256 }
+    ensures few { IfOk result (λ count. count ≤ 256) }
     ensures count { let trees = map view_resolved_clause region.now.clauses.now in
         let body = view_resolved_statement region.now.statement.now in
         IfOk result (λ count. count ≡ length (given_copies trees region.now.captures.now body)) }
@@ -104,7 +116,7 @@ fn load_given(
         (EmitsRow (names_of scope.now) (λ at. each (load_original at region.now.at.line) given)
         draft.old draft.new) }
 {
-    let copies = given_copies(alloc, region.clauses, region.captures, region.statement)?;
+    let copies = given_copies_in(alloc, region.clauses, region.captures, variables)?;
     load_originals(draft, scope, region.at.line, copies.as_slice())?;
     Ok(copies.len())
 }

@@ -1,6 +1,6 @@
 //! What stands in the place of a `parallel` or a `task`, whose bodies stand by themselves.
 
-ghost use Rattle.std.specs.Prelude.{◌≡◌, IfOk, IfSome, OnOk, is_some, length, map, option_map};
+ghost use Rattle.std.specs.Prelude.{◌≡◌, ◌≤◌, IfOk, IfSome, OnOk, is_some, length, map, option_map};
 ghost use Rattle.om_statements.specs.Stretches.{EmitsRow, EmitsAnywhere, fork_row, spawn_row};
 ghost use Rattle.om_resolved.specs.ResolvedView.{view_resolved_clause, view_resolved_expression};
 ghost use Rattle.om_rows.specs.Coded.{ValueHasCode};
@@ -72,8 +72,7 @@ fn load(draft: &mut Draft, scope: &Scope<'_>, line: u32, copy: &FirstCopy) -> Re
     Ok(())
 }
 
-/// Writes the begin of a team on a body, with so many firstprivate values. An instruction counts
-/// them in 16 bits.
+/// Writes the begin of a team on a body, with so many firstprivate values: one for a slot at most.
 pub fn fork(
     draft: &mut Draft,
     line: u32,
@@ -81,11 +80,10 @@ pub fn fork(
     sized: bool,
     values: usize,
 ) -> Result<(), AllocError>
+    requires { values ≤ 256 }
     ensures { OnOk result (EmitsAnywhere (fork_row line body sized values) draft.old draft.new) }
 {
-    let Ok(values) = u16::try_from(values) else {
-        return Err(AllocError);
-    };
+    let values = values as u16;
     draft.put(
         line,
         Instr::Fork {
@@ -97,14 +95,12 @@ pub fn fork(
     Ok(())
 }
 
-/// Writes the begin of a task on a body, with so many firstprivate values. An instruction counts
-/// them in 16 bits.
+/// Writes the begin of a task on a body, with so many firstprivate values: one for a slot at most.
 pub fn spawn(draft: &mut Draft, line: u32, body: u32, values: usize) -> Result<(), AllocError>
+    requires { values ≤ 256 }
     ensures { OnOk result (EmitsAnywhere (spawn_row line body values) draft.old draft.new) }
 {
-    let Ok(values) = u16::try_from(values) else {
-        return Err(AllocError);
-    };
+    let values = values as u16;
     draft.put(line, Instr::Spawn { body, values })?;
     Ok(())
 }

@@ -10,7 +10,7 @@ ghost use Rattle.om_statements.specs.Parts.{AreFree, EmitsParts};
 ghost use Rattle.om_tables.specs.Ends.{HasAllEnds, HasEnds, HasPartsEnds};
 ghost use Rattle.om_tables.specs.Numbering.{numbers_of};
 ghost use Rattle.om_tables.specs.Scopes.{names_of};
-ghost use Rattle.om_tables.specs.Tables.{ends_in};
+ghost use Rattle.om_tables.specs.Tables.{known_in};
 
 use crate::alone::{assignment, stand_alone, update};
 use crate::branch::{begin_else, begin_if};
@@ -31,8 +31,7 @@ use std::alloc::{AllocError, Global};
 
 /// Writes the code of a statement, and gives the numbers behind it.
 ///
-/// Its only error is out of memory. What is in it has code, and the scope's tables have the numbers
-/// behind the regions in it.
+/// Its only error is out of memory. What is in it has code, and the scope knows the regions in it.
 #[cycle(statement)]
 pub fn statement(
     alloc: Global,
@@ -43,7 +42,7 @@ pub fn statement(
 ) -> Result<Numbers, AllocError>
     requires code { StatementHasCode (is_some spot.jumps.over) (is_some spot.jumps.next)
         (view_resolved_statement tree.now) }
-    requires ends { HasEnds (ends_in scope.now.tables.now) (numbers_of spot.numbers)
+    requires ends { HasEnds (known_in scope.now) (numbers_of spot.numbers)
         (view_resolved_statement tree.now) }
     ensures behind { IfOk result
         (λ after. numbers_of after ≡
@@ -242,7 +241,7 @@ pub fn statements(
 ) -> Result<Numbers, AllocError>
     requires code { StatementsHaveCode (is_some spot.jumps.over) (is_some spot.jumps.next)
         (trees.statements (map view_resolved_statement items.now)) }
-    requires ends { HasAllEnds (ends_in scope.now.tables.now) (numbers_of spot.numbers)
+    requires ends { HasAllEnds (known_in scope.now) (numbers_of spot.numbers)
         (trees.statements (map view_resolved_statement items.now)) }
     ensures behind { let all = trees.statements (map view_resolved_statement items.now) in
         IfOk result (λ after. numbers_of after ≡ rows.behind_all (numbers_of spot.numbers) all) }
@@ -271,7 +270,7 @@ pub fn parts(
     sections: &[ResolvedPart],
 ) -> Result<Numbers, AllocError>
     requires code { PartsHaveCode (trees.parts (map view_resolved_part sections.now)) }
-    requires ends { HasPartsEnds (ends_in scope.now.tables.now) (numbers_of spot.numbers)
+    requires ends { HasPartsEnds (known_in scope.now) (numbers_of spot.numbers)
         (trees.parts (map view_resolved_part sections.now)) }
     requires free { AreFree spot.first (length sections.now) draft.old }
     requires fit { spot.first + length sections.now ≤ 2 ^ 32 }

@@ -1,11 +1,12 @@
--- The numbers behind each body of a program, in the order of the bodies.
-use Rattle.std.specs.Prelude.{◌≡◌, ℕ, List, [], ◌∷◌, ◌++◌, Some, slice_get}
+-- The numbers behind each body of a program, in the order of the bodies, and what is known of bodies by their
+-- numbers.
+use Rattle.std.specs.Prelude.{◌≡◌, ◌≤◌, ℕ, List, [], ◌∷◌, ◌++◌, Some, length, slice_get}
 use Rattle.om_resolved.specs.ResolvedTree.{ResolvedStatementTree, Declaration, Block, Empty, Expression, If, IfElse}
 use Rattle.om_resolved.specs.ResolvedTree.{While, Do, For, Return, Break, Continue, Parallel, Task, Loop, Sections}
 use Rattle.om_resolved.specs.ResolvedTree.{Construct, Update, StandAlone, ResolvedStatementsTree, NoStatements}
 use Rattle.om_resolved.specs.ResolvedTree.{Statement, ResolvedPartsTree, NoParts, Part, ResolvedFunctionTree}
-use Rattle.om_rows.specs.Bodies.{Numbers, BodySite, BodyTree, FunctionBody, ParallelBody, TaskBody, behind, behind_all}
-use Rattle.om_rows.specs.Bodies.{behind_function, next_body, next_pick}
+use Rattle.om_rows.specs.Bodies.{Numbers, BodyTree, FunctionBody, ParallelBody, TaskBody, behind, behind_all}
+use Rattle.om_rows.specs.Bodies.{behind_function, next_body, next_pick, region_variables}
 
 -- those behind the regions in a part of a body, and in those regions
 abbrev mutual
@@ -50,44 +51,54 @@ abbrev pub ends_from : Numbers → List ResolvedFunctionTree → List Numbers
 ends_from n [] = []
 ends_from n (f ∷ fs) = function_ends n f ++ ends_from (behind_function n f) fs
 
--- ---- by the numbers of the bodies
+-- ---- what is known of bodies, by their numbers
 
--- a table has the numbers behind each region in a part of a body; the regions in it are bodies of their own
+-- the numbers behind each body, and the variables of those whose slots are numbered by now
+pub record KnownBodies : Type 0 where
+  pub ends : List Numbers
+  pub slots : List (List ℕ)
+
+-- the numbers behind a body and its variables are known; it has at most 256 slots
+pub record IsKnown (known : KnownBodies) (body : ℕ) (numbers : Numbers) (variables : List ℕ) : Type 0 where
+  pub ends : slice_get known.ends body ≡ Some numbers
+  pub slots : slice_get known.slots body ≡ Some variables
+  pub few : length variables ≤ 256
+
+-- each region in a part of a body is known; the regions in it are bodies of their own
 abbrev mutual
-  pub HasEnds : (ends : List Numbers) → Numbers → ResolvedStatementTree → Type 0
-  HasEnds ends n (Declaration at ds) = Unit {0}
-  HasEnds ends n (Block at items) = HasAllEnds ends n items
-  HasEnds ends n (Empty at) = Unit {0}
-  HasEnds ends n (Expression at e) = Unit {0}
-  HasEnds ends n (If at c s) = HasEnds ends n s
-  HasEnds ends n (IfElse at c s t) = HasEnds ends n s × HasEnds ends (behind n s) t
-  HasEnds ends n (While at c s) = HasEnds ends n s
-  HasEnds ends n (Do at s c) = HasEnds ends n s
-  HasEnds ends n (For at start condition step s) = HasEnds ends n s
-  HasEnds ends n (Return at value) = Unit {0}
-  HasEnds ends n (Break at) = Unit {0}
-  HasEnds ends n (Continue at) = Unit {0}
-  HasEnds ends n (Parallel at clauses captures s) = slice_get ends n.bodies ≡ Some (behind (next_body n) s)
-  HasEnds ends n (Task at clauses captures s) = slice_get ends n.bodies ≡ Some (behind (next_body n) s)
-  HasEnds ends n (Loop at clauses nowait l s) = HasEnds ends n s
-  HasEnds ends n (Sections at clauses nowait parts) = HasPartsEnds ends (next_pick n) parts
-  HasEnds ends n (Construct at kind clauses s) = HasEnds ends n s
-  HasEnds ends n (Update at u) = Unit {0}
-  HasEnds ends n (StandAlone at directive) = Unit {0}
+  pub HasEnds : (known : KnownBodies) → Numbers → ResolvedStatementTree → Type 0
+  HasEnds known n (Declaration at ds) = Unit {0}
+  HasEnds known n (Block at items) = HasAllEnds known n items
+  HasEnds known n (Empty at) = Unit {0}
+  HasEnds known n (Expression at e) = Unit {0}
+  HasEnds known n (If at c s) = HasEnds known n s
+  HasEnds known n (IfElse at c s t) = HasEnds known n s × HasEnds known (behind n s) t
+  HasEnds known n (While at c s) = HasEnds known n s
+  HasEnds known n (Do at s c) = HasEnds known n s
+  HasEnds known n (For at start condition step s) = HasEnds known n s
+  HasEnds known n (Return at value) = Unit {0}
+  HasEnds known n (Break at) = Unit {0}
+  HasEnds known n (Continue at) = Unit {0}
+  HasEnds known n (Parallel at clauses captures s) =
+      IsKnown known n.bodies (behind (next_body n) s) (region_variables clauses s)
+  HasEnds known n (Task at clauses captures s) =
+      IsKnown known n.bodies (behind (next_body n) s) (region_variables clauses s)
+  HasEnds known n (Loop at clauses nowait l s) = HasEnds known n s
+  HasEnds known n (Sections at clauses nowait parts) = HasPartsEnds known (next_pick n) parts
+  HasEnds known n (Construct at kind clauses s) = HasEnds known n s
+  HasEnds known n (Update at u) = Unit {0}
+  HasEnds known n (StandAlone at directive) = Unit {0}
 
-  pub HasAllEnds : (ends : List Numbers) → Numbers → ResolvedStatementsTree → Type 0
-  HasAllEnds ends n NoStatements = Unit {0}
-  HasAllEnds ends n (Statement s rest) = HasEnds ends n s × HasAllEnds ends (behind n s) rest
+  pub HasAllEnds : (known : KnownBodies) → Numbers → ResolvedStatementsTree → Type 0
+  HasAllEnds known n NoStatements = Unit {0}
+  HasAllEnds known n (Statement s rest) = HasEnds known n s × HasAllEnds known (behind n s) rest
 
-  pub HasPartsEnds : (ends : List Numbers) → Numbers → ResolvedPartsTree → Type 0
-  HasPartsEnds ends n NoParts = Unit {0}
-  HasPartsEnds ends n (Part items rest) = HasAllEnds ends n items × HasPartsEnds ends (behind_all n items) rest
+  pub HasPartsEnds : (known : KnownBodies) → Numbers → ResolvedPartsTree → Type 0
+  HasPartsEnds known n NoParts = Unit {0}
+  HasPartsEnds known n (Part items rest) = HasAllEnds known n items × HasPartsEnds known (behind_all n items) rest
 
 -- the same of a body
-abbrev pub HasBodyEnds : (ends : List Numbers) → Numbers → ResolvedFunctionTree → BodyTree → Type 0
-HasBodyEnds ends n f FunctionBody = HasAllEnds ends n f.body
-HasBodyEnds ends n f (ParallelBody first clauses captures s) = HasEnds ends n s
-HasBodyEnds ends n f (TaskBody first clauses captures s) = HasEnds ends n s
-
-abbrev pub HasSiteEnds : (ends : List Numbers) → BodySite → Type 0
-HasSiteEnds ends b = HasBodyEnds ends b.numbers b.function b.tree
+abbrev pub HasBodyEnds : (known : KnownBodies) → Numbers → ResolvedFunctionTree → BodyTree → Type 0
+HasBodyEnds known n f FunctionBody = HasAllEnds known n f.body
+HasBodyEnds known n f (ParallelBody first clauses captures s) = HasEnds known n s
+HasBodyEnds known n f (TaskBody first clauses captures s) = HasEnds known n s

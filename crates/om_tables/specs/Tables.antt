@@ -1,10 +1,13 @@
 -- The tables of a program.
-use Rattle.std.specs.Prelude.{◌≡◌, List, All, map}
+use Rattle.std.specs.Prelude.{◌≡◌, ℕ, List, [], ◌∷◌, ◌++◌, map}
+use Rattle.std.specs.List.{AllZip}
 use Rattle.om_resolved.specs.ResolvedTree.{ResolvedFunctionTree, ResolvedTree}
-use Rattle.om_rows.specs.Bodies.{Numbers, behind_functions, bodies_of, first_numbers}
-use Rattle.om_rows.specs.Mentions.{formats_of, locks_of}
+use Rattle.om_rows.specs.Bodies.{Numbers, behind_functions, first_numbers}
+use Rattle.om_rows.specs.Mentions.{extents_of, formats_of, locks_of}
+use Rattle.om_rows.specs.Slots.{Extent, cells_in}
+use Rattle.om_tables.specs.declared.scope.Scope.{Scope}
 use Rattle.om_tables.specs.declared.tables.Tables.{Tables}
-use Rattle.om_tables.specs.Ends.{HasSiteEnds}
+use Rattle.om_tables.specs.Ends.{KnownBodies, ends_from}
 use Rattle.om_tables.specs.Numbering.{function_numbers, numbers_of}
 
 -- they number the bodies of these functions
@@ -16,8 +19,24 @@ pub record AreBodiesOf (functions : List ResolvedFunctionTree) (tables : Tables)
 abbrev pub ends_in : Tables → List Numbers
 ends_in tables = map numbers_of tables.ends.items
 
+-- how many cells the variables of a function have
+abbrev pub AreCellsOf : ResolvedFunctionTree → List Extent → Type 0
+AreCellsOf f extents = (variable : ℕ) → cells_in extents variable ≡ cells_in (extents_of f) variable
+
+-- those of one more function
+abbrev pub AddsCells : ResolvedFunctionTree → (old new : List (List Extent)) → Type 0
+AddsCells f old new = (extents : List Extent) × (new ≡ old ++ extents ∷ []) × AreCellsOf f extents
+
 pub record IsTablesOf (tree : ResolvedTree) (tables : Tables) : Type 0 where
   pub formats : tables.formats ≡ formats_of tree
   pub locks : tables.locks ≡ locks_of tree
+  pub cells : AllZip AreCellsOf tree.functions tables.extents.items
   pub numbered : AreBodiesOf tree.functions tables
-  pub ends : All (HasSiteEnds (ends_in tables)) (bodies_of tree)
+  pub ends : ends_in tables ≡ ends_from first_numbers tree.functions
+
+-- what a program's tables and the variables of its first bodies say of these
+abbrev pub known_of : Tables → (slots : List (List ℕ)) → KnownBodies
+known_of tables slots = record { ends = ends_in tables; slots = slots }
+
+abbrev pub known_in : Scope → KnownBodies
+known_in scope = known_of scope.tables.now scope.known.now

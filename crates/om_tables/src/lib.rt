@@ -2,7 +2,6 @@
 #![tactic(auto)]
 
 mod copies;
-mod ends;
 mod extents;
 mod formats;
 mod mentions;
@@ -17,8 +16,7 @@ mod variables;
 
 pub use copies::{FirstCopy, given_copies, given_copies_in};
 pub use extents::Extents;
-pub use mentions::{Mentions, extents_of};
-pub use numbers::{Numbers, behind, behind_all, behind_function, behind_parts};
+pub use numbers::{Numbers, behind};
 pub use scope::Scope;
 pub use sights::{function_variables, region_variables};
 pub use slots::{copy_slots, parameter_slots, slots_with};

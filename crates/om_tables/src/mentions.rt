@@ -1,36 +1,41 @@
-//! What a function mentions, its regions too: formats, names of critical regions, declared variables.
+//! What a function mentions, its regions too: formats, names of critical regions, declared variables. The same walk
+//! numbers the regions.
 
-ghost use Rattle.std.specs.Prelude.{◌≡◌, ◌++◌, [], OnOk, IfOk, ℕ, map, option_map};
+ghost use Rattle.std.specs.Prelude.{◌≡◌, ◌<◌, ◌++◌, [], OnOk, IfOk, length, map, option_map, set};
 ghost use Rattle.std.specs.List.{flat_map};
 ghost use Rattle.om_resolved.specs.ResolvedTree as trees;
-ghost use Rattle.om_resolved.specs.ResolvedView.{view_resolved_clause, view_resolved_declarator, view_resolved_expression, view_resolved_function, view_resolved_loop, view_resolved_part, view_resolved_start, view_resolved_statement, view_resolved_update};
-ghost use Rattle.om_rows.specs.Mentions.{all_mentioned, clause_mentioned, declarator_mentioned, extents_of, loop_mentioned, mentioned, parts_mentioned, perhaps_mentioned, start_mentioned, update_mentioned};
-ghost use Rattle.om_rows.specs.Slots.{cells_in, cells_of_length};
+ghost use Rattle.om_resolved.specs.ResolvedView.{view_resolved_clause, view_resolved_declarator, view_resolved_expression, view_resolved_loop, view_resolved_part, view_resolved_start, view_resolved_statement, view_resolved_update};
+ghost use Rattle.om_rows.specs.Mentions.{all_mentioned, clause_mentioned, declarator_mentioned, loop_mentioned, mentioned, parts_mentioned, perhaps_mentioned, start_mentioned, update_mentioned};
+ghost use Rattle.om_rows.specs.Bodies as bodies;
+ghost use Rattle.om_rows.specs.Slots.{cells_of_length};
+ghost use Rattle.om_tables.specs.Ends.{all_region_ends, body_ends, parts_region_ends, region_ends};
 ghost use Rattle.om_tables.specs.Noted.{AreNoted};
+ghost use Rattle.om_tables.specs.Numbering.{numbers_of};
 
 use crate::extents::Extents;
 use crate::formats::note_expression;
+use crate::numbers::Numbers;
 use crate::texts::Texts;
 use om_resolved::{
-    ConstructKind, ResolvedClause, ResolvedDeclarator, ResolvedExpression, ResolvedFunction,
-    ResolvedHead, ResolvedLoop, ResolvedPart, ResolvedStart, ResolvedStatement, ResolvedUpdate,
+    ConstructKind, ResolvedClause, ResolvedDeclarator, ResolvedExpression, ResolvedHead,
+    ResolvedLoop, ResolvedPart, ResolvedStart, ResolvedStatement, ResolvedUpdate,
 };
 use std::alloc::{AllocError, Global};
 
 /// What functions mention, in the order of the text.
 #[derive(Drop)]
-pub struct Mentions {
+pub(crate) struct Mentions {
     /// The formats of `printf`.
-    pub formats: Texts,
+    pub(crate) formats: Texts,
     /// The names of critical regions; the unnamed one has no bytes.
-    pub locks: Texts,
+    pub(crate) locks: Texts,
     /// The declared variables.
-    pub extents: Extents,
+    pub(crate) extents: Extents,
 }
 
 impl Mentions {
     /// Nothing.
-    pub fn new(alloc: Global) -> Mentions
+    pub(crate) fn new(alloc: Global) -> Mentions
         ensures formats { result.formats ≡ [] }
         ensures locks { result.locks ≡ [] }
         ensures extents { result.extents ≡ [] }
@@ -41,19 +46,6 @@ impl Mentions {
             extents: Extents::new(alloc),
         }
     }
-}
-
-/// How many cells the declared variables of a function have.
-#[tactic(auto, using(crate::proofs::Cells::cells_measured))]
-pub fn extents_of(alloc: Global, function: &ResolvedFunction) -> Result<Extents, AllocError>
-    ensures { let tree = view_resolved_function function.now in
-        IfOk result
-        (λ made. (variable : ℕ) → cells_in made variable ≡ cells_in (extents_of tree) variable) }
-{
-    let mut found = Mentions::new(alloc);
-    note_statements(&mut found, alloc, function.body.as_slice())?;
-    let Mentions { extents, .. } = found;
-    Ok(extents)
 }
 
 /// Notes the formats of an expression.
@@ -219,27 +211,77 @@ fn note_head(found: &mut Mentions, alloc: Global, head: &ResolvedHead) -> Result
     note_perhaps(found, alloc, &head.step)
 }
 
-/// Notes what a statement mentions.
+/// Puts the numbers behind a body in their place.
+pub(crate) fn put_end(ends: &mut Vec<Numbers>, index: usize, behind: Numbers)
+    requires { index < length ends.old.items }
+    ensures { ends.new.items ≡ set ends.old.items index behind }
+{
+    ends[index] = behind;
+}
+
+/// Notes what a region mentions and the numbers behind it and behind each region in it, and answers those
+/// behind it.
+#[cycle(statement)]
+#[tactic(auto, using(crate::proofs::Ending::end_placed, crate::proofs::Ending::end_there))]
+fn note_region(
+    found: &mut Mentions,
+    ends: &mut Vec<Numbers>,
+    alloc: Global,
+    numbers: Numbers,
+    body: &ResolvedStatement,
+) -> Result<Numbers, AllocError>
+    ensures behind { let tree = view_resolved_statement body.now in
+        IfOk result
+        (λ made. numbers_of made ≡ bodies.behind (bodies.next_body (numbers_of numbers)) tree) }
+    ensures ends { let tree = view_resolved_statement body.now in
+        OnOk result (map numbers_of ends.new.items
+        ≡ map numbers_of ends.old.items ++ body_ends (numbers_of numbers) tree) }
+    ensures noted { let tree = view_resolved_statement body.now in
+        OnOk result (AreNoted (λ A m. mentioned m tree) found.old found.new) }
+{
+    let inner = numbers.next_body()?;
+    let index = ends.len();
+    ends.push(inner)?;
+    let behind = note_statement(found, ends, alloc, inner, body)?;
+    put_end(ends, index, behind);
+    Ok(behind)
+}
+
+/// Notes what a statement mentions and the numbers behind each region in it, in the order of the text, and
+/// answers those behind it.
 #[tactic(auto, unfolding(om_rows::specs::Mentions::mentioned))]
 #[cycle(statement)]
 fn note_statement(
     found: &mut Mentions,
+    ends: &mut Vec<Numbers>,
     alloc: Global,
+    numbers: Numbers,
     statement: &ResolvedStatement,
-) -> Result<(), AllocError>
-    ensures { let tree = view_resolved_statement statement.now in
+) -> Result<Numbers, AllocError>
+    ensures behind { let tree = view_resolved_statement statement.now in
+        IfOk result (λ made. numbers_of made ≡ bodies.behind (numbers_of numbers) tree) }
+    ensures ends { let tree = view_resolved_statement statement.now in
+        OnOk result (map numbers_of ends.new.items
+        ≡ map numbers_of ends.old.items ++ region_ends (numbers_of numbers) tree) }
+    ensures noted { let tree = view_resolved_statement statement.now in
         OnOk result (AreNoted (λ A m. mentioned m tree) found.old found.new) }
 {
     match statement {
         ResolvedStatement::Declaration { declarators, .. } => {
-            note_declarators(found, alloc, declarators.as_slice())
+            note_declarators(found, alloc, declarators.as_slice())?;
+            Ok(numbers)
         }
-        ResolvedStatement::Block { items, .. } => note_statements(found, alloc, items.as_slice()),
+        ResolvedStatement::Block { items, .. } => {
+            note_statements(found, ends, alloc, numbers, items.as_slice())
+        }
         ResolvedStatement::Empty(_)
         | ResolvedStatement::Break(_)
         | ResolvedStatement::Continue(_)
-        | ResolvedStatement::StandAlone { .. } => Ok(()),
-        ResolvedStatement::Expression { value, .. } => note_value(found, alloc, value),
+        | ResolvedStatement::StandAlone { .. } => Ok(numbers),
+        ResolvedStatement::Expression { value, .. } => {
+            note_value(found, alloc, value)?;
+            Ok(numbers)
+        }
         ResolvedStatement::If {
             condition: test,
             then: body,
@@ -251,7 +293,7 @@ fn note_statement(
             ..
         } => {
             note_value(found, alloc, test)?;
-            note_statement(found, alloc, body)
+            note_statement(found, ends, alloc, numbers, body)
         }
         ResolvedStatement::IfElse {
             condition,
@@ -260,26 +302,30 @@ fn note_statement(
             ..
         } => {
             note_value(found, alloc, condition)?;
-            note_statement(found, alloc, then)?;
-            note_statement(found, alloc, other)
+            let between = note_statement(found, ends, alloc, numbers, then)?;
+            note_statement(found, ends, alloc, between, other)
         }
         ResolvedStatement::Do {
             body,
             condition,
             ..
         } => {
-            note_statement(found, alloc, body)?;
-            note_value(found, alloc, condition)
+            let behind = note_statement(found, ends, alloc, numbers, body)?;
+            note_value(found, alloc, condition)?;
+            Ok(behind)
         }
         ResolvedStatement::For { head, body, .. } => {
             note_head(found, alloc, head)?;
-            note_statement(found, alloc, body)
+            note_statement(found, ends, alloc, numbers, body)
         }
-        ResolvedStatement::Return { value, .. } => note_perhaps(found, alloc, value),
+        ResolvedStatement::Return { value, .. } => {
+            note_perhaps(found, alloc, value)?;
+            Ok(numbers)
+        }
         ResolvedStatement::Parallel { clauses, body, .. }
         | ResolvedStatement::Task { clauses, body, .. } => {
             note_clauses(found, alloc, clauses.as_slice())?;
-            note_statement(found, alloc, body)
+            note_region(found, ends, alloc, numbers, body)
         }
         ResolvedStatement::Loop {
             clauses,
@@ -289,11 +335,11 @@ fn note_statement(
         } => {
             note_clauses(found, alloc, clauses.as_slice())?;
             note_loop(found, alloc, repeated)?;
-            note_statement(found, alloc, body)
+            note_statement(found, ends, alloc, numbers, body)
         }
         ResolvedStatement::Sections { clauses, parts, .. } => {
             note_clauses(found, alloc, clauses.as_slice())?;
-            note_parts(found, alloc, parts.as_slice())
+            note_parts(found, ends, alloc, numbers.next_pick()?, parts.as_slice())
         }
         ResolvedStatement::Construct {
             kind,
@@ -303,38 +349,61 @@ fn note_statement(
         } => {
             note_construct(found, alloc, kind)?;
             note_clauses(found, alloc, clauses.as_slice())?;
-            note_statement(found, alloc, body)
+            note_statement(found, ends, alloc, numbers, body)
         }
-        ResolvedStatement::Update { update, .. } => note_update(found, alloc, update),
+        ResolvedStatement::Update { update, .. } => {
+            note_update(found, alloc, update)?;
+            Ok(numbers)
+        }
     }
 }
 
-/// Notes what statements mention.
+/// The same for statements.
 #[tactic(auto, unfolding(om_rows::specs::Mentions::all_mentioned))]
 #[cycle(statement)]
 pub(crate) fn note_statements(
     found: &mut Mentions,
+    ends: &mut Vec<Numbers>,
     alloc: Global,
+    numbers: Numbers,
     items: &[ResolvedStatement],
-) -> Result<(), AllocError>
-    ensures { let tree = trees.statements (map view_resolved_statement items.now) in
+) -> Result<Numbers, AllocError>
+    ensures behind { let tree = trees.statements (map view_resolved_statement items.now) in
+        IfOk result (λ made. numbers_of made ≡ bodies.behind_all (numbers_of numbers) tree) }
+    ensures ends { let tree = trees.statements (map view_resolved_statement items.now) in
+        OnOk result (map numbers_of ends.new.items
+        ≡ map numbers_of ends.old.items ++ all_region_ends (numbers_of numbers) tree) }
+    ensures noted { let tree = trees.statements (map view_resolved_statement items.now) in
         OnOk result (AreNoted (λ A m. all_mentioned m tree) found.old found.new) }
 {
+    let mut numbers = numbers;
     for item in items {
-        note_statement(found, alloc, item)?;
+        numbers = note_statement(found, ends, alloc, numbers, item)?;
     }
-    Ok(())
+    Ok(numbers)
 }
 
-/// Notes what the parts of `sections` mention.
+/// The same for the parts of `sections`.
 #[tactic(auto, unfolding(om_rows::specs::Mentions::parts_mentioned))]
 #[cycle(statement)]
-fn note_parts(found: &mut Mentions, alloc: Global, parts: &[ResolvedPart]) -> Result<(), AllocError>
-    ensures { let tree = trees.parts (map view_resolved_part parts.now) in
+fn note_parts(
+    found: &mut Mentions,
+    ends: &mut Vec<Numbers>,
+    alloc: Global,
+    numbers: Numbers,
+    parts: &[ResolvedPart],
+) -> Result<Numbers, AllocError>
+    ensures behind { let tree = trees.parts (map view_resolved_part parts.now) in
+        IfOk result (λ made. numbers_of made ≡ bodies.behind_parts (numbers_of numbers) tree) }
+    ensures ends { let tree = trees.parts (map view_resolved_part parts.now) in
+        OnOk result (map numbers_of ends.new.items
+        ≡ map numbers_of ends.old.items ++ parts_region_ends (numbers_of numbers) tree) }
+    ensures noted { let tree = trees.parts (map view_resolved_part parts.now) in
         OnOk result (AreNoted (λ A m. parts_mentioned m tree) found.old found.new) }
 {
+    let mut numbers = numbers;
     for part in parts {
-        note_statements(found, alloc, part.items.as_slice())?;
+        numbers = note_statements(found, ends, alloc, numbers, part.items.as_slice())?;
     }
-    Ok(())
+    Ok(numbers)
 }

@@ -2,11 +2,11 @@
 
 ghost use Rattle.std.specs.Prelude.{◌≡◌, IfOk, map};
 ghost use Rattle.om_resolved.specs.ResolvedTree as trees;
-ghost use Rattle.om_resolved.specs.ResolvedView.{view_resolved_function, view_resolved_part, view_resolved_statement};
+ghost use Rattle.om_resolved.specs.ResolvedView.{view_resolved_part, view_resolved_statement};
 ghost use Rattle.om_rows.specs.Bodies as bodies;
 ghost use Rattle.om_tables.specs.Numbering.{numbers_of};
 
-use om_resolved::{ResolvedFunction, ResolvedPart, ResolvedStatement};
+use om_resolved::{ResolvedPart, ResolvedStatement};
 use std::alloc::AllocError;
 
 /// The numbers that the next body, and the next list of PICK, get.
@@ -88,7 +88,7 @@ pub fn behind(numbers: Numbers, statement: &ResolvedStatement) -> Result<Numbers
 
 /// The numbers behind statements.
 #[cycle(statement)]
-pub fn behind_all(numbers: Numbers, items: &[ResolvedStatement]) -> Result<Numbers, AllocError>
+fn behind_all(numbers: Numbers, items: &[ResolvedStatement]) -> Result<Numbers, AllocError>
     ensures { let tree = trees.statements (map view_resolved_statement items.now) in
         IfOk result (λ made. numbers_of made ≡ bodies.behind_all (numbers_of numbers) tree) }
 {
@@ -101,7 +101,7 @@ pub fn behind_all(numbers: Numbers, items: &[ResolvedStatement]) -> Result<Numbe
 
 /// The numbers behind the parts of `sections`.
 #[cycle(statement)]
-pub fn behind_parts(numbers: Numbers, parts: &[ResolvedPart]) -> Result<Numbers, AllocError>
+fn behind_parts(numbers: Numbers, parts: &[ResolvedPart]) -> Result<Numbers, AllocError>
     ensures { let tree = trees.parts (map view_resolved_part parts.now) in
         IfOk result (λ made. numbers_of made ≡ bodies.behind_parts (numbers_of numbers) tree) }
 {
@@ -110,12 +110,4 @@ pub fn behind_parts(numbers: Numbers, parts: &[ResolvedPart]) -> Result<Numbers,
         numbers = behind_all(numbers, part.items.as_slice())?;
     }
     Ok(numbers)
-}
-
-/// The numbers behind a function.
-pub fn behind_function(numbers: Numbers, function: &ResolvedFunction) -> Result<Numbers, AllocError>
-    ensures { let tree = view_resolved_function function.now in
-        IfOk result (λ made. numbers_of made ≡ bodies.behind_function (numbers_of numbers) tree) }
-{
-    behind_all(numbers.next_body()?, function.body.as_slice())
 }

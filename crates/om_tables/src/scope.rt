@@ -19,6 +19,8 @@ use om_seq::Seq;
 pub struct Scope<'a> {
     pub functions: &'a [ResolvedFunction],
     pub tables: &'a Tables,
+    /// The variables of the first bodies of the program by their numbers, those of its function among them.
+    pub known: &'a [Variables],
     pub variables: &'a Variables,
     /// Whether the body stands in `main`.
     pub is_main: bool,
@@ -38,12 +40,13 @@ impl<'a> Scope<'a> {
     ghost use Rattle.om_tables.specs.Names.{names_in};
     ghost use Rattle.om_tables.specs.Scopes.{names_of};
     ghost use Rattle.om_tables.specs.Numbering.{numbers_of};
-    ghost use Rattle.om_tables.specs.Tables.{IsTablesOf, ends_in};
+    ghost use Rattle.om_tables.specs.Tables.{IsTablesOf, known_in, known_of};
 
     /// That of a body of `main`, or of another function, with at most 256 variables.
     pub fn new(
         resolved: &'a Resolved,
         tables: &'a Tables,
+        known: &'a [Variables],
         variables: &'a Variables,
         is_main: bool,
     ) -> Scope<'a>
@@ -51,11 +54,12 @@ impl<'a> Scope<'a> {
         requires tables { IsTablesOf (view_resolved resolved.now) tables.now }
         ensures names { names_of result
             ≡ names_in (view_resolved resolved.now) variables.now is_main }
-        ensures tables { result.tables.now ≡ tables.now }
+        ensures known { known_in result ≡ known_of tables.now known.now }
     {
         Scope {
             functions: resolved.functions.as_slice(),
             tables,
+            known,
             variables,
             is_main,
         }
@@ -113,10 +117,18 @@ impl<'a> Scope<'a> {
 
     /// The numbers behind the region whose body gets this number.
     pub fn behind_region(&self, body: u32) -> Numbers
-        requires { body < length (ends_in self.now.tables.now) }
-        ensures { slice_get (ends_in self.now.tables.now) body ≡ Some (numbers_of result) }
+        requires { body < length (known_in self.now).ends }
+        ensures { slice_get (known_in self.now).ends body ≡ Some (numbers_of result) }
     {
         self.tables.ends[body as usize]
+    }
+
+    /// The variables of the region whose body gets this number.
+    pub fn region_variables(&self, body: u32) -> &'a Variables
+        requires { body < length (known_in self.now).slots }
+        ensures { slice_get (known_in self.now).slots body ≡ Some result.now }
+    {
+        &self.known[body as usize]
     }
 
     /// Whether the body stands in `main`.

@@ -1,22 +1,21 @@
 use Rattle.std.proofs.Common.{[], ap, sym, subst, take, ◌∙◌}
 use Rattle.om_lower.specs.Limits.{IsOver}
 use Rattle.om_lower.specs.Made.{AddsBody, AreListsOf, AreMade}
-use Rattle.om_lower.specs.Sites.{IsReady, bodies_in, body_round, round_behind, round_with}
+use Rattle.om_lower.specs.Sites.{IsReady, bodies_in, body_round, known_with, round_behind, round_with}
 use Rattle.om_lower.proofs.Items.{all_at, any_at}
 use Rattle.om_lower.proofs.Coding.{body_added}
 use Rattle.om_lower.proofs.SiteBodies.{adds_round, round_next, site_at, taken_bodies}
 use Rattle.om_resolved.specs.ResolvedView.{view_resolved}
-use Rattle.om_tables.specs.Tables.{ends_in}
 use Rattle.om_lower.proofs.bodies.lower_bodies.Goals as goal
 
 pub add_next-requires-clause-ready : goal.add_next-requires-clause-ready
 add_next-requires-clause-ready c =
     let sites = c.args.sites.now in
     let round = round_behind [] (take c.loop-site.site-index sites) in
-    let ends = ends_in c.args.whole.now.tables.now in
-    subst (λ all. IsReady ends c.args.extents.now (body_round all c.site-item.result))
+    let known = known_with c.args.whole.now.tables.now c.args.known.now in
+    subst (λ all. IsReady known c.args.known.now.extents.now (body_round all c.site-item.result))
     (sym c.loop-site.invariant.2)
-    (all_at (IsReady ends c.args.extents.now) (bodies_in [] sites) c.loop-site.site-index
+    (all_at (IsReady known c.args.known.now.extents.now) (bodies_in [] sites) c.loop-site.site-index
     (body_round round c.site-item.result) c.requires.ready
     (site_at sites c.loop-site.site-index c.site-item.result c.loop-site-test.true c.site-item.is))
 
@@ -28,7 +27,7 @@ returns-then-not-branch c =
     any_at (λ b. IsOver tree b) (bodies_in [] sites) c.loop-site.site-index b
     (site_at sites c.loop-site.site-index c.site-item.result c.loop-site-test.true c.site-item.is)
     (subst (λ fits. AddsBody tree b c.loop-site.made c.add_next.new.made fits) c.if-not-branch.true
-    (adds_round tree c.site-item.result c.loop-site.round.items _ c.loop-site.made c.add_next.new.made
+    (adds_round tree c.site-item.result _ _ c.loop-site.made c.add_next.new.made
     c.in_ok-add_next.field-0 c.loop-site.invariant.2 c.in_ok-add_next.ensures.adds))
 
 pub loop-site-preserved : goal.loop-site-preserved
@@ -42,7 +41,7 @@ loop-site-preserved c =
     (site_at sites c.loop-site.site-index site c.loop-site-test.true c.site-item.is)
     (c.loop-site.invariant.0, c.loop-site.invariant.1)
     (subst (λ fits. AddsBody tree b c.loop-site.made c.add_next.new.made fits) c.if-not-branch.false
-    (adds_round tree site c.loop-site.round.items round c.loop-site.made c.add_next.new.made
+    (adds_round tree site _ round c.loop-site.made c.add_next.new.made
     c.in_ok-add_next.field-0 c.loop-site.invariant.2 c.in_ok-add_next.ensures.adds)) in (
       made.0,
       made.1,

@@ -1,4 +1,4 @@
-use Rattle.std.proofs.Common.{◌≡◌, [], take}
+use Rattle.std.proofs.Common.{◌≡◌, [], map, take}
 use Rattle.om_lower.specs.Made.{AreListsOf, AreMade}
 use Rattle.om_lower.specs.Sites.{bodies_in, round_behind}
 use Rattle.om_resolved.specs.ResolvedView.{view_resolved}
@@ -8,4 +8,4 @@ abbrev pub invariant-loop-site : goal.invariant-loop-site
 invariant-loop-site l =
     AreMade (view_resolved l.whole.resolved.now) l.made.lists (take l.site-index (bodies_in [] l.sites)) l.made.bodies
     × AreListsOf (take l.site-index (bodies_in [] l.sites)) l.made.lists
-    × (l.round.items ≡ round_behind [] (take l.site-index l.sites))
+    × (map (λ one. one.now) l.round.items ≡ round_behind [] (take l.site-index l.sites))

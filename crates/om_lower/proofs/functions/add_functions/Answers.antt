@@ -1,72 +1,102 @@
-use Rattle.std.proofs.Common.{◌≡◌, All, Some, map, slice_get, subst, sym}
+use Rattle.std.proofs.Common.{◌≡◌, All, Some, ap, map, slice_get, subst, sym, ◌∙◌}
 use Rattle.om_lower.specs.Made.{AddsFunction}
 use Rattle.om_resolved.specs.ResolvedView.{view_resolved, view_resolved_function}
 use Rattle.om_rows.specs.Bodies.{first_numbers, function_bodies}
 use Rattle.om_rows.specs.Coded.{BodyHasCode}
-use Rattle.om_tables.specs.Ends.{HasSiteEnds}
 use Rattle.om_tables.specs.Numbering.{numbers_of}
-use Rattle.om_tables.specs.Tables.{ends_in}
+use Rattle.om_tables.specs.Tables.{AreCellsOf, ends_in}
 use Rattle.om_lower.proofs.Coding.{function_added, stopped_at}
 use Rattle.om_lower.proofs.FunctionBodies.{function_holds}
 use Rattle.om_lower.proofs.Items.{item_at}
+use Rattle.om_lower.proofs.Knowing.{end_is, end_there, ends_stand, extents_there, slots_long, zip_at}
 use Rattle.om_lower.proofs.functions.add_functions.Goals as goal
 
-pub add_function-requires-clause-has_code : goal.add_function-requires-clause-has_code
-add_function-requires-clause-has_code c =
+pub extents_at-requires : goal.extents_at-requires
+extents_at-requires c =
     let tree = view_resolved c.args.whole.now.resolved.now in
+    let tables = c.args.whole.now.tables.now in
     let f = view_resolved_function c.function-item.result in
-    subst (λ n. All (λ b. BodyHasCode b.function b.tree) (function_bodies n f))
-    (sym c.loop-function.invariant.numbers)
-    (function_holds (λ b. BodyHasCode b.function b.tree) first_numbers tree.functions
-    c.loop-function.function-index f c.requires.has_code.bodies (
-    subst (λ items. slice_get (map view_resolved_function items) c.loop-function.function-index ≡ Some f)
+    let n = numbers_of c.loop-index.numbers in
+    let there : slice_get tree.functions c.loop-index.index ≡ Some f =
+    subst (λ items. slice_get (map view_resolved_function items) c.loop-index.index ≡ Some f)
     c.as_slice-function-items.ensures.value
-    (item_at view_resolved_function c.as_slice-function-items.result.now c.loop-function.function-index
-    c.function-item.result
-    c.loop-function-test.true c.function-item.is)))
+    (item_at view_resolved_function c.as_slice-function-items.result.now c.loop-index.index c.function-item.result
+    c.loop-index-test.true c.function-item.is) in
+    extents_there tree.functions tables.extents.items c.loop-index.index f c.requires.tables.cells there
 
-pub add_function-requires-clause-has_ends : goal.add_function-requires-clause-has_ends
-add_function-requires-clause-has_ends c =
+pub add_function-requires-clause-next : goal.add_function-requires-clause-next
+add_function-requires-clause-next c =
     let tree = view_resolved c.args.whole.now.resolved.now in
+    let tables = c.args.whole.now.tables.now in
     let f = view_resolved_function c.function-item.result in
-    let ends = ends_in c.args.whole.now.tables.now in
-    subst (λ n. All (HasSiteEnds ends) (function_bodies n f)) (sym c.loop-function.invariant.numbers)
-    (function_holds (HasSiteEnds ends) first_numbers tree.functions
-    c.loop-function.function-index f c.requires.tables.ends (
-    subst (λ items. slice_get (map view_resolved_function items) c.loop-function.function-index ≡ Some f)
+    let n = numbers_of c.loop-index.numbers in
+    let there : slice_get tree.functions c.loop-index.index ≡ Some f =
+    subst (λ items. slice_get (map view_resolved_function items) c.loop-index.index ≡ Some f)
     c.as_slice-function-items.ensures.value
-    (item_at view_resolved_function c.as_slice-function-items.result.now c.loop-function.function-index
-    c.function-item.result
-    c.loop-function-test.true c.function-item.is)))
+    (item_at view_resolved_function c.as_slice-function-items.result.now c.loop-index.index c.function-item.result
+    c.loop-index-test.true c.function-item.is) in
+    record {
+      cells = zip_at AreCellsOf tree.functions tables.extents.items c.loop-index.index f _ c.requires.tables.cells there
+          c.extents_at.ensures;
+      code = subst (λ m. All (λ b. BodyHasCode b.function b.tree) (function_bodies m f))
+          (sym c.loop-index.invariant.0.numbers)
+          (function_holds (λ b. BodyHasCode b.function b.tree) first_numbers tree.functions c.loop-index.index f
+          c.requires.has_code.bodies there);
+      ends = ends_stand (ends_in tables) tree.functions c.loop-index.index f n c.requires.tables.ends there
+          c.loop-index.invariant.0.numbers;
+      before = c.loop-index.invariant.1;
+    }
 
 pub returns-then-not-branch : goal.returns-then-not-branch
 returns-then-not-branch c =
     let tree = view_resolved c.args.whole.now.resolved.now in
+    let tables = c.args.whole.now.tables.now in
     let f = view_resolved_function c.function-item.result in
-    let n = numbers_of c.loop-function.numbers in
-    stopped_at tree c.loop-function.lowered c.add_function.new.lowered c.loop-function.function-index f n
-    c.loop-function.invariant (
-    subst (λ items. slice_get (map view_resolved_function items) c.loop-function.function-index ≡ Some f)
+    let n = numbers_of c.loop-index.numbers in
+    let there : slice_get tree.functions c.loop-index.index ≡ Some f =
+    subst (λ items. slice_get (map view_resolved_function items) c.loop-index.index ≡ Some f)
     c.as_slice-function-items.ensures.value
-    (item_at view_resolved_function c.as_slice-function-items.result.now c.loop-function.function-index
-    c.function-item.result
-    c.loop-function-test.true c.function-item.is))
-    (subst (λ fits. AddsFunction tree n f c.loop-function.lowered c.add_function.new.lowered fits)
-    c.if-not-branch.true c.in_ok-add_function.ensures)
+    (item_at view_resolved_function c.as_slice-function-items.result.now c.loop-index.index c.function-item.result
+    c.loop-index-test.true c.function-item.is) in
+    stopped_at tree c.loop-index.lowered c.add_function.new.lowered c.loop-index.index f n c.loop-index.invariant.0
+    there
+    (subst (λ fits. AddsFunction tree n f c.loop-index.lowered c.add_function.new.lowered fits) c.if-not-branch.true
+    c.in_ok-add_function.ensures.adds)
 
-pub loop-function-preserved : goal.loop-function-preserved
-loop-function-preserved c =
+pub numbers_behind-numbers-requires : goal.numbers_behind-numbers-requires
+numbers_behind-numbers-requires c =
     let tree = view_resolved c.args.whole.now.resolved.now in
+    let tables = c.args.whole.now.tables.now in
     let f = view_resolved_function c.function-item.result in
-    let n = numbers_of c.loop-function.numbers in
-    function_added tree c.loop-function.lowered c.add_function.new.lowered c.loop-function.function-index f n
-    (numbers_of c.in_ok-numbers.numbers)
-    c.loop-function.invariant (
-    subst (λ items. slice_get (map view_resolved_function items) c.loop-function.function-index ≡ Some f)
+    let n = numbers_of c.loop-index.numbers in
+    let there : slice_get tree.functions c.loop-index.index ≡ Some f =
+    subst (λ items. slice_get (map view_resolved_function items) c.loop-index.index ≡ Some f)
     c.as_slice-function-items.ensures.value
-    (item_at view_resolved_function c.as_slice-function-items.result.now c.loop-function.function-index
-    c.function-item.result
-    c.loop-function-test.true c.function-item.is))
-    (subst (λ fits. AddsFunction tree n f c.loop-function.lowered c.add_function.new.lowered fits)
-    c.if-not-branch.false c.in_ok-add_function.ensures)
-    c.in_ok-numbers.ensures
+    (item_at view_resolved_function c.as_slice-function-items.result.now c.loop-index.index c.function-item.result
+    c.loop-index-test.true c.function-item.is) in
+    let stand = ends_stand (ends_in tables) tree.functions c.loop-index.index f n c.requires.tables.ends there
+    c.loop-index.invariant.0.numbers in
+    end_there (ends_in tables) n f stand
+
+pub loop-index-preserved : goal.loop-index-preserved
+loop-index-preserved c =
+    let tree = view_resolved c.args.whole.now.resolved.now in
+    let tables = c.args.whole.now.tables.now in
+    let f = view_resolved_function c.function-item.result in
+    let n = numbers_of c.loop-index.numbers in
+    let there : slice_get tree.functions c.loop-index.index ≡ Some f =
+    subst (λ items. slice_get (map view_resolved_function items) c.loop-index.index ≡ Some f)
+    c.as_slice-function-items.ensures.value
+    (item_at view_resolved_function c.as_slice-function-items.result.now c.loop-index.index c.function-item.result
+    c.loop-index-test.true c.function-item.is) in
+    let stand = ends_stand (ends_in tables) tree.functions c.loop-index.index f n c.requires.tables.ends there
+    c.loop-index.invariant.0.numbers in
+    let behind = end_is (ends_in tables) n f (numbers_of c.numbers_behind-numbers.result) stand
+    c.numbers_behind-numbers.ensures in (
+      function_added tree c.loop-index.lowered c.add_function.new.lowered c.loop-index.index f n
+          (numbers_of c.numbers_behind-numbers.result) c.loop-index.invariant.0 there
+          (subst (λ fits. AddsFunction tree n f c.loop-index.lowered c.add_function.new.lowered fits)
+          c.if-not-branch.false c.in_ok-add_function.ensures.adds) behind,
+      slots_long c.loop-index.slots.items c.add_function.new.slots.items f n c.loop-index.invariant.1
+          (c.in_ok-add_function.ensures.slots c.if-not-branch.false) ∙ ap (λ m. m.bodies) (sym behind),
+    )

@@ -483,14 +483,14 @@ pub statement-begin_while-requires : goal.statement-begin_while-requires
 statement-begin_while-requires t c =
     (while_code _ _ c.args.tree.now c.in-While.at c.in-While.condition c.in-While.body c.in-While.is c.requires.code).0
 
-pub statement-parallel-requires-clause-ends : goal.statement-parallel-requires-clause-ends
-statement-parallel-requires-clause-ends t c =
+pub statement-parallel-requires-clause-known : goal.statement-parallel-requires-clause-known
+statement-parallel-requires-clause-known t c =
     parallel_ends _ _ c.args.tree.now _ c.in-Parallel.at c.in-Parallel.clauses c.in-Parallel.captures c.in-Parallel.body
-    c.in-Parallel.is c.deref-in-Parallel.ensures c.requires.ends
+    _ c.in-Parallel.is c.deref-in-Parallel.ensures c.as_slice-in-Parallel.ensures.value c.requires.ends
 
 pub statement-task-requires : goal.statement-task-requires
 statement-task-requires t c =
     record {
-      ends = task_ends _ _ c.args.tree.now _ c.in-Task.at c.in-Task.clauses c.in-Task.captures c.in-Task.body c.in-Task.is
-          c.deref-in-Task.ensures c.requires.ends;
+      known = task_ends _ _ c.args.tree.now _ c.in-Task.at c.in-Task.clauses c.in-Task.captures c.in-Task.body _
+          c.in-Task.is c.deref-in-Task.ensures c.as_slice-in-Task.ensures.value c.requires.ends;
     }

@@ -7,7 +7,7 @@ use Rattle.om_rows.specs.Coded.{PartsHaveCode, StatementsHaveCode}
 use Rattle.om_tables.specs.Ends.{HasAllEnds, HasPartsEnds}
 use Rattle.om_tables.specs.Numbering.{numbers_of}
 use Rattle.om_tables.specs.Scopes.{names_of}
-use Rattle.om_tables.specs.Tables.{ends_in}
+use Rattle.om_tables.specs.Tables.{known_in}
 use Rattle.om_statements.specs.Parts.{AreFree}
 use Rattle.om_statements.proofs.Lists.{Onward}
 use Rattle.om_statements.proofs.PartLists.{OnwardParts}
@@ -22,7 +22,7 @@ invariant-statements-loop-item l =
     × (rows.behind_all (numbers_of l.numbers) left ≡ rows.behind_all (numbers_of l.spot.numbers) all)
     × Onward (length l.fn.draft.places) (names_of l.scope) l.spot.jumps (numbers_of l.spot.numbers)
     (numbers_of l.numbers) all left l.fn.draft l.draft
-    × HasAllEnds (ends_in l.scope.tables.now) (numbers_of l.numbers) left
+    × HasAllEnds (known_in l.scope) (numbers_of l.numbers) left
 
 -- the same of the parts of a `sections`, whose labels are free
 abbrev pub invariant-parts-loop-index : goal.invariant-parts-loop-index
@@ -34,4 +34,4 @@ invariant-parts-loop-index l =
     × AreFree (l.spot.first + l.index) (length (drop l.index l.sections)) l.draft
     × OnwardParts (names_of l.scope) l.spot (numbers_of l.spot.numbers) (numbers_of l.numbers) all left
     (l.spot.first + l.index) l.fn.draft l.draft
-    × HasPartsEnds (ends_in l.scope.tables.now) (numbers_of l.numbers) left
+    × HasPartsEnds (known_in l.scope) (numbers_of l.numbers) left

@@ -1,4 +1,4 @@
--- Bodies stand in their list at the places that their numbers tell.
+-- Matter of proofs: bodies stand in their list at the places that their numbers tell.
 use Rattle.std.proofs.Common.{◌≡◌, ℕ, zero, suc, ◌+◌, List, [], ◌∷◌, ◌++◌, length, Some, refl, ap, ◌∙◌, arith}
 use Rattle.std.proofs.Common.{length-append}
 use Rattle.std.specs.Prelude.{slice_get, take}
@@ -14,12 +14,12 @@ use Rattle.om_rows.specs.Bodies.{regions, all_regions, parts_regions, function_b
 pub record StandsAt {A : Type 0} (all : List A) (k : ℕ) (some : List A) : Type 0 where
   pub by : (i : ℕ) (x : A) → slice_get some i ≡ Some x → slice_get all (k + i) ≡ Some x
 
-get_front : {A : Type 0} (xs ys : List A) (i : ℕ) (x : A) → slice_get xs i ≡ Some x → slice_get (xs ++ ys) i ≡ Some x
+pub get_front : {A : Type 0} (xs ys : List A) (i : ℕ) (x : A) → slice_get xs i ≡ Some x → slice_get (xs ++ ys) i ≡ Some x
 get_front [] ys i x e = absurd cc
 get_front (y ∷ xs) ys zero x e = e
 get_front (y ∷ xs) ys (suc i) x e = get_front xs ys i x e
 
-get_back : {A : Type 0} (xs ys : List A) (i : ℕ) (x : A) → slice_get ys i ≡ Some x → slice_get (xs ++ ys)
+pub get_back : {A : Type 0} (xs ys : List A) (i : ℕ) (x : A) → slice_get ys i ≡ Some x → slice_get (xs ++ ys)
     (length xs + i) ≡ Some x
 get_back [] ys i x e = let none : 0 + i ≡ i = omega arith in ap (λ z. slice_get ys z) none ∙ e
 get_back (y ∷ xs) ys i x e =
