@@ -3,7 +3,7 @@
 ghost use Rattle.std.specs.Prelude.{◌≡◌, ℕ, ◌<◌, ◌≤◌, ◌+◌, [], ◌↔◌, IfOk, IfErr, OnOk, OnErr, IsOk, length, vec_len, sum_by, ◌^◌};
 ghost use Rattle.om_journal.specs.Runs.{IsInRange, IsReply};
 ghost use Rattle.om_undo.specs.Machines.{MachineView};
-ghost use Rattle.om_journal.specs.Books.{BookView, calls_in, machine_of, with_record, IsGrown};
+ghost use Rattle.om_journal.specs.Books.{BookView, machine_of, records_of, with_record, IsGrown};
 ghost use Rattle.om_book.specs.Seats.{seats_below, with_receipt};
 ghost use Rattle.om_book.specs.Standing.{CountsAll, Covers, AllDiffer, receipts_in};
 
@@ -174,14 +174,14 @@ pub struct Session<L: Sitting> {
 
 impl<L: Sitting> Model for Session<L> {
     ghost use Rattle.std.specs.Prelude.{◌≡◌};
-    ghost use Rattle.om_journal.specs.Books.{calls_in};
+    ghost use Rattle.om_journal.specs.Books.{records_of};
     ghost use Rattle.om_book.specs.Seats.{SessionView};
 
     ghost Value = { SessionView };
 
     ghost view = { λ s. record { seats = s.seats; opened = s.opened } };
 
-    ghost invariant = { λ s. (s.seats ≡ L.parts) × (s.workers ≡ L.workers) × (s.opened ≡ calls_in L.opened) };
+    ghost invariant = { λ s. (s.seats ≡ L.parts) × (s.workers ≡ L.workers) × (s.opened ≡ records_of L.opened) };
 }
 
 /// There was no memory for the seats. The book comes back.
@@ -291,9 +291,9 @@ impl<L: Sitting> Session<L> {
         ensures counted { IfOk result (λ c. c.calls ≡ sum_by receipts_in seats.items) }
         ensures seats { IfOk result (λ c. c.seats.items ≡ seats.items) }
         ensures standing { IfOk result
-            (λ c. CountsAll c.book.journal (calls_in L.opened) seats.items c.standing) }
+            (λ c. CountsAll c.book.journal (records_of L.opened) seats.items c.standing) }
         ensures covers { IfOk result (λ c. c.standing ≡ c.calls
-            → Covers c.book.journal (calls_in L.opened) seats.items) }
+            → Covers c.book.journal (records_of L.opened) seats.items) }
         ensures workers { IfOk result (λ c. c.book.start.workers ≡ L.workers) }
         ensures fewer { IfErr result (λ u. (u.session ≡ self) × (u.seats.items ≡ seats.items)) }
     {

@@ -1,5 +1,6 @@
 //! All checks, and what is said of each.
 
+use crate::books::{book_has_a_free_run, full_book_has_two_steps};
 use crate::code::lines_and_names_are_found;
 use crate::ends::{ends_may_fail, source_may_be_handed_in};
 use crate::free_tasks::free_runs_end_tasks;
@@ -15,6 +16,11 @@ pub(crate) fn add_checks<R: Threads + Wait + Sync>(
 ) -> Result<(), AllocError> {
     let checks = [
         ("free runs end tasks", free_runs_end_tasks(rt, alloc)?),
+        (
+            "a full book has two steps",
+            full_book_has_two_steps(rt, alloc)?,
+        ),
+        ("a book has a free run", book_has_a_free_run(rt, alloc)?),
         (
             "lines and names of code are found",
             lines_and_names_are_found(alloc)?,

@@ -1,66 +1,42 @@
--- What the journal of a free run says, and the seats of its session.
-use Rattle.std.specs.Prelude.{◌≡◌, ◌≢◌, ◌<◌, ◌+◌, ℕ, zero, suc, cond, List, [], ◌∷◌, ◌++◌, length, map, refl}
+-- What a free run adds to a book, and the seats of its session.
+use Rattle.std.specs.Prelude.{◌≡◌, ◌≢◌, ◌<◌, ◌+◌, ℕ, zero, suc, List, [], ◌∷◌, ◌++◌, length, map, refl}
 use Rattle.std.specs.List.{AllByRecursion}
-use Rattle.std.proofs.Common.{sym, ◌∙◌, ap, subst, arith, length-append}
-use Rattle.std.proofs.lemmas.List.{length-map, map-append}
-use Rattle.om_journal.specs.Runs.{IsAnswer, IsReply, after}
-use Rattle.om_journal.specs.Runs as runs
-use Rattle.om_journal.specs.Journals as journals
-use Rattle.om_journal.specs.Books.{BookView, machine_of, records_of}
+use Rattle.std.proofs.Common.{sym, ◌∙◌, ap, subst, arith, append-nil, length-append, take-append-drop}
+use Rattle.std.proofs.lemmas.List.{drop_all, length-map, map-append}
+use Rattle.om_journal.specs.Runs.{after}
+use Rattle.om_journal.specs.Journals.{IsLegal, left_by}
+use Rattle.om_journal.specs.Books.{BookView, IsGrown, machine_of}
 use Rattle.om_book.specs.Seats.{SeatView, seats_below}
 use Rattle.om_book.specs.Standing.{AllDiffer, number_of}
 use Rattle.om_journal.specs.declared.book.JournalRecord.{JournalRecord}
-use Rattle.om_journal.specs.declared.command.Command.{Command}
-use Rattle.om_journal.specs.declared.command.Command.TheVariants as command
-use Rattle.om_journal.specs.declared.command.Query.TheVariants as query
-use Rattle.om_journal.specs.declared.reply.Reply.{Reply}
-use Rattle.om_history.specs.declared.reply.StepReply.{StepReply}
-use Rattle.om_history.specs.declared.reply.StepReply.TheVariants as step_reply
-use Rattle.om_journal.specs.declared.reply.Reply.TheVariants as reply
 use Rattle.om_undo.specs.Machines.{MachineView}
-use Rattle.om_drive.specs.RecordedCalls.{left_by, makes_step, steps_made, commands_of, recorded_calls}
-use Rattle.om_drive.specs.Recorded.{is_done}
+use Rattle.om_drive.specs.FreeRuns.{GoesOn, gained, with_records}
 
--- the commands alone decide what a journal leaves
-pub left_same : (m : MachineView) (journal : List JournalRecord) → journals.left_by m journal
-    ≡ left_by m (commands_of journal)
-left_same m [] = refl
-left_same m (r ∷ rs) = left_same (after m r.command) rs
+-- what follows a part of a legal journal is legal behind the machine that the part leaves
+legal_behind : (m : MachineView) (rs more : List JournalRecord) → IsLegal m (rs ++ more) → IsLegal (left_by m rs) more
+legal_behind m [] more h = h
+legal_behind m (r ∷ rs) more h = legal_behind (after m r.command) rs more h.1
 
-done_same : (x : StepReply) → runs.is_done (reply.Step x) ≡ is_done x
-done_same (step_reply.Done serial line fault) = refl
-done_same (step_reply.Blocked why) = refl
-done_same step_reply.Ended = refl
+-- a book that is as it was
+pub goes_on_same : (b : BookView) → GoesOn b b
+goes_on_same b =
+    let none : gained b b ≡ [] = drop_all (length b.journal) b.journal (omega arith) in
+    record {
+      grown = sym (ap (with_records b) none ∙ ap (λ j. record b { journal = j }) (append-nil b.journal));
+      legal = subst (IsLegal (machine_of b)) (sym none) tt;
+    }
 
--- a reply is that of a step that was made just where its command makes one
-made_same : (m : MachineView) (c : Command) (x : Reply) → IsReply m c x → runs.is_done x ≡ makes_step m c
-made_same m (command.Step worker choice) x is = ap runs.is_done is ∙ done_same _
-made_same m (command.Undo worker) x is = ap runs.is_done is
-made_same m (command.Roll serial) x is = ap runs.is_done is
-made_same m (command.Look (query.Value object)) x is = ap runs.is_done is
-made_same m (command.Look query.Ready) x is = ap runs.is_done is.1
-made_same m (command.Look query.Entries) x is = ap runs.is_done is
-
-pub steps_same : (m : MachineView) (journal : List JournalRecord) → journals.IsLegal m journal → journals.done_in
-    journal ≡ steps_made m (commands_of journal)
-steps_same m [] h = refl
-steps_same m (r ∷ rs) h =
-    let n = journals.done_in rs in
-    let k = steps_made (after m r.command) (commands_of rs) in
-    let rest : n ≡ k = steps_same (after m r.command) rs h.1 in
-    ap (λ b. cond b (suc n) n) (made_same m r.command r.reply h.0)
-    ∙ ap (λ j. cond (makes_step m r.command) (suc j) j) rest
-
-pub as_many : (journal : List JournalRecord) → length (commands_of journal) ≡ length journal
-as_many journal = length-map journal _
-
--- a book leaves its calls behind the machine that it was opened over
-pub behind_book : (b : BookView) → record { machine = machine_of b; records = records_of b }
-    ≡ recorded_calls (record { machine = b.start; records = b.before }) (commands_of b.journal)
-behind_book b =
-    ap (λ m. record { machine = m; records = records_of b }) (left_same b.start b.journal)
-    ∙ ap (λ n. record { machine = left_by b.start (commands_of b.journal); records = b.before + n })
-    (sym (as_many b.journal))
+-- a legal book that has grown
+pub goes_on_grown : (old new : BookView) (n : ℕ) → IsGrown old new n → IsLegal new.start new.journal → GoesOn old new
+goes_on_grown old new n grown legal =
+    let more : new.journal ≡ old.journal ++ gained old new =
+    sym (take-append-drop (length old.journal) new.journal) ∙ ap (λ j. j ++ gained old new) grown.2 in
+    record {
+      grown = ap (λ m. record new { start = m }) grown.0
+          ∙ ap (λ j. record old { journal = j }) more;
+      legal = legal_behind old.start old.journal (gained old new)
+          (subst (IsLegal old.start) more (subst (λ m. IsLegal m new.journal) grown.0 legal));
+    }
 
 -- the seats of a session are as many as it has parts, and differ
 pub seats_many : (n : ℕ) → length (seats_below n) ≡ n

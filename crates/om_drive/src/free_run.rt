@@ -1,12 +1,16 @@
-//! Free runs: all workers step at once, each in a thread of its own.
+//! Free runs over a book: all workers step at once, each in a thread and through a seat of its own.
 
-ghost use Rattle.std.specs.Prelude.{◌≡◌, ◌≤◌, IfOk, IfErr, vec_len};
+ghost use Rattle.std.specs.Prelude.{◌≡◌, ◌≤◌, IfOk, IfErr, drop, length, vec_len};
 ghost use Rattle.om_book.specs.Seats.{seats_below};
+ghost use Rattle.om_journal.specs.Journals.{IsLegal, done_in};
+ghost use Rattle.om_drive.specs.FreeRuns.{GoesOn, gained};
 
-use crate::{Freed, Gate, free};
-use om_journal::Book;
+use crate::{Fault, Freed, Gate, free};
+use core::mem::replace_with;
 use om_book::{Blank, Closed, NotOpened, Seat, Session, Sitting};
+use om_journal::Book;
 use std::alloc::{AllocError, Global};
+use std::marker::Brand;
 use std::sync::Wait;
 use std::thread::Threads;
 
@@ -30,9 +34,47 @@ pub struct Count {
     pub full: bool,
 }
 
+/// Lets all workers of a book step at once: opens a session over it, lets its seats run freely and
+/// closes it. Their calls are added to the journal.
+///
+/// The only error is out of memory, or no thread; the calls that were made are in the journal then
+/// too.
+pub fn run_freely<R: Threads + Wait + Sync>(
+    book: &mut Book,
+    errand: Errand<'_, R>,
+) -> Result<Count, AllocError>
+    ensures goes_on { GoesOn book.old book.new }
+    ensures done { IfOk result (λ count. count.done ≡ done_in (gained book.old book.new)) }
+{
+    replace_with(
+        book,
+        errand,
+        |book, errand| -> (Book, Result<Count, AllocError>)
+            ensures goes_on { GoesOn book result.0 }
+            ensures done { IfOk result.1 (λ count. count.done ≡ done_in (gained book result.0)) }
+        { ran_freely(errand, book) },
+    )
+}
+
+/// The book behind a free run, and what the run came to.
+#[tactic(auto, using(crate::proofs::Freeing::goes_on_same))]
+fn ran_freely<R: Threads + Wait + Sync>(
+    errand: Errand<'_, R>,
+    book: Book,
+) -> (Book, Result<Count, AllocError>)
+    ensures goes_on { GoesOn book result.0 }
+    ensures done { IfOk result.1 (λ count. count.done ≡ done_in (gained book result.0)) }
+{
+    let workers = book.machine().workers();
+    let Ok(gates) = open_gates(errand.alloc, workers) else {
+        return (book, Err(AllocError));
+    };
+    run_through::<Brand, _>(errand, gates, Blank::new(workers), book)
+}
+
 /// A gate that holds nobody back.
 #[derive(Clone, Copy, Drop)]
-pub(crate) struct Open;
+struct Open;
 
 impl Gate for Open {
     fn may_answer(&mut self, _order: u64) -> bool {
@@ -40,8 +82,8 @@ impl Gate for Open {
     }
 }
 
-/// Gates that are open, as many as there are workers.
-pub(crate) fn open_gates(alloc: Global, workers: u8) -> Result<Vec<Open>, AllocError>
+/// So many gates that are open.
+fn open_gates(alloc: Global, workers: u8) -> Result<Vec<Open>, AllocError>
     ensures { IfOk result (λ gates. vec_len gates ≡ workers) }
 {
     let mut gates = Vec::new(alloc);
@@ -69,24 +111,24 @@ fn opened<L: Sitting>(
     Session::<L>::new(alloc, blank, book)
 }
 
-/// Runs freely through a session over a book. Whether a worker found no room for a record; or
-/// there was no memory, or no thread.
-#[tactic(auto, using(crate::proofs::Freeing::seats_differ, crate::proofs::Freeing::seats_count, crate::proofs::Freeing::as_many_back))]
-pub(crate) fn run_through<L: Sitting + Send + Sync, R: Threads + Wait + Sync>(
+/// Runs freely through a session over a book.
+#[tactic(auto, using(crate::proofs::Freeing::seats_differ, crate::proofs::Freeing::seats_count, crate::proofs::Freeing::as_many_back, crate::proofs::Freeing::goes_on_same))]
+fn run_through<L: Sitting + Send + Sync, R: Threads + Wait + Sync>(
     errand: Errand<'_, R>,
     gates: Vec<Open>,
     blank: Blank,
     book: Book,
-) -> (Book, Result<bool, AllocError>)
+) -> (Book, Result<Count, AllocError>)
     requires name { blank.ledger.name ≡ L.name }
     requires parts { blank.ledger.parts ≡ L.parts }
     requires opened { book ≡ L.opened }
     requires workers { book.start.workers ≡ L.workers }
     requires seats { blank.seats ≡ book.start.workers }
     requires gates { vec_len gates ≡ blank.seats }
-    ensures start { result.0.start ≡ book.start }
-    ensures before { result.0.before ≡ book.before }
+    ensures goes_on { GoesOn book result.0 }
+    ensures done { IfOk result.1 (λ count. count.done ≡ done_in (gained book result.0)) }
 {
+    let before = book.journal().len();
     let (session, seats) = match opened::<L>(errand.alloc, blank, book) {
         Ok(opened) => opened,
         Err(NotOpened { book }) => return (book, Err(AllocError)),
@@ -98,10 +140,28 @@ pub(crate) fn run_through<L: Sitting + Send + Sync, R: Threads + Wait + Sync>(
         ..
     } = free(&session, errand.rt, seats, gates, errand.rounds);
     match session.close(seats) {
-        Ok(Closed { book, .. }) => match fault {
-            None => (book, Ok(full)),
-            Some(_) => (book, Err(AllocError)),
-        },
+        Ok(Closed { book, .. }) => counted(book, before, full, fault),
         Err(_) => unreachable!(),
     }
+}
+
+/// A book behind a free run that found it with so many calls, and what the run came to.
+fn counted(
+    book: Book,
+    before: usize,
+    full: bool,
+    fault: Option<Fault>,
+) -> (Book, Result<Count, AllocError>)
+    requires { before ≤ length book.journal }
+    ensures book { result.0 ≡ book }
+    ensures legal { IsLegal book.start book.journal }
+    ensures done { IfOk result.1 (λ count. count.done ≡ done_in (drop before book.journal)) }
+{
+    // Each reply in it is that of its command.
+    let _answered = book.journal();
+    if fault.is_some() {
+        return (book, Err(AllocError));
+    }
+    let done = book.steps_behind(before);
+    (book, Ok(Count { done, full }))
 }

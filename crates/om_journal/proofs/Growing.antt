@@ -1,6 +1,6 @@
 -- A journal that grows by one record.
 use Rattle.std.specs.Prelude.{◌≡◌, ◌≤◌, ◌<◌, ◌+◌, ℕ, List, [], ◌∷◌, ◌++◌, length, refl, Option, Some, None}
-use Rattle.std.proofs.Common.{sym, ◌∙◌, ap, subst, arith, length-append}
+use Rattle.std.proofs.Common.{sym, ◌∙◌, ◌-◌, ap, subst, arith, take, drop, take_all, length-append, length-drop}
 use Rattle.om_cells.specs.declared.step.Entry.{Entry}
 use Rattle.om_cells.specs.declared.step.Label.{Label}
 use Rattle.om_cells.specs.declared.step.Step.{Step}
@@ -55,11 +55,9 @@ pub IsLegal-snoc : (m : MachineView) (rs : List JournalRecord) (r : JournalRecor
 IsLegal-snoc m [] r h is = (is, tt)
 IsLegal-snoc m (x ∷ xs) r h is = (h.0, IsLegal-snoc (after m x.command) xs r h.1 is)
 
-sound_snoc : (m start : MachineView) (before : ℕ) (rs : List JournalRecord) (r : JournalRecord) → IsSound m start
-    before rs
-    → before + length rs < 200000 → IsReply m r.command r.reply → IsSound (after m r.command) start before
-    (rs ++ r ∷ [])
-sound_snoc m start before rs r h room is = record {
+sound_snoc : (m start : MachineView) (rs : List JournalRecord) (r : JournalRecord) → IsSound m start rs
+    → length rs < 200000 → IsReply m r.command r.reply → IsSound (after m r.command) start (rs ++ r ∷ [])
+sound_snoc m start rs r h room is = record {
   legal = IsLegal-snoc start rs r h.legal (subst (λ p. IsReply p r.command r.reply) h.left is);
   left = ap (λ p. after p r.command) h.left ∙ sym (left_by-snoc start rs r);
   program = h.program;
@@ -69,14 +67,17 @@ sound_snoc m start before rs r h room is = record {
 }
 
 -- the book stays sound where a command is done and its reply recorded
-pub sound_next : (m next start : MachineView) (before : ℕ) (rs js : List JournalRecord) (seat : ℕ) (c : Command)
-    (x : Reply)
-    → IsSound m start before rs → before + length rs < 200000 → next ≡ after m c → IsReply m c x
-    → js ≡ rs ++ record { seat = seat; command = c; reply = x } ∷ [] → IsSound next start before js
-sound_next m next start before rs js seat c x h room is answered grows =
-    rw (is, grows) (sound_snoc m start before rs (record { seat = seat; command = c; reply = x }) h room answered)
+pub sound_next : (m next start : MachineView) (rs js : List JournalRecord) (seat : ℕ) (c : Command) (x : Reply)
+    → IsSound m start rs → length rs < 200000 → next ≡ after m c → IsReply m c x
+    → js ≡ rs ++ record { seat = seat; command = c; reply = x } ∷ [] → IsSound next start js
+sound_next m next start rs js seat c x h room is answered grows =
+    rw (is, grows) (sound_snoc m start rs (record { seat = seat; command = c; reply = x }) h room answered)
 
 -- the book stays sound where nothing changes
-pub sound_same : (m next start : MachineView) (before : ℕ) (rs js : List JournalRecord) → IsSound m start before rs
-    → next ≡ m → js ≡ rs → IsSound next start before js
-sound_same m next start before rs js h same none = rw (same, none) h
+pub sound_same : (m next start : MachineView) (rs js : List JournalRecord) → IsSound m start rs
+    → next ≡ m → js ≡ rs → IsSound next start js
+sound_same m next start rs js h same none = rw (same, none) h
+
+-- the records from a place on
+pub slice_to_end : (rs : List JournalRecord) (at : ℕ) → take (length rs - at) (drop at rs) ≡ drop at rs
+slice_to_end rs at = take_all (length rs - at) (drop at rs) (omega (arith, length-drop at rs))

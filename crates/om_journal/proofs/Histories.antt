@@ -1,5 +1,5 @@
 -- What a journal leaves is the run of its steps, undos and rolls.
-use Rattle.std.specs.Prelude.{◌≡◌, ℕ, List, [], ◌∷◌, ◌++◌, refl}
+use Rattle.std.specs.Prelude.{◌≡◌, List, [], ◌∷◌, ◌++◌, refl}
 use Rattle.std.proofs.Common.{◌∙◌, ap}
 use Rattle.om_history.specs.Commands as told
 use Rattle.om_history.specs.Commands.{run}
@@ -23,7 +23,7 @@ left_by_run : (m : MachineView) (journal : List JournalRecord)
 left_by_run m [] = refl
 left_by_run m (r ∷ rs) = left_by_run (after m r.command) rs ∙ told_first m r.command (told_in rs)
 
-pub sound_run : (machine start : MachineView) (before : ℕ) (journal : List JournalRecord)
-    → IsSound machine start before journal
+pub sound_run : (machine start : MachineView) (journal : List JournalRecord)
+    → IsSound machine start journal
     → machine.history ≡ run (rules_for start) start.history (told_in journal)
-sound_run machine start before journal h = ap (λ m. m.history) h.left ∙ left_by_run start journal
+sound_run machine start journal h = ap (λ m. m.history) h.left ∙ left_by_run start journal

@@ -1,5 +1,5 @@
 -- What contracts see of a book.
-use Rattle.std.specs.Prelude.{◌≡◌, ◌+◌, ℕ, List, [], ◌∷◌, ◌++◌, length, take}
+use Rattle.std.specs.Prelude.{◌≡◌, ◌+◌, ℕ, Bool, nat_le, List, [], ◌∷◌, ◌++◌, length, take}
 use Rattle.om_undo.specs.Machines.{MachineView}
 use Rattle.om_journal.specs.Runs.{fresh}
 use Rattle.om_journal.specs.Journals.{left_by}
@@ -7,10 +7,9 @@ use Rattle.om_journal.specs.declared.command.Command.{Command}
 use Rattle.om_journal.specs.declared.reply.Reply.{Reply}
 use Rattle.om_journal.specs.declared.book.JournalRecord.{JournalRecord}
 
--- the machine at the opening, how many calls had been recorded before it, and the calls since
+-- the machine at the opening, and the calls since
 pub record BookView : Type 0 where
   pub start : MachineView
-  pub before : ℕ
   pub journal : List JournalRecord
 
 -- the machine that the journal leaves
@@ -19,11 +18,11 @@ machine_of b = left_by b.start b.journal
 
 -- how many calls were recorded
 abbrev pub records_of : BookView → ℕ
-records_of b = b.before + length b.journal
+records_of b = length b.journal
 
--- how many of them are in the journal
-abbrev pub calls_in : BookView → ℕ
-calls_in b = length b.journal
+-- there is no room for one more
+abbrev pub is_full : BookView → Bool
+is_full b = nat_le 200000 (records_of b)
 
 -- the book with one more record
 abbrev pub with_record : BookView → ℕ → Command → Reply → BookView
@@ -32,13 +31,12 @@ with_record b seat command reply =
 
 -- so many records were added to a book, and nothing else of it changed
 abbrev pub IsGrown : BookView → BookView → ℕ → Type 0
-IsGrown old new n = (new.start ≡ old.start) × (new.before ≡ old.before)
+IsGrown old new n = (new.start ≡ old.start)
     × (length new.journal ≡ length old.journal + n) × (take (length old.journal) new.journal ≡ old.journal)
 
 -- a book without records, over a machine of no program
 abbrev pub no_book : BookView
 no_book = record {
   start = fresh (record { globals = []; bodies = []; main = 0; texts = []; picks = []; locks = [] }) 0;
-  before = 0;
   journal = [];
 }

@@ -1,5 +1,5 @@
 -- Journals: which are legal, and the machine that they leave.
-use Rattle.std.specs.Prelude.{◌≡◌, ◌≤◌, ◌+◌, ℕ, suc, cond, List, [], ◌∷◌, length}
+use Rattle.std.specs.Prelude.{◌≡◌, ◌≤◌, ℕ, suc, cond, List, [], ◌∷◌, length}
 use Rattle.om_undo.specs.Machines.{MachineView}
 use Rattle.om_journal.specs.Runs.{IsReply, after, is_done}
 use Rattle.om_journal.specs.declared.book.JournalRecord.{JournalRecord}
@@ -19,12 +19,12 @@ abbrev pub done_in : List JournalRecord → ℕ
 done_in [] = 0
 done_in (r ∷ rs) = cond (is_done r.reply) (suc (done_in rs)) (done_in rs)
 
--- the machine is what its journal leaves of the machine at the start, before which so many calls were recorded
-pub record IsSound (machine start : MachineView) (before : ℕ) (journal : List JournalRecord) : Type 0 where
+-- the machine is what its journal leaves of the machine at the start
+pub record IsSound (machine start : MachineView) (journal : List JournalRecord) : Type 0 where
   pub legal : IsLegal start journal
   pub left : machine ≡ left_by start journal
   pub program : machine.program ≡ start.program
   pub workers : machine.workers ≡ start.workers
-  pub most : before + length journal ≤ 200000
+  pub most : length journal ≤ 200000
   -- so that serials fit
-  pub few_made : machine.history.made ≤ before + length journal
+  pub few_made : machine.history.made ≤ length journal

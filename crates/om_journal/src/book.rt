@@ -1,9 +1,9 @@
 //! The book: a machine beside the journal of all calls that it answered.
 
-ghost use Rattle.std.specs.Prelude.{◌≡◌, ◌<◌, ◌≤◌, ◌+◌, ◌^◌, ◌++◌, ◌∷◌, [], ◌↔◌, IfOk, IfErr, OnOk, OnErr, length};
+ghost use Rattle.std.specs.Prelude.{◌≡◌, ◌<◌, ◌≤◌, ◌+◌, ◌^◌, ◌++◌, ◌∷◌, [], ◌↔◌, IfOk, IfErr, OnOk, OnErr, drop, length};
 ghost use Rattle.om_journal.specs.Runs.{IsInRange, IsReply, after, fresh};
 ghost use Rattle.om_journal.specs.Journals.{IsLegal, IsSound, done_in};
-ghost use Rattle.om_journal.specs.Books.{machine_of, records_of, with_record};
+ghost use Rattle.om_journal.specs.Books.{is_full, machine_of, records_of, with_record};
 ghost use Rattle.om_journal.specs.Histories.{told_in};
 ghost use Rattle.om_history.specs.Commands.{run};
 ghost use Rattle.om_undo.specs.Machines.{rules_for};
@@ -19,7 +19,7 @@ use std::marker::Model;
 use std::mem::size_of;
 use std::snapshot::Snapshot;
 
-/// How many records there are at most, those before the book among them.
+/// How many records there are at most.
 pub const MAX_RECORDS: u64 = 200_000;
 
 /// A call that was answered.
@@ -44,14 +44,13 @@ pub enum CallError {
 
 /// A machine beside its journal.
 ///
-/// Contracts see the machine at its opening, how many calls had been recorded before it, and the
-/// journal. The machine where it stands is no part of what they see: it is always the one that the
-/// commands of the journal, in order, leave (`machine_of`).
+/// Contracts see the machine at its opening and the journal. The machine where it stands is no part
+/// of what they see: it is always the one that the commands of the journal, in order, leave
+/// (`machine_of`).
 #[derive(Drop)]
 pub struct Book {
     machine: Machine,
     start: Snapshot<Machine>,
-    before: u64,
     journal: Vec<JournalRecord>,
 }
 
@@ -61,13 +60,9 @@ impl Model for Book {
 
     ghost Value = { BookView };
 
-    ghost view = { λ b. record {
-      start = b.start.value;
-      before = b.before;
-      journal = b.journal.items;
-    } };
+    ghost view = { λ b. record { start = b.start.value; journal = b.journal.items } };
 
-    ghost invariant = { λ b. IsSound b.machine b.start.value b.before b.journal.items };
+    ghost invariant = { λ b. IsSound b.machine b.start.value b.journal.items };
 }
 
 impl Book {
@@ -77,26 +72,15 @@ impl Book {
         requires at_least_one { 1 ≤ workers }
         requires at_most_32 { workers ≤ 32 }
         ensures { IfOk result
-            (λ b. b ≡ record { start = fresh program workers; before = 0; journal = [] }) }
+            (λ b. b ≡ record { start = fresh program workers; journal = [] }) }
     {
         let machine = Machine::new(alloc, program, workers)?;
-        Ok(Book::over(alloc, machine, 0))
-    }
-
-    /// A book without records, over a machine of which so many calls were recorded before, among
-    /// them each step that was made.
-    pub fn over(alloc: Global, machine: Machine, before: u64) -> Book
-        requires made { machine.history.made ≤ before }
-        requires most { before ≤ 200000 }
-        ensures { result ≡ record { start = machine; before = before; journal = [] } }
-    {
         let start = Snapshot::of(&machine);
-        Book {
+        Ok(Book {
             machine,
             start,
-            before,
             journal: Vec::new(alloc),
-        }
+        })
     }
 
     /// The machine that the commands of the journal leave. Its history is the run of the journal's
@@ -111,23 +95,6 @@ impl Book {
         &self.machine
     }
 
-    /// The machine that the commands of the journal leave, and nothing of the records.
-    pub fn into_machine(self) -> Machine
-        ensures left { result ≡ machine_of self }
-        ensures program { result.program ≡ self.start.program }
-        ensures workers { result.workers ≡ self.start.workers }
-        ensures made { result.history.made ≤ records_of self }
-        ensures most { records_of self ≤ 200000 }
-    {
-        let Book {
-            machine,
-            start: _,
-            before: _,
-            journal: _,
-        } = self;
-        machine
-    }
-
     /// The calls that were answered, in their order. Each reply is the one that a machine of one
     /// thread gives there.
     pub fn journal(&self) -> &[JournalRecord]
@@ -138,18 +105,26 @@ impl Book {
         self.journal.as_slice()
     }
 
-    /// How many calls were recorded, those before the book among them.
+    /// How many calls were recorded.
     pub fn records(&self) -> u64
         ensures { result ≡ records_of self.now }
     {
-        self.before + self.journal.len() as u64
+        self.journal.len() as u64
     }
 
-    /// How many steps the calls of the journal made.
-    pub fn steps_made(&self) -> u64
-        ensures { result ≡ done_in self.now.journal }
+    /// Whether there is no room for one more record.
+    pub fn is_full(&self) -> bool
+        ensures { result ≡ is_full self.now }
     {
-        done_in(self.journal.as_slice())
+        self.records() >= MAX_RECORDS
+    }
+
+    /// How many steps the calls behind the first so many of the journal made.
+    pub fn steps_behind(&self, calls: usize) -> u64
+        requires { calls ≤ length self.now.journal }
+        ensures { result ≡ done_in (drop calls self.now.journal) }
+    {
+        done_in(&self.journal.as_slice()[calls..])
     }
 
     /// Does what a seat's command asks, and adds its record to the journal.

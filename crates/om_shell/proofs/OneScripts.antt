@@ -18,7 +18,7 @@ session_same : (d : Debugger) (runs : List FreeRun) (lines : List (List ℕ)) �
 session_same d runs [] h = refl
 session_same d runs (line ∷ more) h =
     let a = answered d [] line in
-    let plain = h.0 d.recorder.machine.workers in
+    let plain = h.0 d.book.start.workers in
     ap (λ (x : Answer). after_answer x (session x.view x.runs more)) (answered_same d line runs plain)
     ∙ ap (λ (t : Transcript Debugger). after_answer a t) (session_same a.view runs more h.1)
     ∙ ap (λ (rs : List FreeRun). after_answer a (session a.view rs more)) (sym (none_behind d line plain))

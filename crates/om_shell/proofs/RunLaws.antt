@@ -5,6 +5,7 @@ use Rattle.std.specs.Io.KnownBytes.{Appends, Consumes, IsAtEnd}
 use Rattle.std.proofs.KnownBytes.{Appends-nil, Consumes-trans}
 use Rattle.om_lexer.specs.declared.fault.SourceFault.{SourceFault}
 use Rattle.om_code.specs.declared.raw.Raw.{Raw}
+use Rattle.om_journal.specs.Books.{BookView}
 use Rattle.om_view.specs.declared.debugger.Debugger.{Debugger}
 use Rattle.om_view.specs.Freed.{FreeRun}
 use Rattle.om_shell.specs.declared.fault.ShellFault.{ShellFault}
@@ -12,7 +13,7 @@ use Rattle.om_shell.specs.declared.fault.ShellFault.TheVariants.{Read, Memory}
 use Rattle.om_shell.specs.Ends.{RunsToEnd, BreaksOffRun, WritesScript}
 use Rattle.om_shell.specs.Lines.{parts_of, source_in, commands_in}
 use Rattle.om_shell.specs.Progress.{Advance, BreaksOff}
-use Rattle.om_shell.specs.Script.{source_of, script_by, transcript_of}
+use Rattle.om_shell.specs.Script.{book_of, source_of, script_by, transcript_of}
 use Rattle.om_shell.specs.Serving.{due_for, Serves, BreaksOffServing, ServesAlone, ServesAlonePart, BreaksOffAlone}
 use Rattle.om_shell.specs.Source.{IsMarked, IsUnmarked, ReadsNoMark}
 use Rattle.om_shell.specs.Transcript.{Transcript}
@@ -46,40 +47,41 @@ marked_source pending source more at after p e =
     ∙ p.source (drop after pending ++ more) ∙ sym e
 
 pub Runs_marked : (ra rb rc w wc : Option (List ℕ)) (pending source rest : List ℕ) (at after workers status : ℕ)
-    (view : Option Debugger) → Consumes ra rb pending → IsMarked pending at after
-    → source ≡ take at pending → rest ≡ drop after pending → Serves rb rc w wc rest workers source status view
-    → RunsToEnd ra rc w wc workers None status view
-Runs_marked ra rb rc w wc pending source rest at after workers status view read p e d q =
+    (book : Option BookView) → Consumes ra rb pending → IsMarked pending at after
+    → source ≡ take at pending → rest ≡ drop after pending → Serves rb rc w wc rest workers source status book
+    → RunsToEnd ra rc w wc workers None status book
+Runs_marked ra rb rc w wc pending source rest at after workers status book read p e d q =
     let verdict = q.verdict in
     let runs = q.runs in
+    let kept = q.with_book in
     let done = Done_then ra rb rc w w wc [] rest (script_by verdict workers runs None)
-    (due_for verdict workers runs source) view (Marked_advance ra rb w pending source rest at after workers
-    verdict runs read p e d) q.done in
-    let same = marked_source pending source q.done.taken at after p e in
+    (due_for verdict workers runs source) kept.view (Marked_advance ra rb w pending source rest at after workers
+    verdict runs read p e d) kept.done in
+    let same = marked_source pending source q.with_book.done.taken at after p e in
     record {
-      taken = pending ++ q.done.taken;
+      taken = pending ++ q.with_book.done.taken;
       verdict = verdict;
       judged = subst (λ l. IsVerdict l verdict) (sym same) q.judged;
       runs = runs;
       consumes = done.consumes;
       appends = done.appends;
-      view_is = done.left;
+      book_is = kept.book_is ∙ ap book_of done.left;
       status_is = q.status_is;
       stops = elim done.stops [
         | inl end ↦ inl end
         | inr settled ↦ inr (record {
-          source = λ future. ap (λ l. source_in (parts_of l)) (append_assoc pending q.done.taken future)
-              ∙ marked_source pending source (q.done.taken ++ future) at after p e ∙ sym same;
+          source = λ future. ap (λ l. source_in (parts_of l)) (append_assoc pending q.with_book.done.taken future)
+              ∙ marked_source pending source (q.with_book.done.taken ++ future) at after p e ∙ sym same;
           script = settled;
         })
       ];
     }
 
 pub Runs_unmarked : (ra rb wa wb : Option (List ℕ)) (pending source : List ℕ) (at workers status : ℕ)
-    (view : Option Debugger) → Consumes ra rb pending → IsAtEnd rb → IsUnmarked pending at
-    → source ≡ take at pending → ServesAlone wa wb workers source status view → RunsToEnd ra rb wa wb workers None
-    status view
-Runs_unmarked ra rb wa wb pending source at workers status view read end p e q =
+    (book : Option BookView) → Consumes ra rb pending → IsAtEnd rb → IsUnmarked pending at
+    → source ≡ take at pending → ServesAlone wa wb workers source status book → RunsToEnd ra rb wa wb workers None
+    status book
+Runs_unmarked ra rb wa wb pending source at workers status book read end p e q =
     let verdict = q.verdict in
     let runs : List FreeRun = [] in
     let same : source_in (parts_of pending) ≡ source = p.source ∙ sym e in
@@ -93,24 +95,24 @@ Runs_unmarked ra rb wa wb pending source at workers status view read end p e q =
       runs = runs;
       consumes = read;
       appends = subst (λ (t : Transcript Debugger). Appends wa wb t.text) (sym all) q.appends;
-      view_is = q.view_is ∙ sym (ap (λ (t : Transcript Debugger). t.view) all);
+      book_is = q.book_is ∙ sym (ap (λ (t : Transcript Debugger). book_of t.view) all);
       status_is = q.status_is;
       stops = inl end;
     }
 
-pub Runs_given : (ra rb wa wb : Option (List ℕ)) (source : List ℕ) (workers status : ℕ) (view : Option Debugger)
-    → Serves ra rb wa wb [] workers source status view
-    → RunsToEnd ra rb wa wb workers (Some source) status view
-Runs_given ra rb wa wb source workers status view q = record {
-  taken = q.done.taken;
+pub Runs_given : (ra rb wa wb : Option (List ℕ)) (source : List ℕ) (workers status : ℕ) (book : Option BookView)
+    → Serves ra rb wa wb [] workers source status book
+    → RunsToEnd ra rb wa wb workers (Some source) status book
+Runs_given ra rb wa wb source workers status book q = record {
+  taken = q.with_book.done.taken;
   verdict = q.verdict;
   judged = q.judged;
   runs = q.runs;
-  consumes = q.done.consumes;
-  appends = q.done.appends;
-  view_is = q.done.left;
+  consumes = q.with_book.done.consumes;
+  appends = q.with_book.done.appends;
+  book_is = q.with_book.book_is ∙ ap book_of q.with_book.done.left;
   status_is = q.status_is;
-  stops = elim q.done.stops [
+  stops = elim q.with_book.done.stops [
     | inl end ↦ inl end
     | inr settled ↦ inr
         (record { source = λ future. refl; script = settled })
@@ -243,11 +245,11 @@ whole_of wa wb workers given input taken rest verdict runs e judged wrote same_s
 
 -- what was written is the script of all that the reader had
 pub Runs_whole : (ra rb wa wb : Option (List ℕ)) (workers : ℕ) (given : Option (List ℕ)) (status : ℕ)
-    (view : Option Debugger) → RunsToEnd ra rb wa wb workers given status view
+    (book : Option BookView) → RunsToEnd ra rb wa wb workers given status book
     → IfSome ra (λ input. WritesScript wa wb workers given input)
-Runs_whole None rb wa wb workers given status view p = tt
-Runs_whole (Some input) None wa wb workers given status view p = absurd p.consumes
-Runs_whole (Some input) (Some rest) wa wb workers given status view p =
+Runs_whole None rb wa wb workers given status book p = tt
+Runs_whole (Some input) None wa wb workers given status book p = absurd p.consumes
+Runs_whole (Some input) (Some rest) wa wb workers given status book p =
     elim p.stops [
       | inl end ↦ whole_of wa wb workers given input p.taken rest p.verdict p.runs p.consumes p.judged p.appends
           (ap (λ l. source_of given (p.taken ++ l)) end ∙ ap (source_of given) (append-nil p.taken))

@@ -6,16 +6,17 @@ use Rattle.om_lexer.specs.declared.fault.FaultCode.TheVariants.{Memory}
 use Rattle.om_lexer.specs.declared.fault.SourceFault.{SourceFault}
 use Rattle.om_lexer.specs.Faults.{no_memory}
 use Rattle.om_code.specs.declared.raw.Raw.{Raw}
+use Rattle.om_journal.specs.Books.{BookView}
 use Rattle.om_view.specs.declared.debugger.Debugger.{Debugger}
 use Rattle.om_view.specs.Freed.{FreeRun}
 use Rattle.om_shell.specs.declared.fault.ShellFault.{ShellFault}
 use Rattle.om_shell.specs.declared.fault.ShellFault.TheVariants.{Read}
 use Rattle.om_shell.specs.Places.{refusal_text}
-use Rattle.om_shell.specs.Progress.{AppendsPart, BreaksOff, IsDone}
+use Rattle.om_shell.specs.Progress.{AppendsPart, BreaksOff}
 use Rattle.om_shell.specs.Sessions.{due}
 use Rattle.om_view.specs.Views.{opened}
 use Rattle.om_shell.specs.Verdict.{IsProgramOf, IsRefused}
-use Rattle.om_shell.specs.Serving.{due_for, Serves, ServesPart, IsUntouched, ServesAlone, BreaksOffAlone}
+use Rattle.om_shell.specs.Serving.{due_for, DoneWith, Serves, ServesPart, IsUntouched, ServesAlone, BreaksOffAlone}
 use Rattle.om_shell.proofs.Advances.{Advance_none, Breaks_after, Done_unread}
 
 pub is_refused : (source : List ℕ) (fault : SourceFault) → (fault ≢ no_memory → IsRefused source fault)
@@ -46,8 +47,12 @@ Serves_refused r wa wb pending workers source fault refused wrote = record {
   judged = refused;
   status_is = refl;
   runs = [];
-  done = Done_unread r wa wb pending (record { text = refusal_text source fault; view = None })
-      (due_for (Err fault) workers [] source) (λ bytes. refl) wrote;
+  with_book = record {
+    view = None;
+    done = Done_unread r wa wb pending (record { text = refusal_text source fault; view = None })
+        (due_for (Err fault) workers [] source) (λ bytes. refl) wrote;
+    book_is = refl;
+  };
 }
 
 pub ServesPart_refused : (r wa wb : Option (List ℕ)) (pending : List ℕ) (workers : ℕ) (source : List ℕ)
@@ -64,11 +69,11 @@ ServesPart_refused r wa wb pending workers source fault e refused other part = r
 }
 
 pub Serves_accepted : (ra rb wa wb : Option (List ℕ)) (pending : List ℕ) (workers : ℕ) (source : List ℕ)
-    (program : Raw) (status : ℕ) (view : Option Debugger) → IsProgramOf source program
-    → status ≡ 0 → ((runs : List FreeRun) × IsDone ra rb wa wb pending (due (opened program workers) runs) view)
-    → Serves ra rb wa wb pending workers source status view
-Serves_accepted ra rb wa wb pending workers source program status view accepted e done = record
-    { verdict = Ok program; judged = accepted; status_is = e; runs = done.0; done = done.1 }
+    (program : Raw) (status : ℕ) (book : Option BookView) → IsProgramOf source program
+    → status ≡ 0 → ((runs : List FreeRun) × DoneWith ra rb wa wb pending (due (opened program workers) runs) book)
+    → Serves ra rb wa wb pending workers source status book
+Serves_accepted ra rb wa wb pending workers source program status book accepted e done = record
+    { verdict = Ok program; judged = accepted; status_is = e; runs = done.0; with_book = done.1 }
 
 pub ServesPart_accepted : (ra rb wa wb : Option (List ℕ)) (pending : List ℕ) (workers : ℕ) (source : List ℕ)
     (program : Raw) (fault : ShellFault) → IsProgramOf source program
@@ -88,7 +93,7 @@ ServesAlone_refused wa wb workers source fault refused wrote = record {
   judged = refused;
   status_is = refl;
   appends = wrote;
-  view_is = refl;
+  book_is = refl;
 }
 
 pub BreaksOffAlone_refused : (wa wb : Option (List ℕ)) (workers : ℕ) (source : List ℕ) (fault : SourceFault)

@@ -3,13 +3,14 @@ use Rattle.std.specs.Prelude.{◌≡◌, ◌⊎◌, ℕ, false, List, [], ◌++�
 use Rattle.std.specs.Io.KnownBytes.{Consumes, Appends, IsAtEnd}
 use Rattle.om_lexer.specs.declared.fault.SourceFault.{SourceFault}
 use Rattle.om_code.specs.declared.raw.Raw.{Raw}
+use Rattle.om_journal.specs.Books.{BookView}
 use Rattle.om_view.specs.declared.debugger.Debugger.{Debugger}
 use Rattle.om_view.specs.Freed.{FreeRun}
 use Rattle.om_shell.specs.declared.fault.ShellFault.{ShellFault}
 use Rattle.om_shell.specs.declared.fault.ShellFault.TheVariants.{Read}
 use Rattle.om_shell.specs.Lines.{parts_of, has_mark}
 use Rattle.om_shell.specs.Progress.{IsBeginning, AnswersWholeLines}
-use Rattle.om_shell.specs.Script.{source_of, script_by, IsScript}
+use Rattle.om_shell.specs.Script.{book_of, source_of, script_by, IsScript}
 use Rattle.om_shell.specs.Transcript.{Transcript}
 use Rattle.om_shell.specs.Verdict.{IsVerdict}
 
@@ -25,17 +26,17 @@ pub record IsSettled (verdict : Result Raw SourceFault) (workers : ℕ) (runs : 
   pub script : (future : List ℕ) → script_by verdict workers runs given (taken ++ future) ≡ script_by verdict
       workers runs given taken
 
--- A run that came to its end: it wrote the script of the bytes that it took and nothing else, and left its view;
+-- A run that came to its end: it wrote the script of the bytes that it took and nothing else, and left its book;
 -- and the input has ended, or nothing that could follow changes the script.
 pub record RunsToEnd (left_before left_after held_before held_after : Option (List ℕ)) (workers : ℕ)
-    (given : Option (List ℕ)) (status : ℕ) (view : Option Debugger) : Type 0 where
+    (given : Option (List ℕ)) (status : ℕ) (book : Option BookView) : Type 0 where
   pub taken : List ℕ
   pub verdict : Result Raw SourceFault
   pub judged : IsVerdict (source_of given taken) verdict
   pub runs : List FreeRun
   pub consumes : Consumes left_before left_after taken
   pub appends : Appends held_before held_after (script_by verdict workers runs given taken).text
-  pub view_is : view ≡ (script_by verdict workers runs given taken).view
+  pub book_is : book ≡ book_of (script_by verdict workers runs given taken).view
   pub status_is : status ≡ status_of verdict
   pub stops : IsAtEnd left_after ⊎ IsSettled verdict workers runs given taken
 

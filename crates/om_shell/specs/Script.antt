@@ -9,6 +9,7 @@ use Rattle.om_shell.specs.Sessions.{session}
 use Rattle.om_shell.specs.Transcript.{Transcript}
 use Rattle.om_shell.specs.Verdict.{IsVerdict}
 use Rattle.om_code.specs.declared.raw.Raw.{Raw}
+use Rattle.om_journal.specs.Books.{BookView}
 use Rattle.om_view.specs.declared.debugger.Debugger.{Debugger}
 use Rattle.om_view.specs.Freed.{FreeRun}
 use Rattle.om_view.specs.Views.{opened}
@@ -33,6 +34,11 @@ transcript_of (Err fault) workers runs source commands = record { text = refusal
 abbrev pub script_by : Result Raw SourceFault → ℕ → List FreeRun → Option (List ℕ) → List ℕ → Transcript Debugger
 script_by verdict workers runs given input = transcript_of verdict workers runs (source_of given input)
     (commands_of given input)
+
+-- the book that a script leaves: that of its debugger, where the source is accepted
+abbrev pub book_of : Option Debugger → Option BookView
+book_of None = None
+book_of (Some d) = Some d.book
 
 -- a script of a run's input
 pub record IsScript (workers : ℕ) (given : Option (List ℕ)) (input : List ℕ) (script : Transcript Debugger) : Type 0

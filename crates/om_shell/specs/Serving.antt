@@ -4,13 +4,14 @@ use Rattle.std.specs.Io.KnownBytes.{Consumes, Appends}
 use Rattle.std.specs.Str.Lines.{lines}
 use Rattle.om_lexer.specs.declared.fault.SourceFault.{SourceFault}
 use Rattle.om_code.specs.declared.raw.Raw.{Raw}
+use Rattle.om_journal.specs.Books.{BookView}
 use Rattle.om_view.specs.declared.debugger.Debugger.{Debugger}
 use Rattle.om_view.specs.Freed.{FreeRun}
 use Rattle.om_shell.specs.declared.fault.ShellFault.{ShellFault}
 use Rattle.om_shell.specs.declared.fault.ShellFault.TheVariants.{Read}
 use Rattle.om_shell.specs.Ends.{status_of}
 use Rattle.om_shell.specs.Progress.{AppendsPart, BreaksOff, IsDone}
-use Rattle.om_shell.specs.Script.{transcript_of}
+use Rattle.om_shell.specs.Script.{book_of, transcript_of}
 use Rattle.om_shell.specs.Transcript.{Transcript}
 use Rattle.om_shell.specs.Verdict.{IsVerdict}
 
@@ -18,14 +19,22 @@ use Rattle.om_shell.specs.Verdict.{IsVerdict}
 abbrev pub due_for : Result Raw SourceFault → ℕ → List FreeRun → List ℕ → List ℕ → Transcript Debugger
 due_for verdict workers runs source bytes = transcript_of verdict workers runs source (lines bytes)
 
+-- all that was due is done, and this is the book that it leaves
+pub record DoneWith (left_before left_after held_before held_after : Option (List ℕ)) (pending : List ℕ)
+    (due : List ℕ → Transcript Debugger) (book : Option BookView) : Type 0 where
+  pub view : Option Debugger
+  pub done : IsDone left_before left_after held_before held_after pending due view
+  pub book_is : book ≡ book_of view
+
 -- by a verdict on the source, all that was due is done
 pub record Serves (left_before left_after held_before held_after : Option (List ℕ)) (pending : List ℕ) (workers : ℕ)
-    (source : List ℕ) (status : ℕ) (view : Option Debugger) : Type 0 where
+    (source : List ℕ) (status : ℕ) (book : Option BookView) : Type 0 where
   pub verdict : Result Raw SourceFault
   pub judged : IsVerdict source verdict
   pub status_is : status ≡ status_of verdict
   pub runs : List FreeRun
-  pub done : IsDone left_before left_after held_before held_after pending (due_for verdict workers runs source) view
+  pub with_book : DoneWith left_before left_after held_before held_after pending (due_for verdict workers runs source)
+      book
 
 -- by a verdict on the source, a part of what was due is done
 pub record ServesPart (left_before left_after held_before held_after : Option (List ℕ)) (pending : List ℕ)
@@ -50,12 +59,12 @@ BreaksOffServing left_before left_after held_before held_after pending workers s
 
 -- a source that no command follows
 pub record ServesAlone (held_before held_after : Option (List ℕ)) (workers : ℕ) (source : List ℕ) (status : ℕ)
-    (view : Option Debugger) : Type 0 where
+    (book : Option BookView) : Type 0 where
   pub verdict : Result Raw SourceFault
   pub judged : IsVerdict source verdict
   pub status_is : status ≡ status_of verdict
   pub appends : Appends held_before held_after (transcript_of verdict workers [] source []).text
-  pub view_is : view ≡ (transcript_of verdict workers [] source []).view
+  pub book_is : book ≡ book_of (transcript_of verdict workers [] source []).view
 
 pub record ServesAlonePart (held_before held_after : Option (List ℕ)) (workers : ℕ) (source : List ℕ) : Type 0 where
   pub verdict : Result Raw SourceFault

@@ -1,7 +1,7 @@
 //! How a run ended.
 ghost use Rattle.std.specs.Prelude.{◌≡◌, None, Some};
 
-use om_view::Debugger;
+use om_journal::Book;
 
 // The exit status after an accepted source, and after a refused one.
 const ACCEPTED: u8 = 0;
@@ -13,8 +13,8 @@ const REFUSED: u8 = 1;
 pub struct Ended {
     /// The exit status: 0, or 1 where the source was refused.
     pub status: u8,
-    /// The debugger as the commands left it; `None` where the source was refused.
-    pub debugger: Option<Debugger>,
+    /// The book of the commands; `None` where the source was refused.
+    pub book: Option<Book>,
 }
 
 impl Ended {
@@ -22,30 +22,30 @@ impl Ended {
     pub fn into_status(self) -> u8
         ensures { result ≡ self.status }
     {
-        let Ended { status, debugger } = self;
-        drop(debugger);
+        let Ended { status, book } = self;
+        drop(book);
         status
     }
 
     /// The end of a run of an accepted source.
-    pub(crate) fn accepted(debugger: Debugger) -> Ended
+    pub(crate) fn accepted(book: Book) -> Ended
         ensures status { result.status ≡ 0 }
-        ensures debugger { result.debugger ≡ Some debugger }
+        ensures book { result.book ≡ Some book }
     {
         Ended {
             status: ACCEPTED,
-            debugger: Some(debugger),
+            book: Some(book),
         }
     }
 
     /// The end of a run of a refused source.
     pub(crate) fn refused() -> Ended
         ensures status { result.status ≡ 1 }
-        ensures debugger { result.debugger ≡ None }
+        ensures book { result.book ≡ None }
     {
         Ended {
             status: REFUSED,
-            debugger: None,
+            book: None,
         }
     }
 }

@@ -3,11 +3,11 @@ ghost use Rattle.std.specs.Prelude.{◌≡◌, ◌<◌, ◌≤◌, ◌+◌, ◌*
 ghost use Rattle.std.specs.Io.KnownBytes.{Appends};
 ghost use Rattle.om_lexer.specs.declared.fault.FaultCode.TheVariants.{Memory};
 ghost use Rattle.om_shell.specs.Places.{refusal_text};
-ghost use Rattle.om_shell.specs.Progress.{AppendsPart, BreaksOff, IsDone};
+ghost use Rattle.om_shell.specs.Progress.{AppendsPart, BreaksOff};
 ghost use Rattle.om_shell.specs.Sessions.{due};
 ghost use Rattle.om_view.specs.Freed.{FreeRun};
 ghost use Rattle.om_view.specs.Views.{opened};
-ghost use Rattle.om_shell.specs.Serving.{Serves, BreaksOffServing, ServesAlone, BreaksOffAlone};
+ghost use Rattle.om_shell.specs.Serving.{DoneWith, Serves, BreaksOffServing, ServesAlone, BreaksOffAlone};
 
 use crate::conversation::converse;
 use crate::ended::Ended;
@@ -56,9 +56,9 @@ fn answer_commands<H: Threads + Wait + Sync, R: Read, W: Write>(
     requires at_most_32 { host.now.workers ≤ 32 }
     ensures status { IfOk result (λ ended. ended.status ≡ 0) }
     ensures done { IfOk result (λ ended. (runs : List FreeRun)
-        × IsDone (R.remaining reader.old) (R.remaining reader.new) (W.contents writer.old)
+        × DoneWith (R.remaining reader.old) (R.remaining reader.new) (W.contents writer.old)
         (W.contents writer.new)
-        input.old.pending.items (due (opened program host.now.workers) runs) ended.debugger) }
+        input.old.pending.items (due (opened program host.now.workers) runs) ended.book) }
     ensures broken_off { IfErr result (λ fault. (runs : List FreeRun)
         × BreaksOff (R.remaining reader.old) (R.remaining reader.new) (W.contents writer.old)
         (W.contents writer.new)
@@ -66,7 +66,7 @@ fn answer_commands<H: Threads + Wait + Sync, R: Read, W: Write>(
 {
     let mut session = Session::new(host.alloc, program, host.workers)?;
     match converse(host, &mut session, input, reader, writer) {
-        Ok(()) => Ok(Ended::accepted(session.into_debugger())),
+        Ok(()) => Ok(Ended::accepted(session.into_book())),
         Err(fault) => {
             drop(session);
             Err(fault)
@@ -89,7 +89,7 @@ pub(crate) fn serve<H: Threads + Wait + Sync, R: Read, W: Write>(
     ensures served { IfOk result
         (λ ended. Serves (R.remaining reader.old) (R.remaining reader.new) (W.contents writer.old)
         (W.contents writer.new)
-        input.old.pending.items host.now.workers source.now ended.status ended.debugger) }
+        input.old.pending.items host.now.workers source.now ended.status ended.book) }
     ensures broken_off { IfErr result
         (BreaksOffServing (R.remaining reader.old) (R.remaining reader.new) (W.contents writer.old)
         (W.contents writer.new)
@@ -119,14 +119,14 @@ pub(crate) fn serve_alone<W: Write>(
     requires at_most_32 { workers ≤ 32 }
     ensures served { IfOk result
         (λ ended. ServesAlone (W.contents writer.old) (W.contents writer.new) workers source.now
-        ended.status ended.debugger) }
+        ended.status ended.book) }
     ensures broken_off { IfErr result
         (BreaksOffAlone (W.contents writer.old) (W.contents writer.new) workers source.now) }
 {
     match program_of(alloc, source) {
         Ok(program) => {
             let debugger = Debugger::new(alloc, program, workers)?;
-            Ok(Ended::accepted(debugger))
+            Ok(Ended::accepted(debugger.into_book()))
         }
         Err(fault) => {
             if fault.code == FaultCode::Memory {

@@ -9,6 +9,7 @@ use crate::fault::ShellFault;
 use crate::host::Host;
 use crate::output::send;
 use om_code::Program;
+use om_journal::Book;
 use om_view::Debugger;
 use std::alloc::{AllocError, Global};
 use std::io::Write;
@@ -35,12 +36,12 @@ impl Session {
         })
     }
 
-    /// Its debugger.
-    pub(crate) fn into_debugger(self) -> Debugger
-        ensures { result ≡ self.debugger }
+    /// Its debugger's book.
+    pub(crate) fn into_book(self) -> Book
+        ensures { result ≡ self.debugger.book }
     {
         let Session { debugger, text: _ } = self;
-        debugger
+        debugger.into_book()
     }
 
     /// Answers one line, and says whether the session is over.

@@ -35,7 +35,7 @@ fn run_from_input<H: Threads + Wait + Sync, R: Read, W: Write>(
     ensures to_end { IfOk result
         (λ ended. RunsToEnd (R.remaining reader.old) (R.remaining reader.new)
         (W.contents writer.old) (W.contents writer.new)
-        host.now.workers None ended.status ended.debugger) }
+        host.now.workers None ended.status ended.book) }
     ensures broken_off { IfErr result
         (BreaksOffRun (R.remaining reader.old) (R.remaining reader.new) (W.contents writer.old)
         (W.contents writer.new)
@@ -64,7 +64,7 @@ fn run_by<H: Threads + Wait + Sync, R: Read, W: Write>(
     ensures to_end { IfOk result
         (λ ended. RunsToEnd (R.remaining reader.old) (R.remaining reader.new)
         (W.contents writer.old) (W.contents writer.new)
-        host.now.workers (option_copied source.entry) ended.status ended.debugger) }
+        host.now.workers (option_copied source.entry) ended.status ended.book) }
     ensures broken_off { IfErr result
         (BreaksOffRun (R.remaining reader.old) (R.remaining reader.new) (W.contents writer.old)
         (W.contents writer.new)
@@ -98,7 +98,7 @@ pub fn run<H: Threads + Wait + Sync, R: Read, W: Write>(
     ensures runs_to_end { IfOk result
         (λ ended. RunsToEnd (R.remaining reader.old) (R.remaining reader.new)
         (W.contents writer.old) (W.contents writer.new)
-        options.entry.workers (option_copied options.entry.source) ended.status ended.debugger) }
+        options.entry.workers (option_copied options.entry.source) ended.status ended.book) }
 
     // So it is the script of all that the reader had.
     ensures writes_the_script { OnOk result (IfSome (R.remaining reader.old) (λ input.

@@ -1,6 +1,6 @@
 -- Commands of many steps, one step at a time.
 use Rattle.std.proofs.Common.{◌≡◌, refl, sym, ap, ◌∙◌, ◌<◌, ◌≤◌, ◌-◌, ◌+◌, zero, suc, true, false, None, Some, ℕ, List}
-use Rattle.std.proofs.Common.{[], ◌∷◌, ◌++◌, length, drop, get_or, append_assoc, arith, Bool}
+use Rattle.std.proofs.Common.{[], ◌∷◌, ◌++◌, length, drop, get_or, append_assoc, arith, Bool, map}
 use Rattle.om_cells.specs.declared.step.Choice.{Choice}
 use Rattle.om_cells.specs.declared.step.Choice.TheVariants.{Next, Start}
 use Rattle.om_cells.specs.declared.step.Outcome.{Outcome}
@@ -18,68 +18,76 @@ use Rattle.om_undo.specs.Machines.{MachineView, state_in}
 use Rattle.om_view.specs.declared.marks.Marks.{Marks}
 use Rattle.om_view.specs.declared.runs.Moved.{Moved}
 use Rattle.om_view.specs.Moves.{goes_on, steps_within, undoes_within, next_within, back_within}
-use Rattle.om_drive.specs.Recorded.{Recorded, is_done, is_full, label_of, recorded_step, recorded_undo, step_reply_of}
-use Rattle.om_drive.specs.Recorded.{undo_reply_of}
+use Rattle.om_journal.specs.Books.{BookView, is_full, machine_of}
+use Rattle.om_journal.specs.Journals.{IsLegal}
+use Rattle.om_journal.specs.Runs.{after, is_done, reply_to}
+use Rattle.om_journal.specs.declared.book.JournalRecord.{JournalRecord}
+use Rattle.om_journal.proofs.Growing.{left_by-snoc}
+use Rattle.om_journal.specs.declared.command.Command.TheVariants as call
+use Rattle.om_journal.specs.declared.command.Query.{Query}
+use Rattle.om_journal.specs.declared.reply.Reply.TheVariants as reply
+use Rattle.om_view.specs.Calls.{label_of, step_reply_of, undo_reply_of, with_call, with_step}
+use Rattle.om_view.specs.Freed.{SeatCall, records_by}
 use Rattle.om_view.specs.Runs.{after_move, can_step, move_among, move_of, moved_of, ran, run_within, said_by}
 use Rattle.om_view.specs.Runs.{start_among}
 use Rattle.om_view.specs.Said.{Said}
 
-abbrev full : Recorded → Said
-full r = record { text = full_text; recorded = r }
+abbrev full : BookView → Said
+full b = record { text = full_text; book = b }
 
 -- `next`
 
-pub next_full : (further line worker : ℕ) (r : Recorded) → is_full r ≡ true → next_within further line worker r ≡ full r
+pub next_full : (further line worker : ℕ) (b : BookView) → is_full b ≡ true → next_within further line worker b ≡ full b
 unfolding next_within
-next_full zero line worker r e = rw e refl
-next_full (suc n) line worker r e = rw e refl
+next_full zero line worker b e = rw e refl
+next_full (suc n) line worker b e = rw e refl
 
-abbrev stepped_once : ℕ → Recorded → Said
-stepped_once worker r = record {
-  text = step_text worker (step_reply_of r.machine (label_of worker Next));
-  recorded = recorded_step r (label_of worker Next);
+abbrev stepped_once : ℕ → BookView → Said
+stepped_once worker b = record {
+  text = step_text worker (step_reply_of (machine_of b) (label_of worker Next));
+  book = with_step b (label_of worker Next);
 }
 
-pub next_stops : (further line worker : ℕ) (r : Recorded) → is_full r ≡ false → goes_on further
-    (steps_within line worker r) ≡ false
-    → next_within further line worker r ≡ stepped_once worker r
+pub next_stops : (further line worker : ℕ) (b : BookView) → is_full b ≡ false → goes_on further
+    (steps_within line worker b) ≡ false
+    → next_within further line worker b ≡ stepped_once worker b
 unfolding next_within
-next_stops zero line worker r e h = rw e refl
-next_stops (suc n) line worker r e h = rw (e, h) refl
+next_stops zero line worker b e h = rw e refl
+next_stops (suc n) line worker b e h = rw (e, h) refl
 
-pub next_goes_on : (further line worker : ℕ) (r : Recorded) → is_full r ≡ false → goes_on further
-    (steps_within line worker r) ≡ true
-    → next_within (further - 1) line worker (recorded_step r (label_of worker Next)) ≡ next_within further line worker r
+pub next_goes_on : (further line worker : ℕ) (b : BookView) → is_full b ≡ false → goes_on further
+    (steps_within line worker b) ≡ true
+    → next_within (further - 1) line worker (with_step b (label_of worker Next)) ≡ next_within further line worker b
 unfolding next_within
-next_goes_on zero line worker r e h = cc
-next_goes_on (suc n) line worker r e h = let same : suc n - 1 ≡ n = omega arith in rw (same, e, h) refl
+next_goes_on zero line worker b e h = cc
+next_goes_on (suc n) line worker b e h = let same : suc n - 1 ≡ n = omega arith in rw (same, e, h) refl
 
 -- `back`
 
-pub back_full : (further line worker : ℕ) (r : Recorded) → is_full r ≡ true → back_within further line worker r ≡ full r
+pub back_full : (further line worker : ℕ) (b : BookView) → is_full b ≡ true → back_within further line worker b ≡ full b
 unfolding back_within
-back_full zero line worker r e = rw e refl
-back_full (suc n) line worker r e = rw e refl
+back_full zero line worker b e = rw e refl
+back_full (suc n) line worker b e = rw e refl
 
-abbrev undone_once : ℕ → Recorded → Said
-undone_once worker r = record {
-  text = undo_text r.machine.program worker (undo_reply_of r.machine worker);
-  recorded = recorded_undo r worker;
+abbrev undone_once : ℕ → BookView → Said
+undone_once worker b = record {
+  text = undo_text b.start.program worker (undo_reply_of (machine_of b) worker);
+  book = with_call b (call.Undo worker);
 }
 
-pub back_stops : (further line worker : ℕ) (r : Recorded) → is_full r ≡ false → goes_on further
-    (undoes_within line worker r) ≡ false
-    → back_within further line worker r ≡ undone_once worker r
+pub back_stops : (further line worker : ℕ) (b : BookView) → is_full b ≡ false → goes_on further
+    (undoes_within line worker b) ≡ false
+    → back_within further line worker b ≡ undone_once worker b
 unfolding back_within
-back_stops zero line worker r e h = rw e refl
-back_stops (suc n) line worker r e h = rw (e, h) refl
+back_stops zero line worker b e h = rw e refl
+back_stops (suc n) line worker b e h = rw (e, h) refl
 
-pub back_goes_on : (further line worker : ℕ) (r : Recorded) → is_full r ≡ false → goes_on further
-    (undoes_within line worker r) ≡ true
-    → back_within (further - 1) line worker (recorded_undo r worker) ≡ back_within further line worker r
+pub back_goes_on : (further line worker : ℕ) (b : BookView) → is_full b ≡ false → goes_on further
+    (undoes_within line worker b) ≡ true
+    → back_within (further - 1) line worker (with_call b (call.Undo worker)) ≡ back_within further line worker b
 unfolding back_within
-back_goes_on zero line worker r e h = cc
-back_goes_on (suc n) line worker r e h = let same : suc n - 1 ≡ n = omega arith in rw (same, e, h) refl
+back_goes_on zero line worker b e h = cc
+back_goes_on (suc n) line worker b e h = let same : suc n - 1 ≡ n = omega arith in rw (same, e, h) refl
 
 -- `run`
 
@@ -101,20 +109,20 @@ unfolding move_among
 worker_rests m zero p e = absurd (omega (arith, p))
 worker_rests m (suc n) p e = let same : suc n - 1 ≡ n = omega arith in rw (same, e) refl
 
-pub run_ends : (left made : ℕ) (marks : Marks) (r : Recorded) → left ≤ 0 → run_within left made marks r
-    ≡ ran r made stop.Limit
+pub run_ends : (left made : ℕ) (marks : Marks) (b : BookView) → left ≤ 0 → run_within left made marks b
+    ≡ ran b made stop.Limit
 unfolding run_within
-run_ends zero made marks r p = refl
-run_ends (suc n) made marks r p = absurd (omega (arith, p))
+run_ends zero made marks b p = refl
+run_ends (suc n) made marks b p = absurd (omega (arith, p))
 
-pub run_came : (left made : ℕ) (marks : Marks) (r : Recorded) (came : Moved) → 0 < left → moved_of marks r ≡ came
-    → run_within left made marks r ≡ said_by came made (after_move r) (run_within (left - 1) (made + 1) marks
-    (after_move r))
+pub run_came : (left made : ℕ) (marks : Marks) (b : BookView) (came : Moved) → 0 < left → moved_of marks b ≡ came
+    → run_within left made marks b ≡ said_by came made (after_move b) (run_within (left - 1) (made + 1) marks
+    (after_move b))
 unfolding run_within
-run_came zero made marks r came p e = absurd (omega (arith, p))
-run_came (suc n) made marks r came p e =
+run_came zero made marks b came p e = absurd (omega (arith, p))
+run_came (suc n) made marks b came p e =
     let same : suc n - 1 ≡ n = omega arith in
-    rw same (ap (λ m. said_by m made (after_move r) (run_within n (made + 1) marks (after_move r))) e)
+    rw same (ap (λ m. said_by m made (after_move b) (run_within n (made + 1) marks (after_move b))) e)
 
 pub start_here : (m : MachineView) (worker : ℕ) (name : List ℕ) (names : List (List ℕ)) → can_step m worker
     (Start name) ≡ true
@@ -133,7 +141,7 @@ is_at_point m worker = is_at_scheduling_point m.program (control_in (state_in m 
 
 not_done : (o : Outcome) (serial line : ℕ) (at : Bool) → at ≡ false → ((us : List Update) → o ≡ outcome.Updates us
     → at ≡ true)
-    → is_done (reply_for serial line o) ≡ false
+    → is_done (reply.Step (reply_for serial line o)) ≡ false
 not_done (outcome.Updates us) serial line at elsewhere h = sym (h us refl) ∙ elsewhere
 not_done (outcome.Blocked b) serial line at elsewhere h = refl
 not_done outcome.Ended serial line at elsewhere h = refl
@@ -145,6 +153,22 @@ no_start law m worker (name ∷ names) elsewhere =
     start_behind m worker name names (not_done _ _ _ (is_at_point m worker) elsewhere
     (law m.program m.workers worker name (state_in m)))
     ∙ no_start law m worker names elsewhere
+
+-- a question leaves the machine as it was
+pub looked_same : (b : BookView) (q : Query) → machine_of (with_call b (call.Look q)) ≡ machine_of b
+looked_same b q = left_by-snoc b.start b.journal _
+
+-- the records of a free run
+
+abbrev pub call_of : JournalRecord → SeatCall
+call_of r = record { seat = r.seat; command = r.command }
+
+-- legal records are those of their calls
+pub legal_records : (m : MachineView) (rs : List JournalRecord) → IsLegal m rs → rs ≡ records_by m (map call_of rs)
+legal_records m [] h = refl
+legal_records m (r ∷ rs) h =
+    ap (λ x. record { seat = r.seat; command = r.command; reply = x } ∷ rs) h.0
+    ∙ ap (λ more. record r { reply = reply_to m r.command } ∷ more) (legal_records (after m r.command) rs h.1)
 
 -- lists, an item at a time
 

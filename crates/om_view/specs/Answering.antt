@@ -19,8 +19,8 @@ rounds_none rounds e = cc
 -- a free run, and those that are to come
 abbrev free_answer : Debugger → FreeRun → List FreeRun → Answer
 free_answer d run later = record {
-  text = (free_said run d.recorder).text;
-  view = record d { recorder = (free_said run d.recorder).recorded };
+  text = (free_said run d.book).text;
+  view = record d { book = (free_said run d.book).book };
   quits = false;
   runs = later;
 }
@@ -93,7 +93,7 @@ plain_request d (request.Fault fault) runs e = refl
 
 -- a line that asks for a free run
 pub answered_free : (d : Debugger) (line : List ℕ) (asked : Request) (rounds : ℕ) (run : FreeRun) (later : List FreeRun)
-    → asked ≡ request_of d.recorder.machine.workers line → rounds_asked asked ≡ Some rounds
+    → asked ≡ request_of d.book.start.workers line → rounds_asked asked ≡ Some rounds
     → answered d (run ∷ later) line ≡ free_answer d run later
 unfolding answered
 answered_free d line asked rounds run later e free = ap (λ a. answer_by d (run ∷ later) a) (sym e)
@@ -101,14 +101,14 @@ answered_free d line asked rounds run later e free = ap (λ a. answer_by d (run 
 
 -- any other line
 pub answered_plain : (d : Debugger) (line : List ℕ) (asked : Request) (runs : List FreeRun)
-    → asked ≡ request_of d.recorder.machine.workers line → rounds_asked asked ≡ None
+    → asked ≡ request_of d.book.start.workers line → rounds_asked asked ≡ None
     → answered d runs line ≡ plain_answer d asked runs
 unfolding answered
 answered_plain d line asked runs e plain = ap (λ a. answer_by d runs a) (sym e) ∙ plain_request d asked runs plain
 
 -- so where none is asked for, the free runs that are to come change nothing
 pub answered_same : (d : Debugger) (line : List ℕ) (runs : List FreeRun)
-    → rounds_asked (request_of d.recorder.machine.workers line) ≡ None
+    → rounds_asked (request_of d.book.start.workers line) ≡ None
     → answered d runs line ≡ record {
       text = (answered d [] line).text;
       view = (answered d [] line).view;
@@ -116,12 +116,12 @@ pub answered_same : (d : Debugger) (line : List ℕ) (runs : List FreeRun)
       runs = runs;
     }
 answered_same d line runs plain =
-    let asked = request_of d.recorder.machine.workers line in
+    let asked = request_of d.book.start.workers line in
     answered_plain d line asked runs refl plain
     ∙ sym (ap (λ (a : Answer). record { text = a.text; view = a.view; quits = a.quits; runs = runs })
     (answered_plain d line asked [] refl plain))
 
-pub none_behind : (d : Debugger) (line : List ℕ) → rounds_asked (request_of d.recorder.machine.workers line) ≡ None
+pub none_behind : (d : Debugger) (line : List ℕ) → rounds_asked (request_of d.book.start.workers line) ≡ None
     → (answered d [] line).runs ≡ []
 none_behind d line plain = ap (λ (a : Answer). a.runs)
-    (answered_plain d line (request_of d.recorder.machine.workers line) [] refl plain)
+    (answered_plain d line (request_of d.book.start.workers line) [] refl plain)

@@ -1,24 +1,43 @@
 -- Free runs: all workers step at once, in whatever order they come to the lock.
-use Rattle.std.specs.Prelude.{Bool, false, cond, List, []}
+use Rattle.std.specs.Prelude.{ℕ, Bool, false, cond, List, [], ◌∷◌}
+use Rattle.om_drive.specs.FreeRuns.{with_records}
+use Rattle.om_journal.specs.Books.{BookView, machine_of}
+use Rattle.om_journal.specs.Journals.{done_in}
+use Rattle.om_journal.specs.Runs.{after, reply_to}
+use Rattle.om_journal.specs.declared.book.JournalRecord.{JournalRecord}
 use Rattle.om_journal.specs.declared.command.Command.{Command}
-use Rattle.om_drive.specs.RecordedCalls.{recorded_calls, steps_made}
-use Rattle.om_drive.specs.Recorded.{Recorded}
 use Rattle.om_replies.specs.Steps.{full_text}
 use Rattle.om_replies.specs.Stops.{freed_text}
+use Rattle.om_undo.specs.Machines.{MachineView}
 use Rattle.om_view.specs.Said.{Said}
+
+-- a command, and the seat through which it came
+pub record SeatCall : Type 0 where
+  pub seat : ℕ
+  pub command : Command
 
 -- what a free run did: the calls of its workers, in the order in which they were recorded, and whether a worker found
 -- no room for one more
 pub record FreeRun : Type 0 where
-  pub calls : List Command
+  pub calls : List SeatCall
   pub full : Bool
 
 abbrev pub no_run : FreeRun
 no_run = record { calls = []; full = false }
 
+-- the records of calls, one after the other
+abbrev pub records_by : MachineView → List SeatCall → List JournalRecord
+records_by m [] = []
+records_by m (c ∷ cs) =
+    record { seat = c.seat; command = c.command; reply = reply_to m c.command } ∷ records_by (after m c.command) cs
+
+-- the records of a free run over a book
+abbrev pub made_by : FreeRun → BookView → List JournalRecord
+made_by run b = records_by (machine_of b) run.calls
+
 -- `free K`
-abbrev pub free_said : FreeRun → Recorded → Said
-free_said run r = record {
-  text = cond run.full full_text (freed_text (steps_made r.machine run.calls));
-  recorded = recorded_calls r run.calls;
+abbrev pub free_said : FreeRun → BookView → Said
+free_said run b = record {
+  text = cond run.full full_text (freed_text (done_in (made_by run b)));
+  book = with_records b (made_by run b);
 }

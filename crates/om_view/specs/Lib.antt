@@ -1,5 +1,6 @@
 pub mod Variables
 pub mod Locals
+pub mod Calls
 pub mod Said
 pub mod Looks
 pub mod Moves

@@ -14,42 +14,53 @@ use Rattle.om_replies.specs.Values.{local_text, print_text}
 use Rattle.om_task.specs.Rules.{line_in}
 use Rattle.om_undo.specs.Machines.{MachineView, state_in}
 use Rattle.om_undo.specs.ReadyNames.{ready_names}
-use Rattle.om_drive.specs.Recorded.{Recorded, after_look}
+use Rattle.om_journal.specs.Books.{BookView, machine_of}
+use Rattle.om_journal.specs.declared.command.Command.TheVariants as call
+use Rattle.om_journal.specs.declared.command.Query.{Query}
+use Rattle.om_journal.specs.declared.command.Query.TheVariants as query
+use Rattle.om_view.specs.Calls.{with_call}
 use Rattle.om_view.specs.Said.{Said, unless_full}
 
--- a text for which the machine was looked at once
-abbrev pub looked : Recorded → List ℕ → Said
-looked r text = unless_full r (record { text = text; recorded = after_look r })
+-- a text for which the machine was asked a question
+abbrev pub looked : BookView → Query → List ℕ → Said
+looked b question text = unless_full b (record { text = text; book = with_call b (call.Look question) })
+
+-- a text by what an object holds
+abbrev pub looked_at : BookView → Obj → List ℕ → Said
+looked_at b object text = looked b (query.Value object) text
 
 -- `print VAR`
-abbrev pub print_said : GlobalCell → Recorded → Said
-print_said cell r = looked r (print_text r.machine.program cell
-    (state_in r.machine (object.Global cell.variable cell.index)))
+abbrev pub print_said : GlobalCell → BookView → Said
+print_said cell b =
+    let at : Obj = object.Global cell.variable cell.index in
+    looked_at b at (print_text b.start.program cell (state_in (machine_of b) at))
 
 -- `print W VAR`, where the worker sees a cell
-abbrev pub local_said : Variable → Obj → Recorded → Said
-local_said variable cell r = looked r (local_text variable (state_in r.machine cell))
+abbrev pub local_said : Variable → Obj → BookView → Said
+local_said variable cell b = looked_at b cell (local_text variable (state_in (machine_of b) cell))
 
 -- the line of a worker's next instruction
 abbrev pub line_at : MachineView → ℕ → ℕ
 line_at m worker = line_in m.program (control_in (state_in m (object.Control worker)))
 
 -- `where W`
-abbrev pub where_said : ℕ → Recorded → Said
-where_said worker r = looked r (where_text worker (control_in (state_in r.machine (object.Control worker)))
-    (line_at r.machine worker))
+abbrev pub where_said : ℕ → BookView → Said
+where_said worker b =
+    let control = control_in (state_in (machine_of b) (object.Control worker)) in
+    looked_at b (object.Control worker) (where_text worker control (line_in b.start.program control))
 
 -- `history`
-abbrev pub history_said : Recorded → Said
-history_said r = looked r (history_text r.machine.history.entries)
+abbrev pub history_said : BookView → Said
+history_said b = looked b query.Entries (history_text (machine_of b).history.entries)
 
 -- `events W`
-abbrev pub events_said : ℕ → Recorded → Said
-events_said worker r = looked r (events_text (records_in (state_in r.machine (object.Events worker))))
+abbrev pub events_said : ℕ → BookView → Said
+events_said worker b =
+    looked_at b (object.Events worker) (events_text (records_in (state_in (machine_of b) (object.Events worker))))
 
 -- `output`
-abbrev pub output_said : Recorded → Said
-output_said r = looked r (output_text (bytes_in (state_in r.machine object.Output)))
+abbrev pub output_said : BookView → Said
+output_said b = looked_at b object.Output (output_text (bytes_in (state_in (machine_of b) object.Output)))
 
 -- the line of the directive of a task that is ready; 0 for another one
 abbrev pub directive_line : tasks.Task → ℕ
@@ -64,5 +75,5 @@ tasks_text s [] = no_tasks_text
 tasks_text s (name ∷ names) = joined (ready_line s) (name ∷ names)
 
 -- `tasks`
-abbrev pub tasks_said : Recorded → Said
-tasks_said r = looked r (tasks_text (state_in r.machine) (ready_names r.machine))
+abbrev pub tasks_said : BookView → Said
+tasks_said b = looked b query.Ready (tasks_text (state_in (machine_of b)) (ready_names (machine_of b)))

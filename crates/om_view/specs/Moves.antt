@@ -5,11 +5,14 @@ use Rattle.om_cells.specs.declared.step.Choice.TheVariants.{Next}
 use Rattle.om_history.specs.declared.reply.UndoReply.{UndoReply}
 use Rattle.om_history.specs.declared.reply.UndoReply.TheVariants as undo_reply
 use Rattle.om_history.specs.Cones.{reply_to_roll}
-use Rattle.om_drive.specs.Recorded.{Recorded, is_done, label_of, recorded_step, recorded_undo, recorded_roll}
-use Rattle.om_drive.specs.Recorded.{step_reply_of, undo_reply_of}
+use Rattle.om_journal.specs.Books.{BookView, machine_of}
+use Rattle.om_journal.specs.Runs.{is_done}
+use Rattle.om_journal.specs.declared.command.Command.TheVariants as call
+use Rattle.om_journal.specs.declared.reply.Reply.TheVariants as reply
 use Rattle.om_replies.specs.Steps.{step_text, undo_text}
 use Rattle.om_replies.specs.Lists.{roll_text}
 use Rattle.om_undo.specs.Machines.{rules_for}
+use Rattle.om_view.specs.Calls.{label_of, step_reply_of, undo_reply_of, with_call, with_step}
 use Rattle.om_view.specs.Looks.{line_at}
 use Rattle.om_view.specs.Said.{Said, unless_full}
 
@@ -19,23 +22,23 @@ is_undone (undo_reply.Undone serial line) = true
 is_undone _ = false
 
 -- `step W`, or `start W NAME`
-abbrev pub step_said : ℕ → Choice → Recorded → Said
-step_said worker choice r = unless_full r (record {
-  text = step_text worker (step_reply_of r.machine (label_of worker choice));
-  recorded = recorded_step r (label_of worker choice);
+abbrev pub step_said : ℕ → Choice → BookView → Said
+step_said worker choice b = unless_full b (record {
+  text = step_text worker (step_reply_of (machine_of b) (label_of worker choice));
+  book = with_step b (label_of worker choice);
 })
 
 -- `undo W`
-abbrev pub undo_said : ℕ → Recorded → Said
-undo_said worker r = unless_full r (record {
-  text = undo_text r.machine.program worker (undo_reply_of r.machine worker);
-  recorded = recorded_undo r worker;
+abbrev pub undo_said : ℕ → BookView → Said
+undo_said worker b = unless_full b (record {
+  text = undo_text b.start.program worker (undo_reply_of (machine_of b) worker);
+  book = with_call b (call.Undo worker);
 })
 
 -- a worker's step is done and leaves it at a line
-abbrev pub steps_within : ℕ → ℕ → Recorded → Bool
-steps_within line worker r = is_done (step_reply_of r.machine (label_of worker Next))
-    && nat_eq (line_at (recorded_step r (label_of worker Next)).machine worker) line
+abbrev pub steps_within : ℕ → ℕ → BookView → Bool
+steps_within line worker b = is_done (reply.Step (step_reply_of (machine_of b) (label_of worker Next)))
+    && nat_eq (line_at (machine_of (with_step b (label_of worker Next))) worker) line
 
 -- a further step may follow
 abbrev pub goes_on : ℕ → Bool → Bool
@@ -43,43 +46,42 @@ goes_on zero within = false
 goes_on (suc further) within = within
 
 -- steps of a worker, while each is done and leaves it at the line, and one more; so many before that one at most
-unfoldable pub next_within : ℕ → ℕ → ℕ → Recorded → Said
-next_within zero line worker r = step_said worker Next r
-next_within (suc further) line worker r =
-    unless_full r (cond (steps_within line worker r)
-    (next_within further line worker (recorded_step r (label_of worker Next)))
+unfoldable pub next_within : ℕ → ℕ → ℕ → BookView → Said
+next_within zero line worker b = step_said worker Next b
+next_within (suc further) line worker b =
+    unless_full b (cond (steps_within line worker b)
+    (next_within further line worker (with_step b (label_of worker Next)))
     (record {
-      text = step_text worker (step_reply_of r.machine (label_of worker Next));
-      recorded = recorded_step r
-          (label_of worker Next);
+      text = step_text worker (step_reply_of (machine_of b) (label_of worker Next));
+      book = with_step b (label_of worker Next);
     }))
 
 -- `next W`: 10,000 steps at most, until the line changes or a step isn't done; the last reply
-abbrev pub next_said : ℕ → ℕ → Recorded → Said
-next_said most worker r = next_within most (line_at r.machine worker) worker r
+abbrev pub next_said : ℕ → ℕ → BookView → Said
+next_said most worker b = next_within most (line_at (machine_of b) worker) worker b
 
 -- a worker's undo takes a step out and leaves it at a line
-abbrev pub undoes_within : ℕ → ℕ → Recorded → Bool
-undoes_within line worker r = is_undone (undo_reply_of r.machine worker)
-    && nat_eq (line_at (recorded_undo r worker).machine worker) line
+abbrev pub undoes_within : ℕ → ℕ → BookView → Bool
+undoes_within line worker b = is_undone (undo_reply_of (machine_of b) worker)
+    && nat_eq (line_at (machine_of (with_call b (call.Undo worker))) worker) line
 
-unfoldable pub back_within : ℕ → ℕ → ℕ → Recorded → Said
-back_within zero line worker r = undo_said worker r
-back_within (suc further) line worker r =
-    unless_full r (cond (undoes_within line worker r) (back_within further line worker (recorded_undo r worker))
+unfoldable pub back_within : ℕ → ℕ → ℕ → BookView → Said
+back_within zero line worker b = undo_said worker b
+back_within (suc further) line worker b =
+    unless_full b (cond (undoes_within line worker b)
+    (back_within further line worker (with_call b (call.Undo worker)))
     (record {
-      text = undo_text r.machine.program worker (undo_reply_of r.machine worker);
-      recorded = recorded_undo r
-          worker;
+      text = undo_text b.start.program worker (undo_reply_of (machine_of b) worker);
+      book = with_call b (call.Undo worker);
     }))
 
 -- `back W`: the same with undos
-abbrev pub back_said : ℕ → ℕ → Recorded → Said
-back_said most worker r = back_within most (line_at r.machine worker) worker r
+abbrev pub back_said : ℕ → ℕ → BookView → Said
+back_said most worker b = back_within most (line_at (machine_of b) worker) worker b
 
 -- `roll S`
-abbrev pub roll_said : ℕ → Recorded → Said
-roll_said serial r = unless_full r (record {
-  text = roll_text serial (reply_to_roll (rules_for r.machine) r.machine.history serial);
-  recorded = recorded_roll r serial;
+abbrev pub roll_said : ℕ → BookView → Said
+roll_said serial b = unless_full b (record {
+  text = roll_text serial (reply_to_roll (rules_for (machine_of b)) (machine_of b).history serial);
+  book = with_call b (call.Roll serial);
 })

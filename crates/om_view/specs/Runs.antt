@@ -16,13 +16,16 @@ use Rattle.om_view.specs.declared.marks.Marks.{Marks}
 use Rattle.om_view.specs.declared.runs.Moved.{Moved}
 use Rattle.om_view.specs.declared.runs.Moved.TheVariants as moved
 use Rattle.om_undo.specs.ReadyNames.{ready_names}
-use Rattle.om_drive.specs.Recorded.{Recorded, is_done, is_full, label_of, recorded_step, step_reply_of}
+use Rattle.om_journal.specs.Books.{BookView, is_full, machine_of}
+use Rattle.om_journal.specs.Runs.{is_done}
+use Rattle.om_journal.specs.declared.reply.Reply.TheVariants as reply
+use Rattle.om_view.specs.Calls.{label_of, step_reply_of, with_step}
 use Rattle.om_view.specs.Said.{Said}
 use Rattle.om_view.specs.Stops.{stop_behind}
 
 -- a worker can make a step by a choice
 abbrev pub can_step : MachineView → ℕ → Choice → Bool
-can_step m worker choice = is_done (step_reply_of m (label_of worker choice))
+can_step m worker choice = is_done (reply.Step (step_reply_of m (label_of worker choice)))
 
 -- the start of the first of the names with which a worker can begin
 abbrev pub start_among : MachineView → ℕ → List (List ℕ) → Option Choice
@@ -56,38 +59,40 @@ has_ended _ = false
 abbrev pub stop_without_move : MachineView → Stop
 stop_without_move m = cond (has_ended (control_in (state_in m (object.Control 0)))) stop.Ended stop.Stuck
 
-abbrev pub ran : Recorded → ℕ → Stop → Said
-ran r made why = record { text = ran_text r.machine.program made why; recorded = r }
+abbrev pub ran : BookView → ℕ → Stop → Said
+ran b made why = record { text = ran_text b.start.program made why; book = b }
 
 abbrev pub stopped_by : Option Stop → Moved
 stopped_by None = moved.GoesOn
 stopped_by (Some why) = moved.Stopped why
 
 -- what comes of a move, where there is one
-abbrev pub moved_by : Marks → Recorded → Option Label → Moved
-moved_by marks r None = moved.NoMove
-moved_by marks r (Some label) = cond (is_full r) moved.Full (stopped_by (stop_behind marks r.machine label))
+abbrev pub moved_by : Marks → BookView → Option Label → Moved
+moved_by marks b None = moved.NoMove
+moved_by marks b (Some label) = cond (is_full b) moved.Full
+    (stopped_by (stop_behind marks (machine_of b) (machine_of (with_step b label)) label))
 
-abbrev pub left_by : Recorded → Option Label → Recorded
-left_by r None = r
-left_by r (Some label) = cond (is_full r) r (recorded_step r label)
+-- what a move leaves, where there is one
+abbrev pub behind_move : BookView → Option Label → BookView
+behind_move b None = b
+behind_move b (Some label) = cond (is_full b) b (with_step b label)
 
 -- what comes of the first move, and what it leaves
-abbrev pub moved_of : Marks → Recorded → Moved
-moved_of marks r = moved_by marks r (first_move r.machine)
+abbrev pub moved_of : Marks → BookView → Moved
+moved_of marks b = moved_by marks b (first_move (machine_of b))
 
-abbrev pub after_move : Recorded → Recorded
-after_move r = left_by r (first_move r.machine)
+abbrev pub after_move : BookView → BookView
+after_move b = behind_move b (first_move (machine_of b))
 
 -- what is said by what came of a move and what it left, behind so many others; where the run goes on, the rest
-abbrev pub said_by : Moved → ℕ → Recorded → Said → Said
-said_by moved.NoMove made after rest = ran after made (stop_without_move after.machine)
-said_by moved.Full made after rest = record { text = full_text; recorded = after }
+abbrev pub said_by : Moved → ℕ → BookView → Said → Said
+said_by moved.NoMove made after rest = ran after made (stop_without_move (machine_of after))
+said_by moved.Full made after rest = record { text = full_text; book = after }
 said_by (moved.Stopped why) made after rest = ran after (made + 1) why
 said_by moved.GoesOn made after rest = rest
 
 -- a run of so many further steps at most, behind those that it made
-unfoldable pub run_within : ℕ → ℕ → Marks → Recorded → Said
-run_within zero made marks r = ran r made stop.Limit
-run_within (suc left) made marks r = said_by (moved_of marks r) made (after_move r)
-    (run_within left (made + 1) marks (after_move r))
+unfoldable pub run_within : ℕ → ℕ → Marks → BookView → Said
+run_within zero made marks b = ran b made stop.Limit
+run_within (suc left) made marks b = said_by (moved_of marks b) made (after_move b)
+    (run_within left (made + 1) marks (after_move b))

@@ -1,12 +1,12 @@
--- What a command says, and what it leaves of the machine and its records.
+-- What a command says, and what it leaves of the book.
 use Rattle.std.specs.Prelude.{ℕ, List, cond}
-use Rattle.om_drive.specs.Recorded.{Recorded, is_full}
+use Rattle.om_journal.specs.Books.{BookView, is_full}
 use Rattle.om_replies.specs.Steps.{full_text}
 
 pub record Said : Type 0 where
   pub text : List ℕ
-  pub recorded : Recorded
+  pub book : BookView
 
 -- `full` alone where there is no room for a record
-abbrev pub unless_full : Recorded → Said → Said
-unless_full r said = cond (is_full r) (record { text = full_text; recorded = r }) said
+abbrev pub unless_full : BookView → Said → Said
+unless_full b said = cond (is_full b) (record { text = full_text; book = b }) said

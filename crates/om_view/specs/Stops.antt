@@ -16,7 +16,7 @@ use Rattle.om_undo.specs.Machines.{MachineView, state_in}
 use Rattle.om_view.specs.declared.marks.Marks.{Marks}
 use Rattle.om_view.specs.declared.stops.Watched.{Watched}
 use Rattle.om_view.specs.Looks.{line_at}
-use Rattle.om_drive.specs.Recorded.{step_reply_of, stepped}
+use Rattle.om_view.specs.Calls.{step_reply_of}
 
 -- the first of two that is there
 abbrev pub or_else : Option Stop → Option Stop → Option Stop
@@ -56,11 +56,10 @@ watch_stop [] after worker = None
 watch_stop (w ∷ ws) after worker = cond (cell_eq w.held (value_of after w.cell)) (watch_stop ws after worker)
     (Some (stop.Watch w.cell worker))
 
--- why a run stops behind a step of a machine, if it does: a fault, a break, or a changed value of a watched cell, of
--- several the one set first
-abbrev pub stop_behind : Marks → MachineView → Label → Option Stop
-stop_behind marks m label =
-    let after = stepped m label in
-    or_else (fault_stop (step_reply_of m label) label.worker)
-    (or_else (break_stop marks.breaks (line_at m label.worker) (line_at after label.worker) label.worker)
-    (watch_stop (map (watched (state_in m)) marks.watches) (state_in after) label.worker))
+-- why a run stops behind a step that led from one machine to another, if it does: a fault, a break, or a changed value
+-- of a watched cell, of several the one set first
+abbrev pub stop_behind : Marks → MachineView → MachineView → Label → Option Stop
+stop_behind marks before after label =
+    or_else (fault_stop (step_reply_of before label) label.worker)
+    (or_else (break_stop marks.breaks (line_at before label.worker) (line_at after label.worker) label.worker)
+    (watch_stop (map (watched (state_in before)) marks.watches) (state_in after) label.worker))

@@ -25,7 +25,8 @@ use Rattle.om_view.specs.Looks.{local_said, print_said, where_said, history_said
 use Rattle.om_view.specs.Locals.{seen_by}
 use Rattle.om_view.specs.Marked.{with_break, with_watch, without_break}
 use Rattle.om_view.specs.Moves.{step_said, undo_said, next_said, back_said, roll_said}
-use Rattle.om_drive.specs.Recorded.{started}
+use Rattle.om_journal.specs.Books.{machine_of}
+use Rattle.om_journal.specs.Runs.{fresh}
 use Rattle.om_view.specs.Runs.{run_within}
 use Rattle.om_view.specs.Said.{Said}
 use Rattle.om_view.specs.Stops.{has_line}
@@ -46,9 +47,8 @@ pub record Answer : Type 0 where
 -- at the start of a program nothing is marked
 abbrev pub opened : Raw → ℕ → Debugger
 opened program workers = record {
-  recorder = started program workers;
-  marks =
-      record { breaks = []; watches = [] };
+  book = record { start = fresh program workers; journal = [] };
+  marks = record { breaks = []; watches = [] };
 }
 
 -- a text that changes nothing
@@ -58,9 +58,9 @@ told d text = record { text = text; view = d }
 abbrev pub refused : Debugger → CommandFault → Told
 refused d fault = told d (command_fault_text fault)
 
--- what a command says that calls the machine
+-- what a command says that calls the book
 abbrev pub called : Debugger → Said → Told
-called d said = record { text = said.text; view = record d { recorder = said.recorded } }
+called d said = record { text = said.text; view = record d { book = said.book } }
 
 -- a text, and other marks
 abbrev pub marked : Debugger → List ℕ → Marks → Told
@@ -73,39 +73,40 @@ by_cell d (Some cell) answer = answer cell
 
 -- `print VAR`
 abbrev pub global_told : Debugger → Variable → Told
-global_told d variable = by_cell d (cell_of d.recorder.machine.program variable)
-    (λ cell. called d (print_said cell d.recorder))
+global_told d variable = by_cell d (cell_of d.book.start.program variable)
+    (λ cell. called d (print_said cell d.book))
 
 -- `print W VAR`, by what the worker sees
 abbrev pub local_told : Debugger → Variable → Seen → Told
-local_told d variable (seen.Global cell) = called d (print_said cell d.recorder)
-local_told d variable (seen.Cell cell) = called d (local_said variable cell d.recorder)
+local_told d variable (seen.Global cell) = called d (print_said cell d.book)
+local_told d variable (seen.Cell cell) = called d (local_said variable cell d.book)
 local_told d variable seen.Nothing = refused d BadArgument
 
 -- what a command is answered, by what the free run does if it is one
 abbrev pub obeyed : Debugger → FreeRun → Command → Told
-obeyed d run (command.Step worker) = called d (step_said worker Next d.recorder)
-obeyed d run (command.Start worker task) = called d (step_said worker (Start task) d.recorder)
-obeyed d run (command.Undo worker) = called d (undo_said worker d.recorder)
-obeyed d run (command.Next worker) = called d (next_said 9999 worker d.recorder)
-obeyed d run (command.Back worker) = called d (back_said 9999 worker d.recorder)
+obeyed d run (command.Step worker) = called d (step_said worker Next d.book)
+obeyed d run (command.Start worker task) = called d (step_said worker (Start task) d.book)
+obeyed d run (command.Undo worker) = called d (undo_said worker d.book)
+obeyed d run (command.Next worker) = called d (next_said 9999 worker d.book)
+obeyed d run (command.Back worker) = called d (back_said 9999 worker d.book)
 obeyed d run (command.Print variable) = global_told d variable
 obeyed d run (command.PrintLocal worker variable) =
     local_told d variable
-    (seen_by d.recorder.machine.program variable (control_in (state_in d.recorder.machine (object.Control worker))))
-obeyed d run (command.Where worker) = called d (where_said worker d.recorder)
-obeyed d run command.History = called d (history_said d.recorder)
-obeyed d run (command.Events worker) = called d (events_said worker d.recorder)
-obeyed d run command.Output = called d (output_said d.recorder)
-obeyed d run command.Tasks = called d (tasks_said d.recorder)
+    (seen_by (machine_of d.book).program variable
+    (control_in (state_in (machine_of d.book) (object.Control worker))))
+obeyed d run (command.Where worker) = called d (where_said worker d.book)
+obeyed d run command.History = called d (history_said d.book)
+obeyed d run (command.Events worker) = called d (events_said worker d.book)
+obeyed d run command.Output = called d (output_said d.book)
+obeyed d run command.Tasks = called d (tasks_said d.book)
 obeyed d run (command.Break line) = marked d (break_text line) (with_break line d.marks)
-obeyed d run (command.Watch variable) = by_cell d (cell_of d.recorder.machine.program variable)
-    (λ cell. marked d (watch_text d.recorder.machine.program cell) (with_watch cell d.marks))
+obeyed d run (command.Watch variable) = by_cell d (cell_of d.book.start.program variable)
+    (λ cell. marked d (watch_text d.book.start.program cell) (with_watch cell d.marks))
 obeyed d run (command.Delete line) = marked d (deleted_text line (has_line d.marks.breaks line))
     (without_break line d.marks)
-obeyed d run (command.Run steps) = called d (run_within steps 0 d.marks d.recorder)
-obeyed d run (command.Free rounds) = called d (free_said run d.recorder)
-obeyed d run (command.Roll serial) = called d (roll_said serial d.recorder)
+obeyed d run (command.Run steps) = called d (run_within steps 0 d.marks d.book)
+obeyed d run (command.Free rounds) = called d (free_said run d.book)
+obeyed d run (command.Roll serial) = called d (roll_said serial d.book)
 obeyed d run command.Quit = told d []
 
 -- what is asked is answered
@@ -148,7 +149,7 @@ answer_by d runs asked = record {
 
 -- what a line is answered
 unfoldable pub answered : Debugger → List FreeRun → List ℕ → Answer
-answered d runs line = answer_by d runs (request_of d.recorder.machine.workers line)
+answered d runs line = answer_by d runs (request_of d.book.start.workers line)
 
 -- the free runs that a line has; and whatever runs follow these, this is what it is answered
 pub record IsAnswered (d : Debugger) (line text : List ℕ) (view : Debugger) (quits : Bool) : Type 0 where

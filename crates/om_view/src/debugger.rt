@@ -16,19 +16,18 @@ use crate::runs::run;
 use crate::variable::cell_of;
 use om_code::Program;
 use om_command::{Command, CommandFault, Request, Variable, request_of};
-use om_drive::Recorder;
+use om_journal::Book;
 use om_replies::{push_break, push_command_fault, push_deleted, push_watch};
 use om_seq::Seq;
 use om_task::Choice;
-use om_undo::Machine;
 use std::alloc::{AllocError, Global};
 use std::sync::Wait;
 use std::thread::Threads;
 
-/// A machine whose calls are recorded, and where its runs stop.
+/// A book, which each command is applied to, and where its runs stop.
 #[derive(Drop)]
 pub struct Debugger {
-    recorder: Recorder,
+    book: Book,
     marks: Marks,
 }
 
@@ -39,9 +38,9 @@ impl Debugger {
         requires at_most_32 { workers ≤ 32 }
         ensures { IfOk result (λ debugger. debugger ≡ opened program workers) }
     {
-        let recorder = Recorder::new(alloc, program, workers)?;
+        let book = Book::new(alloc, program, workers)?;
         Ok(Debugger {
-            recorder,
+            book,
             marks: Marks {
                 breaks: Seq::new(alloc),
                 watches: Seq::new(alloc),
@@ -49,13 +48,13 @@ impl Debugger {
         })
     }
 
-    /// Its machine.
-    pub fn into_machine(self) -> Machine
-        ensures { result ≡ self.recorder.machine }
+    /// Its book.
+    pub fn into_book(self) -> Book
+        ensures { result ≡ self.book }
     {
-        let Debugger { recorder, marks } = self;
+        let Debugger { book, marks } = self;
         drop(marks);
-        recorder.into_machine()
+        book
     }
 
     /// Appends the answer to a line, and says whether the session is over. A free run starts a
@@ -72,10 +71,10 @@ impl Debugger {
         ensures { IfOk result (λ quits. (said : List ℕ) × (text.new.items ≡ text.old.items ++ said)
             × IsAnswered self.old line.now said self.new quits) }
     {
-        let request = request_of(alloc, self.recorder.machine().workers(), line)?;
+        let request = request_of(alloc, self.book.machine().workers(), line)?;
         match rounds_asked(&request) {
             Some(rounds) => {
-                free(rt, alloc, &mut self.recorder, rounds, text)?;
+                free(rt, alloc, &mut self.book, rounds, text)?;
                 Ok(false)
             }
             None => {
@@ -92,7 +91,7 @@ impl Debugger {
         request: &Request,
         text: &mut Vec<u8>,
     ) -> Result<(), AllocError>
-        requires in_range { AsksWorkerBelow self.old.recorder.machine.workers request.now }
+        requires in_range { AsksWorkerBelow self.old.book.start.workers request.now }
         requires no_free_run { rounds_asked request.now ≡ None }
         ensures text { OnOk result
             (text.new.items ≡ text.old.items ++ (answer_to self.old no_run request.now).text) }
@@ -112,36 +111,36 @@ impl Debugger {
         command: &Command,
         text: &mut Vec<u8>,
     ) -> Result<(), AllocError>
-        requires in_range { HasWorkerBelow self.old.recorder.machine.workers command.now }
+        requires in_range { HasWorkerBelow self.old.book.start.workers command.now }
         requires no_free_run { rounds_asked (request.Command command.now) ≡ None }
         ensures text { OnOk result
             (text.new.items ≡ text.old.items ++ (obeyed self.old no_run command.now).text) }
         ensures view { OnOk result (self.new ≡ (obeyed self.old no_run command.now).view) }
     {
-        let recorder = &mut self.recorder;
+        let book = &mut self.book;
         match command {
-            Command::Step(worker) => step(alloc, recorder, *worker, Choice::Next, text),
+            Command::Step(worker) => step(alloc, book, *worker, Choice::Next, text),
             Command::Start { worker, task } => {
-                step(alloc, recorder, *worker, Choice::Start(task.name()), text)
+                step(alloc, book, *worker, Choice::Start(task.name()), text)
             }
-            Command::Undo(worker) => undo(recorder, *worker, text),
-            Command::Next(worker) => next(alloc, recorder, *worker, text),
-            Command::Back(worker) => back(recorder, *worker, text),
+            Command::Undo(worker) => undo(alloc, book, *worker, text),
+            Command::Next(worker) => next(alloc, book, *worker, text),
+            Command::Back(worker) => back(alloc, book, *worker, text),
             Command::Print(variable) => self.print(alloc, variable, text),
             Command::PrintLocal { worker, variable } => {
                 self.print_local(alloc, *worker, variable, text)
             }
-            Command::Where(worker) => place(alloc, recorder, *worker, text),
-            Command::History => history(alloc, recorder, text),
-            Command::Events(worker) => events(alloc, recorder, *worker, text),
-            Command::Output => output(alloc, recorder, text),
-            Command::Tasks => tasks(alloc, recorder, text),
+            Command::Where(worker) => place(alloc, book, *worker, text),
+            Command::History => history(alloc, book, text),
+            Command::Events(worker) => events(alloc, book, *worker, text),
+            Command::Output => output(alloc, book, text),
+            Command::Tasks => tasks(alloc, book, text),
             Command::Break(line) => self.set_break(*line, text),
             Command::Watch(variable) => self.set_watch(variable, text),
             Command::Delete(line) => self.delete(alloc, *line, text),
-            Command::Run(steps) => run(alloc, recorder, &self.marks, *steps, text),
+            Command::Run(steps) => run(alloc, book, &self.marks, *steps, text),
             Command::Free(_) => unreachable!(),
-            Command::Roll(serial) => roll(alloc, recorder, *serial, text),
+            Command::Roll(serial) => roll(alloc, book, *serial, text),
             Command::Quit => Ok(()),
         }
     }
@@ -159,8 +158,8 @@ impl Debugger {
         ensures view { OnOk result
             (self.new ≡ (obeyed self.old no_run (command.Print variable.now)).view) }
     {
-        match cell_of(self.recorder.machine().program(), variable) {
-            Some(cell) => print(alloc, &mut self.recorder, cell, text),
+        match cell_of(self.book.machine().program(), variable) {
+            Some(cell) => print(alloc, &mut self.book, cell, text),
             None => push_command_fault(text, CommandFault::BadArgument),
         }
     }
@@ -179,11 +178,11 @@ impl Debugger {
         ensures view { OnOk result
             (self.new ≡ (obeyed self.old no_run (command.PrintLocal worker variable.now)).view) }
     {
-        let machine = self.recorder.machine();
+        let machine = self.book.machine();
         let seen = worker_sees(alloc, machine, worker, variable)?;
         match seen {
-            Seen::Global(cell) => print(alloc, &mut self.recorder, cell, text),
-            Seen::Cell(cell) => print_local(alloc, &mut self.recorder, variable, &cell, text),
+            Seen::Global(cell) => print(alloc, &mut self.book, cell, text),
+            Seen::Cell(cell) => print_local(alloc, &mut self.book, variable, &cell, text),
             Seen::Nothing => push_command_fault(text, CommandFault::BadArgument),
         }
     }
@@ -207,10 +206,10 @@ impl Debugger {
         ensures view { OnOk result
             (self.new ≡ (obeyed self.old no_run (command.Watch variable.now)).view) }
     {
-        match cell_of(self.recorder.machine().program(), variable) {
+        match cell_of(self.book.machine().program(), variable) {
             Some(cell) => {
                 self.marks.set_watch(cell)?;
-                push_watch(text, self.recorder.machine().program(), cell)
+                push_watch(text, self.book.machine().program(), cell)
             }
             None => push_command_fault(text, CommandFault::BadArgument),
         }

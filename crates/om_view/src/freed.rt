@@ -3,7 +3,8 @@
 ghost use Rattle.std.specs.Prelude.{◌≡◌, ◌++◌, OnOk};
 ghost use Rattle.om_view.specs.Freed.{FreeRun, free_said};
 
-use om_drive::{Errand, Recorder};
+use om_drive::{Errand, run_freely};
+use om_journal::Book;
 use om_replies::{push_freed, push_full};
 use std::alloc::{AllocError, Global};
 use std::sync::Wait;
@@ -13,17 +14,17 @@ use std::thread::Threads;
 pub(crate) fn free<R: Threads + Wait + Sync>(
     rt: &R,
     alloc: Global,
-    recorder: &mut Recorder,
+    book: &mut Book,
     rounds: u64,
     text: &mut Vec<u8>,
 ) -> Result<(), AllocError>
     ensures { OnOk result ((run : FreeRun)
-        × (text.new.items ≡ text.old.items ++ (free_said run recorder.old).text)
-        × (recorder.new ≡ (free_said run recorder.old).recorded)) }
+        × (text.new.items ≡ text.old.items ++ (free_said run book.old).text)
+        × (book.new ≡ (free_said run book.old).book)) }
 {
     // Each round is a record at least, so more rounds come to no more.
     let rounds = u32::try_from(rounds).unwrap_or(u32::MAX);
-    let count = recorder.free(Errand { rt, alloc, rounds })?;
+    let count = run_freely(book, Errand { rt, alloc, rounds })?;
     if count.full {
         return push_full(text);
     }

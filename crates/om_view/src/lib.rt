@@ -1,6 +1,7 @@
-//! What each command is answered: a machine whose calls are recorded, with breaks and watches.
+//! What each command is answered: a book that it is applied to, with breaks and watches.
 #![tactic(auto)]
 
+mod calls;
 mod debugger;
 mod freed;
 mod local;

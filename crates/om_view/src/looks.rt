@@ -10,12 +10,13 @@ ghost use Rattle.om_replies.specs.Places.{where_text};
 ghost use Rattle.om_cells.specs.Values.{control_in};
 ghost use Rattle.om_view.specs.Looks.{local_said, print_said, where_said, history_said, events_said, output_said, directive_line, ready_line, tasks_text, tasks_said};
 
+use crate::calls::{entries, look, ready};
 use om_cells::value::Task;
 use om_cells::{Control, Val};
 use om_code::Program;
 use om_command::Variable;
-use om_drive::Recorder;
 use om_foot::{Name, Obj};
+use om_journal::Book;
 use om_lookup::line_of;
 use om_replies::{
     GlobalCell, push_events, push_full, push_history, push_local, push_no_tasks, push_output,
@@ -27,19 +28,19 @@ use std::alloc::{AllocError, Global};
 /// Answers `print VAR`.
 pub(crate) fn print(
     alloc: Global,
-    recorder: &mut Recorder,
+    book: &mut Book,
     cell: GlobalCell,
     text: &mut Vec<u8>,
 ) -> Result<(), AllocError>
     ensures text { OnOk result
-        (text.new.items ≡ text.old.items ++ (print_said cell recorder.old).text) }
-    ensures after { OnOk result (recorder.new ≡ (print_said cell recorder.old).recorded) }
+        (text.new.items ≡ text.old.items ++ (print_said cell book.old).text) }
+    ensures after { OnOk result (book.new ≡ (print_said cell book.old).book) }
 {
-    if recorder.is_full() {
+    if book.is_full() {
         return push_full(text);
     }
-    let value = recorder.look(alloc, &cell.object())?;
-    let pushed = push_print(text, recorder.machine().program(), cell, &value);
+    let value = look(alloc, book, cell.object())?;
+    let pushed = push_print(text, book.machine().program(), cell, &value);
     drop(value);
     pushed
 }
@@ -47,20 +48,20 @@ pub(crate) fn print(
 /// Answers `print W VAR`, where the worker sees a cell.
 pub(crate) fn print_local(
     alloc: Global,
-    recorder: &mut Recorder,
+    book: &mut Book,
     variable: &Variable,
     cell: &Obj,
     text: &mut Vec<u8>,
 ) -> Result<(), AllocError>
     ensures text { OnOk result
-        (text.new.items ≡ text.old.items ++ (local_said variable.now cell.now recorder.old).text) }
+        (text.new.items ≡ text.old.items ++ (local_said variable.now cell.now book.old).text) }
     ensures after { OnOk result
-        (recorder.new ≡ (local_said variable.now cell.now recorder.old).recorded) }
+        (book.new ≡ (local_said variable.now cell.now book.old).book) }
 {
-    if recorder.is_full() {
+    if book.is_full() {
         return push_full(text);
     }
-    let value = recorder.look(alloc, cell)?;
+    let value = look(alloc, book, *cell)?;
     let pushed = push_local(text, variable, &value);
     drop(value);
     pushed
@@ -98,75 +99,67 @@ fn push_control(
 /// Answers `where W`.
 pub(crate) fn place(
     alloc: Global,
-    recorder: &mut Recorder,
+    book: &mut Book,
     worker: u8,
     text: &mut Vec<u8>,
 ) -> Result<(), AllocError>
-    requires { worker < recorder.old.machine.workers }
+    requires { worker < book.old.start.workers }
     ensures text { OnOk result
-        (text.new.items ≡ text.old.items ++ (where_said worker recorder.old).text) }
-    ensures after { OnOk result (recorder.new ≡ (where_said worker recorder.old).recorded) }
+        (text.new.items ≡ text.old.items ++ (where_said worker book.old).text) }
+    ensures after { OnOk result (book.new ≡ (where_said worker book.old).book) }
 {
-    if recorder.is_full() {
+    if book.is_full() {
         return push_full(text);
     }
-    let value = recorder.look(alloc, &Obj::Control(worker))?;
-    let pushed = push_control(text, recorder.machine().program(), worker, &value);
+    let value = look(alloc, book, Obj::Control(worker))?;
+    let pushed = push_control(text, book.machine().program(), worker, &value);
     drop(value);
     pushed
 }
 
 /// Answers `history`.
-pub(crate) fn history(
-    alloc: Global,
-    recorder: &mut Recorder,
-    text: &mut Vec<u8>,
-) -> Result<(), AllocError>
+pub(crate) fn history(alloc: Global, book: &mut Book, text: &mut Vec<u8>) -> Result<(), AllocError>
     ensures text { OnOk result
-        (text.new.items ≡ text.old.items ++ (history_said recorder.old).text) }
-    ensures after { OnOk result (recorder.new ≡ (history_said recorder.old).recorded) }
+        (text.new.items ≡ text.old.items ++ (history_said book.old).text) }
+    ensures after { OnOk result (book.new ≡ (history_said book.old).book) }
 {
-    if recorder.is_full() {
+    if book.is_full() {
         return push_full(text);
     }
-    let entries = recorder.entries(alloc)?;
-    push_history(text, &entries)
+    let all = entries(alloc, book)?;
+    push_history(text, all.as_slice())
 }
 
 /// Answers `events W`.
 pub(crate) fn events(
     alloc: Global,
-    recorder: &mut Recorder,
+    book: &mut Book,
     worker: u8,
     text: &mut Vec<u8>,
 ) -> Result<(), AllocError>
     ensures text { OnOk result
-        (text.new.items ≡ text.old.items ++ (events_said worker recorder.old).text) }
-    ensures after { OnOk result (recorder.new ≡ (events_said worker recorder.old).recorded) }
+        (text.new.items ≡ text.old.items ++ (events_said worker book.old).text) }
+    ensures after { OnOk result (book.new ≡ (events_said worker book.old).book) }
 {
-    if recorder.is_full() {
+    if book.is_full() {
         return push_full(text);
     }
-    let value = recorder.look(alloc, &Obj::Events(worker))?;
+    let value = look(alloc, book, Obj::Events(worker))?;
     let pushed = push_events(text, value.records());
     drop(value);
     pushed
 }
 
 /// Answers `output`.
-pub(crate) fn output(
-    alloc: Global,
-    recorder: &mut Recorder,
-    text: &mut Vec<u8>,
-) -> Result<(), AllocError>
+pub(crate) fn output(alloc: Global, book: &mut Book, text: &mut Vec<u8>) -> Result<(), AllocError>
     ensures text { OnOk result
-        (text.new.items ≡ text.old.items ++ (output_said recorder.old).text) }
-    ensures after { OnOk result (recorder.new ≡ (output_said recorder.old).recorded) }
+        (text.new.items ≡ text.old.items ++ (output_said book.old).text) }
+    ensures after { OnOk result (book.new ≡ (output_said book.old).book) }
 {
-    if recorder.is_full() {
+    if book.is_full() {
         return push_full(text);
     }
-    let value = recorder.look(alloc, &Obj::Output)?;
+    let value = look(alloc, book, Obj::Output)?;
     let pushed = push_output(text, value.bytes());
     drop(value);
     pushed
@@ -231,17 +224,13 @@ fn push_tasks(
 }
 
 /// Answers `tasks`.
-pub(crate) fn tasks(
-    alloc: Global,
-    recorder: &mut Recorder,
-    text: &mut Vec<u8>,
-) -> Result<(), AllocError>
-    ensures text { OnOk result (text.new.items ≡ text.old.items ++ (tasks_said recorder.old).text) }
-    ensures after { OnOk result (recorder.new ≡ (tasks_said recorder.old).recorded) }
+pub(crate) fn tasks(alloc: Global, book: &mut Book, text: &mut Vec<u8>) -> Result<(), AllocError>
+    ensures text { OnOk result (text.new.items ≡ text.old.items ++ (tasks_said book.old).text) }
+    ensures after { OnOk result (book.new ≡ (tasks_said book.old).book) }
 {
-    if recorder.is_full() {
+    if book.is_full() {
         return push_full(text);
     }
-    let names = recorder.ready(alloc)?;
-    push_tasks(alloc, recorder.machine(), &names, text)
+    let names = ready(alloc, book)?;
+    push_tasks(alloc, book.machine(), names.as_slice(), text)
 }

@@ -2,10 +2,13 @@
 
 ghost use Rattle.std.specs.Prelude.{◌≡◌, ◌<◌, ◌++◌, ◌&&◌, nat_eq, true, OnOk};
 ghost use Rattle.om_view.specs.Looks.{line_at};
-ghost use Rattle.om_drive.specs.Recorded.{is_done};
+ghost use Rattle.om_journal.specs.declared.reply.Reply.TheVariants as replies;
+ghost use Rattle.om_journal.specs.Books.{machine_of};
+ghost use Rattle.om_journal.specs.Runs.{is_done};
 ghost use Rattle.om_view.specs.Moves.{goes_on, is_undone, step_said, undo_said, next_within, next_said, back_within, back_said, roll_said};
 
-use om_drive::Recorder;
+use crate::calls;
+use om_journal::Book;
 use om_replies::{push_full, push_roll, push_step, push_undo};
 use om_task::Choice;
 use om_undo::{Machine, StepReply, UndoReply};
@@ -24,44 +27,47 @@ struct Stay {
 /// Answers `step W`, and `start W NAME`.
 pub(crate) fn step(
     alloc: Global,
-    recorder: &mut Recorder,
+    book: &mut Book,
     worker: u8,
     choice: Choice,
     text: &mut Vec<u8>,
 ) -> Result<(), AllocError>
-    requires { worker < recorder.old.machine.workers }
+    requires { worker < book.old.start.workers }
     ensures text { OnOk result
-        (text.new.items ≡ text.old.items ++ (step_said worker choice recorder.old).text) }
-    ensures after { OnOk result (recorder.new ≡ (step_said worker choice recorder.old).recorded) }
+        (text.new.items ≡ text.old.items ++ (step_said worker choice book.old).text) }
+    ensures after { OnOk result (book.new ≡ (step_said worker choice book.old).book) }
 {
-    if recorder.is_full() {
+    if book.is_full() {
         return push_full(text);
     }
-    let reply = recorder.step(alloc, worker, choice)?;
+    let reply = calls::step(alloc, book, worker, choice)?;
     push_step(text, worker, reply)
 }
 
 /// Answers `undo W`.
 pub(crate) fn undo(
-    recorder: &mut Recorder,
+    alloc: Global,
+    book: &mut Book,
     worker: u8,
     text: &mut Vec<u8>,
 ) -> Result<(), AllocError>
-    requires { worker < recorder.old.machine.workers }
+    requires { worker < book.old.start.workers }
     ensures text { OnOk result
-        (text.new.items ≡ text.old.items ++ (undo_said worker recorder.old).text) }
-    ensures after { OnOk result (recorder.new ≡ (undo_said worker recorder.old).recorded) }
+        (text.new.items ≡ text.old.items ++ (undo_said worker book.old).text) }
+    ensures after { OnOk result (book.new ≡ (undo_said worker book.old).book) }
 {
-    if recorder.is_full() {
+    if book.is_full() {
         return push_full(text);
     }
-    let reply = recorder.undo(worker);
-    push_undo(text, recorder.machine().program(), worker, &reply)
+    match calls::undo(alloc, book, worker) {
+        Ok(reply) => push_undo(text, book.machine().program(), worker, &reply),
+        Err(error) => Err(error),
+    }
 }
 
 /// Whether a step was made.
 pub(crate) fn is_done(reply: &StepReply) -> bool
-    ensures { result ≡ is_done reply.now }
+    ensures { result ≡ is_done (replies.Step reply.now) }
 {
     matches!(reply, StepReply::Done { .. })
 }
@@ -85,7 +91,7 @@ fn stays(machine: &Machine, stay: Stay) -> bool
 fn steps_on(machine: &Machine, reply: &StepReply, stay: Stay, further: u32) -> bool
     requires { stay.worker < machine.now.workers }
     ensures on { result ≡ goes_on further
-        (is_done reply.now && nat_eq (line_at machine.now stay.worker) stay.line) }
+        (is_done (replies.Step reply.now) && nat_eq (line_at machine.now stay.worker) stay.line) }
     ensures further { result ≡ true → 0 < further }
 {
     further > 0 && is_done(reply) && stays(machine, stay)
@@ -104,25 +110,25 @@ fn undoes_on(machine: &Machine, reply: &UndoReply, stay: Stay, further: u32) -> 
 // Steps, and so many further ones at most while they leave the worker at the line.
 fn next_within(
     alloc: Global,
-    recorder: &mut Recorder,
+    book: &mut Book,
     stay: Stay,
     further: u32,
     text: &mut Vec<u8>,
 ) -> Result<(), AllocError>
-    requires { stay.worker < recorder.old.machine.workers }
+    requires { stay.worker < book.old.start.workers }
     ensures text { OnOk result
         (text.new.items ≡ text.old.items
-        ++ (next_within further stay.line stay.worker recorder.old).text) }
+        ++ (next_within further stay.line stay.worker book.old).text) }
     ensures after { OnOk result
-        (recorder.new ≡ (next_within further stay.line stay.worker recorder.old).recorded) }
+        (book.new ≡ (next_within further stay.line stay.worker book.old).book) }
 {
     let mut further = further;
     'steps: loop {
-        if recorder.is_full() {
+        if book.is_full() {
             return push_full(text);
         }
-        let reply = recorder.step(alloc, stay.worker, Choice::Next)?;
-        if !steps_on(recorder.machine(), &reply, stay, further) {
+        let reply = calls::step(alloc, book, stay.worker, Choice::Next)?;
+        if !steps_on(book.machine(), &reply, stay, further) {
             return push_step(text, stay.worker, reply);
         }
         further -= 1;
@@ -132,41 +138,46 @@ fn next_within(
 /// Answers `next W`.
 pub(crate) fn next(
     alloc: Global,
-    recorder: &mut Recorder,
+    book: &mut Book,
     worker: u8,
     text: &mut Vec<u8>,
 ) -> Result<(), AllocError>
-    requires { worker < recorder.old.machine.workers }
+    requires { worker < book.old.start.workers }
     ensures text { OnOk result
-        (text.new.items ≡ text.old.items ++ (next_said 9999 worker recorder.old).text) }
-    ensures after { OnOk result (recorder.new ≡ (next_said 9999 worker recorder.old).recorded) }
+        (text.new.items ≡ text.old.items ++ (next_said 9999 worker book.old).text) }
+    ensures after { OnOk result (book.new ≡ (next_said 9999 worker book.old).book) }
 {
-    let line = recorder.machine().line(worker);
-    next_within(alloc, recorder, Stay { worker, line }, MOST_FURTHER, text)
+    let line = book.machine().line(worker);
+    next_within(alloc, book, Stay { worker, line }, MOST_FURTHER, text)
 }
 
 // Undoes, and so many further times at most while that leaves the worker at the line.
 fn back_within(
-    recorder: &mut Recorder,
+    alloc: Global,
+    book: &mut Book,
     stay: Stay,
     further: u32,
     text: &mut Vec<u8>,
 ) -> Result<(), AllocError>
-    requires { stay.worker < recorder.old.machine.workers }
+    requires { stay.worker < book.old.start.workers }
     ensures text { OnOk result
         (text.new.items ≡ text.old.items
-        ++ (back_within further stay.line stay.worker recorder.old).text) }
+        ++ (back_within further stay.line stay.worker book.old).text) }
     ensures after { OnOk result
-        (recorder.new ≡ (back_within further stay.line stay.worker recorder.old).recorded) }
+        (book.new ≡ (back_within further stay.line stay.worker book.old).book) }
 {
     let mut further = further;
     'undos: loop {
-        if recorder.is_full() {
+        if book.is_full() {
             return push_full(text);
         }
-        let reply = recorder.undo(stay.worker);
-        if !undoes_on(recorder.machine(), &reply, stay, further) {
-            return push_undo(text, recorder.machine().program(), stay.worker, &reply);
+        match calls::undo(alloc, book, stay.worker) {
+            Ok(reply) => {
+                if !undoes_on(book.machine(), &reply, stay, further) {
+                    return push_undo(text, book.machine().program(), stay.worker, &reply);
+                }
+            }
+            Err(error) => return Err(error),
         }
         further -= 1;
     }
@@ -174,33 +185,34 @@ fn back_within(
 
 /// Answers `back W`.
 pub(crate) fn back(
-    recorder: &mut Recorder,
+    alloc: Global,
+    book: &mut Book,
     worker: u8,
     text: &mut Vec<u8>,
 ) -> Result<(), AllocError>
-    requires { worker < recorder.old.machine.workers }
+    requires { worker < book.old.start.workers }
     ensures text { OnOk result
-        (text.new.items ≡ text.old.items ++ (back_said 9999 worker recorder.old).text) }
-    ensures after { OnOk result (recorder.new ≡ (back_said 9999 worker recorder.old).recorded) }
+        (text.new.items ≡ text.old.items ++ (back_said 9999 worker book.old).text) }
+    ensures after { OnOk result (book.new ≡ (back_said 9999 worker book.old).book) }
 {
-    let line = recorder.machine().line(worker);
-    back_within(recorder, Stay { worker, line }, MOST_FURTHER, text)
+    let line = book.machine().line(worker);
+    back_within(alloc, book, Stay { worker, line }, MOST_FURTHER, text)
 }
 
 /// Answers `roll S`.
 pub(crate) fn roll(
     alloc: Global,
-    recorder: &mut Recorder,
+    book: &mut Book,
     serial: u64,
     text: &mut Vec<u8>,
 ) -> Result<(), AllocError>
     ensures text { OnOk result
-        (text.new.items ≡ text.old.items ++ (roll_said serial recorder.old).text) }
-    ensures after { OnOk result (recorder.new ≡ (roll_said serial recorder.old).recorded) }
+        (text.new.items ≡ text.old.items ++ (roll_said serial book.old).text) }
+    ensures after { OnOk result (book.new ≡ (roll_said serial book.old).book) }
 {
-    if recorder.is_full() {
+    if book.is_full() {
         return push_full(text);
     }
-    let reply = recorder.roll(alloc, serial)?;
+    let reply = calls::roll(alloc, book, serial)?;
     push_roll(text, serial, &reply)
 }

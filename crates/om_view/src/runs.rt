@@ -6,19 +6,21 @@ ghost use Rattle.om_cells.specs.declared.control.Control.TheVariants as controls
 ghost use Rattle.om_cells.specs.Values.{control_in};
 ghost use Rattle.om_undo.specs.ReadyNames.{ready_names};
 ghost use Rattle.om_replies.specs.Stops.{ran_text};
+ghost use Rattle.om_journal.specs.Books.{machine_of};
 ghost use Rattle.om_undo.specs.Machines.{state_in};
-ghost use Rattle.om_view.specs.Runs.{can_step, start_among, move_of, move_among, first_move, has_ended, stop_without_move, moved_by, left_by, moved_of, after_move, run_within};
+ghost use Rattle.om_view.specs.Runs.{can_step, start_among, move_of, move_among, first_move, has_ended, stop_without_move, moved_by, behind_move, moved_of, after_move, run_within};
 
 use crate::marks::Marks;
 use crate::moves::is_done;
 use crate::stops::step_and_stop;
 use om_cells::{Control, Label, Val};
-use om_drive::{Recorder, ready_in};
 use om_foot::{Name, Obj};
+use om_journal::Book;
 use om_replies::{Stop, push_full, push_ran};
 use om_task::Choice;
 use om_task::laws::starts_at_scheduling_points;
 use om_undo::Machine;
+use om_undo::laws::{one_ready_list, ready_names_are_ready};
 use std::alloc::{AllocError, Global};
 
 // Whether a worker can make a step by a choice.
@@ -33,6 +35,15 @@ fn can_step(
 {
     let reply = machine.peek(alloc, worker, choice)?;
     Ok(is_done(&reply))
+}
+
+// The names of the tasks that are ready, ascending.
+fn ready_in(alloc: Global, machine: &Machine) -> Result<Vec<Name>, AllocError>
+    ensures { IfOk result (λ names. names.items ≡ ready_names machine.now) }
+{
+    one_ready_list();
+    ready_names_are_ready();
+    machine.ready(alloc)
 }
 
 // The start of the first of the tasks that a worker can begin.
@@ -141,16 +152,16 @@ fn stop_without_move(alloc: Global, machine: &Machine) -> Result<Stop, AllocErro
 // Tells that a run stops where no worker has a move.
 fn push_without_move(
     alloc: Global,
-    machine: &Machine,
+    book: &Book,
     made: u64,
     text: &mut Vec<u8>,
 ) -> Result<(), AllocError>
     ensures { OnOk result
         (text.new.items ≡ text.old.items
-        ++ ran_text machine.now.program made (stop_without_move machine.now)) }
+        ++ ran_text book.now.start.program made (stop_without_move (machine_of book.now))) }
 {
-    let stop = stop_without_move(alloc, machine)?;
-    push_ran(text, machine.program(), made, stop)
+    let stop = stop_without_move(alloc, book.machine())?;
+    push_ran(text, book.machine().program(), made, stop)
 }
 
 // What came of the first move.
@@ -167,33 +178,28 @@ enum Moved {
 }
 
 // Makes a move, where there is room to record it.
-fn make(
-    alloc: Global,
-    recorder: &mut Recorder,
-    marks: &Marks,
-    label: &Label,
-) -> Result<Moved, AllocError>
-    requires { label.now.worker < recorder.old.machine.workers }
+fn make(alloc: Global, book: &mut Book, marks: &Marks, label: &Label) -> Result<Moved, AllocError>
+    requires { label.now.worker < book.old.start.workers }
     ensures moved { IfOk result
-        (λ moved. moved ≡ moved_by marks.now recorder.old (Some label.now)) }
-    ensures after { OnOk result (recorder.new ≡ left_by recorder.old (Some label.now)) }
+        (λ moved. moved ≡ moved_by marks.now book.old (Some label.now)) }
+    ensures after { OnOk result (book.new ≡ behind_move book.old (Some label.now)) }
 {
-    if recorder.is_full() {
+    if book.is_full() {
         return Ok(Moved::Full);
     }
-    match step_and_stop(alloc, recorder, marks, label)? {
+    match step_and_stop(alloc, book, marks, label)? {
         Some(stop) => Ok(Moved::Stopped(stop)),
         None => Ok(Moved::GoesOn),
     }
 }
 
 // Makes the move of the least worker that has one.
-fn advance(alloc: Global, recorder: &mut Recorder, marks: &Marks) -> Result<Moved, AllocError>
-    ensures moved { IfOk result (λ moved. moved ≡ moved_of marks.now recorder.old) }
-    ensures after { OnOk result (recorder.new ≡ after_move recorder.old) }
+fn advance(alloc: Global, book: &mut Book, marks: &Marks) -> Result<Moved, AllocError>
+    ensures moved { IfOk result (λ moved. moved ≡ moved_of marks.now book.old) }
+    ensures after { OnOk result (book.new ≡ after_move book.old) }
 {
-    match first_move(alloc, recorder.machine())? {
-        Some(Label { worker, choice }) => make(alloc, recorder, marks, &Label { worker, choice }),
+    match first_move(alloc, book.machine())? {
+        Some(Label { worker, choice }) => make(alloc, book, marks, &Label { worker, choice }),
         None => Ok(Moved::NoMove),
     }
 }
@@ -201,29 +207,29 @@ fn advance(alloc: Global, recorder: &mut Recorder, marks: &Marks) -> Result<Move
 /// Answers `run K`.
 pub(crate) fn run(
     alloc: Global,
-    recorder: &mut Recorder,
+    book: &mut Book,
     marks: &Marks,
     steps: u32,
     text: &mut Vec<u8>,
 ) -> Result<(), AllocError>
     ensures text { OnOk result
-        (text.new.items ≡ text.old.items ++ (run_within steps 0 marks.now recorder.old).text) }
+        (text.new.items ≡ text.old.items ++ (run_within steps 0 marks.now book.old).text) }
     ensures after { OnOk result
-        (recorder.new ≡ (run_within steps 0 marks.now recorder.old).recorded) }
+        (book.new ≡ (run_within steps 0 marks.now book.old).book) }
 {
     let mut left = steps;
     let mut made = 0;
     'steps: while left > 0 {
-        match advance(alloc, recorder, marks)? {
-            Moved::NoMove => return push_without_move(alloc, recorder.machine(), made, text),
+        match advance(alloc, book, marks)? {
+            Moved::NoMove => return push_without_move(alloc, book, made, text),
             Moved::Full => return push_full(text),
             Moved::Stopped(stop) => {
-                return push_ran(text, recorder.machine().program(), made + 1, stop);
+                return push_ran(text, book.machine().program(), made + 1, stop);
             }
             Moved::GoesOn => {}
         }
         made += 1;
         left -= 1;
     }
-    push_ran(text, recorder.machine().program(), made, Stop::Limit)
+    push_ran(text, book.machine().program(), made, Stop::Limit)
 }

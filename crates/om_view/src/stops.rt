@@ -3,13 +3,15 @@
 ghost use Rattle.std.specs.Prelude.{◌≡◌, ◌<◌, ◌≤◌, nat_le, map, IfOk, OnOk};
 ghost use Rattle.om_undo.specs.Machines.{state_in};
 ghost use Rattle.om_view.specs.Looks.{line_at};
-ghost use Rattle.om_drive.specs.Recorded.{recorded_step};
+ghost use Rattle.om_journal.specs.Books.{machine_of, records_of};
+ghost use Rattle.om_view.specs.Calls.{with_step};
 ghost use Rattle.om_view.specs.Stops.{or_else, fault_stop, break_stop, cell_eq, value_of, watched, watch_stop, stop_behind};
 
+use crate::calls::step;
 use crate::marks::{Marks, has_line};
 use om_cells::Label;
 use om_code::frame::Cell;
-use om_drive::Recorder;
+use om_journal::Book;
 use om_replies::{GlobalCell, Stop};
 use om_undo::{Machine, StepReply};
 use std::alloc::{AllocError, Global};
@@ -125,21 +127,22 @@ fn or_else(first: Option<Stop>, second: Option<Stop>) -> Option<Stop>
 /// Takes a step that can be taken, and answers why a run stops behind it, if it does.
 pub(crate) fn step_and_stop(
     alloc: Global,
-    recorder: &mut Recorder,
+    book: &mut Book,
     marks: &Marks,
     label: &Label,
 ) -> Result<Option<Stop>, AllocError>
-    requires in_range { label.now.worker < recorder.old.machine.workers }
-    requires room { recorder.old.records < 200000 }
+    requires in_range { label.now.worker < book.old.start.workers }
+    requires room { records_of book.old < 200000 }
     ensures stop { IfOk result
-        (λ stop. stop ≡ stop_behind marks.now recorder.old.machine label.now) }
-    ensures after { OnOk result (recorder.new ≡ recorded_step recorder.old label.now) }
+        (λ stop. stop ≡ stop_behind marks.now (machine_of book.old)
+        (machine_of (with_step book.old label.now)) label.now) }
+    ensures after { OnOk result (book.new ≡ with_step book.old label.now) }
 {
     let worker = label.worker;
-    let line = recorder.machine().line(worker);
-    let all = held_by(alloc, recorder.machine(), marks.watches.as_slice())?;
-    let reply = recorder.step(alloc, worker, label.choice)?;
-    let machine = recorder.machine();
+    let line = book.machine().line(worker);
+    let all = held_by(alloc, book.machine(), marks.watches.as_slice())?;
+    let reply = step(alloc, book, worker, label.choice)?;
+    let machine = book.machine();
     let breaks = break_stop(marks.breaks.as_slice(), line, machine.line(worker), worker);
     let watches = watch_stop(alloc, machine, &all, worker)?;
     Ok(or_else(fault_stop(&reply, worker), or_else(breaks, watches)))

@@ -20,5 +20,5 @@ pub returns-in-Ok-clause-done : goal.returns-in-Ok-clause-done
 returns-in-Ok-clause-done g c =
     let new : c.in_ok-session.session.debugger ≡ opened c.args.program c.args.host.now.workers = search rules in
     let done = rw new at c.in-Ok.ensures.done in
-    let left : c.accepted.result.debugger ≡ Some c.converse.new.session.debugger = search rules in
-    (done.0, rw left done.1)
+    let left : c.accepted.result.book ≡ Some c.converse.new.session.debugger.book = search rules in
+    (done.0, record { view = Some c.converse.new.session.debugger; done = done.1; book_is = left })

@@ -16,5 +16,5 @@ returns-in_err-tell-in-Err-clause-broken_off g c =
 pub returns-in_ok-tell-in-Err-clause-served : goal.returns-in_ok-tell-in-Err-clause-served
 returns-in_ok-tell-in-Err-clause-served g c =
     let other : c.in-Err.fault.code ≢ Memory = search rules in
-    rw (c.refused.ensures.status, c.refused.ensures.debugger) (ServesAlone_refused _ _ _ _ c.in-Err.fault
+    rw (c.refused.ensures.status, c.refused.ensures.book) (ServesAlone_refused _ _ _ _ c.in-Err.fault
     (is_refused _ _ c.in-Err.ensures.refused other) c.in_ok-tell-in-Err.ensures.told)

@@ -1,18 +1,32 @@
-use Rattle.std.proofs.Common.{◌∙◌, ◌++◌, true, false, ap}
+use Rattle.std.proofs.Common.{◌≡◌, ◌∙◌, ◌++◌, Bool, true, false, ap, map}
 use Rattle.std.proofs.lemmas.Result.{on_ok_weaker}
+use Rattle.om_drive.specs.FreeRuns.{gained, with_records}
+use Rattle.om_journal.specs.Books.{machine_of}
+use Rattle.om_journal.specs.Journals.{done_in}
 use Rattle.om_replies.specs.Stops.{freed_text}
+use Rattle.om_view.specs.Freed.{FreeRun, made_by}
+use Rattle.om_view.proofs.Bounded.{call_of, legal_records}
 use Rattle.om_view.proofs.freed.free.Goals as goal
 
 pub returns-then-count : goal.returns-then-count
 returns-then-count g c =
-    let done = c.in_ok-count.ensures in
-    on_ok_weaker c.push_full.result (λ said. (record { calls = done.0; full = true }, said, done.2)) c.push_full.ensures
+    let old = c.args.book.now in
+    let ran = c.in_ok-count.ensures.goes_on in
+    let calls = gained old c.run_freely.new.book in
+    let run : FreeRun = record { calls = map call_of calls; full = true } in
+    on_ok_weaker c.push_full.result
+    (λ said. (run, said, ran.grown ∙ ap (with_records old) (legal_records (machine_of old) calls ran.legal)))
+    c.push_full.ensures
 
 pub returns : goal.returns
 returns g c =
-    let done = c.in_ok-count.ensures in
+    let old = c.args.book.now in
+    let ran = c.in_ok-count.ensures.goes_on in
+    let calls = gained old c.run_freely.new.book in
+    let run : FreeRun = record { calls = map call_of calls; full = false } in
+    let same : calls ≡ made_by run old = legal_records (machine_of old) calls ran.legal in
     on_ok_weaker c.push_freed.result (λ said. (
-      record { calls = done.0; full = false },
-      said ∙ ap (λ n. c.args.text.now.items ++ freed_text n) done.1,
-      done.2,
+      run,
+      said ∙ ap (λ n. c.args.text.now.items ++ freed_text n) (c.in_ok-count.ensures.done ∙ ap done_in same),
+      ran.grown ∙ ap (with_records old) same,
     )) c.push_freed.ensures

@@ -6,7 +6,7 @@ returns-clause-text c =
     rw (sym c.is_full.ensures ∙ c.if-is_full.false)
     (rw (
       c.program.ensures,
-      c.machine.ensures,
+      c.machine.ensures.program,
       c.in_ok-value.ensures.after,
       c.in_ok-value.ensures.value,
       c.object.ensures,

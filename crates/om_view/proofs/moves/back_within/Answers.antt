@@ -16,31 +16,31 @@ returns-then-is_full-clause-after c =
 pub returns-then-not-undoes_on-clause-text : goal.returns-then-not-undoes_on-clause-text
 returns-then-not-undoes_on-clause-text c =
     let room = sym c.is_full.ensures ∙ c.if-is_full.false in
-    let stops = rw (c.undo-reply.ensures.reply, c.machine.ensures, c.undo-reply.ensures.after) at
+    let stops = rw (c.in-Ok.ensures.reply, c.machine.ensures.left, c.in-Ok.ensures.after) at
     (sym c.undoes_on.ensures.on ∙ c.if-not-undoes_on.true) in
     let said = sym c.undos.invariant.said ∙ back_stops _ _ _ _ room stops in
     rw said (rw (
       c.program.ensures,
-      c.machine-then-not-undoes_on.ensures,
-      c.undo-reply.ensures.after,
-      c.undo-reply.ensures.reply,
+      c.machine-then-not-undoes_on.ensures.program,
+      c.in-Ok.ensures.after,
+      c.in-Ok.ensures.reply,
       c.undos.invariant.text,
     ) at c.push_undo.ensures)
 
 pub returns-then-not-undoes_on-clause-after : goal.returns-then-not-undoes_on-clause-after
 returns-then-not-undoes_on-clause-after c =
     let room = sym c.is_full.ensures ∙ c.if-is_full.false in
-    let stops = rw (c.undo-reply.ensures.reply, c.machine.ensures, c.undo-reply.ensures.after) at
+    let stops = rw (c.in-Ok.ensures.reply, c.machine.ensures.left, c.in-Ok.ensures.after) at
     (sym c.undoes_on.ensures.on ∙ c.if-not-undoes_on.true) in
     let said = sym c.undos.invariant.said ∙ back_stops _ _ _ _ room stops in
-    rw said (on_ok_weaker c.push_undo.result (λ _. c.undo-reply.ensures.after) c.push_undo.ensures)
+    rw said (on_ok_weaker c.push_undo.result (λ _. c.in-Ok.ensures.after) c.push_undo.ensures)
 
 pub undos-preserved : goal.undos-preserved
 undos-preserved c =
     let room = sym c.is_full.ensures ∙ c.if-is_full.false in
-    let on = rw (c.undo-reply.ensures.reply, c.machine.ensures, c.undo-reply.ensures.after) at
+    let on = rw (c.in-Ok.ensures.reply, c.machine.ensures.left, c.in-Ok.ensures.after) at
     (sym c.undoes_on.ensures.on ∙ c.if-not-undoes_on.false) in
-    rw c.undo-reply.ensures.after (record {
+    rw c.in-Ok.ensures.after (record {
       said = back_goes_on _ _ _ _ room on ∙ c.undos.invariant.said;
       text = c.undos.invariant.text;
       in_range = c.undos.invariant.in_range;

@@ -5,10 +5,10 @@ use Rattle.om_view.proofs.moves.back_within.Given as goal
 -- what is said from here on is what is said in all
 abbrev pub invariant-undos : goal.invariant-undos
 invariant-undos l = record {
-  said : back_within l.further l.stay.line l.stay.worker l.recorder ≡ back_within l.initial.further l.stay.line
-      l.stay.worker l.initial.recorder;
+  said : back_within l.further l.stay.line l.stay.worker l.book ≡ back_within l.initial.further l.stay.line
+      l.stay.worker l.initial.book;
   text : l.text.items ≡ l.initial.text.items;
-  in_range : l.stay.worker < l.recorder.machine.workers;
+  in_range : l.stay.worker < l.book.start.workers;
 }
 
 abbrev pub decreases-undos : goal.decreases-undos

@@ -16,7 +16,7 @@ returns-then-is_full-clause-after c =
 pub returns-then-not-steps_on-clause-text : goal.returns-then-not-steps_on-clause-text
 returns-then-not-steps_on-clause-text c =
     let room = sym c.is_full.ensures ∙ c.if-is_full.false in
-    let stops = rw (c.in_ok-reply.ensures.reply, c.machine.ensures, c.in_ok-reply.ensures.after) at
+    let stops = rw (c.in_ok-reply.ensures.reply, c.machine.ensures.left, c.in_ok-reply.ensures.after) at
     (sym c.steps_on.ensures.on ∙ c.if-not-steps_on.true) in
     let said = sym c.steps.invariant.said ∙ next_stops _ _ _ _ room stops in
     rw said (rw (c.in_ok-reply.ensures.reply, c.steps.invariant.text) at c.push_step.ensures)
@@ -24,7 +24,7 @@ returns-then-not-steps_on-clause-text c =
 pub returns-then-not-steps_on-clause-after : goal.returns-then-not-steps_on-clause-after
 returns-then-not-steps_on-clause-after c =
     let room = sym c.is_full.ensures ∙ c.if-is_full.false in
-    let stops = rw (c.in_ok-reply.ensures.reply, c.machine.ensures, c.in_ok-reply.ensures.after) at
+    let stops = rw (c.in_ok-reply.ensures.reply, c.machine.ensures.left, c.in_ok-reply.ensures.after) at
     (sym c.steps_on.ensures.on ∙ c.if-not-steps_on.true) in
     let said = sym c.steps.invariant.said ∙ next_stops _ _ _ _ room stops in
     rw said (on_ok_weaker c.push_step.result (λ _. c.in_ok-reply.ensures.after) c.push_step.ensures)
@@ -32,7 +32,7 @@ returns-then-not-steps_on-clause-after c =
 pub steps-preserved : goal.steps-preserved
 steps-preserved c =
     let room = sym c.is_full.ensures ∙ c.if-is_full.false in
-    let on = rw (c.in_ok-reply.ensures.reply, c.machine.ensures, c.in_ok-reply.ensures.after) at
+    let on = rw (c.in_ok-reply.ensures.reply, c.machine.ensures.left, c.in_ok-reply.ensures.after) at
     (sym c.steps_on.ensures.on ∙ c.if-not-steps_on.false) in
     rw c.in_ok-reply.ensures.after (record {
       said = next_goes_on _ _ _ _ room on ∙ c.steps.invariant.said;

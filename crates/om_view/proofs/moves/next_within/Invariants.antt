@@ -5,10 +5,10 @@ use Rattle.om_view.proofs.moves.next_within.Given as goal
 -- what is said from here on is what is said in all
 abbrev pub invariant-steps : goal.invariant-steps
 invariant-steps l = record {
-  said : next_within l.further l.stay.line l.stay.worker l.recorder ≡ next_within l.initial.further l.stay.line
-      l.stay.worker l.initial.recorder;
+  said : next_within l.further l.stay.line l.stay.worker l.book ≡ next_within l.initial.further l.stay.line
+      l.stay.worker l.initial.book;
   text : l.text.items ≡ l.initial.text.items;
-  in_range : l.stay.worker < l.recorder.machine.workers;
+  in_range : l.stay.worker < l.book.start.workers;
 }
 
 abbrev pub decreases-steps : goal.decreases-steps

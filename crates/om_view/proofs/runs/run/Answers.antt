@@ -7,7 +7,7 @@ pub returns-in-NoMove-clause-text : goal.returns-in-NoMove-clause-text
 returns-in-NoMove-clause-text c =
     let came = sym c.in_ok-advance.ensures.moved ∙ c.in-NoMove.is in
     let said = sym c.steps.invariant.said ∙ run_came _ _ _ _ _ c.steps-test.true came in
-    rw said (rw (c.machine.ensures, c.in_ok-advance.ensures.after, c.steps.invariant.text) at
+    rw said (rw (c.in_ok-advance.ensures.after, c.steps.invariant.text) at
     c.push_without_move.ensures)
 
 pub returns-in-NoMove-clause-after : goal.returns-in-NoMove-clause-after
@@ -34,7 +34,7 @@ returns-in-Stopped-clause-text c =
     let said = sym c.steps.invariant.said ∙ run_came _ _ _ _ _ c.steps-test.true came in
     rw said (rw (
       c.program.ensures,
-      c.machine-in-Stopped.ensures,
+      c.machine.ensures.program,
       c.in_ok-advance.ensures.after,
       c.steps.invariant.text,
     ) at c.push_ran.ensures)

@@ -15,9 +15,9 @@ returns-clause-stop c =
       c.as_slice.ensures,
       c.line-line.ensures,
       c.line.ensures,
-      c.machine.ensures,
-      c.machine-2.ensures,
-      c.machine-machine.ensures,
+      c.machine.ensures.left,
+      c.machine-2.ensures.left,
+      c.machine-machine.ensures.left,
       c.in_ok-reply.ensures.after,
       c.in_ok-reply.ensures.reply,
     ) refl

@@ -1,4 +1,4 @@
-use Rattle.std.proofs.Common.{rules, arith, ◌<◌, ◌+◌, length}
+use Rattle.std.proofs.Common.{rules, arith, ◌<◌, length}
 use Rattle.std.proofs.lemmas.Grind.{common_steps}
 use Rattle.om_journal.proofs.Growing.{sound_next, sound_same}
 use Rattle.om_journal.proofs.book.Book.apply_with_copy.Goals.{in-Ok, in-Err}
@@ -6,13 +6,12 @@ use Rattle.om_journal.proofs.book.Book.apply_with_copy.Goals as goal
 
 pub invariant_of-self : goal.invariant_of-self
 invariant_of-self c =
-    let before = c.self.inside.before in
     let journal = c.self.inside.journal.items in
     elim c.match-append.branch [
       | in-Ok w ↦
-          let room : before + length journal < 200000 = grind (arith, common_steps) in
-          sound_next c.self.inside.machine _ _ before journal _ c.args.seat c.args.command w.in-Ok.replies.0
+          let room : length journal < 200000 = grind (arith, common_steps) in
+          sound_next c.self.inside.machine _ _ journal _ c.args.seat c.args.command w.in-Ok.replies.0
           c.self.invariant room
           (search rules) (search rules) (search rules)
-      | in-Err w ↦ sound_same c.self.inside.machine _ _ before journal _ c.self.invariant (search rules) (search rules)
+      | in-Err w ↦ sound_same c.self.inside.machine _ _ journal _ c.self.invariant (search rules) (search rules)
     ]

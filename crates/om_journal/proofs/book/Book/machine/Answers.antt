@@ -7,7 +7,6 @@ returns-clause-run c =
     let inside = c.self.inside in
     let is : c.args.self.now ≡ record {
       start = inside.start.value;
-      before = inside.before;
       journal = inside.journal.items;
     } = search rules in
-    rw is (sound_run inside.machine inside.start.value inside.before inside.journal.items c.self.invariant)
+    rw is (sound_run inside.machine inside.start.value inside.journal.items c.self.invariant)

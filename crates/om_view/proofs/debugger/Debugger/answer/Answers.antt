@@ -8,9 +8,9 @@ use Rattle.om_view.proofs.debugger.Debugger.answer.Goals as goal
 pub returns-in-Some : goal.returns-in-Some
 returns-in-Some g c =
     let d = c.args.self.now in
-    let asked : c.in_ok-request.request ≡ request_of d.recorder.machine.workers c.args.line.now = search rules in
+    let asked : c.in_ok-request.request ≡ request_of d.book.start.workers c.args.line.now = search rules in
     let run = c.in_ok-free-in-Some.ensures.0 in (
-      (free_said run d.recorder).text,
+      (free_said run d.book).text,
       search rules,
       record {
         runs = run ∷ [];
@@ -22,7 +22,7 @@ returns-in-Some g c =
 pub returns : goal.returns
 returns g c =
     let d = c.args.self.now in
-    let asked : c.in_ok-request.request ≡ request_of d.recorder.machine.workers c.args.line.now = search rules in (
+    let asked : c.in_ok-request.request ≡ request_of d.book.start.workers c.args.line.now = search rules in (
       (answer_to d no_run c.in_ok-request.request).text,
       search rules,
       record {

@@ -8,5 +8,5 @@ returns-in-Start-clause-text c = rw c.in-Start.is (rw c.name.ensures at c.step-i
 pub returns-in-Start-clause-view : goal.returns-in-Start-clause-view
 returns-in-Start-clause-view c =
     rw c.in-Start.is (on_ok_weaker c.step-in-Start.result
-    (λ e. ap (λ r. record { recorder = r; marks = c.args.self.now.marks }) e)
+    (λ e. ap (λ r. record { book = r; marks = c.args.self.now.marks }) e)
     (rw c.name.ensures at c.step-in-Start.ensures.after))

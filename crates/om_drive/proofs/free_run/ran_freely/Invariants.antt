@@ -1,4 +1,4 @@
-use Rattle.om_drive.proofs.recorder.Recorder.freed.Given as goal
+use Rattle.om_drive.proofs.free_run.ran_freely.Given as goal
 
 abbrev pub ghosts-run_through-L-Ledger : goal.ghosts-run_through-L-Ledger
 ghosts-run_through-L-Ledger g a = record { name = a.blank.ledger.name; parts = a.blank.ledger.parts }

@@ -1,5 +1,5 @@
 use Rattle.std.proofs.lemmas.Result.{IfOk-weaker}
-use Rattle.om_drive.proofs.recorder.ready_in.Goals as goal
+use Rattle.om_view.proofs.runs.ready_in.Goals as goal
 
 pub returns : goal.returns
 returns c = IfOk-weaker c.ready.result _ _
