@@ -6,7 +6,7 @@ use std::alloc::{AllocError, Global};
 use std::sync::Wait;
 use std::thread::Threads;
 
-/// A program of six steps by one worker.
+/// A program of eight steps by one worker: two for the first statement, four for the second, two to return.
 const SOURCE: &str = "int x; int main(void){ x = 1; x = x + 2; return x; }";
 
 /// How many looks leave room for two records.
@@ -48,7 +48,7 @@ pub(crate) fn book_has_a_free_run<R: Threads + Wait + Sync>(
         .iter()
         .filter(|answered| answered.seat == 1)
         .count();
-    Ok(entries.len() == 6 && book.journal().len() == 18 && seconds == 8)
+    Ok(entries.len() == 8 && book.journal().len() == 18 && seconds == 8)
 }
 
 /// The book that commands leave, by two workers.
