@@ -1,7 +1,7 @@
 //! Commands and replies as a journal keeps them: what is large and rare lies apart, so that records are small.
 
 ghost use Rattle.std.specs.Prelude.{◌≡◌, IfOk, OnErr, true};
-ghost use Rattle.om_journal.specs.Kept.{command_in, undo_reply_in, is_conflict};
+ghost use Rattle.om_journal.specs.Kept.{command_in, object_in, undo_reply_in, is_conflict};
 
 use crate::command::{Command, Query};
 use om_foot::{Name, Obj};
@@ -11,14 +11,61 @@ use om_undo::UndoReply;
 use std::alloc::{AllocError, Global};
 use std::marker::Model;
 
-/// The parts of a command. Few start a task or ask what an object holds, so names and objects lie apart.
+/// The parts of an object. What has a name in it is large, and lies apart.
+#[derive(Drop)]
+enum ObjectParts {
+    Control(u8),
+    Global { variable: u32, index: u32 },
+    Lock(u32),
+    Output,
+    Events(u8),
+    Named(Box<Obj>),
+}
+
+/// The parts of an object, to be kept. Its only error is out of memory.
+fn object_parts_of(alloc: Global, object: &Obj) -> Result<ObjectParts, AllocError>
+    ensures { IfOk result (λ parts. object_in parts ≡ object.now) }
+{
+    match object {
+        Obj::Control(worker) => Ok(ObjectParts::Control(*worker)),
+        Obj::Global { variable, index } => Ok(ObjectParts::Global {
+            variable: *variable,
+            index: *index,
+        }),
+        Obj::Lock(number) => Ok(ObjectParts::Lock(*number)),
+        Obj::Output => Ok(ObjectParts::Output),
+        Obj::Events(worker) => Ok(ObjectParts::Events(*worker)),
+        named => Ok(ObjectParts::Named(Box::new(alloc, *named)?)),
+    }
+}
+
+impl ObjectParts {
+    /// The object.
+    fn get(&self) -> Obj
+        ensures { result ≡ object_in self.now }
+    {
+        match self {
+            ObjectParts::Control(worker) => Obj::Control(*worker),
+            ObjectParts::Global { variable, index } => Obj::Global {
+                variable: *variable,
+                index: *index,
+            },
+            ObjectParts::Lock(number) => Obj::Lock(*number),
+            ObjectParts::Output => Obj::Output,
+            ObjectParts::Events(worker) => Obj::Events(*worker),
+            ObjectParts::Named(object) => **object,
+        }
+    }
+}
+
+/// The parts of a command. Few start a task, so the names of tasks lie apart.
 #[derive(Drop)]
 enum CommandParts {
     Next(u8),
     Start { worker: u8, task: Box<Name> },
     Undo(u8),
     Roll(u64),
-    Value(Box<Obj>),
+    Value(ObjectParts),
     Ready,
     Entries,
 }
@@ -59,7 +106,7 @@ fn parts_of(alloc: Global, command: &Command) -> Result<CommandParts, AllocError
         Command::Undo(worker) => Ok(CommandParts::Undo(*worker)),
         Command::Roll(serial) => Ok(CommandParts::Roll(*serial)),
         Command::Look(Query::Value(object)) => {
-            Ok(CommandParts::Value(Box::new(alloc, *object)?))
+            Ok(CommandParts::Value(object_parts_of(alloc, object)?))
         }
         Command::Look(Query::Ready) => Ok(CommandParts::Ready),
         Command::Look(Query::Entries) => Ok(CommandParts::Entries),
@@ -91,7 +138,7 @@ impl KeptCommand {
             },
             CommandParts::Undo(worker) => Command::Undo(*worker),
             CommandParts::Roll(serial) => Command::Roll(*serial),
-            CommandParts::Value(object) => Command::Look(Query::Value(**object)),
+            CommandParts::Value(object) => Command::Look(Query::Value(object.get())),
             CommandParts::Ready => Command::Look(Query::Ready),
             CommandParts::Entries => Command::Look(Query::Entries),
         }
@@ -104,7 +151,7 @@ impl Same for KeptCommand {
     }
 }
 
-/// The parts of what an undo is answered. Few are refused, so the object of a conflict lies apart.
+/// The parts of what an undo is answered.
 #[derive(Drop)]
 enum UndoParts {
     Undone {
@@ -114,7 +161,7 @@ enum UndoParts {
     Conflict {
         serial: u64,
         worker: u8,
-        object: Box<Obj>,
+        object: ObjectParts,
     },
     Nothing,
 }
@@ -153,7 +200,7 @@ fn undo_parts_of(alloc: Global, reply: &UndoReply) -> Result<UndoParts, AllocErr
         } => Ok(UndoParts::Conflict {
             serial: *serial,
             worker: *worker,
-            object: Box::new(alloc, *object)?,
+            object: object_parts_of(alloc, object)?,
         }),
         UndoReply::Nothing => Ok(UndoParts::Nothing),
     }
@@ -187,7 +234,7 @@ impl KeptUndoReply {
             } => UndoReply::Conflict {
                 serial: *serial,
                 worker: *worker,
-                object: **object,
+                object: object.get(),
             },
             UndoParts::Nothing => UndoReply::Nothing,
         }
