@@ -59,7 +59,7 @@ def of_debugger(program, folder):
     yield "a source with a byte that is no text, behind a comment with one", (1, b"refused S2 line 2 column 5\n", b""), run([program, latin])
     yield "a command with bytes that are no text", (0, b"H1 unknown command\n", b""), run([program, good], b"st\xff\xfe 0\n")
     yield "a command with a byte 0", (0, b"H2 bad argument\n", b""), run([program, good], b"step 0\0\n")
-    yield "a line of a million bytes", (0, b"H1 unknown command\nx = 0\n", b""), run([program, good], b"x" * 1_000_000 + b"\nprint x\n")
+    yield "a line of a million bytes", (0, b"H2 bad argument\nx = 0\n", b""), run([program, good], b"x" * 1_000_000 + b"\nprint x\n")
     yield "a word of the command line that is no text", (2, b"", None), run([program.encode(), b"\xff\xfe.c"])
     yield "an option that is no text", (2, b"", None), run([program.encode(), b"--threads=\xff"])
     yield "an empty word of the command line", (3, b"", b"H3\n"), run([program, ""])
