@@ -45,7 +45,7 @@ fn source_in<R: Files>(
 }
 
 // Does what is asked for over standard input and output, and answers the exit status.
-fn done<R: Input + Print + Threads + Wait + Sync>(
+fn done<R: Runtime + Threads + Wait + Sync>(
     host: &Host<'_, R>,
     options: Options<'_>,
     asked: Asked<'_>,
@@ -79,7 +79,7 @@ fn done<R: Input + Print + Threads + Wait + Sync>(
 }
 
 // Does what the words ask for, and tells how it ended.
-fn outcome_of<R: Files + Input + Print + Threads + Wait + Sync>(
+fn outcome_of<R: Runtime + Threads + Wait + Sync>(
     rt: &R,
     alloc: Global,
     words: Words<'_>,

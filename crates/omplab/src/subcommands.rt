@@ -7,10 +7,11 @@ use om_draw::{Page, page};
 use om_hunt::{Aims, Hunted, push_report};
 use om_notes::annotate;
 use om_report::report;
-use om_script::{Script, cone, script};
+use om_script::{Script, ScriptFault, cone, script};
 use om_shell::{Options, ShellFault, send};
 use std::alloc::Global;
 use std::io::{Read, Write};
+use std::rt::Runtime;
 use std::sync::Wait;
 use std::thread::Threads;
 
@@ -19,7 +20,11 @@ const DONE: u8 = 0;
 
 const REFUSED: u8 = 1;
 
+// The exit status where a script does not lead where it is to lead.
+const BROKEN: u8 = 3;
+
 /// Where a subcommand runs.
+#[derive(Drop)]
 pub(crate) struct Host<'a, H> {
     pub(crate) rt: &'a H,
     pub(crate) alloc: Global,
@@ -33,12 +38,11 @@ pub(crate) fn check<W: Write>(
     writer: &mut W,
 ) -> Result<u8, ShellFault> {
     let report = report(alloc, file, options.source.unwrap_or(&[]), options.workers)?;
-    send(writer, report.text.as_slice())?;
-    Ok(report.status)
+    written(writer, &report.text, report.status)
 }
 
 /// Tries schedules by chance, and writes the first that is bad, made short.
-pub(crate) fn hunt<H: Print + Threads + Wait + Sync, W: Write>(
+pub(crate) fn hunt<H: Runtime + Threads + Wait + Sync, W: Write>(
     host: &Host<'_, H>,
     source: &[u8],
     aims: &Aims<'_>,
@@ -51,11 +55,11 @@ pub(crate) fn hunt<H: Print + Threads + Wait + Sync, W: Write>(
     let hunted = om_hunt::hunt(host.rt, host.alloc, source, aims, &mut meter)?;
     let mut text = Vec::new(host.alloc);
     push_report(&mut text, &hunted)?;
-    send(writer, text.as_slice())?;
-    match hunted {
-        Hunted::Nothing { .. } => Ok(DONE),
-        _ => Ok(REFUSED),
-    }
+    let status = match hunted {
+        Hunted::Nothing { .. } => DONE,
+        _ => REFUSED,
+    };
+    written(writer, &text, status)
 }
 
 /// Passes answers on, with words behind them.
@@ -70,7 +74,7 @@ pub(crate) fn explain<R: Read, W: Write>(
 }
 
 /// Writes the steps that a session leaves as a script, or those of a cone.
-pub(crate) fn keep<H: Threads + Wait + Sync, R: Read, W: Write>(
+pub(crate) fn keep<H: Runtime + Threads + Wait + Sync, R: Read, W: Write>(
     host: &Host<'_, H>,
     options: Options<'_>,
     serial: Option<u64>,
@@ -84,14 +88,13 @@ pub(crate) fn keep<H: Threads + Wait + Sync, R: Read, W: Write>(
         Some(serial) => cone(host.rt, host.alloc, reader, options, serial),
         None => script(host.rt, host.alloc, reader, options),
     };
-    match kept? {
-        Script::Steps(text) => {
-            send(writer, text.as_slice())?;
-            Ok(DONE)
-        }
-        Script::Refused(line) => {
-            send(writer, line.as_slice())?;
-            Ok(REFUSED)
+    match kept {
+        Ok(Script::Steps(text)) => written(writer, &text, DONE),
+        Ok(Script::Refused(line)) => written(writer, &line, REFUSED),
+        Err(ScriptFault::Shell(fault)) => Err(fault),
+        Err(fault) => {
+            let _ = host.rt.eprintln(fault);
+            Ok(BROKEN)
         }
     }
 }
@@ -107,13 +110,13 @@ pub(crate) fn draw<H: Threads + Wait + Sync, R: Read, W: Write>(
     requires most { options.workers ≤ 32 }
 {
     match page(host.rt, host.alloc, reader, options)? {
-        Page::Drawn(text) => {
-            send(writer, text.as_slice())?;
-            Ok(DONE)
-        }
-        Page::Refused(line) => {
-            send(writer, line.as_slice())?;
-            Ok(REFUSED)
-        }
+        Page::Drawn(text) => written(writer, &text, DONE),
+        Page::Refused(line) => written(writer, &line, REFUSED),
     }
+}
+
+// Writes a text, and answers the exit status that goes with it.
+fn written<W: Write>(writer: &mut W, text: &Vec<u8>, status: u8) -> Result<u8, ShellFault> {
+    send(writer, text.as_slice())?;
+    Ok(status)
 }
