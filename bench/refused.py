@@ -1,5 +1,6 @@
 #!/usr/bin/env python3
 """refused.py PROGRAM [INPUT]: each request for memory, each read and each write of a run is refused in turn.
+refused.py PROGRAM --sessions: the same of each session of bench/refused, by its name.
 refused.py CASES --case TITLE: each request for memory of one case is refused in turn.
 refused.py PROGRAM --requests: counts the requests for memory of the first load in frame 900 of a recursion.
 
@@ -144,6 +145,16 @@ def count_requests(program):
     return int(wrong)
 
 
+def count_sessions(program, folder):
+    """Runs each session of a folder with each call refused in turn, and gives 1 where one run is wrong."""
+    wrong = 0
+    for name in sorted(os.listdir(folder)):
+        print(f"{name}:")
+        with open(os.path.join(folder, name), "rb") as f:
+            wrong |= count_runs([program], f.read(), FAULTS, ends_well)
+    return wrong
+
+
 def case_of(program, title):
     """The input of the section of a title, which may stand behind a word."""
     with open(os.path.join(os.path.dirname(program), "../stdin"), "rb") as f:
@@ -162,9 +173,11 @@ def main():
         sys.exit(count_runs([words[0]], case, ["REFUSE_MEMORY", "REFUSE_GROWTH"], is_judged_or_wants_memory))
     if len(words) == 2 and words[1] == "--requests":
         sys.exit(count_requests(words[0]))
+    here = os.path.dirname(os.path.abspath(__file__))
+    if len(words) == 2 and words[1] == "--sessions":
+        sys.exit(count_sessions(words[0], os.path.join(here, "refused")))
     if len(words) not in (1, 2):
         sys.exit(__doc__)
-    here = os.path.dirname(os.path.abspath(__file__))
     with open(words[1] if len(words) == 2 else os.path.join(here, "../crates/ompback/stdin"), "rb") as f:
         text = f.read()
     sys.exit(count_runs([words[0]], text, FAULTS, ends_well))

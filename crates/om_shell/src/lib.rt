@@ -21,4 +21,5 @@ pub use ended::Ended;
 pub use fault::ShellFault;
 pub use front_end::program_of;
 pub use options::Options;
+pub use output::send;
 pub use shell::run;

@@ -32,7 +32,7 @@ fn write_some<W: Write>(writer: &mut W, bytes: &[u8]) -> (usize, bool)
 }
 
 /// Writes the bytes and flushes the writer. After a fault the writer took a beginning of the bytes.
-pub(crate) fn send<W: Write>(writer: &mut W, bytes: &[u8]) -> Result<(), ShellFault>
+pub fn send<W: Write>(writer: &mut W, bytes: &[u8]) -> Result<(), ShellFault>
     ensures written { OnOk result
         (Appends (W.contents writer.old) (W.contents writer.new) bytes.now) }
     ensures begun_on_error { IfErr result

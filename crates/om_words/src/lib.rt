@@ -1,8 +1,6 @@
 //! The words of the command line.
 #![tactic(auto)]
 
-#[cfg(test)]
-mod tests;
 mod words;
 
 pub use words::{Words, words_in};

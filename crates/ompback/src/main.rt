@@ -3,13 +3,10 @@
 
 ghost use Rattle.std.specs.Prelude.{◌<◌, ◌≤◌};
 
-mod file;
-mod outcome;
 #[cfg(test)]
 mod tests;
 
-use crate::file::read_all;
-use crate::outcome::{Outcome, status};
+use om_outcome::{Outcome, read_file, status, words_of};
 use om_parser::STACK_SIZE;
 use om_shell::{Options, ShellFault, run};
 use om_words::{Words, words_in};
@@ -27,12 +24,9 @@ fn source_in<R: Files>(
     alloc: Global,
     file: Option<&str>,
 ) -> Result<Option<Vec<u8>>, ShellFault> {
-    let Some(path) = file else {
-        return Ok(None);
-    };
-    match std::fs::open(rt, path) {
-        Ok(mut reader) => Ok(Some(read_all(alloc, &mut reader)?)),
-        Err(_) => Err(ShellFault::Read),
+    match file {
+        Some(path) => Ok(Some(read_file(rt, alloc, path)?)),
+        None => Ok(None),
     }
 }
 
@@ -94,18 +88,11 @@ fn program<R: Runtime + AllocGlobal + Threads + Wait + Sync>(
     rt: &R,
     alloc: Global,
 ) -> Result<Outcome, AllocError> {
-    match std::env::args(rt) {
-        Ok(args) => {
-            let words: Vec<String> = args.collect(alloc)?;
-            let words: Vec<&str> = words.iter().map(|word| word.as_str()).collect(alloc)?;
-            outcome_for(rt, alloc, words.as_slice())
-        }
-        Err(error) if error.kind() == io::ErrorKind::OutOfMemory => Err(AllocError),
-        Err(error) => {
-            let _ = rt.eprintln(error);
-            Ok(Outcome::Words)
-        }
-    }
+    let Some(words) = words_of(rt, alloc)? else {
+        return Ok(Outcome::Words);
+    };
+    let words: Vec<&str> = words.iter().map(|word| word.as_str()).collect(alloc)?;
+    outcome_for(rt, alloc, words.as_slice())
 }
 
 fn main(rt: HostRuntime) -> ExitCode {

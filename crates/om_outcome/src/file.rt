@@ -1,10 +1,11 @@
 //! A file, read whole.
 ghost use Rattle.std.specs.Prelude.{IfOk};
-ghost use Rattle.ompback.specs.Files.{ReadsAll};
+ghost use Rattle.om_outcome.specs.Files.{ReadsAll};
 
 use om_shell::ShellFault;
 use std::alloc::Global;
 use std::io::{ErrorKind, Read};
+use std::rt::Files;
 
 // How many reads of a file there are at most.
 const MOST_READS: u64 = 1 << 32;
@@ -32,4 +33,14 @@ pub fn read_all<R: Read>(alloc: Global, reader: &mut R) -> Result<Vec<u8>, Shell
         }
     }
     Err(ShellFault::Read)
+}
+
+/// The bytes of the file of this name.
+///
+/// Errors: H3 where it can't be opened or read; H5 when out of memory.
+pub fn read_file<R: Files>(rt: &R, alloc: Global, path: &str) -> Result<Vec<u8>, ShellFault> {
+    match std::fs::open(rt, path) {
+        Ok(mut reader) => read_all(alloc, &mut reader),
+        Err(_) => Err(ShellFault::Read),
+    }
 }

@@ -1,6 +1,6 @@
 //! How the program ends.
 ghost use Rattle.std.specs.Prelude.{◌≡◌};
-ghost use Rattle.ompback.specs.Outcomes.{status_of};
+ghost use Rattle.om_outcome.specs.Outcomes.{status_of};
 
 use om_shell::ShellFault;
 

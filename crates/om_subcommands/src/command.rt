@@ -1,0 +1,108 @@
+//! Which words there are.
+
+use clap::{Arg, ArgAction, Command};
+use std::alloc::{AllocError, Global};
+
+const ABOUT: &str = "Finds, explains, keeps and draws the schedules of an OpenMP program in C.";
+
+const STATUSES: &str = "Exit status:
+  0  it is done; `check` has accepted the source, and `hunt` has found no bad schedule
+  1  the source is refused, or `hunt` has found a bad schedule
+  2  wrong words, or help
+  3  a fault, told on standard error: H3 a read failed, H4 a write failed, H5 no memory";
+
+const SESSION: &str = "Without FILE, standard input holds the source up to a line `%%`, and then commands of ompback.
+With FILE, standard input holds commands alone.";
+
+// The number of workers, which each subcommand takes before or behind its name.
+fn threads<'a>(alloc: Global) -> Arg<'a> {
+    Arg::new(alloc, "threads")
+        .long("threads")
+        .value_name("N")
+        .help("How many workers there are, 1 to 32")
+        .default_value("2")
+        .global(true)
+        .action(ArgAction::Set)
+        .value_parser(clap::value_parser!(u8).range(1..=32))
+}
+
+// The file of the source.
+fn file<'a>(alloc: Global, is_required: bool) -> Arg<'a> {
+    Arg::new(alloc, "file")
+        .value_name("FILE")
+        .help("The C source")
+        .required(is_required)
+        .action(ArgAction::Set)
+}
+
+// An option that takes a number from 1 on.
+fn number<'a>(alloc: Global, name: &'a str, help: &'a str) -> Arg<'a> {
+    Arg::new(alloc, name)
+        .long(name)
+        .value_name("K")
+        .help(help)
+        .action(ArgAction::Set)
+        .value_parser(clap::value_parser!(u64).range(1..=1_000_000_000))
+}
+
+fn check<'a>(alloc: Global) -> Result<Command<'a>, AllocError> {
+    Command::new(alloc, "check")
+        .about("Says whether ompback runs a source, and else why not and what to write")
+        .arg(file(alloc, true))
+}
+
+fn hunt<'a>(alloc: Global) -> Result<Command<'a>, AllocError> {
+    let seeds = number(alloc, "seeds", "How many schedules are tried").default_value("100");
+    let steps = number(alloc, "steps", "After how many steps a schedule is given up")
+        .default_value("100000");
+    let expect = Arg::new(alloc, "expect")
+        .long("expect")
+        .value_name("TEXT")
+        .help("What the program is to print; without it, what ompback's `run` prints")
+        .action(ArgAction::Set);
+    Command::new(alloc, "hunt")
+        .about("Tries schedules by chance, and shortens the first bad one to a script for ompback")
+        .after_help("A schedule is bad where the program prints something else, meets a fault, or is stuck.
+This is no exploration of all schedules and no race detector.")
+        .arg(seeds)?
+        .arg(steps)?
+        .arg(expect)?
+        .arg(file(alloc, true))
+}
+
+fn script<'a>(alloc: Global) -> Result<Command<'a>, AllocError> {
+    let cone = number(alloc, "cone", "Lists the steps that `roll K` would take back, in place of all")
+        .value_name("S");
+    Command::new(alloc, "script")
+        .about("Writes the steps that a session leaves as a script for ompback")
+        .after_help(SESSION)
+        .arg(cone)?
+        .arg(file(alloc, false))
+}
+
+fn notes<'a>(alloc: Global) -> Result<Command<'a>, AllocError> {
+    Command::new(alloc, "notes")
+        .about("Passes the answers of `ompback FILE` on, with words behind them")
+        .arg(file(alloc, true))
+}
+
+fn draw<'a>(alloc: Global) -> Result<Command<'a>, AllocError> {
+    Command::new(alloc, "draw")
+        .about("Draws the steps that a session leaves, and what depends on what, as a page of HTML")
+        .after_help(SESSION)
+        .arg(file(alloc, false))
+}
+
+/// The command line of omplab. Its only error is out of memory.
+pub(crate) fn omplab<'a>(alloc: Global) -> Result<Command<'a>, AllocError> {
+    Command::new(alloc, "omplab")
+        .about(ABOUT)
+        .after_help(STATUSES)
+        .subcommand_required(true)
+        .arg(threads(alloc))?
+        .subcommand(check(alloc)?)?
+        .subcommand(hunt(alloc)?)?
+        .subcommand(script(alloc)?)?
+        .subcommand(notes(alloc)?)?
+        .subcommand(draw(alloc)?)
+}

@@ -1,0 +1,105 @@
+//! What the words of the command line ask for.
+ghost use Rattle.std.specs.Prelude.{◌<◌, ◌≤◌, IfOk, IfSome};
+
+use crate::command::omplab;
+use clap::error::ErrorKind;
+use clap::{ArgMatches, Error};
+use std::alloc::Global;
+
+/// What the words ask for.
+#[derive(Clone, Copy)]
+pub struct Words<'a> {
+    /// How many workers there are, 1 to 32.
+    pub workers: u8,
+    /// What is to be done.
+    pub asked: Asked<'a>,
+}
+
+/// What is to be done. A `file` is that of the source; where there is none, the source is at the front of the input.
+#[derive(Clone, Copy)]
+pub enum Asked<'a> {
+    /// To say whether a source is accepted, and else why not.
+    Check { file: &'a str },
+    /// To try schedules by chance, and shorten the first bad one.
+    Hunt {
+        file: &'a str,
+        /// How many schedules are tried, from 1 on.
+        seeds: u64,
+        /// How many steps a schedule has at most, from 1 on.
+        steps: u64,
+        /// What the program is to print; where it is `None`, what `run` prints.
+        expected: Option<&'a str>,
+    },
+    /// To write the steps that a session leaves as a script, or those of a cone.
+    Script {
+        file: Option<&'a str>,
+        /// The serial of the step whose cone is asked for.
+        cone: Option<u64>,
+    },
+    /// To pass answers on with words behind them.
+    Notes { file: &'a str },
+    /// To draw what a session leaves.
+    Draw { file: Option<&'a str> },
+}
+
+/// What the words ask for, the first of which names the program. An error is wrong words, a call for help, or out of
+/// memory.
+pub fn words_in<'a>(alloc: Global, words: &'a [&'a str]) -> Result<Words<'a>, Error>
+    ensures least { IfOk result (λ words. 0 < words.workers) }
+    ensures most { IfOk result (λ words. words.workers ≤ 32) }
+{
+    let mut command = omplab(alloc)?;
+    let matches = command.try_get_matches_from_mut(words)?;
+    match found_in(&matches) {
+        Some(words) => Ok(words),
+        None => Err(command.error(ErrorKind::InvalidValue, "a subcommand lacks a value")?),
+    }
+}
+
+// What the matches ask for; `None` where they lack a subcommand or a value.
+fn found_in<'a>(matches: &ArgMatches<'a>) -> Option<Words<'a>>
+    ensures { IfSome result (λ words. (0 < words.workers) × (words.workers ≤ 32)) }
+{
+    let (name, given) = matches.subcommand()?;
+    let workers = workers_in(given)?;
+    let asked = asked_by(name, given)?;
+    Some(Words { workers, asked })
+}
+
+// The number of workers, where it is one of 1 to 32.
+fn workers_in(given: &ArgMatches<'_>) -> Option<u8>
+    ensures { IfSome result (λ workers. (0 < workers) × (workers ≤ 32)) }
+{
+    let workers = given.get_one::<u8>("threads")?;
+    if 0 < workers && workers <= 32 {
+        Some(workers)
+    } else {
+        None
+    }
+}
+
+// What a subcommand asks for.
+fn asked_by<'a>(name: &str, given: &ArgMatches<'a>) -> Option<Asked<'a>> {
+    let file = given.get_str("file");
+    match name {
+        "check" => Some(Asked::Check { file: file? }),
+        "hunt" => hunt_by(file?, given),
+        "script" => Some(Asked::Script {
+            file,
+            cone: given.get_one::<u64>("cone"),
+        }),
+        "notes" => Some(Asked::Notes { file: file? }),
+        "draw" => Some(Asked::Draw { file }),
+        _ => None,
+    }
+}
+
+// What a hunt asks for.
+fn hunt_by<'a>(file: &'a str, given: &ArgMatches<'a>) -> Option<Asked<'a>> {
+    Some(Asked::Hunt {
+        file,
+        seeds: given.get_one::<u64>("seeds")?,
+        steps: given.get_one::<u64>("steps")?,
+        expected: given.get_str("expect"),
+    })
+}

@@ -1,0 +1,145 @@
+//! The program for people who hunt races: its words, its files, its thread and its exit status.
+#![tactic(auto)]
+
+ghost use Rattle.std.specs.Prelude.{◌<◌, ◌≤◌};
+
+mod meter;
+mod subcommands;
+#[cfg(test)]
+mod tests;
+
+use crate::subcommands::{Host, check, draw, explain, hunt, keep};
+use om_hunt::Aims;
+use om_outcome::{Outcome, read_file, status, words_of};
+use om_parser::STACK_SIZE;
+use om_shell::{Options, ShellFault};
+use om_subcommands::{Asked, Words, words_in};
+use std::alloc::{AllocError, Global};
+use std::io;
+use std::process::ExitCode;
+use std::rt::{Files, Runtime};
+use std::sync::Wait;
+use std::thread::{Builder, Threads};
+
+// The file that a subcommand reads, if it is given one.
+fn file_of<'a>(asked: Asked<'a>) -> Option<&'a str> {
+    match asked {
+        Asked::Check { file } => Some(file),
+        Asked::Hunt { file, .. } => Some(file),
+        Asked::Notes { file } => Some(file),
+        Asked::Script { file, .. } => file,
+        Asked::Draw { file } => file,
+    }
+}
+
+// The source in a file, if one is named.
+fn source_in<R: Files>(
+    rt: &R,
+    alloc: Global,
+    file: Option<&str>,
+) -> Result<Option<Vec<u8>>, ShellFault> {
+    match file {
+        Some(path) => Ok(Some(read_file(rt, alloc, path)?)),
+        None => Ok(None),
+    }
+}
+
+// Does what is asked for over standard input and output, and answers the exit status.
+fn done<R: Runtime + Threads + Wait + Sync>(
+    host: &Host<'_, R>,
+    options: Options<'_>,
+    asked: Asked<'_>,
+) -> Result<u8, ShellFault>
+    requires least { 0 < options.workers }
+    requires most { options.workers ≤ 32 }
+{
+    let mut writer = io::writer(host.rt);
+    match asked {
+        Asked::Check { file } => check(host.alloc, file, options, &mut writer),
+        Asked::Hunt {
+            seeds,
+            steps,
+            expected,
+            ..
+        } => {
+            let aims = Aims {
+                workers: options.workers,
+                seeds,
+                steps,
+                expected: expected.map(|text| text.as_bytes()),
+            };
+            hunt(host, options.source.unwrap_or(&[]), &aims, &mut writer)
+        }
+        Asked::Notes { .. } => explain(host.alloc, options, &mut host.rt.reader(), &mut writer),
+        Asked::Script { cone, .. } => {
+            keep(host, options, cone, &mut host.rt.reader(), &mut writer)
+        }
+        Asked::Draw { .. } => draw(host, options, &mut host.rt.reader(), &mut writer),
+    }
+}
+
+// Does what the words ask for, and tells how it ended.
+fn outcome_of<R: Runtime + Threads + Wait + Sync>(
+    rt: &R,
+    alloc: Global,
+    words: Words<'_>,
+) -> Outcome
+    requires least { 0 < words.workers }
+    requires most { words.workers ≤ 32 }
+{
+    let source = match source_in(rt, alloc, file_of(words.asked)) {
+        Ok(source) => source,
+        Err(fault) => return Outcome::Fault(fault),
+    };
+    let options = Options {
+        workers: words.workers,
+        source: source.as_ref().map(|bytes| bytes.as_slice()),
+    };
+    match done(&Host { rt, alloc }, options, words.asked) {
+        Ok(status) => Outcome::Ran(status),
+        Err(fault) => Outcome::Fault(fault),
+    }
+}
+
+// Does what the words of the command line ask for, the first of which names the program.
+fn outcome_for<R: Runtime + AllocGlobal + Threads + Wait + Sync>(
+    rt: &R,
+    alloc: Global,
+    words: &[&str],
+) -> Result<Outcome, AllocError> {
+    match words_in(alloc, words) {
+        Ok(words) => Ok(outcome_of(rt, alloc, words)),
+        Err(error) if error.kind() == clap::error::ErrorKind::OutOfMemory => Err(AllocError),
+        Err(error) => {
+            let _ = rt.eprint(&error);
+            Ok(Outcome::Words)
+        }
+    }
+}
+
+// Reads the command line and does what it asks for.
+fn program<R: Runtime + AllocGlobal + Threads + Wait + Sync>(
+    rt: &R,
+    alloc: Global,
+) -> Result<Outcome, AllocError> {
+    let Some(words) = words_of(rt, alloc)? else {
+        return Ok(Outcome::Words);
+    };
+    let words: Vec<&str> = words.iter().map(|word| word.as_str()).collect(alloc)?;
+    outcome_for(rt, alloc, words.as_slice())
+}
+
+fn main(rt: HostRuntime) -> ExitCode {
+    let alloc = rt.alloc();
+    let thread = Builder::new()
+        .stack_size(STACK_SIZE)
+        .spawn(&rt, move || program(&rt, alloc));
+    let outcome = match thread.map(|thread| thread.join(&rt)) {
+        Ok(Ok(outcome)) => outcome,
+        _ => Outcome::Fault(ShellFault::Memory),
+    };
+    if let Outcome::Fault(fault) = outcome {
+        let _ = rt.eprintln(fault);
+    }
+    ExitCode::from(status(outcome))
+}

@@ -1,0 +1,122 @@
+//! What each subcommand does, over any streams. Each answers the exit status.
+
+ghost use Rattle.std.specs.Prelude.{◌<◌, ◌≤◌};
+
+use crate::meter::Meter;
+use om_draw::{Page, page};
+use om_hunt::{Aims, Hunted, push_report};
+use om_notes::annotate;
+use om_report::report;
+use om_script::{Script, ScriptFault, cone, script};
+use om_shell::{Options, ShellFault, send};
+use std::alloc::Global;
+use std::io::{Read, Write};
+use std::rt::Runtime;
+use std::sync::Wait;
+use std::thread::Threads;
+
+// The exit status where it was done, and where the source is refused or a bad schedule is found.
+const DONE: u8 = 0;
+
+const REFUSED: u8 = 1;
+
+// The exit status where a script does not lead where it is to lead.
+const BROKEN: u8 = 3;
+
+/// Where a subcommand runs.
+#[derive(Drop)]
+pub(crate) struct Host<'a, H> {
+    pub(crate) rt: &'a H,
+    pub(crate) alloc: Global,
+}
+
+/// Says whether a source is accepted, and else why not.
+pub(crate) fn check<W: Write>(
+    alloc: Global,
+    file: &str,
+    options: Options<'_>,
+    writer: &mut W,
+) -> Result<u8, ShellFault> {
+    let report = report(alloc, file, options.source.unwrap_or(&[]), options.workers)?;
+    written(writer, &report.text, report.status)
+}
+
+/// Tries schedules by chance, and writes the first that is bad, made short.
+pub(crate) fn hunt<H: Runtime + Threads + Wait + Sync, W: Write>(
+    host: &Host<'_, H>,
+    source: &[u8],
+    aims: &Aims<'_>,
+    writer: &mut W,
+) -> Result<u8, ShellFault>
+    requires least { 0 < aims.now.workers }
+    requires most { aims.now.workers ≤ 32 }
+{
+    let mut meter = Meter { rt: host.rt };
+    let hunted = om_hunt::hunt(host.rt, host.alloc, source, aims, &mut meter)?;
+    let mut text = Vec::new(host.alloc);
+    push_report(&mut text, &hunted)?;
+    let status = match hunted {
+        Hunted::Nothing { .. } => DONE,
+        _ => REFUSED,
+    };
+    written(writer, &text, status)
+}
+
+/// Passes answers on, with words behind them.
+pub(crate) fn explain<R: Read, W: Write>(
+    alloc: Global,
+    options: Options<'_>,
+    reader: &mut R,
+    writer: &mut W,
+) -> Result<u8, ShellFault> {
+    annotate(alloc, options.source.unwrap_or(&[]), reader, writer)?;
+    Ok(DONE)
+}
+
+/// Writes the steps that a session leaves as a script, or those of a cone.
+pub(crate) fn keep<H: Runtime + Threads + Wait + Sync, R: Read, W: Write>(
+    host: &Host<'_, H>,
+    options: Options<'_>,
+    serial: Option<u64>,
+    reader: &mut R,
+    writer: &mut W,
+) -> Result<u8, ShellFault>
+    requires least { 0 < options.workers }
+    requires most { options.workers ≤ 32 }
+{
+    let kept = match serial {
+        Some(serial) => cone(host.rt, host.alloc, reader, options, serial),
+        None => script(host.rt, host.alloc, reader, options),
+    };
+    match kept {
+        Ok(Script::Steps(text)) => written(writer, &text, DONE),
+        Ok(Script::Refused(line)) => written(writer, &line, REFUSED),
+        Err(ScriptFault::Shell(fault)) => Err(fault),
+        Err(fault) => {
+            let _ = host.rt.eprintln(fault);
+            Ok(BROKEN)
+        }
+    }
+}
+
+/// Draws what a session leaves.
+pub(crate) fn draw<H: Threads + Wait + Sync, R: Read, W: Write>(
+    host: &Host<'_, H>,
+    options: Options<'_>,
+    reader: &mut R,
+    writer: &mut W,
+) -> Result<u8, ShellFault>
+    requires least { 0 < options.workers }
+    requires most { options.workers ≤ 32 }
+{
+    match page(host.rt, host.alloc, reader, options)? {
+        Page::Drawn(text) => written(writer, &text, DONE),
+        Page::Refused(line) => written(writer, &line, REFUSED),
+    }
+}
+
+// Writes a text, and answers the exit status that goes with it.
+fn written<W: Write>(writer: &mut W, text: &Vec<u8>, status: u8) -> Result<u8, ShellFault> {
+    send(writer, text.as_slice())?;
+    Ok(status)
+}

@@ -1,0 +1,38 @@
+/* config.c, mended: lazy initialisation, the value is set before the flag */
+#include <stdio.h>
+#include <omp.h>
+
+int ready = 0;
+int config;
+
+int read_config(void)
+{
+    return 42;
+}
+
+int get_config(void)
+{
+    if (!ready) {
+        #pragma omp critical(init)
+        {
+            if (!ready) {
+                config = read_config();
+                ready = 1;
+            }
+        }
+    }
+    return config;
+}
+
+int main(void)
+{
+    int bad = 0;
+    #pragma omp parallel num_threads(3) reduction(+:bad)
+    {
+        if (get_config() != 42)
+            bad++;
+    }
+    if (bad)
+        printf("%d threads saw an empty config\n", bad);
+    return bad;
+}
