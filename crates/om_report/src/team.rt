@@ -74,7 +74,8 @@ fn push_notes(
     Ok(())
 }
 
-/// A note for each `num_threads` whose constant is above the number of workers. A source without tokens has none.
+/// A note for each `num_threads` whose constant is above the number of workers. A source without tokens
+/// has none.
 pub(crate) fn team_notes(alloc: Global, checked: Checked<'_>) -> Result<Vec<u8>, AllocError> {
     let mut text = Vec::new(alloc);
     match lex(alloc, checked.source) {

@@ -48,7 +48,8 @@ fn refused(
 ///
 /// Of a refused source it is `FILE:LINE:COLUMN: error: S3: `, words, the line with a mark under the token,
 /// and help where there is some. Of an accepted one it is `FILE: accepted`, and a note for each `num_threads`
-/// whose constant is above the number of workers. Columns count bytes from 1. The only error is out of memory.
+/// whose constant is above the number of workers. Columns count bytes from 1. The only error is out of
+/// memory.
 #[tactic(auto, using(crate::proofs::ReportLaws::reports_accepted))]
 pub fn report(alloc: Global, file: &str, source: &[u8], workers: u8) -> Result<Report, AllocError>
     ensures { IfOk result
