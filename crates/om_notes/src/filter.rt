@@ -4,7 +4,8 @@ ghost use Rattle.std.specs.List.{position};
 ghost use Rattle.om_command.specs.Words.{words_of};
 ghost use Rattle.om_shell.specs.Lines.{HasNoLineEnd};
 ghost use Rattle.om_notes.specs.Parts.{announced};
-ghost use Rattle.om_notes.specs.Passing.{BreaksOff, BreaksPart, GoesOn, HasTail, IsNoted, PassesAll, PassesBeginning, PassesPart};
+ghost use Rattle.om_notes.specs.Passing.{BreaksOff, BreaksPart, GoesOn, HasTail, IsNoted};
+ghost use Rattle.om_notes.specs.Passing.{PassesAll, PassesBeginning, PassesPart};
 
 use crate::input::Input;
 use crate::lines::line_end;
@@ -111,7 +112,8 @@ fn pass_bytes<W: Write>(input: &mut Input, writer: &mut W) -> Result<(), ShellFa
     Ok(())
 }
 
-// Passes the next part on. Answers whether there was one; else nothing changed, and what is pending ends no line.
+// Passes the next part on. Answers whether there was one; else nothing changed, and what is pending ends no
+// line.
 fn pass_part<W: Write>(
     names: &Names<'_>,
     input: &mut Input,
@@ -190,7 +192,8 @@ fn pass_all<R: Read, W: Write>(
     }
 }
 
-/// Passes the answers of a session on, each line as it came, and behind it ` | ` and words where there are some.
+/// Passes the answers of a session on, each line as it came, and behind it ` | ` and words where there are
+/// some.
 ///
 /// The words of a line are the source line of its step, what its code means, or which variable or other
 /// object an undo was refused on; the source is that of the session. Of a source that is refused there are
