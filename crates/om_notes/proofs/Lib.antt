@@ -1,0 +1,3 @@
+mod Bytes
+mod LineLaws
+mod PassLaws

@@ -1,0 +1,15 @@
+//! Notes: a filter that puts words behind the answers of a session, and changes nothing else of them.
+#![tactic(auto)]
+
+mod cell;
+mod filter;
+mod function;
+mod input;
+mod lines;
+mod names;
+mod object;
+mod output;
+mod remark;
+mod words;
+
+pub use filter::annotate;

@@ -1,0 +1,36 @@
+-- A report, by its verdict.
+use Rattle.std.proofs.Common.{◌≡◌, ◌≢◌, ℕ, List, [], ◌++◌, Result, Ok, Err, IfOk, ap, ◌∙◌}
+use Rattle.om_code.specs.declared.raw.Raw.{Raw}
+use Rattle.om_lexer.specs.declared.fault.FaultCode.TheVariants.{Memory}
+use Rattle.om_lexer.specs.declared.fault.SourceFault.{SourceFault}
+use Rattle.om_lexer.specs.Faults.{no_memory}
+use Rattle.om_shell.specs.Verdict.{IsProgramOf, IsRefused}
+use Rattle.om_report.specs.declared.written.Report.{Report}
+use Rattle.om_report.specs.Reports.{BeginsWith, Reports, accepted_head, refused_head}
+
+-- a text that begins with what was written first, whatever was written behind it
+pub begins_behind : (front text all rest : List ℕ) → text ≡ [] ++ front → all ≡ text ++ rest → BeginsWith front all
+begins_behind front text all rest written more =
+    record { rest = rest; is = more ∙ ap (λ t. t ++ rest) written }
+
+pub reports_accepted : {E : Type 0} (file source : List ℕ) (program : Raw) (r : Result Report E)
+    → IsProgramOf source program
+    → IfOk r (λ report. BeginsWith (accepted_head file) report.text.items)
+    → IfOk r (λ report. report.status ≡ 0)
+    → IfOk r (λ report. Reports file source report.text.items report.status)
+reports_accepted file source program (Ok report) accepted begins status =
+    record { verdict = Ok program; judged = accepted; status_is = status; begins = begins }
+reports_accepted file source program (Err e) accepted begins status = tt
+
+pub reports_refused : {E : Type 0} (file source : List ℕ) (fault : SourceFault) (r : Result Report E)
+    → (fault ≢ no_memory → IsRefused source fault) → fault.code ≢ Memory
+    → IfOk r (λ report. BeginsWith (refused_head file source fault) report.text.items)
+    → IfOk r (λ report. report.status ≡ 1)
+    → IfOk r (λ report. Reports file source report.text.items report.status)
+reports_refused file source fault (Ok report) refused other begins status = record {
+  verdict = Err fault;
+  judged = refused (λ e. other (ap (λ (f : SourceFault). f.code) e));
+  status_is = status;
+  begins = begins;
+}
+reports_refused file source fault (Err e) refused other begins status = tt

@@ -1,0 +1,48 @@
+//! The head of a report: the verdict, with its place.
+
+ghost use Rattle.std.specs.Prelude.{◌≡◌, ◌++◌, decimal, codes, OnOk};
+ghost use Rattle.om_report.specs.Reports.{accepted_head, place_text, refused_head};
+
+use crate::place::{column_behind, front_of, line_behind};
+use om_lexer::SourceFault;
+use om_replies::push_numbered;
+use std::alloc::AllocError;
+
+/// Appends `FILE:LINE:COLUMN` of a byte of the source.
+pub(crate) fn push_place(
+    text: &mut Vec<u8>,
+    file: &str,
+    source: &[u8],
+    at: u32,
+) -> Result<(), AllocError>
+    ensures { OnOk result
+        (text.new.items ≡ text.old.items ++ place_text file.now source.now at) }
+{
+    let front = front_of(source, at);
+    text.extend_from_slice(file.as_bytes())?;
+    push_numbered(text, b":", line_behind(front))?;
+    push_numbered(text, b":", column_behind(front))
+}
+
+/// Appends `FILE: accepted`, and a line end.
+pub(crate) fn push_accepted(text: &mut Vec<u8>, file: &str) -> Result<(), AllocError>
+    ensures { OnOk result (text.new.items ≡ text.old.items ++ accepted_head file.now) }
+{
+    text.extend_from_slice(file.as_bytes())?;
+    text.extend_from_slice(b": accepted\n")
+}
+
+/// Appends `FILE:LINE:COLUMN: error: S3: `.
+pub(crate) fn push_refused(
+    text: &mut Vec<u8>,
+    file: &str,
+    source: &[u8],
+    fault: SourceFault,
+) -> Result<(), AllocError>
+    ensures { OnOk result
+        (text.new.items ≡ text.old.items ++ refused_head file.now source.now fault) }
+{
+    push_place(text, file, source, fault.at)?;
+    push_numbered(text, b": error: S", fault.code.number())?;
+    text.extend_from_slice(b": ")
+}

@@ -1,0 +1,75 @@
+//! The report on a source, by its verdict.
+
+ghost use Rattle.std.specs.Prelude.{◌≡◌, IfOk};
+ghost use Rattle.om_report.specs.Reports.{BeginsWith, Reports, accepted_head, refused_head};
+
+use crate::excerpt::explanation;
+use crate::head::{push_accepted, push_refused};
+use crate::team::{Checked, team_notes};
+use crate::written::Report;
+use om_lexer::{FaultCode, SourceFault};
+use om_shell::program_of;
+use std::alloc::{AllocError, Global};
+
+// The report on an accepted source.
+#[tactic(auto, using(crate::proofs::ReportLaws::begins_behind))]
+fn accepted(alloc: Global, checked: Checked<'_>) -> Result<Report, AllocError>
+    ensures begins { IfOk result
+        (λ report. BeginsWith (accepted_head checked.entry.file.now) report.text.items) }
+    ensures status { IfOk result (λ report. report.status ≡ 0) }
+{
+    let mut text = Vec::new(alloc);
+    push_accepted(&mut text, checked.file)?;
+    let notes = team_notes(alloc, checked)?;
+    text.extend_from_slice(&notes)?;
+    Ok(Report { text, status: 0 })
+}
+
+// The report on a refused source.
+#[tactic(auto, using(crate::proofs::ReportLaws::begins_behind))]
+fn refused(
+    alloc: Global,
+    file: &str,
+    source: &[u8],
+    fault: SourceFault,
+) -> Result<Report, AllocError>
+    ensures begins { IfOk result
+        (λ report. BeginsWith (refused_head file.now source.now fault) report.text.items) }
+    ensures status { IfOk result (λ report. report.status ≡ 1) }
+{
+    let mut text = Vec::new(alloc);
+    push_refused(&mut text, file, source, fault)?;
+    let explanation = explanation(alloc, source, fault)?;
+    text.extend_from_slice(&explanation)?;
+    Ok(Report { text, status: 1 })
+}
+
+/// The report on a source that stands in this file, as compilers write it.
+///
+/// Of a refused source it is `FILE:LINE:COLUMN: error: S3: `, words, the line with a mark under the token,
+/// and help where there is some. Of an accepted one it is `FILE: accepted`, and a note for each `num_threads`
+/// whose constant is above the number of workers. Columns count bytes from 1. The only error is out of
+/// memory.
+#[tactic(auto, using(crate::proofs::ReportLaws::reports_accepted))]
+pub fn report(alloc: Global, file: &str, source: &[u8], workers: u8) -> Result<Report, AllocError>
+    ensures { IfOk result
+        (λ report. Reports file.now source.now report.text.items report.status) }
+{
+    match program_of(alloc, source) {
+        Ok(program) => {
+            drop(program);
+            let checked = Checked {
+                file,
+                source,
+                workers,
+            };
+            accepted(alloc, checked)
+        }
+        Err(fault) => {
+            if fault.code == FaultCode::Memory {
+                return Err(AllocError);
+            }
+            refused(alloc, file, source, fault)
+        }
+    }
+}
