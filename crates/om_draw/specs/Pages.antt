@@ -1,0 +1,57 @@
+-- The page of a session.
+use Rattle.std.specs.Prelude.{◌≡◌, ◌↔◌, ◌++◌, ℕ, List, [], Option, None, Some, map, take, codes, Contains}
+use Rattle.std.specs.Io.KnownBytes.{Consumes, IsAtEnd}
+use Rattle.om_history.specs.Cones.{transitions}
+use Rattle.om_undo.specs.Machines.{MachineView, rules_for}
+use Rattle.om_journal.specs.Books.{BookView, machine_of}
+use Rattle.om_shell.specs.Ends.{RunsToEnd}
+use Rattle.om_picture.specs.declared.traced.Traced.{Traced}
+use Rattle.om_picture.specs.declared.picture.Arrow.{Arrow}
+use Rattle.om_draw.specs.declared.scale.Scale.{Scale}
+use Rattle.om_draw.specs.declared.outcome.Page as outcome
+use Rattle.om_draw.specs.declared.outcome.Page.TheVariants.{Drawn, Refused}
+use Rattle.om_picture.specs.Pictures.{transition_of, box_of, IsArrow}
+use Rattle.om_draw.specs.Marks.{boxes_text}
+use Rattle.om_draw.specs.Strokes.{arrows_text}
+
+-- these are all the bytes that a reader had
+pub record ReadsAll (old new : Option (List ℕ)) (bytes : List ℕ) : Type 0 where
+  pub consumes : Consumes old new bytes
+  pub at_end : IsAtEnd new
+
+-- a session over these bytes came to its end: what it wrote, and the book that it left
+abbrev pub Leaves : List ℕ → List ℕ → List ℕ → ℕ → Option (List ℕ) → ℕ → Option BookView → Type 0
+Leaves input old new workers given status book =
+    (left : Option (List ℕ)) × RunsToEnd (Some input) left (Some old) (Some new) workers given status book
+
+-- A page has the picture of the first 5,000 entries of a machine's history: the texts of its arrows and of its boxes.
+-- The boxes are those of the steps, and an arrow is there exactly where the steps have one.
+pub record IsDrawing (m : MachineView) (bytes : List ℕ) : Type 0 where
+  -- the entries with the footprints of their steps in the replay
+  pub steps : List Traced
+  pub traced : map transition_of steps ≡ transitions (rules_for m) (take 5000 m.history.entries)
+  pub arrows : List Arrow
+  pub exactly : (x : Arrow) → Contains arrows x ↔ IsArrow steps x
+  pub scale : Scale
+  pub front : List ℕ
+  pub behind : List ℕ
+  pub text : bytes ≡ front ++ arrows_text m.program (codes "arrow") scale arrows
+      ++ boxes_text (codes "step") scale (map box_of steps) ++ behind
+
+-- what is shown of a session: the picture of the history in the book that it left, or what it wrote, which is the line
+-- of its refusal
+abbrev pub IsShown : Option BookView → List ℕ → outcome.Page → Type 0
+IsShown (Some book) text (Drawn page) = IsDrawing (machine_of book) page.items
+IsShown None text (Refused line) = line.items ≡ text
+IsShown _ text _ = ⊥
+
+-- what comes of a session over all that a reader had
+pub record IsPage (left_before left_after : Option (List ℕ)) (workers : ℕ) (given : Option (List ℕ))
+    (page : outcome.Page) : Type 0 where
+  pub input : List ℕ
+  pub reads : ReadsAll left_before left_after input
+  pub text : List ℕ
+  pub status : ℕ
+  pub book : Option BookView
+  pub leaves : Leaves input [] text workers given status book
+  pub shown : IsShown book text page

@@ -1,0 +1,35 @@
+-- The text of arrows.
+use Rattle.std.specs.Prelude.{ℕ, List, [], ◌∷◌, ◌++◌, codes, decimal}
+use Rattle.om_code.specs.declared.raw.Raw.{Raw}
+use Rattle.om_picture.specs.declared.picture.End.{End}
+use Rattle.om_picture.specs.declared.picture.Arrow.{Arrow}
+use Rattle.om_draw.specs.declared.scale.Scale.{Scale}
+use Rattle.om_draw.specs.Places.{middle_of, leaves_at, arrives_at, label_left, label_base}
+use Rattle.om_draw.specs.Escapes.{attribute_text}
+use Rattle.om_draw.specs.Objects.{object_words}
+
+-- what is shown of an arrow when it is pointed at
+abbrev pub name_text : Raw → Arrow → List ℕ
+name_text program x = codes "<title>#" ++ decimal x.from.serial ++ codes " to #" ++ decimal x.to.serial ++ codes ": "
+    ++ object_words program x.object ++ codes "</title>"
+
+abbrev pub line_text : Scale → End → End → List ℕ
+line_text scale from to = attribute_text (codes "<line x1='") (middle_of scale from.serial)
+    ++ attribute_text (codes " y1='") (leaves_at scale from to)
+    ++ attribute_text (codes " x2='") (middle_of scale to.serial)
+    ++ attribute_text (codes " y2='") (arrives_at scale from to) ++ codes "/>"
+
+-- the words at its head
+abbrev pub label_text : Raw → Scale → Arrow → List ℕ
+label_text program scale x = attribute_text (codes "<text x='") (label_left scale x.to.serial)
+    ++ attribute_text (codes " y='") (label_base x.from x.to) ++ codes ">" ++ object_words program x.object
+    ++ codes "</text>"
+
+abbrev pub arrow_text : Raw → List ℕ → Scale → Arrow → List ℕ
+arrow_text program class scale x = codes "<g class='" ++ class ++ codes "'>" ++ name_text program x
+    ++ line_text scale x.from x.to ++ label_text program scale x ++ codes "</g>\n"
+
+-- one element for each arrow, in their order
+abbrev pub arrows_text : Raw → List ℕ → Scale → List Arrow → List ℕ
+arrows_text program class scale [] = []
+arrows_text program class scale (x ∷ xs) = arrow_text program class scale x ++ arrows_text program class scale xs

@@ -1,0 +1,132 @@
+//! The page of a session: it is run, and the history that it leaves is drawn.
+
+ghost use Rattle.std.specs.Prelude.{◌≡◌, ◌<◌, ◌≤◌, ◌++◌, codes, IfOk, option_copied};
+ghost use Rattle.om_journal.specs.Books.{machine_of};
+ghost use Rattle.om_draw.specs.Marks.{boxes_text};
+ghost use Rattle.om_draw.specs.Strokes.{arrows_text};
+ghost use Rattle.om_draw.specs.Pages.{IsDrawing, IsPage, IsShown, Leaves};
+
+use crate::beside::{Beside, beside_of, push_beside};
+use crate::front::push_front;
+use crate::input::{read_all, source_part};
+use crate::marks::push_boxes;
+use crate::outcome::Page;
+use crate::scale::Scale;
+use crate::strokes::push_arrows;
+use crate::style::FOOT;
+use om_code::Program;
+use om_journal::Book;
+use om_picture::{Picture, picture_of, trace};
+use om_shell::{Ended, Options, ShellFault, run};
+use std::alloc::{AllocError, Global};
+use std::io::Read;
+use std::sync::Wait;
+use std::thread::Threads;
+
+/// How many entries of a history are drawn at most.
+const MOST_DRAWN: usize = 5_000;
+
+/// The page of a session: its source beside its causal history.
+///
+/// The reader is read to its end. It holds commands, behind a source and a line `%%` unless the options
+/// have the source. The session runs, and its replies are not shown. Of the history that it leaves the
+/// first 5,000 entries are drawn: each has a box, each box is an entry's, and an arrow stands exactly
+/// where an entry conflicts with the last one of another worker that does. What was taken out is grey,
+/// and an undo that was refused is red.
+///
+/// Errors are `Read` (H3), where a read fails, and `Memory` (H5).
+pub fn page<H: Threads + Wait + Sync, R: Read>(
+    rt: &H,
+    alloc: Global,
+    reader: &mut R,
+    options: Options<'_>,
+) -> Result<Page, ShellFault>
+    requires at_least_one { 0 < options.workers }
+    requires at_most_32 { options.workers ≤ 32 }
+    ensures { IfOk result (λ page. IsPage (R.remaining reader.old) (R.remaining reader.new)
+        options.entry.workers (option_copied options.entry.source) page) }
+{
+    let input = read_all(alloc, reader)?;
+    let mut text = Vec::new(alloc);
+    match session(rt, alloc, &input, &mut text, options) {
+        Ok(ended) => {
+            let source = options.source.unwrap_or(source_part(&input));
+            shown(alloc, source, ended, text)
+        }
+        Err(fault) => Err(fault),
+    }
+}
+
+/// Runs a session whose input was read.
+fn session<H: Threads + Wait + Sync>(
+    rt: &H,
+    alloc: Global,
+    mut input: &[u8],
+    text: &mut Vec<u8>,
+    options: Options<'_>,
+) -> Result<Ended, ShellFault>
+    requires at_least_one { 0 < options.workers }
+    requires at_most_32 { options.workers ≤ 32 }
+    ensures { IfOk result (λ ended. Leaves input.entry.now text.old.items text.new.items
+        options.entry.workers (option_copied options.entry.source) ended.status ended.book) }
+{
+    run(rt, alloc, &mut input, text, options)
+}
+
+/// What is shown of a session that ended so and wrote this text.
+fn shown(alloc: Global, source: &[u8], ended: Ended, text: Vec<u8>) -> Result<Page, ShellFault>
+    ensures { IfOk result (IsShown ended.book text.items) }
+{
+    let Ended { status: _, book } = ended;
+    match book {
+        Some(book) => match drawn(alloc, source, &book) {
+            Ok(page) => Ok(Page::Drawn(page)),
+            Err(error) => Err(ShellFault::from(error)),
+        },
+        None => Ok(Page::Refused(text)),
+    }
+}
+
+/// The page of a source, with the history of a book's machine. The only error is out of memory.
+fn drawn(alloc: Global, source: &[u8], book: &Book) -> Result<Vec<u8>, AllocError>
+    ensures { IfOk result (λ page. IsDrawing (machine_of book.now) page.items) }
+{
+    let machine = book.machine();
+    let steps = trace(alloc, machine, MOST_DRAWN)?;
+    let picture = picture_of(alloc, &steps)?;
+    let beside = beside_of(alloc, book, &picture)?;
+    let front = front_of(alloc, machine.program(), source, &picture, &beside)?;
+    with_elements(front, machine.program(), beside.extent.scale, &picture)
+}
+
+/// The page up to the elements of the steps that stand.
+fn front_of(
+    alloc: Global,
+    program: &Program,
+    source: &[u8],
+    picture: &Picture,
+    beside: &Beside,
+) -> Result<Vec<u8>, AllocError> {
+    let mut text = Vec::new(alloc);
+    push_front(&mut text, source, &picture.boxes, beside.counts, beside.extent)?;
+    push_beside(&mut text, program, beside)?;
+    Ok(text)
+}
+
+/// The page: the arrows, the boxes and the end of the page behind its front.
+fn with_elements(
+    front: Vec<u8>,
+    program: &Program,
+    scale: Scale,
+    picture: &Picture,
+) -> Result<Vec<u8>, AllocError>
+    ensures { IfOk result (λ page. page.items
+        ≡ front.items ++ arrows_text program.now (codes "arrow") scale picture.now.arrows.items
+        ++ boxes_text (codes "step") scale picture.now.boxes.items ++ FOOT.now) }
+{
+    let mut text = front;
+    push_arrows(&mut text, program, b"arrow", scale, &picture.arrows)?;
+    push_boxes(&mut text, b"step", scale, &picture.boxes)?;
+    text.extend_from_slice(FOOT)?;
+    Ok(text)
+}

@@ -1,0 +1,88 @@
+//! The text of arrows: one element for each.
+
+ghost use Rattle.std.specs.Prelude.{◌≡◌, ◌++◌, OnOk};
+ghost use Rattle.om_draw.specs.Strokes.{name_text, line_text, label_text, arrow_text, arrows_text};
+
+use crate::escape::push_attribute;
+use crate::object::push_object;
+use crate::scale::{Scale, label_base};
+use om_code::Program;
+use om_picture::{Arrow, End};
+use om_replies::push_numbered;
+use std::alloc::AllocError;
+
+/// Appends what is shown of an arrow when it is pointed at.
+fn push_name(text: &mut Vec<u8>, program: &Program, arrow: &Arrow) -> Result<(), AllocError>
+    ensures { OnOk result (text.new.items ≡ text.old.items ++ name_text program.now arrow.now) }
+{
+    push_numbered(text, b"<title>#", arrow.from.serial)?;
+    push_numbered(text, b" to #", arrow.to.serial)?;
+    text.extend_from_slice(b": ")?;
+    push_object(text, program, &arrow.object)?;
+    text.extend_from_slice(b"</title>")
+}
+
+/// Appends the line of an arrow.
+fn push_line(text: &mut Vec<u8>, scale: Scale, from: End, to: End) -> Result<(), AllocError>
+    ensures { OnOk result (text.new.items ≡ text.old.items ++ line_text scale from to) }
+{
+    push_attribute(text, b"<line x1='", scale.middle(from.serial))?;
+    push_attribute(text, b" y1='", scale.leaves_at(from, to))?;
+    push_attribute(text, b" x2='", scale.middle(to.serial))?;
+    push_attribute(text, b" y2='", scale.arrives_at(from, to))?;
+    text.extend_from_slice(b"/>")
+}
+
+/// Appends the words at an arrow's head.
+fn push_label(
+    text: &mut Vec<u8>,
+    program: &Program,
+    scale: Scale,
+    arrow: &Arrow,
+) -> Result<(), AllocError>
+    ensures { OnOk result
+        (text.new.items ≡ text.old.items ++ label_text program.now scale arrow.now) }
+{
+    push_attribute(text, b"<text x='", scale.label_left(arrow.to.serial))?;
+    push_attribute(text, b" y='", label_base(arrow.from, arrow.to))?;
+    text.extend_from_slice(b">")?;
+    push_object(text, program, &arrow.object)?;
+    text.extend_from_slice(b"</text>")
+}
+
+/// Appends an arrow of a class.
+fn push_arrow(
+    text: &mut Vec<u8>,
+    program: &Program,
+    class: &[u8],
+    scale: Scale,
+    arrow: &Arrow,
+) -> Result<(), AllocError>
+    ensures { OnOk result
+        (text.new.items ≡ text.old.items ++ arrow_text program.now class.now scale arrow.now) }
+{
+    text.extend_from_slice(b"<g class='")?;
+    text.extend_from_slice(class)?;
+    text.extend_from_slice(b"'>")?;
+    push_name(text, program, arrow)?;
+    push_line(text, scale, arrow.from, arrow.to)?;
+    push_label(text, program, scale, arrow)?;
+    text.extend_from_slice(b"</g>\n")
+}
+
+/// Appends arrows of a class, one element for each.
+pub(crate) fn push_arrows(
+    text: &mut Vec<u8>,
+    program: &Program,
+    class: &[u8],
+    scale: Scale,
+    arrows: &[Arrow],
+) -> Result<(), AllocError>
+    ensures { OnOk result
+        (text.new.items ≡ text.old.items ++ arrows_text program.now class.now scale arrows.now) }
+{
+    for arrow in arrows {
+        push_arrow(text, program, class, scale, arrow)?;
+    }
+    Ok(())
+}

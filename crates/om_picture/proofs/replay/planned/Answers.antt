@@ -1,0 +1,33 @@
+-- Fewer than 2^63 steps stand, so that no counter is above 2^63.
+use Rattle.std.proofs.Common.{arith, ◌^◌, List}
+use Rattle.std.specs.Prelude.{map}
+use Rattle.std.proofs.lemmas.List.{length-map}
+use Rattle.om_cells.specs.Stores.{state_of}
+use Rattle.om_cells.specs.declared.step.Entry.{Entry}
+use Rattle.om_task.specs.Rules.{rules_of}
+use Rattle.om_history.specs.declared.records.UndoRecord.{UndoRecord}
+use Rattle.om_history.specs.Runs.{label_of}
+use Rattle.om_history.specs.Pasts.{history_in}
+use Rattle.std.proofs.lemmas.Result.{IfOk-weaker}
+use Rattle.om_picture.proofs.Replays.{is_plan}
+use Rattle.om_picture.proofs.replay.planned.Goals as goal
+
+pub plan-requires : goal.plan-requires
+plan-requires c =
+    let records : List UndoRecord = c.args.history.now.records in
+    let es : List Entry = (history_in c.args.history.now).entries in
+    c.low_counters.ensures c.args.program.now c.args.workers (2 ^ 63) (map label_of es) (state_of c.store.result.now)
+    (c.store.ensures.replayed (rules_of c.args.program.now c.args.workers) c.requires)
+    (omega (
+      arith,
+      c.requires.past.few,
+      c.requires.few_made,
+      length-map es label_of,
+      length-map records
+          (λ (k : UndoRecord). k.entry),
+    ))
+
+pub returns : goal.returns
+returns c = IfOk-weaker c.plan.result _ _
+    (λ p is. is_plan (rules_of c.args.program.now c.args.workers) c.args.history.now c.args.label
+    (state_of c.store.result.now) p c.requires c.store.ensures.state c.store.ensures.replayed is) c.plan.ensures

@@ -1,0 +1,12 @@
+//! The picture of a history, as data: its entries with what each touched, as boxes and arrows.
+#![tactic(auto)]
+
+mod arrows;
+mod picture;
+mod replay;
+mod traced;
+mod words;
+
+pub use picture::{Arrow, End, Picture, StepBox, picture_of};
+pub use replay::trace;
+pub use traced::Traced;

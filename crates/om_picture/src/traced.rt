@@ -1,0 +1,18 @@
+//! The entries of a history, each with what its step touched and what it did.
+
+use om_cells::Entry;
+use om_foot::Access;
+use om_seq::Seq;
+
+/// An entry of a history, with the footprint of its step at its place in the replay.
+#[derive(Drop)]
+pub struct Traced {
+    pub entry: Entry,
+    /// The objects that the step touched, its worker's control first.
+    pub footprint: Seq<Access>,
+    /// The name of its instruction.
+    pub instruction: Seq<u8>,
+    /// The variable that the instruction names and a value, as far as it has them, as `x = 1`: what the
+    /// step put there, or else what it left on its stack.
+    pub value: Seq<u8>,
+}

@@ -1,0 +1,204 @@
+//! What a step did, in words: its instruction, the variable that it names, and a value.
+
+use om_cells::{Choice, Control, Frame, Label, Store, Update, Val};
+use om_code::Program;
+use om_code::frame::{Cell, Operand};
+use om_code::instruction::{Instr, Place};
+use om_lookup::{Var, variable_at};
+use om_replies::{push_number, push_numbered};
+use om_seq::Seq;
+use om_task::Plan;
+use std::alloc::{AllocError, Global};
+
+/// The name of the instruction of a label's step, and the variable and the value that it has, by the
+/// store before it and its plan. The only error is out of memory.
+pub(crate) fn words_of(
+    alloc: Global,
+    program: &Program,
+    store: &Store,
+    label: &Label,
+    plan: &Plan,
+) -> Result<(Seq<u8>, Seq<u8>), AllocError> {
+    let mut name = Vec::new(alloc);
+    let mut value = Vec::new(alloc);
+    if let Choice::Start(task) = &label.choice {
+        name.extend_from_slice(b"START")?;
+        task.text(&mut value)?;
+    } else if let Some(Control::Running(stack)) = store.control(label.worker) {
+        push_instruction(&mut name, &mut value, program, &stack.top.frame)?;
+    }
+    if let Plan::Updates { updates, .. } = plan {
+        push_value(&mut value, updates.as_slice())?;
+    }
+    Ok((Seq::of(name), Seq::of(value)))
+}
+
+/// Appends the name of the instruction that a frame is at, and the variable or region that it names.
+fn push_instruction(
+    name: &mut Vec<u8>,
+    value: &mut Vec<u8>,
+    program: &Program,
+    frame: &Frame,
+) -> Result<(), AllocError> {
+    let Some(instruction) = program.instruction(frame.body, frame.next) else {
+        return Ok(());
+    };
+    if let Some(word) = name_in_sequence(instruction).or(name_in_construct(instruction)) {
+        name.extend_from_slice(word)?;
+    }
+    match instruction {
+        Instr::Load(place)
+        | Instr::Store { place, .. }
+        | Instr::LoadElement(place)
+        | Instr::StoreElement { place, .. }
+        | Instr::Atomic { place, .. }
+        | Instr::AtomicElement { place, .. }
+        | Instr::Reduce { place, .. } => push_place(value, program, frame, place),
+        Instr::AskCritical(lock) | Instr::EnterCritical(lock) | Instr::LeaveCritical(lock) => {
+            push_lock(value, program, lock)
+        }
+        _ => Ok(()),
+    }
+}
+
+/// Appends the name of a critical region, where it has one.
+fn push_lock(text: &mut Vec<u8>, program: &Program, lock: u32) -> Result<(), AllocError> {
+    match program.raw().locks.as_slice().get(lock as usize) {
+        Some(name) => text.extend_from_slice(name.as_slice()),
+        None => Ok(()),
+    }
+}
+
+/// Appends the name of a variable where a frame is, or the number of its slot.
+fn push_place(
+    text: &mut Vec<u8>,
+    program: &Program,
+    frame: &Frame,
+    place: Place,
+) -> Result<(), AllocError> {
+    match place {
+        Place::Global(variable) => match program.globals().get(variable as usize) {
+            Some(global) => text.extend_from_slice(global.name.as_slice()),
+            None => Ok(()),
+        },
+        Place::Slot(slot) => match name_at(program, frame, slot) {
+            Some(name) => text.extend_from_slice(name),
+            None => push_numbered(text, b"slot ", slot),
+        },
+    }
+}
+
+/// The name of a local variable where a frame is: the one that means this slot there.
+fn name_at<'a>(program: &'a Program, frame: &Frame, slot: u32) -> Option<&'a [u8]> {
+    for body in program.bodies() {
+        for scope in body.names.scopes.as_slice() {
+            let name = scope.name.as_slice();
+            if is_slot(variable_at(program, frame.body, frame.next, name), slot) {
+                return Some(name);
+            }
+        }
+    }
+    None
+}
+
+/// Whether a variable is in a slot.
+fn is_slot(variable: Option<Var>, slot: u32) -> bool {
+    matches!(variable, Some(Var::Slot { slot: other, .. }) if other == slot)
+}
+
+/// Appends the value that a step put into a variable, or else the one that it left on its stack.
+fn push_value(text: &mut Vec<u8>, updates: &[Update]) -> Result<(), AllocError> {
+    for update in updates {
+        if let Update::Put(Val::Cell(Cell::Int(number))) = update {
+            return push_number_behind(text, *number);
+        }
+    }
+    match updates.first() {
+        Some(Update::Put(value)) => push_top(text, value),
+        _ => Ok(()),
+    }
+}
+
+/// Appends a number, behind a name with ` = ` between them.
+fn push_number_behind(text: &mut Vec<u8>, number: i32) -> Result<(), AllocError> {
+    if text.is_empty() {
+        push_number(text, number)
+    } else {
+        push_numbered(text, b" = ", number)
+    }
+}
+
+/// Appends the number on top of the stack of a control's frame, if there is one.
+fn push_top(text: &mut Vec<u8>, value: &Val) -> Result<(), AllocError> {
+    let Some(Control::Running(stack)) = value.control() else {
+        return Ok(());
+    };
+    match stack.top.frame.operands.top() {
+        Some(Operand::Int(number)) => push_number_behind(text, *number),
+        _ => Ok(()),
+    }
+}
+
+/// The name of an instruction of C; `None` for those of OpenMP.
+fn name_in_sequence(instruction: Instr) -> Option<&'static [u8]> {
+    let name: &'static [u8] = match instruction {
+        Instr::Constant(_) => b"CONST",
+        Instr::Duplicate => b"DUP",
+        Instr::Pop => b"POP",
+        Instr::Nop => b"NOP",
+        Instr::Unary(_) => b"UN",
+        Instr::Binary(_) => b"BIN",
+        Instr::Jump(_) => b"JMP",
+        Instr::JumpIfZero(_) => b"JZ",
+        Instr::ThreadNumber => b"TNUM",
+        Instr::TeamSize => b"TSIZE",
+        Instr::Use => b"USE",
+        Instr::Load(_) => b"LOAD",
+        Instr::Store { .. } => b"STORE",
+        Instr::LoadElement(_) => b"LOADX",
+        Instr::StoreElement { .. } => b"STOREX",
+        Instr::Clear(_) => b"CLEAR",
+        Instr::Call { .. } => b"CALL",
+        Instr::Return => b"RET",
+        Instr::ReturnNothing => b"RETN",
+        Instr::Print { .. } => b"PRINT",
+        Instr::Atomic { .. } => b"ATOM",
+        Instr::AtomicElement { .. } => b"ATOMX",
+        Instr::Finish { .. } => b"FIN",
+        _ => return None,
+    };
+    Some(name)
+}
+
+/// The name of an instruction of OpenMP; `None` for those of C.
+fn name_in_construct(instruction: Instr) -> Option<&'static [u8]> {
+    let name: &'static [u8] = match instruction {
+        Instr::Fork { .. } => b"FORK",
+        Instr::Begin => b"BEGIN",
+        Instr::Loop(_) => b"LOOP",
+        Instr::Sections(_) => b"SECT",
+        Instr::Grab(_) => b"GRAB",
+        Instr::Iterate { .. } => b"ITER",
+        Instr::Pick(_) => b"PICK",
+        Instr::Single(_) => b"SINGLE",
+        Instr::EndWorksharing => b"ENDW",
+        Instr::Masked(_) => b"MASKED",
+        Instr::EndMasked => b"ENDM",
+        Instr::AskCritical(_) => b"CRACQ",
+        Instr::EnterCritical(_) => b"CRIN",
+        Instr::LeaveCritical(_) => b"CROUT",
+        Instr::Arrive(_) => b"ARRIVE",
+        Instr::Depart(_) => b"DEPART",
+        Instr::Leave => b"LEAVE",
+        Instr::Spawn { .. } => b"SPAWN",
+        Instr::TaskEnd => b"TEND",
+        Instr::WaitBegin => b"TWB",
+        Instr::WaitEnd => b"TWE",
+        Instr::Yield => b"YIELD",
+        Instr::GroupBegin => b"TGB",
+        Instr::GroupEnd => b"TGE",
+        Instr::Reduce { .. } => b"RED",
+        _ => return None,
+    };
+    Some(name)
+}
