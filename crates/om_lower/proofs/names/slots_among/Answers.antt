@@ -1,6 +1,6 @@
 use Rattle.om_rows.specs.Scopes.{slot_among}
-use Rattle.om_visible.proofs.Walking.{mapped_next}
-use Rattle.om_visible.proofs.names.slots_among.Goals as goal
+use Rattle.om_lower.proofs.NamesMapped.{mapped_next}
+use Rattle.om_lower.proofs.names.slots_among.Goals as goal
 
 pub loop-variable-preserved : goal.loop-variable-preserved
 loop-variable-preserved c =

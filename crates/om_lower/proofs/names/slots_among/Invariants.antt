@@ -1,6 +1,6 @@
 use Rattle.std.proofs.Common.{◌≡◌, ◌++◌, map, drop}
 use Rattle.om_rows.specs.Scopes.{slot_among}
-use Rattle.om_visible.proofs.names.slots_among.Given as goal
+use Rattle.om_lower.proofs.names.slots_among.Given as goal
 
 abbrev pub invariant-loop-variable : goal.invariant-loop-variable
 invariant-loop-variable l =
