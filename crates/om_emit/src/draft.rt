@@ -1,6 +1,6 @@
 //! Code that is being written, with labels in place of the targets of jumps.
 
-ghost use Rattle.std.specs.Prelude.{◌≡◌, IfOk, OnOk, None, Some, slice_get};
+ghost use Rattle.std.specs.Prelude.{◌≡◌, IfOk, OnOk, None, Some, length, slice_get};
 ghost use Rattle.om_emit.specs.Drafts.{Defines, Fresh, FreshLabels, FreshList, Puts, moved, nothing, place_in, settled, settled_code};
 ghost use Rattle.om_emit.specs.Settled.{settled_list, settled_lists};
 
@@ -60,6 +60,13 @@ impl Draft {
             places: Vec::new(alloc),
             picks: Vec::new(alloc),
         }
+    }
+
+    /// The place of the next instruction.
+    pub fn place(&self) -> u32
+        ensures { result ≡ length self.now.code }
+    {
+        self.code.len() as u32
     }
 
     /// Adds an instruction, with its line. The target of a jump is a label.

@@ -18,9 +18,8 @@ use Rattle.om_resolved.specs.ResolvedTree.{ResolvedFunctionTree, ResolvedTree}
 use Rattle.om_resolved.specs.Whole.{IsWholeTree}
 use Rattle.om_rows.specs.Bodies.{BodySite, Numbers, behind_function, behind_functions, bodies_from, bodies_of}
 use Rattle.om_rows.specs.Bodies.{first_numbers, function_bodies, variables_of}
-use Rattle.om_rows.specs.Code.{IsBodyOf, IsCodeOf, site_of}
-use Rattle.om_rows.specs.Laws.{AreNumbered, BodyIsLevel, CodeIsValid, ScopesFound}
-use Rattle.om_rows.specs.Names.{body_names}
+use Rattle.om_rows.specs.Code.{IsBodyOf, IsCodeOf}
+use Rattle.om_rows.specs.Laws.{AreNumbered, BodyIsLevel, CodeIsValid}
 
 -- ---- levels
 
@@ -87,25 +86,25 @@ numbered_slots tree picked (b ∷ sites) (body ∷ bodies) made =
 
 -- ---- the program
 
-pub side_by_side_in : (law : ScopesFound) (tree : ResolvedTree) (picked : List PickList) (raw : Raw) (sites : List BodySite)
+pub side_by_side_in : (tree : ResolvedTree) (picked : List PickList) (raw : Raw) (sites : List BodySite)
     (bodies : List Body)
     → ListsStand picked raw.picks → AreMade tree picked sites bodies → AllZip (IsBodyOf tree raw) sites bodies
-side_by_side_in law tree picked raw [] [] stand made = tt
-side_by_side_in law tree picked raw [] (body ∷ bodies) stand made = absurd made
-side_by_side_in law tree picked raw (b ∷ sites) [] stand made = absurd made
-side_by_side_in law tree picked raw (b ∷ sites) (body ∷ bodies) stand made =
+side_by_side_in tree picked raw [] [] stand made = tt
+side_by_side_in tree picked raw [] (body ∷ bodies) stand made = absurd made
+side_by_side_in tree picked raw (b ∷ sites) [] stand made = absurd made
+side_by_side_in tree picked raw (b ∷ sites) (body ∷ bodies) stand made =
     let one = made.0 in (
       record {
         code = one.code raw.picks stand;
         slots = one.slots;
         given = one.given;
         names = record {
-          scopes = (body_names b.function b.tree).closed;
-          stand = law (site_of tree raw b body) b.numbers b.function b.tree (one.code raw.picks stand);
-          named = one.names;
+          scopes = one.names.scopes;
+          stand = one.names.stand raw.picks stand;
+          named = one.names.named;
         };
       },
-      side_by_side_in law tree picked raw sites bodies stand made.1,
+      side_by_side_in tree picked raw sites bodies stand made.1,
     )
 
 take_all : {A : Type 0} (xs : List A) (k : ℕ) → k ≡ length xs → take k xs ≡ xs

@@ -5,14 +5,14 @@ use Rattle.std.proofs.lemmas.List.{append_assoc, append-nil, map-append}
 use Rattle.std.specs.List.{flat_map}
 use Rattle.om_lower.specs.declared.emitted.Emitted.{Emitted}
 use Rattle.om_emit.specs.declared.draft.PickList.{PickList}
-use Rattle.om_lower.specs.Emitted.{HasLists, HasRow}
+use Rattle.om_lower.specs.Emitted.{HasLists, HasRow, HasScopesRow}
 use Rattle.om_emit.specs.Settled.{ListsStand, number_of}
 use Rattle.om_code.specs.declared.raw.Body.{Body}
 use Rattle.om_code.specs.declared.raw.Line.{Line}
 use Rattle.om_code.specs.declared.raw.Names as raws
 use Rattle.om_code.specs.declared.raw.Slot.{Slot}
 use Rattle.om_lower.specs.Frames.{FitsFrame}
-use Rattle.om_lower.specs.Limits.{HasFewSlots, HasManySlots, IsCodeAt, IsOver, long, many_cells, many_slots}
+use Rattle.om_lower.specs.Limits.{AreScopesAt, HasFewSlots, HasManySlots, IsCodeAt, IsOver, long, many_cells, many_slots}
 use Rattle.om_lower.specs.Made.{AddsBody, AddsFunction, AreFunctions, AreListsOf, AreMade, FitsBody, FitsCode}
 use Rattle.om_lower.specs.Made.{FitsFunction, IsGathered, IsMade}
 use Rattle.om_lower.specs.declared.bodies.Bodies.{Bodies}
@@ -29,7 +29,7 @@ use Rattle.om_resolved.specs.Uses.{is_main_function}
 use Rattle.om_rows.specs.Bodies.{BodySite, Numbers, behind_function, behind_functions, bodies_from, first_numbers}
 use Rattle.om_rows.specs.Bodies.{function_bodies, variables_of}
 use Rattle.om_rows.specs.Code.{captures_of, given_of, slots_of}
-use Rattle.om_rows.specs.Names.{names_of}
+use Rattle.om_rows.specs.Scopes.{names_with}
 use Rattle.om_rows.specs.Mentions.{extents_of}
 use Rattle.om_rows.specs.Slots.{Extent, cells_in, slot_with}
 use Rattle.om_tables.specs.Names.{Names, names_in}
@@ -47,6 +47,20 @@ code_at tree b names variables main made same_names same_main same_variables row
     HasRow (names_in tree variables x) b.numbers b.function b.tree made) same_main first in
     subst (λ x. HasRow (names_in tree x (is_main_function b.function)) b.numbers b.function
     b.tree made) same_variables second
+
+-- and so do its scopes
+pub scopes_at : (tree : ResolvedTree) (b : BodySite) (names : Names) (variables : List ℕ) (main : Bool)
+    (made : Emitted)
+    → names ≡ names_in tree variables main → main ≡ is_main_function b.function
+    → variables ≡ variables_of b
+    → HasScopesRow names b.function b.tree made
+    → (picks : List (List ℕ)) → ListsStand made.lists.items picks
+    → AreScopesAt tree picks b made.code made.scopes.items
+scopes_at tree b names variables main made same_names same_main same_variables row =
+    let first = subst (λ x. HasScopesRow x b.function b.tree made) same_names row in
+    let second = subst (λ x. HasScopesRow (names_in tree variables x) b.function b.tree made) same_main first in
+    subst (λ x. HasScopesRow (names_in tree x (is_main_function b.function)) b.function b.tree made)
+    same_variables second
 
 -- code that is too long
 pub too_long : (tree : ResolvedTree) (b : BodySite) (made : Emitted)
@@ -87,7 +101,7 @@ over_code tree b fits = long fits.0 fits.1 fits.2 fits.3
 pub made_body : (tree : ResolvedTree) (b : BodySite) (made : Emitted) (body : LoweredBody) (slots : List Slot)
     (given : List ℕ) (names : raws.Names)
     → FitsFrame (variables_of b) (slots_of b) (Some slots) → FitsCode tree b (Some made)
-    → given ≡ given_of b → names ≡ names_of b
+    → given ≡ given_of b → names ≡ names_with (variables_of b) b.outer made.scopes.items
     → body.body ≡ record { code = made.code; slots = slots; given = given; names = names } → body.lists.items
     ≡ made.lists.items
     → FitsBody tree b (Some body)
@@ -97,7 +111,7 @@ made_body tree b made body slots given names frame fits same named is lists = (
         code = fits.0;
         slots = frame.0;
         given = same;
-        names = named;
+        names = record { scopes = made.scopes.items; stand = fits.3; named = named };
         room = record { slots = frame.1; cells = frame.2 };
         short = fits.1;
       })),

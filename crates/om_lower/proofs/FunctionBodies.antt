@@ -183,7 +183,11 @@ wider_made tree some all (b ∷ sites) (body ∷ bodies) wider made =
         code = λ picks stand. one.code picks (wider picks stand);
         slots = one.slots;
         given = one.given;
-        names = one.names;
+        names = record {
+          scopes = one.names.scopes;
+          stand = λ picks stand. one.names.stand picks (wider picks stand);
+          named = one.names.named;
+        };
         room = one.room;
         short = one.short;
       },

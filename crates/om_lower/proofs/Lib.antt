@@ -15,4 +15,5 @@ pub mod Rounds
 pub mod Knowing
 pub mod Ready
 pub mod Refusing
+pub mod NamesMapped
 pub mod Assembled

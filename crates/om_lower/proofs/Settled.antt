@@ -1,19 +1,23 @@
 -- The code of a body, once all of it is written.
 use Rattle.std.proofs.Common.{◌≡◌, ℕ, zero, suc, List, [], ◌∷◌, Some, Contains, get_or, map, length, refl, sym, ap}
-use Rattle.std.proofs.Common.{subst, ◌∙◌}
+use Rattle.std.proofs.Common.{◌++◌, arith, subst, ◌∙◌}
 use Rattle.std.specs.Prelude.{slice_get}
 use Rattle.std.proofs.lemmas.List.{length-map}
 use Rattle.std.proofs.lemmas.Option.{slice_get_within}
 use Rattle.om_lower.specs.declared.emitted.Emitted.{Emitted}
-use Rattle.om_lower.specs.Emitted.{EmitsBody, HasLists, HasRow}
+use Rattle.om_lower.specs.Emitted.{EmitsBody, HasLists, HasRow, HasScopesRow}
 use Rattle.om_emit.specs.declared.draft.Pick.{Pick}
 use Rattle.om_emit.specs.Drafts.{Labels, Written, known, nothing, place_in, settled, settled_code}
 use Rattle.om_emit.specs.Emits.{Finished, Fits}
 use Rattle.om_emit.specs.Settled.{ListsStand, number_of, settled_list, settled_lists}
 use Rattle.om_resolved.specs.ResolvedTree.{ResolvedFunctionTree}
-use Rattle.om_rows.specs.Bodies.{BodyTree, Numbers}
+use Rattle.om_rows.specs.Bodies.{BodyTree, FunctionBody, Numbers, ParallelBody, TaskBody}
 use Rattle.om_rows.specs.Code.{body_row}
+use Rattle.om_rows.specs.Rows.{Site}
+use Rattle.om_rows.specs.Scopes.{Found, body_scopes}
+use Rattle.om_statements.specs.declared.writing.ScopeStack.{ScopeStack}
 use Rattle.om_statements.specs.Emits.{pick_number}
+use Rattle.om_statements.specs.Scoped.{ScopesStand}
 use Rattle.om_tables.specs.Names.{Names, site_with}
 
 get_map : {A B : Type 0} → (f : A → B) (xs : List A) (k : ℕ) (x : A) → slice_get xs k ≡ Some x
@@ -71,3 +75,40 @@ pub lists_are : (names : Names) (n : Numbers) (f : ResolvedFunctionTree) (tree :
 lists_are names n f tree start final made first lists emitted =
     let whole = subst (λ d. EmitsBody names n f tree d final) first emitted in
     ap (map number_of) lists ∙ numbers_same (place_in final.places) final.picks ∙ whole.adds
+
+-- all scopes of a body are over at its end
+all_over : (at : Site) (f : ResolvedFunctionTree) (tree : BodyTree) (p q : ℕ) (found : Found)
+    → body_scopes at f tree p q found → found ≡ record { opened = []; closed = found.closed }
+all_over at f FunctionBody p q found r = λ i. record { opened = (ap (λ (x : Found). x.opened) r.2) i; closed = found.closed }
+all_over at f (ParallelBody first clauses captures s) p q found r =
+    λ i. record { opened = (ap (λ (x : Found). x.opened) r.2) i; closed = found.closed }
+all_over at f (TaskBody first clauses captures s) p q found r =
+    λ i. record { opened = (ap (λ (x : Found). x.opened) r.2) i; closed = found.closed }
+
+-- what begins and ends in a body that is written from nothing are its scopes, in its own code
+pub scopes_stand : (names : Names) (f : ResolvedFunctionTree) (tree : BodyTree) (start final : Written)
+    (x y : ScopeStack) (made : Emitted) → start ≡ nothing → x.closed.items ≡ [] → made.code ≡ settled_code final
+    → made.lists.items ≡ settled_lists final → made.scopes.items ≡ y.closed.items
+    → ScopesStand names (λ at. body_scopes at f tree) start x final y → HasScopesRow names f tree made
+scopes_stand names f tree start final x y made first none same lists ended h picks stand =
+    let done : Finished = record { code = settled_code final; picks = picks } in
+    let at = site_with names (settled_code final) picks in
+    let row : body_scopes at f tree 0 (length final.code) h.found =
+    subst (λ p. body_scopes at f tree p (length final.code) h.found) (ap (λ (d : Written). length d.code) first)
+    (h.stands done (place_in final.places) (fits_later start final
+    (settled_fits final picks (subst (λ all. ListsStand all picks) lists stand)))) in
+    let closed : h.found.closed ≡ made.scopes.items =
+    sym (ended ∙ h.closed ∙ ap (λ xs. xs ++ h.found.closed) none) in
+    let whole : body_scopes at f tree 0 (length final.code) (record { opened = []; closed = made.scopes.items }) =
+    subst (λ xs. body_scopes at f tree 0 (length final.code) (record { opened = []; closed = xs })) closed
+    (subst (λ z. body_scopes at f tree 0 (length final.code) z) (all_over at f tree 0 (length final.code) h.found row)
+    row) in
+    let long : body_scopes at f tree 0 (length (settled_code final)) (record { opened = []; closed = made.scopes.items }) =
+    subst (λ q. body_scopes at f tree 0 q (record { opened = []; closed = made.scopes.items }))
+    (sym (length-map final.code (settled (place_in final.places)))) whole in
+    subst (λ c. body_scopes (site_with names c picks) f tree 0 (length c)
+    (record { opened = []; closed = made.scopes.items })) (sym same) long
+  where
+    fits_later : (a b : Written) → Fits (record { code = settled_code final; picks = picks }) (place_in final.places) 0 b
+        → Fits (record { code = settled_code final; picks = picks }) (place_in final.places) (length a.code) b
+    fits_later a b f = record { code = λ k x le e. f.code k x (omega arith) e; places = f.places; picks = f.picks }

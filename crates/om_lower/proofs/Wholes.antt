@@ -1,5 +1,5 @@
 -- All that stands in a body, one thing behind the other.
-use Rattle.std.proofs.Common.{◌≡◌, ℕ, List, Bool, true, false, None, length, sym, subst, arith}
+use Rattle.std.proofs.Common.{◌≡◌, ℕ, List, Bool, true, false, None, ◌≤◌, length, sym, subst, arith}
 use Rattle.om_lower.specs.Emitted.{EmitsBody, EmitsRegion}
 use Rattle.om_code.specs.declared.instruction.Barrier.TheVariants as barriers
 use Rattle.om_code.specs.declared.instruction.Instr.{Instr}
@@ -18,7 +18,13 @@ use Rattle.om_rows.specs.Statements.{nowhere, reduction_starts, reductions, stat
 use Rattle.om_statements.specs.declared.labels.JumpLabels.{JumpLabels}
 use Rattle.om_statements.specs.declared.spot.Spot.{Spot}
 use Rattle.om_statements.specs.Emits.{EmitsStatement, EmitsStatements, EmitsWith}
-use Rattle.om_statements.specs.Going.{before_with, goes_then, with_as, with_behind}
+use Rattle.om_resolved.specs.declared.resolved.LocalVariable.{LocalVariable}
+use Rattle.om_rows.specs.Scopes.{after, all_scopes, before, block, body_scopes, both, each_scope, instructions}
+use Rattle.om_rows.specs.Scopes.{parameter_scope, scopes, task_scope, team_scope}
+use Rattle.om_statements.specs.declared.writing.ScopeStack.{ScopeStack}
+use Rattle.om_statements.specs.Going.{before_with, goes_then, with_as, with_behind, writes_then}
+use Rattle.om_statements.specs.Scoped.{EndsScopes, ScopesStand}
+use Rattle.om_statements.specs.Scoping.{stand_after, stand_before, stand_block, stand_both, writes_as, writes_put}
 use Rattle.om_tables.specs.declared.numbers.Numbers as tables
 use Rattle.om_tables.specs.Names.{Names}
 use Rattle.om_tables.specs.Numbering.{numbers_of}
@@ -111,3 +117,64 @@ parallel_emits names numbers spot first clauses captures s a b c d e g h outside
 
     inside : EmitsStatement names (numbers_of numbers) s no_jumps c d
     inside = subst (λ x. EmitsStatement names (numbers_of x.numbers) s x.jumps c d) outside emitted
+
+-- ---- scopes
+
+pub function_scopes : (names : Names) (f : ResolvedFunctionTree) (items : ResolvedStatementsTree) (last : Instr)
+    (xs : List LocalVariable) (height to : ℕ) (a b c : Written) (x y z w : ScopeStack) → items ≡ f.body
+    → xs ≡ f.parameters → height ≡ length x.opened.items → to ≡ length c.code
+    → ScopesStand names (λ at. each_scope parameter_scope xs) a x a y
+    → ScopesStand names (λ at. all_scopes at items) a y b z → Puts f.closing_line last b c
+    → (height ≤ length z.opened.items → EndsScopes height to z w)
+    → ScopesStand names (λ at. body_scopes at f FunctionBody) a x c w
+function_scopes names f items last xs height to a b c x y z w all parameters high here head inside put ends =
+    stand_block names (λ at. both (each_scope parameter_scope f.parameters)
+    (before (all_scopes at f.body) (instructions 1))) a x c z w height to high here
+    (stand_both names (λ at. each_scope parameter_scope f.parameters)
+    (λ at. before (all_scopes at f.body) (instructions 1)) a x a y c z
+    (subst (λ vs. ScopesStand names (λ at. each_scope parameter_scope vs) a x a y) parameters head)
+    (stand_before names (λ at. all_scopes at f.body) (λ at. instructions 1) a y b z c
+    (subst (λ k. ScopesStand names (λ at. all_scopes at k) a y b z) all inside)
+    (writes_put names f.closing_line last b c put))) ends
+
+pub task_scopes : (names : Names) (first : Span) (clauses : List ResolvedClauseTree) (captures : List Capture)
+    (s : ResolvedStatementTree) (height to : ℕ) (last : Instr) (a b c : Written) (x y z w : ScopeStack)
+    → height ≡ length x.opened.items → to ≡ length c.code
+    → ScopesStand names (λ at. each_scope task_scope clauses) a x a y
+    → ScopesStand names (λ at. block (scopes at s)) a y b z → Puts first.line last b c
+    → (height ≤ length z.opened.items → EndsScopes height to z w)
+    → (f : ResolvedFunctionTree) → ScopesStand names (λ at. body_scopes at f (TaskBody first clauses captures s)) a x c w
+task_scopes names first clauses captures s height to last a b c x y z w high here head inside put ends f =
+    stand_block names (λ at. both (each_scope task_scope clauses) (before (block (scopes at s)) (instructions 1))) a x c z
+    w height to high here
+    (stand_both names (λ at. each_scope task_scope clauses) (λ at. before (block (scopes at s)) (instructions 1)) a x a y
+    c z head
+    (stand_before names (λ at. block (scopes at s)) (λ at. instructions 1) a y b z c inside
+    (writes_put names first.line last b c put))) ends
+
+pub parallel_scopes : (names : Names) (first : Span) (clauses : List ResolvedClauseTree) (captures : List Capture)
+    (s : ResolvedStatementTree) (height to : ℕ) (u v t : Instr) (a b c d e g h : Written) (x y z w : ScopeStack)
+    → height ≡ length x.opened.items → to ≡ length h.code → Puts first.line u a b
+    → ScopesStand names (λ at. each_scope (team_scope at first.line) clauses) b x c y
+    → ScopesStand names (λ at. block (scopes at s)) c y d z
+    → EmitsRow names (λ at. reductions at first.line clauses) d e → Puts first.line v e g → Puts first.line t g h
+    → (height ≤ length z.opened.items → EndsScopes height to z w)
+    → (f : ResolvedFunctionTree)
+    → ScopesStand names (λ at. body_scopes at f (ParallelBody first clauses captures s)) a x h w
+parallel_scopes names first clauses captures s height to u v t a b c d e g h x y z w high here begin starts inside
+    combined arrive leave ends f =
+    stand_block names (λ at. both (after (instructions 1) (each_scope (team_scope at first.line) clauses))
+    (before (block (scopes at s)) (part (reductions at first.line clauses) (instructions 2)))) a x h z w height to high
+    here
+    (stand_both names (λ at. after (instructions 1) (each_scope (team_scope at first.line) clauses))
+    (λ at. before (block (scopes at s)) (part (reductions at first.line clauses) (instructions 2))) a x c y h z
+    (stand_after names (λ at. instructions 1) (λ at. each_scope (team_scope at first.line) clauses) a b x c y
+    (writes_put names first.line u a b begin) starts)
+    (stand_before names (λ at. block (scopes at s)) (λ at. part (reductions at first.line clauses) (instructions 2)) c y d
+    z h inside
+    (writes_then (λ done at. reductions (site names done) first.line clauses) (λ done at. instructions 2) d e h
+    combined.writes
+    (writes_as (λ done at. part (instructions 1) (instructions 1)) (λ done at. instructions 2) e h
+    (λ done at p q r. let k = r.1 in let l = r.2 in omega (arith, k, l))
+    (writes_then (λ done at. instructions 1) (λ done at. instructions 1) e g h
+    (writes_put names first.line v e g arrive) (writes_put names first.line t g h leave)))))) ends

@@ -1,5 +1,5 @@
 -- What is promised of the code of a body.
-use Rattle.std.specs.Prelude.{◌≡◌, ℕ, List, length, map}
+use Rattle.std.specs.Prelude.{◌≡◌, ℕ, List, [], length, map}
 use Rattle.om_lower.specs.declared.emitted.Emitted.{Emitted}
 use Rattle.om_emit.specs.Drafts.{Written}
 use Rattle.om_emit.specs.Emits.{site}
@@ -7,7 +7,10 @@ use Rattle.om_emit.specs.Settled.{ListsStand, number_of}
 use Rattle.om_resolved.specs.ResolvedTree.{ResolvedFunctionTree}
 use Rattle.om_rows.specs.Bodies.{BodyTree, Numbers}
 use Rattle.om_rows.specs.Code.{body_row}
+use Rattle.om_rows.specs.Scopes.{body_scopes}
+use Rattle.om_statements.specs.declared.writing.Writing.{Writing}
 use Rattle.om_statements.specs.Emits.{EmitsWith}
+use Rattle.om_statements.specs.Scoped.{EmitsScopes}
 use Rattle.om_tables.specs.Names.{Names, site_with}
 use Rattle.om_tables.specs.Picks.{body_picks}
 
@@ -16,6 +19,12 @@ abbrev pub HasRow : Names → Numbers → ResolvedFunctionTree → BodyTree → 
 HasRow names n f tree made = (picks : List (List ℕ)) → ListsStand made.lists.items picks
     → body_row (site_with names made.code picks) n f tree 0 (length made.code)
 
+-- and so do its scopes
+abbrev pub HasScopesRow : Names → ResolvedFunctionTree → BodyTree → Emitted → Type 0
+HasScopesRow names f tree made = (picks : List (List ℕ)) → ListsStand made.lists.items picks
+    → body_scopes (site_with names made.code picks) f tree 0 (length made.code)
+    (record { opened = []; closed = made.scopes.items })
+
 -- it has the lists of the `sections` in it
 abbrev pub HasLists : Numbers → ResolvedFunctionTree → BodyTree → Emitted → Type 0
 HasLists n f tree made = map number_of made.lists.items ≡ body_picks n f tree
@@ -23,6 +32,9 @@ HasLists n f tree made = map number_of made.lists.items ≡ body_picks n f tree
 -- the same of a region, in whichever function it stands
 abbrev pub HasRegionRow : Names → Numbers → BodyTree → Emitted → Type 0
 HasRegionRow names n tree made = (f : ResolvedFunctionTree) → HasRow names n f tree made
+
+abbrev pub HasRegionScopes : Names → BodyTree → Emitted → Type 0
+HasRegionScopes names tree made = (f : ResolvedFunctionTree) → HasScopesRow names f tree made
 
 abbrev pub HasRegionLists : Numbers → BodyTree → Emitted → Type 0
 HasRegionLists n tree made = (f : ResolvedFunctionTree) → HasLists n f tree made
@@ -33,3 +45,6 @@ EmitsBody names n f tree = EmitsWith (body_picks n f tree) (λ done at. body_row
 
 abbrev pub EmitsRegion : Names → Numbers → BodyTree → Written → Written → Type 0
 EmitsRegion names n tree old new = (f : ResolvedFunctionTree) → EmitsBody names n f tree old new
+
+abbrev pub EmitsRegionScopes : Names → BodyTree → Writing → Writing → Type 0
+EmitsRegionScopes names tree old new = (f : ResolvedFunctionTree) → EmitsScopes names (λ at. body_scopes at f tree) old new

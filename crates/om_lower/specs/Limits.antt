@@ -1,5 +1,5 @@
 -- The limits on bodies, and which functions pass them.
-use Rattle.std.specs.Prelude.{◌≡◌, ◌<◌, ◌≤◌, ℕ, Bool, true, false, List, ◌∷◌, ◌++◌, All, Any, length, map, sum}
+use Rattle.std.specs.Prelude.{◌≡◌, ◌<◌, ◌≤◌, ℕ, Bool, true, false, List, [], ◌∷◌, ◌++◌, All, Any, length, map, sum}
 use Rattle.om_code.specs.declared.raw.Line.{Line}
 use Rattle.om_code.specs.declared.raw.Slot.{Slot}
 use Rattle.om_code.specs.declared.raw.Source.{Source}
@@ -12,6 +12,8 @@ use Rattle.om_resolved.specs.Uses.{is_main_function}
 use Rattle.om_rows.specs.Bodies.{BodySite, behind_functions, bodies_from, bodies_of, first_numbers, function_bodies}
 use Rattle.om_rows.specs.Bodies.{variables_of}
 use Rattle.om_rows.specs.Code.{body_row, slots_of}
+use Rattle.om_rows.specs.declared.scope.VariableScope.{VariableScope}
+use Rattle.om_rows.specs.Scopes.{body_scopes}
 use Rattle.om_tables.specs.Names.{names_in, site_with}
 
 -- the cells that a frame has of its own for a slot
@@ -30,6 +32,12 @@ abbrev pub IsCodeAt : ResolvedTree → (picks : List (List ℕ)) → BodySite �
 IsCodeAt tree picks b code =
     body_row (site_with (names_in tree (variables_of b) (is_main_function b.function)) code picks) b.numbers
     b.function b.tree 0 (length code)
+
+-- these are the scopes in it, all of which end with it
+abbrev pub AreScopesAt : ResolvedTree → (picks : List (List ℕ)) → BodySite → List Line → List VariableScope → Type 0
+AreScopesAt tree picks b code scopes =
+    body_scopes (site_with (names_in tree (variables_of b) (is_main_function b.function)) code picks) b.function b.tree
+    0 (length code) (record { opened = []; closed = scopes })
 
 abbrev pub HasFewSlots : BodySite → Type 0
 HasFewSlots b = length (variables_of b) ≤ 256

@@ -5,6 +5,7 @@ use Rattle.std.specs.List.{AllZip, flat_map}
 use Rattle.om_lower.specs.declared.emitted.Emitted.{Emitted}
 use Rattle.om_code.specs.declared.raw.Body.{Body}
 use Rattle.om_code.specs.declared.raw.Line.{Line}
+use Rattle.om_code.specs.declared.raw.Names.{Names}
 use Rattle.om_emit.specs.declared.draft.PickList.{PickList}
 use Rattle.om_emit.specs.Settled.{ListsStand, number_of}
 use Rattle.om_lower.specs.declared.bodies.Bodies.{Bodies}
@@ -12,15 +13,15 @@ use Rattle.om_lower.specs.declared.bodies.LoweredBody.{LoweredBody}
 use Rattle.om_lower.specs.declared.functions.Lowered.{Lowered}
 use Rattle.om_lower.specs.declared.functions.Next.{Next}
 use Rattle.om_lower.specs.Heights.{AreLow, IsFirst}
-use Rattle.om_lower.specs.Limits.{HasRoom, IsCodeAt, IsOver}
+use Rattle.om_lower.specs.Limits.{AreScopesAt, HasRoom, IsCodeAt, IsOver}
 use Rattle.om_lower.specs.Once.{site_picks}
+use Rattle.om_rows.specs.declared.scope.VariableScope.{VariableScope}
 use Rattle.om_resolved.specs.ResolvedTree.{ResolvedFunctionTree, ResolvedTree}
 use Rattle.om_rows.specs.Bodies.{BodySite, Numbers, behind_function, behind_functions, bodies_from, first_numbers}
-use Rattle.om_rows.specs.Bodies.{function_bodies}
-use Rattle.om_rows.specs.Bodies.{variables_of}
+use Rattle.om_rows.specs.Bodies.{function_bodies, variables_of}
 use Rattle.om_rows.specs.Code.{given_of, slots_of}
 use Rattle.om_rows.specs.Coded.{BodyHasCode}
-use Rattle.om_rows.specs.Names.{names_of}
+use Rattle.om_rows.specs.Scopes.{names_with}
 use Rattle.om_rows.specs.Positions.{StandsAt}
 use Rattle.om_resolved.specs.ResolvedView.{view_resolved_function}
 use Rattle.om_tables.specs.declared.tables.Tables.{Tables}
@@ -28,12 +29,19 @@ use Rattle.om_tables.specs.Ends.{function_ends}
 use Rattle.om_tables.specs.Numbering.{numbers_of}
 use Rattle.om_tables.specs.Tables.{AreCellsOf, ends_in}
 
+-- what names mean in a body, by its scopes, in every program that has these lists of PICK
+pub record AreNames (tree : ResolvedTree) (lists : List PickList) (b : BodySite) (code : List Line) (names : Names)
+    : Type 0 where
+  pub scopes : List VariableScope
+  pub stand : (picks : List (List ℕ)) → ListsStand lists picks → AreScopesAt tree picks b code scopes
+  pub named : names ≡ names_with (variables_of b) b.outer scopes
+
 -- a body of the tree, in every program that has these lists of PICK
 pub record IsMade (tree : ResolvedTree) (lists : List PickList) (b : BodySite) (body : Body) : Type 0 where
   pub code : (picks : List (List ℕ)) → ListsStand lists picks → IsCodeAt tree picks b body.code
   pub slots : body.slots ≡ slots_of b
   pub given : body.given ≡ given_of b
-  pub names : body.names ≡ names_of b
+  pub names : AreNames tree lists b body.code body.names
   pub room : HasRoom b
   pub short : length body.code ≤ 65536
 
@@ -58,6 +66,8 @@ FitsCode tree b None = (picks : List (List ℕ)) × (code : List Line) × IsCode
 FitsCode tree b (Some made) = ((picks : List (List ℕ)) → ListsStand made.lists.items picks → IsCodeAt tree picks b
     made.code)
     × (length made.code ≤ 65536) × (map number_of made.lists.items ≡ site_picks b)
+    × ((picks : List (List ℕ)) → ListsStand made.lists.items picks → AreScopesAt tree picks b made.code
+    made.scopes.items)
 
 -- a body, if it passes no limit
 abbrev pub FitsBody : ResolvedTree → BodySite → Option LoweredBody → Type 0

@@ -1,7 +1,7 @@
 //! The bodies of a function, each within its limits.
 
 ghost use Rattle.std.specs.Prelude.{◌≡◌, ◌≤◌, ◌∷◌, ◌++◌, [], All, Any, IfOk, OnOk, Some, false, length, map, true};
-ghost use Rattle.om_lower.specs.Emitted.{HasLists, HasRow};
+ghost use Rattle.om_lower.specs.Emitted.{HasLists, HasRow, HasScopesRow};
 ghost use Rattle.om_lower.specs.Frames.{FitsFrame};
 ghost use Rattle.om_lower.specs.Limits.{HasFewSlots, HasManySlots, HasSlots};
 ghost use Rattle.om_lower.specs.Made.{AddsBody, FitsBodies, FitsBody, FitsCode};
@@ -10,7 +10,6 @@ ghost use Rattle.om_resolved.specs.ResolvedView.{view_resolved, view_resolved_cl
 ghost use Rattle.om_rows.specs.Bodies.{region_variables, variables_of};
 ghost use Rattle.om_rows.specs.Code.{captures_of, given_of, slots_of};
 ghost use Rattle.om_rows.specs.Coded.{BodyHasCode};
-ghost use Rattle.om_rows.specs.Names as named;
 ghost use Rattle.om_rows.specs.Slots.{slot_of};
 ghost use Rattle.om_rows.specs.Statements.{given_copies};
 ghost use Rattle.om_tables.specs.Ends.{HasBodyEnds};
@@ -21,19 +20,18 @@ use crate::body::{function_body, parallel_body, task_body};
 use crate::emitted::Emitted;
 use crate::frames::{SLOT_LIMIT, frame_of};
 use crate::functions::{INSTRUCTION_LIMIT, Whole, is_main};
+use crate::names::names_with;
 use crate::region::Region;
 use crate::sites::{BodyPart, Site};
 use om_code::Body;
-use om_code::raw::{Names, Slot};
+use om_code::raw::Slot;
 use om_emit::draft::PickList;
 use om_resolved::Capture;
-use om_rows::VariableScope;
 use om_seq::Seq;
 use om_tables::{
     Extents, Scope, Variables, copy_slots, function_variables, given_copies_in, parameter_slots,
     region_variables,
 };
-use om_visible::{function_names, names_with, parallel_names, task_names};
 use std::alloc::{AllocError, Global};
 
 /// Adds the variables of these bodies behind those of other ones; false where a body has more than 256 slots.
@@ -255,27 +253,20 @@ fn body_on(
         None => Ok(None),
         Some(emitted) => {
             let given = given_in(whole.alloc, seen)?;
-            let names = names_in(whole.alloc, seen)?;
-            Ok(Some(body_of(slots, given, names, emitted)))
+            let Emitted {
+                code,
+                lists,
+                scopes,
+            } = emitted;
+            let names = names_with(whole.alloc, scopes, seen.variables, seen.outer)?;
+            let body = Body {
+                code,
+                slots,
+                given,
+                names,
+            };
+            Ok(Some(LoweredBody { body, lists }))
         }
-    }
-}
-
-/// A body of these parts.
-fn body_of(slots: Seq<Slot>, given: Seq<u32>, names: Names, emitted: Emitted) -> LoweredBody
-    ensures body { result.body
-        ≡ record { code = emitted.code; slots = slots; given = given; names = names } }
-    ensures lists { result.lists ≡ emitted.lists }
-{
-    let Emitted { code, lists } = emitted;
-    LoweredBody {
-        body: Body {
-            code,
-            slots,
-            given,
-            names,
-        },
-        lists,
     }
 }
 
@@ -362,6 +353,8 @@ fn emitted_in(alloc: Global, scope: &Scope<'_>, site: &Site<'_>) -> Result<Emitt
         IfOk result (HasRow (names_of scope.now) b.numbers b.function b.tree) }
     ensures lists { let b = body_in [] site.now in
         IfOk result (HasLists b.numbers b.function b.tree) }
+    ensures scopes { let b = body_in [] site.now in
+        IfOk result (HasScopesRow (names_of scope.now) b.function b.tree) }
 {
     match &site.part {
         BodyPart::Function => function_body(alloc, scope, site.numbers, site.function),
@@ -389,29 +382,6 @@ fn given_in(alloc: Global, seen: &SeenBody<'_>) -> Result<Seq<u32>, AllocError>
         }
         BodyPart::Parallel(region) => copies_given(alloc, region, seen.variables),
         BodyPart::Task(region) => copies_given(alloc, region, seen.variables),
-    }
-}
-
-/// What names mean in a body.
-fn names_in(alloc: Global, seen: &SeenBody<'_>) -> Result<Names, AllocError>
-    requires few { HasFewSlots (seen_body seen.now) }
-    requires round { length seen.now.outer.now ≤ 256 }
-    requires variables { seen.now.variables.now ≡ variables_of (seen_body seen.now) }
-    ensures { IfOk result (λ names. names ≡ named.names_of (seen_body seen.now)) }
-{
-    let named = scopes_in(alloc, seen.site)?;
-    names_with(alloc, named, seen.variables, seen.outer)
-}
-
-/// The scopes of names in a body, before the slots of its variables are known.
-fn scopes_in(alloc: Global, site: &Site<'_>) -> Result<Vec<VariableScope>, AllocError>
-    ensures { let b = body_in [] site.now in
-        IfOk result (λ scopes. scopes.items ≡ (named.body_names b.function b.tree).closed) }
-{
-    match &site.part {
-        BodyPart::Function => function_names(alloc, site.function),
-        BodyPart::Parallel(region) => parallel_names(alloc, region.clauses, region.statement),
-        BodyPart::Task(region) => task_names(alloc, region.clauses, region.statement),
     }
 }
 

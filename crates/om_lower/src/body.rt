@@ -1,7 +1,7 @@
 //! The code of the bodies of functions, of `parallel` and of `task`.
 
 ghost use Rattle.std.specs.Prelude.{IfOk, false};
-ghost use Rattle.om_lower.specs.Emitted.{HasLists, HasRegionLists, HasRegionRow, HasRow};
+ghost use Rattle.om_lower.specs.Emitted.{HasLists, HasRegionLists, HasRegionRow, HasRegionScopes, HasRow, HasScopesRow};
 ghost use Rattle.om_lower.specs.Regions.{parallel_tree, statement_of, task_tree};
 ghost use Rattle.om_resolved.specs.ResolvedView.{view_resolved_function};
 ghost use Rattle.om_rows.specs.Bodies.{FunctionBody};
@@ -14,8 +14,8 @@ ghost use Rattle.om_tables.specs.Tables.{known_in};
 use crate::emitted::{Emitted, settled};
 use crate::region::Region;
 use crate::whole::{write_function, write_parallel, write_task};
-use om_emit::draft::Draft;
 use om_resolved::ResolvedFunction;
+use om_statements::writing::Writing;
 use om_tables::{Numbers, Scope};
 use std::alloc::{AllocError, Global};
 
@@ -36,10 +36,12 @@ pub(crate) fn function_body(
         IfOk result (HasRow (names_of scope.now) (numbers_of numbers) seen FunctionBody) }
     ensures lists { let seen = view_resolved_function function.now in
         IfOk result (HasLists (numbers_of numbers) seen FunctionBody) }
+    ensures scopes { let seen = view_resolved_function function.now in
+        IfOk result (HasScopesRow (names_of scope.now) seen FunctionBody) }
 {
-    let mut draft = Draft::new(alloc);
-    write_function(alloc, &mut draft, scope, numbers, function)?;
-    let made = settled(alloc, &draft)?;
+    let mut writing = Writing::new(alloc);
+    write_function(alloc, &mut writing, scope, numbers, function)?;
+    let made = settled(alloc, writing)?;
     Ok(made)
 }
 
@@ -58,10 +60,12 @@ pub(crate) fn parallel_body(
     ensures row { let tree = parallel_tree region.now in
         IfOk result (HasRegionRow (names_of scope.now) (numbers_of numbers) tree) }
     ensures lists { IfOk result (HasRegionLists (numbers_of numbers) (parallel_tree region.now)) }
+    ensures scopes { let tree = parallel_tree region.now in
+        IfOk result (HasRegionScopes (names_of scope.now) tree) }
 {
-    let mut draft = Draft::new(alloc);
-    write_parallel(alloc, &mut draft, scope, numbers, region)?;
-    let made = settled(alloc, &draft)?;
+    let mut writing = Writing::new(alloc);
+    write_parallel(alloc, &mut writing, scope, numbers, region)?;
+    let made = settled(alloc, writing)?;
     Ok(made)
 }
 
@@ -80,9 +84,11 @@ pub(crate) fn task_body(
     ensures row { let tree = task_tree region.now in
         IfOk result (HasRegionRow (names_of scope.now) (numbers_of numbers) tree) }
     ensures lists { IfOk result (HasRegionLists (numbers_of numbers) (task_tree region.now)) }
+    ensures scopes { let tree = task_tree region.now in
+        IfOk result (HasRegionScopes (names_of scope.now) tree) }
 {
-    let mut draft = Draft::new(alloc);
-    write_task(alloc, &mut draft, scope, numbers, region)?;
-    let made = settled(alloc, &draft)?;
+    let mut writing = Writing::new(alloc);
+    write_task(alloc, &mut writing, scope, numbers, region)?;
+    let made = settled(alloc, writing)?;
     Ok(made)
 }

@@ -12,6 +12,7 @@ mod heights;
 pub mod laws;
 mod lists;
 mod lowering;
+mod names;
 mod program;
 mod region;
 mod sites;

@@ -22,7 +22,7 @@ use om_code::raw::{self, Piece};
 use om_code::{Body, Program, Raw};
 use om_lexer::SourceFault;
 use om_resolved::{GlobalVariable, Resolved, ResolvedFunction};
-use om_rows::laws::{code_is_valid, scopes_found};
+use om_rows::laws::code_is_valid;
 use om_seq::Seq;
 use om_tables::{Scope, Texts, Variables};
 use std::alloc::{AllocError, Global};
@@ -58,7 +58,6 @@ fn raw_of(whole: &Whole<'_>, placed: Placed) -> Result<Raw, AllocError>
         (λ raw. raw.bodies ≡ flat_map (λ bodies. bodies) placed.functions) }
     ensures picks { IfOk result (λ raw. raw.picks ≡ placed.picks) }
 {
-    scopes_found();
     let alloc = whole.alloc;
     let Placed {
         functions,

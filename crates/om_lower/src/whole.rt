@@ -1,12 +1,14 @@
 //! Writes all that stands in a body, from its first place to its last.
 
 ghost use Rattle.std.specs.Prelude.{◌≡◌, OnOk, false};
-ghost use Rattle.om_lower.specs.Emitted.{EmitsBody, EmitsRegion};
+ghost use Rattle.om_lower.specs.Emitted.{EmitsBody, EmitsRegion, EmitsRegionScopes};
 ghost use Rattle.om_lower.specs.Regions.{parallel_tree, statement_of, task_tree};
 ghost use Rattle.om_resolved.specs.ResolvedView.{view_resolved_function};
 ghost use Rattle.om_rows.specs.Bodies.{FunctionBody};
 ghost use Rattle.om_rows.specs.Code as codes;
 ghost use Rattle.om_rows.specs.Coded.{BodyHasCode, StatementHasCode};
+ghost use Rattle.om_rows.specs.Scopes.{body_scopes};
+ghost use Rattle.om_statements.specs.Scoped.{EmitsScopes};
 ghost use Rattle.om_tables.specs.Ends.{HasBodyEnds, HasEnds};
 ghost use Rattle.om_tables.specs.Numbering.{numbers_of};
 ghost use Rattle.om_tables.specs.Scopes.{names_of};
@@ -15,18 +17,18 @@ ghost use Rattle.om_tables.specs.Tables.{known_in};
 use crate::region::Region;
 use om_code::Instr;
 use om_code::instruction::Barrier;
-use om_emit::draft::Draft;
 use om_resolved::ResolvedFunction;
-use om_statements::clause::{reduction_starts, reductions};
+use om_statements::clause::{parameters, reduction_starts, reductions, task_copies};
 use om_statements::spot::Spot;
-use om_statements::statement::{statement, statements};
+use om_statements::statement::{inner, statements};
+use om_statements::writing::Writing;
 use om_tables::{Numbers, Scope};
 use std::alloc::{AllocError, Global};
 
 /// Writes the statements of a function, and its end.
 pub(crate) fn write_function(
     alloc: Global,
-    draft: &mut Draft,
+    writing: &mut Writing,
     scope: &Scope<'_>,
     numbers: Numbers,
     function: &ResolvedFunction,
@@ -34,13 +36,22 @@ pub(crate) fn write_function(
     requires code { BodyHasCode (view_resolved_function function.now) FunctionBody }
     requires ends { HasBodyEnds (known_in scope.now) (numbers_of numbers)
         (view_resolved_function function.now) FunctionBody }
-    ensures { let seen = view_resolved_function function.now in
+    ensures code { let seen = view_resolved_function function.now in
         let names = names_of scope.now in
-        OnOk result (EmitsBody names (numbers_of numbers) seen FunctionBody draft.old draft.new) }
+        OnOk result (EmitsBody names (numbers_of numbers) seen FunctionBody writing.old.draft
+        writing.new.draft) }
+    ensures scopes { let seen = view_resolved_function function.now in
+        OnOk result (EmitsScopes (names_of scope.now) (λ at. body_scopes at seen FunctionBody)
+        writing.old writing.new) }
 {
+    let height = writing.scopes.height();
+    parameters(&mut writing.scopes, function.parameters.as_slice())?;
     let spot = Spot::outside(numbers);
-    statements(alloc, draft, scope, spot, function.body.as_slice())?;
-    draft.put(function.closing_line, last_instruction(scope.is_main))?;
+    statements(alloc, writing, scope, spot, function.body.as_slice())?;
+    let last = last_instruction(scope.is_main);
+    writing.draft.put(function.closing_line, last)?;
+    let to = writing.draft.place();
+    writing.scopes.end(height, to)?;
     Ok(())
 }
 
@@ -59,7 +70,7 @@ fn last_instruction(is_main: bool) -> Instr
 /// its copies are combined behind the statement, and all threads wait for each other.
 pub(crate) fn write_parallel(
     alloc: Global,
-    draft: &mut Draft,
+    writing: &mut Writing,
     scope: &Scope<'_>,
     numbers: Numbers,
     region: &Region<'_>,
@@ -67,25 +78,31 @@ pub(crate) fn write_parallel(
     requires code { StatementHasCode false false (statement_of region.now) }
     requires ends { HasEnds (known_in scope.now) (numbers_of numbers)
         (statement_of region.now) }
-    ensures { let tree = parallel_tree region.now in
+    ensures code { let tree = parallel_tree region.now in
         let names = names_of scope.now in
-        OnOk result (EmitsRegion names (numbers_of numbers) tree draft.old draft.new) }
+        OnOk result
+        (EmitsRegion names (numbers_of numbers) tree writing.old.draft writing.new.draft) }
+    ensures scopes { let tree = parallel_tree region.now in
+        OnOk result (EmitsRegionScopes (names_of scope.now) tree writing.old writing.new) }
 {
     let line = region.at.line;
-    draft.put(line, Instr::Begin)?;
-    reduction_starts(draft, scope, line, region.clauses)?;
+    let height = writing.scopes.height();
+    writing.draft.put(line, Instr::Begin)?;
+    reduction_starts(writing, scope, line, region.clauses)?;
     let spot = Spot::outside(numbers);
-    statement(alloc, draft, scope, spot, region.statement)?;
-    reductions(draft, scope, line, region.clauses)?;
-    draft.put(line, Instr::Arrive(Barrier::Parallel))?;
-    draft.put(line, Instr::Leave)?;
+    inner(alloc, writing, scope, spot, region.statement)?;
+    reductions(&mut writing.draft, scope, line, region.clauses)?;
+    writing.draft.put(line, Instr::Arrive(Barrier::Parallel))?;
+    writing.draft.put(line, Instr::Leave)?;
+    let to = writing.draft.place();
+    writing.scopes.end(height, to)?;
     Ok(())
 }
 
 /// Writes what a task does (OpenMP API 5.2, section 12.5), and its end.
 pub(crate) fn write_task(
     alloc: Global,
-    draft: &mut Draft,
+    writing: &mut Writing,
     scope: &Scope<'_>,
     numbers: Numbers,
     region: &Region<'_>,
@@ -93,12 +110,19 @@ pub(crate) fn write_task(
     requires code { StatementHasCode false false (statement_of region.now) }
     requires ends { HasEnds (known_in scope.now) (numbers_of numbers)
         (statement_of region.now) }
-    ensures { let tree = task_tree region.now in
+    ensures code { let tree = task_tree region.now in
         let names = names_of scope.now in
-        OnOk result (EmitsRegion names (numbers_of numbers) tree draft.old draft.new) }
+        OnOk result
+        (EmitsRegion names (numbers_of numbers) tree writing.old.draft writing.new.draft) }
+    ensures scopes { let tree = task_tree region.now in
+        OnOk result (EmitsRegionScopes (names_of scope.now) tree writing.old writing.new) }
 {
+    let height = writing.scopes.height();
+    task_copies(&mut writing.scopes, region.clauses)?;
     let spot = Spot::outside(numbers);
-    statement(alloc, draft, scope, spot, region.statement)?;
-    draft.put(region.at.line, Instr::TaskEnd)?;
+    inner(alloc, writing, scope, spot, region.statement)?;
+    writing.draft.put(region.at.line, Instr::TaskEnd)?;
+    let to = writing.draft.place();
+    writing.scopes.end(height, to)?;
     Ok(())
 }

@@ -9,3 +9,5 @@ pub mod PartLists
 pub mod Inside
 pub mod RegionEnds
 pub mod Within
+pub mod Scoped
+pub mod ScopeStacks

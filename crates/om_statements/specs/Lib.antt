@@ -2,3 +2,5 @@ pub mod Stretches
 pub mod Emits
 pub mod Parts
 pub mod Going
+pub mod Scoped
+pub mod Scoping

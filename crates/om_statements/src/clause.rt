@@ -1,13 +1,18 @@
 //! What clauses make of their copies.
 
 ghost use Rattle.std.specs.Prelude.{◌≡◌, OnOk, map, option_map};
+ghost use Rattle.om_rows.specs.Scopes.{clause_scope, each_scope, parameter_scope, task_scope, team_scope};
+ghost use Rattle.om_emit.specs.Drafts.{Written};
+ghost use Rattle.om_statements.specs.Scoped.{BeginsCopy, EmitsScopes, ScopesStand, team_from};
 ghost use Rattle.om_statements.specs.Stretches.{EmitsRow, identity_start, original_start};
 ghost use Rattle.om_resolved.specs.ResolvedView.{view_resolved_clause, view_resolved_expression};
 ghost use Rattle.om_rows.specs.Statements as rows;
 ghost use Rattle.om_rows.specs.Statements.{clause_combined, clause_reduction_start, clause_start};
+ghost use Rattle.om_tables.specs.Names.{Names};
 ghost use Rattle.om_tables.specs.Scopes.{names_of};
 
 use crate::operator::{identity_of, reduction_of};
+use crate::writing::{ScopeStack, Writing};
 use om_code::Instr;
 use om_emit::draft::Draft;
 use om_pragma::ReductionOperator;
@@ -77,7 +82,7 @@ fn set_original(
 }
 
 /// Writes what the copy of a clause of a worksharing construct begins with (OpenMP API 5.2, section 5.4).
-fn clause_start(
+fn begin_copy(
     draft: &mut Draft,
     scope: &Scope<'_>,
     line: u32,
@@ -111,26 +116,67 @@ fn clause_start(
     }
 }
 
+/// Begins the scope of the copy that a clause makes, if it makes one, at this place.
+fn begin_scope(
+    scopes: &mut ScopeStack,
+    from: u32,
+    clause: &ResolvedClause,
+) -> Result<(), AllocError>
+    ensures { let tree = view_resolved_clause clause.now in
+        OnOk result (BeginsCopy from tree scopes.old scopes.new) }
+{
+    let ResolvedClause::Copied { copy, .. } = clause else {
+        return Ok(());
+    };
+    scopes.begin(from, None, copy)?;
+    Ok(())
+}
+
+/// Writes what the copy of a clause of a worksharing construct begins with, from which on it is in
+/// scope.
+fn clause_start(
+    writing: &mut Writing,
+    scope: &Scope<'_>,
+    line: u32,
+    clause: &ResolvedClause,
+) -> Result<(), AllocError>
+    ensures code { let tree = view_resolved_clause clause.now in
+        OnOk result (EmitsRow (names_of scope.now) (λ at. clause_start at line tree)
+        writing.old.draft writing.new.draft) }
+    ensures scopes { let tree = view_resolved_clause clause.now in
+        OnOk result (EmitsScopes (names_of scope.now) (λ at. clause_scope at line tree)
+        writing.old writing.new) }
+{
+    let from = writing.draft.place();
+    begin_scope(&mut writing.scopes, from, clause)?;
+    begin_copy(&mut writing.draft, scope, line, clause)?;
+    Ok(())
+}
+
 /// Writes what the copies of a worksharing construct begin with, in clause order.
 pub fn starts(
-    draft: &mut Draft,
+    writing: &mut Writing,
     scope: &Scope<'_>,
     line: u32,
     clauses: &[ResolvedClause],
 ) -> Result<(), AllocError>
-    ensures { let trees = map view_resolved_clause clauses.now in
+    ensures code { let trees = map view_resolved_clause clauses.now in
+        OnOk result (EmitsRow (names_of scope.now) (λ at. rows.starts at line trees)
+        writing.old.draft writing.new.draft) }
+    ensures scopes { let trees = map view_resolved_clause clauses.now in
         OnOk result
-        (EmitsRow (names_of scope.now) (λ at. rows.starts at line trees) draft.old draft.new) }
+        (EmitsScopes (names_of scope.now) (λ at. each_scope (clause_scope at line) trees)
+        writing.old writing.new) }
 {
     for clause in clauses {
-        clause_start(draft, scope, line, clause)?;
+        clause_start(writing, scope, line, clause)?;
     }
     Ok(())
 }
 
 /// Writes what the copy of a clause of a `parallel` begins with, if it is combined. FORK gives the
 /// firstprivate ones their values, and the others are new with their frame.
-fn clause_reduction_start(
+fn begin_reduction(
     draft: &mut Draft,
     scope: &Scope<'_>,
     line: u32,
@@ -151,20 +197,81 @@ fn clause_reduction_start(
     Ok(())
 }
 
-/// Writes what those copies of a `parallel` begin with that are combined, in clause order.
+/// Where the scope of a region's copy begins: that of a reduction at its start, which is at this place,
+/// and that of another one with the body.
+fn team_from(place: u32, clause: &ResolvedClause) -> u32
+    ensures { result ≡ team_from place (view_resolved_clause clause.now) }
+{
+    let ResolvedClause::Copied { kind, .. } = clause else {
+        return 0;
+    };
+    let CopyKind::Reduction(_) = kind else {
+        return 0;
+    };
+    place
+}
+
+/// Writes what the copy of a clause of a `parallel` begins with in its body, where it is in scope.
+fn clause_reduction_start(
+    writing: &mut Writing,
+    scope: &Scope<'_>,
+    line: u32,
+    clause: &ResolvedClause,
+) -> Result<(), AllocError>
+    ensures code { let tree = view_resolved_clause clause.now in
+        OnOk result (EmitsRow (names_of scope.now) (λ at. clause_reduction_start at line tree)
+        writing.old.draft writing.new.draft) }
+    ensures scopes { let tree = view_resolved_clause clause.now in
+        OnOk result (EmitsScopes (names_of scope.now) (λ at. team_scope at line tree)
+        writing.old writing.new) }
+{
+    let from = team_from(writing.draft.place(), clause);
+    begin_scope(&mut writing.scopes, from, clause)?;
+    begin_reduction(&mut writing.draft, scope, line, clause)?;
+    Ok(())
+}
+
+/// Writes what the copies of a `parallel` begin with in its body, in clause order.
 pub fn reduction_starts(
-    draft: &mut Draft,
+    writing: &mut Writing,
     scope: &Scope<'_>,
     line: u32,
     clauses: &[ResolvedClause],
 ) -> Result<(), AllocError>
-    ensures { let trees = map view_resolved_clause clauses.now in
+    ensures code { let trees = map view_resolved_clause clauses.now in
+        OnOk result (EmitsRow (names_of scope.now) (λ at. rows.reduction_starts at line trees)
+        writing.old.draft writing.new.draft) }
+    ensures scopes { let trees = map view_resolved_clause clauses.now in
         OnOk result
-        (EmitsRow (names_of scope.now) (λ at. rows.reduction_starts at line trees) draft.old
-        draft.new) }
+        (EmitsScopes (names_of scope.now) (λ at. each_scope (team_scope at line) trees)
+        writing.old writing.new) }
 {
     for clause in clauses {
-        clause_reduction_start(draft, scope, line, clause)?;
+        clause_reduction_start(writing, scope, line, clause)?;
+    }
+    Ok(())
+}
+
+/// Begins the scopes of the copies of a `task`, in its body.
+pub fn task_copies(scopes: &mut ScopeStack, clauses: &[ResolvedClause]) -> Result<(), AllocError>
+    ensures { let trees = map view_resolved_clause clauses.now in
+        OnOk result ((names : Names) (d : Written)
+        → ScopesStand names (λ at. each_scope task_scope trees) d scopes.old d scopes.new) }
+{
+    for clause in clauses {
+        begin_scope(scopes, 0, clause)?;
+    }
+    Ok(())
+}
+
+/// Begins the scopes of parameters, in the body of their function.
+pub fn parameters(scopes: &mut ScopeStack, variables: &[LocalVariable]) -> Result<(), AllocError>
+    ensures { OnOk result ((names : Names) (d : Written)
+        → ScopesStand names (λ at. each_scope parameter_scope variables.now) d scopes.old d
+        scopes.new) }
+{
+    for variable in variables {
+        scopes.begin(0, None, variable)?;
     }
     Ok(())
 }

@@ -1,6 +1,8 @@
 //! The begins and the ends of constructs round a statement.
 
 ghost use Rattle.std.specs.Prelude.{◌≡◌, IfOk, IfSome, None, OnOk, Some, map, slice_get};
+ghost use Rattle.om_rows.specs.Scopes.{construct_head};
+ghost use Rattle.om_statements.specs.Scoped.{EmitsScopes};
 ghost use Rattle.om_statements.specs.Stretches.{Begins, EmitsRow, Ends, construct_begin, construct_end, BeginHasCode, IsNoAtomic};
 ghost use Rattle.om_resolved.specs.ResolvedView.{view_resolved_clause};
 ghost use Rattle.om_rows.specs.Coded.{ValueHasCode};
@@ -11,6 +13,7 @@ ghost use Rattle.om_tables.specs.Scopes.{names_of};
 
 use crate::barrier::worksharing_end;
 use crate::clause::{clause_value, starts};
+use crate::writing::Writing;
 use om_code::Instr;
 use om_emit::draft::Draft;
 use om_emit::value;
@@ -43,34 +46,38 @@ fn filter(
 /// Writes the begin of a construct that is no `atomic`. The label is for the place behind what only
 /// some threads run; `critical` and `taskgroup` have no such place.
 pub fn begin_construct(
-    draft: &mut Draft,
+    writing: &mut Writing,
     scope: &Scope<'_>,
     line: u32,
     kind: &ConstructKind,
     clauses: &[ResolvedClause],
 ) -> Result<u32, AllocError>
     requires { BeginHasCode kind.now (map view_resolved_clause clauses.now) }
-    ensures { let begin = construct_begin (names_of scope.now) line kind.now
+    ensures code { let begin = construct_begin (names_of scope.now) line kind.now
         (map view_resolved_clause clauses.now) in
-        IfOk result (λ label. Begins label (begin label) draft.old draft.new) }
+        IfOk result
+        (λ label. Begins label (begin label) writing.old.draft writing.new.draft) }
+    ensures scopes { let trees = map view_resolved_clause clauses.now in
+        OnOk result (EmitsScopes (names_of scope.now) (λ at. construct_head at line kind.now trees)
+        writing.old writing.new) }
 {
-    let label = draft.fresh()?;
+    let label = writing.draft.fresh()?;
     match kind {
         ConstructKind::Single { .. } => {
-            draft.put(line, Instr::Single(label))?;
-            starts(draft, scope, line, clauses)?;
+            writing.draft.put(line, Instr::Single(label))?;
+            starts(writing, scope, line, clauses)?;
         }
         ConstructKind::Masked => {
-            filter(draft, scope, line, clauses)?;
-            draft.put(line, Instr::Masked(label))?;
+            filter(&mut writing.draft, scope, line, clauses)?;
+            writing.draft.put(line, Instr::Masked(label))?;
         }
         ConstructKind::Critical { name } => {
             let lock = scope.lock_number(name);
-            draft.put(line, Instr::AskCritical(lock))?;
-            draft.put(line, Instr::EnterCritical(lock))?;
+            writing.draft.put(line, Instr::AskCritical(lock))?;
+            writing.draft.put(line, Instr::EnterCritical(lock))?;
         }
         ConstructKind::Atomic => unreachable!(),
-        ConstructKind::Taskgroup => draft.put(line, Instr::GroupBegin)?,
+        ConstructKind::Taskgroup => writing.draft.put(line, Instr::GroupBegin)?,
     }
     Ok(label)
 }

@@ -1,15 +1,18 @@
 //! Declarations, tests, and what leaves a function.
 
 ghost use Rattle.std.specs.Prelude.{◌≡◌, All, IfSome, OnOk, map, option_map};
+ghost use Rattle.om_statements.specs.Scoped.{EmitsScopes};
 ghost use Rattle.om_statements.specs.Stretches.{EmitsPerhapsTest, EmitsRow, EmitsTest, leaving};
 ghost use Rattle.om_resolved.specs.ResolvedView.{view_resolved_declarator, view_resolved_expression, view_resolved_start};
 ghost use Rattle.om_rows.specs.Coded.{DeclaratorHasCode, EffectHasCode, StartHasCode, ValueHasCode};
 ghost use Rattle.om_rows.specs.Expressions.{effect};
 ghost use Rattle.om_rows.specs.Rows.{each, perhaps};
+ghost use Rattle.om_rows.specs.Scopes.{declarator_scope, each_scope, start_scopes};
 ghost use Rattle.om_rows.specs.Statements as rows;
 ghost use Rattle.om_rows.specs.Statements.{declarator, returned};
 ghost use Rattle.om_tables.specs.Scopes.{names_of};
 
+use crate::writing::Writing;
 use om_code::Instr;
 use om_emit::draft::Draft;
 use om_emit::{effect, value};
@@ -18,7 +21,7 @@ use om_tables::Scope;
 use std::alloc::AllocError;
 
 /// Writes the code of a declared name: it is made unset, or gets its initializer (C17 6.7.9).
-pub fn declarator(
+fn initialize(
     draft: &mut Draft,
     scope: &Scope<'_>,
     line: u32,
@@ -49,42 +52,75 @@ pub fn declarator(
     }
 }
 
+/// Writes the code of a declared name, which is in scope from there on (C17 6.2.1p7).
+fn declarator(
+    writing: &mut Writing,
+    scope: &Scope<'_>,
+    line: u32,
+    declared: &ResolvedDeclarator,
+) -> Result<(), AllocError>
+    requires { DeclaratorHasCode (view_resolved_declarator declared.now) }
+    ensures code { let tree = view_resolved_declarator declared.now in
+        OnOk result (EmitsRow (names_of scope.now) (λ at. declarator at line tree)
+        writing.old.draft writing.new.draft) }
+    ensures scopes { let tree = view_resolved_declarator declared.now in
+        OnOk result (EmitsScopes (names_of scope.now) (λ at. declarator_scope at line tree)
+        writing.old writing.new) }
+{
+    let from = writing.draft.place();
+    writing
+        .scopes
+        .begin(from, declared.length, &declared.variable)?;
+    initialize(&mut writing.draft, scope, line, declared)?;
+    Ok(())
+}
+
 /// Writes the code of the names of a declaration, in their order.
 pub fn declarators(
-    draft: &mut Draft,
+    writing: &mut Writing,
     scope: &Scope<'_>,
     line: u32,
     declared: &[ResolvedDeclarator],
 ) -> Result<(), AllocError>
     requires { All DeclaratorHasCode (map view_resolved_declarator declared.now) }
-    ensures { let trees = map view_resolved_declarator declared.now in
+    ensures code { let trees = map view_resolved_declarator declared.now in
+        OnOk result (EmitsRow (names_of scope.now) (λ at. each (declarator at line) trees)
+        writing.old.draft writing.new.draft) }
+    ensures scopes { let trees = map view_resolved_declarator declared.now in
         OnOk result
-        (EmitsRow (names_of scope.now) (λ at. each (declarator at line) trees) draft.old
-        draft.new) }
+        (EmitsScopes (names_of scope.now) (λ at. each_scope (declarator_scope at line) trees)
+        writing.old writing.new) }
 {
     for one in declared {
-        declarator(draft, scope, line, one)?;
+        declarator(writing, scope, line, one)?;
     }
     Ok(())
 }
 
 /// Writes what a `for` begins with (C17 6.8.5.3).
 pub fn start(
-    draft: &mut Draft,
+    writing: &mut Writing,
     scope: &Scope<'_>,
     line: u32,
     start: &ResolvedStart,
 ) -> Result<(), AllocError>
     requires { StartHasCode (view_resolved_start start.now) }
-    ensures { let tree = view_resolved_start start.now in
-        OnOk result
-        (EmitsRow (names_of scope.now) (λ at. rows.start at line tree) draft.old draft.new) }
+    ensures code { let tree = view_resolved_start start.now in
+        OnOk result (EmitsRow (names_of scope.now) (λ at. rows.start at line tree)
+        writing.old.draft writing.new.draft) }
+    ensures scopes { let tree = view_resolved_start start.now in
+        OnOk result (EmitsScopes (names_of scope.now) (λ at. start_scopes at line tree)
+        writing.old writing.new) }
 {
     match start {
         ResolvedStart::Nothing => Ok(()),
-        ResolvedStart::Expression(expression) => effect(draft, scope, line, expression),
+        ResolvedStart::Expression(expression) => {
+            effect(&mut writing.draft, scope, line, expression)?;
+            Ok(())
+        }
         ResolvedStart::Declaration(declared) => {
-            declarators(draft, scope, line, declared.as_slice())
+            declarators(writing, scope, line, declared.as_slice())?;
+            Ok(())
         }
     }
 }

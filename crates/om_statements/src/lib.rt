@@ -20,3 +20,4 @@ pub mod spot;
 mod stand_in;
 pub mod statement;
 mod worksharing;
+pub mod writing;

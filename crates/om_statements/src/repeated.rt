@@ -1,6 +1,8 @@
 //! The heads and the ends of `while`, `do` and `for`.
 
 ghost use Rattle.std.specs.Prelude.{◌≡◌, ◌<◌, IfOk, IfSome, None, OnOk, Some, option_map, slice_get};
+ghost use Rattle.om_rows.specs.Scopes.{for_head};
+ghost use Rattle.om_statements.specs.Scoped.{EmitsScopes};
 ghost use Rattle.om_statements.specs.Stretches.{Begins, BeginsTurn, Ends, FreshTurn, do_begin, do_end, for_begin, for_end, loop_end, while_begin};
 ghost use Rattle.om_resolved.specs.ResolvedView.{view_resolved_expression, view_resolved_start};
 ghost use Rattle.om_rows.specs.Coded.{EffectHasCode, StartHasCode, ValueHasCode};
@@ -9,6 +11,7 @@ ghost use Rattle.om_tables.specs.Scopes.{names_of};
 
 use crate::declaration::{perhaps_effect, perhaps_test, start, test};
 use crate::labels::{LoopLabels, TurnLabels};
+use crate::writing::Writing;
 use om_code::Instr;
 use om_emit::draft::Draft;
 use om_resolved::{ResolvedExpression, ResolvedStart};
@@ -89,7 +92,7 @@ pub fn end_do(
 
 /// Writes the head of a `for` (C17 6.8.5.3): without a condition nothing is tested.
 pub fn begin_for(
-    draft: &mut Draft,
+    writing: &mut Writing,
     scope: &Scope<'_>,
     line: u32,
     begin: &ResolvedStart,
@@ -97,14 +100,19 @@ pub fn begin_for(
 ) -> Result<TurnLabels, AllocError>
     requires start { StartHasCode (view_resolved_start begin.now) }
     requires condition { IfSome (option_map view_resolved_expression condition.now) ValueHasCode }
-    ensures { let tree = option_map view_resolved_expression condition.now in
+    ensures code { let tree = option_map view_resolved_expression condition.now in
         let stretch = for_begin (names_of scope.now) line (view_resolved_start begin.now) tree in
-        IfOk result (λ labels. BeginsTurn labels (stretch labels) draft.old draft.new) }
+        IfOk result
+        (λ labels. BeginsTurn labels (stretch labels) writing.old.draft writing.new.draft) }
+    ensures scopes { let tree = option_map view_resolved_expression condition.now in
+        let seen = view_resolved_start begin.now in
+        OnOk result (EmitsScopes (names_of scope.now) (λ at. for_head at line seen tree)
+        writing.old writing.new) }
 {
-    let labels = turn_labels(draft)?;
-    start(draft, scope, line, begin)?;
-    draft.define(labels.again);
-    perhaps_test(draft, scope, line, condition, labels.over)?;
+    let labels = turn_labels(&mut writing.draft)?;
+    start(writing, scope, line, begin)?;
+    writing.draft.define(labels.again);
+    perhaps_test(&mut writing.draft, scope, line, condition, labels.over)?;
     Ok(labels)
 }
 

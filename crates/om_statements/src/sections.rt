@@ -1,12 +1,14 @@
 //! The begin of a `sections`, before its parts.
 
-ghost use Rattle.std.specs.Prelude.{IfOk, length, map};
+ghost use Rattle.std.specs.Prelude.{IfOk, OnOk, length, map};
 ghost use Rattle.om_resolved.specs.ResolvedView.{view_resolved_clause};
+ghost use Rattle.om_rows.specs.Scopes.{sections_head};
+ghost use Rattle.om_statements.specs.Scoped.{EmitsScopes};
 ghost use Rattle.om_statements.specs.Parts.{OpensParts, part_head};
 ghost use Rattle.om_tables.specs.Scopes.{names_of};
 
 use crate::worksharing::{Parts, begin_sections};
-use om_emit::draft::Draft;
+use crate::writing::Writing;
 use om_resolved::{ResolvedClause, ResolvedPart};
 use om_tables::{Numbers, Scope};
 use std::alloc::{AllocError, Global};
@@ -37,22 +39,26 @@ pub struct PartsSpot {
 /// labels at which they begin.
 pub fn begin_parts(
     alloc: Global,
-    draft: &mut Draft,
+    writing: &mut Writing,
     scope: &Scope<'_>,
     head: &SectionsHead<'_>,
     parts: &[ResolvedPart],
 ) -> Result<PartsSpot, AllocError>
-    ensures { let begin = part_head head.now.line head.now.numbers
+    ensures code { let begin = part_head head.now.line head.now.numbers
         (map view_resolved_clause head.now.clauses.now) (length parts.now) in
-        IfOk result (λ spot. OpensParts (names_of scope.now) begin spot draft.old draft.new) }
+        IfOk result (λ spot. OpensParts (names_of scope.now) begin spot writing.old.draft
+        writing.new.draft) }
+    ensures scopes { let trees = map view_resolved_clause head.now.clauses.now in
+        OnOk result (EmitsScopes (names_of scope.now) (λ at. sections_head at head.now.line trees)
+        writing.old writing.new) }
 {
     let Ok(count) = u32::try_from(parts.len()) else {
         return Err(AllocError);
     };
     let number = head.numbers.picks;
     let list = Parts { number, count };
-    let labels = begin_sections(draft, scope, head.line, head.clauses, list)?;
-    let first = draft.fresh_list(alloc, number, count)?;
+    let labels = begin_sections(writing, scope, head.line, head.clauses, list)?;
+    let first = writing.draft.fresh_list(alloc, number, count)?;
     let numbers = head.numbers.next_pick()?;
     Ok(PartsSpot {
         line: head.line,

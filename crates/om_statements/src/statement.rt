@@ -5,6 +5,8 @@ ghost use Rattle.om_resolved.specs.ResolvedTree as trees;
 ghost use Rattle.om_resolved.specs.ResolvedView.{view_resolved_part, view_resolved_statement};
 ghost use Rattle.om_rows.specs.Bodies as rows;
 ghost use Rattle.om_rows.specs.Coded.{PartsHaveCode, StatementHasCode, StatementsHaveCode};
+ghost use Rattle.om_rows.specs.Scopes.{all_scopes, block, part_scopes, scopes};
+ghost use Rattle.om_statements.specs.Scoped.{EmitsScopes};
 ghost use Rattle.om_statements.specs.Emits.{EmitsStatement, EmitsStatements};
 ghost use Rattle.om_statements.specs.Parts.{AreFree, EmitsParts};
 ghost use Rattle.om_tables.specs.Ends.{HasAllEnds, HasEnds, HasPartsEnds};
@@ -22,8 +24,8 @@ use crate::repeated::{begin_do, begin_for, begin_while, end_do, end_for, end_loo
 use crate::sections::{PartsSpot, SectionsHead, begin_parts};
 use crate::spot::Spot;
 use crate::worksharing::{begin_worksharing, end_worksharing};
+use crate::writing::Writing;
 use om_code::Instr;
-use om_emit::draft::Draft;
 use om_emit::effect;
 use om_resolved::{ConstructKind, ResolvedHead, ResolvedPart, ResolvedStatement};
 use om_tables::{Numbers, Scope, behind};
@@ -35,7 +37,7 @@ use std::alloc::{AllocError, Global};
 #[cycle(statement)]
 pub fn statement(
     alloc: Global,
-    draft: &mut Draft,
+    writing: &mut Writing,
     scope: &Scope<'_>,
     spot: Spot,
     tree: &ResolvedStatement,
@@ -49,8 +51,11 @@ pub fn statement(
         rows.behind (numbers_of spot.numbers) (view_resolved_statement tree.now)) }
     ensures emitted { let seen = view_resolved_statement tree.now in
         OnOk result
-        (EmitsStatement (names_of scope.now) (numbers_of spot.numbers) seen spot.jumps draft.old
-        draft.new) }
+        (EmitsStatement (names_of scope.now) (numbers_of spot.numbers) seen spot.jumps
+        writing.old.draft writing.new.draft) }
+    ensures scopes { let seen = view_resolved_statement tree.now in
+        OnOk result
+        (EmitsScopes (names_of scope.now) (λ at. scopes at seen) writing.old writing.new) }
 {
     let numbers = spot.numbers;
     match tree {
@@ -58,11 +63,14 @@ pub fn statement(
             at,
             declarators: declared,
         } => {
-            declarators(draft, scope, at.line, declared.as_slice())?;
+            declarators(writing, scope, at.line, declared.as_slice())?;
             Ok(numbers)
         }
         ResolvedStatement::Block { items, .. } => {
-            let after = statements(alloc, draft, scope, spot, items.as_slice())?;
+            let height = writing.scopes.height();
+            let after = statements(alloc, writing, scope, spot, items.as_slice())?;
+            let to = writing.draft.place();
+            writing.scopes.end(height, to)?;
             Ok(after)
         }
         ResolvedStatement::Empty(_) => Ok(numbers),
@@ -70,7 +78,7 @@ pub fn statement(
             at,
             value: expression,
         } => {
-            effect(draft, scope, at.line, expression)?;
+            effect(&mut writing.draft, scope, at.line, expression)?;
             Ok(numbers)
         }
         ResolvedStatement::If {
@@ -78,9 +86,9 @@ pub fn statement(
             condition,
             then,
         } => {
-            let end = begin_if(draft, scope, at.line, condition)?;
-            let after = statement(alloc, draft, scope, spot, then)?;
-            draft.define(end);
+            let end = begin_if(&mut writing.draft, scope, at.line, condition)?;
+            let after = inner(alloc, writing, scope, spot, then)?;
+            writing.draft.define(end);
             Ok(after)
         }
         ResolvedStatement::IfElse {
@@ -89,11 +97,11 @@ pub fn statement(
             then,
             other,
         } => {
-            let head = begin_if(draft, scope, at.line, condition)?;
-            let between = statement(alloc, draft, scope, spot, then)?;
-            let end = begin_else(draft, at.line, head)?;
-            let after = statement(alloc, draft, scope, spot.behind(between), other)?;
-            draft.define(end);
+            let head = begin_if(&mut writing.draft, scope, at.line, condition)?;
+            let between = inner(alloc, writing, scope, spot, then)?;
+            let end = begin_else(&mut writing.draft, at.line, head)?;
+            let after = inner(alloc, writing, scope, spot.behind(between), other)?;
+            writing.draft.define(end);
             Ok(after)
         }
         ResolvedStatement::While {
@@ -101,10 +109,10 @@ pub fn statement(
             condition,
             body,
         } => {
-            let labels = begin_while(draft, scope, at.line, condition)?;
+            let labels = begin_while(&mut writing.draft, scope, at.line, condition)?;
             let inside = Spot::in_loop(numbers, labels.over, labels.again);
-            let after = statement(alloc, draft, scope, inside, body)?;
-            end_loop(draft, at.line, labels)?;
+            let after = inner(alloc, writing, scope, inside, body)?;
+            end_loop(&mut writing.draft, at.line, labels)?;
             Ok(after)
         }
         ResolvedStatement::Do {
@@ -112,30 +120,33 @@ pub fn statement(
             body,
             condition,
         } => {
-            let labels = begin_do(draft)?;
+            let labels = begin_do(&mut writing.draft)?;
             let inside = Spot::in_loop(numbers, labels.over, labels.next);
-            let after = statement(alloc, draft, scope, inside, body)?;
-            end_do(draft, scope, at.line, labels, condition)?;
+            let after = inner(alloc, writing, scope, inside, body)?;
+            end_do(&mut writing.draft, scope, at.line, labels, condition)?;
             Ok(after)
         }
         ResolvedStatement::For { at, head, body } => {
             let head: &ResolvedHead = head;
-            let labels = begin_for(draft, scope, at.line, &head.start, &head.condition)?;
+            let height = writing.scopes.height();
+            let labels = begin_for(writing, scope, at.line, &head.start, &head.condition)?;
             let inside = Spot::in_loop(numbers, labels.over, labels.next);
-            let after = statement(alloc, draft, scope, inside, body)?;
-            end_for(draft, scope, at.line, labels, &head.step)?;
+            let after = inner(alloc, writing, scope, inside, body)?;
+            end_for(&mut writing.draft, scope, at.line, labels, &head.step)?;
+            let to = writing.draft.place();
+            writing.scopes.end(height, to)?;
             Ok(after)
         }
         ResolvedStatement::Return { at, value: answer } => {
-            returned(draft, scope, at.line, answer)?;
+            returned(&mut writing.draft, scope, at.line, answer)?;
             Ok(numbers)
         }
         ResolvedStatement::Break(at) => {
-            leave_loop(draft, at.line, spot.jumps)?;
+            leave_loop(&mut writing.draft, at.line, spot.jumps)?;
             Ok(numbers)
         }
         ResolvedStatement::Continue(at) => {
-            go_on(draft, at.line, spot.jumps)?;
+            go_on(&mut writing.draft, at.line, spot.jumps)?;
             Ok(numbers)
         }
         ResolvedStatement::Parallel {
@@ -150,7 +161,7 @@ pub fn statement(
                 captures: captures.as_slice(),
                 statement: body,
             };
-            let after = parallel(alloc, draft, scope, numbers, &region)?;
+            let after = parallel(alloc, &mut writing.draft, scope, numbers, &region)?;
             Ok(after)
         }
         ResolvedStatement::Task {
@@ -165,7 +176,7 @@ pub fn statement(
                 captures: captures.as_slice(),
                 statement: body,
             };
-            let after = task(alloc, draft, scope, numbers, &region)?;
+            let after = task(alloc, &mut writing.draft, scope, numbers, &region)?;
             Ok(after)
         }
         ResolvedStatement::Loop {
@@ -175,11 +186,20 @@ pub fn statement(
             repeated,
             body,
         } => {
-            let labels = begin_worksharing(draft, scope, at.line, clauses.as_slice(), repeated)?;
+            let height = writing.scopes.height();
+            let labels = begin_worksharing(writing, scope, at.line, clauses.as_slice(), repeated)?;
             let inside = Spot::in_iteration(numbers, labels.again);
-            let after = statement(alloc, draft, scope, inside, body)?;
-            end_loop(draft, at.line, labels)?;
-            end_worksharing(draft, scope, at.line, clauses.as_slice(), *nowait)?;
+            let after = inner(alloc, writing, scope, inside, body)?;
+            end_loop(&mut writing.draft, at.line, labels)?;
+            end_worksharing(
+                &mut writing.draft,
+                scope,
+                at.line,
+                clauses.as_slice(),
+                *nowait,
+            )?;
+            let to = writing.draft.place();
+            writing.scopes.end(height, to)?;
             Ok(after)
         }
         ResolvedStatement::Sections {
@@ -193,10 +213,19 @@ pub fn statement(
                 numbers,
                 clauses: clauses.as_slice(),
             };
-            let inside = begin_parts(alloc, draft, scope, &head, sections.as_slice())?;
-            let after = parts(alloc, draft, scope, inside, sections.as_slice())?;
-            draft.define(inside.over);
-            end_worksharing(draft, scope, at.line, clauses.as_slice(), *nowait)?;
+            let height = writing.scopes.height();
+            let inside = begin_parts(alloc, writing, scope, &head, sections.as_slice())?;
+            let after = parts(alloc, writing, scope, inside, sections.as_slice())?;
+            writing.draft.define(inside.over);
+            end_worksharing(
+                &mut writing.draft,
+                scope,
+                at.line,
+                clauses.as_slice(),
+                *nowait,
+            )?;
+            let to = writing.draft.place();
+            writing.scopes.end(height, to)?;
             Ok(after)
         }
         ResolvedStatement::Construct {
@@ -206,35 +235,70 @@ pub fn statement(
             body,
         } => {
             if let ConstructKind::Atomic = kind {
-                assignment(draft, scope, at.line, body)?;
+                assignment(&mut writing.draft, scope, at.line, body)?;
                 let after = behind(numbers, body)?;
                 return Ok(after);
             }
-            let label = begin_construct(draft, scope, at.line, kind, clauses.as_slice())?;
+            let height = writing.scopes.height();
+            let label = begin_construct(writing, scope, at.line, kind, clauses.as_slice())?;
             let inside = Spot::outside(numbers);
-            let after = statement(alloc, draft, scope, inside, body)?;
-            end_construct(draft, scope, at.line, kind, label)?;
+            let after = inner(alloc, writing, scope, inside, body)?;
+            end_construct(&mut writing.draft, scope, at.line, kind, label)?;
+            let to = writing.draft.place();
+            writing.scopes.end(height, to)?;
             Ok(after)
         }
         ResolvedStatement::Update {
             at,
             update: updated,
         } => {
-            update(draft, scope, at.line, updated)?;
+            update(&mut writing.draft, scope, at.line, updated)?;
             Ok(numbers)
         }
         ResolvedStatement::StandAlone { at, directive } => {
-            stand_alone(draft, at.line, directive)?;
+            stand_alone(&mut writing.draft, at.line, directive)?;
             Ok(numbers)
         }
     }
+}
+
+/// Writes the code of a statement of another one, which is a block of its own (C17 6.8.4p3, 6.8.5p5),
+/// and gives the numbers behind it.
+#[cycle(statement)]
+pub fn inner(
+    alloc: Global,
+    writing: &mut Writing,
+    scope: &Scope<'_>,
+    spot: Spot,
+    tree: &ResolvedStatement,
+) -> Result<Numbers, AllocError>
+    requires code { StatementHasCode (is_some spot.jumps.over) (is_some spot.jumps.next)
+        (view_resolved_statement tree.now) }
+    requires ends { HasEnds (known_in scope.now) (numbers_of spot.numbers)
+        (view_resolved_statement tree.now) }
+    ensures behind { IfOk result
+        (λ after. numbers_of after ≡
+        rows.behind (numbers_of spot.numbers) (view_resolved_statement tree.now)) }
+    ensures emitted { let seen = view_resolved_statement tree.now in
+        OnOk result
+        (EmitsStatement (names_of scope.now) (numbers_of spot.numbers) seen spot.jumps
+        writing.old.draft writing.new.draft) }
+    ensures scopes { let seen = view_resolved_statement tree.now in
+        OnOk result
+        (EmitsScopes (names_of scope.now) (λ at. block (scopes at seen)) writing.old writing.new) }
+{
+    let height = writing.scopes.height();
+    let after = statement(alloc, writing, scope, spot, tree)?;
+    let to = writing.draft.place();
+    writing.scopes.end(height, to)?;
+    Ok(after)
 }
 
 /// Writes the code of statements, one behind the other, and gives the numbers behind them.
 #[cycle(statement)]
 pub fn statements(
     alloc: Global,
-    draft: &mut Draft,
+    writing: &mut Writing,
     scope: &Scope<'_>,
     spot: Spot,
     items: &[ResolvedStatement],
@@ -247,13 +311,16 @@ pub fn statements(
         IfOk result (λ after. numbers_of after ≡ rows.behind_all (numbers_of spot.numbers) all) }
     ensures emitted { let all = trees.statements (map view_resolved_statement items.now) in
         OnOk result
-        (EmitsStatements (names_of scope.now) (numbers_of spot.numbers) all spot.jumps draft.old
-        draft.new) }
+        (EmitsStatements (names_of scope.now) (numbers_of spot.numbers) all spot.jumps
+        writing.old.draft writing.new.draft) }
+    ensures scopes { let all = trees.statements (map view_resolved_statement items.now) in
+        OnOk result
+        (EmitsScopes (names_of scope.now) (λ at. all_scopes at all) writing.old writing.new) }
 {
     let mut numbers = spot.numbers;
     for item in items {
         let here = spot.behind(numbers);
-        let after = statement(alloc, draft, scope, here, item)?;
+        let after = statement(alloc, writing, scope, here, item)?;
         numbers = after;
     }
     Ok(numbers)
@@ -264,7 +331,7 @@ pub fn statements(
 #[cycle(statement)]
 pub fn parts(
     alloc: Global,
-    draft: &mut Draft,
+    writing: &mut Writing,
     scope: &Scope<'_>,
     spot: PartsSpot,
     sections: &[ResolvedPart],
@@ -272,20 +339,27 @@ pub fn parts(
     requires code { PartsHaveCode (trees.parts (map view_resolved_part sections.now)) }
     requires ends { HasPartsEnds (known_in scope.now) (numbers_of spot.numbers)
         (trees.parts (map view_resolved_part sections.now)) }
-    requires free { AreFree spot.first (length sections.now) draft.old }
+    requires free { AreFree spot.first (length sections.now) writing.old.draft }
     requires fit { spot.first + length sections.now ≤ 2 ^ 32 }
     ensures behind { let all = trees.parts (map view_resolved_part sections.now) in
         IfOk result (λ after. numbers_of after ≡ rows.behind_parts (numbers_of spot.numbers) all) }
     ensures emitted { let all = trees.parts (map view_resolved_part sections.now) in
         OnOk result
-        (EmitsParts (names_of scope.now) (numbers_of spot.numbers) all spot draft.old draft.new) }
+        (EmitsParts (names_of scope.now) (numbers_of spot.numbers) all spot writing.old.draft
+        writing.new.draft) }
+    ensures scopes { let all = trees.parts (map view_resolved_part sections.now) in
+        OnOk result
+        (EmitsScopes (names_of scope.now) (λ at. part_scopes at all) writing.old writing.new) }
 {
     let mut numbers = spot.numbers;
     for (index, section) in sections.iter().enumerate() {
-        draft.define(spot.first + index as u32);
+        writing.draft.define(spot.first + index as u32);
         let inside = Spot::outside(numbers);
-        let after = statements(alloc, draft, scope, inside, section.items.as_slice())?;
-        draft.put(spot.line, Instr::Jump(spot.again))?;
+        let height = writing.scopes.height();
+        let after = statements(alloc, writing, scope, inside, section.items.as_slice())?;
+        let to = writing.draft.place();
+        writing.scopes.end(height, to)?;
+        writing.draft.put(spot.line, Instr::Jump(spot.again))?;
         numbers = after;
     }
     Ok(numbers)

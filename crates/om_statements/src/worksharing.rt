@@ -1,6 +1,8 @@
 //! The begins and the ends of worksharing loops and of `sections`.
 
 ghost use Rattle.std.specs.Prelude.{IfOk, OnOk, map};
+ghost use Rattle.om_rows.specs.Scopes.{bounds_scopes, loop_head, sections_head};
+ghost use Rattle.om_statements.specs.Scoped.{EmitsScopes};
 ghost use Rattle.om_statements.specs.Stretches.{Begins, EmitsRow, bounds_row, close_row, sections_begin, worksharing_begin};
 ghost use Rattle.om_resolved.specs.ResolvedView.{view_resolved_clause, view_resolved_loop};
 ghost use Rattle.om_rows.specs.Coded.{LoopHasCode};
@@ -10,6 +12,7 @@ use crate::barrier::worksharing_end;
 use crate::clause::{reductions, starts};
 use crate::labels::LoopLabels;
 use crate::operator::{comparison_of, form_with};
+use crate::writing::Writing;
 use om_code::Instr;
 use om_emit::draft::Draft;
 use om_emit::value;
@@ -28,45 +31,57 @@ pub struct Parts {
 
 /// Writes the bounds of a loop, on the line of its `for`, and what its copies begin with.
 fn bounds(
-    draft: &mut Draft,
+    writing: &mut Writing,
     scope: &Scope<'_>,
     line: u32,
     clauses: &[ResolvedClause],
     repeated: &ResolvedLoop,
 ) -> Result<(), AllocError>
     requires { LoopHasCode (view_resolved_loop repeated.now) }
-    ensures { let row = bounds_row line (map view_resolved_clause clauses.now)
+    ensures code { let row = bounds_row line (map view_resolved_clause clauses.now)
         (view_resolved_loop repeated.now) in
-        OnOk result (EmitsRow (names_of scope.now) row draft.old draft.new) }
+        OnOk result (EmitsRow (names_of scope.now) row writing.old.draft writing.new.draft) }
+    ensures scopes { let trees = map view_resolved_clause clauses.now in
+        let loop = view_resolved_loop repeated.now in
+        OnOk result (EmitsScopes (names_of scope.now) (λ at. bounds_scopes at line trees loop)
+        writing.old writing.new) }
 {
-    value(draft, scope, repeated.at.line, &repeated.from)?;
-    value(draft, scope, repeated.at.line, &repeated.to)?;
-    starts(draft, scope, line, clauses)?;
+    value(&mut writing.draft, scope, repeated.at.line, &repeated.from)?;
+    value(&mut writing.draft, scope, repeated.at.line, &repeated.to)?;
+    starts(writing, scope, line, clauses)?;
     Ok(())
 }
 
 /// Writes the begin of a worksharing loop (OpenMP API 5.2, section 11.5): chunks of iterations are
-/// taken, and each iteration puts its value into the loop's variable.
+/// taken, and each iteration puts its value into the loop's variable, which is in scope from there on.
 pub fn begin_worksharing(
-    draft: &mut Draft,
+    writing: &mut Writing,
     scope: &Scope<'_>,
     line: u32,
     clauses: &[ResolvedClause],
     repeated: &ResolvedLoop,
 ) -> Result<LoopLabels, AllocError>
     requires { LoopHasCode (view_resolved_loop repeated.now) }
-    ensures { let trees = map view_resolved_clause clauses.now in
+    ensures code { let trees = map view_resolved_clause clauses.now in
         let begin = worksharing_begin (names_of scope.now) line trees
         (view_resolved_loop repeated.now) in
-        IfOk result (λ labels. Begins labels.over (begin labels) draft.old draft.new) }
+        IfOk result
+        (λ labels. Begins labels.over (begin labels) writing.old.draft writing.new.draft) }
+    ensures scopes { let trees = map view_resolved_clause clauses.now in
+        let loop = view_resolved_loop repeated.now in
+        OnOk result (EmitsScopes (names_of scope.now) (λ at. loop_head at line trees loop)
+        writing.old writing.new) }
 {
     let Some(comparison) = comparison_of(repeated.comparison) else {
         unreachable!();
     };
-    let chunk = draft.fresh()?;
-    let again = draft.fresh()?;
-    let over = draft.fresh()?;
-    bounds(draft, scope, line, clauses, repeated)?;
+    let chunk = writing.draft.fresh()?;
+    let again = writing.draft.fresh()?;
+    let over = writing.draft.fresh()?;
+    bounds(writing, scope, line, clauses, repeated)?;
+    let from = writing.draft.place();
+    writing.scopes.begin(from, None, &repeated.variable)?;
+    let draft = &mut writing.draft;
     draft.put(line, Instr::Loop(form_with(repeated, comparison)))?;
     draft.define(chunk);
     draft.put(line, Instr::Grab(over))?;
@@ -85,19 +100,24 @@ pub fn begin_worksharing(
 /// Writes the begin of `sections` (OpenMP API 5.2, section 11.3): a section is taken, and its part is
 /// gone to.
 pub fn begin_sections(
-    draft: &mut Draft,
+    writing: &mut Writing,
     scope: &Scope<'_>,
     line: u32,
     clauses: &[ResolvedClause],
     parts: Parts,
 ) -> Result<LoopLabels, AllocError>
-    ensures { let begin = sections_begin (names_of scope.now) line
+    ensures code { let begin = sections_begin (names_of scope.now) line
         (map view_resolved_clause clauses.now) parts in
-        IfOk result (λ labels. Begins labels.over (begin labels) draft.old draft.new) }
+        IfOk result
+        (λ labels. Begins labels.over (begin labels) writing.old.draft writing.new.draft) }
+    ensures scopes { let trees = map view_resolved_clause clauses.now in
+        OnOk result (EmitsScopes (names_of scope.now) (λ at. sections_head at line trees)
+        writing.old writing.new) }
 {
-    let again = draft.fresh()?;
-    let over = draft.fresh()?;
-    starts(draft, scope, line, clauses)?;
+    let again = writing.draft.fresh()?;
+    let over = writing.draft.fresh()?;
+    starts(writing, scope, line, clauses)?;
+    let draft = &mut writing.draft;
     draft.put(line, Instr::Sections(parts.count))?;
     draft.define(again);
     draft.put(line, Instr::Grab(over))?;

@@ -16,7 +16,7 @@ returns-clause-code c =
     (made_bodies tree c.args.placed.picks c.args.placed.functions c.requires.lowered) in
     record {
       globals = c.in_ok-globals.ensures ∙ ap (λ globals. map global_of globals) c.as_slice.ensures;
-      bodies = side_by_side_in c.scopes_found.ensures tree c.requires.lowered.lists _ (bodies_of tree) c.in_ok-bodies.bodies
+      bodies = side_by_side_in tree c.requires.lowered.lists _ (bodies_of tree) c.in_ok-bodies.bodies
           c.requires.lowered.stand made;
       main = c.main_body-main.ensures;
       texts = subst (λ formats.

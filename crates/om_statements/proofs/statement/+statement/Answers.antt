@@ -1,22 +1,30 @@
-use Rattle.std.proofs.Common.{◌≤◌, ◌+◌, ◌^◌, arith, drop, refl, length, map, option_map, sym, ap, subst, ◌∙◌}
+use Rattle.std.proofs.Common.{◌≡◌, ◌≤◌, ◌+◌, ◌^◌, List, arith, drop, refl, length, map, option_map, sym, ap, subst, ◌∙◌}
 use denote.Param.Weighed.{most}
 use Rattle.std.proofs.lemmas.List.{drop_all}
+use Rattle.om_emit.specs.Drafts.{Written}
+use Rattle.om_emit.specs.Writing.{goes_end}
+use Rattle.om_lexer.specs.declared.token.Span.{Span}
 use Rattle.om_resolved.specs.declared.resolved.ResolvedPart.{out-ResolvedPart}
+use Rattle.om_resolved.specs.declared.resolved.ResolvedStatement.{ResolvedStatement}
+use Rattle.om_resolved.specs.declared.resolved.ResolvedStatement.TheVariants as v
 use Rattle.om_resolved.specs.declared.resolved.ResolvedStatement.TheViews.{size-ResolvedStatement, size_is-ResolvedPart}
 use Rattle.om_resolved.specs.ResolvedTree as trees
-use Rattle.om_resolved.specs.ResolvedView.{view_resolved_clause, view_resolved_expression, view_resolved_loop}
-use Rattle.om_resolved.specs.ResolvedView.{view_resolved_part, view_resolved_start, view_resolved_statement}
+use Rattle.om_resolved.specs.ResolvedView.{view_resolved_clause, view_resolved_declarator, view_resolved_expression}
+use Rattle.om_resolved.specs.ResolvedView.{view_resolved_loop, view_resolved_part, view_resolved_start}
+use Rattle.om_resolved.specs.ResolvedView.{view_resolved_statement, view_resolved_update}
 use Rattle.om_rows.specs.Bodies as rows
 use Rattle.om_tables.specs.Numbering.{numbers_of}
+use Rattle.om_tables.specs.Names.{Names}
 use Rattle.om_tables.specs.Scopes.{names_of}
 use Rattle.om_statements.specs.Going.{free_with, with_none}
 use Rattle.om_statements.proofs.Lists.{left_item, left_next, no_atomic, numbers_are, onward_begin, onward_done, spot_is}
 use Rattle.om_statements.proofs.Lists.{statement_is}
 use Rattle.om_statements.proofs.RegionEnds.{ends_here, ends_next, parallel_ends, parts_ends_here, parts_ends_next}
 use Rattle.om_statements.proofs.RegionEnds.{task_ends}
-use Rattle.om_statements.proofs.Views.{view_break, view_construct, view_continue, view_do, view_for, view_if}
-use Rattle.om_statements.proofs.Views.{view_if_else, view_loop, view_parallel, view_sections, view_stand_alone}
-use Rattle.om_statements.proofs.Views.{view_task, view_while}
+use Rattle.om_statements.proofs.Views.{view_block, view_break, view_construct, view_continue, view_declaration, view_do}
+use Rattle.om_statements.proofs.Views.{view_empty}
+use Rattle.om_statements.proofs.Views.{view_expression, view_for, view_if, view_if_else, view_loop, view_parallel}
+use Rattle.om_statements.proofs.Views.{view_return, view_sections, view_stand_alone, view_task, view_update, view_while}
 use Rattle.om_statements.proofs.Forms.{close_clauses_are, construct_clauses_are, emits_construct, emits_do, emits_for}
 use Rattle.om_statements.proofs.Forms.{emits_if, emits_if_else, emits_loop, emits_while, loop_clauses_are}
 use Rattle.om_statements.proofs.PartLists.{free_first, free_start, items_are, left_count, left_part, onward_parts_begin}
@@ -25,7 +33,17 @@ use Rattle.om_statements.proofs.SectionsRow.{emits_sections, labels_are}
 use Rattle.om_statements.proofs.Inside.{code_here, if_code, if_else_code, parts_code_here, while_code}
 use Rattle.om_statements.proofs.Within.{block_within, construct_within, do_within, else_within, for_within, if_within}
 use Rattle.om_statements.proofs.Within.{loop_within, parts_within, then_within, while_within, with_depth}
+use Rattle.om_rows.specs.Scopes.{all_scopes, scopes}
+use Rattle.om_rows.specs.Statements.{assignment_row}
+use Rattle.om_statements.specs.declared.labels.JumpLabels.{JumpLabels}
+use Rattle.om_statements.proofs.Scoped.{all_scopes_done, all_scopes_next, alone, construct_scopes_clauses}
+use Rattle.om_statements.proofs.Scoped.{construct_stands, do_scopes, for_scopes, if_else_scopes, if_scopes, loop_scopes}
+use Rattle.om_statements.proofs.Scoped.{loop_scopes_clauses, part_scopes_are, part_scopes_done, part_scopes_next}
+use Rattle.om_statements.proofs.Scoped.{part_stands, scopes_are, sections_scopes, sections_scopes_clauses, while_scopes}
+use Rattle.om_statements.specs.declared.writing.ScopeStack.{ScopeStack}
 use Rattle.om_statements.specs.Parts.{AreFree}
+use Rattle.om_statements.specs.Scoped.{ScopesStand}
+use Rattle.om_statements.specs.Scoping.{scopes_begin, stand_block, stand_plain}
 use Rattle.om_statements.proofs.statement.+statement.Goals as goal
 
 pub statement-define-requires-in-IfElse : goal.statement-define-requires-in-IfElse
@@ -47,20 +65,20 @@ statement-end_do-requires-clause-over t c =
 
 pub statement-end_for-requires-clause-next : goal.statement-end_for-requires-clause-next
 statement-end_for-requires-clause-next t c =
-    free_with _ _ _ _ _ c.in_ok-labels-in-For.ensures.next.free c.in_ok-after-in-For.ensures.emitted
+    free_with _ _ _ _ _ c.in_ok-labels-in-For.ensures.code.next.free c.in_ok-after-in-For.ensures.emitted
 
 pub statement-end_for-requires-clause-over : goal.statement-end_for-requires-clause-over
 statement-end_for-requires-clause-over t c =
-    free_with _ _ _ _ _ c.in_ok-labels-in-For.ensures.over.free c.in_ok-after-in-For.ensures.emitted
+    free_with _ _ _ _ _ c.in_ok-labels-in-For.ensures.code.over.free c.in_ok-after-in-For.ensures.emitted
 
 pub statement-end_loop-requires-in-Loop : goal.statement-end_loop-requires-in-Loop
 statement-end_loop-requires-in-Loop t c =
-    free_with _ _ _ _ _ c.in_ok-labels-in-Loop.ensures.free c.in_ok-after-in-Loop.ensures.emitted
+    free_with _ _ _ _ _ c.in_ok-labels-in-Loop.ensures.code.free c.in_ok-after-in-Loop.ensures.emitted
 
 pub statement-end_construct-requires : goal.statement-end_construct-requires
 statement-end_construct-requires t c =
     record {
-      free = free_with _ _ _ _ _ c.in_ok-label-in-Construct.ensures.free c.in_ok-after-in-Construct-2.ensures.emitted;
+      free = free_with _ _ _ _ _ c.in_ok-label-in-Construct.ensures.code.free c.in_ok-after-in-Construct-2.ensures.emitted;
       kind = no_atomic c.in-Construct.kind c.in_default.not-Atomic;
     }
 
@@ -78,6 +96,10 @@ statement-returns-in_ok-after-in-If t c =
           (view_resolved_expression c.in-If.condition) (view_resolved_statement c.deref.result.now) c.args.spot.jumps
           c.in_ok-end-in-If.end _ _ _ _
           c.in_ok-end-in-If.ensures c.in_ok-after-in-If.ensures.emitted c.define.ensures);
+      scopes = scopes_are (names_of c.args.scope.now) _ _ _ _ _ _ seen
+          (if_scopes (names_of c.args.scope.now) c.in-If.at (view_resolved_expression c.in-If.condition)
+          (view_resolved_statement c.deref.result.now) c.in_ok-end-in-If.end _ _ _ _ _ _ c.in_ok-end-in-If.ensures
+          c.in_ok-after-in-If.ensures.scopes c.define.ensures);
     }
 
 pub statement-returns-in_ok-after-in-IfElse : goal.statement-returns-in_ok-after-in-IfElse
@@ -108,6 +130,13 @@ statement-returns-in_ok-after-in-IfElse t c =
           (view_resolved_statement c.deref-in-IfElse-2.result.now) _ _ _ _ c.behind.ensures
           c.in_ok-after-in-IfElse.ensures.emitted))
           c.define-in-IfElse.ensures);
+      scopes = scopes_are (names_of c.args.scope.now) _ _ _ _ _ _ seen
+          (if_else_scopes (names_of c.args.scope.now) c.in-IfElse.at (view_resolved_expression c.in-IfElse.condition)
+          (view_resolved_statement c.deref-in-IfElse.result.now)
+          (view_resolved_statement c.deref-in-IfElse-2.result.now) c.in_ok-head-in-IfElse.head
+          c.in_ok-end-in-IfElse.end _ _ _ _ _ _ _ _ _ c.in_ok-head-in-IfElse.ensures
+          c.in_ok-between-in-IfElse.ensures.scopes (c.in_ok-end-in-IfElse.ensures (names_of c.args.scope.now))
+          c.in_ok-after-in-IfElse.ensures.scopes c.define-in-IfElse.ensures);
     }
 
 pub statement-returns-in_ok-end_loop-in-While : goal.statement-returns-in_ok-end_loop-in-While
@@ -129,6 +158,11 @@ statement-returns-in_ok-end_loop-in-While t c =
           c.in_ok-labels-in-While.ensures (spot_is (names_of c.args.scope.now)
           (view_resolved_statement c.deref-in-While.result.now) _ _ _ _ c.in_loop-inside.ensures
           c.in_ok-after-in-While.ensures.emitted) (c.in_ok-end_loop-in-While.ensures (names_of c.args.scope.now)));
+      scopes = scopes_are (names_of c.args.scope.now) _ _ _ _ _ _ seen
+          (while_scopes (names_of c.args.scope.now) c.in-While.at (view_resolved_expression c.in-While.condition)
+          (view_resolved_statement c.deref-in-While.result.now) c.in_ok-labels-in-While.labels _ _ _ _ _ _
+          c.in_ok-labels-in-While.ensures c.in_ok-after-in-While.ensures.scopes
+          (c.in_ok-end_loop-in-While.ensures (names_of c.args.scope.now)));
     }
 
 pub statement-returns-in_ok-end_do-in-Do : goal.statement-returns-in_ok-end_do-in-Do
@@ -149,10 +183,14 @@ statement-returns-in_ok-end_do-in-Do t c =
           c.in_ok-labels-in-Do.ensures (spot_is (names_of c.args.scope.now)
           (view_resolved_statement c.deref-in-Do.result.now) _ _ _ _ c.in_loop-inside-in-Do.ensures
           c.in_ok-after-in-Do.ensures.emitted) c.in_ok-end_do-in-Do.ensures);
+      scopes = scopes_are (names_of c.args.scope.now) _ _ _ _ _ _ seen
+          (do_scopes (names_of c.args.scope.now) c.in-Do.at (view_resolved_expression c.in-Do.condition)
+          (view_resolved_statement c.deref-in-Do.result.now) c.in_ok-labels-in-Do.labels _ _ _ _ _ _
+          c.in_ok-labels-in-Do.ensures c.in_ok-after-in-Do.ensures.scopes c.in_ok-end_do-in-Do.ensures);
     }
 
-pub statement-returns-in_ok-end_for-in-For : goal.statement-returns-in_ok-end_for-in-For
-statement-returns-in_ok-end_for-in-For t c =
+pub statement-returns-in_ok-end-in-For : goal.statement-returns-in_ok-end-in-For
+statement-returns-in_ok-end-in-For t c =
     let seen = (ap (λ z. trees.For c.in-For.at (view_resolved_start z.start) (option_map view_resolved_expression
     z.condition)
     (option_map view_resolved_expression z.step) (view_resolved_statement c.deref-in-For.result.now))
@@ -174,9 +212,18 @@ statement-returns-in_ok-end_for-in-For t c =
           (option_map view_resolved_expression c.deref-head.result.now.step) (view_resolved_statement
           c.deref-in-For.result.now)
           c.args.spot.jumps c.in_ok-labels-in-For.labels _ _ _ _
-          c.in_ok-labels-in-For.ensures (spot_is (names_of c.args.scope.now)
+          c.in_ok-labels-in-For.ensures.code (spot_is (names_of c.args.scope.now)
           (view_resolved_statement c.deref-in-For.result.now) _ _ _ _ c.in_loop-inside-in-For.ensures
           c.in_ok-after-in-For.ensures.emitted) c.in_ok-end_for-in-For.ensures);
+      scopes = scopes_are (names_of c.args.scope.now) _ _ _ _ _ _ seen
+          (for_scopes (names_of c.args.scope.now) c.in-For.at
+          (view_resolved_start c.deref-head.result.now.start) (option_map view_resolved_expression
+          c.deref-head.result.now.condition)
+          (option_map view_resolved_expression c.deref-head.result.now.step) (view_resolved_statement
+          c.deref-in-For.result.now)
+          c.in_ok-labels-in-For.labels _ _ _ _ _ _ _ _ _ _ c.height-height-in-For.ensures c.place-to-in-For.ensures
+          c.in_ok-labels-in-For.ensures.scopes c.in_ok-after-in-For.ensures.scopes c.in_ok-end_for-in-For.ensures
+          c.in_ok-end-in-For.ensures);
     }
 
 pub statement-returns-in_ok-leave_loop-in-Break-clause-emitted :
@@ -201,8 +248,8 @@ statement-returns-in_ok-stand_alone-in-StandAlone-clause-emitted t c =
     c.in-StandAlone.directive))
     (with_none _ _ _ _ (c.in_ok-stand_alone-in-StandAlone.ensures (names_of c.args.scope.now)))
 
-pub statement-returns-in_ok-end_worksharing-in-Loop : goal.statement-returns-in_ok-end_worksharing-in-Loop
-statement-returns-in_ok-end_worksharing-in-Loop t c =
+pub statement-returns-in_ok-end-in-Loop : goal.statement-returns-in_ok-end-in-Loop
+statement-returns-in_ok-end-in-Loop t c =
     let seen = (ap (λ z. trees.Loop c.in-Loop.at (map view_resolved_clause c.in-Loop.clauses.items) c.in-Loop.nowait
     (view_resolved_loop z) (view_resolved_statement c.deref-in-Loop-2.result.now)) c.deref-in-Loop.ensures
     ∙ ap (λ z. trees.Loop c.in-Loop.at (map view_resolved_clause c.in-Loop.clauses.items) c.in-Loop.nowait
@@ -223,16 +270,25 @@ statement-returns-in_ok-end_worksharing-in-Loop t c =
           _ _ _
           (loop_clauses_are (names_of c.args.scope.now) c.in-Loop.at.line (view_resolved_loop
           c.deref-in-Loop.result.now)
-          c.in_ok-labels-in-Loop.labels _ _ _ _ c.as_slice-in-Loop.ensures.value c.in_ok-labels-in-Loop.ensures)
+          c.in_ok-labels-in-Loop.labels _ _ _ _ c.as_slice-in-Loop.ensures.value c.in_ok-labels-in-Loop.ensures.code)
           (spot_is (names_of c.args.scope.now) (view_resolved_statement c.deref-in-Loop-2.result.now) _ _ _ _
           c.in_iteration-inside.ensures c.in_ok-after-in-Loop.ensures.emitted)
           (c.in_ok-end_loop-in-Loop.ensures (names_of c.args.scope.now))
           (close_clauses_are (names_of c.args.scope.now) c.in-Loop.at.line c.in-Loop.nowait _ _ _ _
           c.as_slice-in-Loop-2.ensures.value c.in_ok-end_worksharing-in-Loop.ensures));
+      scopes = scopes_are (names_of c.args.scope.now) _ _ _ _ _ _ seen
+          (loop_scopes (names_of c.args.scope.now) c.in-Loop.at (map view_resolved_clause c.in-Loop.clauses.items) c.in-Loop.nowait
+          (view_resolved_loop c.deref-in-Loop.result.now) (view_resolved_statement c.deref-in-Loop-2.result.now)
+          c.in_ok-labels-in-Loop.labels _ _ _ _ _ _ _ _ _ _ _ c.height-height-in-Loop.ensures c.place-to-in-Loop.ensures
+          (loop_scopes_clauses (names_of c.args.scope.now) c.in-Loop.at.line (view_resolved_loop c.deref-in-Loop.result.now) _ _ _ _ _ _
+          c.as_slice-in-Loop.ensures.value c.in_ok-labels-in-Loop.ensures.scopes) c.in_ok-after-in-Loop.ensures.scopes
+          (c.in_ok-end_loop-in-Loop.ensures (names_of c.args.scope.now))
+          (close_clauses_are (names_of c.args.scope.now) c.in-Loop.at.line c.in-Loop.nowait _ _ _ _
+          c.as_slice-in-Loop-2.ensures.value c.in_ok-end_worksharing-in-Loop.ensures) c.in_ok-end-in-Loop.ensures);
     }
 
-pub statement-returns-in_ok-end_construct-in-Construct : goal.statement-returns-in_ok-end_construct-in-Construct
-statement-returns-in_ok-end_construct-in-Construct t c =
+pub statement-returns-in_ok-end-in-Construct : goal.statement-returns-in_ok-end-in-Construct
+statement-returns-in_ok-end-in-Construct t c =
     let seen = (ap (λ z. trees.Construct c.in-Construct.at c.in-Construct.kind
     (map view_resolved_clause c.in-Construct.clauses.items) (view_resolved_statement z))
     c.deref-in-Construct.ensures ∙ sym (ap view_resolved_statement c.in-Construct.is
@@ -249,15 +305,25 @@ statement-returns-in_ok-end_construct-in-Construct t c =
           c.in_ok-label-in-Construct.label _ _ _ _
           (construct_clauses_are (names_of c.args.scope.now) c.in-Construct.at.line c.in-Construct.kind
           c.in_ok-label-in-Construct.label _ _ _ _ c.as_slice-in-Construct.ensures.value
-          c.in_ok-label-in-Construct.ensures)
+          c.in_ok-label-in-Construct.ensures.code)
           (spot_is (names_of c.args.scope.now) (view_resolved_statement c.deref-in-Construct.result.now) _ _ _ _
           c.outside-inside.ensures c.in_ok-after-in-Construct-2.ensures.emitted)
           c.in_ok-end_construct-in-Construct.ensures);
+      scopes = scopes_are (names_of c.args.scope.now) _ _ _ _ _ _ seen
+          (construct_stands (names_of c.args.scope.now) c.in-Construct.at c.in-Construct.kind
+          (map view_resolved_clause c.in-Construct.clauses.items)
+          (view_resolved_statement c.deref-in-Construct.result.now) c.in_ok-label-in-Construct.label _ _ _ _ _ _ _ _ _ _
+          (no_atomic c.in-Construct.kind c.in_default.not-Atomic) c.height-height-in-Construct.ensures
+          c.place-to-in-Construct.ensures
+          (construct_scopes_clauses (names_of c.args.scope.now) c.in-Construct.at.line c.in-Construct.kind _ _ _ _ _ _
+          c.as_slice-in-Construct.ensures.value c.in_ok-label-in-Construct.ensures.scopes)
+          c.in_ok-after-in-Construct-2.ensures.scopes c.in_ok-end_construct-in-Construct.ensures
+          c.in_ok-end-in-Construct.ensures);
     }
 
 pub statements-loop-item-init : goal.statements-loop-item-init
 statements-loop-item-init t c =
-    (c.requires.code, refl, onward_begin _ _ _ _ _, c.requires.ends)
+    (c.requires.code, refl, onward_begin _ _ _ _ _, c.requires.ends, scopes_begin (names_of c.args.scope.now) _ _ _)
 
 pub statements-statement-requires : goal.statements-statement-requires
 statements-statement-requires t c =
@@ -280,8 +346,14 @@ statements-loop-item-preserved t c =
     c.behind-here.ensures in
     let next = left_next _ _ _ (names_of c.args.scope.now) c.args.spot.jumps _ _ _ _ _ _ _ _ _ _ here after
     (spot_is (names_of c.args.scope.now) _ _ _ _ _ c.behind-here.ensures c.in_ok-after.ensures.emitted)
-    c.loop-item.invariant.0 c.loop-item.invariant.1 c.loop-item.invariant.2 in
-    (next.0, next.1, next.2, ends_next _ _ _ _ _ _ here after c.loop-item.invariant.3)
+    c.loop-item.invariant.0 c.loop-item.invariant.1 c.loop-item.invariant.2 in (
+      next.0,
+      next.1,
+      next.2,
+      ends_next _ _ _ _ _ _ here after c.loop-item.invariant.3,
+      all_scopes_next (names_of c.args.scope.now) _ _ _ _ _ _ _ _ _ _ here c.loop-item.invariant.4
+          c.in_ok-after.ensures.scopes,
+    )
 
 pub statements-returns-clause-emitted : goal.statements-returns-clause-emitted
 statements-returns-clause-emitted t c =
@@ -321,10 +393,11 @@ parts-loop-index-init t c =
     let all = trees.parts (map view_resolved_part c.args.sections.now) in (
       c.requires.code,
       refl,
-      free_start c.args.spot.first (length c.args.sections.now) c.args.draft.now c.requires.free,
+      free_start c.args.spot.first (length c.args.sections.now) c.args.writing.now.draft c.requires.free,
       onward_parts_begin (names_of c.args.scope.now) c.args.spot (numbers_of c.args.spot.numbers) all
-          (c.args.spot.first + 0) c.args.draft.now (omega arith),
+          (c.args.spot.first + 0) c.args.writing.now.draft (omega arith),
       c.requires.ends,
+      scopes_begin (names_of c.args.scope.now) _ _ _,
     )
 
 pub parts-define-requires : goal.parts-define-requires
@@ -332,7 +405,7 @@ parts-define-requires t c =
     let left = left_count c.args.sections.now c.loop-index.index c.index-sections-index.result c.loop-index-test.true
     in
     free_first (c.args.spot.first + c.loop-index.index) (length (drop c.loop-index.index c.args.sections.now)) _
-    c.loop-index.draft refl (omega (arith, left)) c.loop-index.invariant.2
+    c.loop-index.writing.draft refl (omega (arith, left)) c.loop-index.invariant.2
 
 pub parts-statements-requires : goal.parts-statements-requires
 parts-statements-requires t c =
@@ -349,6 +422,15 @@ parts-statements-requires t c =
             c.loop-index.invariant.4,
       ),
     )
+
+-- the same statements
+item_scopes_are : (names : Names) (xs ys : List ResolvedStatement) (a : Written) (x : ScopeStack) (b : Written)
+    (y : ScopeStack) → xs ≡ ys
+    → ScopesStand names (λ at. all_scopes at (trees.statements (map view_resolved_statement xs))) a x b y
+    → ScopesStand names (λ at. all_scopes at (trees.statements (map view_resolved_statement ys))) a x b y
+item_scopes_are names xs ys a x b y same stand =
+    subst (λ z. ScopesStand names (λ at. all_scopes at (trees.statements (map view_resolved_statement z))) a x b y) same
+    stand
 
 pub parts-loop-index-preserved : goal.parts-loop-index-preserved
 parts-loop-index-preserved t c =
@@ -372,8 +454,18 @@ parts-loop-index-preserved t c =
     (items_are (names_of c.args.scope.now) _ _ _ items _ _ c.outside-inside.ensures c.as_slice.ensures.value
     c.in_ok-after.ensures.emitted)
     c.in_ok-put.ensures c.loop-index.invariant.0 c.loop-index.invariant.1
-    (subst (λ n. AreFree label n c.loop-index.draft) left c.loop-index.invariant.2) c.loop-index.invariant.3 in
-    (written.0, written.1, written.2, written.3, parts_ends_next _ _ _ _ _ seen here after c.loop-index.invariant.4)
+    (subst (λ n. AreFree label n c.loop-index.writing.draft) left c.loop-index.invariant.2) c.loop-index.invariant.3 in (
+      written.0,
+      written.1,
+      written.2,
+      written.3,
+      parts_ends_next _ _ _ _ _ seen here after c.loop-index.invariant.4,
+      part_scopes_next (names_of c.args.scope.now) _ _ _ _ _ _ _ _ _ _ here c.loop-index.invariant.5
+          (part_stands (names_of c.args.scope.now) c.args.spot.line _ _ seen _ _ _ _ _ _ _ _ _ c.height-height.ensures
+          c.place-to.ensures c.define.ensures
+          (item_scopes_are (names_of c.args.scope.now) _ _ _ _ _ _ c.as_slice.ensures.value
+          c.in_ok-after.ensures.scopes) c.in_ok-end.ensures c.in_ok-put.ensures),
+    )
 
 pub parts-returns-clause-emitted : goal.parts-returns-clause-emitted
 parts-returns-clause-emitted t c =
@@ -384,18 +476,18 @@ parts-returns-clause-emitted t c =
 
 pub statement-parts-requires : goal.statement-parts-requires
 statement-parts-requires t c =
-    let opened = c.in_ok-inside-in-Sections.ensures in
+    let opened = c.in_ok-inside-in-Sections.ensures.code in
     let same = ap length (c.as_slice-in-Sections-2.ensures.value ∙ sym c.as_slice-in-Sections-3.ensures.value) in
     let part = parts_within _ _ c.args.spot c.args.tree.now _ c.in-Sections.at c.in-Sections.clauses c.in-Sections.nowait
     c.in-Sections.sections c.in-Sections.is c.as_slice-in-Sections-3.ensures.value opened.numbers c.requires.code
     c.requires.ends in
-    let free = subst (λ n. AreFree c.in_ok-inside-in-Sections.inside.first n c.begin_parts.new.draft) same opened.free in
+    let free = subst (λ n. AreFree c.in_ok-inside-in-Sections.inside.first n c.begin_parts.new.writing.draft) same opened.free in
     let fit = subst (λ n. c.in_ok-inside-in-Sections.inside.first + n ≤ 2 ^ 32) same opened.fit in
     (omega (arith, part.0, c.decreases), (part.1, (part.2, (free, fit))))
 
-pub statement-returns-in_ok-end_worksharing-in-Sections-clause-emitted :
-    goal.statement-returns-in_ok-end_worksharing-in-Sections-clause-emitted
-statement-returns-in_ok-end_worksharing-in-Sections-clause-emitted t c =
+pub statement-returns-in_ok-end-in-Sections-clause-emitted :
+    goal.statement-returns-in_ok-end-in-Sections-clause-emitted
+statement-returns-in_ok-end-in-Sections-clause-emitted t c =
     let parts = c.in-Sections.sections.items in
     let inside = c.in_ok-inside-in-Sections.inside in
     let all = trees.parts (map view_resolved_part parts) in
@@ -406,7 +498,7 @@ statement-returns-in_ok-end_worksharing-in-Sections-clause-emitted t c =
     (map view_resolved_clause c.in-Sections.clauses.items) c.in-Sections.nowait all c.args.spot.jumps (length parts)
     inside _ _ _ _ _ (labels_are inside.first parts)
     (opens_are (names_of c.args.scope.now) c.in-Sections.at.line c.args.spot.numbers inside _ _ _ _ _ _
-    c.as_slice-in-Sections.ensures.value c.as_slice-in-Sections-2.ensures.value c.in_ok-inside-in-Sections.ensures)
+    c.as_slice-in-Sections.ensures.value c.as_slice-in-Sections-2.ensures.value c.in_ok-inside-in-Sections.ensures.code)
     (parts_are (names_of c.args.scope.now) (numbers_of inside.numbers) inside _ _ _ _
     c.as_slice-in-Sections-3.ensures.value c.in_ok-after-in-Sections.ensures.emitted)
     c.define-in-Sections.ensures
@@ -419,52 +511,52 @@ statement-statements-requires t c =
     c.as_slice-in-Block.ensures.value c.requires.code c.requires.ends in
     (omega (arith, part.0, c.decreases), (part.1, part.2))
 
-pub statement-statement-requires : goal.statement-statement-requires
-statement-statement-requires t c =
+pub statement-inner-requires : goal.statement-inner-requires
+statement-inner-requires t c =
     let part = if_within _ c.args.spot c.args.tree.now _ c.in-If.at c.in-If.condition c.in-If.then c.in-If.is c.deref.ensures
     c.requires.code c.requires.ends in
     (omega (arith, part.0, c.decreases), (part.1, part.2))
 
-pub statement-statement-requires-in-IfElse : goal.statement-statement-requires-in-IfElse
-statement-statement-requires-in-IfElse t c =
+pub statement-inner-requires-in-IfElse : goal.statement-inner-requires-in-IfElse
+statement-inner-requires-in-IfElse t c =
     let part = then_within _ c.args.spot c.args.tree.now _ c.in-IfElse.at c.in-IfElse.condition c.in-IfElse.then
     c.in-IfElse.other c.in-IfElse.is c.deref-in-IfElse.ensures c.requires.code c.requires.ends in
     (omega (arith, part.0, c.decreases), (part.1, part.2))
 
-pub statement-statement-requires-in-IfElse-2 : goal.statement-statement-requires-in-IfElse-2
-statement-statement-requires-in-IfElse-2 t c =
+pub statement-inner-requires-in-IfElse-2 : goal.statement-inner-requires-in-IfElse-2
+statement-inner-requires-in-IfElse-2 t c =
     let part = else_within _ _ c.args.spot _ c.args.tree.now _ _ c.in-IfElse.at c.in-IfElse.condition c.in-IfElse.then
     c.in-IfElse.other c.in-IfElse.is c.deref-in-IfElse.ensures c.deref-in-IfElse-2.ensures c.behind.ensures
     c.in_ok-between-in-IfElse.ensures.behind c.requires.code c.requires.ends in
     (omega (arith, part.0, c.decreases), (part.1, part.2))
 
-pub statement-statement-requires-in-While : goal.statement-statement-requires-in-While
-statement-statement-requires-in-While t c =
+pub statement-inner-requires-in-While : goal.statement-inner-requires-in-While
+statement-inner-requires-in-While t c =
     let part = while_within _ _ c.args.spot _ _ c.args.tree.now _ c.in-While.at c.in-While.condition c.in-While.body
     c.in-While.is c.deref-in-While.ensures c.in_loop-inside.ensures c.requires.code c.requires.ends in
     (omega (arith, part.0, c.decreases), (part.1, part.2))
 
-pub statement-statement-requires-in-Do : goal.statement-statement-requires-in-Do
-statement-statement-requires-in-Do t c =
+pub statement-inner-requires-in-Do : goal.statement-inner-requires-in-Do
+statement-inner-requires-in-Do t c =
     let part = do_within _ _ c.args.spot _ _ c.args.tree.now _ c.in-Do.at c.in-Do.body c.in-Do.condition c.in-Do.is
     c.deref-in-Do.ensures c.in_loop-inside-in-Do.ensures c.requires.code c.requires.ends in
     (omega (arith, part.0, c.decreases), (part.1, part.2))
 
-pub statement-statement-requires-in-For : goal.statement-statement-requires-in-For
-statement-statement-requires-in-For t c =
+pub statement-inner-requires-in-For : goal.statement-inner-requires-in-For
+statement-inner-requires-in-For t c =
     let part = for_within _ _ c.args.spot _ _ c.args.tree.now _ c.in-For.at c.in-For.head c.in-For.body c.in-For.is
     c.deref-in-For.ensures c.in_loop-inside-in-For.ensures c.requires.code c.requires.ends in
     (omega (arith, part.0, c.decreases), (part.1, part.2))
 
-pub statement-statement-requires-in-Loop : goal.statement-statement-requires-in-Loop
-statement-statement-requires-in-Loop t c =
+pub statement-inner-requires-in-Loop : goal.statement-inner-requires-in-Loop
+statement-inner-requires-in-Loop t c =
     let part = loop_within _ _ c.args.spot _ c.args.tree.now _ c.in-Loop.at c.in-Loop.clauses c.in-Loop.nowait
     c.in-Loop.repeated c.in-Loop.body c.in-Loop.is c.deref-in-Loop-2.ensures c.in_iteration-inside.ensures
     c.requires.code c.requires.ends in
     (omega (arith, part.0, c.decreases), (part.1, part.2))
 
-pub statement-statement-requires-in-Construct : goal.statement-statement-requires-in-Construct
-statement-statement-requires-in-Construct t c =
+pub statement-inner-requires-in-Construct : goal.statement-inner-requires-in-Construct
+statement-inner-requires-in-Construct t c =
     let part = construct_within _ _ c.args.spot c.args.tree.now _ c.in-Construct.at c.in-Construct.kind
     c.in-Construct.clauses c.in-Construct.body (no_atomic c.in-Construct.kind c.in_default.not-Atomic) c.in-Construct.is
     c.deref-in-Construct.ensures c.outside-inside.ensures c.requires.code c.requires.ends in
@@ -494,3 +586,162 @@ statement-task-requires t c =
       known = task_ends _ _ c.args.tree.now _ c.in-Task.at c.in-Task.clauses c.in-Task.captures c.in-Task.body _
           c.in-Task.is c.deref-in-Task.ensures c.as_slice-in-Task.ensures.value c.requires.ends;
     }
+
+pub statement-returns-in_ok-leave_loop-in-Break-clause-scopes : goal.statement-returns-in_ok-leave_loop-in-Break-clause-scopes
+statement-returns-in_ok-leave_loop-in-Break-clause-scopes t c =
+    scopes_are (names_of c.args.scope.now) _ _ _ _ _ _ (sym (ap view_resolved_statement c.in-Break.is ∙ view_break c.in-Break.at))
+    (alone (names_of c.args.scope.now) (numbers_of c.args.spot.numbers)
+    (trees.Break c.in-Break.at)
+    c.args.spot.jumps _ _ _ (c.in_ok-leave_loop-in-Break.ensures (names_of c.args.scope.now)).writes)
+
+pub statement-returns-in_ok-go_on-in-Continue-clause-scopes : goal.statement-returns-in_ok-go_on-in-Continue-clause-scopes
+statement-returns-in_ok-go_on-in-Continue-clause-scopes t c =
+    scopes_are (names_of c.args.scope.now) _ _ _ _ _ _ (sym (ap view_resolved_statement c.in-Continue.is ∙ view_continue c.in-Continue.at))
+    (alone (names_of c.args.scope.now) (numbers_of c.args.spot.numbers)
+    (trees.Continue c.in-Continue.at)
+    c.args.spot.jumps _ _ _ (c.in_ok-go_on-in-Continue.ensures (names_of c.args.scope.now)).writes)
+
+pub statement-returns-in_ok-stand_alone-in-StandAlone-clause-scopes : goal.statement-returns-in_ok-stand_alone-in-StandAlone-clause-scopes
+statement-returns-in_ok-stand_alone-in-StandAlone-clause-scopes t c =
+    scopes_are (names_of c.args.scope.now) _ _ _ _ _ _ (sym (ap view_resolved_statement c.in-StandAlone.is ∙ view_stand_alone c.in-StandAlone.at
+    c.in-StandAlone.directive))
+    (alone (names_of c.args.scope.now) (numbers_of c.args.spot.numbers)
+    (trees.StandAlone c.in-StandAlone.at c.in-StandAlone.directive)
+    c.args.spot.jumps _ _ _ (c.in_ok-stand_alone-in-StandAlone.ensures (names_of c.args.scope.now)).writes)
+
+pub statement-returns-in_ok-after-in-Parallel-clause-scopes : goal.statement-returns-in_ok-after-in-Parallel-clause-scopes
+statement-returns-in_ok-after-in-Parallel-clause-scopes t c =
+    scopes_are (names_of c.args.scope.now) _ _ _ _ _ _ (ap (λ x. trees.Parallel c.in-Parallel.at (map view_resolved_clause x) c.as_slice-in-Parallel-2.result.now
+    (view_resolved_statement c.deref-in-Parallel.result.now)) c.as_slice-in-Parallel.ensures.value
+    ∙ ap (λ x. trees.Parallel c.in-Parallel.at (map view_resolved_clause c.in-Parallel.clauses.items) x
+    (view_resolved_statement c.deref-in-Parallel.result.now)) c.as_slice-in-Parallel-2.ensures
+    ∙ ap (λ z. trees.Parallel c.in-Parallel.at (map view_resolved_clause c.in-Parallel.clauses.items)
+    c.in-Parallel.captures (view_resolved_statement z)) c.deref-in-Parallel.ensures
+    ∙ sym (ap view_resolved_statement c.in-Parallel.is ∙ view_parallel c.in-Parallel.at c.in-Parallel.clauses
+    c.in-Parallel.captures c.in-Parallel.body))
+    (alone (names_of c.args.scope.now) (numbers_of c.args.spot.numbers)
+    (trees.Parallel c.in-Parallel.at (map view_resolved_clause c.as_slice-in-Parallel.result.now) c.as_slice-in-Parallel-2.result.now
+    (view_resolved_statement c.deref-in-Parallel.result.now))
+    c.args.spot.jumps _ _ _ (c.in_ok-after-in-Parallel.ensures.emitted c.args.spot.jumps).writes)
+
+pub statement-returns-in_ok-after-in-Task-clause-scopes : goal.statement-returns-in_ok-after-in-Task-clause-scopes
+statement-returns-in_ok-after-in-Task-clause-scopes t c =
+    scopes_are (names_of c.args.scope.now) _ _ _ _ _ _ (ap (λ x. trees.Task c.in-Task.at (map view_resolved_clause x) c.as_slice-in-Task-2.result.now
+    (view_resolved_statement c.deref-in-Task.result.now)) c.as_slice-in-Task.ensures.value
+    ∙ ap (λ x. trees.Task c.in-Task.at (map view_resolved_clause c.in-Task.clauses.items) x
+    (view_resolved_statement c.deref-in-Task.result.now)) c.as_slice-in-Task-2.ensures
+    ∙ ap (λ z. trees.Task c.in-Task.at (map view_resolved_clause c.in-Task.clauses.items) c.in-Task.captures
+    (view_resolved_statement z)) c.deref-in-Task.ensures
+    ∙ sym (ap view_resolved_statement c.in-Task.is ∙ view_task c.in-Task.at c.in-Task.clauses c.in-Task.captures
+    c.in-Task.body))
+    (alone (names_of c.args.scope.now) (numbers_of c.args.spot.numbers)
+    (trees.Task c.in-Task.at (map view_resolved_clause c.as_slice-in-Task.result.now) c.as_slice-in-Task-2.result.now
+    (view_resolved_statement c.deref-in-Task.result.now))
+    c.args.spot.jumps _ _ _ (c.in_ok-after-in-Task.ensures.emitted c.args.spot.jumps).writes)
+
+pub statement-returns-in_ok-end-in-Sections-clause-scopes : goal.statement-returns-in_ok-end-in-Sections-clause-scopes
+statement-returns-in_ok-end-in-Sections-clause-scopes t c =
+    let all = trees.parts (map view_resolved_part c.in-Sections.sections.items) in
+    scopes_are (names_of c.args.scope.now) _ _ _ _ _ _
+    (sym (ap view_resolved_statement c.in-Sections.is ∙ view_sections c.in-Sections.at c.in-Sections.clauses
+    c.in-Sections.nowait c.in-Sections.sections))
+    (sections_scopes (names_of c.args.scope.now) c.in-Sections.at (map view_resolved_clause c.in-Sections.clauses.items) c.in-Sections.nowait all
+    _ _ _ _ _ _ _ _ _ _ _ _ c.height-height-in-Sections.ensures c.place-to-in-Sections.ensures
+    (sections_scopes_clauses (names_of c.args.scope.now) c.in-Sections.at.line _ _ _ _ _ _ c.as_slice-in-Sections.ensures.value
+    c.in_ok-inside-in-Sections.ensures.scopes)
+    (part_scopes_are (names_of c.args.scope.now) _ _ _ _ _ _ c.as_slice-in-Sections-3.ensures.value c.in_ok-after-in-Sections.ensures.scopes)
+    c.define-in-Sections.ensures
+    (close_clauses_are (names_of c.args.scope.now) c.in-Sections.at.line c.in-Sections.nowait _ _ _ _
+    c.as_slice-in-Sections-4.ensures.value c.in_ok-end_worksharing-in-Sections.ensures) c.in_ok-end-in-Sections.ensures)
+
+pub inner-statement-requires : goal.inner-statement-requires
+inner-statement-requires t c = (omega (arith, c.decreases), (c.requires.code, c.requires.ends))
+
+pub inner-returns-clause-scopes : goal.inner-returns-clause-scopes
+inner-returns-clause-scopes t c =
+    stand_block (names_of c.args.scope.now) (λ at. scopes at (view_resolved_statement c.args.tree.now)) _ _ _ _ _ _ _ c.height-height.ensures
+    c.place-to.ensures c.in_ok-after.ensures.scopes c.in_ok-end.ensures
+
+pub statements-returns-clause-scopes : goal.statements-returns-clause-scopes
+statements-returns-clause-scopes t c =
+    all_scopes_done (names_of c.args.scope.now) _ _ _ _ _ _ (ap (λ xs. trees.statements (map view_resolved_statement xs))
+    (drop_all c.loop-item.item-index c.args.items.now c.loop-item-test.false)) c.loop-item.invariant.4
+
+pub parts-returns-clause-scopes : goal.parts-returns-clause-scopes
+parts-returns-clause-scopes t c =
+    part_scopes_done (names_of c.args.scope.now) _ _ _ _ _ _ (ap (λ xs. trees.parts (map view_resolved_part xs))
+    (drop_all c.loop-index.index c.args.sections.now c.loop-index-test.false)) c.loop-index.invariant.5
+
+pub statement-returns-in_ok-end-in-Block-clause-scopes : goal.statement-returns-in_ok-end-in-Block-clause-scopes
+statement-returns-in_ok-end-in-Block-clause-scopes t c =
+    let items = trees.statements (map view_resolved_statement c.as_slice-in-Block.result.now) in
+    scopes_are (names_of c.args.scope.now) _ _ _ _ _ _
+    (ap (λ xs. trees.Block c.in-Block.at (trees.statements (map view_resolved_statement xs)))
+    c.as_slice-in-Block.ensures.value
+    ∙ sym (ap view_resolved_statement c.in-Block.is ∙ view_block c.in-Block.at c.in-Block.items))
+    (stand_block (names_of c.args.scope.now) (λ at. all_scopes at items) _ _ _ _ _ _ _ c.height-height.ensures
+    c.place-to.ensures c.in_ok-after-in-Block.ensures.scopes c.in_ok-end-in-Block.ensures)
+
+pub statement-returns-in_ok-declarators-in-Declaration-clause-scopes :
+    goal.statement-returns-in_ok-declarators-in-Declaration-clause-scopes
+statement-returns-in_ok-declarators-in-Declaration-clause-scopes t c =
+    scopes_are (names_of c.args.scope.now) _ _ _ _ _ _
+    (ap (λ xs. trees.Declaration c.in-Declaration.at (map view_resolved_declarator xs)) c.as_slice.ensures.value
+    ∙ sym (ap view_resolved_statement c.in-Declaration.is
+    ∙ view_declaration c.in-Declaration.at c.in-Declaration.declared))
+    c.in_ok-declarators-in-Declaration.ensures.scopes
+
+pub statement-returns-in_ok-effect-in-Expression-clause-scopes :
+    goal.statement-returns-in_ok-effect-in-Expression-clause-scopes
+statement-returns-in_ok-effect-in-Expression-clause-scopes t c =
+    scopes_are (names_of c.args.scope.now) _ _ _ _ _ _
+    (sym (ap view_resolved_statement c.in-Expression.is
+    ∙ view_expression c.in-Expression.at c.in-Expression.expression))
+    (alone (names_of c.args.scope.now) (numbers_of c.args.spot.numbers)
+    (trees.Expression c.in-Expression.at (view_resolved_expression c.in-Expression.expression)) c.args.spot.jumps _ _ _
+    c.in_ok-effect-in-Expression.ensures.writes)
+
+pub statement-returns-in_ok-returned-in-Return-clause-scopes :
+    goal.statement-returns-in_ok-returned-in-Return-clause-scopes
+statement-returns-in_ok-returned-in-Return-clause-scopes t c =
+    scopes_are (names_of c.args.scope.now) _ _ _ _ _ _
+    (sym (ap view_resolved_statement c.in-Return.is ∙ view_return c.in-Return.at c.in-Return.answer))
+    (alone (names_of c.args.scope.now) (numbers_of c.args.spot.numbers)
+    (trees.Return c.in-Return.at (option_map view_resolved_expression c.in-Return.answer)) c.args.spot.jumps _ _ _
+    c.in_ok-returned-in-Return.ensures.writes)
+
+pub statement-returns-in_ok-update-in-Update-clause-scopes :
+    goal.statement-returns-in_ok-update-in-Update-clause-scopes
+statement-returns-in_ok-update-in-Update-clause-scopes t c =
+    scopes_are (names_of c.args.scope.now) _ _ _ _ _ _
+    (ap (λ z. trees.Update c.in-Update.at (view_resolved_update z)) c.deref-in-Update.ensures
+    ∙ sym (ap view_resolved_statement c.in-Update.is ∙ view_update c.in-Update.at c.in-Update.updated))
+    (alone (names_of c.args.scope.now) (numbers_of c.args.spot.numbers)
+    (trees.Update c.in-Update.at (view_resolved_update c.deref-in-Update.result.now)) c.args.spot.jumps _ _ _
+    c.in_ok-update-in-Update.ensures.writes)
+
+-- nothing is written, so no scope begins or ends
+empty_stands : (names : Names) (n : rows.Numbers) (jumps : JumpLabels) (tree : ResolvedStatement) (first : Span)
+    (draft : Written) (x : ScopeStack) → tree ≡ v.Empty first
+    → ScopesStand names (λ at. scopes at (view_resolved_statement tree)) draft x draft x
+empty_stands names n jumps tree first draft x is =
+    scopes_are names (trees.Empty first) _ draft x draft x (sym (ap view_resolved_statement is ∙ view_empty first))
+    (alone names n (trees.Empty first) jumps draft draft x (goes_end 0 draft).writes)
+
+pub statement-returns-in-Empty-clause-scopes : goal.statement-returns-in-Empty-clause-scopes
+statement-returns-in-Empty-clause-scopes t c =
+    empty_stands (names_of c.args.scope.now) (numbers_of c.args.spot.numbers) c.args.spot.jumps _ _
+    c.args.writing.now.draft c.args.writing.now.scopes c.in-Empty.is
+
+pub statement-returns-in-Atomic-clause-scopes : goal.statement-returns-in-Atomic-clause-scopes
+statement-returns-in-Atomic-clause-scopes t c =
+    let clauses = map view_resolved_clause c.in-Construct.clauses.items in
+    let s = view_resolved_statement c.deref-in-Atomic.result.now in
+    scopes_are (names_of c.args.scope.now) _ _ _ _ _ _
+    (ap (λ k. trees.Construct c.in-Construct.at k clauses s) (sym c.in-Atomic.is)
+    ∙ ap (λ z. trees.Construct c.in-Construct.at c.in-Construct.kind clauses (view_resolved_statement z))
+    c.deref-in-Atomic.ensures
+    ∙ sym (ap view_resolved_statement c.in-Construct.is ∙ view_construct c.in-Construct.at c.in-Construct.kind
+    c.in-Construct.clauses c.in-Construct.body))
+    (stand_plain (names_of c.args.scope.now) (λ at. assignment_row at c.in-Construct.at.line s) _ _ _
+    c.in_ok-assignment-in-Construct.ensures.writes)

@@ -8,7 +8,9 @@ use Rattle.om_tables.specs.Ends.{HasAllEnds, HasPartsEnds}
 use Rattle.om_tables.specs.Numbering.{numbers_of}
 use Rattle.om_tables.specs.Scopes.{names_of}
 use Rattle.om_tables.specs.Tables.{known_in}
+use Rattle.om_rows.specs.Scopes.{all_scopes, part_scopes}
 use Rattle.om_statements.specs.Parts.{AreFree}
+use Rattle.om_statements.specs.Scoping.{ScopesOn}
 use Rattle.om_statements.proofs.Lists.{Onward}
 use Rattle.om_statements.proofs.PartLists.{OnwardParts}
 use Rattle.om_statements.proofs.statement.+statement.Given as goal
@@ -20,9 +22,11 @@ invariant-statements-loop-item l =
     let left = trees.statements (map view_resolved_statement (drop l.item-index l.items)) in
     StatementsHaveCode (is_some l.spot.jumps.over) (is_some l.spot.jumps.next) left
     × (rows.behind_all (numbers_of l.numbers) left ≡ rows.behind_all (numbers_of l.spot.numbers) all)
-    × Onward (length l.fn.draft.places) (names_of l.scope) l.spot.jumps (numbers_of l.spot.numbers)
-    (numbers_of l.numbers) all left l.fn.draft l.draft
+    × Onward (length l.fn.writing.draft.places) (names_of l.scope) l.spot.jumps (numbers_of l.spot.numbers)
+    (numbers_of l.numbers) all left l.fn.writing.draft l.writing.draft
     × HasAllEnds (known_in l.scope) (numbers_of l.numbers) left
+    × ScopesOn (names_of l.scope) (λ at. all_scopes at all) (λ at. all_scopes at left) l.fn.writing.draft
+    l.fn.writing.scopes l.writing.draft l.writing.scopes
 
 -- the same of the parts of a `sections`, whose labels are free
 abbrev pub invariant-parts-loop-index : goal.invariant-parts-loop-index
@@ -31,7 +35,9 @@ invariant-parts-loop-index l =
     let left = trees.parts (map view_resolved_part (drop l.index l.sections)) in
     PartsHaveCode left
     × (rows.behind_parts (numbers_of l.numbers) left ≡ rows.behind_parts (numbers_of l.spot.numbers) all)
-    × AreFree (l.spot.first + l.index) (length (drop l.index l.sections)) l.draft
+    × AreFree (l.spot.first + l.index) (length (drop l.index l.sections)) l.writing.draft
     × OnwardParts (names_of l.scope) l.spot (numbers_of l.spot.numbers) (numbers_of l.numbers) all left
-    (l.spot.first + l.index) l.fn.draft l.draft
+    (l.spot.first + l.index) l.fn.writing.draft l.writing.draft
     × HasPartsEnds (known_in l.scope) (numbers_of l.numbers) left
+    × ScopesOn (names_of l.scope) (λ at. part_scopes at all) (λ at. part_scopes at left) l.fn.writing.draft
+    l.fn.writing.scopes l.writing.draft l.writing.scopes

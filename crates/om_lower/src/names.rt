@@ -1,0 +1,91 @@
+//! What names mean in a body, by the slots of its variables.
+
+ghost use Rattle.std.specs.Prelude.{◌≡◌, ◌≤◌, ◌<◌, IfOk, IfSome, length, map, nat_eq, position};
+ghost use Rattle.om_rows.specs.Scopes.{names_with, scope_in, slot_among};
+
+use om_code::raw::{Names, Scope};
+use om_rows::VariableScope;
+use om_seq::Seq;
+use om_tables::Variables;
+use std::alloc::{AllocError, Global};
+
+/// What names mean in a body with these scopes and variables, in a body with those: by their slots.
+/// Its only error is out of memory.
+pub(crate) fn names_with(
+    alloc: Global,
+    named: Vec<VariableScope>,
+    variables: &Variables,
+    outer: &Variables,
+) -> Result<Names, AllocError>
+    requires few { length variables.now ≤ 256 }
+    requires round { length outer.now ≤ 256 }
+    ensures { IfOk result
+        (λ names. names ≡ names_with variables.now outer.now named.items) }
+{
+    let scopes = scopes_in(alloc, named, variables)?;
+    let outer = slots_among(alloc, outer, variables)?;
+    Ok(Names { scopes, outer })
+}
+
+/// Scopes, by the slots of a body with these variables.
+fn scopes_in(
+    alloc: Global,
+    named: Vec<VariableScope>,
+    variables: &Variables,
+) -> Result<Seq<Scope>, AllocError>
+    requires { length variables.now ≤ 256 }
+    ensures { IfOk result (λ scopes. scopes ≡ map (scope_in variables.now) named.items) }
+{
+    let mut scopes = Vec::new(alloc);
+    for one in named {
+        scopes.push(scope_in(variables, one))?;
+    }
+    Ok(Seq::of(scopes))
+}
+
+/// A scope, by the slots of a body with these variables.
+fn scope_in(variables: &Variables, named: VariableScope) -> Scope
+    requires { length variables.now ≤ 256 }
+    ensures { result ≡ scope_in variables.now named }
+{
+    Scope {
+        slot: slot_among(variables, named.variable),
+        name: named.name,
+        length: named.length,
+        from: named.from,
+        to: named.to,
+    }
+}
+
+/// For each of these variables its slot in the body round them, where that has it.
+fn slots_among(
+    alloc: Global,
+    outer: &Variables,
+    variables: &Variables,
+) -> Result<Seq<Option<u32>>, AllocError>
+    requires { length outer.now ≤ 256 }
+    ensures { IfOk result (λ slots. slots ≡ map (slot_among outer.now) variables.now) }
+{
+    let mut slots = Vec::new(alloc);
+    for variable in variables.as_slice() {
+        slots.push(slot_among(outer, *variable))?;
+    }
+    Ok(Seq::of(slots))
+}
+
+/// The slot of a variable, where these have it.
+fn slot_among(variables: &Variables, variable: u32) -> Option<u32>
+    requires { length variables.now ≤ 256 }
+    ensures { result ≡ slot_among variables.now variable }
+{
+    let slot = index_among(variables.as_slice(), variable)?;
+    Some(slot as u32)
+}
+
+/// The index of a variable, where it is among these.
+fn index_among(variables: &[u32], variable: u32) -> Option<usize>
+    ensures index { result ≡ position (nat_eq variable) variables.now }
+    ensures within { IfSome result (λ index. index < length variables.now) }
+{
+    variables.iter().position(|other| variable == *other)
+}

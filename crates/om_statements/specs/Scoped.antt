@@ -1,0 +1,54 @@
+-- What is promised of the scopes of names in code that is written.
+use Rattle.std.specs.Prelude.{◌≡◌, ℕ, List, [], ◌∷◌, ◌++◌, Option, None, drop, length, map, reverse, take}
+use Rattle.om_emit.specs.Drafts.{Labels, Written}
+use Rattle.om_emit.specs.Emits.{Finished, Fits, Grows, site}
+use Rattle.om_resolved.specs.declared.resolved.CopyKind.TheVariants as copies
+use Rattle.om_resolved.specs.declared.resolved.LocalVariable.{LocalVariable}
+use Rattle.om_resolved.specs.ResolvedTree.{ResolvedClauseTree, Copied}
+use Rattle.om_rows.specs.declared.scope.VariableScope.{VariableScope}
+use Rattle.om_rows.specs.Rows.{Site}
+use Rattle.om_rows.specs.Scopes.{Found, Scoping, closed_at, opened_with}
+use Rattle.om_statements.specs.declared.writing.ScopeStack.{ScopeStack}
+use Rattle.om_statements.specs.declared.writing.Writing.{Writing}
+use Rattle.om_tables.specs.Names.{Names}
+
+-- a scope begins at this place
+pub record BeginsScope (from : ℕ) (length : Option ℕ) (variable : LocalVariable) (old new : ScopeStack)
+    : Type 0 where
+  pub opened : new.opened.items ≡ old.opened.items ++ opened_with length from variable ∷ []
+  pub closed : new.closed.items ≡ old.closed.items
+
+-- all but the first of those that have begun end at this place
+pub record EndsScopes (height to : ℕ) (old new : ScopeStack) : Type 0 where
+  pub opened : new.opened.items ≡ take height old.opened.items
+  pub closed : new.closed.items ≡ old.closed.items ++ map (closed_at to) (reverse (drop height old.opened.items))
+
+-- the copy of a clause does, if it makes one
+abbrev pub BeginsCopy : (from : ℕ) → ResolvedClauseTree → ScopeStack → ScopeStack → Type 0
+BeginsCopy from (Copied kind x copy) old new = BeginsScope from None copy old new
+BeginsCopy from clause old new = new ≡ old
+
+-- where it does in the body of a `parallel`
+abbrev pub team_from : (place : ℕ) → ResolvedClauseTree → ℕ
+team_from place (Copied (copies.Reduction o) x copy) = place
+team_from place clause = 0
+
+-- the last one of those that have begun ends
+pub record EndsLast (to : ℕ) (old new : ScopeStack) : Type 0 where
+  pub last : VariableScope
+  pub opened : old.opened.items ≡ new.opened.items ++ last ∷ []
+  pub closed : new.closed.items ≡ old.closed.items ++ closed_at to last ∷ []
+
+-- scopes begin and end in code that is written: whatever finished program agrees with it, they are those of
+-- this row
+pub record ScopesStand (names : Names) (row : Site → Scoping) (a : Written) (x : ScopeStack) (b : Written)
+    (y : ScopeStack) : Type 0 where
+  pub found : Found
+  pub opened : y.opened.items ≡ x.opened.items ++ found.opened
+  pub closed : y.closed.items ≡ x.closed.items ++ found.closed
+  pub grows : Grows a b
+  pub stands : (done : Finished) (at : Labels) → Fits done at (length a.code) b
+      → row (site names done) (length a.code) (length b.code) found
+
+abbrev pub EmitsScopes : Names → (Site → Scoping) → Writing → Writing → Type 0
+EmitsScopes names row old new = ScopesStand names row old.draft old.scopes new.draft new.scopes
