@@ -24,6 +24,14 @@ pub fn help_for(code: FaultCode, token: &[u8], before: &[u8]) -> Option<&'static
     }
 }
 
+/// Whether a token at which S3 stands is a word of C that is left out, as `static`.
+pub fn is_left_out(token: &[u8]) -> bool {
+    match token {
+        [b'a'..=b'z' | b'_', ..] => token != &b"int"[..] && words_of(&SYNTAX, token).is_some(),
+        _ => false,
+    }
+}
+
 // By the first byte of what is no token; all digits are one.
 fn byte_words(token: &[u8]) -> Option<&'static str> {
     match token {

@@ -2,8 +2,8 @@
 
 use crate::place::{front_of, line_behind, rest_of};
 use crate::token::{line_front, line_rest, name_before, token_at};
-use om_explain::{help_for, refusal_words};
-use om_lexer::SourceFault;
+use om_explain::{help_for, is_left_out, refusal_words};
+use om_lexer::{FaultCode, SourceFault};
 use om_replies::push_numbered;
 use std::alloc::{AllocError, Global};
 
@@ -83,6 +83,17 @@ fn push_help(text: &mut Vec<u8>, fault: SourceFault, around: Around<'_>) -> Resu
     text.extend_from_slice(b"\n")
 }
 
+// Why the token is refused.
+fn push_reason(text: &mut Vec<u8>, code: FaultCode, token: &[u8]) -> Result<(), AllocError> {
+    if code == FaultCode::Syntax && is_left_out(token) {
+        text.extend_from_slice(b"'")?;
+        text.extend_from_slice(token)?;
+        return text.extend_from_slice(b"' is left out of this C\n");
+    }
+    text.extend_from_slice(refusal_words(code).as_bytes())?;
+    text.extend_from_slice(b"\n")
+}
+
 /// What a refusal is explained by, behind its code: words, the line with a mark, and help.
 ///
 /// A line without a byte is not shown.
@@ -93,8 +104,7 @@ pub(crate) fn explanation(
 ) -> Result<Vec<u8>, AllocError> {
     let around = surroundings(source, fault.at);
     let mut text = Vec::new(alloc);
-    text.extend_from_slice(refusal_words(fault.code).as_bytes())?;
-    text.extend_from_slice(b"\n")?;
+    push_reason(&mut text, fault.code, around.token)?;
     if !around.front.is_empty() || !around.rest.is_empty() {
         push_line(&mut text, around)?;
         push_mark(&mut text, alloc, around)?;
