@@ -10,7 +10,7 @@ use om_lexer::FaultCode;
 /// code's words is known.
 ///
 /// `before` is the nearest name that stands before the token on its line, and may be empty. The token at a
-/// `#` is its whole line, at a quote the whole text.
+/// `#` is its whole line, at a quote the whole text, and at the end of the source it is empty.
 pub fn help_for(code: FaultCode, token: &[u8], before: &[u8]) -> Option<&'static str> {
     match code {
         FaultCode::BadToken => words_of(&LIBRARY, before).or(byte_words(token)),
@@ -53,6 +53,7 @@ fn syntax_words(token: &[u8], before: &[u8]) -> Option<&'static str> {
     match token {
         [b'"', ..] => words_of(&NAMES, before).or(words_of(&SYNTAX, b"\"")),
         [b'#', ..] => words_of(&SYNTAX, b"#"),
+        [] => Some("a `}` or a `;` is missing before the end"),
         _ => words_of(&SYNTAX, token)
             .or(words_of(&NAMES, token))
             .or(words_of(&NAMES, before)),

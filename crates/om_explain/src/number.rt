@@ -4,6 +4,7 @@ ghost use Rattle.std.specs.Prelude.{◌≡◌, IfSome};
 ghost use Rattle.om_cells.specs.Values.{blocked_number};
 ghost use Rattle.om_code.specs.Faults.{fault_number};
 ghost use Rattle.om_lexer.specs.Faults.{number_of};
+ghost use Rattle.om_explain.specs.Words.{IsOneLine};
 
 use crate::code::{blocked_words, fault_words};
 use crate::refusal::refusal_words;
@@ -74,7 +75,9 @@ fn refusal_of(number: u8) -> Option<FaultCode>
 }
 
 // The words of the code of this family and number.
-fn numbered_words(family: u8, number: u8) -> Option<&'static str> {
+fn numbered_words(family: u8, number: u8) -> Option<&'static str>
+    ensures { IfSome result (λ words. IsOneLine words.now) }
+{
     match family {
         b'S' => Some(refusal_words(refusal_of(number)?)),
         b'B' => Some(blocked_words(blocked_of(number)?)),
@@ -84,7 +87,9 @@ fn numbered_words(family: u8, number: u8) -> Option<&'static str> {
 }
 
 /// The words of a code of the families S, B and F as answers write it, as `B3`; `None` where it is none.
-pub fn code_words(code: &[u8]) -> Option<&'static str> {
+pub fn code_words(code: &[u8]) -> Option<&'static str>
+    ensures { IfSome result (λ words. IsOneLine words.now) }
+{
     match code {
         [family, one @ b'0'..=b'9'] => numbered_words(*family, *one - b'0'),
         [family, ten @ b'1'..=b'9', one @ b'0'..=b'9'] => {
