@@ -1,6 +1,8 @@
 -- The text of arrows.
 use Rattle.std.specs.Prelude.{ℕ, List, [], ◌∷◌, ◌++◌, codes, decimal}
 use Rattle.om_code.specs.declared.raw.Raw.{Raw}
+use Rattle.om_foot.specs.declared.object.Obj.{Obj}
+use Rattle.om_foot.specs.declared.object.Obj.TheVariants as object
 use Rattle.om_picture.specs.declared.picture.End.{End}
 use Rattle.om_picture.specs.declared.picture.Arrow.{Arrow}
 use Rattle.om_draw.specs.declared.scale.Scale.{Scale}
@@ -25,8 +27,16 @@ label_text program scale x = attribute_text (codes "<text x='") (label_left scal
     ++ attribute_text (codes " y='") (label_base x.from x.to) ++ codes ">" ++ object_words program x.object
     ++ codes "</text>"
 
+-- an arrow at a worker's control is of one more class
+abbrev pub kind_text : Obj → List ℕ
+kind_text (object.Control worker) = codes " own"
+kind_text _ = []
+
+abbrev pub class_text : List ℕ → Obj → List ℕ
+class_text class q = class ++ kind_text q
+
 abbrev pub arrow_text : Raw → List ℕ → Scale → Arrow → List ℕ
-arrow_text program class scale x = codes "<g class='" ++ class ++ codes "'>" ++ name_text program x
+arrow_text program class scale x = codes "<g class='" ++ class_text class x.object ++ codes "'>" ++ name_text program x
     ++ line_text scale x.from x.to ++ label_text program scale x ++ codes "</g>\n"
 
 -- one element for each arrow, in their order

@@ -1,12 +1,13 @@
 //! The text of arrows: one element for each.
 
 ghost use Rattle.std.specs.Prelude.{◌≡◌, ◌++◌, OnOk};
-ghost use Rattle.om_draw.specs.Strokes.{name_text, line_text, label_text, arrow_text, arrows_text};
+ghost use Rattle.om_draw.specs.Strokes.{class_text, name_text, line_text, label_text, arrow_text, arrows_text};
 
 use crate::escape::push_attribute;
 use crate::object::push_object;
 use crate::scale::{Scale, label_base};
 use om_code::Program;
+use om_foot::Obj;
 use om_picture::{Arrow, End};
 use om_replies::push_numbered;
 use std::alloc::AllocError;
@@ -50,6 +51,18 @@ fn push_label(
     text.extend_from_slice(b"</text>")
 }
 
+/// Appends the class of an arrow. One at a worker's control, as from a fork to each step of the new worker,
+/// is of a class of its own too, so that it can be faint.
+fn push_class(text: &mut Vec<u8>, class: &[u8], object: &Obj) -> Result<(), AllocError>
+    ensures { OnOk result (text.new.items ≡ text.old.items ++ class_text class.now object.now) }
+{
+    text.extend_from_slice(class)?;
+    match object {
+        Obj::Control(_) => text.extend_from_slice(b" own"),
+        _ => Ok(()),
+    }
+}
+
 /// Appends an arrow of a class.
 fn push_arrow(
     text: &mut Vec<u8>,
@@ -62,7 +75,7 @@ fn push_arrow(
         (text.new.items ≡ text.old.items ++ arrow_text program.now class.now scale arrow.now) }
 {
     text.extend_from_slice(b"<g class='")?;
-    text.extend_from_slice(class)?;
+    push_class(text, class, &arrow.object)?;
     text.extend_from_slice(b"'>")?;
     push_name(text, program, arrow)?;
     push_line(text, scale, arrow.from, arrow.to)?;

@@ -38,6 +38,8 @@ text{font-size:11px;fill:var(--ink)}
 #stop{fill:var(--refused)}
 .small .arrow line{stroke-width:.5}
 .small .arrow text,.small .refused text{display:none}
+.arrow.own line{stroke-width:.5;stroke-opacity:.45;marker-end:none}
+.arrow.own text{display:none}
 .arrow:hover line{stroke-width:3}
 </style>
 </head>
