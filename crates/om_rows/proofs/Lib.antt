@@ -8,10 +8,7 @@ pub mod StatementLevels
 pub mod CodeLevels
 pub mod Named
 pub mod NamedExpressions
-pub mod Sized
-pub mod StatementSized
-pub mod ScopeSizes
-pub mod ScopesFound
+pub mod ScopeTwins
 pub mod OneCode
 pub mod WholeCode
 pub mod RowsCode

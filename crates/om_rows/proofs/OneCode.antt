@@ -11,15 +11,15 @@ use Rattle.om_rows.specs.declared.scope.VariableScope.{VariableScope}
 use Rattle.om_rows.specs.Bodies.{Numbers, next_body, BodyTree, BodySite, FunctionBody, ParallelBody, TaskBody}
 use Rattle.om_rows.specs.Bodies.{function_variables, function_bodies, behind_function, behind_functions, bodies_from}
 use Rattle.om_rows.specs.Bodies.{bodies_of, first_numbers, variables_of}
-use Rattle.om_rows.specs.Code.{body_row, site_of, IsBodyOf}
+use Rattle.om_rows.specs.Code.{body_row, IsBodyOf}
 use Rattle.om_rows.specs.Laws.{OneCode}
 use Rattle.om_rows.specs.Mentions.{formats_of, locks_of, IsTextOf}
 use Rattle.om_rows.specs.Rows.{Site}
-use Rattle.om_rows.specs.Scopes.{Found, body_scopes, names_with}
+use Rattle.om_rows.specs.Scopes.{Found, names_with}
 use Rattle.om_rows.specs.Statements.{nowhere}
 use Rattle.om_rows.proofs.ExpressionTwins.{with_code}
 use Rattle.om_rows.proofs.HeadTwins as heads
-use Rattle.om_rows.proofs.ScopeSizes.{body_makes}
+use Rattle.om_rows.proofs.ScopeTwins.{body_match}
 use Rattle.om_rows.proofs.StatementTwins as twins
 use Rattle.om_rows.proofs.Twins.{Alike, Agree, twin_end, twin_next, twin_within, twin_as, twin_part}
 
@@ -33,13 +33,9 @@ same_by_places (x ∷ xs) (y ∷ ys) l h =
     let first : Some x ≡ Some y = h zero (omega arith) in
     cc (first, same_by_places xs ys (omega (arith, l)) (λ k lt. h (suc k) (omega (arith, lt))))
 
--- the scopes in two codes of one body
-same_scopes : (at at' : Site) (b : BodySite) (q q' : ℕ) (xs ys : List VariableScope)
-    → body_scopes at b.function b.tree 0 q (record { opened = []; closed = xs })
-    → body_scopes at' b.function b.tree 0 q' (record { opened = []; closed = ys }) → xs ≡ ys
-same_scopes at at' b q q' xs ys r t =
-    ap (λ (found : Found). found.closed)
-    (body_makes at b.function b.tree q _ r ∙ sym (body_makes at' b.function b.tree q' _ t))
+-- the scopes of a body, all of which end in it
+abbrev all_closed : List VariableScope → Found
+all_closed scopes = record { opened = []; closed = scopes }
 
 module _ (functions : List ResolvedFunctionTree) (formats locks picks picks' : List (List ℕ)) where
   abbrev Covered : ℕ → ℕ → Type 0
@@ -136,10 +132,10 @@ module _ (tree : ResolvedTree) (raw other : Raw) where
       let code : x.code ≡ y.code = same_by_places x.code y.code e.0 (λ k lt. e.1.by k (omega arith) lt) in
       let slots = a.slots ∙ sym b.slots in
       let given = a.given ∙ sym b.given in
+      let scopes = (body_match base x.code y.code raw.picks other.picks c.function c.tree 0 (length x.code)
+      (length y.code) (all_closed a.names.scopes) (all_closed b.names.scopes) a.names.stand b.names.stand).1 in
       let names = a.names.named
-      ∙ ap (names_with (variables_of c) c.outer)
-      (same_scopes (site_of tree raw c x) (site_of tree other c y) c (length x.code) (length y.code) _ _
-      a.names.stand b.names.stand)
+      ∙ ap (λ (found : Found). names_with (variables_of c) c.outer found.closed) scopes
       ∙ sym b.names.named in
       λ i. record { code = code i; slots = slots i; given = given i; names = names i }
 

@@ -1,5 +1,5 @@
 -- What the code of every tree is.
-use Rattle.std.specs.Prelude.{◌≡◌, ◌<◌, ◌≤◌, ◌^◌, ℕ, ◌+◌, List, [], true, Some, All, IsSomeAnd, length, is_some}
+use Rattle.std.specs.Prelude.{◌≡◌, ◌<◌, ◌≤◌, ◌^◌, ℕ, List, [], true, Some, All, IsSomeAnd, length, is_some}
 use Rattle.std.specs.Prelude.{slice_get}
 use Rattle.std.specs.List.{list_any}
 use Rattle.std.specs.Str.{bytes_eq}
@@ -17,10 +17,7 @@ use Rattle.om_rows.specs.Code.{body_row, IsBodyOf, IsCodeOf}
 use Rattle.om_rows.specs.Coded.{ValueHasCode, EffectHasCode, StatementHasCode, TreeHasCode}
 use Rattle.om_rows.specs.Expressions.{value, effect}
 use Rattle.om_rows.specs.Mentions.{format_mention, formats_of, tree_mentioned}
-use Rattle.om_rows.specs.Names.{body_names}
 use Rattle.om_rows.specs.Rows.{Site}
-use Rattle.om_rows.specs.Scopes.{body_scopes}
-use Rattle.om_rows.specs.Sizes.{value_size, effect_size, statement_size}
 use Rattle.om_rows.specs.Statements.{Jumps, statement}
 
 -- A tree has one code.
@@ -78,13 +75,6 @@ CodeFaults =
     (tree : ResolvedTree) (raw : Raw) → IsWholeTree tree → TreeCopiesBehind tree → IsCodeOf tree raw →
     AreNumbered raw → (fault : CodeFault) → Breaks fault raw → MayBreak fault
 
--- Where the code of a body stands, its scopes are those that the sizes of its parts tell.
-abbrev pub ScopesFound : Type 0
-ScopesFound =
-    (at : Site) (n : Numbers) (f : ResolvedFunctionTree) (tree : BodyTree) →
-    body_row at n f tree 0 (length at.code) →
-    body_scopes at f tree 0 (length at.code) (record { opened = []; closed = (body_names f tree).closed })
-
 -- The body of a function, by its number, is the code of that function.
 abbrev pub FunctionBodies : Type 0
 FunctionBodies =
@@ -115,17 +105,3 @@ abbrev pub StatementRowsHaveCode : Type 0
 StatementRowsHaveCode =
     (at : Site) (n : Numbers) (s : ResolvedStatementTree) (jumps : Jumps) (p q : ℕ) →
     statement at n s jumps p q → StatementHasCode (is_some jumps.over) (is_some jumps.next) s
-
--- The code of a part has as many instructions as the part tells.
-abbrev pub ValueSizes : Type 0
-ValueSizes =
-    (at : Site) (l : ℕ) (e : ResolvedExpressionTree) (p q : ℕ) → value at l e p q → q ≡ p + value_size e
-
-abbrev pub EffectSizes : Type 0
-EffectSizes =
-    (at : Site) (l : ℕ) (e : ResolvedExpressionTree) (p q : ℕ) → effect at l e p q → q ≡ p + effect_size e
-
-abbrev pub StatementSizes : Type 0
-StatementSizes =
-    (at : Site) (n : Numbers) (s : ResolvedStatementTree) (jumps : Jumps) (p q : ℕ) →
-    statement at n s jumps p q → q ≡ p + statement_size s

@@ -8,8 +8,6 @@ pub mod Mentions
 pub mod Expressions
 pub mod Statements
 pub mod Scopes
-pub mod Names
 pub mod Code
-pub mod Sizes
 pub mod Laws
 pub mod Coded

@@ -1,6 +1,6 @@
 //! Laws of the code of a tree, whoever made it.
 
-ghost use Rattle.om_rows.specs.Laws.{BodyIsLevel, CodeFaults, CodeIsLevel, CodeIsValid, EffectRowsHaveCode, EffectSizes, FormatsAreNumbered, FunctionBodies, OneCode, RowsHaveCode, ScopesFound, StatementRowsHaveCode, StatementSizes, ValueRowsHaveCode, ValueSizes, WholeHasCode};
+ghost use Rattle.om_rows.specs.Laws.{BodyIsLevel, CodeFaults, CodeIsLevel, CodeIsValid, EffectRowsHaveCode, FormatsAreNumbered, FunctionBodies, OneCode, RowsHaveCode, StatementRowsHaveCode, ValueRowsHaveCode, WholeHasCode};
 
 /// A tree has one code.
 pub fn one_code()
@@ -48,17 +48,4 @@ pub fn function_bodies()
 /// Each format that a program mentions has a number.
 pub fn formats_are_numbered()
     ensures { FormatsAreNumbered }
-{}
-
-/// The code of an expression or a statement has as many instructions as the tree tells.
-pub fn sized()
-    ensures value { ValueSizes }
-    ensures effect { EffectSizes }
-    ensures statement { StatementSizes }
-{}
-
-/// Where the code of a body stands, its scopes are those that the sizes of its parts tell: so whoever walks
-/// the tree of a body without its code finds them.
-pub fn scopes_found()
-    ensures { ScopesFound }
 {}
