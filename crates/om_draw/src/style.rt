@@ -47,7 +47,8 @@ text{font-size:11px;fill:var(--ink)}
 ";
 
 /// What stands behind the number of steps above the picture.
-pub(crate) const LEGEND: &[u8] = b" steps that stand. An arrow goes from a step to a later one of another \
+pub(crate) const LEGEND: &[u8] =
+    b" steps that stand. An arrow goes from a step to a later one of another \
 worker that conflicts with it, and names the object. Grey: taken out. Red, broken: an undo that was \
 refused.</p>\n<div>\n";
 

@@ -6,7 +6,10 @@ use std::rt::Runtime;
 
 /// The words that the program is called with, its name first. `None` where they can't be had, or one of them is no
 /// text: standard error tells why then. Its only error is out of memory.
-pub fn words_of<R: Runtime + AllocGlobal>(rt: &R, alloc: Global) -> Result<Option<Vec<String>>, AllocError> {
+pub fn words_of<R: Runtime + AllocGlobal>(
+    rt: &R,
+    alloc: Global,
+) -> Result<Option<Vec<String>>, AllocError> {
     match std::env::args(rt) {
         Ok(args) => Ok(Some(args.collect(alloc)?)),
         Err(error) if error.kind() == io::ErrorKind::OutOfMemory => Err(AllocError),

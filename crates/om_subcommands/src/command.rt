@@ -11,7 +11,8 @@ const STATUSES: &str = "Exit status:
   2  wrong words, or help
   3  a fault, told on standard error: H3 a read failed, H4 a write failed, H5 no memory";
 
-const SESSION: &str = "Without FILE, standard input holds the source up to a line `%%`, and then commands of ompback.
+const SESSION: &str =
+    "Without FILE, standard input holds the source up to a line `%%`, and then commands of ompback.
 With FILE, standard input holds commands alone.";
 
 // The number of workers, which each subcommand takes before or behind its name.
@@ -53,8 +54,12 @@ fn check<'a>(alloc: Global) -> Result<Command<'a>, AllocError> {
 
 fn hunt<'a>(alloc: Global) -> Result<Command<'a>, AllocError> {
     let seeds = number(alloc, "seeds", "How many schedules are tried").default_value("100");
-    let steps = number(alloc, "steps", "After how many steps a schedule is given up")
-        .default_value("100000");
+    let steps = number(
+        alloc,
+        "steps",
+        "After how many steps a schedule is given up",
+    )
+    .default_value("100000");
     let expect = Arg::new(alloc, "expect")
         .long("expect")
         .value_name("TEXT")
@@ -62,8 +67,10 @@ fn hunt<'a>(alloc: Global) -> Result<Command<'a>, AllocError> {
         .action(ArgAction::Set);
     Command::new(alloc, "hunt")
         .about("Tries schedules by chance, and shortens the first bad one to a script for ompback")
-        .after_help("A schedule is bad where the program prints something else, meets a fault, or is stuck.
-This is no exploration of all schedules and no race detector.")
+        .after_help(
+            "A schedule is bad where the program prints something else, meets a fault, or is stuck.
+This is no exploration of all schedules and no race detector.",
+        )
         .arg(seeds)?
         .arg(steps)?
         .arg(expect)?
@@ -71,8 +78,12 @@ This is no exploration of all schedules and no race detector.")
 }
 
 fn script<'a>(alloc: Global) -> Result<Command<'a>, AllocError> {
-    let cone = number(alloc, "cone", "Lists the steps that `roll K` would take back, in place of all")
-        .value_name("S");
+    let cone = number(
+        alloc,
+        "cone",
+        "Lists the steps that `roll K` would take back, in place of all",
+    )
+    .value_name("S");
     Command::new(alloc, "script")
         .about("Writes the steps that a session leaves as a script for ompback")
         .after_help(SESSION)

@@ -19,7 +19,9 @@ pub struct Words<'a> {
 #[derive(Clone, Copy)]
 pub enum Asked<'a> {
     /// To say whether a source is accepted, and else why not.
-    Check { file: &'a str },
+    Check {
+        file: &'a str,
+    },
     /// To try schedules by chance, and shorten the first bad one.
     Hunt {
         file: &'a str,
@@ -37,9 +39,13 @@ pub enum Asked<'a> {
         cone: Option<u64>,
     },
     /// To pass answers on with words behind them.
-    Notes { file: &'a str },
+    Notes {
+        file: &'a str,
+    },
     /// To draw what a session leaves.
-    Draw { file: Option<&'a str> },
+    Draw {
+        file: Option<&'a str>,
+    },
 }
 
 /// What the words ask for, the first of which names the program. An error is wrong words, a call for help, or out of
