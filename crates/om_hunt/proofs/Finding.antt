@@ -1,0 +1,21 @@
+-- What a hunt finds.
+use Rattle.std.proofs.Common.{◌≡◌, ℕ, List, Option, Some, subst}
+use Rattle.om_journal.specs.Books.{BookView, machine_of}
+use Rattle.om_hunt.specs.declared.hunted.Found.{Found}
+use Rattle.om_hunt.specs.Bad.{wanted_by}
+use Rattle.om_hunt.specs.Finds.{FindsBad, FindsNothing, IsFound, RunsAlone}
+
+-- what was found by what is wanted is bad
+pub Finds_of : (workers : ℕ) (source : List ℕ) (expected : Option (List ℕ)) (wanted text : List ℕ) (alone : BookView)
+    (found : Found) → RunsAlone workers source text (Some alone) → wanted ≡ wanted_by expected (machine_of alone)
+    → IsFound workers source wanted found → FindsBad workers source expected found
+Finds_of workers source expected wanted text alone found runs e p = record {
+  text = text;
+  alone = alone;
+  runs = runs;
+  is = subst (λ l. IsFound workers source l found) e p;
+}
+
+pub Nothing_of : (workers : ℕ) (source text : List ℕ) (alone : BookView) → RunsAlone workers source text (Some alone)
+    → FindsNothing workers source text
+Nothing_of workers source text alone runs = record { alone = alone; runs = runs }

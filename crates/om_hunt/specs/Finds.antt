@@ -1,0 +1,38 @@
+-- What is promised of a hunt.
+use Rattle.std.specs.Prelude.{◌≡◌, ℕ, List, [], Option, None, Some}
+use Rattle.om_hunt.specs.declared.hunted.Found.{Found}
+use Rattle.om_hunt.specs.declared.hunted.Hunted.{Hunted}
+use Rattle.om_hunt.specs.declared.hunted.Hunted.TheVariants as hunted
+use Rattle.om_hunt.specs.Bad.{IsEnd, wanted_by}
+use Rattle.om_hunt.specs.Schedules.{schedule_text}
+use Rattle.om_journal.specs.Books.{BookView, machine_of}
+use Rattle.om_script.specs.Runs.{Leaves}
+
+-- The script is that of the schedule. What ompback writes for it is what was printed, and what it leaves is bad.
+pub record IsFound (workers : ℕ) (source wanted : List ℕ) (found : Found) : Type 0 where
+  pub book : BookView
+  pub leaves : Leaves workers (Some source) found.script.items found.printed.items (Some book)
+  pub schedule : found.script.items ≡ schedule_text found.blocks.items
+  pub wanted_is : found.wanted.items ≡ wanted
+  pub ends : IsEnd (machine_of book) wanted found.output.items found.why
+
+-- where `run` makes all steps, ompback writes this and leaves this book
+abbrev pub RunsAlone : ℕ → List ℕ → List ℕ → Option BookView → Type 0
+RunsAlone workers source text book = Leaves workers (Some source) (schedule_text []) text book
+
+-- what is wanted is what is expected, else what `run` alone led to
+pub record FindsBad (workers : ℕ) (source : List ℕ) (expected : Option (List ℕ)) (found : Found) : Type 0 where
+  pub text : List ℕ
+  pub alone : BookView
+  pub runs : RunsAlone workers source text (Some alone)
+  pub is : IsFound workers source (wanted_by expected (machine_of alone)) found
+
+pub record FindsNothing (workers : ℕ) (source printed : List ℕ) : Type 0 where
+  pub alone : BookView
+  pub runs : RunsAlone workers source printed (Some alone)
+
+-- what came of a hunt
+abbrev pub IsHunted : ℕ → List ℕ → Option (List ℕ) → Hunted → Type 0
+IsHunted workers source expected (hunted.Refused line) = RunsAlone workers source line.items None
+IsHunted workers source expected (hunted.Nothing seeds printed) = FindsNothing workers source printed.items
+IsHunted workers source expected (hunted.Found found) = FindsBad workers source expected found

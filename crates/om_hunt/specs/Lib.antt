@@ -1,0 +1,4 @@
+pub mod Schedules
+pub mod Bad
+pub mod Finds
+pub mod Reports

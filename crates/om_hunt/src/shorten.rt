@@ -1,0 +1,208 @@
+//! A bad schedule made short.
+
+use crate::block::{Block, is_shorter, steps_in};
+use crate::edits::{moved, shrunk, without};
+use crate::judge::Wanted;
+use crate::player::Player;
+use crate::trial::play;
+use std::alloc::{AllocError, Global};
+
+// How often all changes are tried at most.
+const MOST_ROUNDS: u32 = 100;
+
+// How many schedules are played at most.
+const MOST_TRIES: u32 = 20_000;
+
+// From so many steps on a schedule counts as one of so many.
+const FAR: u64 = 20_000;
+
+/// A bad schedule that is made short.
+#[derive(Drop)]
+pub(crate) struct Search<'a> {
+    pub(crate) wanted: &'a Wanted,
+    pub(crate) blocks: Vec<Block>,
+    // How many further schedules may be played.
+    tries: u32,
+    // How many steps `run` makes behind a schedule, at most.
+    more: u32,
+}
+
+impl<'a> Search<'a> {
+    /// A bad schedule that leads to an end. What does not, within a few times as many steps, is taken for one that
+    /// goes on for ever.
+    pub(crate) fn new(wanted: &'a Wanted, blocks: Vec<Block>) -> Search<'a> {
+        let steps = steps_in(&blocks).min(FAR);
+        Search {
+            wanted,
+            blocks,
+            tries: MOST_TRIES,
+            more: steps as u32 * 4 + 1000,
+        }
+    }
+
+    /// Makes the schedule short: drops, joins and shrinks blocks while what comes of it is bad, until no such change
+    /// is bad still.
+    pub(crate) fn shorten(&mut self, alloc: Global, player: &mut Player) -> Result<(), AllocError> {
+        'rounds: for _ in 0..MOST_ROUNDS {
+            let (blocks, steps) = (self.blocks.len(), steps_in(&self.blocks));
+            self.cut(alloc, player)?;
+            self.join(alloc, player)?;
+            self.shrink(alloc, player)?;
+            if self.blocks.len() == blocks && steps_in(&self.blocks) == steps {
+                break;
+            }
+        }
+        Ok(())
+    }
+
+    // Takes another schedule in place of its own, where that is shorter and bad too.
+    fn accept(
+        &mut self,
+        alloc: Global,
+        player: &mut Player,
+        blocks: Vec<Block>,
+    ) -> Result<bool, AllocError> {
+        if self.tries == 0 {
+            return Ok(false);
+        }
+        self.tries -= 1;
+        let played = play(alloc, player, self.wanted, &blocks, self.more)?;
+        let is_better = played.bad.is_some() && is_shorter(&played.blocks, &self.blocks);
+        if is_better {
+            self.blocks = played.blocks;
+        }
+        Ok(is_better)
+    }
+
+    // Drops pieces of so many blocks, from the end to the front.
+    fn cut_pieces(
+        &mut self,
+        alloc: Global,
+        player: &mut Player,
+        size: usize,
+    ) -> Result<(), AllocError> {
+        let mut end = self.blocks.len();
+        'pieces: for _ in 0..self.tries {
+            if end == 0 {
+                return Ok(());
+            }
+            let start = end.saturating_sub(size);
+            let rest = without(alloc, &self.blocks, start, end)?;
+            self.accept(alloc, player, rest)?;
+            end = start.min(self.blocks.len());
+        }
+        Ok(())
+    }
+
+    // Drops blocks: first half of them at once, then ever fewer.
+    fn cut(&mut self, alloc: Global, player: &mut Player) -> Result<(), AllocError> {
+        let mut size = self.blocks.len();
+        'sizes: for _ in 0..usize::BITS {
+            size /= 2;
+            if size == 0 {
+                break;
+            }
+            self.cut_pieces(alloc, player, size)?;
+        }
+        self.cut_pieces(alloc, player, 1)
+    }
+
+    // Moves a block behind another, or the other way round, where both are steps of one worker.
+    fn join_two(
+        &mut self,
+        alloc: Global,
+        player: &mut Player,
+        one: usize,
+        two: usize,
+    ) -> Result<bool, AllocError> {
+        if !are_of_one(&self.blocks, one, two) {
+            return Ok(false);
+        }
+        let earlier = moved(alloc, &self.blocks, two, one)?;
+        if self.accept(alloc, player, earlier)? {
+            return Ok(true);
+        }
+        let later = moved(alloc, &self.blocks, one, two)?;
+        self.accept(alloc, player, later)
+    }
+
+    // Joins a block with each later one of its worker.
+    fn join_from(
+        &mut self,
+        alloc: Global,
+        player: &mut Player,
+        one: usize,
+    ) -> Result<(), AllocError> {
+        'others: for two in one..self.blocks.len() {
+            self.join_two(alloc, player, one, two)?;
+        }
+        Ok(())
+    }
+
+    // Joins blocks of one worker.
+    fn join(&mut self, alloc: Global, player: &mut Player) -> Result<(), AllocError> {
+        'blocks: for one in 0..self.blocks.len() {
+            self.join_from(alloc, player, one)?;
+        }
+        Ok(())
+    }
+
+    // Takes steps off a block: first half of them at once, then ever fewer.
+    fn shrink_one(
+        &mut self,
+        alloc: Global,
+        player: &mut Player,
+        at: usize,
+    ) -> Result<(), AllocError> {
+        let mut fewer = match self.blocks.get(at) {
+            Some(block) => block.steps(),
+            None => return Ok(()),
+        };
+        'sizes: for _ in 0..u32::BITS {
+            fewer /= 2;
+            if fewer == 0 {
+                break;
+            }
+            self.shrink_by(alloc, player, at, fewer)?;
+        }
+        self.shrink_by(alloc, player, at, 1)
+    }
+
+    // Takes so many steps off a block as often as that goes.
+    fn shrink_by(
+        &mut self,
+        alloc: Global,
+        player: &mut Player,
+        at: usize,
+        fewer: u32,
+    ) -> Result<(), AllocError> {
+        'tries: for _ in 0..self.tries {
+            let shorter = shrunk(alloc, &self.blocks, at, fewer)?;
+            if !self.accept(alloc, player, shorter)? {
+                return Ok(());
+            }
+        }
+        Ok(())
+    }
+
+    // Takes steps off each block.
+    fn shrink(&mut self, alloc: Global, player: &mut Player) -> Result<(), AllocError> {
+        'blocks: for at in 0..self.blocks.len() {
+            self.shrink_one(alloc, player, at)?;
+        }
+        Ok(())
+    }
+}
+
+// Whether two blocks are steps of one worker.
+fn are_of_one(blocks: &[Block], one: usize, two: usize) -> bool {
+    if one == two {
+        return false;
+    }
+    match (blocks.get(one), blocks.get(two)) {
+        (Some(first), Some(second)) => {
+            first.stepper().is_some() && first.stepper() == second.stepper()
+        }
+        _ => false,
+    }
+}

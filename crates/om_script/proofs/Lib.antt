@@ -1,0 +1,4 @@
+pub mod LineEnds
+pub mod LineLaws
+pub mod SourceLaws
+pub mod RunLaws

@@ -1,0 +1,4 @@
+pub mod Steps
+pub mod Cones
+pub mod Runs
+pub mod Sessions

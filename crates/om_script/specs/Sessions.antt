@@ -1,0 +1,45 @@
+-- What is answered of a session: its steps as commands, or the steps that a roll would take.
+use Rattle.std.specs.Prelude.{◌≡◌, ℕ, List, map, Option, None, Some}
+use Rattle.om_cells.specs.declared.step.Entry.{Entry}
+use Rattle.om_journal.specs.Books.{BookView, machine_of}
+use Rattle.om_shell.specs.Script.{source_of}
+use Rattle.om_script.specs.declared.answer.Script.{Script}
+use Rattle.om_script.specs.declared.answer.Script.TheVariants.{Steps, Refused}
+use Rattle.om_script.specs.Cones.{IsConeOf}
+use Rattle.om_script.specs.Runs.{Leaves, entries_in}
+use Rattle.om_script.specs.Steps.{script_text, unnumbered}
+
+-- commands over a source lead to the same history but for serials
+pub record LeadsTo (workers : ℕ) (source commands : List ℕ) (entries : List Entry) : Type 0 where
+  pub text : List ℕ
+  pub book : BookView
+  pub leaves : Leaves workers (Some source) commands text (Some book)
+  pub same : map unnumbered (entries_in book) ≡ map unnumbered entries
+
+-- The session left a book. The lines are the commands for the steps that stand in it, and they lead there again.
+pub record AreSteps (workers : ℕ) (given : Option (List ℕ)) (input lines : List ℕ) : Type 0 where
+  pub text : List ℕ
+  pub book : BookView
+  pub leaves : Leaves workers given input text (Some book)
+  pub commands : lines ≡ script_text (entries_in book)
+  pub again : LeadsTo workers (source_of given input) lines (entries_in book)
+
+-- the session's source is refused by this line
+abbrev pub IsRefusal : ℕ → Option (List ℕ) → List ℕ → List ℕ → Type 0
+IsRefusal workers given input line = Leaves workers given input line None
+
+abbrev pub IsScriptFor : ℕ → Option (List ℕ) → List ℕ → Script → Type 0
+IsScriptFor workers given input (Steps lines) = AreSteps workers given input lines.items
+IsScriptFor workers given input (Refused line) = IsRefusal workers given input line.items
+
+-- The session left a book. The lines have the steps that the roll of a serial would take out of it.
+pub record AreOfCone (workers : ℕ) (given : Option (List ℕ)) (input : List ℕ) (serial : ℕ) (lines : List ℕ) : Type 0
+  where
+    pub text : List ℕ
+    pub book : BookView
+    pub leaves : Leaves workers given input text (Some book)
+    pub cone : IsConeOf (machine_of book) serial lines
+
+abbrev pub IsConeFor : ℕ → Option (List ℕ) → List ℕ → ℕ → Script → Type 0
+IsConeFor workers given input serial (Steps lines) = AreOfCone workers given input serial lines.items
+IsConeFor workers given input serial (Refused line) = IsRefusal workers given input line.items

@@ -1,0 +1,41 @@
+//! What is answered to who asks for a script.
+
+ghost use Rattle.std.specs.Prelude.{◌≡◌};
+
+use om_shell::ShellFault;
+use std::alloc::AllocError;
+use thiserror::Error;
+
+/// Lines that a session leads to, or why there are none.
+#[derive(Drop)]
+pub enum Script {
+    /// The lines. Of a session without a step that stands there is none.
+    Steps(Vec<u8>),
+    /// The one line that is written for a source that is refused.
+    Refused(Vec<u8>),
+}
+
+/// Why there is no answer. What was read is lost then.
+///
+/// Its text is what a program writes on standard error.
+#[derive(Clone, Copy, Debug, Drop, PartialEq, Eq, Error)]
+pub enum ScriptFault {
+    /// A read failed, or there was no memory; the session's fault.
+    #[error("{0}")]
+    Shell(ShellFault),
+    /// The commands led to other steps than the session. It was never seen, and no law excludes it.
+    #[error("the commands lead to other steps than the session")]
+    Differs,
+}
+
+impl From<ShellFault> for ScriptFault {
+    fn from(fault: ShellFault) -> ScriptFault {
+        ScriptFault::Shell(fault)
+    }
+}
+
+impl From<AllocError> for ScriptFault {
+    fn from(_error: AllocError) -> ScriptFault {
+        ScriptFault::Shell(ShellFault::Memory)
+    }
+}

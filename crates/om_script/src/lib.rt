@@ -1,0 +1,15 @@
+//! Scripts, above the debugger: the steps that a session leaves, as commands that make them again.
+#![tactic(auto)]
+
+mod answer;
+mod cones;
+mod input;
+mod run;
+mod source;
+mod steps;
+mod text;
+
+pub use answer::{Script, ScriptFault};
+pub use cones::cone;
+pub use run::{Ran, run_over};
+pub use steps::script;

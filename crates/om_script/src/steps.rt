@@ -1,0 +1,143 @@
+//! The steps that a session leaves, as commands.
+
+ghost use Rattle.std.specs.Prelude.{◌≡◌, ◌<◌, ◌≤◌, Some, map, true, IfOk, IfSome};
+ghost use Rattle.std.specs.Option.{option_copied};
+ghost use Rattle.om_script.specs.Steps.{script_text, unnumbered};
+ghost use Rattle.om_script.specs.Runs.{entries_in};
+ghost use Rattle.om_script.specs.Sessions.{LeadsTo, IsScriptFor};
+
+use crate::answer::{Script, ScriptFault};
+use crate::input::read_all;
+use crate::run::{Ran, run_over};
+use crate::source::{Session, session_of};
+use crate::text::commands_for;
+use om_cells::Entry;
+use om_journal::Book;
+use om_same::same_items;
+use om_shell::{Options, ShellFault};
+use std::alloc::{AllocError, Global};
+use std::io::Read;
+use std::sync::Wait;
+use std::thread::Threads;
+
+/// Reads a session, a source and then commands as the debugger reads them, and answers the steps that stand at its
+/// end as lines of commands: `step W`, and `start W NAME`.
+///
+/// The source stands at the front of the input unless it is handed in. All of the input is read, also what stands
+/// behind `quit`. The commands are run over the same source, so that they are known to lead to the same history but
+/// for serials. Faults: those of the debugger, H3 and H5, and `Differs` where that is not so.
+pub fn script<H: Threads + Wait + Sync, R: Read>(
+    rt: &H,
+    alloc: Global,
+    reader: &mut R,
+    options: Options<'_>,
+) -> Result<Script, ScriptFault>
+    requires at_least_one_worker { 0 < options.workers }
+    requires at_most_32_workers { options.workers ≤ 32 }
+    ensures { IfOk result
+        (λ script. IfSome (R.remaining reader.old) (λ input.
+        IsScriptFor options.entry.workers (option_copied options.entry.source) input script)) }
+{
+    let input = read_all(alloc, reader)?;
+    let session = session_of(options.source, &input);
+    script_of(rt, alloc, options.workers, session)
+}
+
+// Entries, and the commands that make their steps.
+#[derive(Drop)]
+struct Steps {
+    entries: Vec<Entry>,
+    text: Vec<u8>,
+}
+
+// The script of a session.
+fn script_of<H: Threads + Wait + Sync>(
+    rt: &H,
+    alloc: Global,
+    workers: u8,
+    session: Session<'_>,
+) -> Result<Script, ScriptFault>
+    requires at_least_one_worker { 0 < workers }
+    requires at_most_32_workers { workers ≤ 32 }
+    ensures { IfOk result
+        (λ script.
+        IsScriptFor workers (Some session.entry.source.now) session.entry.commands.now script) }
+{
+    let Ran { text, book } = run_over(rt, alloc, workers, session.source, session.commands)?;
+    match book {
+        Some(book) => {
+            let steps = steps_of(alloc, book)?;
+            if !leads_to(rt, alloc, workers, session.source, &steps)? {
+                return Err(ScriptFault::Differs);
+            }
+            Ok(Script::Steps(steps.text))
+        }
+        None => Ok(Script::Refused(text)),
+    }
+}
+
+// The steps that stand in a book.
+fn steps_of(alloc: Global, book: Book) -> Result<Steps, AllocError>
+    ensures entries { IfOk result (λ steps. steps.entries.items ≡ entries_in book) }
+    ensures text { IfOk result (λ steps. steps.text.items ≡ script_text (entries_in book)) }
+{
+    let entries = entries_of(alloc, book)?;
+    let text = commands_for(alloc, &entries)?;
+    Ok(Steps { entries, text })
+}
+
+// The entries that stand in a book.
+fn entries_of(alloc: Global, book: Book) -> Result<Vec<Entry>, AllocError>
+    ensures { IfOk result (λ entries. entries.items ≡ entries_in book) }
+{
+    book.machine().history(alloc)
+}
+
+// Whether commands lead to the same history but for serials.
+fn leads_to<H: Threads + Wait + Sync>(
+    rt: &H,
+    alloc: Global,
+    workers: u8,
+    source: &[u8],
+    steps: &Steps,
+) -> Result<bool, ShellFault>
+    requires at_least_one_worker { 0 < workers }
+    requires at_most_32_workers { workers ≤ 32 }
+    ensures { IfOk result
+        (λ leads. leads ≡ true →
+        LeadsTo workers source.now steps.now.text.items steps.now.entries.items) }
+{
+    let Ran { text: _, book } = run_over(rt, alloc, workers, source, &steps.text)?;
+    match book {
+        Some(book) => {
+            let others = entries_of(alloc, book)?;
+            are_same(alloc, &steps.entries, &others)
+        }
+        None => Ok(false),
+    }
+}
+
+// Whether entries are the same but for their serials.
+fn are_same(alloc: Global, ones: &[Entry], others: &[Entry]) -> Result<bool, ShellFault>
+    ensures { IfOk result
+        (λ same. same ≡ true → map unnumbered others.now ≡ map unnumbered ones.now) }
+{
+    let ones = unnumbered(alloc, ones)?;
+    let others = unnumbered(alloc, others)?;
+    Ok(same_items(&others, &ones))
+}
+
+// Entries without their serials.
+fn unnumbered(alloc: Global, entries: &[Entry]) -> Result<Vec<Entry>, AllocError>
+    ensures { IfOk result (λ bare. bare.items ≡ map unnumbered entries.now) }
+{
+    entries
+        .iter()
+        .map(|entry| Entry {
+            serial: 0,
+            worker: entry.worker,
+            choice: entry.choice,
+            line: entry.line,
+        })
+        .collect(alloc)
+}
