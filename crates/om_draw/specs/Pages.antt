@@ -1,9 +1,9 @@
 -- The page of a session.
 use Rattle.std.specs.Prelude.{◌≡◌, ◌↔◌, ◌++◌, ℕ, List, [], Option, None, Some, map, take, codes, Contains}
-use Rattle.std.specs.Io.KnownBytes.{Consumes, IsAtEnd}
 use Rattle.om_history.specs.Cones.{transitions}
 use Rattle.om_undo.specs.Machines.{MachineView, rules_for}
 use Rattle.om_journal.specs.Books.{BookView, machine_of}
+use Rattle.om_outcome.specs.Files.{ReadsAll}
 use Rattle.om_shell.specs.Ends.{RunsToEnd}
 use Rattle.om_picture.specs.declared.traced.Traced.{Traced}
 use Rattle.om_picture.specs.declared.picture.Arrow.{Arrow}
@@ -13,11 +13,6 @@ use Rattle.om_draw.specs.declared.outcome.Page.TheVariants.{Drawn, Refused}
 use Rattle.om_picture.specs.Pictures.{transition_of, box_of, IsArrow}
 use Rattle.om_draw.specs.Marks.{boxes_text}
 use Rattle.om_draw.specs.Strokes.{arrows_text}
-
--- these are all the bytes that a reader had
-pub record ReadsAll (old new : Option (List ℕ)) (bytes : List ℕ) : Type 0 where
-  pub consumes : Consumes old new bytes
-  pub at_end : IsAtEnd new
 
 -- a session over these bytes came to its end: what it wrote, and the book that it left
 abbrev pub Leaves : List ℕ → List ℕ → List ℕ → ℕ → Option (List ℕ) → ℕ → Option BookView → Type 0

@@ -8,7 +8,7 @@ ghost use Rattle.om_draw.specs.Pages.{IsDrawing, IsPage, IsShown, Leaves};
 
 use crate::beside::{Beside, beside_of, push_beside};
 use crate::front::push_front;
-use crate::input::{read_all, source_part};
+use crate::input::source_part;
 use crate::marks::push_boxes;
 use crate::outcome::Page;
 use crate::scale::Scale;
@@ -16,6 +16,7 @@ use crate::strokes::push_arrows;
 use crate::style::FOOT;
 use om_code::Program;
 use om_journal::Book;
+use om_outcome::read_all;
 use om_picture::{Picture, picture_of, trace};
 use om_shell::{Ended, Options, ShellFault, run};
 use std::alloc::{AllocError, Global};

@@ -1,0 +1,134 @@
+//! Each subcommand over stored input, and what it writes.
+
+use crate::subcommands::{Host, check, explain, hunt, keep};
+use om_hunt::Aims;
+use om_shell::Options;
+use std::test::Fail;
+
+/// Two threads add to one variable, and nothing orders them.
+const RACE: &str = "#include <stdio.h>
+int x;
+int main(void)
+{
+#pragma omp parallel
+    x = x + 1;
+    printf(\"%d\\n\", x);
+}
+";
+
+/// Commands by which one of the two additions is lost, and an undo that is refused.
+const LOST: &str = "step 0\nstep 0\nstep 1\nstep 0\nstep 1\nnext 0\nnext 1\nundo 0\n";
+
+/// Two workers, and this source.
+fn options(source: &str) -> Options<'_> {
+    Options {
+        workers: 2,
+        source: Some(source.as_bytes()),
+    }
+}
+
+/// What was written, as text.
+fn text_of(bytes: &Vec<u8>) -> &str {
+    str::from_utf8(bytes.as_slice()).unwrap_or("no text")
+}
+
+#[test]
+fn accepts_a_source(rt: HostRuntime) {
+    let mut text = Vec::new(rt.alloc());
+    let done = check(rt.alloc(), "a.c", options(RACE), &mut text);
+    assert_eq!(rt; text_of(&text), "a.c: accepted\n");
+    assert!(rt; matches!(done, Ok(0)));
+}
+
+#[test]
+fn refuses_a_source(rt: HostRuntime) {
+    let mut text = Vec::new(rt.alloc());
+    let source = options("int main(void)\n{\n\tstatic int x;\n}\n");
+    let done = check(rt.alloc(), "a.c", source, &mut text);
+    let wanted = "a.c:3:2: error: S3: 'static' is left out of this C
+ 3 | \tstatic int x;
+   | \t^~~~~~
+help: leave it out; a variable of a function becomes a global
+";
+    assert_eq!(rt; text_of(&text), wanted);
+    assert!(rt; matches!(done, Ok(1)));
+}
+
+#[test]
+fn keeps_the_steps_of_a_session(rt: HostRuntime) {
+    let alloc = rt.alloc();
+    let host = Host { rt: &rt, alloc };
+    let mut text = Vec::new(alloc);
+    let mut reader = LOST.as_bytes();
+    let done = keep(&host, options(RACE), None, &mut reader, &mut text);
+    let wanted =
+        "step 0\nstep 0\nstep 1\nstep 0\nstep 1\nstep 0\nstep 0\nstep 0\nstep 1\nstep 1\nstep 1\n";
+    assert_eq!(rt; text_of(&text), wanted);
+    assert!(rt; matches!(done, Ok(0)));
+}
+
+#[test]
+fn lists_a_cone(rt: HostRuntime) {
+    let alloc = rt.alloc();
+    let host = Host { rt: &rt, alloc };
+    let mut text = Vec::new(alloc);
+    let mut reader = LOST.as_bytes();
+    let done = keep(&host, options(RACE), Some(5), &mut reader, &mut text);
+    let wanted = "#5 worker 1 line 6
+#8 worker 0 line 6
+#9 worker 1 line 6
+#10 worker 1 line 6
+#11 worker 1 line 6
+";
+    assert_eq!(rt; text_of(&text), wanted);
+    assert!(rt; matches!(done, Ok(0)));
+}
+
+#[test]
+fn puts_words_behind_answers(rt: HostRuntime) {
+    let mut text = Vec::new(rt.alloc());
+    let answers = "#4 worker 0 line 6
+blocked B1
+refused by #11 worker 1 on global x
+output 2 bytes
+1
+
+x = 1
+#";
+    let done = explain(
+        rt.alloc(),
+        options(RACE),
+        &mut answers.as_bytes(),
+        &mut text,
+    );
+    let wanted = "#4 worker 0 line 6 | x = x + 1;
+blocked B1 | it waits at a barrier: step the other threads, and begin what `tasks` lists
+refused by #11 worker 1 on global x | a global variable
+output 2 bytes
+1
+
+x = 1
+#";
+    assert_eq!(rt; text_of(&text), wanted);
+    assert!(rt; matches!(done, Ok(0)));
+}
+
+#[test]
+fn finds_a_lost_update(rt: HostRuntime) -> Result<(), Fail> {
+    let alloc = rt.alloc();
+    let host = Host { rt: &rt, alloc };
+    let mut text = Vec::new(alloc);
+    let aims = Aims {
+        workers: 2,
+        seeds: 20,
+        steps: 1_000,
+        expected: None,
+    };
+    let done = hunt(&host, RACE.as_bytes(), &aims, &mut text);
+    let (_, script) = text_of(&text)
+        .split_once("\n\n")
+        .unwrap_or(("nothing was found", ""));
+    assert_eq!(rt; script, "step 0\nstep 1\nstep 1\nrun 100000\noutput\n");
+    assert!(rt; matches!(done, Ok(1)));
+    Ok(())
+}
