@@ -103,8 +103,8 @@ first_by a rest b x None e h = absurd (nothing x h)
 first_by a rest b x (Some q) e h =
     let is = only _ x h in
     let parts =
-        parts_of (a.entry.worker == b.entry.worker) (is_hidden a.entry.worker rest b)
-        (conflict_of a.footprint b.footprint) q e in
+    parts_of (a.entry.worker == b.entry.worker) (is_hidden a.entry.worker rest b)
+    (conflict_of a.footprint b.footprint) q e in
     record {
       before = [];
       a = a;
