@@ -108,7 +108,13 @@ fn front_of(
     beside: &Beside,
 ) -> Result<Vec<u8>, AllocError> {
     let mut text = Vec::new(alloc);
-    push_front(&mut text, source, &picture.boxes, beside.counts, beside.extent)?;
+    push_front(
+        &mut text,
+        source,
+        &picture.boxes,
+        beside.counts,
+        beside.extent,
+    )?;
     push_beside(&mut text, program, beside)?;
     Ok(text)
 }

@@ -34,11 +34,7 @@ pub(crate) fn push_escaped(text: &mut Vec<u8>, bytes: &[u8]) -> Result<(), Alloc
 }
 
 /// Appends markup, and behind it bytes as text.
-pub(crate) fn push_after(
-    text: &mut Vec<u8>,
-    before: &[u8],
-    bytes: &[u8],
-) -> Result<(), AllocError>
+pub(crate) fn push_after(text: &mut Vec<u8>, before: &[u8], bytes: &[u8]) -> Result<(), AllocError>
     ensures { OnOk result
         (text.new.items ≡ text.old.items ++ (before.now ++ escaped bytes.now)) }
 {
