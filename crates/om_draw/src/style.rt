@@ -37,6 +37,7 @@ text{font-size:11px;fill:var(--ink)}
 #head{fill:var(--arrow)}
 #stop{fill:var(--refused)}
 .small .arrow line{stroke-width:.5}
+.small .arrow.own{display:none}
 .small .arrow text,.small .refused text{display:none}
 .arrow.own line{stroke-width:.5;stroke-opacity:.45;marker-end:none}
 .arrow.own text{display:none}
@@ -49,7 +50,8 @@ text{font-size:11px;fill:var(--ink)}
 /// What stands behind the number of steps above the picture.
 pub(crate) const LEGEND: &[u8] =
     b" steps that stand. An arrow goes from a step to a later one of another \
-worker that conflicts with it, and names the object. Grey: taken out. Red, broken: an undo that was \
+worker that conflicts with it, and names the object. Those at a worker's control, as from a fork to each \
+step of a new worker, are faint, and not shown among marks. Grey: taken out. Red, broken: an undo that was \
 refused.</p>\n<div>\n";
 
 /// What stands in the picture before its lanes: the heads of arrows.

@@ -1,5 +1,4 @@
-use Rattle.std.proofs.Common.{◌∙◌, ap, ℕ, take}
-use Rattle.om_cells.specs.declared.step.Entry.{Entry}
+use Rattle.std.proofs.Common.{◌∙◌, ap, take}
 use Rattle.om_picture.proofs.Firsts.{first_replays}
 use Rattle.om_picture.proofs.replay.trace.Goals as goal
 
