@@ -46,7 +46,8 @@ pub struct Found {
 pub enum Hunted {
     /// The source is refused, by this line.
     Refused(Vec<u8>),
-    /// None of the schedules of so many seeds was bad. The text is what ompback answers where `run` makes all steps.
+    /// None of the schedules of so many seeds was bad. The text is what ompback answers where `run` makes all
+    /// steps.
     Nothing { seeds: u64, printed: Vec<u8> },
     /// This schedule is bad.
     Found(Found),

@@ -41,12 +41,13 @@ struct Schedule {
 
 /// Tries schedules by chance, and answers the first that is bad, made short.
 ///
-/// A schedule is bad where a worker meets a fault, where no worker has a move and the initial task has not ended, or
-/// where that task ends and something else was printed than is wanted: what is expected, or what `run` alone leads to.
-/// Where `run` alone comes to no end within 100,000 steps and nothing is expected, any output will do. First `run`
-/// alone is judged, and then the schedule of each seed; `progress` is told before each seed. All this is on steps that
-/// the debugger makes: what is answered is what it wrote for the script. A hunt that finds nothing says nothing of
-/// other schedules. Faults are those of the debugger, and out of memory is H5.
+/// A schedule is bad where a worker meets a fault, where no worker has a move and the initial task has not
+/// ended, or where that task ends and something else was printed than is wanted: what is expected, or what
+/// `run` alone leads to. Where `run` alone comes to no end within 100,000 steps and nothing is expected, any
+/// output will do. First `run` alone is judged, and then the schedule of each seed; `progress` is told before
+/// each seed. All this is on steps that the debugger makes: what is answered is what it wrote for the script.
+/// A hunt that finds nothing says nothing of other schedules. Faults are those of the debugger, and out of
+/// memory is H5.
 #[tactic(auto, using(crate::proofs::Finding::Finds_of, crate::proofs::Finding::Nothing_of))]
 pub fn hunt<H: Threads + Wait + Sync, P: Progress>(
     rt: &H,

@@ -61,8 +61,8 @@ impl Wanted {
         Ok(Wanted { text, is_known })
     }
 
-    /// What is bad about where a machine stands, if something is: a fault, else the output of a program that ended,
-    /// else that it is stuck. Its only error is out of memory.
+    /// What is bad about where a machine stands, if something is: a fault, else the output of a program that
+    /// ended, else that it is stuck. Its only error is out of memory.
     pub(crate) fn judge(
         &self,
         alloc: Global,

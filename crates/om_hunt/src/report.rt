@@ -14,8 +14,8 @@ use std::alloc::AllocError;
 
 /// Appends what came of a hunt.
 ///
-/// Of a bad schedule it is what was found, in words, each on a line that is not empty; then an empty line, and then
-/// the script and nothing else. Of a refused source it is the line that ompback writes.
+/// Of a bad schedule it is what was found, in words, each on a line that is not empty; then an empty line,
+/// and then the script and nothing else. Of a refused source it is the line that ompback writes.
 pub fn push_report(text: &mut Vec<u8>, hunted: &Hunted) -> Result<(), AllocError>
     ensures { OnOk result (text.new.items ≡ text.old.items ++ report_text hunted.now) }
 {

@@ -28,8 +28,8 @@ pub(crate) struct Search<'a> {
 }
 
 impl<'a> Search<'a> {
-    /// A bad schedule that leads to an end. What does not, within a few times as many steps, is taken for one that
-    /// goes on for ever.
+    /// A bad schedule that leads to an end. What does not, within a few times as many steps, is taken for one
+    /// that goes on for ever.
     pub(crate) fn new(wanted: &'a Wanted, blocks: Vec<Block>) -> Search<'a> {
         let steps = steps_in(&blocks).min(FAR);
         Search {
@@ -40,8 +40,8 @@ impl<'a> Search<'a> {
         }
     }
 
-    /// Makes the schedule short: drops, joins and shrinks blocks while what comes of it is bad, until no such change
-    /// is bad still.
+    /// Makes the schedule short: drops, joins and shrinks blocks while what comes of it is bad, until no such
+    /// change is bad still.
     pub(crate) fn shorten(&mut self, alloc: Global, player: &mut Player) -> Result<(), AllocError> {
         'rounds: for _ in 0..MOST_ROUNDS {
             let (blocks, steps) = (self.blocks.len(), steps_in(&self.blocks));

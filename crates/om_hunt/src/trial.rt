@@ -15,8 +15,8 @@ pub(crate) struct Played {
     pub(crate) bad: Option<Badness>,
 }
 
-/// Plays a schedule from the start, lets `run` make so many steps behind it, and takes all back. A step that can't be
-/// made is left out, and all that stands behind a fault.
+/// Plays a schedule from the start, lets `run` make so many steps behind it, and takes all back. A step that
+/// can't be made is left out, and all that stands behind a fault.
 pub(crate) fn play(
     alloc: Global,
     player: &mut Player,

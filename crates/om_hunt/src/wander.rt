@@ -14,7 +14,8 @@ struct Stroll {
     blocks: Vec<Block>,
 }
 
-/// Makes steps by chance, up to a fault or where no worker has a move, and so many at most. Answers their schedule.
+/// Makes steps by chance, up to a fault or where no worker has a move, and so many at most. Answers their
+/// schedule.
 pub(crate) fn wander(
     alloc: Global,
     player: &mut Player,

@@ -20,11 +20,11 @@ use std::io::Read;
 use std::sync::Wait;
 use std::thread::Threads;
 
-/// Reads a session as `script` does, and answers the steps that the command `roll SERIAL` would take at its end,
-/// taking none.
+/// Reads a session as `script` does, and answers the steps that the command `roll SERIAL` would take at its
+/// end, taking none.
 ///
-/// Each step is a line as `history` has it, in the order of the history. Where no step of that serial stands, the one
-/// line is what `roll` answers. Faults: H3 and H5, those of the debugger.
+/// Each step is a line as `history` has it, in the order of the history. Where no step of that serial stands,
+/// the one line is what `roll` answers. Faults: H3 and H5, those of the debugger.
 pub fn cone<H: Threads + Wait + Sync, R: Read>(
     rt: &H,
     alloc: Global,

@@ -18,8 +18,8 @@ pub struct Ran {
     pub book: Option<Book>,
 }
 
-/// Runs the debugger over a source and commands, up to `quit` or their end. Faults are those of the debugger: H3
-/// where the commands take more than 2^32 reads, H5 when out of memory.
+/// Runs the debugger over a source and commands, up to `quit` or their end. Faults are those of the debugger:
+/// H3 where the commands take more than 2^32 reads, H5 when out of memory.
 pub fn run_over<H: Threads + Wait + Sync>(
     rt: &H,
     alloc: Global,

@@ -20,12 +20,13 @@ use std::io::Read;
 use std::sync::Wait;
 use std::thread::Threads;
 
-/// Reads a session, a source and then commands as the debugger reads them, and answers the steps that stand at its
-/// end as lines of commands: `step W`, and `start W NAME`.
+/// Reads a session, a source and then commands as the debugger reads them, and answers the steps that stand
+/// at its end as lines of commands: `step W`, and `start W NAME`.
 ///
-/// The source stands at the front of the input unless it is handed in. All of the input is read, also what stands
-/// behind `quit`. The commands are run over the same source, so that they are known to lead to the same history but
-/// for serials. Faults: those of the debugger, H3 and H5, and `Differs` where that is not so.
+/// The source stands at the front of the input unless it is handed in. All of the input is read, also what
+/// stands behind `quit`. The commands are run over the same source, so that they are known to lead to the
+/// same history but for serials. Faults: those of the debugger, H3 and H5, and `Differs` where that is not
+/// so.
 pub fn script<H: Threads + Wait + Sync, R: Read>(
     rt: &H,
     alloc: Global,
