@@ -1,5 +1,5 @@
 -- What a page has of a session.
-use Rattle.std.proofs.Common.{◌≡◌, sym, ◌∙◌, ap, subst, ℕ, List, [], ◌++◌, Option, take, ◌↔◌}
+use Rattle.std.proofs.Common.{◌≡◌, ◌∙◌, ap, subst, ℕ, List, [], ◌++◌, Option, take, ◌↔◌}
 use Rattle.std.specs.Prelude.{map, codes, Contains}
 use Rattle.om_code.specs.declared.raw.Raw.{Raw}
 use Rattle.om_history.specs.Cones.{transitions}
