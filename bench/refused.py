@@ -1,5 +1,6 @@
 #!/usr/bin/env python3
 """refused.py PROGRAM [INPUT]: each request for memory, each read and each write of a run is refused in turn.
+refused.py PROGRAM INPUT -- WORD..: the same of a program that is called with these words.
 refused.py PROGRAM --sessions: the same of each session of bench/refused, by its name.
 refused.py CASES --case TITLE: each request for memory of one case is refused in turn.
 refused.py PROGRAM --requests: counts the requests for memory of the first load in frame 900 of a recursion.
@@ -176,11 +177,15 @@ def main():
     here = os.path.dirname(os.path.abspath(__file__))
     if len(words) == 2 and words[1] == "--sessions":
         sys.exit(count_sessions(words[0], os.path.join(here, "refused")))
+    called = []
+    if "--" in words:
+        at = words.index("--")
+        words, called = words[:at], words[at + 1 :]
     if len(words) not in (1, 2):
         sys.exit(__doc__)
     with open(words[1] if len(words) == 2 else os.path.join(here, "../crates/ompback/stdin"), "rb") as f:
         text = f.read()
-    sys.exit(count_runs([words[0]], text, FAULTS, ends_well))
+    sys.exit(count_runs([words[0], *called], text, FAULTS, ends_well))
 
 
 if __name__ == "__main__":
