@@ -8,8 +8,7 @@ mod subcommands;
 #[cfg(test)]
 mod tests;
 
-use crate::subcommands::{Host, check, draw, explain, hunt, keep};
-use om_hunt::Aims;
+use crate::subcommands::{Bounds, Host, check, draw, explain, hunt, keep};
 use om_outcome::{Outcome, read_file, status, words_of};
 use om_parser::STACK_SIZE;
 use om_shell::{Options, ShellFault};
@@ -61,15 +60,13 @@ fn done<R: Runtime + Threads + Wait + Sync>(
             steps,
             expected,
             ..
-        } => {
-            let aims = Aims {
-                workers: options.workers,
-                seeds,
-                steps,
-                expected: expected.map(|text| text.as_bytes()),
-            };
-            hunt(host, options.source.unwrap_or(&[]), &aims, &mut writer)
-        }
+        } => hunt(
+            host,
+            options,
+            Bounds { seeds, steps },
+            expected,
+            &mut writer,
+        ),
         Asked::Notes { .. } => explain(host.alloc, options, &mut host.rt.reader(), &mut writer),
         Asked::Script { cone, .. } => {
             keep(host, options, cone, &mut host.rt.reader(), &mut writer)

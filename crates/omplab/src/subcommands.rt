@@ -9,7 +9,7 @@ use om_notes::annotate;
 use om_report::report;
 use om_script::{Script, ScriptFault, cone, script};
 use om_shell::{Options, ShellFault, send};
-use std::alloc::Global;
+use std::alloc::{AllocError, Global};
 use std::io::{Read, Write};
 use std::rt::Runtime;
 use std::sync::Wait;
@@ -41,18 +41,69 @@ pub(crate) fn check<W: Write>(
     written(writer, &report.text, report.status)
 }
 
+/// How long a hunt looks.
+#[derive(Clone, Copy)]
+pub(crate) struct Bounds {
+    pub(crate) seeds: u64,
+    pub(crate) steps: u64,
+}
+
+// What a byte behind a backslash stands for.
+fn escape_of(byte: u8) -> u8 {
+    match byte {
+        b'n' => b'\n',
+        b'r' => b'\r',
+        b't' => b'\t',
+        other => other,
+    }
+}
+
+// The bytes that a word stands for, in which a line end is written `\n`, as a report writes it.
+fn unescaped(alloc: Global, text: &str) -> Result<Vec<u8>, AllocError> {
+    let mut bytes = Vec::new(alloc);
+    let mut is_escaped = false;
+    for byte in text.as_bytes() {
+        if is_escaped {
+            bytes.push(escape_of(*byte))?;
+            is_escaped = false;
+        } else if *byte == b'\\' {
+            is_escaped = true;
+        } else {
+            bytes.push(*byte)?;
+        }
+    }
+    Ok(bytes)
+}
+
+// What the program is to print, where that is told.
+fn wanted(alloc: Global, expected: Option<&str>) -> Result<Option<Vec<u8>>, AllocError> {
+    match expected {
+        Some(text) => Ok(Some(unescaped(alloc, text)?)),
+        None => Ok(None),
+    }
+}
+
 /// Tries schedules by chance, and writes the first that is bad, made short.
 pub(crate) fn hunt<H: Runtime + Threads + Wait + Sync, W: Write>(
     host: &Host<'_, H>,
-    source: &[u8],
-    aims: &Aims<'_>,
+    options: Options<'_>,
+    bounds: Bounds,
+    expected: Option<&str>,
     writer: &mut W,
 ) -> Result<u8, ShellFault>
-    requires least { 0 < aims.now.workers }
-    requires most { aims.now.workers ≤ 32 }
+    requires least { 0 < options.workers }
+    requires most { options.workers ≤ 32 }
 {
+    let wanted = wanted(host.alloc, expected)?;
+    let aims = Aims {
+        workers: options.workers,
+        seeds: bounds.seeds,
+        steps: bounds.steps,
+        expected: wanted.as_ref().map(|bytes| bytes.as_slice()),
+    };
     let mut meter = Meter { rt: host.rt };
-    let hunted = om_hunt::hunt(host.rt, host.alloc, source, aims, &mut meter)?;
+    let source = options.source.unwrap_or(&[]);
+    let hunted = om_hunt::hunt(host.rt, host.alloc, source, &aims, &mut meter)?;
     let mut text = Vec::new(host.alloc);
     push_report(&mut text, &hunted)?;
     let status = match hunted {

@@ -1,7 +1,6 @@
 //! Each subcommand over stored input, and what it writes.
 
-use crate::subcommands::{Host, check, explain, hunt, keep};
-use om_hunt::Aims;
+use crate::subcommands::{Bounds, Host, check, explain, hunt, keep};
 use om_shell::Options;
 use std::test::Fail;
 
@@ -118,13 +117,11 @@ fn finds_a_lost_update(rt: HostRuntime) -> Result<(), Fail> {
     let alloc = rt.alloc();
     let host = Host { rt: &rt, alloc };
     let mut text = Vec::new(alloc);
-    let aims = Aims {
-        workers: 2,
+    let bounds = Bounds {
         seeds: 20,
         steps: 1_000,
-        expected: None,
     };
-    let done = hunt(&host, RACE.as_bytes(), &aims, &mut text);
+    let done = hunt(&host, options(RACE), bounds, Some("2\\n"), &mut text);
     let (_, script) = text_of(&text)
         .split_once("\n\n")
         .unwrap_or(("nothing was found", ""));
