@@ -63,7 +63,9 @@ fn hunt<'a>(alloc: Global) -> Result<Command<'a>, AllocError> {
     let expect = Arg::new(alloc, "expect")
         .long("expect")
         .value_name("TEXT")
-        .help("What the program is to print, with \\n for a line end; without it, what `run` prints")
+        .help(
+            "What the program is to print, with \\n for a line end; without it, what `run` prints",
+        )
         .action(ArgAction::Set);
     Command::new(alloc, "hunt")
         .about("Tries schedules by chance, and shortens the first bad one to a script for ompback")
