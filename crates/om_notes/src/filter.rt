@@ -10,10 +10,9 @@ ghost use Rattle.om_notes.specs.Passing.{PassesAll, PassesBeginning, PassesPart}
 use crate::input::Input;
 use crate::lines::line_end;
 use crate::names::Names;
-use crate::output::send;
 use crate::remark::remark;
 use crate::words::{announced, words_of};
-use om_shell::ShellFault;
+use om_shell::{ShellFault, send};
 use std::alloc::{AllocError, Global};
 use std::io::{Read, Write};
 

@@ -8,7 +8,6 @@ mod input;
 mod lines;
 mod names;
 mod object;
-mod output;
 mod remark;
 mod words;
 
