@@ -9,12 +9,31 @@ const MOST_LINES: u64 = 100;
 /// Writes the number of a try on standard error, on one line that is written over.
 #[derive(Drop)]
 pub(crate) struct Meter<'a, R> {
-    pub(crate) rt: &'a R,
+    rt: &'a R,
+    // Whether the line was begun.
+    has_told: bool,
+}
+
+impl<'a, R: Runtime> Meter<'a, R> {
+    pub(crate) fn new(rt: &'a R) -> Meter<'a, R> {
+        Meter {
+            rt,
+            has_told: false,
+        }
+    }
+
+    /// Ends the line.
+    pub(crate) fn end(self) {
+        if self.has_told {
+            let _ = self.rt.eprint("\n");
+        }
+    }
 }
 
 impl<R: Runtime> Progress for Meter<'_, R> {
     fn tell(&mut self, seed: u64, seeds: u64) {
         if seed % (seeds / MOST_LINES + 1) == 0 {
+            self.has_told = true;
             let _ = self.rt.eprint(format_args!("\rseed {seed} of {seeds}"));
         }
     }

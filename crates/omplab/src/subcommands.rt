@@ -101,9 +101,11 @@ pub(crate) fn hunt<H: Runtime + Threads + Wait + Sync, W: Write>(
         steps: bounds.steps,
         expected: wanted.as_ref().map(|bytes| bytes.as_slice()),
     };
-    let mut meter = Meter { rt: host.rt };
+    let mut meter = Meter::new(host.rt);
     let source = options.source.unwrap_or(&[]);
-    let hunted = om_hunt::hunt(host.rt, host.alloc, source, &aims, &mut meter)?;
+    let hunted = om_hunt::hunt(host.rt, host.alloc, source, &aims, &mut meter);
+    meter.end();
+    let hunted = hunted.map_err(|fault| behind(fault))?;
     let mut text = Vec::new(host.alloc);
     push_report(&mut text, &hunted)?;
     let status = match hunted {
@@ -142,7 +144,7 @@ pub(crate) fn keep<H: Runtime + Threads + Wait + Sync, R: Read, W: Write>(
     match kept {
         Ok(Script::Steps(text)) => written(writer, &text, DONE),
         Ok(Script::Refused(line)) => written(writer, &line, REFUSED),
-        Err(ScriptFault::Shell(fault)) => Err(fault),
+        Err(ScriptFault::Shell(fault)) => Err(behind(fault)),
         Err(fault) => {
             let _ = host.rt.eprintln(fault);
             Ok(BROKEN)
@@ -160,9 +162,19 @@ pub(crate) fn draw<H: Threads + Wait + Sync, R: Read, W: Write>(
     requires least { 0 < options.workers }
     requires most { options.workers ≤ 32 }
 {
-    match page(host.rt, host.alloc, reader, options)? {
-        Page::Drawn(text) => written(writer, &text, DONE),
-        Page::Refused(line) => written(writer, &line, REFUSED),
+    match page(host.rt, host.alloc, reader, options) {
+        Ok(Page::Drawn(text)) => written(writer, &text, DONE),
+        Ok(Page::Refused(line)) => written(writer, &line, REFUSED),
+        Err(fault) => Err(behind(fault)),
+    }
+}
+
+// The fault behind one of a session that was run apart: such a session writes into a vector, which takes every byte
+// for which there is memory.
+fn behind(fault: ShellFault) -> ShellFault {
+    match fault {
+        ShellFault::Write => ShellFault::Memory,
+        other => other,
     }
 }
 

@@ -1,5 +1,7 @@
 //! Each subcommand over stored input, and what it writes.
 
+ghost use Rattle.std.specs.Prelude.{◌≡◌};
+
 use crate::subcommands::{Bounds, Host, check, explain, hunt, keep};
 use om_shell::Options;
 use std::test::Fail;
@@ -19,7 +21,9 @@ int main(void)
 const LOST: &str = "step 0\nstep 0\nstep 1\nstep 0\nstep 1\nnext 0\nnext 1\nundo 0\n";
 
 /// Two workers, and this source.
-fn options(source: &str) -> Options<'_> {
+fn options(source: &str) -> Options<'_>
+    ensures { result.workers ≡ 2 }
+{
     Options {
         workers: 2,
         source: Some(source.as_bytes()),
