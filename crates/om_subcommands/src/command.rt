@@ -57,7 +57,7 @@ fn hunt<'a>(alloc: Global) -> Result<Command<'a>, AllocError> {
     let steps = number(
         alloc,
         "steps",
-        "After how many steps a schedule is given up",
+        "How many steps chance makes at most, before `run` makes the others",
     )
     .default_value("100000");
     let expect = Arg::new(alloc, "expect")
@@ -83,7 +83,7 @@ fn script<'a>(alloc: Global) -> Result<Command<'a>, AllocError> {
     let cone = number(
         alloc,
         "cone",
-        "Lists the steps that `roll K` would take back, in place of all",
+        "Lists the steps that `roll S` would take back, in place of all",
     )
     .value_name("S");
     Command::new(alloc, "script")

@@ -8,7 +8,7 @@ mod subcommands;
 #[cfg(test)]
 mod tests;
 
-use crate::subcommands::{Bounds, Host, check, draw, explain, hunt, keep};
+use crate::subcommands::{Host, Search, check, draw, explain, hunt, keep};
 use om_outcome::{Outcome, read_file, status, words_of};
 use om_parser::STACK_SIZE;
 use om_shell::{Options, ShellFault};
@@ -56,17 +56,19 @@ fn done<R: Runtime + Threads + Wait + Sync>(
     match asked {
         Asked::Check { file } => check(host.alloc, file, options, &mut writer),
         Asked::Hunt {
+            file,
             seeds,
             steps,
             expected,
-            ..
-        } => hunt(
-            host,
-            options,
-            Bounds { seeds, steps },
-            expected,
-            &mut writer,
-        ),
+        } => {
+            let search = Search {
+                file,
+                seeds,
+                steps,
+                expected,
+            };
+            hunt(host, options, search, &mut writer)
+        }
         Asked::Notes { .. } => explain(host.alloc, options, &mut host.rt.reader(), &mut writer),
         Asked::Script { cone, .. } => {
             keep(host, options, cone, &mut host.rt.reader(), &mut writer)

@@ -41,12 +41,19 @@ pub(crate) fn check<W: Write>(
     written(writer, &report.text, report.status)
 }
 
-/// How long a hunt looks.
+/// What a hunt looks for, and how long.
 #[derive(Clone, Copy)]
-pub(crate) struct Bounds {
+pub(crate) struct Search<'a> {
+    pub(crate) file: &'a str,
     pub(crate) seeds: u64,
     pub(crate) steps: u64,
+    /// What the program is to print, with `\n` for a line end; where it is `None`, what `run` prints.
+    pub(crate) expected: Option<&'a str>,
 }
+
+// What is said where there was nothing to compare an output with.
+const NOT_COMPARED: &[u8] =
+    b"`run` came to no end, so no output was compared: say by --expect what is to be printed\n";
 
 // What a byte behind a backslash stands for.
 fn escape_of(byte: u8) -> u8 {
@@ -87,32 +94,54 @@ fn wanted(alloc: Global, expected: Option<&str>) -> Result<Option<Vec<u8>>, Allo
 pub(crate) fn hunt<H: Runtime + Threads + Wait + Sync, W: Write>(
     host: &Host<'_, H>,
     options: Options<'_>,
-    bounds: Bounds,
-    expected: Option<&str>,
+    search: Search<'_>,
     writer: &mut W,
 ) -> Result<u8, ShellFault>
     requires least { 0 < options.workers }
     requires most { options.workers ≤ 32 }
 {
-    let wanted = wanted(host.alloc, expected)?;
+    let wanted = wanted(host.alloc, search.expected)?;
     let aims = Aims {
         workers: options.workers,
-        seeds: bounds.seeds,
-        steps: bounds.steps,
+        seeds: search.seeds,
+        steps: search.steps,
         expected: wanted.as_ref().map(|bytes| bytes.as_slice()),
     };
     let mut meter = Meter::new(host.rt);
     let source = options.source.unwrap_or(&[]);
     let hunted = om_hunt::hunt(host.rt, host.alloc, source, &aims, &mut meter);
     meter.end();
-    let hunted = hunted.map_err(|fault| behind(fault))?;
-    let mut text = Vec::new(host.alloc);
-    push_report(&mut text, &hunted)?;
-    let status = match hunted {
-        Hunted::Nothing { .. } => DONE,
-        _ => REFUSED,
-    };
-    written(writer, &text, status)
+    match hunted {
+        Ok(Hunted::Refused(_)) => check(host.alloc, search.file, options, writer),
+        Ok(hunted) => report_on(host.alloc, &hunted, search.expected.is_none(), writer),
+        Err(fault) => Err(behind(fault)),
+    }
+}
+
+// Writes what came of a hunt, by what `run` prints or by what was told.
+fn report_on<W: Write>(
+    alloc: Global,
+    hunted: &Hunted,
+    is_by_run: bool,
+    writer: &mut W,
+) -> Result<u8, ShellFault> {
+    let mut text = Vec::new(alloc);
+    push_report(&mut text, hunted)?;
+    if let Hunted::Nothing { printed, .. } = hunted {
+        if is_by_run && !has_ended(printed) {
+            text.extend_from_slice(NOT_COMPARED)?;
+        }
+        return written(writer, &text, DONE);
+    }
+    written(writer, &text, REFUSED)
+}
+
+// Whether the first answer says that the program ended.
+fn has_ended(printed: &Vec<u8>) -> bool {
+    match printed.split(|byte| *byte == b'\n').next() {
+        Some(line) => line.ends_with(b" ended"),
+        None => false,
+    }
 }
 
 /// Passes answers on, with words behind them.

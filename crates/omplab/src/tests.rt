@@ -2,7 +2,7 @@
 
 ghost use Rattle.std.specs.Prelude.{◌≡◌};
 
-use crate::subcommands::{Bounds, Host, check, explain, hunt, keep};
+use crate::subcommands::{Host, Search, check, explain, hunt, keep};
 use om_shell::Options;
 use std::test::Fail;
 
@@ -121,15 +121,38 @@ fn finds_a_lost_update(rt: HostRuntime) -> Result<(), Fail> {
     let alloc = rt.alloc();
     let host = Host { rt: &rt, alloc };
     let mut text = Vec::new(alloc);
-    let bounds = Bounds {
+    let search = Search {
+        file: "a.c",
         seeds: 20,
         steps: 1_000,
+        expected: Some("2\\n"),
     };
-    let done = hunt(&host, options(RACE), bounds, Some("2\\n"), &mut text);
+    let done = hunt(&host, options(RACE), search, &mut text);
     let (_, script) = text_of(&text)
         .split_once("\n\n")
         .unwrap_or(("nothing was found", ""));
     assert_eq!(rt; script, "step 0\nstep 1\nstep 1\nrun 100000\noutput\n");
     assert!(rt; matches!(done, Ok(1)));
     Ok(())
+}
+
+#[test]
+fn says_that_nothing_was_compared(rt: HostRuntime) {
+    let alloc = rt.alloc();
+    let host = Host { rt: &rt, alloc };
+    let mut text = Vec::new(alloc);
+    let search = Search {
+        file: "a.c",
+        seeds: 1,
+        steps: 10,
+        expected: None,
+    };
+    let done = hunt(
+        &host,
+        options("int main(void){ while (1) ; }"),
+        search,
+        &mut text,
+    );
+    assert!(rt; text_of(&text).ends_with("say by --expect what is to be printed\n"));
+    assert!(rt; matches!(done, Ok(0)));
 }
