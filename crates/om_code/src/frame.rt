@@ -1,7 +1,9 @@
 //! What a frame works on, and why it can't go on.
 
-ghost use Rattle.std.specs.Prelude.{◌≡◌};
+ghost use Rattle.std.specs.Prelude.{◌≡◌, reverse, slice_get, option_map};
 ghost use Rattle.om_code.specs.Faults.{fault_number};
+
+use std::marker::Model;
 
 /// What stands on a frame's stack.
 #[derive(Clone, Copy, PartialEq, Eq)]
@@ -10,6 +12,46 @@ pub enum Operand {
     Int(i32),
     /// What a call gives whose function returned no value.
     NoValue,
+}
+
+/// The operands of a frame as they are seen, whoever keeps them.
+///
+/// Contracts see the list of them, the top one first.
+#[derive(Drop)]
+pub struct Operands<'a> {
+    items: &'a [Operand],
+}
+
+impl<'a> Model for Operands<'a> {
+    ghost use Rattle.std.specs.Prelude.{List, reverse};
+    ghost use Rattle.om_code.specs.declared.frame.Operand.{Operand};
+
+    ghost Value = { List Operand };
+
+    ghost view = { λ o. reverse o.items.now };
+}
+
+impl<'a> Operands<'a> {
+    /// The operands of a slice, the last one on top.
+    pub fn of(items: &'a [Operand]) -> Operands<'a>
+        ensures { result ≡ reverse items.now }
+    {
+        Operands { items }
+    }
+
+    /// The operands as a slice, the top one last.
+    pub fn as_slice(&self) -> &[Operand]
+        ensures { reverse result.now ≡ self.now }
+    {
+        self.items
+    }
+
+    /// The top operand; `None` exactly where there is none.
+    pub fn top(&self) -> Option<&Operand>
+        ensures { option_map (λ t. t.now) result ≡ slice_get self.now 0 }
+    {
+        self.items.last()
+    }
 }
 
 /// What a cell of a variable holds.

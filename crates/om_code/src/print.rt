@@ -5,10 +5,9 @@ ghost use Rattle.om_code.specs.Frames.{print_bytes};
 ghost use Rattle.om_code.specs.Validity.{IsKnownText, value_count};
 ghost use Rattle.om_code.specs.Printing.{printed, ints, ints_on};
 
-use crate::frame::Operand;
+use crate::frame::{Operand, Operands};
 use crate::raw::{Piece, Raw};
 use itoa::Buffer;
-use om_seq::Pile;
 use std::alloc::{AllocError, Global};
 
 /// The bytes that PRINT appends: the text of this number, with so many values from the top of the stack.
@@ -19,7 +18,7 @@ pub fn print_bytes(
     raw: &Raw,
     text: u32,
     values: u16,
-    operands: &Pile<Operand>,
+    operands: &Operands<'_>,
 ) -> Result<Vec<u8>, AllocError>
     requires known { IsKnownText raw.now.texts text values }
     requires ints { IsSome (ints_on values operands.now) }
@@ -60,7 +59,7 @@ pub fn print_text(alloc: Global, pieces: &[Piece], values: &[i32]) -> Result<Vec
 pub fn ints_on(
     alloc: Global,
     count: usize,
-    operands: &Pile<Operand>,
+    operands: &Operands<'_>,
 ) -> Result<Option<Vec<i32>>, AllocError>
     ensures { IfOk result
         (λ values. option_map (λ v. v.items) values ≡ ints_on count operands.now) }
@@ -87,7 +86,7 @@ fn ints(alloc: Global, operands: &[Operand]) -> Result<Option<Vec<i32>>, AllocEr
 }
 
 /// Whether so many operands from the top are ints.
-pub(crate) fn has_ints(count: usize, operands: &Pile<Operand>) -> bool
+pub(crate) fn has_ints(count: usize, operands: &Operands<'_>) -> bool
     ensures { result ≡ is_some (ints_on count operands.now) }
 {
     let all = operands.as_slice();

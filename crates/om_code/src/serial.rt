@@ -6,11 +6,10 @@ ghost use Rattle.om_code.specs.Validity.{NamesKnown, IsKnownPlace};
 ghost use Rattle.om_code.specs.Frames.{act, IsThere, IsRight, int_at, goes, gives, loaded, stored, put, updated, cells_in, index_in, duplicate, pop, unary, binary, jump_if_zero, use_value, store, load_element, store_element, update_scalar, update_element, print, return_value, finish};
 
 use crate::arithmetic::{operate, operate_on_one, update};
-use crate::frame::{Cell, Fault, Operand};
+use crate::frame::{Cell, Fault, Operand, Operands};
 use crate::instruction::{AtomicOperator, BinaryOperator, Instr, Place, Side, UnaryOperator};
 use crate::print::has_ints;
 use crate::raw::{Raw, Slot};
-use om_seq::Pile;
 
 /// What an instruction touches beside its frame's place and operands.
 #[derive(Clone, Copy)]
@@ -52,7 +51,7 @@ pub enum Turn {
 /// What an instruction touches in a frame with these slots and operands.
 ///
 /// `Nothing` where a fault or a lack is decided by the instruction and its operands alone: `turn_of` then says which.
-pub fn touch_of(raw: &Raw, slots: &[Slot], instr: Instr, operands: &Pile<Operand>) -> Touch
+pub fn touch_of(raw: &Raw, slots: &[Slot], instr: Instr, operands: &Operands<'_>) -> Touch
     requires { NamesKnown raw.now slots.now instr }
     ensures same { result ≡ (act raw.now slots.now instr operands.now).touch }
     ensures there { IsThere raw.now slots.now operands.now result }
@@ -61,7 +60,7 @@ pub fn touch_of(raw: &Raw, slots: &[Slot], instr: Instr, operands: &Pile<Operand
 }
 
 // What the row of an instruction touches.
-fn touched(raw: &Raw, slots: &[Slot], instr: Instr, operands: &Pile<Operand>) -> Touch
+fn touched(raw: &Raw, slots: &[Slot], instr: Instr, operands: &Operands<'_>) -> Touch
     requires { NamesKnown raw.now slots.now instr }
     ensures { result ≡ (act raw.now slots.now instr operands.now).touch }
 {
@@ -88,7 +87,7 @@ fn touched(raw: &Raw, slots: &[Slot], instr: Instr, operands: &Pile<Operand>) ->
 }
 
 /// What LOADX touches, in a variable of so many cells.
-fn reads(place: Place, cells: u32, operands: &Pile<Operand>) -> Touch
+fn reads(place: Place, cells: u32, operands: &Operands<'_>) -> Touch
     ensures { result ≡ (load_element place cells operands.now).touch }
 {
     let Some(at) = int_at(operands, 0) else {
@@ -101,7 +100,7 @@ fn reads(place: Place, cells: u32, operands: &Pile<Operand>) -> Touch
 }
 
 /// What STOREX and ATOMX touch, in a variable of so many cells.
-fn writes(place: Place, cells: u32, operands: &Pile<Operand>) -> Touch
+fn writes(place: Place, cells: u32, operands: &Operands<'_>) -> Touch
     ensures stores { (keeps : Bool) →
         result ≡ (store_element place cells keeps operands.now).touch }
     ensures updates { (operator : AtomicOperator) (side : Side) →
@@ -119,13 +118,7 @@ fn writes(place: Place, cells: u32, operands: &Pile<Operand>) -> Touch
 /// What an instruction makes of a frame with these slots and operands, where this stands in the cell that it touches.
 ///
 /// Where it reads and writes no cell, any one may be given.
-pub fn turn_of(
-    raw: &Raw,
-    slots: &[Slot],
-    instr: Instr,
-    operands: &Pile<Operand>,
-    cell: Cell,
-) -> Turn
+pub fn turn_of(raw: &Raw, slots: &[Slot], instr: Instr, operands: &Operands<'_>, cell: Cell) -> Turn
     requires { NamesKnown raw.now slots.now instr }
     ensures same { result ≡ (act raw.now slots.now instr operands.now).turn cell }
     ensures right { IsRight instr result }
@@ -134,7 +127,7 @@ pub fn turn_of(
 }
 
 // The rows of the serial instructions.
-fn row(raw: &Raw, slots: &[Slot], instr: Instr, operands: &Pile<Operand>, cell: Cell) -> Turn
+fn row(raw: &Raw, slots: &[Slot], instr: Instr, operands: &Operands<'_>, cell: Cell) -> Turn
     requires { NamesKnown raw.now slots.now instr }
     ensures { result ≡ (act raw.now slots.now instr operands.now).turn cell }
 {
@@ -193,7 +186,7 @@ fn jump(target: u32, takes: u32) -> Turn
 }
 
 /// DUP: the top operand is pushed once more.
-fn duplicate(operands: &Pile<Operand>) -> Turn
+fn duplicate(operands: &Operands<'_>) -> Turn
     ensures { (cell : Cell) → result ≡ (duplicate operands.now).turn cell }
 {
     match operands.top() {
@@ -203,7 +196,7 @@ fn duplicate(operands: &Pile<Operand>) -> Turn
 }
 
 /// POP: the top operand is taken.
-fn pop(operands: &Pile<Operand>) -> Turn
+fn pop(operands: &Operands<'_>) -> Turn
     ensures { (cell : Cell) → result ≡ (pop operands.now).turn cell }
 {
     match operands.top() {
@@ -213,7 +206,7 @@ fn pop(operands: &Pile<Operand>) -> Turn
 }
 
 /// UN: an operator on the top operand.
-fn unary(operator: UnaryOperator, operands: &Pile<Operand>) -> Turn
+fn unary(operator: UnaryOperator, operands: &Operands<'_>) -> Turn
     ensures { (cell : Cell) → result ≡ (unary operator operands.now).turn cell }
 {
     match int_at(operands, 0) {
@@ -223,7 +216,7 @@ fn unary(operator: UnaryOperator, operands: &Pile<Operand>) -> Turn
 }
 
 /// BIN: an operator on the two operands on top.
-fn binary(operator: BinaryOperator, operands: &Pile<Operand>) -> Turn
+fn binary(operator: BinaryOperator, operands: &Operands<'_>) -> Turn
     ensures { (cell : Cell) → result ≡ (binary operator operands.now).turn cell }
 {
     match (int_at(operands, 1), int_at(operands, 0)) {
@@ -243,7 +236,7 @@ fn gives(takes: u32, value: Result<i32, Fault>) -> Turn
 }
 
 /// JZ: jumps where the top operand is 0.
-fn jump_if_zero(target: u32, operands: &Pile<Operand>) -> Turn
+fn jump_if_zero(target: u32, operands: &Operands<'_>) -> Turn
     ensures { (cell : Cell) → result ≡ (jump_if_zero target operands.now).turn cell }
 {
     match int_at(operands, 0) {
@@ -254,7 +247,7 @@ fn jump_if_zero(target: u32, operands: &Pile<Operand>) -> Turn
 }
 
 /// USE: the value of a function that returned none is a fault.
-fn use_value(operands: &Pile<Operand>) -> Turn
+fn use_value(operands: &Operands<'_>) -> Turn
     ensures { (cell : Cell) → result ≡ (use_value operands.now).turn cell }
 {
     match operands.top() {
@@ -291,7 +284,7 @@ fn stored(takes: u32, pushed: Option<Operand>, value: i32, cell: Cell) -> Turn
 }
 
 /// STORE: puts the top operand, and takes it unless it is kept.
-fn store(keeps: bool, operands: &Pile<Operand>, cell: Cell) -> Turn
+fn store(keeps: bool, operands: &Operands<'_>, cell: Cell) -> Turn
     ensures { (place : Place) → result ≡ (store place keeps operands.now).turn cell }
 {
     match int_at(operands, 0) {
@@ -301,7 +294,7 @@ fn store(keeps: bool, operands: &Pile<Operand>, cell: Cell) -> Turn
 }
 
 /// LOADX, from a variable of so many cells.
-fn load_element(cells: u32, operands: &Pile<Operand>, cell: Cell) -> Turn
+fn load_element(cells: u32, operands: &Operands<'_>, cell: Cell) -> Turn
     ensures { (place : Place) → result ≡ (load_element place cells operands.now).turn cell }
 {
     let Some(at) = int_at(operands, 0) else {
@@ -314,7 +307,7 @@ fn load_element(cells: u32, operands: &Pile<Operand>, cell: Cell) -> Turn
 }
 
 /// STOREX, to a variable of so many cells.
-fn store_element(cells: u32, keeps: bool, operands: &Pile<Operand>, cell: Cell) -> Turn
+fn store_element(cells: u32, keeps: bool, operands: &Operands<'_>, cell: Cell) -> Turn
     ensures { (place : Place) → result ≡ (store_element place cells keeps operands.now).turn cell }
 {
     let (Some(at), Some(value)) = (int_at(operands, 1), int_at(operands, 0)) else {
@@ -328,7 +321,7 @@ fn store_element(cells: u32, keeps: bool, operands: &Pile<Operand>, cell: Cell) 
 }
 
 /// PRINT: takes its values.
-fn print(values: u16, operands: &Pile<Operand>) -> Turn
+fn print(values: u16, operands: &Operands<'_>) -> Turn
     ensures { (text : ℕ) (cell : Cell) →
         result ≡ (print text values (ints_on values operands.now)).turn cell }
 {
@@ -340,7 +333,7 @@ fn print(values: u16, operands: &Pile<Operand>) -> Turn
 }
 
 /// ATOM: puts the operator's value, of the old value and the top operand.
-fn update_scalar(operator: AtomicOperator, side: Side, operands: &Pile<Operand>, cell: Cell) -> Turn
+fn update_scalar(operator: AtomicOperator, side: Side, operands: &Operands<'_>, cell: Cell) -> Turn
     ensures { (place : Place) → result
         ≡ (update_scalar place operator side operands.now).turn cell }
 {
@@ -355,7 +348,7 @@ fn update_element(
     cells: u32,
     operator: AtomicOperator,
     side: Side,
-    operands: &Pile<Operand>,
+    operands: &Operands<'_>,
     cell: Cell,
 ) -> Turn
     ensures { (place : Place) → result
@@ -397,7 +390,7 @@ fn put(takes: u32, value: Result<i32, Fault>) -> Turn
 }
 
 /// RET: the frame ends with the top operand.
-fn return_value(operands: &Pile<Operand>) -> Turn
+fn return_value(operands: &Operands<'_>) -> Turn
     ensures { (cell : Cell) → result ≡ (return_value operands.now).turn cell }
 {
     match int_at(operands, 0) {
@@ -407,7 +400,7 @@ fn return_value(operands: &Pile<Operand>) -> Turn
 }
 
 /// FIN: the program ends with the top operand, or with 0.
-fn finish(has_value: bool, operands: &Pile<Operand>) -> Turn
+fn finish(has_value: bool, operands: &Operands<'_>) -> Turn
     ensures { (cell : Cell) → result ≡ (finish has_value operands.now).turn cell }
 {
     if !has_value {
@@ -420,7 +413,7 @@ fn finish(has_value: bool, operands: &Pile<Operand>) -> Turn
 }
 
 /// The int so far below the top operand; `None` where there is no operand or it is no int.
-pub fn int_at(operands: &Pile<Operand>, depth: usize) -> Option<i32>
+pub fn int_at(operands: &Operands<'_>, depth: usize) -> Option<i32>
     ensures { result ≡ int_at depth operands.now }
 {
     let all = operands.as_slice();
