@@ -9,8 +9,6 @@ use Rattle.om_cells.specs.declared.control.Stack.{Stack}
 use Rattle.om_cells.specs.declared.control.Control.{Control}
 use Rattle.om_cells.specs.declared.control.Control.TheVariants.{Idle, Running, Faulted, Ended}
 use Rattle.om_cells.specs.declared.edit.Edit.{Edit}
-use Rattle.om_cells.specs.declared.edit.Outlook.{Outlook}
-use Rattle.om_cells.specs.declared.edit.Outlook.TheVariants.{Runs, Returns, Fails, Ends}
 use Rattle.om_cells.specs.declared.edit.Edit.TheVariants.{Go, BeginFrame, EndFrame, BeginContext, EndContext, Open}
 use Rattle.om_cells.specs.declared.edit.Edit.TheVariants.{Close, Replace, CountBirth, CountRegion, CountPhase, Fail}
 use Rattle.om_cells.specs.declared.edit.Edit.TheVariants.{End}
@@ -71,13 +69,6 @@ edited CountRegion stack = Running (record stack { top = record stack.top { regi
 edited CountPhase stack = Running (record stack { top = record stack.top { phase = stack.top.phase + 1 } })
 edited (Fail fault) stack = Faulted fault stack
 edited (End value) stack = Ended value
-
--- the control of a worker that goes on so after an edit of a stack
-abbrev pub foreseen : Outlook → Stack → Control
-foreseen Runs stack = Running stack
-foreseen Returns stack = context_ended stack.below
-foreseen (Fails fault) stack = Faulted fault stack
-foreseen (Ends value) stack = Ended value
 
 -- the control after an edit: one that doesn't run stays
 abbrev pub changed_by : Edit → Control → Control
