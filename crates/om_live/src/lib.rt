@@ -1,23 +1,27 @@
-//! A worker's control that is changed in place, and the trail that leads it back.
+//! The store of a run's objects, in which workers' controls are changed in place.
 //!
-//! It stands above om_cells, whose edits it makes of a control of its own form. No program calls it
-//! yet: the store still keeps the plain controls of om_cells.
+//! It stands above om_cells, whose edits it makes of controls of its own form. Each control has a
+//! trail that leads it back; the other objects' values are kept as om_cells keeps them.
 #![tactic(auto)]
 
 pub mod context;
 pub mod control;
 pub mod copy;
 pub mod edit;
+pub mod fault;
 pub mod frame;
 pub mod live;
 pub mod log;
 pub mod stack;
+pub mod store;
 pub mod tape;
 pub mod trail;
 
 pub use control::{Context, Control, Frame, Inverse, Stack};
 pub use copy::plain_of;
+pub use fault::fault_after;
 pub use live::control_of;
 pub use log::Log;
+pub use store::{Store, worker_of};
 pub use tape::Tape;
 pub use trail::Trail;

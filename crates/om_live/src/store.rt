@@ -1,0 +1,375 @@
+//! The store: what each object holds.
+
+ghost use Rattle.std.specs.Prelude.{◌≡◌, ◌<◌, [], true, false, IfOk, OnOk, OnErr, unwrap_or, neg_ℤ, length, slice_get};
+ghost use Rattle.std.specs.Option.{option_copied};
+ghost use Rattle.om_foot.specs.declared.object.Obj.{Obj};
+ghost use Rattle.om_foot.specs.declared.object.Obj.TheVariants as obj;
+ghost use Rattle.om_cells.specs.declared.value.Val.TheVariants as value;
+ghost use Rattle.om_cells.specs.declared.value.Task.TheVariants as task;
+ghost use Rattle.om_cells.specs.Edits.{changed, HaveRoom};
+ghost use Rattle.om_cells.specs.Values.{default_of, control_in, is_idle, cell_in, task_in, number_in, holder_in, count_of, items_of, value_plus, value_with, value_cut, SumFits};
+ghost use Rattle.om_cells.specs.State.{with_value};
+ghost use Rattle.om_cells.specs.Ready.{AreReady};
+ghost use Rattle.om_live.specs.Stores.{worker_of, is_trailed, plain_or_idle, state_of, is_kept, pasts_of, noted_at, popped_at, begun_at, first_or, GrowTo};
+
+use crate::control::Control;
+use crate::live::control_of;
+use crate::trail::Trail;
+use om_cells::{Control as PlainControl, Edit, SharedControl, Store as Values, Tail, Task, Val};
+use om_code::frame::Cell;
+use om_foot::{Name, Obj};
+use om_seq::Seq;
+use std::alloc::{AllocError, Global};
+
+/// A total map from objects to values: an object that isn't kept holds its default.
+///
+/// The workers' controls are changed in place, and their trails keep what takes each change back.
+/// Contracts see the store as the state `state_of`, whether an object is kept as `is_kept`, and what
+/// the controls were before their changes as `pasts_of`. What is kept can be put back without a
+/// request for memory.
+#[derive(Drop)]
+pub struct Store {
+    /// The controls of the first workers; the others are idle.
+    trails: Vec<Trail>,
+    /// What the other objects hold.
+    values: Values,
+}
+
+/// The worker whose control an object is, if it is one.
+pub fn worker_of(object: &Obj) -> Option<u8>
+    ensures { result ≡ worker_of object.now }
+{
+    match object {
+        Obj::Control(worker) => Some(*worker),
+        _ => None,
+    }
+}
+
+/// Has trails up to that of this worker; those that are new are idle. When out of memory, there may
+/// be more of them.
+fn grow(alloc: Global, trails: &mut Vec<Trail>, worker: u8) -> Result<(), AllocError>
+    ensures grown { GrowTo trails.old.items trails.new.items }
+    ensures enough { OnOk result (worker < length trails.new.items) }
+{
+    while trails.len() <= worker as usize {
+        trails.push(Trail::new(alloc))?;
+    }
+    Ok(())
+}
+
+/// The trail of a worker, if it has one.
+fn trail_at(trails: &[Trail], worker: u8) -> Option<&Trail>
+    ensures { option_copied result ≡ slice_get trails.now worker }
+{
+    trails.get(worker as usize)
+}
+
+impl Store {
+    /// The store in which each object holds its default. It takes no memory.
+    pub fn new(alloc: Global) -> Store
+        ensures state { state_of result ≡ default_of }
+        ensures pasts { pasts_of result ≡ (λ q. []) }
+    {
+        Store {
+            trails: Vec::new(alloc),
+            values: Values::new(alloc),
+        }
+    }
+
+    /// The control of a worker; `None` stands for an idle one.
+    pub fn control(&self, worker: u8) -> Option<&Control>
+        ensures { plain_or_idle (option_copied result)
+            ≡ control_in (state_of self.now (obj.Control worker)) }
+    {
+        match trail_at(&self.trails, worker) {
+            Some(trail) => Some(trail.control()),
+            None => None,
+        }
+    }
+
+    /// Whether a worker is idle.
+    pub fn is_idle(&self, worker: u8) -> bool
+        ensures { result ≡ is_idle (control_in (state_of self.now (obj.Control worker))) }
+    {
+        match self.control(worker) {
+            Some(control) => control.is_idle(),
+            None => true,
+        }
+    }
+
+    /// The cell that a cell of a variable holds.
+    pub fn cell(&self, alloc: Global, object: &Obj) -> Cell
+        ensures { result ≡ cell_in (state_of self.now object.now) }
+    {
+        match worker_of(object) {
+            Some(_) => Cell::Unset,
+            None => self.values.cell(alloc, object),
+        }
+    }
+
+    /// The task of a name; `None` stands for one that was never made.
+    pub fn task(&self, name: &Name) -> Option<&Task>
+        ensures { unwrap_or (option_copied result) task.Absent
+            ≡ task_in (state_of self.now (obj.Task name.now)) }
+    {
+        self.values.task(name)
+    }
+
+    /// The names of all tasks that are ready to be begun, ascending. Its only error is out of
+    /// memory.
+    pub fn ready(&self, alloc: Global) -> Result<Vec<Name>, AllocError>
+        ensures { IfOk result (λ v. AreReady (state_of self.now) v.items) }
+    {
+        self.values.ready(alloc)
+    }
+
+    /// The number that an object holds, or 0.
+    pub fn number(&self, alloc: Global, object: &Obj) -> u64
+        ensures { result ≡ number_in (state_of self.now object.now) }
+    {
+        match worker_of(object) {
+            Some(_) => 0,
+            None => self.values.number(alloc, object),
+        }
+    }
+
+    /// The worker that holds the lock of this number, if one does.
+    pub fn holder(&self, lock: u32) -> Option<u8>
+        ensures { result ≡ holder_in (state_of self.now (obj.Lock lock)) }
+    {
+        self.values.holder(lock)
+    }
+
+    /// The count that an object holds, if it holds one.
+    pub fn count(&self, alloc: Global, object: &Obj) -> Option<i128>
+        ensures { result ≡ count_of (state_of self.now object.now) }
+    {
+        match worker_of(object) {
+            Some(_) => None,
+            None => self.values.count(alloc, object),
+        }
+    }
+
+    /// How many items the output or a worker's events hold.
+    pub fn items(&self, object: &Obj) -> usize
+        requires { is_kept self.now object.now ≡ true }
+        ensures { result ≡ items_of (state_of self.now object.now) }
+    {
+        match worker_of(object) {
+            Some(_) => 0,
+            None => self.values.items(object),
+        }
+    }
+
+    /// A copy of what an object holds; its only error is out of memory.
+    pub fn copy_at(&self, alloc: Global, object: &Obj) -> Result<Val, AllocError>
+        ensures { IfOk result (λ value. value ≡ state_of self.now object.now) }
+    {
+        match worker_of(object) {
+            Some(worker) => self.copy_control(alloc, worker),
+            None => self.values.copy_at(alloc, object),
+        }
+    }
+
+    /// A copy of a worker's control.
+    fn copy_control(&self, alloc: Global, worker: u8) -> Result<Val, AllocError>
+        ensures { IfOk result (λ value. value ≡ state_of self.now (obj.Control worker)) }
+    {
+        match trail_at(&self.trails, worker) {
+            Some(trail) => {
+                let control = trail.plain(alloc)?;
+                Ok(Val::Control(SharedControl::of(alloc, control)?))
+            }
+            None => Ok(Val::Control(SharedControl::idle())),
+        }
+    }
+
+    /// Keeps an object, with the value that it holds. No value changes, also when out of memory.
+    pub fn keep(&mut self, alloc: Global, object: &Obj) -> Result<(), AllocError>
+        ensures state { state_of self.new ≡ state_of self.old }
+        ensures pasts { pasts_of self.new ≡ pasts_of self.old }
+        ensures kept { OnOk result (is_kept self.new object.now ≡ true) }
+        ensures others_kept { (q : Obj) → is_kept self.old q ≡ true → is_kept self.new q ≡ true }
+    {
+        match worker_of(object) {
+            Some(worker) => grow(alloc, &mut self.trails, worker),
+            None => self.values.keep(alloc, object),
+        }
+    }
+
+    /// Puts the first control of a worker, which made no step then. When out of memory, nothing
+    /// changes.
+    pub fn begin(
+        &mut self,
+        alloc: Global,
+        worker: u8,
+        control: &PlainControl,
+    ) -> Result<(), AllocError>
+        ensures state { OnOk result (state_of self.new
+            ≡ with_value (obj.Control worker) (value.Control control.now) (state_of self.old)) }
+        ensures pasts { OnOk result
+            (pasts_of self.new ≡ begun_at (obj.Control worker) (pasts_of self.old)) }
+        ensures kept { OnOk result (is_kept self.new (obj.Control worker) ≡ true) }
+        ensures others_kept { (q : Obj) → is_kept self.old q ≡ true → is_kept self.new q ≡ true }
+        ensures same_state_on_error { OnErr result (state_of self.new ≡ state_of self.old) }
+        ensures same_pasts_on_error { OnErr result (pasts_of self.new ≡ pasts_of self.old) }
+    {
+        let control = control_of(alloc, control)?;
+        match grow(alloc, &mut self.trails, worker) {
+            Ok(()) => {
+                self.trails[worker as usize] = Trail::of(alloc, control);
+                Ok(())
+            }
+            Err(error) => Err(error),
+        }
+    }
+
+    /// Changes a worker's own control by edits, in place. When out of memory, nothing changes.
+    pub fn change(&mut self, alloc: Global, worker: u8, edits: Seq<Edit>) -> Result<(), AllocError>
+        requires kept { is_kept self.old (obj.Control worker) ≡ true }
+        requires room { HaveRoom edits (control_in (state_of self.old (obj.Control worker))) }
+        ensures state { OnOk result (state_of self.new
+            ≡ with_value (obj.Control worker)
+            (value.Control (changed edits (control_in (state_of self.old (obj.Control worker)))))
+            (state_of self.old)) }
+        ensures pasts { OnOk result (pasts_of self.new
+            ≡ noted_at (obj.Control worker) (state_of self.old) (pasts_of self.old)) }
+        ensures kept { (q : Obj) → is_kept self.new q ≡ is_kept self.old q }
+        ensures same_state_on_error { OnErr result (state_of self.new ≡ state_of self.old) }
+        ensures same_pasts_on_error { OnErr result (pasts_of self.new ≡ pasts_of self.old) }
+    {
+        match self.trails[worker as usize].step(alloc, edits) {
+            Ok(()) => Ok(()),
+            Err(error) => Err(error),
+        }
+    }
+
+    /// Puts a worker's control, as a FORK does for a member. When out of memory, nothing changes.
+    pub fn put(
+        &mut self,
+        alloc: Global,
+        worker: u8,
+        control: &PlainControl,
+    ) -> Result<(), AllocError>
+        requires { is_kept self.old (obj.Control worker) ≡ true }
+        ensures state { OnOk result (state_of self.new
+            ≡ with_value (obj.Control worker) (value.Control control.now) (state_of self.old)) }
+        ensures pasts { OnOk result (pasts_of self.new
+            ≡ noted_at (obj.Control worker) (state_of self.old) (pasts_of self.old)) }
+        ensures kept { (q : Obj) → is_kept self.new q ≡ is_kept self.old q }
+        ensures same_state_on_error { OnErr result (state_of self.new ≡ state_of self.old) }
+        ensures same_pasts_on_error { OnErr result (pasts_of self.new ≡ pasts_of self.old) }
+    {
+        match self.trails[worker as usize].become_other(alloc, control) {
+            Ok(()) => Ok(()),
+            Err(error) => Err(error),
+        }
+    }
+
+    /// Takes the latest change of a worker's control back, in place. It takes no memory.
+    pub fn undo(&mut self, worker: u8)
+        requires { 0 < length (pasts_of self.old (obj.Control worker)) }
+        ensures state { state_of self.new
+            ≡ with_value (obj.Control worker)
+            (first_or (state_of self.old (obj.Control worker))
+            (pasts_of self.old (obj.Control worker)))
+            (state_of self.old) }
+        ensures pasts { pasts_of self.new
+            ≡ popped_at (obj.Control worker) (pasts_of self.old) }
+        ensures kept { (q : Obj) → is_kept self.new q ≡ is_kept self.old q }
+    {
+        self.trails[worker as usize].undo();
+    }
+
+    /// Puts a value at an object that is no control, which is kept from then on. When out of memory,
+    /// nothing changes.
+    pub fn create(&mut self, object: &Obj, value: Val) -> Result<(), AllocError>
+        requires { is_trailed object.now ≡ false }
+        ensures state { OnOk result
+            (state_of self.new ≡ with_value object.now value (state_of self.old)) }
+        ensures pasts { pasts_of self.new ≡ pasts_of self.old }
+        ensures kept { OnOk result (is_kept self.new object.now ≡ true) }
+        ensures others_kept { (q : Obj) → is_kept self.old q ≡ true → is_kept self.new q ≡ true }
+        ensures same_state_on_error { OnErr result (state_of self.new ≡ state_of self.old) }
+    {
+        self.values.create(object, value)
+    }
+
+    /// Puts a value at an object that is no control and is kept, and answers the one before. It
+    /// takes no memory.
+    pub fn put_present(&mut self, object: &Obj, value: Val) -> Val
+        requires no_control { is_trailed object.now ≡ false }
+        requires kept { is_kept self.old object.now ≡ true }
+        ensures before { result ≡ state_of self.old object.now }
+        ensures state { state_of self.new ≡ with_value object.now value (state_of self.old) }
+        ensures pasts { pasts_of self.new ≡ pasts_of self.old }
+        ensures kept { (q : Obj) → is_kept self.new q ≡ is_kept self.old q }
+    {
+        self.values.put_present(object, value)
+    }
+
+    /// Adds to the count at an object that is kept; another value stays. It takes no memory.
+    pub fn add(&mut self, object: &Obj, number: i128)
+        requires kept { is_kept self.old object.now ≡ true }
+        requires fits { SumFits (state_of self.old object.now) number }
+        ensures state { state_of self.new
+            ≡ with_value object.now (value_plus number (state_of self.old object.now))
+            (state_of self.old) }
+        ensures pasts { pasts_of self.new ≡ pasts_of self.old }
+        ensures kept { (q : Obj) → is_kept self.new q ≡ is_kept self.old q }
+    {
+        match worker_of(object) {
+            Some(_) => {}
+            None => self.values.add(object, number),
+        }
+    }
+
+    /// Takes from the count at an object that is kept; another value stays. It takes no memory.
+    pub fn subtract(&mut self, object: &Obj, number: i128)
+        requires kept { is_kept self.old object.now ≡ true }
+        requires fits { SumFits (state_of self.old object.now) (neg_ℤ number) }
+        ensures state { state_of self.new
+            ≡ with_value object.now (value_plus (neg_ℤ number) (state_of self.old object.now))
+            (state_of self.old) }
+        ensures pasts { pasts_of self.new ≡ pasts_of self.old }
+        ensures kept { (q : Obj) → is_kept self.new q ≡ is_kept self.old q }
+    {
+        match worker_of(object) {
+            Some(_) => {}
+            None => self.values.subtract(object, number),
+        }
+    }
+
+    /// Appends to the output or to events at an object that is kept; another value stays. When out
+    /// of memory, nothing changes.
+    pub fn append(&mut self, object: &Obj, tail: Tail) -> Result<(), AllocError>
+        requires { is_kept self.old object.now ≡ true }
+        ensures state { OnOk result
+            (state_of self.new ≡ with_value object.now
+            (value_with tail (state_of self.old object.now)) (state_of self.old)) }
+        ensures pasts { pasts_of self.new ≡ pasts_of self.old }
+        ensures kept { (q : Obj) → is_kept self.new q ≡ is_kept self.old q }
+        ensures same_state_on_error { OnErr result (state_of self.new ≡ state_of self.old) }
+    {
+        match worker_of(object) {
+            Some(_) => Ok(()),
+            None => self.values.append(object, tail),
+        }
+    }
+
+    /// Leaves so many items of the output or of events at an object that is kept; another value
+    /// stays. It takes no memory.
+    pub fn cut(&mut self, object: &Obj, count: usize)
+        requires { is_kept self.old object.now ≡ true }
+        ensures state { state_of self.new
+            ≡ with_value object.now (value_cut count (state_of self.old object.now))
+            (state_of self.old) }
+        ensures pasts { pasts_of self.new ≡ pasts_of self.old }
+        ensures kept { (q : Obj) → is_kept self.new q ≡ is_kept self.old q }
+    {
+        match worker_of(object) {
+            Some(_) => {}
+            None => self.values.cut(object, count),
+        }
+    }
+}
