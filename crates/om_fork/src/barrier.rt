@@ -1,11 +1,12 @@
 //! What a member of a team reads at a barrier.
 
 ghost use Rattle.std.specs.Prelude.{◌≡◌, ◌++◌, ◌+◌, OnOk, replicate};
-ghost use Rattle.om_cells.specs.Stores.{state_of};
+ghost use Rattle.om_live.specs.Stores.{state_of};
 ghost use Rattle.om_fork.specs.Barriers.{arrivals, barrier, open_in};
 
-use om_cells::{Store, Team, Update};
+use om_cells::{Team, Update};
 use om_foot::{Access, Mode, Name, Obj};
+use om_live::Store;
 use om_seq::Seq;
 use om_steps::counts::is_zero;
 use om_steps::names::name;

@@ -1,23 +1,26 @@
 //! FIN: the end of the program.
 
 ghost use Rattle.std.specs.Prelude.{◌≡◌, IfOk};
-ghost use Rattle.om_cells.specs.Stores.{state_of};
+ghost use Rattle.om_live.specs.Plain.{plain_context};
+ghost use Rattle.om_live.specs.Stores.{state_of};
 ghost use Rattle.om_steps.specs.Rows.{answered};
 ghost use Rattle.om_fork.specs.Rows.{value_of, finished, finish_row};
 
-use om_cells::{Blocked, Context, Edit, Kind, Store, Update};
+use om_cells::{Blocked, Edit, Kind, Update};
 use om_code::serial::int_at;
 use om_events::{Endpoint, Record, TaskFlag};
 use om_foot::{Mode, Name, Obj};
+use om_live::{Context, Store};
 use om_seq::Seq;
 use om_steps::counts::is_zero;
+use om_steps::names::operands_of;
 use om_steps::parts::{name_with_events, update_with_event};
 use om_steps::{Answer, Row};
 use std::alloc::{AllocError, Global};
 
 /// What comes of an initial task that is at its end, with this value.
 fn finished(alloc: Global, context: &Context, value: i32, is_over: bool) -> Result<Row, AllocError>
-    ensures { IfOk result (λ row. row ≡ finished context.now value is_over) }
+    ensures { IfOk result (λ row. row ≡ finished (plain_context context.now) value is_over) }
 {
     if !is_over {
         return Ok(Row::Blocked(Blocked::Children));
@@ -37,10 +40,10 @@ fn finished(alloc: Global, context: &Context, value: i32, is_over: bool) -> Resu
 
 /// The value with which the program ends: the operand on top where it has one, else 0.
 fn value_of(context: &Context, has_value: bool) -> Option<i32>
-    ensures { result ≡ value_of context.now has_value }
+    ensures { result ≡ value_of (plain_context context.now) has_value }
 {
     if has_value {
-        return int_at(&context.frame.operands, 0);
+        return int_at(&operands_of(context), 0);
     }
     Some(0)
 }
@@ -57,7 +60,7 @@ pub fn finish(
     has_value: bool,
 ) -> Result<Answer, AllocError>
     ensures { IfOk result
-        (λ answer. answer ≡ answered (finish_row worker context.now has_value)
+        (λ answer. answer ≡ answered (finish_row worker (plain_context context.now) has_value)
         (state_of store.now)) }
 {
     let (Kind::Initial, Some(value)) = (context.kind, value_of(context, has_value)) else {

@@ -1,14 +1,15 @@
 //! The members of a team: the workers that they need, and what they begin with.
 
 ghost use Rattle.std.specs.Prelude.{◌≡◌, ◌++◌, ◌∷◌, [], ◌-◌, ◌≤◌, IfOk, OnOk, length};
-ghost use Rattle.om_cells.specs.Stores.{state_of};
+ghost use Rattle.om_live.specs.Stores.{state_of};
 ghost use Rattle.om_cells.specs.declared.value.Val.TheVariants as value;
 ghost use Rattle.om_fork.specs.Teams.{member, workers_from, busy_in, member_controls, member_cells, member_puts};
 
 use om_cells::{
-    Context, Control, Frame, Kind, SharedControl, SharedPile, Stack, Store, Team, Update, Val,
+    Context, Control, Frame, Kind, SharedControl, SharedPile, Stack, Team, Update, Val,
 };
 use om_foot::{Access, Mode, Name, Obj};
+use om_live::Store;
 use om_seq::Seq;
 use om_steps::begin::{in_no_group, new_context};
 use om_steps::names::{name, name_given};

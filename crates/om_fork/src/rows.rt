@@ -1,8 +1,9 @@
 //! BEGIN, ARRIVE, DEPART and LEAVE: a member's way through its region.
 
-ghost use Rattle.std.specs.Prelude.{◌≡◌, ◌++◌, ◌∷◌, [], ◌≤◌, ◌<◌, ◌+◌, ◌^◌, IfOk, OnOk, length, None};
+ghost use Rattle.std.specs.Prelude.{◌≡◌, ◌++◌, ◌∷◌, [], ◌≤◌, ◌<◌, ◌+◌, ◌^◌, IfOk, OnOk, length, map, None, option_map, slice_get};
 ghost use Rattle.om_cells.specs.State.{State};
-ghost use Rattle.om_cells.specs.Stores.{state_of};
+ghost use Rattle.om_live.specs.Plain.{plain_context, plain_held, plain_stack};
+ghost use Rattle.om_live.specs.Stores.{state_of};
 ghost use Rattle.om_steps.specs.Rows.{answered, goes};
 ghost use Rattle.om_steps.specs.Objects.{deaths, event, events, own_cells, write};
 ghost use Rattle.om_foot.specs.declared.object.Obj.TheVariants as obj;
@@ -11,13 +12,14 @@ ghost use Rattle.om_fork.specs.Barriers.{barrier};
 ghost use Rattle.om_fork.specs.Rows.{sync_of, team_at_end, begin_row, reached_row, is_misplaced_barrier, arrive_row, kept, departed, depart_row, region_end, left_records, left, left_row, leave_row};
 
 use crate::barrier::{is_open, name_barrier, put_kept};
-use om_cells::{Blocked, Context, Edit, Kind, SharedPile, Stack, Store, Tail, Team, Update, Val};
+use om_cells::{Blocked, Edit, Kind, Tail, Team, Update, Val};
 use om_code::frame::Fault;
 use om_code::instruction::Barrier;
 use om_code::raw::Slot;
 use om_events::Record;
 use om_events::kind::{Endpoint, Sync, TaskFlag};
 use om_foot::{Access, Mode, Name, Obj};
+use om_live::{Context, Stack, Store, Tape};
 use om_seq::Seq;
 use om_steps::names::{is_misplaced, name, name_events, own_cells};
 use om_steps::parts::{go_and, go_on, recorded};
@@ -30,9 +32,9 @@ pub fn begin(alloc: Global, at: At, context: &Context) -> Result<Answer, AllocEr
     ensures { IfOk result
         (λ answer. answer
         ≡ record {
-          names = (begin_row at.worker at.to context.now).names;
+          names = (begin_row at.worker at.to (plain_context context.now)).names;
           row =
-              (begin_row at.worker at.to context.now).row [];
+              (begin_row at.worker at.to (plain_context context.now)).row [];
         }) }
 {
     let begun = Record::ImplicitTask {
@@ -71,7 +73,7 @@ fn team_at_end(barrier: Barrier, team: &Name) -> Name
 
 /// Whether a barrier may not be met in a context.
 fn is_misplaced_barrier(barrier: Barrier, context: &Context) -> bool
-    ensures { result ≡ is_misplaced_barrier barrier context.now }
+    ensures { result ≡ is_misplaced_barrier barrier (plain_context context.now) }
 {
     let Barrier::Explicit = barrier else {
         return false;
@@ -124,7 +126,8 @@ fn reached_turn(
 fn reached(alloc: Global, at: At, barrier: Barrier, context: &Context) -> Result<Answer, AllocError>
     requires { context.now.phase + 1 < 2 ^ 64 }
     ensures { (s : State) → IfOk result
-        (λ answer. answer ≡ answered (reached_row at.worker at.to barrier context.now) s) }
+        (λ answer. answer ≡ answered
+        (reached_row at.worker at.to barrier (plain_context context.now)) s) }
 {
     let names = reached_names(alloc, at.worker, context.team.get())?;
     let row = reached_turn(alloc, at.to, barrier, context)?;
@@ -141,7 +144,8 @@ pub fn arrive(
 ) -> Result<Answer, AllocError>
     requires { context.now.phase + 1 < 2 ^ 64 }
     ensures { (s : State) → IfOk result
-        (λ answer. answer ≡ answered (arrive_row at.worker at.to barrier context.now) s) }
+        (λ answer. answer ≡ answered
+        (arrive_row at.worker at.to barrier (plain_context context.now)) s) }
 {
     if is_misplaced_barrier(barrier, context) {
         return Ok(Answer::decided(alloc, Row::Faults(Fault::Nesting)));
@@ -200,7 +204,7 @@ fn departed(
     context: &Context,
     opens: bool,
 ) -> Result<Row, AllocError>
-    ensures { IfOk result (λ row. row ≡ departed to barrier context.now opens) }
+    ensures { IfOk result (λ row. row ≡ departed to barrier (plain_context context.now) opens) }
 {
     if !opens {
         return Ok(Row::Blocked(Blocked::Barrier));
@@ -221,8 +225,8 @@ pub fn depart(
     context: &Context,
 ) -> Result<Answer, AllocError>
     ensures { IfOk result
-        (λ answer. answer ≡ answered (depart_row at.worker at.to barrier context.now)
-        (state_of store.now)) }
+        (λ answer. answer ≡ answered
+        (depart_row at.worker at.to barrier (plain_context context.now)) (state_of store.now)) }
 {
     let names = barrier_names(alloc, at.worker, context, &[])?;
     let opens = is_open(alloc, store, context.team.get(), context.phase);
@@ -230,19 +234,31 @@ pub fn depart(
     Ok(Answer { names, row })
 }
 
+/// The context next to the top, the first of those below; `None` exactly where there is none.
+fn next_below(below: &Tape<Box<Context>>) -> Option<&Context>
+    ensures { option_map (λ c. plain_context c.now) result
+        ≡ slice_get (map plain_held below.now.items) 0 }
+{
+    match below.get(0) {
+        Some(context) => Some(context),
+        None => None,
+    }
+}
+
 /// Appends the end of a region, where a member of number 0 leaves it.
 fn put_region_end(
     records: &mut Seq<Record>,
     team: &Team,
-    below: &SharedPile<Context>,
+    below: &Tape<Box<Context>>,
 ) -> Result<(), AllocError>
     ensures { OnOk result
-        (records.new ≡ records.old ++ region_end team.now.name team.now.number below.now) }
+        (records.new ≡ records.old
+        ++ region_end team.now.name team.now.number (map plain_held below.now.items)) }
 {
     if team.number > 0 {
         return Ok(());
     }
-    let Some(maker) = below.top() else {
+    let Some(maker) = next_below(below) else {
         return Ok(());
     };
     records.push(Record::ParallelEnd {
@@ -255,9 +271,11 @@ fn put_region_end(
 fn left_records(
     alloc: Global,
     context: &Context,
-    below: &SharedPile<Context>,
+    below: &Tape<Box<Context>>,
 ) -> Result<Seq<Record>, AllocError>
-    ensures { IfOk result (λ records. records ≡ left_records context.now below.now) }
+    ensures { IfOk result
+        (λ records. records
+        ≡ left_records (plain_context context.now) (map plain_held below.now.items)) }
 {
     let barrier_end = Record::SyncRegion {
         sync: Sync::BarrierParallel,
@@ -282,13 +300,14 @@ fn left_records(
 fn left_updates(
     alloc: Global,
     context: &Context,
-    below: &SharedPile<Context>,
+    below: &Tape<Box<Context>>,
     own: &[Access],
 ) -> Result<Seq<Update>, AllocError>
     ensures { IfOk result
         (λ updates. updates ≡ kept context.now.team.size
-        ++ (deaths own.now ++ Update.Append (Tail.Events (left_records context.now below.now))
-        ∷ [])) }
+        ++ (deaths own.now
+        ++ Update.Append (Tail.Events
+        (left_records (plain_context context.now) (map plain_held below.now.items))) ∷ [])) }
 {
     let mut updates = Seq::new(alloc);
     put_kept(&mut updates, context.team.get().size)?;
@@ -302,11 +321,13 @@ fn left_updates(
 fn left(
     alloc: Global,
     context: &Context,
-    below: &SharedPile<Context>,
+    below: &Tape<Box<Context>>,
     own: &[Access],
     opens: bool,
 ) -> Result<Row, AllocError>
-    ensures { IfOk result (λ row. row ≡ left context.now below.now own.now opens) }
+    ensures { IfOk result
+        (λ row. row
+        ≡ left (plain_context context.now) (map plain_held below.now.items) own.now opens) }
 {
     if !opens {
         return Ok(Row::Blocked(Blocked::Barrier));
@@ -326,7 +347,8 @@ fn left_answer(
     own: &[Access],
 ) -> Result<Answer, AllocError>
     ensures { IfOk result
-        (λ answer. answer ≡ answered (left_row worker stack.now.top stack.now.below own.now)
+        (λ answer. answer ≡ answered
+        (left_row worker (plain_stack stack.now).top (plain_stack stack.now).below own.now)
         (state_of store.now)) }
 {
     let context = &stack.top;
@@ -341,6 +363,7 @@ fn left_answer(
 /// The slots are those of the body that runs. The row is blocked as at DEPART, and lacks what it
 /// needs where no implicit task runs, or number 0 has no context to go back to. The only error is
 /// out of memory.
+#[tactic(auto, using(crate::proofs::Leaving::above_another, crate::proofs::Leaving::not_the_first))]
 pub fn leave(
     alloc: Global,
     store: &Store,
@@ -351,8 +374,9 @@ pub fn leave(
     requires { length slots.now ≤ 2 ^ 32 }
     ensures { IfOk result
         (λ answer. answer ≡ answered
-        (leave_row worker stack.now.top stack.now.below slots.now stack.now.top.kind
-        stack.now.top.team.number) (state_of store.now)) }
+        (leave_row worker (plain_stack stack.now).top (plain_stack stack.now).below slots.now
+        (plain_stack stack.now).top.kind (plain_stack stack.now).top.team.number)
+        (state_of store.now)) }
 {
     match stack.top.kind {
         Kind::Initial | Kind::Explicit => return Ok(Answer::decided(alloc, Row::Lacks)),

@@ -1,7 +1,8 @@
 //! FORK: a team is made.
 
 ghost use Rattle.std.specs.Prelude.{◌≡◌, ◌++◌, ◌∷◌, [], ◌+◌, ◌-◌, ◌<◌, ◌≤◌, ◌^◌, IfOk, length, None};
-ghost use Rattle.om_cells.specs.Stores.{state_of};
+ghost use Rattle.om_live.specs.Plain.{plain_context};
+ghost use Rattle.om_live.specs.Stores.{state_of};
 ghost use Rattle.om_code.specs.Frames.{int_at};
 ghost use Rattle.om_code.specs.Printing.{ints_on};
 ghost use Rattle.om_steps.specs.Rows.{answered};
@@ -11,16 +12,17 @@ ghost use Rattle.om_steps.specs.Begins.{first_frame};
 ghost use Rattle.om_fork.specs.Rows.{team_updates, forked, team_row, team_of, named_row, sized_row, fork_row};
 
 use crate::members::{busy, member, name_members, name_workers, put_given, put_members};
-use om_cells::{Blocked, Context, Edit, Frame, Shared, Store, Team, Update};
+use om_cells::{Blocked, Edit, Frame, Shared, Team, Update};
 use om_code::Body;
 use om_code::frame::Fault;
 use om_code::print::ints_on;
 use om_code::serial::int_at;
 use om_events::Record;
 use om_foot::{Access, Name};
+use om_live::{Context, Store};
 use om_seq::Seq;
 use om_steps::begin::first_frame;
-use om_steps::names::{homes_in, name_events};
+use om_steps::names::{homes_in, name_events, operands_of};
 use om_steps::updates::put_event;
 use om_steps::{Answer, Launch, Row};
 use std::alloc::{AllocError, Global};
@@ -64,7 +66,7 @@ fn level_of(size: u8, level: u8) -> u8
 fn team_of(workers: u8, context: &Context, asked: Option<u32>) -> Team
     requires births { context.now.births + 1 < 2 ^ 64 }
     requires few { length context.now.task ≤ 62 }
-    ensures { result ≡ team_of workers context.now asked }
+    ensures { result ≡ team_of workers (plain_context context.now) asked }
 {
     let size = size_of(workers, context.team.get().level, asked);
     match context.task.get().child(context.births + 1) {
@@ -177,7 +179,8 @@ fn forked(
     ensures { IfOk result
         (λ row. row ≡ forked forking.now.launch forking.now.context.now.task team.now
         (first_frame forking.now.launch.body
-        (homes_in forking.now.context.now forking.now.body.now.slots)) values.now hindrance) }
+        (homes_in (plain_context forking.now.context.now) forking.now.body.now.slots)) values.now
+        hindrance) }
 {
     if let Some(worker) = hindrance {
         return Ok(Row::Blocked(Blocked::Busy(worker)));
@@ -200,7 +203,8 @@ fn team_answer(
     requires { length team.now.name ≤ 63 }
     ensures { IfOk result
         (λ answer. answer ≡ answered
-        (team_row forking.now.worker forking.now.launch forking.now.body.now forking.now.context.now
+        (team_row forking.now.worker forking.now.launch forking.now.body.now
+        (plain_context forking.now.context.now)
         team.now values.now) (state_of store.now)) }
 {
     let given = forking.body.given.as_slice();
@@ -221,7 +225,7 @@ fn named(
     ensures { IfOk result
         (λ answer. answer ≡ answered
         (named_row forking.now.worker forking.now.workers forking.now.launch forking.now.body.now
-        forking.now.context.now asked values.now) (state_of store.now)) }
+        (plain_context forking.now.context.now) asked values.now) (state_of store.now)) }
 {
     if forking.context.task.get().as_slice().len() > 62 {
         return Ok(Answer::decided(alloc, Row::Faults(Fault::Name)));
@@ -242,7 +246,7 @@ fn sized_answer(
     ensures { IfOk result
         (λ answer. answer ≡ answered
         (sized_row forking.now.worker forking.now.workers forking.now.launch forking.now.body.now
-        forking.now.context.now size values.now) (state_of store.now)) }
+        (plain_context forking.now.context.now) size values.now) (state_of store.now)) }
 {
     let Some(size) = size else {
         return Ok(Answer::decided(alloc, Row::Lacks));
@@ -270,10 +274,12 @@ pub fn fork(
     ensures { IfOk result
         (λ answer. answer ≡ answered
         (fork_row forking.now.worker forking.now.workers forking.now.launch forking.now.body.now
-        forking.now.context.now sized (int_at values forking.now.context.now.frame.operands)
-        (ints_on values forking.now.context.now.frame.operands)) (state_of store.now)) }
+        (plain_context forking.now.context.now) sized
+        (int_at values (plain_context forking.now.context.now).frame.operands)
+        (ints_on values (plain_context forking.now.context.now).frame.operands))
+        (state_of store.now)) }
 {
-    let operands = &forking.context.frame.operands;
+    let operands = &operands_of(forking.context);
     let Some(ints) = ints_on(alloc, values as usize, operands)? else {
         return Ok(Answer::decided(alloc, Row::Lacks));
     };

@@ -2,15 +2,17 @@
 
 ghost use Rattle.std.specs.Prelude.{◌≡◌, IfOk};
 ghost use Rattle.om_cells.specs.State.{State};
-ghost use Rattle.om_cells.specs.Stores.{state_of};
+ghost use Rattle.om_live.specs.Plain.{plain_context};
+ghost use Rattle.om_live.specs.Stores.{state_of};
 ghost use Rattle.om_steps.specs.Objects.{innermost};
 ghost use Rattle.om_steps.specs.Rows.{answered};
 ghost use Rattle.om_share.specs.Rows.{ask_critical_row, lock_row, enter_critical_row, is_critical, unlock_row, leave_critical_row};
 
 use crate::parts::opened;
-use om_cells::{Blocked, Construct, Context, Edit, Store, Update, Val};
+use om_cells::{Blocked, Construct, Edit, Update, Val};
 use om_events::Record;
 use om_foot::{Mode, Obj};
+use om_live::{Context, Store};
 use om_seq::Seq;
 use om_steps::names::innermost;
 use om_steps::parts::{go_and, go_on, name_with_events, recorded, update_with_event};
@@ -73,7 +75,7 @@ pub fn enter_critical(
 
 /// Whether the innermost region is critical with this lock.
 fn is_critical(context: &Context, number: u32) -> bool
-    ensures { result ≡ is_critical number (innermost context.now.constructs) }
+    ensures { result ≡ is_critical number (innermost (plain_context context.now).constructs) }
 {
     let Some(region) = innermost(context) else {
         return false;
@@ -105,7 +107,8 @@ pub fn leave_critical(
 ) -> Result<Answer, AllocError>
     ensures { (s : State) → IfOk result
         (λ answer. answer ≡ answered
-        (leave_critical_row at.worker at.to number name.now (innermost context.now.constructs)) s) }
+        (leave_critical_row at.worker at.to number name.now
+        (innermost (plain_context context.now).constructs)) s) }
 {
     if !is_critical(context, number) {
         return Ok(Answer::decided(alloc, Row::Lacks));

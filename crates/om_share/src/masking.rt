@@ -3,13 +3,15 @@
 ghost use Rattle.std.specs.Prelude.{◌≡◌, pos, IfOk};
 ghost use Rattle.std.specs.Ordering.{int_eq};
 ghost use Rattle.om_cells.specs.State.{State};
+ghost use Rattle.om_live.specs.Plain.{plain_context};
 ghost use Rattle.om_steps.specs.Objects.{innermost};
 ghost use Rattle.om_steps.specs.Rows.{answered};
 ghost use Rattle.om_share.specs.Rows.{filtered_row, masked_row, is_masked, end_masked_row};
 
 use crate::parts::{Branch, jump, opened};
-use om_cells::{Construct, Context, Edit};
+use om_cells::{Construct, Edit};
 use om_events::{Endpoint, Record};
+use om_live::Context;
 use om_steps::names::innermost;
 use om_steps::parts::{go_and, own_events, recorded};
 use om_steps::{Answer, At, Row};
@@ -36,7 +38,7 @@ fn filter(
 ) -> Result<Answer, AllocError>
     ensures { (s : State) → IfOk result
         (λ answer. answer ≡ answered
-        (filtered_row worker branch.to branch.otherwise context.now runs) s) }
+        (filtered_row worker branch.to branch.otherwise (plain_context context.now) runs) s) }
 {
     if runs {
         let edits = opened(alloc, branch.to, 1, &Construct::Masked)?;
@@ -65,7 +67,7 @@ pub fn masked(
 ) -> Result<Answer, AllocError>
     ensures { (s : State) → IfOk result
         (λ answer. answer ≡ answered
-        (masked_row worker branch.to branch.otherwise context.now number) s) }
+        (masked_row worker branch.to branch.otherwise (plain_context context.now) number) s) }
 {
     let Some(number) = number else {
         return Ok(Answer::decided(alloc, Row::Lacks));
@@ -76,7 +78,7 @@ pub fn masked(
 
 /// Whether the innermost region is masked.
 fn is_masked(context: &Context) -> bool
-    ensures { result ≡ is_masked (innermost context.now.constructs) }
+    ensures { result ≡ is_masked (innermost (plain_context context.now).constructs) }
 {
     let Some(region) = innermost(context) else {
         return false;
@@ -88,7 +90,8 @@ fn is_masked(context: &Context) -> bool
 pub fn end_masked(alloc: Global, context: &Context, at: At) -> Result<Answer, AllocError>
     ensures { (s : State) → IfOk result
         (λ answer. answer ≡ answered
-        (end_masked_row at.worker at.to context.now (innermost context.now.constructs)) s) }
+        (end_masked_row at.worker at.to (plain_context context.now)
+        (innermost (plain_context context.now).constructs)) s) }
 {
     if !is_masked(context) {
         return Ok(Answer::decided(alloc, Row::Lacks));

@@ -1,11 +1,13 @@
 //! What the rows of worksharing, masked and critical regions are made of.
 
 ghost use Rattle.std.specs.Prelude.{◌≡◌, [], IfOk};
+ghost use Rattle.om_live.specs.Plain.{plain_context};
 ghost use Rattle.om_steps.specs.Rows.{goes};
 ghost use Rattle.om_share.specs.Rows.{edits, begun, share_of, share_in};
 
-use om_cells::{Construct, Context, Edit, Share, Shared};
+use om_cells::{Construct, Edit, Share, Shared};
 use om_events::{Endpoint, Record, Work};
+use om_live::Context;
 use om_seq::Seq;
 use om_steps::Row;
 use om_steps::names::innermost;
@@ -81,7 +83,7 @@ fn share_of(region: &Construct) -> Option<Share>
 
 /// The loop or the sections that the innermost region of a context is, if it is either.
 pub(crate) fn share_in(context: &Context) -> Option<Share>
-    ensures { result ≡ share_in context.now }
+    ensures { result ≡ share_in (plain_context context.now) }
 {
     let region = &innermost(context)?;
     share_of(region)

@@ -2,7 +2,8 @@
 
 ghost use Rattle.std.specs.Prelude.{◌≡◌, ◌<◌, ◌+◌, ◌^◌, ◌∷◌, [], true, slice_get, IfOk, IfSome};
 ghost use Rattle.om_cells.specs.State.{State};
-ghost use Rattle.om_cells.specs.Stores.{state_of};
+ghost use Rattle.om_live.specs.Plain.{plain_context};
+ghost use Rattle.om_live.specs.Stores.{state_of};
 ghost use Rattle.om_foot.specs.declared.object.Obj.TheVariants as obj;
 ghost use Rattle.om_code.specs.declared.frame.Cell.TheVariants as cell;
 ghost use Rattle.om_cells.specs.declared.value.Val.TheVariants as values;
@@ -13,11 +14,12 @@ ghost use Rattle.om_share.specs.Rows.{edits, is_right_schedule, is_right_form, l
 
 use crate::chunk::{Chunk, chunk_within, count_of, static_chunk, step_size};
 use crate::parts::{Branch, begun, jump, share_in, work_record};
-use om_cells::{Construct, Context, Edit, Share, Shared, Sharing, Store, Update, Val};
+use om_cells::{Construct, Edit, Share, Shared, Sharing, Update, Val};
 use om_code::frame::{Cell, Fault};
 use om_code::instruction::{LoopForm, Place, Schedule};
 use om_events::{Endpoint, Work};
 use om_foot::{Mode, Obj};
+use om_live::{Context, Store};
 use om_seq::Seq;
 use om_steps::names::{is_misplaced, object_of};
 use om_steps::parts::{go_and, name_one, recorded};
@@ -87,7 +89,8 @@ fn open_share(
     share: Share,
 ) -> Result<Answer, AllocError>
     ensures { (s : State) → IfOk result
-        (λ answer. answer ≡ answered (open_row at.worker at.to takes context.now share) s) }
+        (λ answer. answer ≡ answered
+        (open_row at.worker at.to takes (plain_context context.now) share) s) }
 {
     if is_misplaced(context) {
         return Ok(Answer::decided(alloc, Row::Faults(Fault::Nesting)));
@@ -113,7 +116,7 @@ pub fn open_loop(
 ) -> Result<Answer, AllocError>
     ensures { (s : State) → IfOk result
         (λ answer. answer ≡ answered
-        (loop_row at.worker at.to context.now form bounds.lower bounds.upper) s) }
+        (loop_row at.worker at.to (plain_context context.now) form bounds.lower bounds.upper) s) }
 {
     let Some(lower) = bounds.lower else {
         return Ok(Answer::decided(alloc, Row::Lacks));
@@ -136,7 +139,8 @@ pub fn open_sections(
     count: u32,
 ) -> Result<Answer, AllocError>
     ensures { (s : State) → IfOk result
-        (λ answer. answer ≡ answered (sections_row at.worker at.to context.now count) s) }
+        (λ answer. answer ≡ answered
+        (sections_row at.worker at.to (plain_context context.now) count) s) }
 {
     let share = Share {
         sharing: Sharing::Sections,
@@ -218,8 +222,8 @@ fn grab_static(
     size: Option<u32>,
 ) -> Result<Answer, AllocError>
     ensures { (s : State) → IfOk result
-        (λ answer. answer ≡ answered (static_row branch.to branch.otherwise context.now share size)
-        s) }
+        (λ answer. answer ≡ answered
+        (static_row branch.to branch.otherwise (plain_context context.now) share size) s) }
 {
     let team = context.team.get();
     if team.number >= team.size {
@@ -267,7 +271,8 @@ pub fn grab(
 ) -> Result<Answer, AllocError>
     ensures { IfOk result
         (λ answer. answer ≡ answered
-        (grab_row branch.to branch.otherwise context.now (share_in context.now))
+        (grab_row branch.to branch.otherwise (plain_context context.now)
+        (share_in (plain_context context.now)))
         (state_of store.now)) }
 {
     let Some(share) = share_in(context) else {
@@ -331,7 +336,7 @@ fn next_iteration(
 ) -> Result<Answer, AllocError>
     ensures { (s : State) → IfOk result
         (λ answer. answer ≡ answered
-        (iteration_row branch.to branch.otherwise context.now slot share) s) }
+        (iteration_row branch.to branch.otherwise (plain_context context.now) slot share) s) }
 {
     if share.next >= share.end {
         let row = jump(alloc, branch.otherwise, 0)?;
@@ -356,7 +361,8 @@ pub fn iterate(
 ) -> Result<Answer, AllocError>
     ensures { (s : State) → IfOk result
         (λ answer. answer ≡ answered
-        (iterate_row branch.to branch.otherwise context.now slot (share_in context.now)) s) }
+        (iterate_row branch.to branch.otherwise (plain_context context.now) slot
+        (share_in (plain_context context.now))) s) }
 {
     let Some(share) = share_in(context) else {
         return Ok(Answer::decided(alloc, Row::Lacks));
@@ -387,7 +393,8 @@ fn go_to_section(alloc: Global, targets: &[u32], section: u64) -> Result<Row, Al
 /// PICK: goes to the target of the section that was taken.
 pub fn pick(alloc: Global, context: &Context, targets: &[u32]) -> Result<Answer, AllocError>
     ensures { (s : State) → IfOk result
-        (λ answer. answer ≡ answered (pick_row targets.now (share_in context.now)) s) }
+        (λ answer. answer ≡ answered
+        (pick_row targets.now (share_in (plain_context context.now))) s) }
 {
     let Some(share) = share_in(context) else {
         return Ok(Answer::decided(alloc, Row::Lacks));

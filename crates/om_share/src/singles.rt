@@ -2,17 +2,19 @@
 
 ghost use Rattle.std.specs.Prelude.{◌≡◌, true, false, IfOk};
 ghost use Rattle.om_cells.specs.State.{State};
-ghost use Rattle.om_cells.specs.Stores.{state_of};
+ghost use Rattle.om_live.specs.Plain.{plain_context};
+ghost use Rattle.om_live.specs.Stores.{state_of};
 ghost use Rattle.om_steps.specs.Objects.{innermost};
 ghost use Rattle.om_steps.specs.Rows.{answered};
 ghost use Rattle.om_share.specs.Rows.{single_work, chosen_row, single_row, closed_row, end_worksharing_row};
 
 use crate::parts::{Branch, begun, work_record};
 use crate::shares::work_of;
-use om_cells::{Construct, Context, Edit, Store, Update, Val};
+use om_cells::{Construct, Edit, Update, Val};
 use om_code::frame::Fault;
 use om_events::{Endpoint, Work};
 use om_foot::{Mode, Obj};
+use om_live::{Context, Store};
 use om_steps::names::{innermost, is_misplaced};
 use om_steps::parts::{go_and, name_with_events, recorded, update_with_event};
 use om_steps::{Answer, At, Row};
@@ -31,7 +33,7 @@ fn single_work(runs: bool) -> Work
 
 /// The row of the thread that runs a single region.
 fn run(alloc: Global, context: &Context, to: u32) -> Result<Row, AllocError>
-    ensures { IfOk result (λ row. row ≡ chosen_row to to context.now true) }
+    ensures { IfOk result (λ row. row ≡ chosen_row to to (plain_context context.now) true) }
 {
     let region = &Construct::Single { runs: true };
     let edits = begun(alloc, to, 0, region)?;
@@ -42,7 +44,8 @@ fn run(alloc: Global, context: &Context, to: u32) -> Result<Row, AllocError>
 
 /// The row of any other thread.
 fn pass(alloc: Global, context: &Context, otherwise: u32) -> Result<Row, AllocError>
-    ensures { IfOk result (λ row. row ≡ chosen_row otherwise otherwise context.now false) }
+    ensures { IfOk result
+        (λ row. row ≡ chosen_row otherwise otherwise (plain_context context.now) false) }
 {
     let region = &Construct::Single { runs: false };
     let edits = begun(alloc, otherwise, 0, region)?;
@@ -59,7 +62,7 @@ fn choose(
     is_first: bool,
 ) -> Result<Row, AllocError>
     ensures { IfOk result
-        (λ row. row ≡ chosen_row branch.to branch.otherwise context.now is_first) }
+        (λ row. row ≡ chosen_row branch.to branch.otherwise (plain_context context.now) is_first) }
 {
     if is_first {
         run(alloc, context, branch.to)
@@ -77,7 +80,8 @@ pub fn single(
     branch: Branch,
 ) -> Result<Answer, AllocError>
     ensures { IfOk result
-        (λ answer. answer ≡ answered (single_row worker branch.to branch.otherwise context.now)
+        (λ answer. answer ≡ answered
+        (single_row worker branch.to branch.otherwise (plain_context context.now))
         (state_of store.now)) }
 {
     if is_misplaced(context) {
@@ -102,7 +106,8 @@ fn close(
     count: u64,
 ) -> Result<Answer, AllocError>
     ensures { (s : State) → IfOk result
-        (λ answer. answer ≡ answered (closed_row at.worker at.to context.now work count) s) }
+        (λ answer. answer ≡ answered
+        (closed_row at.worker at.to (plain_context context.now) work count) s) }
 {
     let edits = go_and(alloc, at.to, 0, Edit::Close)?;
     let entry = work_record(context, work, Endpoint::End, count);
@@ -113,7 +118,8 @@ fn close(
 pub fn end_worksharing(alloc: Global, context: &Context, at: At) -> Result<Answer, AllocError>
     ensures { (s : State) → IfOk result
         (λ answer. answer ≡ answered
-        (end_worksharing_row at.worker at.to context.now (innermost context.now.constructs)) s) }
+        (end_worksharing_row at.worker at.to (plain_context context.now)
+        (innermost (plain_context context.now).constructs)) s) }
 {
     let Some(region) = innermost(context) else {
         return Ok(Answer::decided(alloc, Row::Lacks));

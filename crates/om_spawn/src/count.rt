@@ -2,11 +2,13 @@
 
 ghost use Rattle.std.specs.Prelude.{◌≡◌, ◌++◌, ◌∷◌, [], OnOk};
 ghost use Rattle.om_foot.specs.declared.object.Obj.TheVariants as obj;
+ghost use Rattle.om_live.specs.Plain.{plain_context};
 ghost use Rattle.om_steps.specs.Objects.{add};
 ghost use Rattle.om_spawn.specs.Tasks.{group_count, counts, additions};
 
-use om_cells::{Context, Update};
+use om_cells::Update;
 use om_foot::{Access, Mode, Name, Obj};
+use om_live::Context;
 use om_seq::Seq;
 use om_steps::names::name;
 use std::alloc::AllocError;
@@ -29,7 +31,8 @@ pub(crate) fn name_counts(
     context: &Context,
     group: &Option<Name>,
 ) -> Result<(), AllocError>
-    ensures { OnOk result (names.new ≡ names.old ++ counts parent.now context.now group.now) }
+    ensures { OnOk result
+        (names.new ≡ names.old ++ counts parent.now (plain_context context.now) group.now) }
 {
     let pending = Obj::Pending {
         team: context.team.get().name,

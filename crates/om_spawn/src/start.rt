@@ -2,15 +2,17 @@
 
 ghost use Rattle.std.specs.Prelude.{◌≡◌, ◌∷◌, [], IfOk, option_map};
 ghost use Rattle.om_foot.specs.declared.object.Obj.TheVariants as obj;
-ghost use Rattle.om_cells.specs.Stores.{state_of};
+ghost use Rattle.om_live.specs.Plain.{plain_context};
+ghost use Rattle.om_live.specs.Stores.{state_of};
 ghost use Rattle.om_cells.specs.Values.{task_in};
 ghost use Rattle.om_steps.specs.Rows.{answered};
 ghost use Rattle.om_spawn.specs.Tasks.{task_context};
 ghost use Rattle.om_spawn.specs.Rows.{begun_updates, ready_for, start_row};
 
-use om_cells::{Blocked, Context, Edit, Kind, Ready, Shared, Store, Task, Update, Val};
+use om_cells::{Blocked, Context as PlainContext, Edit, Kind, Ready, Shared, Task, Update, Val};
 use om_events::{Record, TaskStatus};
 use om_foot::{Mode, Name, Obj};
+use om_live::{Context, Store};
 use om_seq::Seq;
 use om_steps::begin::{Standing, first_frame, new_context};
 use om_steps::parts::{name_with_events, update_with_event};
@@ -56,8 +58,9 @@ fn task_context(
     name: &Name,
     on: &Context,
     ready: &Ready,
-) -> Result<Context, AllocError>
-    ensures { IfOk result (λ context. context ≡ task_context name.now on.now ready.now) }
+) -> Result<PlainContext, AllocError>
+    ensures { IfOk result
+        (λ context. context ≡ task_context name.now (plain_context on.now) ready.now) }
 {
     let standing = task_standing(alloc, name, on, ready)?;
     let frame = first_frame(alloc, ready.body, ready.homes.copy()?);
@@ -90,7 +93,8 @@ fn beginning(
     ready: &Ready,
 ) -> Result<Seq<Edit>, AllocError>
     ensures { IfOk result
-        (λ edits. edits ≡ Edit.BeginContext (task_context name.now on.now ready.now) ∷ []) }
+        (λ edits. edits ≡ Edit.BeginContext (task_context name.now (plain_context on.now) ready.now)
+        ∷ []) }
 {
     let context = Shared::of(alloc, task_context(alloc, name, on, ready)?)?;
     Seq::one(alloc, Edit::BeginContext(context))
@@ -123,7 +127,7 @@ pub fn start(
     on: &Context,
 ) -> Result<Answer, AllocError>
     ensures { IfOk result
-        (λ answer. answer ≡ answered (start_row starting.now name.now on.now)
+        (λ answer. answer ≡ answered (start_row starting.now name.now (plain_context on.now))
         (state_of store.now)) }
 {
     let Some(status) = starting.status else {

@@ -1,24 +1,26 @@
 //! The rows that make and end explicit tasks.
 
-ghost use Rattle.std.specs.Prelude.{◌≡◌, ◌∷◌, [], ◌+◌, ◌<◌, ◌≤◌, ◌^◌, ◌++◌, IfOk, OnOk, length};
+ghost use Rattle.std.specs.Prelude.{◌≡◌, ◌∷◌, [], ◌+◌, ◌<◌, ◌≤◌, ◌^◌, ◌++◌, IfOk, OnOk, length, map, option_map, slice_get};
 ghost use Rattle.om_foot.specs.Names.{parent_of};
 ghost use Rattle.om_cells.specs.State.{State};
 ghost use Rattle.om_cells.specs.declared.value.Task.TheVariants as task;
 ghost use Rattle.om_cells.specs.declared.value.Val.TheVariants as value;
+ghost use Rattle.om_live.specs.Plain.{plain_context, plain_held, plain_stack};
 ghost use Rattle.om_steps.specs.Rows.{answered};
 ghost use Rattle.om_spawn.specs.Tasks.{born, ready_of};
 ghost use Rattle.om_spawn.specs.Rows.{made_names, values_given, made_row, spawn_row, ended_names, ended_updates, task_end_row, task_yield_row};
 
 use crate::count::{add_to_counts, name_counts};
-use om_cells::{Context, Edit, Kind, Ready, Shared, Stack, Task, Update, Val};
+use om_cells::{Edit, Kind, Ready, Shared, Task, Update, Val};
 use om_code::Body;
 use om_code::frame::Fault;
 use om_code::print::ints_on;
 use om_code::raw::Slot;
 use om_events::{Record, TaskStatus};
 use om_foot::{Access, Mode, Name, Obj};
+use om_live::{Context, Stack, Tape};
 use om_seq::Seq;
-use om_steps::names::{group_of, homes_in, name_events, name_given, own_cells};
+use om_steps::names::{group_of, homes_in, name_events, name_given, operands_of, own_cells};
 use om_steps::parts::{go_and, name_one};
 use om_steps::updates::{put_deaths, put_event, put_ints};
 use om_steps::{Answer, Launch, Row};
@@ -43,7 +45,8 @@ fn made_names(
     context: &Context,
     new: &Name,
 ) -> Result<Seq<Access>, AllocError>
-    ensures { IfOk result (λ names. names ≡ made_names worker body.now context.now new.now) }
+    ensures { IfOk result
+        (λ names. names ≡ made_names worker body.now (plain_context context.now) new.now) }
 {
     let mut names = name_one(alloc, &Obj::Task(*new), Mode::Write)?;
     name_given(&mut names, new, 0, body.given.as_slice())?;
@@ -59,7 +62,8 @@ fn ready_of(
     body: &Body,
     context: &Context,
 ) -> Result<Ready, AllocError>
-    ensures { IfOk result (λ ready. ready ≡ ready_of making.now body.now context.now) }
+    ensures { IfOk result
+        (λ ready. ready ≡ ready_of making.now body.now (plain_context context.now)) }
 {
     let homes = homes_in(alloc, context, body.slots.as_slice())?;
     let homes = Shared::of(alloc, homes)?;
@@ -84,7 +88,7 @@ fn give_values(
     values: &[i32],
 ) -> Result<(), AllocError>
     ensures { OnOk result
-        (updates.new ≡ updates.old ++ values_given context.now new.now values.now) }
+        (updates.new ≡ updates.old ++ values_given (plain_context context.now) new.now values.now) }
 {
     let entry = Record::TaskCreate {
         task: *context.task.get(),
@@ -104,7 +108,7 @@ fn put_ready(
 ) -> Result<Seq<Update>, AllocError>
     ensures { IfOk result
         (λ updates. updates ≡ Update.Put
-        (value.Task (task.Ready (ready_of making.now body.now context.now))) ∷ []) }
+        (value.Task (task.Ready (ready_of making.now body.now (plain_context context.now)))) ∷ []) }
 {
     let ready = ready_of(alloc, making, body, context)?;
     let ready = Shared::of(alloc, ready)?;
@@ -122,7 +126,8 @@ fn made(
     requires { context.now.births + 1 < 2 ^ 64 }
     ensures { IfOk result
         (λ answer. (s : State) → answer
-        ≡ answered (made_row making.now body.now context.now values.now (born context.now)) s) }
+        ≡ answered (made_row making.now body.now (plain_context context.now) values.now
+        (born (plain_context context.now))) s) }
 {
     let Some(new) = &context.task.get().child(context.births + 1) else {
         return Ok(Answer::decided(alloc, Row::Faults(Fault::Name)));
@@ -151,9 +156,10 @@ pub fn spawn(
 ) -> Result<Answer, AllocError>
     requires { context.now.births + 1 < 2 ^ 64 }
     ensures { IfOk result
-        (λ answer. (s : State) → answer ≡ answered (spawn_row making.now body.now context.now) s) }
+        (λ answer. (s : State) → answer ≡ answered
+        (spawn_row making.now body.now (plain_context context.now)) s) }
 {
-    let operands = &context.frame.operands;
+    let operands = &operands_of(context);
     match ints_on(alloc, making.launch.takes as usize, operands)? {
         Some(values) => made(alloc, making, body, context, values.as_slice()),
         None => Ok(Answer::decided(alloc, Row::Lacks)),
@@ -168,7 +174,8 @@ fn ended_names(
     own: Seq<Access>,
     parent: &Name,
 ) -> Result<Seq<Access>, AllocError>
-    ensures { IfOk result (λ names. names ≡ ended_names worker context.now own parent.now) }
+    ensures { IfOk result
+        (λ names. names ≡ ended_names worker (plain_context context.now) own parent.now) }
 {
     let mut names = name_one(alloc, &Obj::Task(*context.task.get()), Mode::Write)?;
     names.append(own)?;
@@ -184,7 +191,8 @@ fn ended_updates(
     own: &[Access],
     next: &Name,
 ) -> Result<Seq<Update>, AllocError>
-    ensures { IfOk result (λ updates. updates ≡ ended_updates context.now own.now next.now) }
+    ensures { IfOk result
+        (λ updates. updates ≡ ended_updates (plain_context context.now) own.now next.now) }
 {
     let entry = Record::TaskSchedule {
         prior: *context.task.get(),
@@ -205,6 +213,17 @@ fn parent_of(context: &Context) -> Option<Name>
     context.task.get().parent()
 }
 
+/// The context next to the top, the first of those below; `None` exactly where there is none.
+fn next_below(below: &Tape<Box<Context>>) -> Option<&Context>
+    ensures { option_map (λ c. plain_context c.now) result
+        ≡ slice_get (map plain_held below.now.items) 0 }
+{
+    match below.get(0) {
+        Some(context) => Some(context),
+        None => None,
+    }
+}
+
 /// The row of the end of a task, above a context that goes on.
 fn ended(
     alloc: Global,
@@ -214,7 +233,7 @@ fn ended(
 ) -> Result<Row, AllocError>
     ensures { IfOk result
         (λ row. row ≡ Row.Goes (Edit.EndContext ∷ [])
-        (ended_updates context.now own.now next.now.task)) }
+        (ended_updates (plain_context context.now) own.now next.now.task)) }
 {
     let updates = ended_updates(alloc, context, own, next.task.get())?;
     let edits = Seq::one(alloc, Edit::EndContext)?;
@@ -232,13 +251,14 @@ pub fn task_end(
 ) -> Result<Answer, AllocError>
     requires { length slots.now ≤ 2 ^ 32 }
     ensures { IfOk result
-        (λ answer. (s : State) → answer ≡ answered (task_end_row worker stack.now slots.now) s) }
+        (λ answer. (s : State) → answer ≡ answered
+        (task_end_row worker (plain_stack stack.now) slots.now) s) }
 {
     let context = &stack.top;
     let (Kind::Explicit, Some(parent), Some(next)) = (
         context.kind,
         &parent_of(context),
-        stack.below.top(),
+        next_below(&stack.below),
     ) else {
         return Ok(Answer::decided(alloc, Row::Lacks));
     };

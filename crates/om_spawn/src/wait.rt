@@ -4,16 +4,18 @@ ghost use Rattle.std.specs.Prelude.{◌≡◌, ◌∷◌, [], ◌+◌, ◌<◌, 
 ghost use Rattle.om_events.specs.declared.kind.Endpoint.TheVariants as endpoint;
 ghost use Rattle.om_events.specs.declared.kind.Sync.TheVariants as sync;
 ghost use Rattle.om_cells.specs.State.{State};
-ghost use Rattle.om_cells.specs.Stores.{state_of};
+ghost use Rattle.om_live.specs.Plain.{plain_context};
+ghost use Rattle.om_live.specs.Stores.{state_of};
 ghost use Rattle.om_steps.specs.Rows.{answered};
 ghost use Rattle.om_steps.specs.Objects.{innermost};
 ghost use Rattle.om_spawn.specs.Tasks.{born, innermost_group};
 ghost use Rattle.om_spawn.specs.Rows.{sync_event, wait_begin_row, waited, wait_end_row, group_begin_row, closed, group_end_row};
 
-use om_cells::{Blocked, Construct, Context, Edit, Shared, Store, Update};
+use om_cells::{Blocked, Construct, Edit, Shared, Update};
 use om_code::frame::Fault;
 use om_events::{Endpoint, Record, Sync};
 use om_foot::{Mode, Name, Obj};
+use om_live::{Context, Store};
 use om_seq::Seq;
 use om_steps::counts::is_zero;
 use om_steps::names::innermost;
@@ -23,7 +25,7 @@ use std::alloc::{AllocError, Global};
 
 /// What a context's task records where it begins and ends to wait.
 fn sync_event(sync: Sync, endpoint: Endpoint, context: &Context) -> Record
-    ensures { result ≡ sync_event sync endpoint context.now }
+    ensures { result ≡ sync_event sync endpoint (plain_context context.now) }
 {
     Record::SyncRegion {
         sync,
@@ -43,7 +45,8 @@ pub fn wait_begin(
     context: &Context,
 ) -> Result<Answer, AllocError>
     ensures { IfOk result
-        (λ answer. (s : State) → answer ≡ answered (wait_begin_row worker to context.now) s) }
+        (λ answer. (s : State) → answer ≡ answered
+        (wait_begin_row worker to (plain_context context.now)) s) }
 {
     let edits = go_on(alloc, to)?;
     let entry = sync_event(Sync::TaskWait, Endpoint::Begin, context);
@@ -52,7 +55,7 @@ pub fn wait_begin(
 
 /// What comes of a task that waits for its children.
 fn waited(alloc: Global, to: u32, context: &Context, is_over: bool) -> Result<Row, AllocError>
-    ensures { IfOk result (λ row. row ≡ waited to context.now is_over) }
+    ensures { IfOk result (λ row. row ≡ waited to (plain_context context.now) is_over) }
 {
     if !is_over {
         return Ok(Row::Blocked(Blocked::Children));
@@ -73,7 +76,8 @@ pub fn wait_end(
     context: &Context,
 ) -> Result<Answer, AllocError>
     ensures { IfOk result
-        (λ answer. answer ≡ answered (wait_end_row worker to context.now) (state_of store.now)) }
+        (λ answer. answer ≡ answered (wait_end_row worker to (plain_context context.now))
+        (state_of store.now)) }
 {
     let kids = &Obj::Kids(*context.task.get());
     let row = waited(alloc, to, context, is_zero(alloc, store, kids))?;
@@ -104,7 +108,8 @@ pub fn group_begin(
 ) -> Result<Answer, AllocError>
     requires { context.now.births + 1 < 2 ^ 64 }
     ensures { IfOk result
-        (λ answer. (s : State) → answer ≡ answered (group_begin_row worker to context.now) s) }
+        (λ answer. (s : State) → answer ≡ answered
+        (group_begin_row worker to (plain_context context.now)) s) }
 {
     let Some(group) = &context.task.get().child(context.births + 1) else {
         return Ok(Answer::decided(alloc, Row::Faults(Fault::Name)));
@@ -116,7 +121,7 @@ pub fn group_begin(
 
 /// What comes of a task that waits for the tasks of a group.
 fn closed(alloc: Global, to: u32, context: &Context, is_over: bool) -> Result<Row, AllocError>
-    ensures { IfOk result (λ row. row ≡ closed to context.now is_over) }
+    ensures { IfOk result (λ row. row ≡ closed to (plain_context context.now) is_over) }
 {
     if !is_over {
         return Ok(Row::Blocked(Blocked::Group));
@@ -129,7 +134,7 @@ fn closed(alloc: Global, to: u32, context: &Context, is_over: bool) -> Result<Ro
 
 /// The name of the task group that is the innermost open region of a context, if that is one.
 fn innermost_group(context: &Context) -> Option<Name>
-    ensures { result ≡ innermost_group (innermost context.now.constructs) }
+    ensures { result ≡ innermost_group (innermost (plain_context context.now).constructs) }
 {
     let region = &innermost(context)?;
     let Construct::Group(group) = region else {
@@ -150,7 +155,8 @@ pub fn group_end(
     context: &Context,
 ) -> Result<Answer, AllocError>
     ensures { IfOk result
-        (λ answer. answer ≡ answered (group_end_row worker to context.now) (state_of store.now)) }
+        (λ answer. answer ≡ answered (group_end_row worker to (plain_context context.now))
+        (state_of store.now)) }
 {
     let Some(group) = &innermost_group(context) else {
         return Ok(Answer::decided(alloc, Row::Lacks));

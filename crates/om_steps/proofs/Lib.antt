@@ -1,2 +1,3 @@
 mod Lists
 mod CountLemmas
+pub mod Returns

@@ -4,21 +4,23 @@ ghost use Rattle.std.specs.Prelude.{◌≡◌, ◌++◌, ◌<◌, ◌+◌, ◌^�
 ghost use Rattle.om_foot.specs.declared.object.Obj.TheVariants as obj;
 ghost use Rattle.om_code.specs.Places.{slots_of};
 ghost use Rattle.om_code.specs.Validity.{NamesKnown};
-ghost use Rattle.om_cells.specs.Stores.{state_of};
+ghost use Rattle.om_live.specs.Plain.{plain_context};
+ghost use Rattle.om_live.specs.Stores.{state_of};
 ghost use Rattle.om_steps.specs.Rows.{answered};
 ghost use Rattle.om_steps.specs.Objects.{read, write};
 ghost use Rattle.om_steps.specs.SerialRows.{row_of, unsets, cleared, serial_row, slots_in};
 
-use crate::names::{name, name_slot, object_of};
+use crate::names::{name, name_slot, object_of, operands_of};
 use crate::updates::put_cell;
 use crate::{Answer, Row};
-use om_cells::{Context, Edit, Store, Tail, Update, Val};
+use om_cells::{Edit, Tail, Update, Val};
 use om_code::frame::Cell;
 use om_code::print::print_bytes;
 use om_code::raw::Slot;
 use om_code::serial::{Touch, Turn, touch_of, turn_of};
 use om_code::{Instr, Raw};
 use om_foot::{Access, Mode, Obj};
+use om_live::{Context, Store};
 use om_seq::Seq;
 use std::alloc::{AllocError, Global};
 
@@ -97,8 +99,9 @@ fn clearing(
     slot: u32,
     turn: Turn,
 ) -> Result<Answer, AllocError>
-    requires { context.now.frame.next + 1 < 2 ^ 32 }
-    ensures { IfOk result (λ answer. answer ≡ cleared raw.now context.now slot turn) }
+    requires { (plain_context context.now).frame.next + 1 < 2 ^ 32 }
+    ensures { IfOk result
+        (λ answer. answer ≡ cleared raw.now (plain_context context.now) slot turn) }
 {
     let cells = cells_of(slots_of(raw, context.frame.body), slot);
     let mut names = Seq::new(alloc);
@@ -136,13 +139,14 @@ pub fn serial(
     context: &Context,
     instr: Instr,
 ) -> Result<Answer, AllocError>
-    requires names { NamesKnown raw.now (slots_in raw.now context.now) instr }
-    requires next { context.now.frame.next + 1 < 2 ^ 32 }
+    requires names { NamesKnown raw.now (slots_in raw.now (plain_context context.now)) instr }
+    requires next { (plain_context context.now).frame.next + 1 < 2 ^ 32 }
     ensures { IfOk result
-        (λ answer. answer ≡ answered (serial_row raw.now context.now instr) (state_of store.now)) }
+        (λ answer. answer ≡ answered (serial_row raw.now (plain_context context.now) instr)
+        (state_of store.now)) }
 {
     let slots = slots_of(raw, context.frame.body);
-    let operands = &context.frame.operands;
+    let operands = &operands_of(context);
     let next = context.frame.next;
     match touch_of(raw, slots, instr, operands) {
         Touch::Nothing => {

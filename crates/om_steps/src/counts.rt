@@ -2,11 +2,11 @@
 
 ghost use Rattle.std.specs.Prelude.{◌≡◌};
 ghost use Rattle.om_cells.specs.Values.{count_in};
-ghost use Rattle.om_cells.specs.Stores.{state_of};
+ghost use Rattle.om_live.specs.Stores.{state_of};
 ghost use Rattle.om_steps.specs.Rows.{is_zero};
 
-use om_cells::Store;
 use om_foot::Obj;
+use om_live::Store;
 use std::alloc::Global;
 
 /// The count that an object holds, or 0.

@@ -2,7 +2,8 @@
 
 ghost use Rattle.std.specs.Prelude.{◌≡◌, ◌<◌, ◌≤◌, ◌+◌, ◌^◌, IfOk, length, option_map};
 ghost use Rattle.om_cells.specs.State.{State};
-ghost use Rattle.om_cells.specs.Stores.{state_of};
+ghost use Rattle.om_live.specs.Plain.{plain_context};
+ghost use Rattle.om_live.specs.Stores.{state_of};
 ghost use Rattle.om_steps.specs.Rows.{answered};
 ghost use Rattle.om_steps.specs.SerialRows.{number_row, call_row, return_row, reduced, reduce_row};
 
@@ -10,12 +11,13 @@ use crate::acts::{read, write};
 use crate::names::{homes_in, name, name_given, object_of, own_cells};
 use crate::updates::{put_cell, put_deaths, put_ints};
 use crate::{Answer, Launch, Row};
-use om_cells::{Context, Edit, Shared, Store, Update};
+use om_cells::{Edit, Shared, Update};
 use om_code::Body;
 use om_code::arithmetic::combine;
 use om_code::frame::{Cell, Fault, Operand};
 use om_code::instruction::{Place, Reduction};
 use om_code::raw::Slot;
+use om_live::{Context, Store};
 use om_seq::Seq;
 use std::alloc::{AllocError, Global};
 
@@ -24,9 +26,10 @@ const MAX_CALLERS: usize = 999;
 
 /// TNUM, TSIZE: a number of threads is pushed.
 pub fn number(alloc: Global, context: &Context, number: u8) -> Result<Answer, AllocError>
-    requires { context.now.frame.next + 1 < 2 ^ 32 }
+    requires { (plain_context context.now).frame.next + 1 < 2 ^ 32 }
     ensures { IfOk result
-        (λ answer. (s : State) → answer ≡ answered (number_row context.now number) s) }
+        (λ answer. (s : State) → answer
+        ≡ answered (number_row (plain_context context.now) number) s) }
 {
     let to = context.frame.next + 1;
     let pushed = Some(Operand::Int(i32::from(number)));
@@ -44,7 +47,8 @@ pub fn call(
 ) -> Result<Answer, AllocError>
     ensures { IfOk result
         (λ answer. (s : State) → answer
-        ≡ answered (call_row launch body.now context.now (option_map (λ v. v.items) values)) s) }
+        ≡ answered (call_row launch body.now (plain_context context.now)
+        (option_map (λ v. v.items) values)) s) }
 {
     let Some(values) = values else {
         return Ok(Answer::decided(alloc, Row::Lacks));
@@ -77,6 +81,7 @@ pub fn call(
 }
 
 /// RET, RETN: the frame ends, with a value for the one that called it.
+#[tactic(auto, using(crate::proofs::Returns::gives))]
 pub fn give_back(
     alloc: Global,
     context: &Context,
@@ -86,7 +91,8 @@ pub fn give_back(
     requires { length slots.now ≤ 2 ^ 32 }
     ensures { IfOk result
         (λ answer. (s : State) → answer
-        ≡ answered (return_row context.now slots.now context.now.callers value) s) }
+        ≡ answered (return_row (plain_context context.now) slots.now
+        (plain_context context.now).callers value) s) }
 {
     let (Some(value), false) = (value, context.callers.is_empty()) else {
         return Ok(Answer::decided(alloc, Row::Lacks));
@@ -134,9 +140,10 @@ pub fn reduce(
     reduction: Reduction,
     operands: (u32, Place),
 ) -> Result<Answer, AllocError>
-    requires { context.now.frame.next + 1 < 2 ^ 32 }
+    requires { (plain_context context.now).frame.next + 1 < 2 ^ 32 }
     ensures { IfOk result
-        (λ answer. answer ≡ answered (reduce_row context.now reduction operands.0 operands.1)
+        (λ answer. answer ≡ answered
+        (reduce_row (plain_context context.now) reduction operands.0 operands.1)
         (state_of store.now)) }
 {
     let (copy, place) = operands;

@@ -1,13 +1,16 @@
 //! The objects that instructions name.
 
-ghost use Rattle.std.specs.Prelude.{◌≡◌, ◌++◌, ◌∷◌, [], ◌≤◌, ◌^◌, IfOk, OnOk, length};
+ghost use Rattle.std.specs.Prelude.{◌≡◌, ◌++◌, ◌∷◌, [], ◌≤◌, ◌^◌, IfOk, OnOk, length, option_map, slice_get};
+ghost use Rattle.om_live.specs.Plain.{plain_context};
 ghost use Rattle.om_steps.specs.Objects.{read, write, object_of, slot_cells, given_cells, own_slot, own_cells, home_at, home_from, home_for, homes_for, homes_in, innermost, group_name, group_in, is_in_region, is_misplaced_in, is_misplaced};
 ghost use Rattle.om_foot.specs.declared.object.Obj.TheVariants as obj;
 
-use om_cells::{Construct, Context, Home, Kind, SharedPile};
+use om_cells::{Construct, Home, Kind, Shared};
+use om_code::frame::Operands;
 use om_code::instruction::Place;
 use om_code::raw::{Slot, Source};
 use om_foot::{Access, Mode, Name, Obj};
+use om_live::{Context, Tape};
 use om_seq::Seq;
 use std::alloc::{AllocError, Global};
 
@@ -27,7 +30,7 @@ pub fn name_events(names: &mut Seq<Access>, worker: u8) -> Result<(), AllocError
 
 /// The object of a variable's cell, in the running frame of a context.
 pub fn object_of(context: &Context, place: Place, index: u32) -> Obj
-    ensures { result ≡ object_of context.now place index }
+    ensures { result ≡ object_of (plain_context context.now) place index }
 {
     match place {
         Place::Global(variable) => Obj::Global { variable, index },
@@ -60,8 +63,9 @@ pub fn name_slot(
     cells: u32,
 ) -> Result<(), AllocError>
     ensures { OnOk result
-        (names.new ≡ names.old ++ slot_cells context.now.task context.now.frame.ordinal slot
-        (home_at context.now.frame.homes slot) 0 cells) }
+        (names.new ≡ names.old ++ slot_cells (plain_context context.now).task
+        (plain_context context.now).frame.ordinal slot
+        (home_at (plain_context context.now).frame.homes slot) 0 cells) }
 {
     let home = &home_at(context.frame.homes.get().as_slice(), slot);
     for index in 0..cells {
@@ -100,8 +104,8 @@ fn name_own(
     cells: u32,
 ) -> Result<(), AllocError>
     ensures { OnOk result
-        (own.new ≡ own.old ++ own_slot context.now slot cells
-        (home_at context.now.frame.homes slot)) }
+        (own.new ≡ own.old ++ own_slot (plain_context context.now) slot cells
+        (home_at (plain_context context.now).frame.homes slot)) }
 {
     let Home::Own = home_at(context.frame.homes.get().as_slice(), slot) else {
         return Ok(());
@@ -116,7 +120,7 @@ pub fn own_cells(
     slots: &[Slot],
 ) -> Result<Seq<Access>, AllocError>
     requires { length slots.now ≤ 2 ^ 32 }
-    ensures { IfOk result (λ own. own ≡ own_cells context.now slots.now) }
+    ensures { IfOk result (λ own. own ≡ own_cells (plain_context context.now) slots.now) }
 {
     let mut own = Seq::new(alloc);
     for (number, slot) in slots.iter().enumerate() {
@@ -169,7 +173,7 @@ pub fn homes_for(
 
 /// The same from the running frame of a context.
 pub fn homes_in(alloc: Global, context: &Context, slots: &[Slot]) -> Result<Seq<Home>, AllocError>
-    ensures { IfOk result (λ all. all ≡ homes_in context.now slots.now) }
+    ensures { IfOk result (λ all. all ≡ homes_in (plain_context context.now) slots.now) }
 {
     let frame = &context.frame;
     homes_for(
@@ -181,11 +185,28 @@ pub fn homes_in(alloc: Global, context: &Context, slots: &[Slot]) -> Result<Seq<
     )
 }
 
+/// The operands of the running frame of a context.
+pub fn operands_of(context: &Context) -> Operands<'_>
+    ensures { result ≡ (plain_context context.now).frame.operands }
+{
+    Operands::of(context.frame.operands.as_slice())
+}
+
+/// The region at this depth, the innermost one at 0; `None` exactly where there is none.
+fn region_at(constructs: &Tape<Shared<Construct>>, depth: usize) -> Option<&Construct>
+    ensures { option_map (λ t. t.now) result ≡ slice_get constructs.now.items depth }
+{
+    match constructs.get(depth) {
+        Some(construct) => Some(construct.get()),
+        None => None,
+    }
+}
+
 /// The innermost open region of a context.
 pub fn innermost(context: &Context) -> Option<Construct>
-    ensures { result ≡ innermost context.now.constructs }
+    ensures { result ≡ innermost (plain_context context.now).constructs }
 {
-    context.constructs.top().copied()
+    region_at(&context.constructs, 0).copied()
 }
 
 /// The name of the task group that a region is, if it is one.
@@ -200,10 +221,11 @@ fn group_name(construct: &Construct) -> Option<Name>
 
 /// The innermost task group of a context.
 pub fn group_of(context: &Context) -> Option<Name>
-    ensures { result ≡ group_in context.now.constructs context.now.group }
+    ensures { result
+        ≡ group_in (plain_context context.now).constructs (plain_context context.now).group }
 {
     for depth in 0..context.constructs.len() {
-        let Some(construct) = context.constructs.get(depth) else {
+        let Some(construct) = region_at(&context.constructs, depth) else {
             unreachable!();
         };
         let name = &group_name(construct);
@@ -215,11 +237,11 @@ pub fn group_of(context: &Context) -> Option<Name>
 }
 
 /// Whether a worksharing, masked or critical region is open.
-fn is_in_region(constructs: &SharedPile<Construct>) -> bool
-    ensures { result ≡ is_in_region constructs.now }
+fn is_in_region(constructs: &Tape<Shared<Construct>>) -> bool
+    ensures { result ≡ is_in_region constructs.now.items }
 {
     for depth in 0..constructs.len() {
-        let Some(construct) = constructs.get(depth) else {
+        let Some(construct) = region_at(constructs, depth) else {
             unreachable!();
         };
         let Some(_group) = group_name(construct) else {
@@ -231,7 +253,7 @@ fn is_in_region(constructs: &SharedPile<Construct>) -> bool
 
 /// Whether no barrier or worksharing region may be met in a context.
 pub fn is_misplaced(context: &Context) -> bool
-    ensures { result ≡ is_misplaced context.now }
+    ensures { result ≡ is_misplaced (plain_context context.now) }
 {
     match context.kind {
         Kind::Explicit => true,

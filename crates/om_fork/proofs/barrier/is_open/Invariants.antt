@@ -1,5 +1,5 @@
 use Rattle.std.proofs.Common.{◌≡◌, ◌-◌}
-use Rattle.om_cells.specs.Stores.{state_of}
+use Rattle.om_live.specs.Stores.{state_of}
 use Rattle.om_fork.specs.Barriers.{open_in}
 use Rattle.om_fork.proofs.barrier.is_open.Given as goal
 

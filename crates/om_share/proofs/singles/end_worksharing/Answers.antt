@@ -1,15 +1,16 @@
 use Rattle.std.proofs.Common.{sym, ◌∙◌}
+use Rattle.om_live.specs.Plain.{plain_context}
 use Rattle.om_share.proofs.Tables.{carried, share_closed, single_closed}
 use Rattle.om_share.proofs.singles.end_worksharing.Goals as goal
 
 pub returns-in-Share : goal.returns-in-Share
 returns-in-Share c = λ s. carried _ _ _ s
-    (share_closed c.args.at.worker c.args.at.to c.args.context.now _ c.in-Some.region c.in-Share.share
+    (share_closed c.args.at.worker c.args.at.to (plain_context c.args.context.now) _ c.in-Some.region c.in-Share.share
     c.work_of.result (sym c.innermost.ensures ∙ c.in-Some.is) c.in-Share.is c.work_of.ensures)
     c.close.ensures
 
 pub returns-in-Single : goal.returns-in-Single
 returns-in-Single c = λ s. carried _ _ _ s
-    (single_closed c.args.at.worker c.args.at.to c.args.context.now _ c.in-Some.region c.in-Single.runs
+    (single_closed c.args.at.worker c.args.at.to (plain_context c.args.context.now) _ c.in-Some.region c.in-Single.runs
     c.single_work.result (sym c.innermost.ensures ∙ c.in-Some.is) c.in-Single.is c.single_work.ensures)
     c.close-in-Single.ensures

@@ -4,5 +4,5 @@ use Rattle.om_steps.proofs.names.group_of.Given as goal
 
 -- the regions further out have the group
 abbrev pub invariant-loop-depth : goal.invariant-loop-depth
-invariant-loop-depth l = group_in (drop l.depth l.context.constructs) l.context.group
-    ≡ group_in l.context.constructs l.context.group
+invariant-loop-depth l = group_in (drop l.depth l.context.constructs.items) l.context.group
+    ≡ group_in l.context.constructs.items l.context.group
