@@ -3,3 +3,4 @@ pub mod Rules
 pub mod Steps
 pub mod Plans
 pub mod Laws
+pub mod Shapes

@@ -1,13 +1,13 @@
--- The step that is planned for a worker which has a control, and its plan.
-use Rattle.std.specs.Prelude.{ℕ, List, ◌∷◌}
+-- The step that is planned for a worker which has a control, and what a plan says of it.
+use Rattle.std.specs.Prelude.{◌≡◌, ℕ, List, ◌∷◌}
 use Rattle.om_foot.specs.declared.footprint.Access.{Access}
 use Rattle.om_foot.specs.declared.object.Obj.TheVariants as obj
 use Rattle.om_code.specs.declared.raw.Raw.{Raw}
 use Rattle.om_cells.specs.declared.control.Control.{Control}
 use Rattle.om_cells.specs.declared.step.Label.{Label}
-use Rattle.om_cells.specs.declared.step.Outcome.{Outcome}
 use Rattle.om_cells.specs.declared.step.Outcome.TheVariants as outcome
 use Rattle.om_cells.specs.declared.step.Step.{Step}
+use Rattle.om_cells.specs.Changes.{step_of}
 use Rattle.om_cells.specs.Edits.{HaveRoom}
 use Rattle.om_cells.specs.Rules.{control_access}
 use Rattle.om_cells.specs.Values.{control_in}
@@ -49,11 +49,14 @@ names_of program workers l c = control_access l ∷ further_in program workers l
 abbrev pub effect_at : Raw → ℕ → Label → State → Row
 effect_at program workers l s = (answer_in program workers s l (control_in (s (obj.Control l.worker)))).row
 
--- a step as a plan: with updates it has its footprint and its line
-abbrev pub plan_by : List Access → ℕ → Outcome → Plan
-plan_by footprint line (outcome.Updates us) = plan.Updates footprint us line
-plan_by footprint line (outcome.Blocked b) = plan.Blocked b
-plan_by footprint line outcome.Ended = plan.Ended
+-- a plan for a worker that has this control stands for a step: one that can be taken says all of it, with edits
+-- for the put of the control; else it says what comes of it
+abbrev pub StandsFor : Plan → Control → Step → Type 0
+StandsFor (plan.Updates change) c d = d ≡ step_of c change
+StandsFor (plan.Blocked b) c d = d.outcome ≡ outcome.Blocked b
+StandsFor plan.Ended c d = d.outcome ≡ outcome.Ended
 
-abbrev pub plan_of : Step → Plan
-plan_of d = plan_by d.footprint d.line d.outcome
+-- the edits of a plan have room in the numbers that they count up
+abbrev pub PlanHasRoom : Control → Plan → Type 0
+PlanHasRoom c (plan.Updates change) = HaveRoom change.edits c
+PlanHasRoom c _ = Unit {0}

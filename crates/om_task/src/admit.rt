@@ -1,18 +1,21 @@
 //! Where a worker may start a task (OpenMP 5.2, 12.9).
 
-ghost use Rattle.std.specs.Prelude.{◌≡◌, ◌∷◌};
+ghost use Rattle.std.specs.Prelude.{◌≡◌, ◌∷◌, map, option_map, slice_get};
 ghost use Rattle.om_foot.specs.Names.{is_below};
 ghost use Rattle.om_code.specs.Places.{instruction_at};
+ghost use Rattle.om_live.specs.Plain.{plain_context, plain_held, plain_stack};
 ghost use Rattle.om_task.specs.Rules.{leaving, departs, admits_on, admits_all};
 
-use om_cells::{Context, SharedPile, Stack};
 use om_code::{Instr, Program};
 use om_events::TaskStatus;
 use om_foot::{Name, is_descendant};
+use om_live::{Context, Stack, Tape};
 
 /// The instruction at which a context stands.
 pub(crate) fn instruction(program: &Program, context: &Context) -> Option<Instr>
-    ensures { result ≡ instruction_at program.now context.now.frame.body context.now.frame.next }
+    ensures { result
+        ≡ instruction_at program.now (plain_context context.now).frame.body
+        (plain_context context.now).frame.next }
 {
     program.instruction(context.frame.body, context.frame.next)
 }
@@ -49,7 +52,7 @@ fn is_below(name: &Name, other: &Name) -> bool
 
 /// Whether a task may be started where a context is left for it.
 fn admits_on(program: &Program, name: &Name, context: &Context) -> bool
-    ensures { result ≡ admits_on program.now name.now context.now }
+    ensures { result ≡ admits_on program.now name.now (plain_context context.now) }
 {
     if departs(instruction(program, context)) {
         return true;
@@ -57,12 +60,24 @@ fn admits_on(program: &Program, name: &Name, context: &Context) -> bool
     is_below(name, context.task.get())
 }
 
+/// The context at this depth, the next one below the top at 0; `None` exactly where there is none.
+#[tactic(auto, using(crate::proofs::Admits::held_at))]
+fn context_at(contexts: &Tape<Box<Context>>, depth: usize) -> Option<&Context>
+    ensures { option_map (λ c. plain_context c.now) result
+        ≡ slice_get (map plain_held contexts.now.items) depth }
+{
+    match contexts.get(depth) {
+        Some(context) => Some(context),
+        None => None,
+    }
+}
+
 /// Whether a task may be started where these contexts are left for it.
-fn admits_below(program: &Program, name: &Name, contexts: &SharedPile<Context>) -> bool
-    ensures { result ≡ admits_all program.now name.now contexts.now }
+fn admits_below(program: &Program, name: &Name, contexts: &Tape<Box<Context>>) -> bool
+    ensures { result ≡ admits_all program.now name.now (map plain_held contexts.now.items) }
 {
     for depth in 0..contexts.len() {
-        let Some(context) = contexts.get(depth) else {
+        let Some(context) = context_at(contexts, depth) else {
             unreachable!();
         };
         if !admits_on(program, name, context) {
@@ -74,7 +89,9 @@ fn admits_below(program: &Program, name: &Name, contexts: &SharedPile<Context>) 
 
 /// Whether the task scheduling constraints admit a task on a stack.
 pub(crate) fn admits(program: &Program, name: &Name, stack: &Stack) -> bool
-    ensures { result ≡ admits_all program.now name.now (stack.now.top ∷ stack.now.below) }
+    ensures { result
+        ≡ admits_all program.now name.now
+        ((plain_stack stack.now).top ∷ (plain_stack stack.now).below) }
 {
     if admits_on(program, name, &stack.top) {
         admits_below(program, name, &stack.below)

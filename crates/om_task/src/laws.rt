@@ -1,6 +1,7 @@
 //! Laws of the rules of every program.
 
 ghost use Rattle.om_task.specs.Laws.{LowCounters, CalmRules, StartsAtSchedulingPoints};
+ghost use Rattle.om_task.specs.Shapes.{ShapedRules};
 
 /// A state that n steps lead to has no counter above n: so fewer than 2^63 steps leave room in each
 /// for a plan.
@@ -12,6 +13,12 @@ pub fn low_counters()
 /// object that it touches.
 pub fn calm_rules()
     ensures { CalmRules }
+{}
+
+/// Where a step writes a worker's control, it puts a control there: its own worker's at each step,
+/// and at FORK those of the other members too. It does nothing else there.
+pub fn shaped_rules()
+    ensures { ShapedRules }
 {}
 
 /// A worker starts a task at a scheduling point alone, which `plan::is_at_scheduling_point` tells:

@@ -1,29 +1,28 @@
 //! What the choice of a worker names, what comes of it, and the plan of its step.
 
-ghost use Rattle.std.specs.Prelude.{◌≡◌, ◌∷◌, [], ◌^◌, IfOk};
+ghost use Rattle.std.specs.Prelude.{◌≡◌, ◌∷◌, ◌^◌, IfOk};
+ghost use Rattle.om_foot.specs.declared.object.Obj.TheVariants as obj;
 ghost use Rattle.om_code.specs.Places.{instruction_at};
-ghost use Rattle.om_cells.specs.declared.control.Stack.{Stack};
-ghost use Rattle.om_cells.specs.declared.value.Val.TheVariants as value;
-ghost use Rattle.om_cells.specs.Edits.{changed, HaveRoom};
-ghost use Rattle.om_cells.specs.Rules.{step_at};
-ghost use Rattle.om_cells.specs.Stores.{state_of};
+ghost use Rattle.om_cells.specs.declared.control.Control as plain_controls;
+ghost use Rattle.om_cells.specs.Rules.{control_access, step_at};
+ghost use Rattle.om_cells.specs.Values.{control_in};
+ghost use Rattle.om_live.specs.Plain.{plain_control, plain_stack};
+ghost use Rattle.om_live.specs.Stores.{state_of};
 ghost use Rattle.om_steps.specs.Rows.{answered};
 ghost use Rattle.om_team.specs.Counters.{IsWithin, ControlWithin, StateWithin};
 ghost use Rattle.om_team.specs.Sites.{site};
-ghost use Rattle.om_task.specs.Plans.{answer_in, step_by, RowHasRoom, names_of, effect_at, plan_of};
+ghost use Rattle.om_task.specs.Plans.{answer_in, step_by, RowHasRoom, names_of, effect_at, StandsFor, PlanHasRoom};
 ghost use Rattle.om_task.specs.Rules.{asked, next_row, is_at_scheduling_point, outcome_after, line_in, rules_of};
 
 use crate::admit::{admits, instruction, leaving};
 use crate::planned::Plan;
 use crate::table::answer;
-use om_cells::{
-    Blocked, Choice, Control, Edit, Outcome, SharedControl, Stack, Step, Store, Update, Val,
-};
+use om_cells::{Blocked, Change, Choice, Edit, Label};
 use om_code::Program;
 use om_foot::Access;
+use om_live::{Control, Stack, Store};
 use om_seq::Seq;
 use om_spawn::start::{Starting, start};
-use om_steps::parts::before;
 use om_steps::{Answer, Row};
 use om_team::Worker;
 use om_team::answers::{Planning, footprint};
@@ -38,11 +37,13 @@ fn next_answer(
     stack: &Stack,
     planning: &Planning,
 ) -> Result<Answer, AllocError>
-    requires { IsWithin (2 ^ 63) stack.now.top }
+    requires { IsWithin (2 ^ 63) (plain_stack stack.now).top }
     ensures { IfOk result
         (λ answer. answer ≡ answered
-        (next_row (site program.now planning.now.workers planning.now.label.worker stack.now)
-        (instruction_at program.now stack.now.top.frame.body stack.now.top.frame.next))
+        (next_row (site program.now planning.now.workers planning.now.label.worker
+        (plain_stack stack.now))
+        (instruction_at program.now (plain_stack stack.now).top.frame.body
+        (plain_stack stack.now).top.frame.next))
         (state_of store.now)) }
 {
     let Some(instruction) = instruction_of(program, stack) else {
@@ -64,10 +65,11 @@ fn choice_answer(
     stack: &Stack,
     planning: &Planning,
 ) -> Result<Answer, AllocError>
-    requires { IsWithin (2 ^ 63) stack.now.top }
+    requires { IsWithin (2 ^ 63) (plain_stack stack.now).top }
     ensures { IfOk result
         (λ answer. answer ≡ answered
-        (asked (site program.now planning.now.workers planning.now.label.worker stack.now)
+        (asked (site program.now planning.now.workers planning.now.label.worker
+        (plain_stack stack.now))
         planning.now.label.choice) (state_of store.now)) }
 {
     match planning.label.choice {
@@ -91,10 +93,10 @@ fn control_answer(
     control: &Control,
     planning: &Planning,
 ) -> Result<Answer, AllocError>
-    requires { ControlWithin (2 ^ 63) control.now }
+    requires { ControlWithin (2 ^ 63) (plain_control control.now) }
     ensures { IfOk result
         (λ answer. answer ≡ answer_in program.now planning.now.workers (state_of store.now)
-        planning.now.label control.now) }
+        planning.now.label (plain_control control.now)) }
 {
     match control {
         Control::Running(stack) => choice_answer(alloc, program, store, stack, planning),
@@ -104,60 +106,43 @@ fn control_answer(
     }
 }
 
-/// A control behind these edits.
-fn changed(alloc: Global, control: &Control, edits: Seq<Edit>) -> Result<Val, AllocError>
-    requires { HaveRoom edits control.now }
-    ensures { IfOk result (λ v. v ≡ value.Control (changed edits control.now)) }
-{
-    let mut changed = control.copy(alloc)?;
-    match changed.change(alloc, edits) {
-        Ok(()) => Ok(Val::Control(SharedControl::of(alloc, changed)?)),
-        Err(error) => {
-            drop(changed);
-            Err(error)
-        }
-    }
-}
-
-/// What comes of edits of a control and of further updates. What takes them back is kept in their
-/// place.
-fn going(
-    alloc: Global,
-    control: &Control,
-    edits: Seq<Edit>,
-    updates: Seq<Update>,
-) -> Result<Outcome, AllocError>
-    requires { HaveRoom edits control.now }
-    ensures { IfOk result
-        (λ outcome. outcome ≡ Outcome.Updates
-        (Update.Put (value.Control (changed edits control.now)) ∷ updates)) }
-{
-    let changed = changed(alloc, control, edits)?;
-    let updates = before(alloc, Update::Put(changed), updates)?;
-    Ok(Outcome::Updates(updates))
-}
-
-/// What comes of a row.
+/// The plan of a step, by what it names and by its row. A fault is an edit of the control.
 #[tactic(auto, using(crate::proofs::Plans::fault_room))]
-fn outcome(alloc: Global, control: &Control, row: Row) -> Result<Outcome, AllocError>
-    requires { RowHasRoom control.now row }
-    ensures { IfOk result (λ outcome. outcome ≡ outcome_after control.now row) }
+fn planned(
+    alloc: Global,
+    label: Label,
+    line: u32,
+    names: Seq<Access>,
+    row: Row,
+) -> Result<Plan, AllocError>
+    ensures plan { (c : plain_controls.Control) →
+        IfOk result (λ plan. StandsFor plan c (record {
+          footprint = control_access label ∷ names;
+          outcome = outcome_after c row;
+          line = line;
+        })) }
+    ensures room { (c : plain_controls.Control) → RowHasRoom c row →
+        IfOk result (λ plan. PlanHasRoom c plan) }
 {
-    match row {
-        Row::Goes { edits, updates } => going(alloc, control, edits, updates),
-        Row::Faults(fault) => {
-            let edits = Seq::one(alloc, Edit::Fail(fault))?;
-            going(alloc, control, edits, Seq::new(alloc))
-        }
-        Row::Blocked(why) => Ok(Outcome::Blocked(why)),
-        Row::Lacks => Ok(Outcome::Ended),
-    }
+    let footprint = footprint(alloc, label.worker, names)?;
+    let (edits, updates) = match row {
+        Row::Goes { edits, updates } => (edits, updates),
+        Row::Faults(fault) => (Seq::one(alloc, Edit::Fail(fault))?, Seq::new(alloc)),
+        Row::Blocked(why) => return Ok(Plan::Blocked(why)),
+        Row::Lacks => return Ok(Plan::Ended),
+    };
+    Ok(Plan::Updates(Change {
+        footprint,
+        edits,
+        updates,
+        line,
+    }))
 }
 
 /// The line of the instruction that a control runs, or of the one that met its fault; 0 where
 /// there is none.
 pub fn line(program: &Program, control: &Control) -> u32
-    ensures { result ≡ line_in program.now control.now }
+    ensures { result ≡ line_in program.now (plain_control control.now) }
 {
     match control {
         Control::Running(stack) => program.line(stack.top.frame.body, stack.top.frame.next),
@@ -168,7 +153,7 @@ pub fn line(program: &Program, control: &Control) -> u32
 
 /// Whether a worker of this control is at a scheduling point, where it may start a task.
 pub fn is_at_scheduling_point(program: &Program, control: &Control) -> bool
-    ensures { result ≡ is_at_scheduling_point program.now control.now }
+    ensures { result ≡ is_at_scheduling_point program.now (plain_control control.now) }
 {
     match control {
         Control::Running(stack) => leaving(instruction(program, &stack.top)).is_some(),
@@ -176,28 +161,25 @@ pub fn is_at_scheduling_point(program: &Program, control: &Control) -> bool
     }
 }
 
-/// The step of a worker that has this control.
-fn control_step(
+/// The plan of the step of a worker that has this control.
+fn control_plan(
     alloc: Global,
     program: &Program,
     store: &Store,
     control: &Control,
     planning: &Planning,
-) -> Result<Step, AllocError>
-    requires control { ControlWithin (2 ^ 63) control.now }
+) -> Result<Plan, AllocError>
+    requires control { ControlWithin (2 ^ 63) (plain_control control.now) }
     requires state { StateWithin (2 ^ 63) (state_of store.now) }
-    ensures { IfOk result
-        (λ step. step ≡ step_by program.now planning.now.label control.now
+    ensures plan { IfOk result (λ plan. StandsFor plan (plain_control control.now)
+        (step_by program.now planning.now.label (plain_control control.now)
         (answer_in program.now planning.now.workers (state_of store.now) planning.now.label
-        control.now)) }
+        (plain_control control.now)))) }
+    ensures room { IfOk result (λ plan. PlanHasRoom (plain_control control.now) plan) }
 {
     let Answer { names, row } = control_answer(alloc, program, store, control, planning)?;
-    let outcome = outcome(alloc, control, row)?;
-    Ok(Step {
-        footprint: footprint(alloc, planning.label.worker, names)?,
-        outcome,
-        line: line(program, control),
-    })
+    let line = line(program, control);
+    planned(alloc, planning.label, line, names, row)
 }
 
 /// What the choice of a worker touches that has this control, which comes first.
@@ -211,10 +193,10 @@ pub fn names(
     control: &Control,
     choice: Choice,
 ) -> Result<Seq<Access>, AllocError>
-    requires { ControlWithin (2 ^ 63) control.now }
+    requires { ControlWithin (2 ^ 63) (plain_control control.now) }
     ensures { IfOk result
         (λ names. names ≡ names_of program.now worker.workers
-        (record { worker = worker.number; choice = choice }) control.now) }
+        (record { worker = worker.number; choice = choice }) (plain_control control.now)) }
 {
     let planning = &Planning::of(worker, choice);
     let store = &Store::new(alloc);
@@ -231,10 +213,10 @@ fn control_row(
     control: &Control,
     planning: &Planning,
 ) -> Result<Row, AllocError>
-    requires { ControlWithin (2 ^ 63) control.now }
+    requires { ControlWithin (2 ^ 63) (plain_control control.now) }
     ensures { IfOk result
         (λ row. row ≡ (answer_in program.now planning.now.workers (state_of store.now)
-        planning.now.label control.now).row) }
+        planning.now.label (plain_control control.now)).row) }
 {
     let Answer { names, row } = control_answer(alloc, program, store, control, planning)?;
     drop(names);
@@ -265,26 +247,29 @@ pub fn effect(
     }
 }
 
-/// The step that a worker would take by its choice at a store's state.
-fn stepped(
+/// The plan of the step that a worker would take by its choice at a store's state.
+fn choice_plan(
     alloc: Global,
     program: &Program,
     store: &Store,
     planning: &Planning,
-) -> Result<Step, AllocError>
+) -> Result<Plan, AllocError>
     requires { StateWithin (2 ^ 63) (state_of store.now) }
-    ensures { IfOk result
-        (λ step. step ≡ step_at (rules_of program.now planning.now.workers) (state_of store.now)
-        planning.now.label) }
+    ensures plan { IfOk result (λ plan. StandsFor plan
+        (control_in (state_of store.now (obj.Control planning.now.label.worker)))
+        (step_at (rules_of program.now planning.now.workers) (state_of store.now)
+        planning.now.label)) }
+    ensures room { IfOk result (λ plan. PlanHasRoom
+        (control_in (state_of store.now (obj.Control planning.now.label.worker))) plan) }
 {
     match store.control(planning.label.worker) {
-        Some(control) => control_step(alloc, program, store, control, planning),
-        None => control_step(alloc, program, store, &Control::Idle, planning),
+        Some(control) => control_plan(alloc, program, store, control, planning),
+        None => control_plan(alloc, program, store, &Control::Idle, planning),
     }
 }
 
 /// The plan of the step that a worker would take by its choice at a store's state: `names` and
-/// `effect`, whose edits are made of the worker's control, and its line.
+/// `effect`, with its line. Its edits are not made.
 ///
 /// No counter there is above 2^63, as after fewer steps. Nothing changes; the only error is out of
 /// memory.
@@ -296,10 +281,12 @@ pub fn plan(
     choice: Choice,
 ) -> Result<Plan, AllocError>
     requires { StateWithin (2 ^ 63) (state_of store.now) }
-    ensures { IfOk result
-        (λ plan. plan ≡ plan_of (step_at (rules_of program.now worker.workers)
-        (state_of store.now) (record { worker = worker.number; choice = choice }))) }
+    ensures plan { IfOk result (λ plan. StandsFor plan
+        (control_in (state_of store.now (obj.Control worker.number)))
+        (step_at (rules_of program.now worker.workers) (state_of store.now)
+        (record { worker = worker.number; choice = choice }))) }
+    ensures room { IfOk result (λ plan. PlanHasRoom
+        (control_in (state_of store.now (obj.Control worker.number))) plan) }
 {
-    let step = stepped(alloc, program, store, &Planning::of(worker, choice))?;
-    Ok(Plan::of(step))
+    choice_plan(alloc, program, store, &Planning::of(worker, choice))
 }

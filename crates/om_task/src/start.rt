@@ -5,19 +5,18 @@ ghost use Rattle.om_code.specs.declared.frame.Cell.TheVariants as cells;
 ghost use Rattle.om_events.specs.declared.kind.Thread.TheVariants as thread;
 ghost use Rattle.om_events.specs.declared.event.Record.TheVariants as event_record;
 ghost use Rattle.om_cells.specs.declared.value.Val.TheVariants as value;
-ghost use Rattle.om_cells.specs.Stores.{state_of};
+ghost use Rattle.om_live.specs.Stores.{state_of};
 ghost use Rattle.om_steps.specs.Begins.{new_context};
 ghost use Rattle.om_team.specs.Sites.{body_of};
 ghost use Rattle.om_task.specs.Rules.{first_context, first_control, first_records, initial_in, start_of};
 
-use om_cells::{
-    Context, Control, Frame, Kind, Shared, SharedControl, SharedPile, Stack, Store, Team, Val,
-};
+use om_cells::{Context, Control, Frame, Kind, Shared, SharedPile, Stack, Team, Val};
 use om_code::frame::Cell;
 use om_code::raw::GlobalVariable;
 use om_code::{Body, Program};
 use om_events::{Endpoint, Record, TaskFlag, Thread};
 use om_foot::{Name, Obj};
+use om_live::Store;
 use om_seq::Seq;
 use om_steps::begin::{first_frame, in_no_group, new_context};
 use om_steps::names::homes_for;
@@ -71,16 +70,13 @@ fn first_context(alloc: Global, frame: Frame) -> Result<Context, AllocError>
 }
 
 /// The control of the worker that runs the initial task.
-fn first_control(alloc: Global, program: &Program) -> Result<Val, AllocError>
-    ensures { IfOk result (λ v. v ≡ value.Control (first_control program.now 0)) }
+fn first_control(alloc: Global, program: &Program) -> Result<Control, AllocError>
+    ensures { IfOk result (λ control. control ≡ first_control program.now 0) }
 {
     let frame = main_frame(alloc, program)?;
     let top = first_context(alloc, frame)?;
     match SharedPile::new(alloc) {
-        Ok(below) => {
-            let control = Control::Running(Stack { top, below });
-            Ok(Val::Control(SharedControl::of(alloc, control)?))
-        }
+        Ok(below) => Ok(Control::Running(Stack { top, below })),
         Err(error) => {
             drop(top);
             Err(error)
@@ -129,7 +125,7 @@ fn with_globals(alloc: Global, program: &Program) -> Result<Store, AllocError>
     ensures { IfOk result (λ store. state_of store ≡ start_of program.now 1) }
 {
     let mut store = Store::new(alloc);
-    store.create(&Obj::Control(0), first_control(alloc, program)?)?;
+    store.begin(alloc, 0, &first_control(alloc, program)?)?;
     store.create(&Obj::Events(0), initial_records(alloc)?)?;
     for (number, global) in program.globals().iter().enumerate() {
         let variable = number as u32;

@@ -1,14 +1,15 @@
 //! The whole table: the rows of tasks beside all others.
 
 ghost use Rattle.std.specs.Prelude.{◌≡◌, IfOk};
-ghost use Rattle.om_cells.specs.Stores.{state_of};
+ghost use Rattle.om_live.specs.Plain.{plain_stack};
+ghost use Rattle.om_live.specs.Stores.{state_of};
 ghost use Rattle.om_steps.specs.Rows.{answered};
 ghost use Rattle.om_team.specs.Ready.{IsReady};
 ghost use Rattle.om_team.specs.Sites.{site};
 ghost use Rattle.om_task.specs.Table.{task_row, row_of};
 
-use om_cells::{Stack, Store};
 use om_code::{Instr, Program};
+use om_live::{Context, Stack, Store};
 use om_spawn::task::{Making, spawn, task_end, task_yield};
 use om_spawn::wait::{group_begin, group_end, wait_begin, wait_end};
 use om_steps::{Answer, Row};
@@ -23,13 +24,14 @@ fn task_answer(
     stack: &Stack,
     doing: Doing,
 ) -> Result<Answer, AllocError>
-    requires { IsReady program.now stack.now doing.instruction }
+    requires { IsReady program.now (plain_stack stack.now) doing.instruction }
     ensures { IfOk result
         (λ answer. answer ≡ answered
-        (task_row (site program.now doing.workers doing.worker stack.now) doing.instruction)
+        (task_row (site program.now doing.workers doing.worker (plain_stack stack.now))
+        doing.instruction)
         (state_of store.now)) }
 {
-    let context = &stack.top;
+    let context: &Context = &stack.top;
     let worker = doing.worker;
     let to = context.frame.next + 1;
     match doing.instruction {
@@ -61,10 +63,11 @@ pub(crate) fn answer(
     stack: &Stack,
     doing: Doing,
 ) -> Result<Answer, AllocError>
-    requires { IsReady program.now stack.now doing.instruction }
+    requires { IsReady program.now (plain_stack stack.now) doing.instruction }
     ensures { IfOk result
         (λ answer. answer ≡ answered
-        (row_of (site program.now doing.workers doing.worker stack.now) doing.instruction)
+        (row_of (site program.now doing.workers doing.worker (plain_stack stack.now))
+        doing.instruction)
         (state_of store.now)) }
 {
     if is_of_tasks(doing.instruction) {

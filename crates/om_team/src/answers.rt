@@ -3,15 +3,17 @@
 ghost use Rattle.std.specs.Prelude.{◌≡◌, ◌∷◌, ◌^◌, IfOk, Some};
 ghost use Rattle.om_code.specs.Places.{instruction_at};
 ghost use Rattle.om_cells.specs.Rules.{control_access};
-ghost use Rattle.om_cells.specs.Stores.{state_of};
+ghost use Rattle.om_live.specs.Plain.{plain_control, plain_stack};
+ghost use Rattle.om_live.specs.Stores.{state_of};
 ghost use Rattle.om_team.specs.Asked.{next_asked, choice_asked, asked_in, answer_in, names_in, row_in, effect_at};
 ghost use Rattle.om_team.specs.Counters.{IsWithin, ControlWithin, StateWithin};
 ghost use Rattle.om_team.specs.Sites.{site};
 
 use crate::table::{Doing, answer, instruction_of, is_of_tasks};
-use om_cells::{Blocked, Choice, Control, Label, Stack, Store};
+use om_cells::{Blocked, Choice, Label};
 use om_code::Program;
 use om_foot::{Access, Mode, Obj};
+use om_live::{Control, Stack, Store};
 use om_seq::Seq;
 use om_steps::parts::before;
 use om_steps::{Answer, Row};
@@ -71,11 +73,13 @@ fn next_answer(
     stack: &Stack,
     planning: &Planning,
 ) -> Result<Option<Answer>, AllocError>
-    requires { IsWithin (2 ^ 63) stack.now.top }
+    requires { IsWithin (2 ^ 63) (plain_stack stack.now).top }
     ensures { IfOk result
         (λ answer. answer ≡ answer_in (state_of store.now)
-        (next_asked (site program.now planning.now.workers planning.now.label.worker stack.now)
-        (instruction_at program.now stack.now.top.frame.body stack.now.top.frame.next))) }
+        (next_asked (site program.now planning.now.workers planning.now.label.worker
+        (plain_stack stack.now))
+        (instruction_at program.now (plain_stack stack.now).top.frame.body
+        (plain_stack stack.now).top.frame.next))) }
 {
     let Some(instruction) = instruction_of(program, stack) else {
         return Ok(Some(Answer::decided(alloc, Row::Lacks)));
@@ -99,10 +103,11 @@ fn choice_answer(
     stack: &Stack,
     planning: &Planning,
 ) -> Result<Option<Answer>, AllocError>
-    requires { IsWithin (2 ^ 63) stack.now.top }
+    requires { IsWithin (2 ^ 63) (plain_stack stack.now).top }
     ensures { IfOk result
         (λ answer. answer ≡ answer_in (state_of store.now)
-        (choice_asked (site program.now planning.now.workers planning.now.label.worker stack.now)
+        (choice_asked (site program.now planning.now.workers planning.now.label.worker
+        (plain_stack stack.now))
         planning.now.label.choice)) }
 {
     match planning.label.choice {
@@ -119,10 +124,11 @@ fn control_answer(
     control: &Control,
     planning: &Planning,
 ) -> Result<Option<Answer>, AllocError>
-    requires { ControlWithin (2 ^ 63) control.now }
+    requires { ControlWithin (2 ^ 63) (plain_control control.now) }
     ensures { IfOk result
         (λ answer. answer ≡ answer_in (state_of store.now)
-        (asked_in program.now planning.now.workers planning.now.label control.now)) }
+        (asked_in program.now planning.now.workers planning.now.label
+        (plain_control control.now))) }
 {
     match control {
         Control::Running(stack) => choice_answer(alloc, program, store, stack, planning),
@@ -144,11 +150,11 @@ pub fn names(
     control: &Control,
     choice: Choice,
 ) -> Result<Option<Seq<Access>>, AllocError>
-    requires { ControlWithin (2 ^ 63) control.now }
+    requires { ControlWithin (2 ^ 63) (plain_control control.now) }
     ensures { IfOk result
         (λ names. names ≡ names_in (record { worker = worker.number; choice = choice })
         (asked_in program.now worker.workers
-        (record { worker = worker.number; choice = choice }) control.now)) }
+        (record { worker = worker.number; choice = choice }) (plain_control control.now))) }
 {
     let planning = &Planning::of(worker, choice);
     let store = &Store::new(alloc);
@@ -169,10 +175,11 @@ fn control_row(
     control: &Control,
     planning: &Planning,
 ) -> Result<Option<Row>, AllocError>
-    requires { ControlWithin (2 ^ 63) control.now }
+    requires { ControlWithin (2 ^ 63) (plain_control control.now) }
     ensures { IfOk result
         (λ row. row ≡ row_in (state_of store.now)
-        (asked_in program.now planning.now.workers planning.now.label control.now)) }
+        (asked_in program.now planning.now.workers planning.now.label
+        (plain_control control.now))) }
 {
     match control_answer(alloc, program, store, control, planning)? {
         Some(Answer { names, row }) => {

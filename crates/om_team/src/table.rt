@@ -1,7 +1,8 @@
 //! The table of all instructions but those of tasks: each with its row.
 
 ghost use Rattle.std.specs.Prelude.{◌≡◌, ◌<◌, ◌+◌, ◌^◌, IfOk, IfSome};
-ghost use Rattle.om_cells.specs.Stores.{state_of};
+ghost use Rattle.om_live.specs.Plain.{plain_stack};
+ghost use Rattle.om_live.specs.Stores.{state_of};
 ghost use Rattle.om_code.specs.Places.{instruction_at, slots_of};
 ghost use Rattle.om_steps.specs.Rows.{answered};
 ghost use Rattle.om_steps.specs.SerialRows.{serial_row};
@@ -10,7 +11,6 @@ ghost use Rattle.om_team.specs.Ready.{IsReady};
 ghost use Rattle.om_team.specs.Sites.{site, lock_of, targets_of};
 ghost use Rattle.om_team.specs.Table.{is_of_tasks, frame_row, team_row, share_row, region_row, row_of};
 
-use om_cells::{Stack, Store};
 use om_code::frame::Operand;
 use om_code::print::ints_on;
 use om_code::raw::Slot;
@@ -19,10 +19,12 @@ use om_code::{Instr, Program};
 use om_fork::ends::finish;
 use om_fork::rows::{arrive, begin, depart, leave};
 use om_fork::teams::{Forking, fork};
+use om_live::{Context, Stack, Store};
 use om_share::{
     Bounds, Branch, ask_critical, end_masked, end_worksharing, enter_critical, grab, iterate,
     leave_critical, masked, open_loop, open_sections, pick, single,
 };
+use om_steps::names::operands_of;
 use om_steps::{Answer, At, Launch, Row};
 use std::alloc::{AllocError, Global};
 
@@ -38,10 +40,11 @@ pub struct Doing {
 
 /// The instruction at which a stack stands, with what its row relies on; `None` where there is none.
 pub fn instruction_of(program: &Program, stack: &Stack) -> Option<Instr>
-    requires { IsWithin (2 ^ 63) stack.now.top }
+    requires { IsWithin (2 ^ 63) (plain_stack stack.now).top }
     ensures same { result
-        ≡ instruction_at program.now stack.now.top.frame.body stack.now.top.frame.next }
-    ensures ready { IfSome result (λ instr. IsReady program.now stack.now instr) }
+        ≡ instruction_at program.now (plain_stack stack.now).top.frame.body
+        (plain_stack stack.now).top.frame.next }
+    ensures ready { IfSome result (λ instr. IsReady program.now (plain_stack stack.now) instr) }
 {
     program.instruction(stack.top.frame.body, stack.top.frame.next)
 }
@@ -59,8 +62,13 @@ pub fn is_of_tasks(instruction: Instr) -> bool
 
 /// How an instruction that takes so many operands begins a body.
 pub fn launch(stack: &Stack, takes: u32, body: u32) -> Launch
-    requires { stack.now.top.frame.next + 1 < 2 ^ 32 }
-    ensures { result ≡ record { to = stack.now.top.frame.next + 1; takes = takes; body = body } }
+    requires { (plain_stack stack.now).top.frame.next + 1 < 2 ^ 32 }
+    ensures { result
+        ≡ record {
+          to = (plain_stack stack.now).top.frame.next + 1;
+          takes = takes;
+          body = body;
+        } }
 {
     Launch {
         to: stack.top.frame.next + 1,
@@ -71,7 +79,7 @@ pub fn launch(stack: &Stack, takes: u32, body: u32) -> Launch
 
 /// The slots of the body that runs.
 pub fn slots<'a>(program: &'a Program, stack: &Stack) -> &'a [Slot]
-    ensures { result.now ≡ slots_of program.now stack.now.top.frame.body }
+    ensures { result.now ≡ slots_of program.now (plain_stack stack.now).top.frame.body }
 {
     match program.bodies().get(stack.top.frame.body as usize) {
         Some(body) => body.slots.as_slice(),
@@ -87,14 +95,15 @@ fn frame_answer(
     stack: &Stack,
     doing: Doing,
 ) -> Result<Answer, AllocError>
-    requires { IsReady program.now stack.now doing.instruction }
+    requires { IsReady program.now (plain_stack stack.now) doing.instruction }
     ensures { IfOk result
         (λ answer. answer ≡ answered
-        (frame_row (site program.now doing.workers doing.worker stack.now) doing.instruction)
+        (frame_row (site program.now doing.workers doing.worker (plain_stack stack.now))
+        doing.instruction)
         (state_of store.now)) }
 {
-    let context = &stack.top;
-    let operands = &context.frame.operands;
+    let context: &Context = &stack.top;
+    let operands = &operands_of(context);
     match doing.instruction {
         Instr::ThreadNumber => om_steps::number(alloc, context, context.team.get().number),
         Instr::TeamSize => om_steps::number(alloc, context, context.team.get().size),
@@ -128,9 +137,10 @@ fn serial_answer(
     stack: &Stack,
     doing: Doing,
 ) -> Result<Answer, AllocError>
-    requires { IsReady program.now stack.now doing.instruction }
+    requires { IsReady program.now (plain_stack stack.now) doing.instruction }
     ensures { IfOk result
-        (λ answer. answer ≡ answered (serial_row program.now stack.now.top doing.instruction)
+        (λ answer. answer ≡ answered
+        (serial_row program.now (plain_stack stack.now).top doing.instruction)
         (state_of store.now)) }
 {
     let raw = program.raw();
@@ -145,13 +155,14 @@ fn team_answer(
     stack: &Stack,
     doing: Doing,
 ) -> Result<Answer, AllocError>
-    requires { IsReady program.now stack.now doing.instruction }
+    requires { IsReady program.now (plain_stack stack.now) doing.instruction }
     ensures { IfOk result
         (λ answer. answer ≡ answered
-        (team_row (site program.now doing.workers doing.worker stack.now) doing.instruction)
+        (team_row (site program.now doing.workers doing.worker (plain_stack stack.now))
+        doing.instruction)
         (state_of store.now)) }
 {
-    let context = &stack.top;
+    let context: &Context = &stack.top;
     let worker = doing.worker;
     let at = At {
         worker,
@@ -210,14 +221,15 @@ fn share_answer(
     stack: &Stack,
     doing: Doing,
 ) -> Result<Answer, AllocError>
-    requires { IsReady program.now stack.now doing.instruction }
+    requires { IsReady program.now (plain_stack stack.now) doing.instruction }
     ensures { IfOk result
         (λ answer. answer ≡ answered
-        (share_row (site program.now doing.workers doing.worker stack.now) doing.instruction)
+        (share_row (site program.now doing.workers doing.worker (plain_stack stack.now))
+        doing.instruction)
         (state_of store.now)) }
 {
-    let context = &stack.top;
-    let operands = &context.frame.operands;
+    let context: &Context = &stack.top;
+    let operands = &operands_of(context);
     let worker = doing.worker;
     let to = context.frame.next + 1;
     let at = At { worker, to };
@@ -251,19 +263,20 @@ fn region_answer(
     stack: &Stack,
     doing: Doing,
 ) -> Result<Answer, AllocError>
-    requires { IsReady program.now stack.now doing.instruction }
+    requires { IsReady program.now (plain_stack stack.now) doing.instruction }
     ensures { IfOk result
         (λ answer. answer ≡ answered
-        (region_row (site program.now doing.workers doing.worker stack.now) doing.instruction)
+        (region_row (site program.now doing.workers doing.worker (plain_stack stack.now))
+        doing.instruction)
         (state_of store.now)) }
 {
-    let context = &stack.top;
+    let context: &Context = &stack.top;
     let worker = doing.worker;
     let to = context.frame.next + 1;
     let at = At { worker, to };
     match doing.instruction {
         Instr::Masked(otherwise) => {
-            let number = int_at(&context.frame.operands, 0);
+            let number = int_at(&operands_of(context), 0);
             masked(alloc, context, worker, Branch { to, otherwise }, number)
         }
         Instr::EndMasked => end_masked(alloc, context, at),
@@ -289,10 +302,11 @@ pub fn answer(
     stack: &Stack,
     doing: Doing,
 ) -> Result<Answer, AllocError>
-    requires { IsReady program.now stack.now doing.instruction }
+    requires { IsReady program.now (plain_stack stack.now) doing.instruction }
     ensures { IfOk result
         (λ answer. answer ≡ answered
-        (row_of (site program.now doing.workers doing.worker stack.now) doing.instruction)
+        (row_of (site program.now doing.workers doing.worker (plain_stack stack.now))
+        doing.instruction)
         (state_of store.now)) }
 {
     match doing.instruction {

@@ -9,10 +9,10 @@ use Rattle.om_task.proofs.start.with_globals.Goals as goal
 
 pub loop-number-init : goal.loop-number-init
 loop-number-init c =
-    c.in_ok-create-2.ensures.state
-    ∙ (λ j. with_value (obj.Events 0) (c.in_ok-initial_records.ensures j) (c.in_ok-create.ensures.state j))
+    c.in_ok-create.ensures.state
+    ∙ (λ j. with_value (obj.Events 0) (c.in_ok-initial_records.ensures j) (c.in_ok-begin.ensures.state j))
     ∙ (λ j. with_value (obj.Events 0) (value.Events (first_records 1 0))
-    (with_value (obj.Control 0) (c.in_ok-first_control.ensures j) (c.new-store.ensures j)))
+    (with_value (obj.Control 0) (value.Control (c.in_ok-first_control.ensures j)) (c.new-store.ensures.state j)))
     ∙ start-none c.args.program.now
 
 pub loop-number-preserved : goal.loop-number-preserved
@@ -23,7 +23,7 @@ loop-number-preserved c =
     c.globals-global-items.ensures.same in
     let within : n < length c.args.program.now.globals = subst (λ gs. n < length gs)
     c.globals-global-items.ensures.same (omega arith) in
-    c.in_ok-create-3.ensures.state
+    c.in_ok-create-2.ensures.state
     ∙ (λ j. with_value (obj.Global n 0) (c.initial_value.ensures j) (c.loop-number.invariant j))
     ∙ (λ j. with_value (obj.Global n 0) (int (initial_in (Some (here j)))) (start_below c.args.program.now n))
     ∙ start-more c.args.program.now n d within

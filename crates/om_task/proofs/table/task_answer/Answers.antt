@@ -1,50 +1,57 @@
-use Rattle.std.proofs.Common.{◌≡◌, subst, sym, ◌+◌, ap, ◌∙◌}
-use Rattle.std.specs.Prelude.{IfOk}
-use Rattle.om_cells.specs.Stores.{state_of}
-use Rattle.om_steps.specs.Rows.{answered}
+use Rattle.std.proofs.Common.{◌∙◌, ◌+◌, ap, sym}
+use Rattle.om_code.specs.Places.{line_at}
+use Rattle.om_live.specs.Plain.{plain_context, plain_stack}
+use Rattle.om_live.specs.Stores.{state_of}
+use Rattle.om_live.specs.declared.control.Context.{Context}
+use Rattle.om_live.specs.declared.control.Frame.{Frame}
 use Rattle.om_spawn.specs.Rows.{spawn_row, wait_begin_row, task_yield_row}
 use Rattle.om_team.specs.Sites.{site}
+use Rattle.om_team.proofs.AtStates.{at_state, to_same}
+use Rattle.om_team.proofs.Running.{next_is}
 use Rattle.om_task.specs.Table.{task_row}
-use Rattle.om_team.proofs.AtStates.{at_state}
-use Rattle.om_task.proofs.Answers.{body_is, same_spawn}
+use Rattle.om_task.proofs.Answers.{body_is}
 use Rattle.om_task.proofs.table.task_answer.Goals as goal
 
 pub returns-in-Spawn : goal.returns-in-Spawn
 returns-in-Spawn c =
-    subst (λ i. IfOk c.spawn.result (λ answer. answer
-    ≡ answered (task_row (site c.args.program.now c.args.doing.workers c.args.doing.worker c.args.stack.now) i)
-    (state_of c.args.store.now)))
-    (sym c.in-Spawn.is)
-    (same_spawn c.spawn.result _ _ _ _ c.args.stack.now.top (state_of c.args.store.now)
-    (λ k. record {
-      worker = c.args.doing.worker;
-      line = c.line.ensures k;
-      launch =
-          (c.launch.ensures ∙ ap (λ n. record {
-            to = c.args.stack.now.top.frame.next + 1;
-            takes = n;
-            body =
-                c.in-Spawn.body;
-          }) c.from.ensures) k;
-    })
-    (body_is c.args.program.now c.in-Spawn.body c.body.result.now c.body.ensures.same)
+    let top = c.deref-context.ensures in
+    let number = ap (λ (f : Frame). f.body) (c.deref-in-Spawn.ensures ∙ ap (λ (k : Context). k.frame.value) top) in
+    let next = next_is c.deref-in-Spawn-2.result.now c.deref-context.result.now c.args.stack.now.top.value
+    c.deref-in-Spawn-2.ensures top in
+    let line = c.line.ensures ∙ (λ i. line_at c.args.program.now (number i) (next i)) in
+    let launch = c.launch.ensures ∙ ap (λ n. record {
+      to = (plain_stack c.args.stack.now).top.frame.next + 1;
+      takes = n;
+      body = c.in-Spawn.body;
+    }) c.from.ensures in
+    let body = body_is c.args.program.now c.in-Spawn.body c.body.result.now c.body.ensures.same in
+    to_same c.spawn.result _ _ (state_of c.args.store.now)
+    ((λ i. spawn_row (record { worker = c.args.doing.worker; line = line i; launch = launch i }) (body i)
+    (plain_context (top i)))
+    ∙ ap (task_row (site c.args.program.now c.args.doing.workers
+    c.args.doing.worker (plain_stack c.args.stack.now))) (sym c.in-Spawn.is))
     (at_state c.spawn.result
     (spawn_row (record { worker = c.args.doing.worker; line = c.line.result; launch = c.launch.result })
-    c.body.result.now c.args.stack.now.top) (state_of c.args.store.now) c.spawn.ensures))
+    c.body.result.now (plain_context c.deref-context.result.now)) (state_of c.args.store.now) c.spawn.ensures)
 
 pub returns-in-WaitBegin : goal.returns-in-WaitBegin
 returns-in-WaitBegin c =
-    subst (λ i. IfOk c.wait_begin.result (λ answer. answer
-    ≡ answered (task_row (site c.args.program.now c.args.doing.workers c.args.doing.worker c.args.stack.now) i)
-    (state_of c.args.store.now)))
-    (sym c.in-WaitBegin.is)
-    (at_state c.wait_begin.result (wait_begin_row c.args.doing.worker (c.args.stack.now.top.frame.next + 1)
-    c.args.stack.now.top) (state_of c.args.store.now) c.wait_begin.ensures)
+    let next = next_is c.deref.result.now c.deref-context.result.now c.args.stack.now.top.value c.deref.ensures
+    c.deref-context.ensures in
+    to_same c.wait_begin.result _ _ (state_of c.args.store.now)
+    ((λ i. wait_begin_row c.args.doing.worker (next i + 1) (plain_context (c.deref-context.ensures i)))
+    ∙ ap (task_row (site c.args.program.now c.args.doing.workers
+    c.args.doing.worker (plain_stack c.args.stack.now))) (sym c.in-WaitBegin.is))
+    (at_state c.wait_begin.result (wait_begin_row c.args.doing.worker (c.deref.result.now.next + 1)
+    (plain_context c.deref-context.result.now)) (state_of c.args.store.now) c.wait_begin.ensures)
 
 pub returns-in-Yield : goal.returns-in-Yield
 returns-in-Yield c =
-    subst (λ i. IfOk c.task_yield.result (λ answer. answer
-    ≡ answered (task_row (site c.args.program.now c.args.doing.workers c.args.doing.worker c.args.stack.now) i)
-    (state_of c.args.store.now)))
-    (sym c.in-Yield.is) (at_state c.task_yield.result (task_yield_row (c.args.stack.now.top.frame.next + 1))
-    (state_of c.args.store.now) c.task_yield.ensures)
+    let next = next_is c.deref.result.now c.deref-context.result.now c.args.stack.now.top.value c.deref.ensures
+    c.deref-context.ensures in
+    to_same c.task_yield.result _ _ (state_of c.args.store.now)
+    ((λ i. task_yield_row (next i + 1))
+    ∙ ap (task_row (site c.args.program.now c.args.doing.workers
+    c.args.doing.worker (plain_stack c.args.stack.now))) (sym c.in-Yield.is))
+    (at_state c.task_yield.result (task_yield_row (c.deref.result.now.next + 1)) (state_of c.args.store.now)
+    c.task_yield.ensures)

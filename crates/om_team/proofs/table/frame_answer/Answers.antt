@@ -1,33 +1,33 @@
-use Rattle.std.proofs.Common.{◌≡◌, subst, sym}
-use Rattle.std.specs.Prelude.{IfOk}
-use Rattle.om_cells.specs.Stores.{state_of}
+use Rattle.std.proofs.Common.{◌∙◌, ap, sym}
+use Rattle.om_live.specs.Plain.{plain_context, plain_stack}
+use Rattle.om_live.specs.Stores.{state_of}
 use Rattle.om_cells.specs.declared.control.Team.{Team}
-use Rattle.om_steps.specs.Rows.{answered}
+use Rattle.om_live.specs.declared.control.Context.{Context}
 use Rattle.om_steps.specs.SerialRows.{number_row}
 use Rattle.om_team.specs.Sites.{site}
 use Rattle.om_team.specs.Table.{frame_row}
-use Rattle.om_team.proofs.AtStates.{at_state}
+use Rattle.om_team.proofs.AtStates.{at_state, to_same}
 use Rattle.om_team.proofs.table.frame_answer.Goals as goal
 
 pub returns-in-ThreadNumber : goal.returns-in-ThreadNumber
 returns-in-ThreadNumber c =
-    subst (λ i. IfOk c.number.result (λ answer. answer
-    ≡ answered (frame_row (site c.args.program.now c.args.doing.workers c.args.doing.worker c.args.stack.now) i)
-    (state_of c.args.store.now)))
-    (sym c.in-ThreadNumber.is)
-    (subst (λ (t : Team). IfOk c.number.result (λ answer. answer
-    ≡ answered (number_row c.args.stack.now.top t.number) (state_of c.args.store.now)))
-    c.get.ensures (at_state c.number.result (number_row c.args.stack.now.top c.get.result.now.number)
-    (state_of c.args.store.now) c.number.ensures))
+    let number = ap (λ (t : Team). t.number) (c.get.ensures
+    ∙ ap (λ (k : Context). k.team) c.deref-context.ensures) in
+    to_same c.number.result _ _ (state_of c.args.store.now)
+    ((λ i. number_row (plain_context (c.deref-context.ensures i)) (number i))
+    ∙ ap (frame_row (site c.args.program.now c.args.doing.workers
+    c.args.doing.worker (plain_stack c.args.stack.now))) (sym c.in-ThreadNumber.is))
+    (at_state c.number.result (number_row (plain_context c.deref-context.result.now) c.get.result.now.number)
+    (state_of c.args.store.now) c.number.ensures)
 
 pub returns-in-TeamSize : goal.returns-in-TeamSize
 returns-in-TeamSize c =
-    subst (λ i. IfOk c.number-in-TeamSize.result (λ answer. answer
-    ≡ answered (frame_row (site c.args.program.now c.args.doing.workers c.args.doing.worker c.args.stack.now) i)
-    (state_of c.args.store.now)))
-    (sym c.in-TeamSize.is)
-    (subst (λ (t : Team). IfOk c.number-in-TeamSize.result (λ answer. answer
-    ≡ answered (number_row c.args.stack.now.top t.size) (state_of c.args.store.now)))
-    c.get-in-TeamSize.ensures (at_state c.number-in-TeamSize.result
-    (number_row c.args.stack.now.top c.get-in-TeamSize.result.now.size) (state_of c.args.store.now)
-    c.number-in-TeamSize.ensures))
+    let size = ap (λ (t : Team). t.size) (c.get-in-TeamSize.ensures
+    ∙ ap (λ (k : Context). k.team) c.deref-context.ensures) in
+    to_same c.number-in-TeamSize.result _ _ (state_of c.args.store.now)
+    ((λ i. number_row (plain_context (c.deref-context.ensures i)) (size i))
+    ∙ ap (frame_row (site c.args.program.now c.args.doing.workers
+    c.args.doing.worker (plain_stack c.args.stack.now))) (sym c.in-TeamSize.is))
+    (at_state c.number-in-TeamSize.result
+    (number_row (plain_context c.deref-context.result.now) c.get-in-TeamSize.result.now.size)
+    (state_of c.args.store.now) c.number-in-TeamSize.ensures)

@@ -1,17 +1,34 @@
-use Rattle.std.proofs.Common.{◌≡◌, subst, sym, ◌+◌}
-use Rattle.std.specs.Prelude.{IfOk}
-use Rattle.om_cells.specs.Stores.{state_of}
-use Rattle.om_steps.specs.Rows.{answered}
-use Rattle.om_share.specs.Rows.{ask_critical_row}
+use Rattle.std.proofs.Common.{◌∙◌, ◌+◌, ap, sym}
+use Rattle.om_live.specs.Plain.{plain_context, plain_stack}
+use Rattle.om_live.specs.Stores.{state_of}
+use Rattle.om_code.specs.Frames.{int_at}
+use Rattle.om_share.specs.Rows.{ask_critical_row, masked_row}
 use Rattle.om_team.specs.Sites.{site}
 use Rattle.om_team.specs.Table.{region_row}
+use Rattle.om_team.proofs.AtStates.{to_same}
+use Rattle.om_team.proofs.Running.{next_is, operands_are}
 use Rattle.om_team.proofs.table.region_answer.Goals as goal
 
 pub returns-in-AskCritical : goal.returns-in-AskCritical
 returns-in-AskCritical c =
-    subst (λ i. IfOk c.ask_critical.result (λ answer. answer
-    ≡ answered (region_row (site c.args.program.now c.args.doing.workers c.args.doing.worker c.args.stack.now)
-    i) (state_of c.args.store.now))) (sym c.in-AskCritical.is)
-    (subst (λ x. IfOk c.ask_critical.result (λ answer. answer
-    ≡ answered (ask_critical_row c.args.doing.worker (c.args.stack.now.top.frame.next + 1) x)
-    (state_of c.args.store.now))) c.lock_name.ensures (c.ask_critical.ensures (state_of c.args.store.now)))
+    let next = next_is c.deref.result.now c.deref-context.result.now c.args.stack.now.top.value c.deref.ensures
+    c.deref-context.ensures in
+    to_same c.ask_critical.result _ _ (state_of c.args.store.now)
+    ((λ i. ask_critical_row c.args.doing.worker (next i + 1) (c.lock_name.ensures i))
+    ∙ ap (region_row (site c.args.program.now c.args.doing.workers
+    c.args.doing.worker (plain_stack c.args.stack.now))) (sym c.in-AskCritical.is))
+    (c.ask_critical.ensures (state_of c.args.store.now))
+
+pub returns-in-Masked : goal.returns-in-Masked
+returns-in-Masked c =
+    let next = next_is c.deref.result.now c.deref-context.result.now c.args.stack.now.top.value c.deref.ensures
+    c.deref-context.ensures in
+    let operands = operands_are c.operands_of.result c.deref-context.result.now c.args.stack.now.top.value
+    c.operands_of.ensures c.deref-context.ensures in
+    let number = c.int_at-number.ensures ∙ ap (int_at 0) operands in
+    to_same c.masked.result _ _ (state_of c.args.store.now)
+    ((λ i. masked_row c.args.doing.worker (next i + 1) c.in-Masked.otherwise
+    (plain_context (c.deref-context.ensures i)) (number i))
+    ∙ ap (region_row (site c.args.program.now c.args.doing.workers
+    c.args.doing.worker (plain_stack c.args.stack.now))) (sym c.in-Masked.is))
+    (c.masked.ensures (state_of c.args.store.now))

@@ -1,0 +1,40 @@
+-- The rules of every program are shaped.
+use Rattle.std.proofs.Common.{◌≡◌, subst, List, [], ◌∷◌}
+use Rattle.om_foot.specs.declared.footprint.Access.{Access}
+use Rattle.om_cells.specs.declared.control.Control as controls
+use Rattle.om_cells.specs.declared.edit.Edit.TheVariants.{Fail}
+use Rattle.om_cells.specs.declared.step.Label.{Label}
+use Rattle.om_cells.specs.declared.step.Outcome.TheVariants.{Updates}
+use Rattle.om_cells.specs.declared.step.Update.{Update}
+use Rattle.om_cells.specs.declared.step.Update.TheVariants.{Put}
+use Rattle.om_cells.specs.declared.value.Val.TheVariants as value
+use Rattle.om_cells.specs.Edits.{changed}
+use Rattle.om_cells.specs.Rules.{control_access}
+use Rattle.om_cells.specs.Values.{control_in}
+use Rattle.om_steps.specs.declared.row.Row.{Row}
+use Rattle.om_steps.specs.declared.row.Row.TheVariants as row
+use Rattle.om_task.specs.Rules.{further_in, row_in, outcome_after}
+use Rattle.om_task.specs.Shapes.{AreShaped, ShapedRules}
+use Rattle.om_task.proofs.NoControls.{RowShaped}
+use Rattle.om_task.proofs.ShapedRows.{row_shaped}
+
+-- no update is shaped along any footprint
+nothing_shaped : (names : List Access) → AreShaped names []
+nothing_shaped [] = tt
+nothing_shaped (a ∷ names) = tt
+
+-- the worker's own control comes first, and a control is put there; the rest is the row's
+outcome_shaped : (l : Label) (c : controls.Control) (names : List Access) (r : Row) (us : List Update)
+    → RowShaped names r → outcome_after c r ≡ Updates us → AreShaped (control_access l ∷ names) us
+outcome_shaped l c names (row.Goes edits ws) us h e = let same : Put (value.Control (changed edits c)) ∷ ws ≡ us = cc in
+    subst (AreShaped (control_access l ∷ names)) same (tt, h)
+outcome_shaped l c names (row.Faults f) us h e = let same : Put (value.Control (changed (Fail f ∷ []) c)) ∷ []
+    ≡ us = cc in subst (AreShaped (control_access l ∷ names)) same (tt, nothing_shaped names)
+outcome_shaped l c names (row.Blocked b) us h e = cc
+outcome_shaped l c names row.Lacks us h e = cc
+
+pub shaped_rules : ShapedRules
+shaped_rules program workers = record {
+  shaped = λ l v read us. outcome_shaped l (control_in v) (further_in program workers l (control_in v))
+      (row_in program workers l (control_in v) read) us (row_shaped program workers l (control_in v) read);
+}

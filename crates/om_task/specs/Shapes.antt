@@ -1,0 +1,46 @@
+-- What a step writes at the controls of workers: it puts a control there, and nothing else.
+use Rattle.std.specs.Prelude.{◌≡◌, ℕ, Bool, true, false, List, ◌∷◌}
+use Rattle.om_foot.specs.declared.object.Obj.{Obj}
+use Rattle.om_foot.specs.declared.object.Obj.TheVariants as obj
+use Rattle.om_foot.specs.declared.footprint.Mode.{Mode}
+use Rattle.om_foot.specs.declared.footprint.Mode.TheVariants as mode
+use Rattle.om_foot.specs.declared.footprint.Access.{Access}
+use Rattle.om_code.specs.declared.raw.Raw.{Raw}
+use Rattle.om_cells.specs.declared.step.Label.{Label}
+use Rattle.om_cells.specs.declared.step.Outcome.TheVariants.{Updates}
+use Rattle.om_cells.specs.declared.step.Update.{Update}
+use Rattle.om_cells.specs.declared.step.Update.TheVariants.{Put}
+use Rattle.om_cells.specs.declared.value.Val.{Val}
+use Rattle.om_cells.specs.declared.value.Val.TheVariants as value
+use Rattle.om_cells.specs.Rules.{Rules, control_access}
+use Rattle.om_task.specs.Rules.{rules_of}
+
+-- whether an object is a worker's control
+abbrev pub is_trailed : Obj → Bool
+is_trailed (obj.Control worker) = true
+is_trailed _ = false
+
+-- a value that is put at a control is a control
+abbrev pub IsControl : Val → Bool → Type 0
+IsControl (value.Control control) trailed = Unit {0}
+IsControl v true = ⊥
+IsControl v false = Unit {0}
+
+-- at a write of a control the update puts a control
+abbrev pub IsShapedAt : Mode → Update → Bool → Type 0
+IsShapedAt mode.Write (Put v) trailed = IsControl v trailed
+IsShapedAt mode.Write u true = ⊥
+IsShapedAt _ _ _ = Unit {0}
+
+-- so it is along a footprint
+abbrev pub AreShaped : List Access → List Update → Type 0
+AreShaped (a ∷ rest) (u ∷ us) = IsShapedAt a.mode u (is_trailed a.object) × AreShaped rest us
+AreShaped _ _ = Unit {0}
+
+-- rules whose steps write nothing but controls at controls
+pub record IsShapely (r : Rules) : Type 0 where
+  pub shaped : (l : Label) (control : Val) (read : List Val) (us : List Update) → r.outcome l (control ∷ read)
+      ≡ Updates us → AreShaped (control_access l ∷ r.further l control) us
+
+abbrev pub ShapedRules : Type 0
+ShapedRules = (program : Raw) (workers : ℕ) → IsShapely (rules_of program workers)
