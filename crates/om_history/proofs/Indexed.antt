@@ -1,7 +1,7 @@
 -- Records by serial with their touch lists: with one more, without one, and what a search in them finds.
-use Rattle.std.proofs.Common.{◌≡◌, refl, sym, ◌∙◌, ap, subst, Bool, true, false, ℕ, ◌<◌, ◌+◌}
-use Rattle.std.proofs.Common.{Option, None, Some, List, [], ◌∷◌, ◌++◌, IfSome, cond, nat_eq, ◌&&◌}
-use Rattle.std.specs.Prelude.{slice_get, remove, is_some, IsSome}
+use Rattle.std.proofs.Common.{◌≡◌, refl, sym, ◌∙◌, ap, subst, false, ℕ, ◌<◌}
+use Rattle.std.proofs.Common.{None, Some, List, [], ◌∷◌, ◌++◌, IfSome, cond, nat_eq, ◌&&◌}
+use Rattle.std.specs.Prelude.{slice_get, remove, IsSome}
 use Rattle.std.specs.Ordering.{nat_cmp}
 use Rattle.std.specs.BTreeMap.{is_at, insert_entry}
 use Rattle.std.specs.Map.{lookup, remove_entry, values_of}
@@ -12,40 +12,42 @@ use Rattle.om_foot.specs.Footprint.{conflict_of}
 use Rattle.om_history.specs.declared.reply.UndoReply.{UndoReply}
 use Rattle.om_history.specs.declared.reply.UndoReply.TheVariants.{Undone}
 use Rattle.om_history.specs.declared.records.UndoRecord.{UndoRecord}
+use Rattle.om_history.specs.declared.own.OwnEntries.{OwnEntries}
 use Rattle.om_history.specs.declared.touches.TouchLists.{TouchLists}
 use Rattle.om_history.specs.Runs.{conflict_or}
 use Rattle.om_history.specs.Records.{kept_reply, AreBelow}
-use Rattle.om_history.specs.Touches.{names as names_it, touched, has_touch, own_footprint, meets, IsFirst, AreBySerial, AreListsOf, AreSame, AreWith}
-use Rattle.om_history.specs.Touches.{AreWithout, IsIndexed}
-use Rattle.om_history.proofs.Touched.{touched-below, touched-remove, Toucher}
+use Rattle.om_history.specs.Touches.{names as names_it, touched, has_touch, meets, IsFirst, AreBySerial, AreListsOf, AreSame, AreWith}
+use Rattle.om_history.specs.Touches.{AreWithout, is_own, AreOwnOf, SameOwn, WithOwn, WithoutOwn, IsIndexed}
+use Rattle.om_history.proofs.Touched.{touched-below, touched-remove}
 use Rattle.om_history.proofs.BySerial.{rising, IsFound, is_found, Stands, stands, inserted, values-push, by_serial-push}
 use Rattle.om_history.proofs.Members.{lists-push}
+use Rattle.om_history.proofs.OwnEntries.{own-push, own-remove}
 use Rattle.om_history.proofs.Replies.{footprint_of, found_behind, reply_none, reply_some}
 
-pub no_records : (es : List (ℕ × UndoRecord)) (lists own : TouchLists) → es ≡ []
+pub no_records : (es : List (ℕ × UndoRecord)) (lists : TouchLists) (own : OwnEntries) → es ≡ []
     → ((o : Obj) (m : Mode) (s : ℕ) → has_touch lists o m s ≡ false)
-    → ((o : Obj) (m : Mode) (s : ℕ) → has_touch own o m s ≡ false) → IsIndexed es lists own
+    → ((w s : ℕ) → is_own own w s ≡ false) → IsIndexed es lists own
 no_records es lists own is none none_own = subst (λ fs. IsIndexed fs lists own) (sym is)
-    (record { by_serial = tt; touches = none; own_touches = none_own })
+    (record { by_serial = tt; touches = none; own_entries = none_own })
 
 -- a serial above all others has no touch
 pub fresh : (f : UndoRecord → List Access) (ks : List UndoRecord) (lists : TouchLists) (s : ℕ) → AreListsOf f ks lists
     → AreBelow s ks → (o : Obj) (m : Mode) → has_touch lists o m s ≡ false
 fresh f ks lists s are below o m = are o m s ∙ touched-below f ks o m s below
 
-pub indexed_same : (es : List (ℕ × UndoRecord)) (lists own more more_own : TouchLists) → IsIndexed es lists own
-    → AreSame lists more → AreSame own more_own → IsIndexed es more more_own
-indexed_same es lists own more more_own h same same_own = record {
+pub indexed_same : (es : List (ℕ × UndoRecord)) (lists more : TouchLists) (own more_own : OwnEntries)
+    → IsIndexed es lists own → AreSame lists more → SameOwn own more_own → IsIndexed es more more_own
+indexed_same es lists more own more_own h same same_own = record {
   by_serial = h.by_serial;
   touches = λ o m s. same o m s ∙ h.touches o m s;
-  own_touches = λ o m s. same_own o m s ∙ h.own_touches o m s;
+  own_entries = λ w s. same_own w s ∙ h.own_entries w s;
 }
 
-pub indexed_with : (es : List (ℕ × UndoRecord)) (k : UndoRecord) (lists own more more_own : TouchLists)
+pub indexed_with : (es : List (ℕ × UndoRecord)) (k : UndoRecord) (lists more : TouchLists) (own more_own : OwnEntries)
     → IsIndexed es lists own → 0 < k.entry.serial → AreBelow k.entry.serial (values_of es)
-    → AreWith k.footprint k.entry.serial lists more → AreWith (own_footprint k) k.entry.serial own more_own
+    → AreWith k.footprint k.entry.serial lists more → WithOwn k.entry.worker k.entry.serial own more_own
     → IsIndexed (insert_entry nat_cmp es k.entry.serial k) more more_own
-indexed_with es k lists own more more_own h some below added added_own =
+indexed_with es k lists more own more_own h some below added added_own =
     let values : values_of (es ++ (k.entry.serial, k) ∷ []) ≡ values_of es ++ k ∷ [] =
     values-push es k.entry.serial k in
     subst (λ fs. IsIndexed fs more more_own) (sym (inserted 0 es k.entry.serial k h.by_serial below))
@@ -53,8 +55,8 @@ indexed_with es k lists own more more_own h some below added added_own =
       by_serial = by_serial-push 0 es k.entry.serial k h.by_serial some refl below;
       touches = subst (λ ks. AreListsOf footprint_of ks more) (sym values)
           (lists-push footprint_of (values_of es) k lists more h.touches added);
-      own_touches = subst (λ ks. AreListsOf own_footprint ks more_own) (sym values)
-          (lists-push own_footprint (values_of es) k own more_own h.own_touches added_own);
+      own_entries = subst (λ ks. AreOwnOf ks more_own) (sym values)
+          (own-push (values_of es) k own more_own h.own_entries added_own);
     })
 
 pub values_with : (es : List (ℕ × UndoRecord)) (k : UndoRecord) → AreBySerial 0 es
@@ -72,11 +74,11 @@ lists-remove f ks i k old new are less is o m s =
     ∙ ap (λ b. cond (nat_eq k.entry.serial s && names_it o m (f k)) false b) (are o m s)
     ∙ sym (is o m s)
 
-pub indexed_without : (es : List (ℕ × UndoRecord)) (serial : ℕ) (k : UndoRecord) (lists own less less_own : TouchLists)
-    → IsIndexed es lists own → lookup (is_at (nat_cmp serial)) es ≡ Some k
-    → AreWithout k.footprint k.entry.serial lists less → AreWithout (own_footprint k) k.entry.serial own less_own
+pub indexed_without : (es : List (ℕ × UndoRecord)) (serial : ℕ) (k : UndoRecord) (lists less : TouchLists)
+    (own less_own : OwnEntries) → IsIndexed es lists own → lookup (is_at (nat_cmp serial)) es ≡ Some k
+    → AreWithout k.footprint k.entry.serial lists less → WithoutOwn k.entry.worker k.entry.serial own less_own
     → IsIndexed (remove_entry (is_at (nat_cmp serial)) es) less less_own
-indexed_without es serial k lists own less less_own h there gone gone_own =
+indexed_without es serial k lists less own less_own h there gone gone_own =
     let place : Stands es serial k = stands 0 es serial k h.by_serial there in
     let found : IsFound 0 es place.i k = is_found 0 es place.i k h.by_serial place.at in
     let rises = rising 0 es h.by_serial in
@@ -86,9 +88,8 @@ indexed_without es serial k lists own less less_own h there gone gone_own =
       touches = subst (λ ks. AreListsOf footprint_of ks less) (sym found.left)
           (lists-remove footprint_of (values_of es) place.i k lists less h.touches gone
           (λ o m s. touched-remove footprint_of 0 (values_of es) place.i k o m s rises place.at));
-      own_touches = subst (λ ks. AreListsOf own_footprint ks less_own) (sym found.left)
-          (lists-remove own_footprint (values_of es) place.i k own less_own h.own_touches gone_own
-          (λ o m s. touched-remove own_footprint 0 (values_of es) place.i k o m s rises place.at));
+      own_entries = subst (λ ks. AreOwnOf ks less_own) (sym found.left)
+          (own-remove (values_of es) place.i k own less_own rises place.at h.own_entries gone_own);
     })
 
 -- the record with a serial, by its index

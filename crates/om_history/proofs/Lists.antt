@@ -16,7 +16,7 @@ use Rattle.om_foot.specs.contracts.object.ObjOrd.TheImpl.{cmp-value}
 use Rattle.om_foot.specs.Objects.{lookup-is_at, cmp-is_eq, obj_eq-true, obj_eq-same}
 use Rattle.om_history.specs.declared.touches.Touches.{Touches}
 use Rattle.om_history.specs.declared.touches.TouchLists.{TouchLists}
-use Rattle.om_history.specs.Touches.{mode_eq, names, has, list_of, has_in, has_touch, AreSame, AreWith, AreWithout}
+use Rattle.om_history.specs.Touches.{mode_eq, names, has, list_of, has_in, has_touch, AreSame}
 
 -- lists with one entry's touches there, or not there
 abbrev pub AreSet : Bool → List Access → ℕ → TouchLists → TouchLists → Type 0

@@ -1,5 +1,5 @@
 -- The members of a cone, found by the touches of those before.
-use Rattle.std.proofs.Common.{◌≡◌, refl, sym, ◌∙◌, ap, subst, Bool, true, false, cond, ◌&&◌, nat_eq, ℕ, ◌<◌, ◌+◌, arith}
+use Rattle.std.proofs.Common.{◌≡◌, refl, sym, ◌∙◌, ap, subst, Bool, true, false, cond, ◌&&◌, nat_eq, ℕ, ◌<◌}
 use Rattle.std.proofs.Common.{Option, None, Some, List, [], ◌∷◌, ◌++◌, append_assoc, append-nil, ⊎_elim}
 use Rattle.std.specs.Prelude.{is_some, map, reverse}
 use Rattle.std.proofs.lemmas.List.{map-append, reverse-append}

@@ -1,7 +1,7 @@
 -- A worker's last entry, by its index in the undo records.
-use Rattle.std.proofs.Common.{◌≡◌, ◌≢◌, refl, sym, ◌∙◌, ap, None, Some, List, [], ◌∷◌, ℕ, zero, suc, ◌+◌, ◌<◌, ◌==◌}
-use Rattle.std.proofs.Common.{length, take, drop, add-one, arith, eq-eqb, subst}
-use Rattle.std.specs.Prelude.{slice_get, All, IfSome}
+use Rattle.std.proofs.Common.{◌≡◌, ◌≢◌, refl, sym, ◌∙◌, ap, None, Some, List, [], ◌∷◌, ℕ, zero, suc, ◌+◌, ◌==◌}
+use Rattle.std.proofs.Common.{take, drop, add-one, arith, eq-eqb, subst}
+use Rattle.std.specs.Prelude.{slice_get, All}
 use Rattle.std.specs.List.{AllByRecursion}
 use Rattle.std.proofs.lemmas.Bool.{ne_eqb}
 use Rattle.std.proofs.lemmas.List.{take-map, drop-map}

@@ -1,6 +1,6 @@
 -- The first entry that conflicts, by the touch lists, is the one that the definition names; and a worker's last entry.
-use Rattle.std.proofs.Common.{◌≡◌, ◌≢◌, refl, sym, ◌∙◌, ap, subst, Bool, true, false, cond, ◌&&◌, nat_eq, ℕ, zero, suc, ◌+◌, ◌-◌, ◌<◌, ◌≤◌}
-use Rattle.std.proofs.Common.{arith, Option, None, Some, List, [], ◌∷◌, drop, length, get_or, ⊎_elim}
+use Rattle.std.proofs.Common.{◌≡◌, ◌≢◌, refl, sym, ◌∙◌, ap, Bool, true, false, cond, ◌&&◌, nat_eq, ℕ, zero, suc, ◌+◌, ◌-◌, ◌<◌, ◌≤◌}
+use Rattle.std.proofs.Common.{arith, Option, None, Some, List, [], ◌∷◌, drop, get_or, ⊎_elim}
 use Rattle.std.specs.Prelude.{slice_get, is_some, All, IfSome, IfNone}
 use Rattle.std.proofs.lemmas.Bool.{true≢false}
 use Rattle.std.proofs.lemmas.Option.{slice_get-get_or}
@@ -15,11 +15,14 @@ use Rattle.om_cells.specs.declared.step.Entry.{Entry}
 use Rattle.om_history.specs.declared.reply.UndoReply.{UndoReply}
 use Rattle.om_history.specs.declared.reply.UndoReply.TheVariants.{Undone}
 use Rattle.om_history.specs.declared.records.UndoRecord.{UndoRecord}
+use Rattle.om_history.specs.declared.own.OwnEntries.{OwnEntries}
 use Rattle.om_history.specs.declared.touches.TouchLists.{TouchLists}
 use Rattle.om_history.specs.Runs.{conflict_or}
 use Rattle.om_history.specs.Records.{first_kept_conflict, reply_before, kept_reply, LastHasSerial}
-use Rattle.om_history.specs.Touches.{names, touched, has_touch, AreListsOf, meets_at, meets, own_footprint, IsFirst, IsGreatest}
+use Rattle.om_history.specs.Touches.{names, has_touch, AreListsOf, meets_at, meets, own_footprint, IsFirst, IsGreatest}
+use Rattle.om_history.specs.Touches.{is_own, AreOwnOf}
 use Rattle.om_history.proofs.Searches.{either_true, meets-alike, meets-named}
+use Rattle.om_history.proofs.OwnEntries.{own_named}
 use Rattle.om_history.proofs.Touched.{Rising, rising_later, rising_behind, touched-at, Toucher, toucher, nat_self}
 
 abbrev pub footprint_of : UndoRecord → List Access
@@ -143,26 +146,19 @@ found_behind ks lists (a ∷ rest) s are h =
 
 -- a worker's last entry
 
-own_named : (k : UndoRecord) (w : ℕ) → names (obj.Control w) Write (own_footprint k) ≡ nat_eq k.entry.worker w
-own_named k w = go (nat_eq k.entry.worker w)
-  where
-    go : (b : Bool) → cond (b && true) true false ≡ b
-    go true = refl
-    go false = refl
-
-own_at : (ks : List UndoRecord) (own : TouchLists) (w i : ℕ) (k : UndoRecord) → Rising 0 ks
-    → AreListsOf own_footprint ks own → slice_get ks i ≡ Some k → k.entry.worker ≡ w
-    → has_touch own (obj.Control w) Write k.entry.serial ≡ true
+own_at : (ks : List UndoRecord) (own : OwnEntries) (w i : ℕ) (k : UndoRecord) → Rising 0 ks
+    → AreOwnOf ks own → slice_get ks i ≡ Some k → k.entry.worker ≡ w
+    → is_own own w k.entry.serial ≡ true
 own_at ks own w i k rises are at is =
-    are (obj.Control w) Write k.entry.serial ∙ touched-at own_footprint 0 ks i k (obj.Control w) Write rises at
+    are w k.entry.serial ∙ touched-at own_footprint 0 ks i k (obj.Control w) Write rises at
     ∙ own_named k w ∙ ap (λ n. nat_eq n w) is ∙ nat_self w
 
-pub last_found : (ks : List UndoRecord) (own : TouchLists) (w t : ℕ) → Rising 0 ks
-    → AreListsOf own_footprint ks own → IsGreatest (has_touch own (obj.Control w) Write) (Some t)
+pub last_found : (ks : List UndoRecord) (own : OwnEntries) (w t : ℕ) → Rising 0 ks
+    → AreOwnOf ks own → IsGreatest (is_own own w) (Some t)
     → LastHasSerial w ks t
 last_found ks own w t rises are greatest =
     let who : Toucher own_footprint ks (obj.Control w) Write t =
-    toucher own_footprint ks (obj.Control w) Write t (sym (are (obj.Control w) Write t) ∙ greatest.0) in
+    toucher own_footprint ks (obj.Control w) Write t (sym (are w t) ∙ greatest.0) in
     record {
       i = who.i;
       made = who.made;
@@ -182,22 +178,22 @@ last_found ks own w t rises are greatest =
       serial_is = who.serial_is;
     }
 
-pub last_none : (ks : List UndoRecord) (own : TouchLists) (w : ℕ) → Rising 0 ks → AreListsOf own_footprint ks own
-    → IsGreatest (has_touch own (obj.Control w) Write) None
+pub last_none : (ks : List UndoRecord) (own : OwnEntries) (w : ℕ) → Rising 0 ks → AreOwnOf ks own
+    → IsGreatest (is_own own w) None
     → All (λ (k : UndoRecord). k.entry.worker ≢ w) ks
 last_none ks own w rises are none = λ n d less is.
     let x : UndoRecord = get_or ks n d in
     true≢false (sym (own_at ks own w n x rises are (slice_get-get_or ks n d less) is) ∙ none x.entry.serial)
 
 -- the same of what a search answers
-pub last_if : (ks : List UndoRecord) (own : TouchLists) (w : ℕ) (x : Option ℕ) → Rising 0 ks
-    → AreListsOf own_footprint ks own → IsGreatest (has_touch own (obj.Control w) Write) x
+pub last_if : (ks : List UndoRecord) (own : OwnEntries) (w : ℕ) (x : Option ℕ) → Rising 0 ks
+    → AreOwnOf ks own → IsGreatest (is_own own w) x
     → IfSome x (λ s. LastHasSerial w ks s)
 last_if ks own w None rises are greatest = tt
 last_if ks own w (Some t) rises are greatest = last_found ks own w t rises are greatest
 
-pub none_if : (ks : List UndoRecord) (own : TouchLists) (w : ℕ) (x : Option ℕ) → Rising 0 ks
-    → AreListsOf own_footprint ks own → IsGreatest (has_touch own (obj.Control w) Write) x
+pub none_if : (ks : List UndoRecord) (own : OwnEntries) (w : ℕ) (x : Option ℕ) → Rising 0 ks
+    → AreOwnOf ks own → IsGreatest (is_own own w) x
     → IfNone x (All (λ (k : UndoRecord). k.entry.worker ≢ w) ks)
 none_if ks own w None rises are greatest = last_none ks own w rises are greatest
 none_if ks own w (Some t) rises are greatest = tt

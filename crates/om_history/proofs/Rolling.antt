@@ -100,10 +100,10 @@ undone_next r h ts i d within = ap (undone_by r h) (drop-cons ts i d within)
 
 -- a roll of a past
 
-pub taken_by-is : (r : Rules) (p : Past) (serial : ℕ) (slice : List UndoRecord) → IsPast r p → slice ≡ p.records
-    → map taken_of (reverse (cone serial (transitions_of slice))) ≡ taken_by_roll r (entries_in p) serial
-taken_by-is r p serial slice is same =
-    ap (λ xs. map taken_of (reverse (cone serial (transitions_of xs)))) same
+pub taken_by-is : (r : Rules) (p : Past) (serial : ℕ) (ts : List Transition) → IsPast r p → ts ≡ transitions_of p.records
+    → map taken_of (reverse (cone serial ts)) ≡ taken_by_roll r (entries_in p) serial
+taken_by-is r p serial ts is same =
+    ap (λ xs. map taken_of (reverse (cone serial xs))) same
     ∙ sym (taken_by_roll-is r p.records p.made serial p.state is.replays)
 
 pub none_taken-is : (r : Rules) (p : Past) (serial : ℕ) → IsPast r p

@@ -1,21 +1,19 @@
 -- A past under rules: the step that is next to it, and an entry that is taken out of it.
 use Rattle.std.proofs.Common.{◌≡◌, refl, sym, ◌∙◌, ap, subst, true, false, None, Some, List, [], ◌∷◌, ◌++◌, ℕ, suc, ◌+◌}
 use Rattle.std.proofs.Common.{◌<◌, ◌≤◌, ◌^◌, length, take, drop, add-one, arith, length-append}
-use Rattle.std.specs.Prelude.{slice_get, All, IfSome, remove}
+use Rattle.std.specs.Prelude.{slice_get, IfSome, remove}
 use Rattle.std.proofs.lemmas.List.{length-take, map-append}
-use Rattle.std.proofs.lemmas.List.Elements.{All-weaker, All-push, All-append, All-take, All-drop}
 use Rattle.std.proofs.lemmas.List.Edits.{length-remove}
 use Rattle.std.proofs.lemmas.Option.{slice_get_within}
-use Rattle.om_foot.specs.declared.object.Obj.{Obj}
 use Rattle.om_foot.specs.declared.footprint.Access.{Access}
 use Rattle.om_cells.specs.declared.step.Update.{Update}
 use Rattle.om_cells.specs.declared.step.Label.{Label}
 use Rattle.om_cells.specs.declared.step.Step.{Step}
 use Rattle.om_cells.specs.declared.step.Outcome.TheVariants as outcome
-use Rattle.om_cells.specs.declared.store.Store.{Store}
 use Rattle.om_cells.specs.State.{State, updated, undo_record, taken_back}
-use Rattle.om_cells.specs.Stores.{state_of, is_kept}
 use Rattle.om_cells.specs.Rules.{Rules, step_at, state_after_outcome, next_state}
+use Rattle.om_live.specs.declared.store.Store.{Store}
+use Rattle.om_live.specs.Stores.{state_of}
 use Rattle.om_history.specs.Laws.{updates_of}
 use Rattle.om_history.specs.Runs.{History, label_of, state_of_entries, entry_for, reply_for, history_with}
 use Rattle.om_history.specs.Runs.{reply_to_step, after_step, last_place, reply_at, reply_to_undo, history_without}
@@ -23,11 +21,11 @@ use Rattle.om_history.specs.Runs.{after_undo}
 use Rattle.om_history.specs.declared.reply.UndoReply.{UndoReply}
 use Rattle.om_history.specs.declared.reply.UndoReply.TheVariants.{Undone}
 use Rattle.om_history.specs.declared.records.UndoRecord.{UndoRecord}
-use Rattle.om_history.specs.Records.{entries_of, IsRight, HasRoom, first_kept_conflict, reply_before, kept_reply}
+use Rattle.om_history.specs.Records.{entries_of, IsRight, first_kept_conflict, reply_before, kept_reply}
 use Rattle.om_history.specs.Records.{is_done, IsLastOf}
 use Rattle.om_history.specs.Commands.{IsRun, ToStep, ToUndo}
 use Rattle.om_history.specs.Bounds.{AreSteady, AreSmall, FitsAll, FitsBack}
-use Rattle.om_history.specs.Pasts.{Past, entries_in, IsPast, past_of, IsKept}
+use Rattle.om_history.specs.Pasts.{Past, entries_in, IsPast, past_of}
 use Rattle.om_history.proofs.Exchange.{Made, made}
 use Rattle.om_history.proofs.Bounds.{AreSteady-more, steady_step, steady_record, FitsAll-small, FitsBack-small}
 use Rattle.om_history.proofs.Bounds.{now-small}
@@ -112,6 +110,7 @@ past-pushed r p l d us is planned made_of =
     { footprint = refl; back = ap (λ o. undo_record d.footprint (updates_of o) s) (sym made_of); line = refl } in
     record {
       steady = is.steady;
+      shaped = is.shaped;
       replays = ReplaysTo-push r r.start p.records k s (updated d.footprint us s) is.replays taken
           (subst (λ e. IsRight e s k) planned right);
       reached = subst (IsRun r) (sym (pushed_entries r p l d us is planned made_of))
@@ -121,7 +120,7 @@ past-pushed r p l d us is planned made_of =
 
 -- an entry is taken out
 
-split_at : (r : Rules) (p : Past) (i : ℕ) (k : UndoRecord) → IsPast r p → slice_get p.records i ≡ Some k
+pub split_at : (r : Rules) (p : Past) (i : ℕ) (k : UndoRecord) → IsPast r p → slice_get p.records i ≡ Some k
     → Split r r.start (take i p.records) k (drop (suc i) p.records) p.state
 split_at r p i k is at = split p.records i k r r.start p.state at is.replays
 
@@ -147,7 +146,7 @@ fits_out r p i k is few at =
     (AreSteady-more (m + 1) (length p.records) k.footprint k.back (omega (arith, within, length-take i p.records))
     here) (small r p is)
 
-none_later : (ks : List UndoRecord) (i : ℕ) (k : UndoRecord) → slice_get ks i ≡ Some k
+pub none_later : (ks : List UndoRecord) (i : ℕ) (k : UndoRecord) → slice_get ks i ≡ Some k
     → is_done (kept_reply ks i) ≡ true → NoneConflicts k.footprint (drop (suc i) ks)
 none_later ks i k at h =
     none_conflicts k.footprint (drop (suc i) ks) k.entry.serial k.entry.line
@@ -206,6 +205,7 @@ past-removed r p i w k is last done =
     let parts : Split r r.start (take i p.records) k (drop (suc i) p.records) p.state = split_at r p i k is last.at in
     record {
       steady = is.steady;
+      shaped = is.shaped;
       replays = ReplaysTo-removed r r.start (take i p.records) k (drop (suc i) p.records) p.state parts
           (none_later p.records i k last.at done);
       reached = subst (IsRun r) (after_undo-done r p i w k is last done)
@@ -248,65 +248,8 @@ pub undo_of_none : (r : Rules) (p : Past) (w : ℕ) → last_place w (entries_of
     → entries_in p ≡ after_undo r (entries_in p) w
 undo_of_none r p w none = sym (after_undo-none r p w none)
 
--- the objects of the records are kept
-
-abbrev AreKept : Store → List UndoRecord → Type 0
-AreKept store ks = All (λ x. HasRoom store x) ks
-
-kept-more : (before after : Store) (ks : List UndoRecord)
-    → ((q : Obj) → is_kept before q ≡ true → is_kept after q ≡ true) → AreKept before ks → AreKept after ks
-kept-more before after ks others h =
-    All-weaker (λ x. HasRoom before x) (λ x. HasRoom after x)
-    (λ x g. All-weaker (λ (a : Access). is_kept before a.object ≡ true)
-    (λ (a : Access). is_kept after a.object ≡ true) (λ a f. others a.object f) x.footprint g) ks h
-
-pub kept-without : (r : Rules) (before after : Store) (ks rest : List UndoRecord) (n i w : ℕ) → IsKept r before ks n
-    → HasLast w ks i → is_done (kept_reply ks i) ≡ true
-    → IfSome (slice_get ks i) (λ k. state_of after ≡ taken_back k.footprint k.back (state_of before))
-    → rest ≡ remove ks i → ((q : Obj) → is_kept after q ≡ is_kept before q)
-    → IsKept r after rest n
-kept-without r before after ks rest n i w kept x done state removed same =
-    let rooms : AreKept after ks = kept-more before after ks (λ q h. same q ∙ h) kept.rooms in
-    let left : AreKept after (remove ks i) = All-append (λ y. HasRoom after y) (take i ks) (drop (suc i) ks)
-    (All-take (λ y. HasRoom after y) i ks rooms) (All-drop (λ y. HasRoom after y) (suc i) ks rooms) in
-    record {
-      rooms = subst (AreKept after) (sym removed) left;
-      few_made = kept.few_made;
-      past = past_taken r (past_of before ks n) (past_of after rest n) i w kept.past x done
-          (record { state = state; records = removed; made = refl });
-    }
-
 pub past_after-is : (p : Past) (l : Label) (d : Step) (us : List Update) (after : Store) (more : List UndoRecord)
     → state_of after ≡ updated d.footprint us p.state → more ≡ p.records ++ record_for p l d us ∷ []
     → past_after p l d us ≡ past_of after more (p.made + 1)
 past_after-is p l d us after more state added =
     λ j. record { state = sym state j; records = sym added j; made = p.made + 1 }
-
-pub kept-with : (r : Rules) (before after : Store) (ks more : List UndoRecord) (n : ℕ) (l : Label) (d : Step)
-    (us : List Update) → IsKept r before ks n → n < 2 ^ 63
-    → d ≡ step_at r (state_of before) l → d.outcome ≡ outcome.Updates us
-    → state_of after ≡ updated d.footprint us (state_of before)
-    → more ≡ ks ++ record_for (past_of before ks n) l d us ∷ []
-    → All (λ (a : Access). is_kept after a.object ≡ true) d.footprint
-    → ((q : Obj) → is_kept before q ≡ true → is_kept after q ≡ true)
-    → IsKept r after more (n + 1)
-kept-with r before after ks more n l d us kept few planned made_of state added room others =
-    let p : Past = past_of before ks n in
-    let k : UndoRecord = record_for p l d us in
-    record {
-      rooms = subst (AreKept after) (sym added)
-          (All-push (λ x. HasRoom after x) ks k (kept-more before after ks others kept.rooms) room);
-      few_made = omega arith;
-      past = subst (IsPast r) (past_after-is p l d us after more state added)
-          (past-pushed r p l d us kept.past planned made_of);
-    }
-
--- a store that holds the same, and keeps no less
-pub kept-same : (r : Rules) (before after : Store) (ks same : List UndoRecord) (n : ℕ) → IsKept r before ks n
-    → state_of after ≡ state_of before → same ≡ ks → ((q : Obj) → is_kept before q ≡ true → is_kept after q ≡ true)
-    → IsKept r after same n
-kept-same r before after ks same n kept state records others = record {
-  rooms = subst (AreKept after) (sym records) (kept-more before after ks others kept.rooms);
-  few_made = kept.few_made;
-  past = subst (IsPast r) (λ j. record { state = sym state j; records = sym records j; made = n }) kept.past;
-}

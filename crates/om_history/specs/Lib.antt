@@ -1,8 +1,11 @@
 pub mod Laws
+pub mod Shapes
+pub mod Fills
 pub mod Runs
 pub mod Cones
 pub mod Commands
 pub mod Records
+pub mod Takes
 pub mod Undos
 pub mod Bounds
 pub mod Pasts

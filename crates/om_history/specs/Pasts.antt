@@ -1,11 +1,15 @@
 -- What contracts see of a history that is kept, and what is true of it under rules.
 use Rattle.std.specs.Prelude.{◌≡◌, Some, All, List, map, ℕ, ◌≤◌, ◌^◌, length}
+use Rattle.om_foot.specs.declared.object.Obj.TheVariants as obj
+use Rattle.om_cells.specs.declared.step.Change.{Change}
 use Rattle.om_cells.specs.declared.step.Label.{Label}
 use Rattle.om_cells.specs.declared.step.Step.{Step}
-use Rattle.om_cells.specs.declared.store.Store.{Store}
+use Rattle.om_cells.specs.Changes.{step_of}
 use Rattle.om_cells.specs.State.{State}
-use Rattle.om_cells.specs.Stores.{state_of}
+use Rattle.om_cells.specs.Values.{control_in}
 use Rattle.om_cells.specs.Rules.{Rules, step_at, replay}
+use Rattle.om_live.specs.declared.store.Store.{Store}
+use Rattle.om_live.specs.Stores.{state_of, pasts_of}
 use Rattle.om_history.specs.declared.records.UndoRecord.{UndoRecord}
 use Rattle.om_history.specs.declared.history.History.{History}
 use Rattle.om_history.specs.declared.reply.StepReply.{StepReply}
@@ -15,6 +19,8 @@ use Rattle.om_history.specs.Cones.{taken_by_roll, after_roll}
 use Rattle.om_history.specs.Records.{entries_of, ReplaysTo, HasRoom}
 use Rattle.om_history.specs.Commands.{IsRun, Rise, TakesCone}
 use Rattle.om_history.specs.Bounds.{IsSteady}
+use Rattle.om_history.specs.Shapes.{IsShaped}
+use Rattle.om_history.specs.Fills.{full_all, marked_back, AreMarked}
 
 -- the state, the undo records of the entries that stand, and how many steps were ever made
 pub record Past : Type 0 where
@@ -29,6 +35,7 @@ entries_in past = record { entries = entries_of past.records; made = past.made }
 -- under these rules some commands led to a past
 pub record IsPast (r : Rules) (past : Past) : Type 0 where
   pub steady : IsSteady r
+  pub shaped : IsShaped r
   -- the state is the replay of the entries, and each undo record is right at its place
   pub replays : ReplaysTo r r.start past.records past.state
   -- so that what is true after every run is true of the entries
@@ -39,16 +46,18 @@ pub record IsPast (r : Rules) (past : Past) : Type 0 where
 abbrev pub past_of : Store → List UndoRecord → ℕ → Past
 past_of store records made = record { state = state_of store; records = records; made = made }
 
--- what is true of a store and its records under rules
+-- what is true of a store and its small records under rules
 pub record IsKept (r : Rules) (store : Store) (records : List UndoRecord) (made : ℕ) : Type 0 where
   -- the objects of each footprint are kept, so that an undo takes no memory
   pub rooms : All (λ k. HasRoom store k) records
+  -- where a record takes a control back, it has a mark
+  pub marked : All (λ (k : UndoRecord). AreMarked k.footprint (marked_back k)) records
   pub few_made : made ≤ 2 ^ 63
-  pub past : IsPast r (past_of store records made)
+  pub past : IsPast r (past_of store (full_all (pasts_of store) records) made)
 
--- the past that a history holds, and its entries
+-- the past that a history holds, with the undo records that its small ones stand for, and its entries
 abbrev pub past_in : History → Past
-past_in h = past_of h.store h.records h.made
+past_in h = past_of h.store (full_all (pasts_of h.store) h.records) h.made
 
 abbrev pub history_in : History → Entries
 history_in h = entries_in (past_in h)
@@ -76,6 +85,10 @@ Becomes change old new = (r : Rules) → IsHeld r old → (history_in new ≡ ch
 -- nothing changes that contracts see
 abbrev pub Stays : History → History → Type 0
 Stays old new = (past_in new ≡ past_in old) × ((r : Rules) → IsHeld r old → IsHeld r new)
+
+-- the step that a change of a label's worker stands for
+abbrev pub step_for : Label → Change → History → Step
+step_for label change h = step_of (control_in ((past_in h).state (obj.Control label.worker))) change
 
 -- rules under which a history is held, and a step that is planned by them
 abbrev pub IsPlanned : Rules → History → Label → Step → Type 0

@@ -10,10 +10,10 @@ use Rattle.om_cells.specs.declared.step.Choice.TheVariants.{Next, Start}
 use Rattle.om_cells.specs.declared.step.Update.{Update}
 use Rattle.om_cells.specs.declared.step.Step.{Step}
 use Rattle.om_cells.specs.declared.step.Entry.{Entry}
-use Rattle.om_cells.specs.declared.store.Store.{Store}
 use Rattle.om_cells.specs.State.{State, undo_record}
-use Rattle.om_cells.specs.Stores.{is_kept}
 use Rattle.om_cells.specs.Rules.{Rules, step_at, next_state}
+use Rattle.om_live.specs.declared.store.Store.{Store}
+use Rattle.om_live.specs.Stores.{is_kept}
 use Rattle.om_history.specs.declared.records.UndoRecord.{UndoRecord}
 use Rattle.om_history.specs.declared.reply.UndoReply.{UndoReply}
 use Rattle.om_history.specs.declared.reply.UndoReply.TheVariants.{Undone, Conflict, Nothing}

@@ -3,6 +3,7 @@ use Rattle.std.specs.Prelude.{◌≡◌, Bool, true, false, cond, nat_eq, ◌&&�
 use Rattle.std.specs.Prelude.{◌∷◌}
 use Rattle.std.specs.Map.{lookup, values_of}
 use Rattle.std.specs.Ordering.{nat_cmp}
+use Rattle.std.specs.BTreeMap.{get}
 use Rattle.std.specs.BTreeSet.{BTreeSet, contains}
 use Rattle.om_foot.specs.declared.object.Obj.{Obj}
 use Rattle.om_foot.specs.declared.object.Obj.TheVariants as obj
@@ -11,6 +12,7 @@ use Rattle.om_foot.specs.declared.footprint.Mode.TheVariants.{Read, Write, Add}
 use Rattle.om_foot.specs.declared.footprint.Access.{Access}
 use Rattle.om_foot.specs.Footprint.{obj_eq, modes_conflict}
 use Rattle.om_history.specs.declared.records.UndoRecord.{UndoRecord}
+use Rattle.om_history.specs.declared.own.OwnEntries.{OwnEntries}
 use Rattle.om_history.specs.declared.touches.Touches.{Touches}
 use Rattle.om_history.specs.declared.touches.TouchLists.{TouchLists}
 
@@ -100,15 +102,44 @@ IsGreatest test (Some t) = (test t ≡ true) × ((s : ℕ) → test s ≡ true �
 abbrev pub own_footprint : UndoRecord → List Access
 own_footprint k = record { object = obj.Control k.entry.worker; mode = Write } ∷ []
 
+-- what is kept of each worker's own entries
+
+abbrev pub is_in : Option (BTreeSet ℕ) → ℕ → Bool
+is_in None s = false
+is_in (Some serials) s = has serials s
+
+abbrev pub knows_worker : OwnEntries → ℕ → Bool
+knows_worker own w = is_some (get nat_cmp own.workers w)
+
+-- whether the entry of a serial is a worker's own
+abbrev pub is_own : OwnEntries → ℕ → ℕ → Bool
+is_own own w s = is_in (get nat_cmp own.workers w) s
+
+-- the own entries of the workers of some entries
+abbrev pub AreOwnOf : List UndoRecord → OwnEntries → Type 0
+AreOwnOf ks own = (w s : ℕ) → is_own own w s ≡ touched own_footprint ks (obj.Control w) Write s
+
+-- no own entry changes; one comes, or goes
+abbrev pub SameOwn : OwnEntries → OwnEntries → Type 0
+SameOwn old new = (w s : ℕ) → is_own new w s ≡ is_own old w s
+
+abbrev pub WithOwn : ℕ → ℕ → OwnEntries → OwnEntries → Type 0
+WithOwn worker serial old new = (w s : ℕ)
+    → is_own new w s ≡ cond (nat_eq serial s && nat_eq worker w) true (is_own old w s)
+
+abbrev pub WithoutOwn : ℕ → ℕ → OwnEntries → OwnEntries → Type 0
+WithoutOwn worker serial old new = (w s : ℕ)
+    → is_own new w s ≡ cond (nat_eq serial s && nat_eq worker w) false (is_own old w s)
+
 -- records by serial, which rise
 abbrev pub AreBySerial : ℕ → List (ℕ × UndoRecord) → Type 0
 AreBySerial low [] = Unit {0}
 AreBySerial low (e ∷ es) = (low < e.0) × (e.0 ≡ e.1.entry.serial) × AreBySerial e.0 es
 
 -- what is true of kept records and of the lists beside them
-pub record IsIndexed (es : List (ℕ × UndoRecord)) (lists own : TouchLists) : Type 0 where
+pub record IsIndexed (es : List (ℕ × UndoRecord)) (lists : TouchLists) (own : OwnEntries) : Type 0 where
   pub by_serial : AreBySerial 0 es
   -- the touch lists are those of the entries
   pub touches : AreListsOf (λ k. k.footprint) (values_of es) lists
-  -- and of each worker's control there are the touches by its own entries
-  pub own_touches : AreListsOf own_footprint (values_of es) own
+  -- and for each worker there are its own entries
+  pub own_entries : AreOwnOf (values_of es) own

@@ -1,28 +1,34 @@
 //! The history of a run, with the store that its entries lead to.
 
-ghost use Rattle.std.specs.Prelude.{◌≡◌, ◌<◌, ◌^◌, [], ◌∷◌, IfOk, OnOk, OnErr, IsNone, IfSome, ◌↔◌};
-ghost use Rattle.om_cells.specs.Stores.{state_of};
+ghost use Rattle.std.specs.Prelude.{◌≡◌, ◌<◌, ◌^◌, [], IfOk, OnOk, OnErr, IsNone, IfSome, ◌↔◌};
+ghost use Rattle.om_foot.specs.declared.object.Obj.TheVariants as obj;
+ghost use Rattle.om_cells.specs.Edits.{changed, HaveRoom};
+ghost use Rattle.om_cells.specs.Values.{control_in};
 ghost use Rattle.om_cells.specs.Rules.{Rules};
+ghost use Rattle.om_live.specs.Faults.{fault_in};
+ghost use Rattle.om_live.specs.Stores.{state_of};
 ghost use Rattle.om_history.specs.Bounds.{IsSteady};
-ghost use Rattle.om_history.specs.Runs.{fault_of, reply_for, reply_to_undo, after_undo};
+ghost use Rattle.om_history.specs.Shapes.{IsShaped};
+ghost use Rattle.om_history.specs.Runs.{reply_to_undo, after_undo};
 ghost use Rattle.om_history.specs.Cones.{taken_by_roll, reply_to_roll, after_roll};
 ghost use Rattle.om_history.specs.Commands.{IsGone};
 ghost use Rattle.om_history.specs.Records.{is_done};
-ghost use Rattle.om_history.specs.Pasts.{past_in, history_in, IsHeld, IsPlanned, IsReplay, AreNumbered, Replies, RepliesToStep, Becomes, TakesStep, TakesOut, TakesItsCone, Stays};
+ghost use Rattle.om_history.specs.Pasts.{past_in, history_in, IsHeld, IsPlanned, step_for, IsReplay, AreNumbered, Replies, RepliesToStep, Becomes, TakesStep, TakesOut, TakesItsCone, Stays};
 
-use crate::records::{Records, UndoRecord, append, take_out};
+use crate::records::{Records, append, take_out};
 use crate::reply::{RollReply, StepReply, Taken, UndoReply};
-use om_cells::{Control, Entry, Label, Outcome, Step, Store, Update, Val};
+use om_cells::{Change, Edit, Entry, Label};
 use om_code::frame::Fault;
+use om_live::{Control, Store, fault_after};
 use om_seq::Seq;
 use std::alloc::{AllocError, Global};
 
-/// The history of a run: its entries, each with what takes it back, and the store that they lead
-/// to.
+/// The history of a run: its entries, each with a small record of what takes it back, and the store
+/// that they lead to, whose trails take the controls back.
 ///
-/// Contracts see it as the past that it holds (`past_in`): the state, the undo records and how many
-/// steps were ever made. They speak of any rules under which commands led to it (`IsHeld`), so that
-/// it serves every program.
+/// Contracts see it as the past that it holds (`past_in`): the state, the undo records that the small
+/// ones stand for, and how many steps were ever made. They speak of any rules under which commands
+/// led to it (`IsHeld`), so that it serves every program.
 #[derive(Drop)]
 pub struct History {
     store: Store,
@@ -30,38 +36,14 @@ pub struct History {
     made: u64,
 }
 
-/// The fault that a worker met whose control a value is, if it did.
-fn fault_at(value: &Val) -> Option<Fault>
-    ensures { result ≡ fault_of (Update.Put value.now ∷ []) }
+/// The fault that a worker comes to by edits of its control, or met before them.
+fn fault_by(store: &Store, worker: u8, edits: &[Edit]) -> Option<Fault>
+    ensures { result ≡ fault_in
+        (changed edits.now (control_in (state_of store.now (obj.Control worker)))) }
 {
-    match value.control()? {
-        Control::Faulted(fault, _) => Some(*fault),
-        _ => None,
-    }
-}
-
-/// The fault that a step's worker comes to, if it does.
-fn fault_in(updates: &[Update]) -> Option<Fault>
-    ensures { result ≡ fault_of updates.now }
-{
-    match updates.first()? {
-        Update::Put(value) => fault_at(value),
-        _ => None,
-    }
-}
-
-/// What a step answers, by its serial, its line and what comes of it.
-pub fn reply_to(outcome: &Outcome, serial: u64, line: u32) -> StepReply
-    ensures { result ≡ reply_for serial line outcome.now }
-{
-    match outcome {
-        Outcome::Updates(updates) => StepReply::Done {
-            serial,
-            line,
-            fault: fault_in(updates.as_slice()),
-        },
-        Outcome::Blocked(why) => StepReply::Blocked(*why),
-        Outcome::Ended => StepReply::Ended,
+    match store.control(worker) {
+        Some(control) => fault_after(control, edits),
+        None => fault_after(&Control::Idle, edits),
     }
 }
 
@@ -77,7 +59,8 @@ impl History {
     /// memory.
     pub fn new(alloc: Global, store: Store) -> History
         ensures past { past_in result ≡ record { state = state_of store; records = []; made = 0 } }
-        ensures held { (r : Rules) → IsSteady r → r.start ≡ state_of store → IsHeld r result }
+        ensures held { (r : Rules) → IsSteady r → IsShaped r → r.start ≡ state_of store
+            → IsHeld r result }
     {
         History {
             store,
@@ -132,53 +115,55 @@ impl History {
         }
     }
 
-    /// What `take` of a planned step would answer now: the reply of the definition of a run. Nothing
-    /// changes.
-    pub fn reply(&self, step: &Step) -> StepReply
+    /// What `take` of a change of a worker would answer now: the reply of the definition of a run.
+    /// Nothing changes, and it takes no memory.
+    pub fn reply(&self, worker: u8, change: &Change) -> StepReply
         requires { (r : Rules) × IsHeld r self.now }
-        ensures { (label : Label) → RepliesToStep label step.now self.now result }
+        ensures { (label : Label) → label.worker ≡ worker
+            → RepliesToStep label (step_for label change.now self.now) self.now result }
     {
-        reply_to(&step.outcome, self.made + 1, step.line)
+        StepReply::Done {
+            serial: self.made + 1,
+            line: change.line,
+            fault: fault_by(&self.store, worker, change.edits.as_slice()),
+        }
     }
 
-    /// Takes the step of a label that was planned at the state, or says why it can't be taken: the
-    /// reply of the definition of a run.
+    /// Takes the step of a label, of which this is the change at the state: the reply of the
+    /// definition of a run. The worker's control is changed in place.
     ///
-    /// Only `Done` changes anything: an entry is added, whose serial is one above the number of
-    /// steps ever made. When out of memory, nothing changes.
-    pub fn take(&mut self, alloc: Global, label: Label, step: Step) -> Result<StepReply, AllocError>
+    /// An entry is added, whose serial is one above the number of steps ever made. When out of
+    /// memory, nothing changes.
+    pub fn take(
+        &mut self,
+        alloc: Global,
+        label: Label,
+        change: Change,
+    ) -> Result<StepReply, AllocError>
         requires few_made { (past_in self.old).made < 2 ^ 63 }
-        requires planned { (r : Rules) × IsPlanned r self.old label step }
-        ensures reply { IfOk result (RepliesToStep label step self.old) }
-        ensures after { OnOk result (TakesStep label step self.old self.new) }
+        requires room { HaveRoom change.edits
+            (control_in ((past_in self.old).state (obj.Control label.worker))) }
+        requires planned { (r : Rules) × IsPlanned r self.old label (step_for label change self.old) }
+        ensures reply { IfOk result
+            (RepliesToStep label (step_for label change self.old) self.old) }
+        ensures after { OnOk result
+            (TakesStep label (step_for label change self.old) self.old self.new) }
         ensures unchanged_on_error { OnErr result (Stays self.old self.new) }
     {
-        let Step {
-            footprint,
-            outcome,
-            line,
-        } = step;
+        let reply = self.reply(label.worker, &change);
         let serial = self.made + 1;
-        let reply = reply_to(&outcome, serial, line);
-        match outcome {
-            Outcome::Updates(updates) => {
-                let entry = Entry {
-                    serial,
-                    worker: label.worker,
-                    choice: label.choice,
-                    line,
-                };
-                let planned = UndoRecord {
-                    entry,
-                    footprint,
-                    back: updates,
-                };
-                append(&mut self.store, &mut self.records, alloc, planned)?;
+        let entry = Entry {
+            serial,
+            worker: label.worker,
+            choice: label.choice,
+            line: change.line,
+        };
+        match append(&mut self.store, &mut self.records, alloc, entry, change) {
+            Ok(()) => {
                 self.made = serial;
                 Ok(reply)
             }
-            Outcome::Blocked(_) => Ok(reply),
-            Outcome::Ended => Ok(reply),
+            Err(error) => Err(error),
         }
     }
 

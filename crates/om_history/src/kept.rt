@@ -1,11 +1,11 @@
 //! Undo records as the history keeps them: small, so that they are sought fast.
 
-ghost use Rattle.std.specs.Prelude.{◌≡◌, IfOk};
+ghost use Rattle.std.specs.Prelude.{◌≡◌, [], IfOk};
 ghost use Rattle.om_history.specs.Records.{choice_of};
 
-use crate::records::UndoRecord;
-use om_cells::{Choice, Update};
-use om_foot::{Access, Name};
+use crate::shared_access::SharedAccess;
+use om_cells::{Choice, Entry, Update};
+use om_foot::Name;
 use om_seq::Seq;
 use std::alloc::{AllocError, Global};
 use std::marker::Model;
@@ -17,11 +17,12 @@ struct Parts {
     worker: u8,
     line: u32,
     start: Option<Box<Name>>,
-    footprint: Seq<Access>,
+    footprint: Seq<SharedAccess>,
     back: Seq<Update>,
 }
 
-/// An undo record behind one pointer.
+/// An undo record behind one pointer. It shares the objects of its footprint with other records, so
+/// that each access takes 16 bytes.
 ///
 /// Contracts see the record alone.
 #[derive(Drop)]
@@ -63,23 +64,20 @@ fn choice(start: &Option<Box<Name>>) -> Choice
 }
 
 impl Kept {
-    /// A record, to be kept; its only error is out of memory.
-    pub fn of(alloc: Global, made: UndoRecord) -> Result<Kept, AllocError>
-        ensures { IfOk result (λ kept. kept ≡ made) }
+    /// The record of an entry with this footprint, without what takes its updates back. Its only
+    /// error is out of memory.
+    pub fn of(alloc: Global, entry: Entry, footprint: Vec<SharedAccess>) -> Result<Kept, AllocError>
+        ensures { IfOk result
+            (λ kept. kept ≡ record { entry = entry; footprint = footprint.items; back = [] }) }
     {
-        let UndoRecord {
-            entry,
-            footprint,
-            back,
-        } = made;
         let start = start(alloc, &entry.choice)?;
         let parts = Parts {
             serial: entry.serial,
             worker: entry.worker,
             line: entry.line,
             start,
-            footprint,
-            back,
+            footprint: Seq::of(footprint),
+            back: Seq::new(alloc),
         };
         Ok(Kept {
             parts: Box::new(alloc, parts)?,
@@ -115,14 +113,14 @@ impl Kept {
     }
 
     /// Its footprint.
-    pub fn footprint(&self) -> &[Access]
+    pub fn footprint(&self) -> &[SharedAccess]
         ensures { result.now ≡ self.now.footprint }
     {
         self.parts.footprint.as_slice()
     }
 
     /// Its footprint, and what takes its updates back. It takes no memory.
-    pub fn into_changes(self) -> (Seq<Access>, Seq<Update>)
+    pub fn into_changes(self) -> (Seq<SharedAccess>, Seq<Update>)
         ensures footprint { result.0 ≡ self.footprint }
         ensures back { result.1 ≡ self.back }
     {

@@ -5,11 +5,14 @@
 pub mod history;
 mod kept;
 pub mod laws;
+mod own;
 pub mod records;
 pub mod reply;
+mod shared_access;
+mod shared_object;
 mod touches;
 mod updates;
 
-pub use history::{History, reply_to};
+pub use history::History;
 pub use records::UndoRecord;
 pub use reply::{RollReply, StepReply, Taken, UndoReply};

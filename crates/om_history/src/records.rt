@@ -1,28 +1,32 @@
 //! Undo records: the history's entries, each with its footprint and what takes it back.
 
-ghost use Rattle.std.specs.Prelude.{◌≡◌, ◌≢◌, ℕ, List, ◌<◌, ◌∷◌, ◌++◌, [], Some, IfOk, OnOk, OnErr, IfErr, IsSome, IfSome, IfNone, All, map, reverse, slice_get, remove, false, true};
+ghost use Rattle.std.specs.Prelude.{◌≡◌, ◌≢◌, ℕ, List, ◌<◌, ◌∷◌, ◌++◌, [], Some, IfOk, OnOk, OnErr, IfErr, IsSome, IfSome, IfNone, All, map, reverse, slice_get, remove, drop, false, true};
 ghost use Rattle.std.specs.Map.{values_of};
 ghost use Rattle.std.specs.Ordering.{nat_cmp};
 ghost use Rattle.std.specs.BTreeMap.{get};
 ghost use Rattle.om_foot.specs.declared.object.Obj.{Obj};
 ghost use Rattle.om_foot.specs.declared.object.Obj.TheVariants as obj;
 ghost use Rattle.om_foot.specs.declared.footprint.Mode.{Mode};
-ghost use Rattle.om_foot.specs.Footprint.{conflict_of};
-ghost use Rattle.om_cells.specs.State.{updated, undo_record, taken_back};
-ghost use Rattle.om_cells.specs.Stores.{state_of, is_kept};
-ghost use Rattle.om_history.specs.Bounds.{FitsAll, FitsBack};
+ghost use Rattle.om_foot.specs.Footprint.{conflicts_with_any, conflict_of};
+ghost use Rattle.om_cells.specs.State.{updated, taken_back};
+ghost use Rattle.om_live.specs.Stores.{state_of, is_kept, pasts_of};
+ghost use Rattle.om_history.specs.Fills.{small_record, noted_all, full, before};
 ghost use Rattle.om_history.specs.Cones.{meets_one, is_member as is_member_of, cone, taken_of};
 ghost use Rattle.om_history.specs.Runs.{conflict_or};
 ghost use Rattle.om_history.specs.Records.{entries_of, transition_of, transitions_of, kept_reply, HasRoom, LastHasSerial, AreBelow, AreAbove};
+ghost use Rattle.om_history.specs.Takes.{updates_by, small_for, CanMake, CanLeave};
 ghost use Rattle.om_history.specs.declared.records.UndoRecord.{UndoRecord};
-ghost use Rattle.om_history.specs.Touches.{has_touch, own_footprint, AreBySerial, AreListsOf, AreSame, AreWith, AreWithout, IsIndexed};
+ghost use Rattle.om_history.specs.Touches.{has_touch, AreBySerial, AreListsOf, AreSame, AreWith, AreWithout, SameOwn, WithOwn, WithoutOwn, IsIndexed};
 
 use crate::kept::Kept;
+use crate::own::OwnEntries;
 use crate::reply::{Taken, UndoReply};
+use crate::shared_access::SharedAccess;
 use crate::touches::TouchLists;
 use crate::updates::{keep_all, make_all, take_back_all};
-use om_cells::{Entry, Store, Update};
-use om_foot::{Access, Mode, Obj, conflict};
+use om_cells::{Change, Edit, Entry, Update};
+use om_foot::{Access, Obj, is_in_conflict};
+use om_live::Store;
 use om_seq::Seq;
 use std::alloc::{AllocError, Global};
 use std::collections::BTreeMap;
@@ -34,7 +38,8 @@ pub struct UndoRecord {
     pub entry: Entry,
     /// The objects that the step touched, its worker's control first.
     pub footprint: Seq<Access>,
-    /// For each access that was updated what takes its update back.
+    /// For each access behind the first that was updated what takes its update back; at a `Write` of
+    /// a control a `Keep`, since its trail takes that back.
     pub back: Seq<Update>,
 }
 
@@ -46,8 +51,7 @@ pub struct UndoRecord {
 pub struct Records {
     kept: BTreeMap<u64, Kept>,
     lists: TouchLists,
-    /// The touches of each worker's control by its own entries.
-    own: TouchLists,
+    own: OwnEntries,
 }
 
 impl Model for Records {
@@ -67,25 +71,20 @@ impl Model for Records {
 #[tactic(auto, using(crate::proofs::Lists::added_out))]
 fn note(
     lists: &mut TouchLists,
-    own: &mut TouchLists,
+    own: &mut OwnEntries,
     alloc: Global,
     made: &Kept,
 ) -> Result<(), AllocError>
-    requires lists { (o : Obj) (m : Mode) → has_touch lists.old o m made.now.entry.serial ≡ false }
-    requires own { (o : Obj) (m : Mode) → has_touch own.old o m made.now.entry.serial ≡ false }
+    requires { (o : Obj) (m : Mode) → has_touch lists.old o m made.now.entry.serial ≡ false }
     ensures lists { OnOk result
         (AreWith made.now.footprint made.now.entry.serial lists.old lists.new) }
     ensures own { OnOk result
-        (AreWith (own_footprint made.now) made.now.entry.serial own.old own.new) }
+        (WithOwn made.now.entry.worker made.now.entry.serial own.old own.new) }
     ensures same_lists_on_error { OnErr result (AreSame lists.old lists.new) }
-    ensures same_own_on_error { OnErr result (AreSame own.old own.new) }
+    ensures same_own_on_error { OnErr result (SameOwn own.old own.new) }
 {
-    let control = [Access {
-        object: Obj::Control(made.worker()),
-        mode: Mode::Write,
-    }];
     lists.add_all(alloc, made.footprint(), made.serial())?;
-    match own.add_all(alloc, &control, made.serial()) {
+    match own.add(alloc, made.worker(), made.serial()) {
         Ok(()) => Ok(()),
         Err(error) => {
             lists.remove_all(made.footprint(), made.serial());
@@ -95,16 +94,12 @@ fn note(
 }
 
 /// Takes the touches of an entry out of both lists. It takes no memory.
-fn forget(lists: &mut TouchLists, own: &mut TouchLists, made: &Kept)
+fn forget(lists: &mut TouchLists, own: &mut OwnEntries, made: &Kept)
     ensures lists { AreWithout made.now.footprint made.now.entry.serial lists.old lists.new }
-    ensures own { AreWithout (own_footprint made.now) made.now.entry.serial own.old own.new }
+    ensures own { WithoutOwn made.now.entry.worker made.now.entry.serial own.old own.new }
 {
-    let control = [Access {
-        object: Obj::Control(made.worker()),
-        mode: Mode::Write,
-    }];
     lists.remove_all(made.footprint(), made.serial());
-    own.remove_all(&control, made.serial());
+    own.remove(made.worker(), made.serial());
 }
 
 /// Adds a record whose serial is above all others, and its touches. When out of memory, nothing
@@ -112,7 +107,7 @@ fn forget(lists: &mut TouchLists, own: &mut TouchLists, made: &Kept)
 fn enter(
     kept: &mut BTreeMap<u64, Kept>,
     lists: &mut TouchLists,
-    own: &mut TouchLists,
+    own: &mut OwnEntries,
     alloc: Global,
     made: Kept,
 ) -> Result<(), Kept>
@@ -145,7 +140,7 @@ fn enter(
 fn leave(
     kept: &mut BTreeMap<u64, Kept>,
     lists: &mut TouchLists,
-    own: &mut TouchLists,
+    own: &mut OwnEntries,
     serial: u64,
 ) -> Option<Kept>
     requires { IsIndexed kept.old.entries lists.old own.old }
@@ -163,6 +158,31 @@ fn leave(
         }
         None => None,
     }
+}
+
+/// Whether an access conflicts with one of a footprint.
+fn meets_one_of(access: &Access, others: &[SharedAccess]) -> bool
+    ensures { result ≡ conflicts_with_any access.now others.now }
+{
+    for other in others {
+        if is_in_conflict(access, &other.access()) {
+            return true;
+        }
+    }
+    false
+}
+
+/// The first object of `first` at which two footprints conflict, as `om_foot::conflict` has it.
+fn conflict(first: &[SharedAccess], others: &[SharedAccess]) -> Option<Obj>
+    ensures { result ≡ conflict_of first.now others.now }
+{
+    for shared in first {
+        let access = shared.access();
+        if meets_one_of(&access, others) {
+            return Some(access.object);
+        }
+    }
+    None
 }
 
 /// The reply that names a record where it conflicts with another one, else the other reply.
@@ -293,7 +313,7 @@ impl Records {
         Records {
             kept: BTreeMap::new(alloc),
             lists: TouchLists::new(alloc),
-            own: TouchLists::new(alloc),
+            own: OwnEntries::new(alloc),
         }
     }
 
@@ -302,7 +322,7 @@ impl Records {
         ensures found { IfSome result (λ s. LastHasSerial worker self.now s) }
         ensures none { IfNone result (All (λ k. k.entry.worker ≢ worker) self.now) }
     {
-        self.own.last(&Obj::Control(worker), Mode::Write)
+        self.own.last(worker)
     }
 
     /// What an undo of the entry with a serial answers.
@@ -311,6 +331,16 @@ impl Records {
             → k.entry.serial ≡ serial → result ≡ kept_reply self.now i }
     {
         reply_at(&self.kept, &self.lists, serial)
+    }
+
+    /// The record of an entry with this footprint, without what takes its updates back, to be
+    /// entered. Its only error is out of memory.
+    fn prepare(&self, alloc: Global, entry: Entry, footprint: &[Access]) -> Result<Kept, AllocError>
+        ensures { IfOk result
+            (λ k. k ≡ record { entry = entry; footprint = footprint.now; back = [] }) }
+    {
+        let shared = self.lists.share_all(alloc, footprint)?;
+        Kept::of(alloc, entry, shared)
     }
 
     /// Adds a record whose serial is above all others. When out of memory, nothing changes, and the
@@ -354,85 +384,140 @@ impl Records {
     }
 }
 
-/// The same accesses, with no room for more where that can be given back.
-fn without_room(footprint: Seq<Access>) -> Seq<Access>
-    ensures { result ≡ footprint }
+/// The accesses behind the first one.
+fn further(footprint: &[SharedAccess]) -> &[SharedAccess]
+    ensures { result.now ≡ drop 1 footprint.now }
 {
-    let mut accesses = footprint.into_vec();
-    accesses.shrink_to_fit();
-    Seq::of(accesses)
+    match footprint.split_first() {
+        Some((_, rest)) => rest,
+        None => footprint,
+    }
 }
 
-/// Takes the updates of a record back. It takes no memory.
+/// Takes the changes of a record back. It takes no memory.
 fn take_back(store: &mut Store, made: Kept)
-    requires room { HasRoom store.old made }
-    requires fits { FitsBack made.footprint made.back (state_of store.old) }
-    ensures state { state_of store.new ≡ taken_back made.footprint made.back (state_of store.old) }
+    requires { CanLeave store.old made }
+    ensures state { state_of store.new
+        ≡ taken_back made.footprint (full (pasts_of store.old) made).back (state_of store.old) }
+    ensures pasts { pasts_of store.new ≡ before (pasts_of store.old) made }
     ensures kept { (q : Obj) → is_kept store.new q ≡ is_kept store.old q }
 {
+    let worker = made.worker();
     let (footprint, back) = made.into_changes();
     let mut back = back.into_vec();
-    take_back_all(store, footprint.as_slice(), &mut back);
+    take_back_all(store, further(footprint.as_slice()), &mut back);
+    store.undo(worker);
 }
 
-/// Makes the updates of a record that has them in the place of what takes them back, and leaves
-/// that there. When out of memory, no value changes.
-fn make(store: &mut Store, alloc: Global, planned: UndoRecord) -> Result<Kept, AllocError>
-    requires { FitsAll planned.footprint planned.back (state_of store.old) }
-    ensures state { OnOk result
-        (state_of store.new ≡ updated planned.footprint planned.back (state_of store.old)) }
-    ensures made { IfOk result
-        (λ k. k ≡ record planned
-        { back = undo_record planned.footprint planned.back (state_of store.old) }) }
-    ensures way_back { IfOk result
-        (λ k. taken_back k.footprint k.back (state_of store.new) ≡ state_of store.old) }
-    ensures fits { IfOk result (λ k. FitsBack k.footprint k.back (state_of store.new)) }
-    ensures room { OnOk result (All (λ a. is_kept store.new a.object ≡ true) planned.footprint) }
-    ensures others_kept { (q : Obj) → is_kept store.old q ≡ true → is_kept store.new q ≡ true }
-    ensures unchanged_on_error { OnErr result (state_of store.new ≡ state_of store.old) }
+/// Makes edits of the control of a record's worker, and then the updates behind its first access,
+/// and leaves in the place of these what the record holds of them. When out of memory, nothing
+/// changes.
+fn make_changes(
+    store: &mut Store,
+    alloc: Global,
+    made: &Kept,
+    edits: Seq<Edit>,
+    updates: &mut Vec<Update>,
+) -> Result<(), AllocError>
+    requires room { HasRoom store.old made.now }
+    requires can { CanMake made.now.entry.worker made.now.footprint edits updates.old.items
+        (state_of store.old) }
+    ensures state { OnOk result (state_of store.new ≡ updated made.now.footprint
+        (updates_by made.now.entry.worker edits updates.old.items (state_of store.old))
+        (state_of store.old)) }
+    ensures pasts { OnOk result (pasts_of store.new ≡ noted_all made.now.footprint
+        (updates_by made.now.entry.worker edits updates.old.items (state_of store.old))
+        (state_of store.old) (pasts_of store.old)) }
+    ensures small { OnOk result (updates.new.items ≡ drop 1 (small_record made.now.footprint
+        (updates_by made.now.entry.worker edits updates.old.items (state_of store.old))
+        (state_of store.old))) }
+    ensures kept { (q : Obj) → is_kept store.new q ≡ is_kept store.old q }
+    ensures same_state_on_error { OnErr result (state_of store.new ≡ state_of store.old) }
+    ensures same_pasts_on_error { OnErr result (pasts_of store.new ≡ pasts_of store.old) }
 {
-    let UndoRecord {
-        entry,
-        footprint,
-        back,
-    } = planned;
-    keep_all(store, alloc, footprint.as_slice())?;
-    let made = UndoRecord {
-        entry,
-        footprint: without_room(footprint),
-        back: Seq::new(alloc),
-    };
-    let mut made = Kept::of(alloc, made)?;
-    let mut back = back.into_vec();
-    back.shrink_to_fit();
-    make_all(store, made.footprint(), &mut back)?;
-    made.set_back(Seq::of(back));
-    Ok(made)
+    match store.change(alloc, made.worker(), edits) {
+        Ok(()) => {}
+        Err(error) => return Err(error),
+    }
+    match make_all(store, alloc, further(made.footprint()), updates) {
+        Ok(()) => Ok(()),
+        Err(error) => {
+            store.undo(made.worker());
+            Err(error)
+        }
+    }
 }
 
-/// Makes the updates of a record that has them in the place of what takes them back, and adds it at
-/// the end, with what takes them back. When out of memory, no value and no record changes.
+/// Makes a change of an entry's worker, and answers the record of it. When out of memory, nothing
+/// changes.
+fn make(
+    store: &mut Store,
+    records: &Records,
+    alloc: Global,
+    entry: Entry,
+    change: Change,
+) -> Result<Kept, AllocError>
+    requires { CanMake entry.worker change.footprint change.edits change.updates
+        (state_of store.old) }
+    ensures state { OnOk result (state_of store.new ≡ updated change.footprint
+        (updates_by entry.worker change.edits change.updates (state_of store.old))
+        (state_of store.old)) }
+    ensures pasts { OnOk result (pasts_of store.new ≡ noted_all change.footprint
+        (updates_by entry.worker change.edits change.updates (state_of store.old))
+        (state_of store.old) (pasts_of store.old)) }
+    ensures made { IfOk result (λ k. k ≡ small_for entry change (state_of store.old)) }
+    ensures room { OnOk result (All (λ a. is_kept store.new a.object ≡ true) change.footprint) }
+    ensures others_kept { (q : Obj) → is_kept store.old q ≡ true → is_kept store.new q ≡ true }
+    ensures same_state_on_error { OnErr result (state_of store.new ≡ state_of store.old) }
+    ensures same_pasts_on_error { OnErr result (pasts_of store.new ≡ pasts_of store.old) }
+{
+    let Change {
+        footprint,
+        edits,
+        updates,
+        line: _,
+    } = change;
+    keep_all(store, alloc, footprint.as_slice())?;
+    let mut made = records.prepare(alloc, entry, footprint.as_slice())?;
+    let mut back = updates.into_vec();
+    back.shrink_to_fit();
+    match make_changes(store, alloc, &made, edits, &mut back) {
+        Ok(()) => {
+            made.set_back(Seq::of(back));
+            Ok(made)
+        }
+        Err(error) => Err(error),
+    }
+}
+
+/// Makes a change of an entry's worker, and adds the record of it at the end. When out of memory, no
+/// value and no record changes.
 pub(crate) fn append(
     store: &mut Store,
     records: &mut Records,
     alloc: Global,
-    planned: UndoRecord,
+    entry: Entry,
+    change: Change,
 ) -> Result<(), AllocError>
-    requires fits { FitsAll planned.footprint planned.back (state_of store.old) }
-    requires some { 0 < planned.entry.serial }
-    requires latest { AreBelow planned.entry.serial records.old }
-    ensures state { OnOk result
-        (state_of store.new ≡ updated planned.footprint planned.back (state_of store.old)) }
+    requires can { CanMake entry.worker change.footprint change.edits change.updates
+        (state_of store.old) }
+    requires some { 0 < entry.serial }
+    requires latest { AreBelow entry.serial records.old }
+    ensures state { OnOk result (state_of store.new ≡ updated change.footprint
+        (updates_by entry.worker change.edits change.updates (state_of store.old))
+        (state_of store.old)) }
+    ensures pasts { OnOk result (pasts_of store.new ≡ noted_all change.footprint
+        (updates_by entry.worker change.edits change.updates (state_of store.old))
+        (state_of store.old) (pasts_of store.old)) }
     ensures records { OnOk result
-        (records.new ≡ records.old
-        ++ record planned { back = undo_record planned.footprint planned.back (state_of store.old) }
-        ∷ []) }
-    ensures room { OnOk result (All (λ a. is_kept store.new a.object ≡ true) planned.footprint) }
+        (records.new ≡ records.old ++ small_for entry change (state_of store.old) ∷ []) }
+    ensures room { OnOk result (All (λ a. is_kept store.new a.object ≡ true) change.footprint) }
     ensures others_kept { (q : Obj) → is_kept store.old q ≡ true → is_kept store.new q ≡ true }
     ensures same_state_on_error { OnErr result (state_of store.new ≡ state_of store.old) }
+    ensures same_pasts_on_error { OnErr result (pasts_of store.new ≡ pasts_of store.old) }
     ensures same_records_on_error { OnErr result (records.new ≡ records.old) }
 {
-    let made = make(store, alloc, planned)?;
+    let made = make(store, records, alloc, entry, change)?;
     match records.enter(alloc, made) {
         Ok(()) => Ok(()),
         Err(made) => {
@@ -442,16 +527,17 @@ pub(crate) fn append(
     }
 }
 
-/// Takes the record with a serial out, and takes its updates back. It takes no memory.
+/// Takes the record with a serial out, and takes its changes back. It takes no memory.
 pub(crate) fn take_out(store: &mut Store, records: &mut Records, serial: u64)
-    requires rooms { All (λ k. HasRoom store.old k) records.old }
-    requires fits { (i : ℕ) (k : UndoRecord) → slice_get records.old i ≡ Some k
-        → k.entry.serial ≡ serial → FitsBack k.footprint k.back (state_of store.old) }
+    requires can { (i : ℕ) (k : UndoRecord) → slice_get records.old i ≡ Some k
+        → k.entry.serial ≡ serial → CanLeave store.old k }
     requires there { (i : ℕ) × (k : UndoRecord) × (slice_get records.old i ≡ Some k)
         × (k.entry.serial ≡ serial) }
     ensures state { (i : ℕ) (k : UndoRecord) → slice_get records.old i ≡ Some k
-        → k.entry.serial ≡ serial
-        → state_of store.new ≡ taken_back k.footprint k.back (state_of store.old) }
+        → k.entry.serial ≡ serial → state_of store.new
+        ≡ taken_back k.footprint (full (pasts_of store.old) k).back (state_of store.old) }
+    ensures pasts { (i : ℕ) (k : UndoRecord) → slice_get records.old i ≡ Some k
+        → k.entry.serial ≡ serial → pasts_of store.new ≡ before (pasts_of store.old) k }
     ensures records { (i : ℕ) (k : UndoRecord) → slice_get records.old i ≡ Some k
         → k.entry.serial ≡ serial → records.new ≡ remove records.old i }
     ensures kept { (q : Obj) → is_kept store.new q ≡ is_kept store.old q }

@@ -1,12 +1,14 @@
 //! The touches of objects by the entries of a history, so that the first later one that conflicts
 //! with an entry is found without a look at the others.
 
-ghost use Rattle.std.specs.Prelude.{◌≡◌, ℕ, ◌∷◌, [], true, false, cond, nat_eq, ◌&&◌, take as first_so_many, OnOk, OnErr};
+ghost use Rattle.std.specs.Prelude.{◌≡◌, ℕ, ◌∷◌, [], true, false, cond, nat_eq, ◌&&◌, take as first_so_many, IfOk, OnOk, OnErr};
 ghost use Rattle.om_foot.specs.declared.object.Obj.{Obj};
 ghost use Rattle.om_foot.specs.declared.footprint.Mode.{Mode};
 ghost use Rattle.om_foot.specs.Footprint.{modes_conflict};
 ghost use Rattle.om_history.specs.Touches.{has, list_of, mode_eq, sooner, IsFirst, IsGreatest, meets_at, meets, has_touch, knows, AreSame, AreWith, AreWithout};
 
+use crate::shared_access::SharedAccess;
+use crate::shared_object::SharedObject;
 use om_foot::{Access, Mode, Obj, Touch, first_touch};
 use std::alloc::{AllocError, Global};
 use std::collections::{BTreeMap, BTreeSet};
@@ -22,7 +24,7 @@ pub struct Touches {
 }
 
 /// Adds a serial. When out of memory, nothing changes.
-fn put(serials: &mut BTreeSet<u64>, serial: u64) -> Result<(), AllocError>
+pub(crate) fn put(serials: &mut BTreeSet<u64>, serial: u64) -> Result<(), AllocError>
     ensures added { OnOk result
         ((s : ℕ) → has serials.new s ≡ cond (nat_eq serial s) true (has serials.old s)) }
     ensures unchanged_on_error { OnErr result ((s : ℕ) → has serials.new s ≡ has serials.old s) }
@@ -32,7 +34,7 @@ fn put(serials: &mut BTreeSet<u64>, serial: u64) -> Result<(), AllocError>
 }
 
 /// Takes a serial out, if it is there. It takes no memory.
-fn take(serials: &mut BTreeSet<u64>, serial: u64)
+pub(crate) fn take(serials: &mut BTreeSet<u64>, serial: u64)
     ensures { (s : ℕ) → has serials.new s ≡ cond (nat_eq serial s) false (has serials.old s) }
 {
     let _was_there = serials.remove(&serial);
@@ -52,7 +54,7 @@ fn first_after(serials: &BTreeSet<u64>, serial: u64) -> Option<u64>
 }
 
 /// The last serial.
-fn last(serials: &BTreeSet<u64>) -> Option<u64>
+pub(crate) fn last(serials: &BTreeSet<u64>) -> Option<u64>
     ensures { IsGreatest (has serials.now) result }
 {
     match serials.last() {
@@ -102,17 +104,6 @@ impl Touches {
         }
     }
 
-    /// The serials of the touches of one mode.
-    fn list(&self, mode: Mode) -> &BTreeSet<u64>
-        ensures { result.now ≡ list_of self.now mode }
-    {
-        match mode {
-            Mode::Read => &self.reads,
-            Mode::Write => &self.writes,
-            Mode::Add => &self.additions,
-        }
-    }
-
     /// Adds a touch. When out of memory, nothing changes.
     fn add(&mut self, mode: Mode, serial: u64) -> Result<(), AllocError>
         ensures added { OnOk result
@@ -156,7 +147,7 @@ impl Touches {
 /// Contracts see which entry touches an object, and how (`has_touch`).
 #[derive(Drop)]
 pub struct TouchLists {
-    objects: BTreeMap<Obj, Touches>,
+    objects: BTreeMap<SharedObject, Touches>,
 }
 
 impl TouchLists {
@@ -169,45 +160,97 @@ impl TouchLists {
         }
     }
 
+    /// An object, shared with the records and lists that name it already. Its only error is out of
+    /// memory.
+    fn share_object(&self, alloc: Global, object: &Obj) -> Result<SharedObject, AllocError>
+        ensures { IfOk result (λ shared. shared ≡ object.now) }
+    {
+        let made = SharedObject::of(alloc, object)?;
+        match self.objects.get_key_value(&made) {
+            Some((known, _)) => known.copy(),
+            None => Ok(made),
+        }
+    }
+
+    /// An access of a shared object. Its only error is out of memory.
+    fn share(&self, alloc: Global, access: &Access) -> Result<SharedAccess, AllocError>
+        ensures { IfOk result (λ shared. shared ≡ access.now) }
+    {
+        let object = self.share_object(alloc, &access.object)?;
+        Ok(SharedAccess::of(object, access.mode))
+    }
+
+    /// The accesses of a footprint, whose objects are shared. Its only error is out of memory.
+    pub fn share_all(
+        &self,
+        alloc: Global,
+        footprint: &[Access],
+    ) -> Result<Vec<SharedAccess>, AllocError>
+        ensures { IfOk result (λ shared. shared.items ≡ footprint.now) }
+    {
+        let mut shared = Vec::with_capacity(alloc, footprint.len())?;
+        for access in footprint {
+            shared.push(self.share(alloc, access)?)?;
+        }
+        Ok(shared)
+    }
+
     /// Makes an object known. No touch changes, also when out of memory.
-    fn know(&mut self, alloc: Global, object: &Obj) -> Result<(), AllocError>
+    fn know(&mut self, alloc: Global, object: &SharedObject) -> Result<(), AllocError>
         ensures same { AreSame self.old self.new }
         ensures known { OnOk result (knows self.new object.now ≡ true) }
     {
         if self.objects.contains_key(object) {
             return Ok(());
         }
-        drop(self.objects.insert(*object, Touches::new(alloc))?);
+        let key = object.copy()?;
+        drop(self.objects.insert(key, Touches::new(alloc))?);
         Ok(())
     }
 
     /// Adds a touch of an object that is known. When out of memory, no touch changes.
-    fn add_known(&mut self, access: &Access, serial: u64) -> Result<(), AllocError>
+    fn add_known(&mut self, access: &SharedAccess, serial: u64) -> Result<(), AllocError>
         requires { knows self.old access.now.object ≡ true }
         ensures added { OnOk result (AreWith (access.now ∷ []) serial self.old self.new) }
         ensures unchanged_on_error { OnErr result (AreSame self.old self.new) }
     {
-        match self.objects.get_mut(&access.object) {
-            Some(touches) => touches.add(access.mode, serial),
+        match self.objects.get_mut(access.object()) {
+            Some(touches) => touches.add(access.mode(), serial),
             None => unreachable!(),
         }
     }
 
-    /// Adds a touch. When out of memory, no touch changes.
-    fn add(&mut self, alloc: Global, access: &Access, serial: u64) -> Result<(), AllocError>
+    /// Makes an object known, and adds its first touch. When out of memory, no touch changes.
+    fn add_first(
+        &mut self,
+        alloc: Global,
+        access: &SharedAccess,
+        serial: u64,
+    ) -> Result<(), AllocError>
         ensures added { OnOk result (AreWith (access.now ∷ []) serial self.old self.new) }
         ensures unchanged_on_error { OnErr result (AreSame self.old self.new) }
     {
-        self.know(alloc, &access.object)?;
+        self.know(alloc, access.object())?;
         self.add_known(access, serial)
     }
 
+    /// Adds a touch; an object that is known is sought once. When out of memory, no touch changes.
+    fn add(&mut self, alloc: Global, access: &SharedAccess, serial: u64) -> Result<(), AllocError>
+        ensures added { OnOk result (AreWith (access.now ∷ []) serial self.old self.new) }
+        ensures unchanged_on_error { OnErr result (AreSame self.old self.new) }
+    {
+        match self.objects.get_mut(access.object()) {
+            Some(touches) => touches.add(access.mode(), serial),
+            None => self.add_first(alloc, access, serial),
+        }
+    }
+
     /// Takes a touch out, if it is there. It takes no memory.
-    fn remove(&mut self, access: &Access, serial: u64)
+    fn remove(&mut self, access: &SharedAccess, serial: u64)
         ensures { AreWithout (access.now ∷ []) serial self.old self.new }
     {
-        match self.objects.get_mut(&access.object) {
-            Some(touches) => touches.remove(access.mode, serial),
+        match self.objects.get_mut(access.object()) {
+            Some(touches) => touches.remove(access.mode(), serial),
             None => {}
         }
     }
@@ -216,7 +259,7 @@ impl TouchLists {
     pub fn add_each(
         &mut self,
         alloc: Global,
-        footprint: &[Access],
+        footprint: &[SharedAccess],
         serial: u64,
     ) -> Result<(), AllocError>
         ensures added { OnOk result (AreWith footprint.now serial self.old self.new) }
@@ -236,7 +279,7 @@ impl TouchLists {
     pub fn add_all(
         &mut self,
         alloc: Global,
-        footprint: &[Access],
+        footprint: &[SharedAccess],
         serial: u64,
     ) -> Result<(), AllocError>
         requires { (o : Obj) (m : Mode) → has_touch self.old o m serial ≡ false }
@@ -253,7 +296,7 @@ impl TouchLists {
     }
 
     /// Takes the touches of an entry out. It takes no memory.
-    pub fn remove_all(&mut self, footprint: &[Access], serial: u64)
+    pub fn remove_all(&mut self, footprint: &[SharedAccess], serial: u64)
         ensures { AreWithout footprint.now serial self.old self.new }
     {
         for access in footprint {
@@ -262,19 +305,19 @@ impl TouchLists {
     }
 
     /// The first touch after a serial that conflicts with an access.
-    fn first_at(&self, access: &Access, serial: u64) -> Option<u64>
+    fn first_at(&self, access: &SharedAccess, serial: u64) -> Option<u64>
         ensures { IsFirst (meets_at (has_touch self.now access.now.object) access.now.mode) serial
             result }
     {
-        match self.objects.get(&access.object) {
-            Some(touches) => touches.first_conflict(access.mode, serial),
+        match self.objects.get(access.object()) {
+            Some(touches) => touches.first_conflict(access.mode(), serial),
             None => None,
         }
     }
 
     /// The serial of the first entry after a serial that conflicts with a footprint: the least one
     /// over its objects. It takes no memory.
-    pub fn first_conflict(&self, footprint: &[Access], serial: u64) -> Option<u64>
+    pub fn first_conflict(&self, footprint: &[SharedAccess], serial: u64) -> Option<u64>
         ensures { IsFirst (meets (has_touch self.now) footprint.now) serial result }
     {
         let mut first = None;
@@ -282,15 +325,5 @@ impl TouchLists {
             first = sooner(first, self.first_at(access, serial));
         }
         first
-    }
-
-    /// The last entry that touches an object with a mode.
-    pub fn last(&self, object: &Obj, mode: Mode) -> Option<u64>
-        ensures { IsGreatest (has_touch self.now object.now mode) result }
-    {
-        match self.objects.get(object) {
-            Some(touches) => last(touches.list(mode)),
-            None => None,
-        }
     }
 }

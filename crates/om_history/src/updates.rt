@@ -1,24 +1,85 @@
-//! Updates of a store, each exchanged for what takes it back.
+//! Updates of a store, each exchanged for what a small record holds of it.
 
-ghost use Rattle.std.specs.Prelude.{◌≡◌, ◌≤◌, true, All, OnOk, OnErr, IfOk, length, take};
+ghost use Rattle.std.specs.Prelude.{◌≡◌, ◌<◌, ◌≤◌, ◌∷◌, true, false, All, OnOk, OnErr, IfOk, length, take, drop};
 ghost use Rattle.om_foot.specs.declared.object.Obj.{Obj};
-ghost use Rattle.om_cells.specs.State.{undo_of, undo_record, state_after, state_before, updated, taken_back};
-ghost use Rattle.om_cells.specs.Stores.{state_of, is_kept};
-ghost use Rattle.om_history.specs.Bounds.{FitsAt, FitsAtBack, FitsAll, FitsBack};
+ghost use Rattle.om_foot.specs.declared.object.Obj.TheVariants as obj;
+ghost use Rattle.om_cells.specs.declared.value.Val.TheVariants as value;
+ghost use Rattle.om_cells.specs.State.{with_value, undo_of, state_after, state_before, updated, taken_back};
+ghost use Rattle.om_live.specs.Stores.{state_of, is_kept, pasts_of, is_trailed, noted_at};
+ghost use Rattle.om_history.specs.Bounds.{FitsAt, FitsAtBack, FitsAll};
+ghost use Rattle.om_history.specs.Shapes.{IsShapedAt, AreShaped};
+ghost use Rattle.om_history.specs.Fills.{small_at, noted, small_record, noted_all, filled_at, popped, filled, popped_all, IfControl, CanTakeBack, control_at};
 
-use om_cells::{Store, Update};
+use crate::shared_access::SharedAccess;
+use om_cells::{Control, SharedControl, Update, Val};
 use om_foot::{Access, Mode, Obj};
+use om_live::{Store, worker_of};
 use std::alloc::{AllocError, Global};
 use std::mem;
 
-/// Makes an update at a `Write`, and answers the one that takes it back.
+/// Puts the control of a worker, whose trail keeps the one before. When out of memory, nothing
+/// changes.
+fn put_shared(
+    store: &mut Store,
+    alloc: Global,
+    worker: u8,
+    control: &SharedControl,
+) -> Result<(), AllocError>
+    requires { is_kept store.old (obj.Control worker) ≡ true }
+    ensures state { OnOk result (state_of store.new
+        ≡ with_value (obj.Control worker) (value.Control control.now) (state_of store.old)) }
+    ensures pasts { OnOk result (pasts_of store.new
+        ≡ noted_at (obj.Control worker) (state_of store.old) (pasts_of store.old)) }
+    ensures same_state_on_error { OnErr result (state_of store.new ≡ state_of store.old) }
+    ensures same_pasts_on_error { OnErr result (pasts_of store.new ≡ pasts_of store.old) }
+    ensures kept { (q : Obj) → is_kept store.new q ≡ is_kept store.old q }
+{
+    match control.get() {
+        Some(control) => store.put(alloc, worker, control),
+        None => store.put(alloc, worker, &Control::Idle),
+    }
+}
+
+/// Makes an update at a `Write` of a worker's control, and answers the mark of it: the trail keeps
+/// the control before. When out of memory, nothing changes.
+fn make_control(
+    store: &mut Store,
+    alloc: Global,
+    worker: u8,
+    update: Update,
+) -> Result<Update, AllocError>
+    requires kept { is_kept store.old (obj.Control worker) ≡ true }
+    requires shaped { IsShapedAt Mode.Write update true }
+    ensures small { IfOk result
+        (λ small. small ≡ small_at (control_at worker Mode.Write) update (state_of store.old)) }
+    ensures state { OnOk result (state_of store.new
+        ≡ state_after (control_at worker Mode.Write) update (state_of store.old)) }
+    ensures pasts { OnOk result (pasts_of store.new
+        ≡ noted (control_at worker Mode.Write) update (state_of store.old) (pasts_of store.old)) }
+    ensures same_state_on_error { OnErr result (state_of store.new ≡ state_of store.old) }
+    ensures same_pasts_on_error { OnErr result (pasts_of store.new ≡ pasts_of store.old) }
+    ensures kept { (q : Obj) → is_kept store.new q ≡ is_kept store.old q }
+{
+    match update {
+        Update::Put(Val::Control(control)) => match put_shared(store, alloc, worker, &control) {
+            Ok(()) => Ok(Update::Keep),
+            Err(error) => Err(error),
+        },
+        _ => unreachable!(),
+    }
+}
+
+/// Makes an update at a `Write` of another object, and answers the one that takes it back. When out
+/// of memory, no value changes.
 fn make_write(store: &mut Store, object: &Obj, update: Update) -> Result<Update, AllocError>
-    requires { is_kept store.old object.now ≡ true }
+    requires no_control { is_trailed object.now ≡ false }
+    requires kept { is_kept store.old object.now ≡ true }
     ensures undo { IfOk result
         (λ undo. undo ≡ undo_of Mode.Write update (state_of store.old object.now)) }
     ensures state { OnOk result
         (state_of store.new ≡ state_after (record { object = object.now; mode = Mode.Write }) update
         (state_of store.old)) }
+    ensures pasts { pasts_of store.new ≡ pasts_of store.old }
     ensures unchanged_on_error { OnErr result (state_of store.new ≡ state_of store.old) }
     ensures kept { (q : Obj) → is_kept store.new q ≡ is_kept store.old q }
 {
@@ -34,21 +95,34 @@ fn make_write(store: &mut Store, object: &Obj, update: Update) -> Result<Update,
     }
 }
 
-/// Makes an update, and answers the one that takes it back. When out of memory, no value changes.
-fn make(store: &mut Store, access: &Access, update: Update) -> Result<Update, AllocError>
+/// Makes an update, and answers what a small record holds of it. When out of memory, nothing
+/// changes.
+fn make(
+    store: &mut Store,
+    alloc: Global,
+    access: &SharedAccess,
+    update: Update,
+) -> Result<Update, AllocError>
     requires kept { is_kept store.old access.now.object ≡ true }
     requires fits { FitsAt access.now.mode update (state_of store.old access.now.object) }
-    ensures undo { IfOk result
-        (λ undo. undo ≡ undo_of access.now.mode update (state_of store.old access.now.object)) }
+    requires shaped { IsShapedAt access.now.mode update (is_trailed access.now.object) }
+    ensures small { IfOk result (λ small. small ≡ small_at access.now update (state_of store.old)) }
     ensures state { OnOk result
         (state_of store.new ≡ state_after access.now update (state_of store.old)) }
-    ensures unchanged_on_error { OnErr result (state_of store.new ≡ state_of store.old) }
+    ensures pasts { OnOk result (pasts_of store.new
+        ≡ noted access.now update (state_of store.old) (pasts_of store.old)) }
+    ensures same_state_on_error { OnErr result (state_of store.new ≡ state_of store.old) }
+    ensures same_pasts_on_error { OnErr result (pasts_of store.new ≡ pasts_of store.old) }
     ensures kept { (q : Obj) → is_kept store.new q ≡ is_kept store.old q }
 {
-    match access.mode {
+    let object = access.object().get();
+    match access.mode() {
         Mode::Read => Ok(update),
-        Mode::Write => make_write(store, &access.object, update),
-        Mode::Add => Ok(make_addition(store, &access.object, update)),
+        Mode::Write => match worker_of(object) {
+            Some(worker) => make_control(store, alloc, worker, update),
+            None => make_write(store, object, update),
+        },
+        Mode::Add => Ok(make_addition(store, object, update)),
     }
 }
 
@@ -60,6 +134,7 @@ fn make_addition(store: &mut Store, object: &Obj, update: Update) -> Update
     ensures state { state_of store.new
         ≡ state_after (record { object = object.now; mode = Mode.Add }) update
         (state_of store.old) }
+    ensures pasts { pasts_of store.new ≡ pasts_of store.old }
     ensures kept { (q : Obj) → is_kept store.new q ≡ is_kept store.old q }
 {
     match update {
@@ -78,6 +153,7 @@ fn take_addition_back(store: &mut Store, object: &Obj, update: Update)
     ensures state { state_of store.new
         ≡ state_before (record { object = object.now; mode = Mode.Add }) update
         (state_of store.old) }
+    ensures pasts { pasts_of store.new ≡ pasts_of store.old }
     ensures kept { (q : Obj) → is_kept store.new q ≡ is_kept store.old q }
 {
     match update {
@@ -86,12 +162,14 @@ fn take_addition_back(store: &mut Store, object: &Obj, update: Update)
     }
 }
 
-/// Takes an update at a `Write` back, by what takes it back.
+/// Takes an update at a `Write` of an object that is no control back, by what takes it back.
 fn take_write_back(store: &mut Store, object: &Obj, update: Update)
-    requires { is_kept store.old object.now ≡ true }
+    requires no_control { is_trailed object.now ≡ false }
+    requires kept { is_kept store.old object.now ≡ true }
     ensures state { state_of store.new
         ≡ state_before (record { object = object.now; mode = Mode.Write }) update
         (state_of store.old) }
+    ensures pasts { pasts_of store.new ≡ pasts_of store.old }
     ensures kept { (q : Obj) → is_kept store.new q ≡ is_kept store.old q }
 {
     match update {
@@ -101,35 +179,69 @@ fn take_write_back(store: &mut Store, object: &Obj, update: Update)
     }
 }
 
-/// Takes an update back, by what takes it back. It takes no memory.
-fn take_back(store: &mut Store, access: &Access, update: Update)
-    requires kept { is_kept store.old access.now.object ≡ true }
-    requires fits { FitsAtBack access.now.mode update (state_of store.old access.now.object) }
-    ensures state { state_of store.new ≡ state_before access.now update (state_of store.old) }
+/// Takes a mark of a worker's control back, by its trail.
+fn take_control_back(store: &mut Store, worker: u8, mark: Update)
+    requires marked { mark ≡ Update.Keep }
+    requires past { 0 < length (pasts_of store.old (obj.Control worker)) }
+    ensures state { state_of store.new
+        ≡ state_before (control_at worker Mode.Write)
+        (filled_at (control_at worker Mode.Write) mark (pasts_of store.old)) (state_of store.old) }
+    ensures pasts { pasts_of store.new
+        ≡ popped (control_at worker Mode.Write) mark (pasts_of store.old) }
     ensures kept { (q : Obj) → is_kept store.new q ≡ is_kept store.old q }
 {
-    match access.mode {
-        Mode::Read => drop(update),
-        Mode::Write => take_write_back(store, &access.object, update),
-        Mode::Add => take_addition_back(store, &access.object, update),
+    drop(mark);
+    store.undo(worker);
+}
+
+/// Takes an update back, by what a small record holds of it. It takes no memory.
+fn take_back(store: &mut Store, access: &SharedAccess, small: Update)
+    requires kept { is_kept store.old access.now.object ≡ true }
+    requires marked { IfControl access.now (small ≡ Update.Keep) }
+    requires past { IfControl access.now (0 < length (pasts_of store.old access.now.object)) }
+    requires fits { FitsAtBack access.now.mode (filled_at access.now small (pasts_of store.old))
+        (state_of store.old access.now.object) }
+    ensures state { state_of store.new
+        ≡ state_before access.now (filled_at access.now small (pasts_of store.old))
+        (state_of store.old) }
+    ensures pasts { pasts_of store.new ≡ popped access.now small (pasts_of store.old) }
+    ensures kept { (q : Obj) → is_kept store.new q ≡ is_kept store.old q }
+{
+    let object = access.object().get();
+    match access.mode() {
+        Mode::Read => drop(small),
+        Mode::Write => match worker_of(object) {
+            Some(worker) => take_control_back(store, worker, small),
+            None => take_write_back(store, object, small),
+        },
+        Mode::Add => take_addition_back(store, object, small),
     }
 }
 
-/// Makes an update, and leaves in its place what takes it back. When out of memory, no value
-/// changes, and the update is gone.
-fn exchange(store: &mut Store, access: &Access, update: &mut Update) -> Result<(), AllocError>
+/// Makes an update, and leaves in its place what a small record holds of it. When out of memory,
+/// nothing changes but that the update is gone.
+fn exchange(
+    store: &mut Store,
+    alloc: Global,
+    access: &SharedAccess,
+    update: &mut Update,
+) -> Result<(), AllocError>
     requires kept { is_kept store.old access.now.object ≡ true }
     requires fits { FitsAt access.now.mode update.old (state_of store.old access.now.object) }
-    ensures undo { OnOk result
-        (update.new ≡ undo_of access.now.mode update.old (state_of store.old access.now.object)) }
+    requires shaped { IsShapedAt access.now.mode update.old (is_trailed access.now.object) }
+    ensures small { OnOk result
+        (update.new ≡ small_at access.now update.old (state_of store.old)) }
     ensures state { OnOk result
         (state_of store.new ≡ state_after access.now update.old (state_of store.old)) }
-    ensures unchanged_on_error { OnErr result (state_of store.new ≡ state_of store.old) }
+    ensures pasts { OnOk result (pasts_of store.new
+        ≡ noted access.now update.old (state_of store.old) (pasts_of store.old)) }
+    ensures same_state_on_error { OnErr result (state_of store.new ≡ state_of store.old) }
+    ensures same_pasts_on_error { OnErr result (pasts_of store.new ≡ pasts_of store.old) }
     ensures kept { (q : Obj) → is_kept store.new q ≡ is_kept store.old q }
 {
     let wanted = mem::replace(update, Update::Keep);
-    let back = make(store, access, wanted)?;
-    drop(mem::replace(update, back));
+    let small = make(store, alloc, access, wanted)?;
+    drop(mem::replace(update, small));
     Ok(())
 }
 
@@ -141,6 +253,7 @@ pub(crate) fn keep_all(
     footprint: &[Access],
 ) -> Result<(), AllocError>
     ensures same { state_of store.new ≡ state_of store.old }
+    ensures same_pasts { pasts_of store.new ≡ pasts_of store.old }
     ensures kept { OnOk result (All (λ a. is_kept store.new a.object ≡ true) footprint.now) }
     ensures others_kept { (q : Obj) → is_kept store.old q ≡ true → is_kept store.new q ≡ true }
 {
@@ -150,29 +263,30 @@ pub(crate) fn keep_all(
     Ok(())
 }
 
-/// Makes the updates of a footprint, and leaves in their place what takes them back. When out of
-/// memory, what was made is taken back, and no value changes.
+/// Makes the updates of a footprint, and leaves in their place what a small record holds of them.
+/// When out of memory, what was made is taken back, and nothing changes.
 pub(crate) fn make_all(
     store: &mut Store,
-    footprint: &[Access],
+    alloc: Global,
+    footprint: &[SharedAccess],
     updates: &mut Vec<Update>,
 ) -> Result<(), AllocError>
     requires kept { All (λ a. is_kept store.old a.object ≡ true) footprint.now }
     requires fits { FitsAll footprint.now updates.old.items (state_of store.old) }
+    requires shaped { AreShaped footprint.now updates.old.items }
     ensures state { OnOk result
         (state_of store.new ≡ updated footprint.now updates.old.items (state_of store.old)) }
-    ensures undo { OnOk result
-        (updates.new.items ≡ undo_record footprint.now updates.old.items (state_of store.old)) }
-    ensures way_back { OnOk result
-        (taken_back footprint.now updates.new.items (state_of store.new) ≡ state_of store.old) }
-    ensures fits_back { OnOk result
-        (FitsBack footprint.now updates.new.items (state_of store.new)) }
-    ensures unchanged_on_error { OnErr result (state_of store.new ≡ state_of store.old) }
+    ensures small { OnOk result
+        (updates.new.items ≡ small_record footprint.now updates.old.items (state_of store.old)) }
+    ensures pasts { OnOk result (pasts_of store.new
+        ≡ noted_all footprint.now updates.old.items (state_of store.old) (pasts_of store.old)) }
+    ensures same_state_on_error { OnErr result (state_of store.new ≡ state_of store.old) }
+    ensures same_pasts_on_error { OnErr result (pasts_of store.new ≡ pasts_of store.old) }
     ensures kept { (q : Obj) → is_kept store.new q ≡ is_kept store.old q }
 {
     let count = footprint.len().min(updates.len());
     for i in 0..count {
-        match exchange(store, &footprint[i], &mut updates[i]) {
+        match exchange(store, alloc, &footprint[i], &mut updates[i]) {
             Ok(()) => {}
             Err(error) => {
                 take_back_first(store, footprint, updates, i);
@@ -185,31 +299,44 @@ pub(crate) fn make_all(
 
 /// Takes the first updates of a footprint back, so many of them and the last one first. It takes
 /// no memory.
-fn take_back_first(store: &mut Store, footprint: &[Access], updates: &mut Vec<Update>, count: usize)
+fn take_back_first(
+    store: &mut Store,
+    footprint: &[SharedAccess],
+    small: &mut Vec<Update>,
+    count: usize,
+)
     requires accesses { count ≤ length footprint.now }
-    requires updates { count ≤ length updates.old.items }
+    requires updates { count ≤ length small.old.items }
     requires kept { All (λ a. is_kept store.old a.object ≡ true) footprint.now }
-    requires fits { FitsBack (take count footprint.now) (take count updates.old.items)
-        (state_of store.old) }
+    requires can { CanTakeBack (take count footprint.now) (take count small.old.items)
+        (state_of store.old) (pasts_of store.old) }
     ensures state { state_of store.new
-        ≡ taken_back (take count footprint.now) (take count updates.old.items)
+        ≡ taken_back (take count footprint.now)
+        (filled (take count footprint.now) (take count small.old.items) (pasts_of store.old))
         (state_of store.old) }
+    ensures pasts { pasts_of store.new
+        ≡ popped_all (take count footprint.now) (take count small.old.items) (pasts_of store.old) }
     ensures kept { (q : Obj) → is_kept store.new q ≡ is_kept store.old q }
 {
     for i in (0..count).rev() {
-        let update = mem::replace(&mut updates[i], Update::Keep);
+        let update = mem::replace(&mut small[i], Update::Keep);
         take_back(store, &footprint[i], update);
     }
 }
 
-/// Takes the updates of a footprint back, the last one first. It takes no memory.
-pub(crate) fn take_back_all(store: &mut Store, footprint: &[Access], updates: &mut Vec<Update>)
+/// Takes the updates of a footprint back, the last one first, by what a small record holds of them.
+/// It takes no memory.
+pub(crate) fn take_back_all(store: &mut Store, footprint: &[SharedAccess], small: &mut Vec<Update>)
     requires kept { All (λ a. is_kept store.old a.object ≡ true) footprint.now }
-    requires fits { FitsBack footprint.now updates.old.items (state_of store.old) }
+    requires can { CanTakeBack footprint.now small.old.items (state_of store.old)
+        (pasts_of store.old) }
     ensures state { state_of store.new
-        ≡ taken_back footprint.now updates.old.items (state_of store.old) }
+        ≡ taken_back footprint.now (filled footprint.now small.old.items (pasts_of store.old))
+        (state_of store.old) }
+    ensures pasts { pasts_of store.new
+        ≡ popped_all footprint.now small.old.items (pasts_of store.old) }
     ensures kept { (q : Obj) → is_kept store.new q ≡ is_kept store.old q }
 {
-    let count = footprint.len().min(updates.len());
-    take_back_first(store, footprint, updates, count);
+    let count = footprint.len().min(small.len());
+    take_back_first(store, footprint, small, count);
 }

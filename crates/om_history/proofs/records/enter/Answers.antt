@@ -3,30 +3,27 @@ use Rattle.std.specs.Ordering.{nat_cmp}
 use Rattle.std.specs.BTreeMap.{insert_entry}
 use Rattle.std.specs.Map.{values_of}
 use Rattle.om_history.specs.declared.records.UndoRecord.{UndoRecord}
-use Rattle.om_history.specs.Touches.{own_footprint, AreWithout, IsIndexed}
+use Rattle.om_history.specs.Touches.{AreWithout, WithoutOwn, IsIndexed}
 use Rattle.om_history.proofs.Lists.{added_out}
+use Rattle.om_history.proofs.OwnEntries.{own-added_out}
 use Rattle.om_history.proofs.Replies.{footprint_of}
 use Rattle.om_history.proofs.Indexed.{fresh, indexed_same, indexed_with, values_with}
 use Rattle.om_history.proofs.records.enter.Goals as goal
 
-pub note-requires-clause-lists : goal.note-requires-clause-lists
-note-requires-clause-lists c = fresh footprint_of (values_of c.args.kept.now.entries) c.args.lists.now
+pub note-requires : goal.note-requires
+note-requires c = fresh footprint_of (values_of c.args.kept.now.entries) c.args.lists.now
     c.args.made.entry.serial c.requires.indexed.touches c.requires.latest
 
-pub note-requires-clause-own : goal.note-requires-clause-own
-note-requires-clause-own c = fresh own_footprint (values_of c.args.kept.now.entries) c.args.own.now
-    c.args.made.entry.serial c.requires.indexed.own_touches c.requires.latest
-
 pub returns-in-Err-clause-indexed : goal.returns-in-Err-clause-indexed
-returns-in-Err-clause-indexed c = indexed_same c.args.kept.now.entries c.args.lists.now c.args.own.now
-    c.note.new.lists c.note.new.own c.requires.indexed c.in-Err.ensures.same_lists_on_error
+returns-in-Err-clause-indexed c = indexed_same c.args.kept.now.entries c.args.lists.now c.note.new.lists
+    c.args.own.now c.note.new.own c.requires.indexed c.in-Err.ensures.same_lists_on_error
     c.in-Err.ensures.same_own_on_error
 
 pub returns-in-Ok-insert-clause-indexed : goal.returns-in-Ok-insert-clause-indexed
 returns-in-Ok-insert-clause-indexed c = subst (λ es. IsIndexed es c.note.new.lists c.note.new.own)
     (sym (c.in-Ok-insert.ensures.entries
     ∙ ap (λ n. insert_entry nat_cmp c.args.kept.now.entries n c.args.made) c.serial-serial.ensures))
-    (indexed_with c.args.kept.now.entries c.args.made c.args.lists.now c.args.own.now c.note.new.lists
+    (indexed_with c.args.kept.now.entries c.args.made c.args.lists.now c.note.new.lists c.args.own.now
     c.note.new.own c.requires.indexed c.requires.some c.requires.latest c.in-Ok.ensures.lists c.in-Ok.ensures.own)
 
 pub returns-in-Ok-insert-clause-entered : goal.returns-in-Ok-insert-clause-entered
@@ -40,14 +37,13 @@ returns-clause-indexed c =
     let made : UndoRecord = c.args.made in
     let same = ap (λ p. p.1) c.in-Err-insert.ensures.value_returned in
     subst (λ fs. IsIndexed fs c.forget.new.lists c.forget.new.own) (sym c.in-Err-insert.ensures.err)
-    (indexed_same es c.args.lists.now c.args.own.now c.forget.new.lists c.forget.new.own c.requires.indexed
+    (indexed_same es c.args.lists.now c.forget.new.lists c.args.own.now c.forget.new.own c.requires.indexed
     (added_out made.footprint made.entry.serial c.args.lists.now c.note.new.lists c.forget.new.lists
     (fresh footprint_of (values_of es) c.args.lists.now made.entry.serial c.requires.indexed.touches
     c.requires.latest) c.in-Ok.ensures.lists
     (subst (λ (k : UndoRecord). AreWithout k.footprint k.entry.serial c.note.new.lists c.forget.new.lists) same
     c.forget.ensures.lists))
-    (added_out (own_footprint made) made.entry.serial c.args.own.now c.note.new.own c.forget.new.own
-    (fresh own_footprint (values_of es) c.args.own.now made.entry.serial c.requires.indexed.own_touches
-    c.requires.latest) c.in-Ok.ensures.own
-    (subst (λ (k : UndoRecord). AreWithout (own_footprint k) k.entry.serial c.note.new.own c.forget.new.own) same
+    (own-added_out (values_of es) made.entry.worker made.entry.serial c.args.own.now c.note.new.own
+    c.forget.new.own c.requires.indexed.own_entries c.requires.latest c.in-Ok.ensures.own
+    (subst (λ (k : UndoRecord). WithoutOwn k.entry.worker k.entry.serial c.note.new.own c.forget.new.own) same
     c.forget.ensures.own)))

@@ -7,8 +7,8 @@ use Rattle.om_history.proofs.records.leave.Goals as goal
 pub returns-in-Some-clause-indexed : goal.returns-in-Some-clause-indexed
 returns-in-Some-clause-indexed c = subst (λ es. IsIndexed es c.forget.new.lists c.forget.new.own)
     (sym c.remove.ensures.entries)
-    (indexed_without c.args.kept.now.entries c.args.serial c.in-Some.made c.args.lists.now c.args.own.now
-    c.forget.new.lists c.forget.new.own c.requires (sym c.in-Some.ensures.value) c.forget.ensures.lists
+    (indexed_without c.args.kept.now.entries c.args.serial c.in-Some.made c.args.lists.now c.forget.new.lists
+    c.args.own.now c.forget.new.own c.requires (sym c.in-Some.ensures.value) c.forget.ensures.lists
     c.forget.ensures.own)
 
 pub returns-in-Some-clause-left : goal.returns-in-Some-clause-left

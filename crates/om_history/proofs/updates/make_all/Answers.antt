@@ -1,54 +1,93 @@
-use Rattle.std.proofs.Common.{◌≡◌, ◌∙◌, ◌+◌, sym, arith, List, ℕ, get_or, set}
+use Rattle.std.proofs.Common.{◌∙◌, ap, subst, sym, arith, List, take, set}
 use Rattle.std.proofs.Math.ListN.{length-set}
 use Rattle.om_foot.specs.declared.footprint.Access.{Access}
 use Rattle.om_cells.specs.declared.step.Update.{Update}
-use Rattle.om_cells.specs.State.{State}
-use Rattle.om_cells.specs.Stores.{state_of}
-use Rattle.om_history.proofs.Rooms.{updated-past, undo_record-past, Onward, onward, fits_here, WayBack, way_back}
-use Rattle.om_history.proofs.Rooms.{taken_back-front, FitsBack-whole}
+use Rattle.om_cells.specs.State.{taken_back}
+use Rattle.om_live.specs.Stores.{state_of, pasts_of}
+use Rattle.om_history.specs.Fills.{filled, popped_all, CanTakeBack}
+use Rattle.om_history.proofs.Making.{fits_at, shaped_at, one_more, all_made}
+use Rattle.om_history.proofs.Halfway.{first_can, first_state, first_pasts}
 use Rattle.om_history.proofs.updates.make_all.Goals as goal
 
-pub returns-clause-state : goal.returns-clause-state
-returns-clause-state c = sym (updated-past c.loop-i.i c.args.footprint.now c.loop-i.updates.items
-    (state_of c.loop-i.store) (omega arith)) ∙ c.loop-i.invariant.state
+pub exchange-requires-clause-fits : goal.exchange-requires-clause-fits
+exchange-requires-clause-fits c =
+    fits_at c.loop-i.i c.args.footprint.now c.args.updates.now.items (state_of c.args.store.now)
+    (pasts_of c.args.store.now) c.loop-i.updates.items (state_of c.loop-i.store) (pasts_of c.loop-i.store)
+    c.index-footprint-i.result c.index_mut.result.now (omega arith) (omega (arith, c.loop-i.invariant.same_length))
+    c.index-footprint-i.is c.index_mut.ensures.value c.loop-i.invariant.made c.requires.fits
 
-pub returns-clause-undo : goal.returns-clause-undo
-returns-clause-undo c = sym (undo_record-past c.loop-i.i c.args.footprint.now c.loop-i.updates.items
-    (state_of c.loop-i.store) (omega arith)) ∙ c.loop-i.invariant.undo
-
-pub returns-clause-way_back : goal.returns-clause-way_back
-returns-clause-way_back c = sym (taken_back-front c.loop-i.i c.args.footprint.now c.loop-i.updates.items
-    (state_of c.loop-i.store) (omega arith)) ∙ c.loop-i.invariant.way_back
-
-pub returns-clause-fits_back : goal.returns-clause-fits_back
-returns-clause-fits_back c = FitsBack-whole c.loop-i.i c.args.footprint.now c.loop-i.updates.items
-    (state_of c.loop-i.store) (omega arith) c.loop-i.invariant.fits_back
+pub exchange-requires-clause-shaped : goal.exchange-requires-clause-shaped
+exchange-requires-clause-shaped c =
+    shaped_at c.loop-i.i c.args.footprint.now c.args.updates.now.items (state_of c.args.store.now)
+    (pasts_of c.args.store.now) c.loop-i.updates.items (state_of c.loop-i.store) (pasts_of c.loop-i.store)
+    c.index-footprint-i.result c.index_mut.result.now (omega arith) (omega (arith, c.loop-i.invariant.same_length))
+    c.index-footprint-i.is c.index_mut.ensures.value c.loop-i.invariant.made c.requires.shaped
 
 pub loop-i-preserved : goal.loop-i-preserved
 loop-i-preserved c =
-    let i : ℕ = c.loop-i.i in
-    let footprint : List Access = c.args.footprint.now in
     let us : List Update = c.loop-i.updates.items in
-    let now : State = state_of c.loop-i.store in
-    let next : State = state_of c.exchange.new.store in
-    let a : Access = c.index-footprint-i.result in
-    let u : Update = c.index_mut.result.now in
     let w : Update = c.exchange.new.update in
-    let at : u ≡ get_or us i u = c.index_mut.ensures.value in
-    let fits = fits_here i footprint us now a u (omega arith) (omega arith) c.index-footprint-i.is at
-    c.loop-i.invariant.fits in
-    let on : Onward i footprint us (set us i w) now next = onward i footprint us now next a u w (omega arith)
-    (omega arith) c.index-footprint-i.is at c.in-Ok.ensures.undo c.in-Ok.ensures.state c.loop-i.invariant.fits in
-    let way : WayBack (i + 1) footprint (set us i w) next (state_of c.args.store.now) =
-    way_back i footprint us now next (state_of c.args.store.now) a u w (omega arith)
-    (omega arith) c.index-footprint-i.is c.in-Ok.ensures.undo c.in-Ok.ensures.state fits
-    (record { is = c.loop-i.invariant.way_back; fits = c.loop-i.invariant.fits_back }) in
     record {
-      state = on.state ∙ c.loop-i.invariant.state;
-      undo = on.undo ∙ c.loop-i.invariant.undo;
-      fits = on.fits;
-      way_back = way.is;
-      fits_back = way.fits;
+      made = one_more c.loop-i.i c.args.footprint.now c.args.updates.now.items (state_of c.args.store.now)
+          (pasts_of c.args.store.now) us (state_of c.loop-i.store) (pasts_of c.loop-i.store)
+          c.index-footprint-i.result c.index_mut.result.now (omega arith)
+          (omega (arith, c.loop-i.invariant.same_length)) c.index-footprint-i.is c.index_mut.ensures.value
+          c.loop-i.invariant.made w (state_of c.exchange.new.store) (pasts_of c.exchange.new.store)
+          c.in-Ok.ensures.small c.in-Ok.ensures.state c.in-Ok.ensures.pasts;
       kept = λ q. c.exchange.ensures.kept q ∙ c.loop-i.invariant.kept q;
-      same_length = length-set us i w ∙ c.loop-i.invariant.same_length;
+      same_length = length-set us c.loop-i.i w ∙ c.loop-i.invariant.same_length;
     }
+
+pub take_back_first-requires-clause-can : goal.take_back_first-requires-clause-can
+take_back_first-requires-clause-can c =
+    let footprint : List Access = c.args.footprint.now in
+    let small : List Update = set c.loop-i.updates.items c.loop-i.i c.exchange.new.update in
+    subst (λ t. CanTakeBack (take c.loop-i.i footprint) (take c.loop-i.i small) t (pasts_of c.exchange.new.store))
+    (sym c.in-Err.ensures.same_state_on_error)
+    (subst (λ qs. CanTakeBack (take c.loop-i.i footprint) (take c.loop-i.i small) (state_of c.loop-i.store) qs)
+    (sym c.in-Err.ensures.same_pasts_on_error)
+    (first_can c.loop-i.i footprint c.args.updates.now.items (state_of c.args.store.now) (pasts_of c.args.store.now)
+    c.loop-i.updates.items (state_of c.loop-i.store) (pasts_of c.loop-i.store) c.exchange.new.update (omega arith)
+    (omega (arith, c.loop-i.invariant.same_length)) c.loop-i.invariant.made c.requires.shaped c.requires.fits))
+
+pub returns-in-Err-clause-same_state_on_error : goal.returns-in-Err-clause-same_state_on_error
+returns-in-Err-clause-same_state_on_error c =
+    let footprint : List Access = c.args.footprint.now in
+    let small : List Update = set c.loop-i.updates.items c.loop-i.i c.exchange.new.update in
+    c.take_back_first.ensures.state
+    ∙ (λ j. taken_back (take c.loop-i.i footprint)
+    (filled (take c.loop-i.i footprint) (take c.loop-i.i small) (c.in-Err.ensures.same_pasts_on_error j))
+    (c.in-Err.ensures.same_state_on_error j))
+    ∙ first_state c.loop-i.i footprint c.args.updates.now.items (state_of c.args.store.now)
+    (pasts_of c.args.store.now)
+    c.loop-i.updates.items (state_of c.loop-i.store) (pasts_of c.loop-i.store) c.exchange.new.update (omega arith)
+    (omega (arith, c.loop-i.invariant.same_length)) c.loop-i.invariant.made c.requires.shaped
+
+pub returns-in-Err-clause-same_pasts_on_error : goal.returns-in-Err-clause-same_pasts_on_error
+returns-in-Err-clause-same_pasts_on_error c =
+    let footprint : List Access = c.args.footprint.now in
+    let small : List Update = set c.loop-i.updates.items c.loop-i.i c.exchange.new.update in
+    c.take_back_first.ensures.pasts
+    ∙ ap (popped_all (take c.loop-i.i footprint) (take c.loop-i.i small)) c.in-Err.ensures.same_pasts_on_error
+    ∙ first_pasts c.loop-i.i footprint c.args.updates.now.items (state_of c.args.store.now)
+    (pasts_of c.args.store.now)
+    c.loop-i.updates.items (state_of c.loop-i.store) (pasts_of c.loop-i.store) c.exchange.new.update (omega arith)
+    (omega (arith, c.loop-i.invariant.same_length)) c.loop-i.invariant.made c.requires.shaped
+
+pub returns-clause-state : goal.returns-clause-state
+returns-clause-state c =
+    (all_made c.loop-i.i c.args.footprint.now c.args.updates.now.items (state_of c.args.store.now)
+    (pasts_of c.args.store.now) c.loop-i.updates.items (state_of c.loop-i.store) (pasts_of c.loop-i.store)
+    (omega arith) c.loop-i.invariant.made).state
+
+pub returns-clause-small : goal.returns-clause-small
+returns-clause-small c =
+    (all_made c.loop-i.i c.args.footprint.now c.args.updates.now.items (state_of c.args.store.now)
+    (pasts_of c.args.store.now) c.loop-i.updates.items (state_of c.loop-i.store) (pasts_of c.loop-i.store)
+    (omega arith) c.loop-i.invariant.made).small
+
+pub returns-clause-pasts : goal.returns-clause-pasts
+returns-clause-pasts c =
+    (all_made c.loop-i.i c.args.footprint.now c.args.updates.now.items (state_of c.args.store.now)
+    (pasts_of c.args.store.now) c.loop-i.updates.items (state_of c.loop-i.store) (pasts_of c.loop-i.store)
+    (omega arith) c.loop-i.invariant.made).pasts_are

@@ -1,14 +1,19 @@
 use Rattle.std.proofs.Common.{◌∙◌, arith}
-use Rattle.om_cells.specs.Stores.{state_of}
-use Rattle.om_history.proofs.Rooms.{taken_back-front, FitsBack-front}
+use Rattle.om_live.specs.Stores.{state_of, pasts_of}
+use Rattle.om_history.proofs.TakingBack.{back_whole}
 use Rattle.om_history.proofs.updates.take_back_all.Goals as goal
 
-pub take_back_first-requires-clause-fits : goal.take_back_first-requires-clause-fits
-take_back_first-requires-clause-fits c =
-    FitsBack-front c.min-count.result c.args.footprint.now c.args.updates.now.items (state_of c.args.store.now)
-    (omega arith) c.requires.fits
+pub take_back_first-requires-clause-can : goal.take_back_first-requires-clause-can
+take_back_first-requires-clause-can c =
+    (back_whole c.min-count.result c.args.footprint.now c.args.small.now.items (state_of c.args.store.now)
+    (pasts_of c.args.store.now) (omega arith) c.requires.can).can
 
 pub returns-clause-state : goal.returns-clause-state
 returns-clause-state c = c.take_back_first.ensures.state
-    ∙ taken_back-front c.min-count.result c.args.footprint.now c.args.updates.now.items (state_of c.args.store.now)
-    (omega arith)
+    ∙ (back_whole c.min-count.result c.args.footprint.now c.args.small.now.items (state_of c.args.store.now)
+    (pasts_of c.args.store.now) (omega arith) c.requires.can).state
+
+pub returns-clause-pasts : goal.returns-clause-pasts
+returns-clause-pasts c = c.take_back_first.ensures.pasts
+    ∙ (back_whole c.min-count.result c.args.footprint.now c.args.small.now.items (state_of c.args.store.now)
+    (pasts_of c.args.store.now) (omega arith) c.requires.can).pasts

@@ -3,45 +3,68 @@ use Rattle.std.proofs.Math.ListN.{length-set}
 use Rattle.std.proofs.lemmas.List.{take-set}
 use Rattle.om_foot.specs.declared.footprint.Access.{Access}
 use Rattle.om_cells.specs.declared.step.Update.{Update}
-use Rattle.om_cells.specs.State.{State, taken_back}
-use Rattle.om_cells.specs.Stores.{state_of}
-use Rattle.om_history.specs.Bounds.{FitsBack}
-use Rattle.om_history.proofs.Rooms.{BackStep, back_step}
+use Rattle.om_cells.specs.State.{State, state_before, taken_back}
+use Rattle.om_live.specs.Stores.{Pasts, state_of, pasts_of}
+use Rattle.om_history.specs.Fills.{filled_at, filled, popped, popped_all, CanTakeBack}
+use Rattle.om_history.proofs.TakingBack.{BackTurn, back_turn}
 use Rattle.om_history.proofs.updates.take_back_first.Goals as goal
+
+pub take_back-requires-clause-marked : goal.take_back-requires-clause-marked
+take_back-requires-clause-marked c =
+    let us : List Update = c.loop-i.small.items in
+    let at = c.replace-update.ensures.value ∙ c.index_mut.ensures.value
+    ∙ ap (get_or us (c.loop-i.i - 1)) (sym c.replace-update.ensures.value) in
+    (back_turn c.loop-i.i c.args.footprint.now us (state_of c.loop-i.store) (pasts_of c.loop-i.store)
+    c.index-footprint-i.result c.replace-update.result (omega arith) (omega arith)
+    (omega (arith, c.loop-i.invariant.same_length)) c.index-footprint-i.is at c.loop-i.invariant.can).marked
+
+pub take_back-requires-clause-past : goal.take_back-requires-clause-past
+take_back-requires-clause-past c =
+    let us : List Update = c.loop-i.small.items in
+    let at = c.replace-update.ensures.value ∙ c.index_mut.ensures.value
+    ∙ ap (get_or us (c.loop-i.i - 1)) (sym c.replace-update.ensures.value) in
+    (back_turn c.loop-i.i c.args.footprint.now us (state_of c.loop-i.store) (pasts_of c.loop-i.store)
+    c.index-footprint-i.result c.replace-update.result (omega arith) (omega arith)
+    (omega (arith, c.loop-i.invariant.same_length)) c.index-footprint-i.is at c.loop-i.invariant.can).past
 
 pub take_back-requires-clause-fits : goal.take_back-requires-clause-fits
 take_back-requires-clause-fits c =
-    let us : List Update = c.loop-i.updates.items in
-    let i : ℕ = c.loop-i.i in
-    let a : Access = c.index-footprint-i.result in
-    let u : Update = c.replace-update.result in
-    let at : u ≡ get_or us (i - 1) u = c.replace-update.ensures.value ∙ c.index_mut.ensures.value
-    ∙ ap (get_or us (i - 1)) (sym c.replace-update.ensures.value) in
-    (back_step i c.args.footprint.now us (state_of c.loop-i.store) a u (omega arith) (omega arith)
-    (omega arith) c.index-footprint-i.is at c.loop-i.invariant.fits).last
+    let us : List Update = c.loop-i.small.items in
+    let at = c.replace-update.ensures.value ∙ c.index_mut.ensures.value
+    ∙ ap (get_or us (c.loop-i.i - 1)) (sym c.replace-update.ensures.value) in
+    (back_turn c.loop-i.i c.args.footprint.now us (state_of c.loop-i.store) (pasts_of c.loop-i.store)
+    c.index-footprint-i.result c.replace-update.result (omega arith) (omega arith)
+    (omega (arith, c.loop-i.invariant.same_length)) c.index-footprint-i.is at c.loop-i.invariant.can).fits
 
 pub loop-i-preserved : goal.loop-i-preserved
 loop-i-preserved c =
-    let us : List Update = c.loop-i.updates.items in
+    let us : List Update = c.loop-i.small.items in
     let footprint : List Access = c.args.footprint.now in
     let i : ℕ = c.loop-i.i in
     let a : Access = c.index-footprint-i.result in
     let u : Update = c.replace-update.result in
     let s : State = state_of c.loop-i.store in
+    let ps : Pasts = pasts_of c.loop-i.store in
     let at : u ≡ get_or us (i - 1) u = c.replace-update.ensures.value ∙ c.index_mut.ensures.value
     ∙ ap (get_or us (i - 1)) (sym c.replace-update.ensures.value) in
-    let step : BackStep i footprint us s a u = back_step i footprint us s a u (omega arith) (omega arith)
-    (omega arith) c.index-footprint-i.is at c.loop-i.invariant.fits in
-    let front : take (i - 1) (set us (i - 1) c.replace-update.new.dest) ≡ take (i - 1) us =
-    take-set us (i - 1) c.replace-update.new.dest in
+    let turn : BackTurn i (i - 1) footprint us s ps a u = back_turn i footprint us s ps a u (omega arith) (omega arith)
+    (omega (arith, c.loop-i.invariant.same_length)) c.index-footprint-i.is at c.loop-i.invariant.can in
+    let vs : List Update = set us (i - 1) c.replace-update.new.dest in
+    let front : take (i - 1) vs ≡ take (i - 1) us = take-set us (i - 1) c.replace-update.new.dest in
+    let state : state_of c.take_back.new.store ≡ state_before a (filled_at a u ps) s = c.take_back.ensures.state in
+    let pasts : pasts_of c.take_back.new.store ≡ popped a u ps = c.take_back.ensures.pasts in
     record {
       state =
-          ap (λ x. taken_back (take (i - 1) footprint) x (state_of c.take_back.new.store)) front
-          ∙ ap (λ t. taken_back (take (i - 1) footprint) (take (i - 1) us) t) c.take_back.ensures.state
-          ∙ sym step.is ∙ c.loop-i.invariant.state;
-      fits = subst (λ x. FitsBack (take (i - 1) footprint) x (state_of c.take_back.new.store)) (sym front)
-          (subst (λ t. FitsBack (take (i - 1) footprint) (take (i - 1) us) t) (sym c.take_back.ensures.state)
-          step.rest);
+          (λ j. taken_back (take (i - 1) footprint) (filled (take (i - 1) footprint) (front j) (pasts j)) (state j))
+          ∙ sym turn.state ∙ c.loop-i.invariant.state;
+      pasts = (λ j. popped_all (take (i - 1) footprint) (front j) (pasts j)) ∙ sym turn.pasts
+          ∙ c.loop-i.invariant.pasts;
+      can = subst (λ x. CanTakeBack (take (i - 1) footprint) x (state_of c.take_back.new.store)
+          (pasts_of c.take_back.new.store)) (sym front)
+          (subst (λ t. CanTakeBack (take (i - 1) footprint) (take (i - 1) us) t (pasts_of c.take_back.new.store))
+          (sym state)
+          (subst (λ qs. CanTakeBack (take (i - 1) footprint) (take (i - 1) us) (state_before a (filled_at a u ps) s) qs)
+          (sym pasts) turn.can));
       kept = λ q. c.take_back.ensures.kept q ∙ c.loop-i.invariant.kept q;
       same_length = length-set us (i - 1) c.replace-update.new.dest ∙ c.loop-i.invariant.same_length;
     }

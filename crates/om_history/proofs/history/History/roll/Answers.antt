@@ -4,6 +4,8 @@ use Rattle.om_history.specs.Cones.{rolled}
 use Rattle.om_history.specs.Commands.{TakesCone}
 use Rattle.om_history.specs.declared.reply.RollReply.TheVariants.{Rolled}
 use Rattle.om_history.specs.Pasts.{past_in, history_in}
+use Rattle.om_history.specs.Records.{transitions_of}
+use Rattle.om_history.proofs.Holding.{transitions-are}
 use Rattle.om_history.proofs.Rolling.{no_items, some_items, rolled-some, taken_by-is, none_taken-is, takes-is}
 use Rattle.om_history.proofs.Rolling.{unrolled-is}
 use Rattle.om_history.proofs.history.History.roll.Goals as goal
@@ -11,8 +13,8 @@ use Rattle.om_history.proofs.history.History.roll.Goals as goal
 pub returns-then-is_empty-clause-reply : goal.returns-then-is_empty-clause-reply
 returns-then-is_empty-clause-reply c = λ r held.
     let members = c.in_ok-taken.ensures
-    ∙ taken_by-is r (past_in c.args.self.now) c.args.serial (past_in c.args.self.now).records held.past
-    refl in
+    ∙ taken_by-is r (past_in c.args.self.now) c.args.serial (transitions_of c.args.self.now.records) held.past
+    (transitions-are c.args.self.now) in
     let empty = no_items c.in_ok-taken.taken.len c.in_ok-taken.taken.items c.is_empty.result c.in_ok-taken.taken.ok.0
     c.is_empty.ensures c.if-is_empty.true in
     ap rolled (sym empty ∙ members)
@@ -20,8 +22,8 @@ returns-then-is_empty-clause-reply c = λ r held.
 pub returns-then-is_empty-clause-after : goal.returns-then-is_empty-clause-after
 returns-then-is_empty-clause-after c = λ r held.
     let members = c.in_ok-taken.ensures
-    ∙ taken_by-is r (past_in c.args.self.now) c.args.serial (past_in c.args.self.now).records held.past
-    refl in
+    ∙ taken_by-is r (past_in c.args.self.now) c.args.serial (transitions_of c.args.self.now.records) held.past
+    (transitions-are c.args.self.now) in
     let empty = no_items c.in_ok-taken.taken.len c.in_ok-taken.taken.items c.is_empty.result c.in_ok-taken.taken.ok.0
     c.is_empty.ensures c.if-is_empty.true in (
       sym (unrolled-is r (past_in c.args.self.now) c.args.serial held.past
@@ -32,8 +34,8 @@ returns-then-is_empty-clause-after c = λ r held.
 pub returns-then-is_empty-clause-no_entry : goal.returns-then-is_empty-clause-no_entry
 returns-then-is_empty-clause-no_entry c =
     let members = c.in_ok-taken.ensures
-    ∙ taken_by-is c.requires.0 (past_in c.args.self.now) c.args.serial (past_in c.args.self.now).records c.requires.1.past
-    refl in
+    ∙ taken_by-is c.requires.0 (past_in c.args.self.now) c.args.serial (transitions_of c.args.self.now.records) c.requires.1.past
+    (transitions-are c.args.self.now) in
     let empty = no_items c.in_ok-taken.taken.len c.in_ok-taken.taken.items c.is_empty.result c.in_ok-taken.taken.ok.0
     c.is_empty.ensures c.if-is_empty.true in (
       λ _. (none_taken-is c.requires.0 (past_in c.args.self.now) c.args.serial c.requires.1.past).0
@@ -44,8 +46,8 @@ returns-then-is_empty-clause-no_entry c =
 pub returns-then-is_empty-clause-takes_cone : goal.returns-then-is_empty-clause-takes_cone
 returns-then-is_empty-clause-takes_cone c = λ r held.
     let members = c.in_ok-taken.ensures
-    ∙ taken_by-is r (past_in c.args.self.now) c.args.serial (past_in c.args.self.now).records held.past
-    refl in
+    ∙ taken_by-is r (past_in c.args.self.now) c.args.serial (transitions_of c.args.self.now.records) held.past
+    (transitions-are c.args.self.now) in
     let empty = no_items c.in_ok-taken.taken.len c.in_ok-taken.taken.items c.is_empty.result c.in_ok-taken.taken.ok.0
     c.is_empty.ensures c.if-is_empty.true in
     subst (TakesCone r (history_in c.args.self.now) c.args.serial)
@@ -56,8 +58,8 @@ returns-then-is_empty-clause-takes_cone c = λ r held.
 pub returns-clause-reply : goal.returns-clause-reply
 returns-clause-reply c = λ r held.
     let members = c.in_ok-taken.ensures
-    ∙ taken_by-is r (past_in c.args.self.now) c.args.serial (past_in c.args.self.now).records held.past
-    refl in
+    ∙ taken_by-is r (past_in c.args.self.now) c.args.serial (transitions_of c.args.self.now.records) held.past
+    (transitions-are c.args.self.now) in
     let filled = some_items c.in_ok-taken.taken.len c.in_ok-taken.taken.items c.is_empty.result
     c.in_ok-taken.taken.ok.0 c.is_empty.ensures c.if-is_empty.false in
     ap Rolled c.of.ensures ∙ rolled-some c.in_ok-taken.taken.items filled ∙ ap rolled members
@@ -65,15 +67,15 @@ returns-clause-reply c = λ r held.
 pub returns-clause-after : goal.returns-clause-after
 returns-clause-after c = λ r held.
     let members = c.in_ok-taken.ensures
-    ∙ taken_by-is r (past_in c.args.self.now) c.args.serial (past_in c.args.self.now).records held.past
-    refl in
+    ∙ taken_by-is r (past_in c.args.self.now) c.args.serial (transitions_of c.args.self.now.records) held.past
+    (transitions-are c.args.self.now) in
     c.take_out.ensures c.args.serial r held (c.as_slice.ensures.value ∙ members)
 
 pub returns-clause-no_entry : goal.returns-clause-no_entry
 returns-clause-no_entry c =
     let members = c.in_ok-taken.ensures
-    ∙ taken_by-is c.requires.0 (past_in c.args.self.now) c.args.serial (past_in c.args.self.now).records c.requires.1.past
-    refl in
+    ∙ taken_by-is c.requires.0 (past_in c.args.self.now) c.args.serial (transitions_of c.args.self.now.records) c.requires.1.past
+    (transitions-are c.args.self.now) in
     let filled = some_items c.in_ok-taken.taken.len c.in_ok-taken.taken.items c.is_empty.result
     c.in_ok-taken.taken.ok.0 c.is_empty.ensures c.if-is_empty.false in (
       λ e. cc,
@@ -85,8 +87,8 @@ returns-clause-no_entry c =
 pub returns-clause-takes_cone : goal.returns-clause-takes_cone
 returns-clause-takes_cone c = λ r held.
     let members = c.in_ok-taken.ensures
-    ∙ taken_by-is r (past_in c.args.self.now) c.args.serial (past_in c.args.self.now).records held.past
-    refl in
+    ∙ taken_by-is r (past_in c.args.self.now) c.args.serial (transitions_of c.args.self.now.records) held.past
+    (transitions-are c.args.self.now) in
     subst (TakesCone r (history_in c.args.self.now) c.args.serial)
     (sym (c.take_out.ensures c.args.serial r held (c.as_slice.ensures.value ∙ members)).0)
     (takes-is r (past_in c.args.self.now) c.args.serial held.past)
