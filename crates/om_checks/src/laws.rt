@@ -6,6 +6,7 @@ pub(crate) fn call_laws() {
     om_team::laws::shares();
     om_task::laws::low_counters();
     om_task::laws::calm_rules();
+    om_task::laws::shaped_rules();
     om_history::laws::dependence();
     om_history::laws::commutation();
     om_history::laws::removal();
@@ -21,6 +22,7 @@ pub(crate) fn call_laws() {
     om_history::laws::small_counts();
     om_undo::laws::headline();
     om_undo::laws::steady_rules();
+    om_undo::laws::shaped_rules();
     om_undo::laws::small_counts();
     om_undo::laws::one_ready_list();
 }

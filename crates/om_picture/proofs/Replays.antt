@@ -1,106 +1,101 @@
 -- A history that is made again from its entries.
-use Rattle.std.proofs.Common.{◌≡◌, refl, ap, sym, ◌∙◌, ℕ, zero, suc, ◌+◌, ◌<◌, Option, None, Some, List, [], ◌∷◌, ◌++◌}
+use Rattle.std.proofs.Common.{◌≡◌, refl, ap, sym, ◌∙◌, subst, ℕ, zero, suc, ◌+◌, ◌<◌, Option, None, Some, List, [], ◌∷◌, ◌++◌}
 use Rattle.std.proofs.Common.{length, take, drop, get_or, arith, length-append, take-append-drop}
 use Rattle.std.specs.Prelude.{map, unwrap_or}
 use Rattle.std.proofs.lemmas.List.{map-append, take_more}
 use Rattle.std.proofs.Math.Seq.{drop-cons}
 use Rattle.om_foot.specs.declared.footprint.Access.{Access}
+use Rattle.om_foot.specs.declared.object.Obj.TheVariants as obj
 use Rattle.om_cells.specs.declared.step.Blocked.{Blocked}
+use Rattle.om_cells.specs.declared.step.Change.{Change}
 use Rattle.om_cells.specs.declared.step.Entry.{Entry}
 use Rattle.om_cells.specs.declared.step.Label.{Label}
 use Rattle.om_cells.specs.declared.step.Outcome.{Outcome}
 use Rattle.om_cells.specs.declared.step.Outcome.TheVariants as outcome
 use Rattle.om_cells.specs.declared.step.Step.{Step}
 use Rattle.om_cells.specs.declared.step.Update.{Update}
+use Rattle.om_cells.specs.declared.step.Update.TheVariants.{Put}
+use Rattle.om_cells.specs.declared.value.Val.TheVariants as value
+use Rattle.om_cells.specs.Edits.{changed, HaveRoom}
 use Rattle.om_cells.specs.Rules.{Rules, step_at, next_state, state_after_outcome, and_then, replay, replay_from}
 use Rattle.om_cells.specs.State.{State}
+use Rattle.om_cells.specs.Values.{control_in}
 use Rattle.om_task.specs.declared.planned.Plan.{Plan}
 use Rattle.om_task.specs.declared.planned.Plan.TheVariants as plan
-use Rattle.om_task.specs.Plans.{plan_by, plan_of}
+use Rattle.om_task.specs.Plans.{PlanHasRoom}
 use Rattle.om_history.specs.declared.history.History as kept
 use Rattle.om_history.specs.declared.records.UndoRecord.{UndoRecord}
 use Rattle.om_history.specs.Laws.{steps_then, steps_from}
 use Rattle.om_history.specs.Runs.{History, label_of, entry_for, history_with, after_step, state_of_entries}
 use Rattle.om_history.specs.Cones.{Transition, with_footprints, transitions}
 use Rattle.om_history.specs.Records.{entries_of, ReplaysTo}
-use Rattle.om_history.specs.Pasts.{past_in, history_in, IsHeld, IsPlanned, IsReplay}
-use Rattle.om_undo.specs.Machines.{IsPlan}
+use Rattle.om_history.specs.Pasts.{past_in, history_in, IsHeld, IsPlanned, IsReplay, step_for}
+use Rattle.om_undo.specs.Machines.{IsPlan, PlansAt}
 use Rattle.om_picture.specs.declared.traced.Traced.{Traced}
 use Rattle.om_picture.specs.Pictures.{transition_of}
 use Rattle.om_picture.specs.Traces.{CanBeMade, footprint_for, transition_for, IsLonger, IsRemade}
 
--- ---- a plan, and the step that it is of
+-- ---- a plan, and the step that it stands for
 
-abbrev pub step_with : List Access → List Update → ℕ → Step
-step_with footprint us line = record { footprint = footprint; outcome = outcome.Updates us; line = line }
+-- where a plan with a change is made, the step that the change stands for is planned
+pub is_planned : (r : Rules) (h : kept.History) (l : Label) (p : Plan) (change : Change) → p ≡ plan.Updates change
+    → IsPlan r h l p → IsPlanned r h l (step_for l change h)
+is_planned r h l p change e is = (is.held, sym (subst (PlansAt r l (past_in h).state) e is.planned))
 
-with_outcome : (fs : List Access) (n : ℕ) (o : Outcome) (footprint : List Access) (us : List Update) (line : ℕ)
-    → plan.Updates footprint us line ≡ plan_by fs n o
-    → step_with footprint us line ≡ record { footprint = fs; outcome = o; line = n }
-with_outcome fs n (outcome.Updates ws) footprint us line e = cc
-with_outcome fs n (outcome.Blocked b) footprint us line e = cc
-with_outcome fs n outcome.Ended footprint us line e = cc
+-- and its edits have room
+pub has_room : (r : Rules) (h : kept.History) (l : Label) (p : Plan) (change : Change) → p ≡ plan.Updates change
+    → IsPlan r h l p → HaveRoom change.edits (control_in ((past_in h).state (obj.Control l.worker)))
+has_room r h l p change e is = subst (PlanHasRoom (control_in ((past_in h).state (obj.Control l.worker)))) e is.room
 
-pub is_planned : (r : Rules) (h : kept.History) (l : Label) (p : Plan) (footprint : List Access) (us : List Update)
-    (line : ℕ) → p ≡ plan.Updates footprint us line → IsPlan r h l p → IsPlanned r h l (step_with footprint us line)
-is_planned r h l p footprint us line e is =
-    let d : Step = step_at r (past_in h).state l in
-    (is.held, with_outcome d.footprint d.line d.outcome footprint us line (sym e ∙ is.planned))
-
-pub footprint_is : (r : Rules) (h : kept.History) (l : Label) (p : Plan) (footprint : List Access) (us : List Update)
-    (line : ℕ) → p ≡ plan.Updates footprint us line → IsPlan r h l p → footprint ≡ footprint_for r h l
-footprint_is r h l p footprint us line e is =
-    ap (λ (d : Step). d.footprint) (is_planned r h l p footprint us line e is).1
+pub footprint_is : (r : Rules) (h : kept.History) (l : Label) (p : Plan) (change : Change) → p ≡ plan.Updates change
+    → IsPlan r h l p → change.footprint ≡ footprint_for r h l
+footprint_is r h l p change e is = ap (λ (d : Step). d.footprint) (is_planned r h l p change e is).1
 
 -- the plan at the state of a history's store is the plan there
 pub is_plan : (r : Rules) (h : kept.History) (l : Label) (s : State) (p : Plan) → IsHeld r h → s ≡ (past_in h).state
-    → IsReplay h s → p ≡ plan_of (step_at r s l) → IsPlan r h l p
-is_plan r h l s p held state replays is = record {
+    → IsReplay h s → PlansAt r l s p → PlanHasRoom (control_in (s (obj.Control l.worker))) p → IsPlan r h l p
+is_plan r h l s p held state replays is room = record {
   held = held;
-  planned = is ∙ ap (λ t. plan_of (step_at r t l)) state;
-  replayed = is ∙ ap (λ t. plan_of (step_at r t l)) (sym (ap (λ o. unwrap_or o r.start) (replays r held)));
+  planned = subst (λ t. PlansAt r l t p) state is;
+  replayed = subst (λ t. PlansAt r l t p) (sym (ap (λ o. unwrap_or o r.start) (replays r held))) is;
+  room = subst (λ (t : State). PlanHasRoom (control_in (t (obj.Control l.worker))) p) state room;
 }
 
-no_block : (fs : List Access) (n : ℕ) (o : Outcome) (b : Blocked) (s t : State) → plan.Blocked b ≡ plan_by fs n o
+no_block : (fs : List Access) (o : Outcome) (b : Blocked) (s t : State) → o ≡ outcome.Blocked b
     → state_after_outcome fs o s ≡ Some t → ⊥
-no_block fs n (outcome.Updates us) b s t e k = cc
-no_block fs n (outcome.Blocked c) b s t e k = cc
-no_block fs n outcome.Ended b s t e k = cc
+no_block fs (outcome.Updates us) b s t e k = cc
+no_block fs (outcome.Blocked c) b s t e k = cc
+no_block fs outcome.Ended b s t e k = cc
 
-no_end : (fs : List Access) (n : ℕ) (o : Outcome) (s t : State) → plan.Ended ≡ plan_by fs n o
-    → state_after_outcome fs o s ≡ Some t → ⊥
-no_end fs n (outcome.Updates us) s t e k = cc
-no_end fs n (outcome.Blocked c) s t e k = cc
-no_end fs n outcome.Ended s t e k = cc
+no_end : (fs : List Access) (o : Outcome) (s t : State) → o ≡ outcome.Ended → state_after_outcome fs o s ≡ Some t → ⊥
+no_end fs (outcome.Updates us) s t e k = cc
+no_end fs (outcome.Blocked c) s t e k = cc
+no_end fs outcome.Ended s t e k = cc
 
 -- a step that can be made is not blocked, and its worker has not ended
 pub not_blocked : (r : Rules) (h : kept.History) (l : Label) (p : Plan) (b : Blocked) → p ≡ plan.Blocked b
     → IsPlan r h l p → CanBeMade r h l → ⊥
 not_blocked r h l p b e is can =
     let d : Step = step_at r (past_in h).state l in
-    no_block d.footprint d.line d.outcome b (past_in h).state can.0 (sym e ∙ is.planned) can.1
+    no_block d.footprint d.outcome b (past_in h).state can.0
+    (subst (PlansAt r l (past_in h).state) e is.planned) can.1
 
 pub not_ended : (r : Rules) (h : kept.History) (l : Label) (p : Plan) → p ≡ plan.Ended → IsPlan r h l p
     → CanBeMade r h l → ⊥
 not_ended r h l p e is can =
     let d : Step = step_at r (past_in h).state l in
-    no_end d.footprint d.line d.outcome (past_in h).state can.0 (sym e ∙ is.planned) can.1
-
-updates_in : (fs : List Access) (n : ℕ) (o : Outcome) (footprint : List Access) (us : List Update) (line : ℕ)
-    → plan.Updates footprint us line ≡ plan_by fs n o → o ≡ outcome.Updates us
-updates_in fs n (outcome.Updates ws) footprint us line e = cc
-updates_in fs n (outcome.Blocked b) footprint us line e = cc
-updates_in fs n outcome.Ended footprint us line e = cc
+    no_end d.footprint d.outcome (past_in h).state can.0 (subst (PlansAt r l (past_in h).state) e is.planned) can.1
 
 -- where a planned step was taken, the history is longer by it
-pub longer : (r : Rules) (old new : kept.History) (l : Label) (p : Plan) (footprint : List Access) (us : List Update)
-    (line : ℕ) → p ≡ plan.Updates footprint us line → IsPlan r old l p
-    → (history_in new ≡ after_step r (history_in old) l) × IsHeld r new → IsLonger r old new l
-longer r old new l p footprint us line e is taken =
+pub longer : (r : Rules) (old new : kept.History) (l : Label) (p : Plan) (change : Change) → p ≡ plan.Updates change
+    → IsPlan r old l p → (history_in new ≡ after_step r (history_in old) l) × IsHeld r new → IsLonger r old new l
+longer r old new l p change e is taken =
     let h : History = history_in old in
-    let d : Step = step_at r (state_of_entries r h.entries) l in
-    let o : d.outcome ≡ outcome.Updates us =
-    updates_in d.footprint d.line d.outcome footprint us line (sym e ∙ is.replayed) in
+    let s : State = state_of_entries r h.entries in
+    let d : Step = step_at r s l in
+    let us : List Update = Put (value.Control (changed change.edits (control_in (s (obj.Control l.worker)))))
+    ∷ change.updates in
+    let o : d.outcome ≡ outcome.Updates us = ap (λ (x : Step). x.outcome) (subst (PlansAt r l s) e is.replayed) in
     let after : history_in new ≡ history_with h (entry_for h.made l d) (outcome.Updates us) =
     taken.0 ∙ ap (λ x. history_with h (entry_for h.made l d) x) o in
     record {

@@ -11,8 +11,8 @@ ghost use Rattle.om_picture.specs.Pictures.{transition_of};
 ghost use Rattle.om_picture.specs.Traces.{CanReplay, CanBeMade, footprint_for, transition_for, IsLonger};
 
 use crate::traced::Traced;
-use crate::words::words_of;
-use om_cells::{Entry, Label, Outcome, Step};
+use crate::words::Words;
+use om_cells::{Entry, Label};
 use om_code::Program;
 use om_foot::Access;
 use om_history::History;
@@ -21,7 +21,7 @@ use om_task::laws::low_counters;
 use om_task::start::started;
 use om_task::{Plan, Worker, plan};
 use om_undo::Machine;
-use om_undo::laws::steady_rules;
+use om_undo::laws::{shaped_rules, steady_rules};
 use std::alloc::{AllocError, Global};
 
 /// The first steps of a machine's history, at most so many, each with what it touched and did at its
@@ -67,6 +67,7 @@ fn retraced(
         ≡ transitions (rules_of program.now workers) entries.now) }
 {
     steady_rules();
+    shaped_rules();
     let mut history = History::new(alloc, started(alloc, program, workers)?);
     let mut steps = Vec::new(alloc);
     for entry in entries {
@@ -96,14 +97,17 @@ fn traced(
 {
     let label = label_of(entry);
     let plan = planned(alloc, program, workers, history, label)?;
-    let (instruction, value) = words_of(alloc, program, history.store(), &label, &plan)?;
+    let words = Words::of(alloc, program, history.store(), &label, &plan)?;
     match remade(alloc, history, label, plan) {
-        Ok(footprint) => Ok(Traced {
-            entry: *entry,
-            footprint,
-            instruction,
-            value,
-        }),
+        Ok(footprint) => {
+            let (instruction, value) = words.behind(history.store(), label.worker)?;
+            Ok(Traced {
+                entry: *entry,
+                footprint,
+                instruction,
+                value,
+            })
+        }
         Err(error) => Err(error),
     }
 }
@@ -153,18 +157,9 @@ fn remade(
         → IsLonger r history.old history.new label) }
 {
     match plan {
-        Plan::Updates {
-            footprint,
-            updates,
-            line,
-        } => {
-            let copy = Vec::from_slice(alloc, footprint.as_slice())?;
-            let step = Step {
-                footprint,
-                outcome: Outcome::Updates(updates),
-                line,
-            };
-            let _reply = history.take(alloc, label, step)?;
+        Plan::Updates(change) => {
+            let copy = Vec::from_slice(alloc, change.footprint.as_slice())?;
+            let _reply = history.take(alloc, label, change)?;
             Ok(Seq::of(copy))
         }
         Plan::Blocked(_) => unreachable!(),

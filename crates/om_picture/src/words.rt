@@ -1,36 +1,72 @@
 //! What a step did, in words: its instruction, the variable that it names, and a value.
 
-use om_cells::{Choice, Control, Frame, Label, Store, Update, Val};
+use om_cells::{Choice, Label, Update, Val};
 use om_code::Program;
 use om_code::frame::{Cell, Operand};
 use om_code::instruction::{Instr, Place};
+use om_live::{Control, Frame, Store};
 use om_lookup::{Var, variable_at};
 use om_replies::{push_number, push_numbered};
 use om_seq::Seq;
 use om_task::Plan;
 use std::alloc::{AllocError, Global};
 
-/// The name of the instruction of a label's step, and the variable and the value that it has, by the
-/// store before it and its plan. The only error is out of memory.
-pub(crate) fn words_of(
-    alloc: Global,
-    program: &Program,
-    store: &Store,
-    label: &Label,
-    plan: &Plan,
-) -> Result<(Seq<u8>, Seq<u8>), AllocError> {
-    let mut name = Vec::new(alloc);
-    let mut value = Vec::new(alloc);
-    if let Choice::Start(task) = &label.choice {
-        name.extend_from_slice(b"START")?;
-        task.text(&mut value)?;
-    } else if let Some(Control::Running(stack)) = store.control(label.worker) {
-        push_instruction(&mut name, &mut value, program, &stack.top.frame)?;
+/// The words of a step: its instruction, and the variable and the value that it has.
+#[derive(Drop)]
+pub(crate) struct Words {
+    name: Vec<u8>,
+    value: Vec<u8>,
+    /// Whether the step puts a value into a variable, which stands in the words.
+    is_put: bool,
+}
+
+impl Words {
+    /// The name of the instruction of a label's step, with the variable that it names and the value
+    /// that it puts there, by the store before it and its plan. The only error is out of memory.
+    pub(crate) fn of(
+        alloc: Global,
+        program: &Program,
+        store: &Store,
+        label: &Label,
+        plan: &Plan,
+    ) -> Result<Words, AllocError> {
+        let mut name = Vec::new(alloc);
+        let mut value = Vec::new(alloc);
+        if let Choice::Start(task) = &label.choice {
+            name.extend_from_slice(b"START")?;
+            task.text(&mut value)?;
+        } else if let Some(Control::Running(stack)) = store.control(label.worker) {
+            push_instruction(&mut name, &mut value, program, &stack.top.frame)?;
+        }
+        let number = number_put(plan);
+        if let Some(number) = number {
+            push_number_behind(&mut value, number)?;
+        }
+        Ok(Words {
+            name,
+            value,
+            is_put: number.is_some(),
+        })
     }
-    if let Plan::Updates { updates, .. } = plan {
-        push_value(&mut value, updates.as_slice())?;
+
+    /// The instruction, and the variable and the value: the one that the step put into a variable, or
+    /// else the one that it left on its worker's stack in the store behind it. The only error is out
+    /// of memory.
+    pub(crate) fn behind(
+        self,
+        store: &Store,
+        worker: u8,
+    ) -> Result<(Seq<u8>, Seq<u8>), AllocError> {
+        let Words {
+            name,
+            mut value,
+            is_put,
+        } = self;
+        if !is_put {
+            push_top(&mut value, store, worker)?;
+        }
+        Ok((Seq::of(name), Seq::of(value)))
     }
-    Ok((Seq::of(name), Seq::of(value)))
 }
 
 /// Appends the name of the instruction that a frame is at, and the variable or region that it names.
@@ -106,17 +142,17 @@ fn is_slot(variable: Option<Var>, slot: u32) -> bool {
     matches!(variable, Some(Var::Slot { slot: other, .. }) if other == slot)
 }
 
-/// Appends the value that a step put into a variable, or else the one that it left on its stack.
-fn push_value(text: &mut Vec<u8>, updates: &[Update]) -> Result<(), AllocError> {
-    for update in updates {
+/// The number that the step of a plan puts into a variable, if it puts one.
+fn number_put(plan: &Plan) -> Option<i32> {
+    let Plan::Updates(change) = plan else {
+        return None;
+    };
+    for update in change.updates.as_slice() {
         if let Update::Put(Val::Cell(Cell::Int(number))) = update {
-            return push_number_behind(text, *number);
+            return Some(*number);
         }
     }
-    match updates.first() {
-        Some(Update::Put(value)) => push_top(text, value),
-        _ => Ok(()),
-    }
+    None
 }
 
 /// Appends a number, behind a name with ` = ` between them.
@@ -128,12 +164,12 @@ fn push_number_behind(text: &mut Vec<u8>, number: i32) -> Result<(), AllocError>
     }
 }
 
-/// Appends the number on top of the stack of a control's frame, if there is one.
-fn push_top(text: &mut Vec<u8>, value: &Val) -> Result<(), AllocError> {
-    let Some(Control::Running(stack)) = value.control() else {
+/// Appends the number on top of the stack of a worker's running frame, if there is one.
+fn push_top(text: &mut Vec<u8>, store: &Store, worker: u8) -> Result<(), AllocError> {
+    let Some(Control::Running(stack)) = store.control(worker) else {
         return Ok(());
     };
-    match stack.top.frame.operands.top() {
+    match stack.top.frame.operands.get(0) {
         Some(Operand::Int(number)) => push_number_behind(text, *number),
         _ => Ok(()),
     }

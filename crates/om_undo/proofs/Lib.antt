@@ -1,4 +1,5 @@
 mod Calm
+mod Shaped
 mod Views
 mod OneList
 mod Inserted

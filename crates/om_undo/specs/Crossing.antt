@@ -2,32 +2,55 @@
 use Rattle.std.proofs.Crossing.{crosses}
 use Rattle.std.proofs.MapsCrossingOver.{crosses as maps}
 use denote.Param.Send.{IsSend, sendable}
-use Rattle.om_cells.specs.contracts.store.Store as store
+use Rattle.om_foot.specs.contracts.object.Obj as object
+use Rattle.om_cells.specs.contracts.shared.Shared as shared
+use Rattle.om_cells.specs.contracts.store.Store as values
+use Rattle.om_live.specs.contracts.store.Store as store
 use Rattle.om_history.specs.contracts.history.History as history
 use Rattle.om_history.specs.contracts.kept.Kept as kept
+use Rattle.om_history.specs.contracts.own.OwnEntries as own
+use Rattle.om_history.specs.contracts.shared_access.SharedAccess as shared_access
+use Rattle.om_history.specs.contracts.shared_object.SharedObject as shared_object
 use Rattle.om_history.specs.contracts.touches.Touches as touches
 use Rattle.om_history.specs.contracts.touches.TouchLists as lists
 use Rattle.om_history.specs.contracts.records.Records as records
 use Rattle.om_undo.specs.contracts.machine.Machine as machine
 use Rattle.om_undo.specs.Lists.{seq_send}
-use Rattle.om_undo.specs.Names.{name_send, object_send, access_send}
+use Rattle.om_undo.specs.Live.{trail_send}
+use Rattle.om_undo.specs.Names.{name_send, object_send, object_sync}
 use Rattle.om_undo.specs.Programs.{program_send}
+use Rattle.om_undo.specs.Shared.{shared_send}
 use Rattle.om_undo.specs.Values.{value_send, update_send}
 
+values_send : IsSend values.the_field.row
+values_send = search (object_send, value_send, maps, crosses, sendable) depth 40
+
 store_send : IsSend store.the_field.row
-store_send = search (object_send, value_send, maps, crosses, sendable) depth 40
+store_send = search (trail_send, values_send, crosses, sendable) depth 40
+
+objects_send : IsSend (shared.the_row object.the_row)
+objects_send = shared_send object.the_row (search (object_send, sendable)) (search (object_sync, sendable))
+
+shared_object_send : IsSend shared_object.the_row
+shared_object_send = search (objects_send, sendable) depth 40
+
+shared_access_send : IsSend shared_access.the_row
+shared_access_send = search (shared_object_send, sendable) depth 40
 
 kept_send : IsSend kept.the_row
-kept_send = search (name_send, access_send, update_send, seq_send, crosses, sendable) depth 40
+kept_send = search (name_send, shared_access_send, update_send, seq_send, crosses, sendable) depth 40
 
 touches_send : IsSend touches.the_field.row
 touches_send = search (maps, crosses, sendable) depth 40
 
 lists_send : IsSend lists.the_field.row
-lists_send = search (object_send, touches_send, maps, crosses, sendable) depth 40
+lists_send = search (shared_object_send, touches_send, maps, crosses, sendable) depth 40
+
+own_send : IsSend own.the_field.row
+own_send = search (maps, crosses, sendable) depth 40
 
 records_send : IsSend records.the_row
-records_send = search (kept_send, lists_send, maps, crosses, sendable) depth 40
+records_send = search (kept_send, lists_send, own_send, maps, crosses, sendable) depth 40
 
 history_send : IsSend history.the_field.row
 history_send = search (store_send, records_send, crosses, sendable) depth 40

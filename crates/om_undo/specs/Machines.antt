@@ -1,11 +1,13 @@
 -- What contracts see of a machine, and what is true of its fields.
 use Rattle.std.specs.Prelude.{◌≡◌, ℕ, ◌≤◌}
 use Rattle.om_code.specs.declared.raw.Raw.{Raw}
+use Rattle.om_foot.specs.declared.object.Obj.TheVariants as obj
 use Rattle.om_cells.specs.State.{State}
+use Rattle.om_cells.specs.Values.{control_in}
 use Rattle.om_cells.specs.declared.step.Label.{Label}
 use Rattle.om_cells.specs.Rules.{Rules, step_at}
 use Rattle.om_task.specs.declared.planned.Plan.{Plan}
-use Rattle.om_task.specs.Plans.{plan_of}
+use Rattle.om_task.specs.Plans.{StandsFor, PlanHasRoom}
 use Rattle.om_task.specs.Rules.{rules_of}
 use Rattle.om_history.specs.declared.history.History as kept
 use Rattle.om_history.specs.declared.reply.StepReply.{StepReply}
@@ -32,12 +34,17 @@ pub record IsSound (program : Raw) (workers : ℕ) (history : kept.History) : Ty
   pub at_most_32 : workers ≤ 32
   pub held : IsHeld (rules_of program workers) history
 
+-- a plan of a label's step at a state
+abbrev pub PlansAt : Rules → Label → State → Plan → Type 0
+PlansAt r l s p = StandsFor p (control_in (s (obj.Control l.worker))) (step_at r s l)
+
 -- rules under which a history is held, and the plan of a label's step by them: at its state, which is the replay of
 -- its entries
 pub record IsPlan (r : Rules) (h : kept.History) (l : Label) (p : Plan) : Type 0 where
   pub held : IsHeld r h
-  pub planned : p ≡ plan_of (step_at r (past_in h).state l)
-  pub replayed : p ≡ plan_of (step_at r (state_of_entries r (history_in h).entries) l)
+  pub planned : PlansAt r l (past_in h).state p
+  pub replayed : PlansAt r l (state_of_entries r (history_in h).entries) p
+  pub room : PlanHasRoom (control_in ((past_in h).state (obj.Control l.worker))) p
 
 -- what such a plan replies, and what it leaves
 abbrev pub RepliesToPlan : Label → Plan → kept.History → StepReply → Type 0

@@ -30,13 +30,13 @@ home_send = search (name_send, sendable) depth 40
 home_sync : IsSync home.the_row
 home_sync = search (name_sync, sendable) depth 40
 
-homes_send : IsSend (shared.the_row (seq.the_row home.the_row))
+pub homes_send : IsSend (shared.the_row (seq.the_row home.the_row))
 homes_send = shared_send _ (seq_send _ home_send) (seq_sync _ home_sync)
 
 homes_sync : IsSync (shared.the_row (seq.the_row home.the_row))
 homes_sync = shared_sync _ (seq_send _ home_send) (seq_sync _ home_sync)
 
-names_send : IsSend (shared.the_row name.the_row)
+pub names_send : IsSend (shared.the_row name.the_row)
 names_send = shared_send _ name_send name_sync
 
 names_sync : IsSync (shared.the_row name.the_row)
@@ -48,7 +48,7 @@ team_send = search (name_send, sendable) depth 40
 team_sync : IsSync team.the_row
 team_sync = search (name_sync, sendable) depth 40
 
-teams_send : IsSend (shared.the_row team.the_row)
+pub teams_send : IsSend (shared.the_row team.the_row)
 teams_send = shared_send _ team_send team_sync
 
 teams_sync : IsSync (shared.the_row team.the_row)
@@ -60,17 +60,17 @@ group_send = search (name_send, sendable) depth 20
 group_sync : IsSync (option.the_row name.the_row)
 group_sync = search (name_sync, sendable) depth 20
 
-groups_send : IsSend (shared.the_row (option.the_row name.the_row))
+pub groups_send : IsSend (shared.the_row (option.the_row name.the_row))
 groups_send = shared_send _ group_send group_sync
 
 groups_sync : IsSync (shared.the_row (option.the_row name.the_row))
 groups_sync = shared_sync _ group_send group_sync
 
 -- ---- what a worker works on
-construct_send : IsSend construct.the_row
+pub construct_send : IsSend construct.the_row
 construct_send = search (name_send, sendable) depth 40 fits 20000
 
-construct_sync : IsSync construct.the_row
+pub construct_sync : IsSync construct.the_row
 construct_sync = search (name_sync, sendable) depth 40 fits 20000
 
 constructs_send : IsSend (stack.the_row construct.the_row)

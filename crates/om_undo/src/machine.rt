@@ -1,10 +1,12 @@
 //! The machine: a program's run, which goes forwards by steps and backwards by undos and rolls.
 
 ghost use Rattle.std.specs.Prelude.{◌≡◌, ◌<◌, ◌≤◌, ◌^◌, ℕ, IfOk, OnOk, OnErr, IsNone, IfSome, ◌↔◌, Some, map};
+ghost use Rattle.std.specs.Option.{option_copied};
 ghost use Rattle.om_foot.specs.declared.object.Obj.TheVariants as obj;
 ghost use Rattle.om_cells.specs.Ready.{AreReady};
 ghost use Rattle.om_cells.specs.Rules.{Rules, replay};
 ghost use Rattle.om_cells.specs.Values.{control_in};
+ghost use Rattle.om_live.specs.Stores.{plain_or_idle};
 ghost use Rattle.om_task.specs.Rules.{rules_of, line_in, is_at_scheduling_point};
 ghost use Rattle.om_history.specs.Runs.{no_history, label_of, reply_to_step, after_step, reply_to_undo, after_undo};
 ghost use Rattle.om_history.specs.Cones.{taken_by_roll, reply_to_roll, after_roll};
@@ -13,11 +15,12 @@ ghost use Rattle.om_history.specs.Pasts.{past_in, IsHeld, Stays};
 ghost use Rattle.om_undo.specs.Headline.{Headline};
 ghost use Rattle.om_undo.specs.Machines.{rules_for, state_in, IsPlan, RepliesToPlan, TakesPlan};
 
-use crate::laws::{headline, steady_rules};
-use om_cells::{Control, Entry, Label, Outcome, Step, Val};
+use crate::laws::{headline, shaped_rules, steady_rules};
+use om_cells::{Entry, Label, Val};
 use om_code::Program;
 use om_foot::{Name, Obj};
 use om_history::{History, RollReply, StepReply, Taken, UndoReply};
+use om_live::Control;
 use om_task::laws::low_counters;
 use om_task::planning::{is_at_scheduling_point, line};
 use om_task::start::started;
@@ -79,21 +82,14 @@ fn planned(
     plan(alloc, program, history.store(), worker, label.choice)
 }
 
-/// What `taken` of a plan would answer now: the reply of the definition of a run. Nothing changes.
-fn replied(history: &History, plan: Plan) -> StepReply
+/// What `taken` of a plan for a label would answer now: the reply of the definition of a run. Nothing
+/// changes.
+fn replied(history: &History, label: Label, plan: Plan) -> StepReply
     requires { (r : Rules) × IsHeld r history.now }
-    ensures { (label : Label) → RepliesToPlan label plan history.now result }
+    ensures { RepliesToPlan label plan history.now result }
 {
     match plan {
-        Plan::Updates {
-            footprint,
-            updates,
-            line,
-        } => history.reply(&Step {
-            footprint,
-            outcome: Outcome::Updates(updates),
-            line,
-        }),
+        Plan::Updates(change) => history.reply(label.worker, &change),
         Plan::Blocked(why) => StepReply::Blocked(why),
         Plan::Ended => StepReply::Ended,
     }
@@ -114,19 +110,7 @@ fn taken(
     ensures unchanged_on_error { OnErr result (Stays history.old history.new) }
 {
     match plan {
-        Plan::Updates {
-            footprint,
-            updates,
-            line,
-        } => {
-            let outcome = Outcome::Updates(updates);
-            let step = Step {
-                footprint,
-                outcome,
-                line,
-            };
-            history.take(alloc, label, step)
-        }
+        Plan::Updates(change) => history.take(alloc, label, change),
         Plan::Blocked(why) => Ok(StepReply::Blocked(why)),
         Plan::Ended => Ok(StepReply::Ended),
     }
@@ -141,6 +125,7 @@ impl Machine {
             (λ m. m ≡ record { program = program; workers = workers; history = no_history }) }
     {
         steady_rules();
+        shaped_rules();
         let store = started(alloc, &program, workers)?;
         Ok(Machine {
             program,
@@ -195,7 +180,7 @@ impl Machine {
             &self.history,
             label(worker, &choice),
         )?;
-        Ok(replied(&self.history, plan))
+        Ok(replied(&self.history, label(worker, &choice), plan))
     }
 
     /// Takes a worker's last step out of the history, wherever it stands, unless a later step
@@ -290,6 +275,15 @@ impl Machine {
     {
         headline();
         self.history.entries(alloc)
+    }
+
+    /// The control of a worker at the replay of the entries; `None` stands for an idle one. It takes
+    /// no memory.
+    pub fn control(&self, worker: u8) -> Option<&Control>
+        ensures { plain_or_idle (option_copied result)
+            ≡ control_in (state_in self.now (obj.Control worker)) }
+    {
+        self.history.store().control(worker)
     }
 
     /// The line in the source of a worker's next instruction, from 1; 0 where it is idle or has

@@ -179,7 +179,7 @@ impl Debugger {
             (self.new ≡ (obeyed self.old no_run (command.PrintLocal worker variable.now)).view) }
     {
         let machine = self.book.machine();
-        let seen = worker_sees(alloc, machine, worker, variable)?;
+        let seen = worker_sees(machine, worker, variable);
         match seen {
             Seen::Global(cell) => print(alloc, &mut self.book, cell, text),
             Seen::Cell(cell) => print_local(alloc, &mut self.book, variable, &cell, text),

@@ -1,22 +1,22 @@
 //! The cell that a worker sees by the name of a variable.
 
-ghost use Rattle.std.specs.Prelude.{◌≡◌, IfOk};
+ghost use Rattle.std.specs.Prelude.{◌≡◌};
 ghost use Rattle.om_cells.specs.Values.{control_in};
 ghost use Rattle.om_foot.specs.declared.object.Obj.TheVariants as object;
+ghost use Rattle.om_live.specs.Plain.{plain_context, plain_control};
 ghost use Rattle.om_undo.specs.Machines.{state_in};
 ghost use Rattle.om_view.specs.Locals.{cell_seen, global_seen, seen_by, seen_in, var_seen};
 
 use crate::variable::{cell_at, cell_of, element_at, length_of};
-use om_cells::{Context, Control, Val};
 use om_code::Program;
 use om_code::instruction::Place;
 use om_command::Variable;
 use om_foot::Obj;
+use om_live::{Context, Control};
 use om_lookup::{Var, variable_at};
 use om_replies::GlobalCell;
 use om_steps::names::object_of;
 use om_undo::Machine;
-use std::alloc::{AllocError, Global};
 
 /// What a worker sees by the name of a variable.
 #[derive(Clone, Copy)]
@@ -42,7 +42,7 @@ fn global_seen(cell: Option<GlobalCell>) -> Seen
 
 // An element of the variable in a slot of the running frame.
 fn cell_seen(context: &Context, slot: u32, element: Option<u32>) -> Seen
-    ensures { result ≡ cell_seen context.now slot element }
+    ensures { result ≡ cell_seen (plain_context context.now) slot element }
 {
     match element {
         None => Seen::Nothing,
@@ -52,7 +52,7 @@ fn cell_seen(context: &Context, slot: u32, element: Option<u32>) -> Seen
 
 // What a variable is at an index, in the running frame.
 fn var_seen(program: &Program, context: &Context, index: Option<u64>, variable: Option<Var>) -> Seen
-    ensures { result ≡ var_seen program.now context.now index variable }
+    ensures { result ≡ var_seen program.now (plain_context context.now) index variable }
 {
     match variable {
         None => Seen::Nothing,
@@ -65,7 +65,7 @@ fn var_seen(program: &Program, context: &Context, index: Option<u64>, variable: 
 
 // What a variable is in a context.
 fn seen_in(program: &Program, variable: &Variable, context: &Context) -> Seen
-    ensures { result ≡ seen_in program.now variable.now context.now }
+    ensures { result ≡ seen_in program.now variable.now (plain_context context.now) }
 {
     let frame = &context.frame;
     let meant = variable_at(program, frame.body, frame.next, variable.name.as_slice());
@@ -74,7 +74,7 @@ fn seen_in(program: &Program, variable: &Variable, context: &Context) -> Seen
 
 // What a variable is for a worker of this control.
 fn seen_by(program: &Program, variable: &Variable, control: &Control) -> Seen
-    ensures { result ≡ seen_by program.now variable.now control.now }
+    ensures { result ≡ seen_by program.now variable.now (plain_control control.now) }
 {
     match control {
         Control::Running(stack) => seen_in(program, variable, &stack.top),
@@ -83,29 +83,13 @@ fn seen_by(program: &Program, variable: &Variable, control: &Control) -> Seen
     }
 }
 
-// What a variable is for a worker whose control this value is.
-fn seen_at(program: &Program, variable: &Variable, value: &Val) -> Seen
-    ensures { result ≡ seen_by program.now variable.now (control_in value.now) }
+/// What a worker sees by the name of a variable.
+pub(crate) fn worker_sees(machine: &Machine, worker: u8, variable: &Variable) -> Seen
+    ensures { result ≡ seen_by machine.now.program variable.now
+        (control_in (state_in machine.now (object.Control worker))) }
 {
-    match value.control() {
-        Some(control) => seen_by(program, variable, control),
-        None => global_seen(cell_of(program, variable)),
+    match machine.control(worker) {
+        Some(control) => seen_by(machine.program(), variable, control),
+        None => global_seen(cell_of(machine.program(), variable)),
     }
-}
-
-/// What a worker sees by the name of a variable. Its only error is out of memory.
-pub(crate) fn worker_sees(
-    alloc: Global,
-    machine: &Machine,
-    worker: u8,
-    variable: &Variable,
-) -> Result<Seen, AllocError>
-    ensures { IfOk result
-        (λ seen. seen ≡ seen_by machine.now.program variable.now
-        (control_in (state_in machine.now (object.Control worker)))) }
-{
-    let value = machine.look(alloc, &Obj::Control(worker))?;
-    let seen = seen_at(machine.program(), variable, &value);
-    drop(value);
-    Ok(seen)
 }

@@ -1,9 +1,8 @@
 //! Runs: the least worker that has a move makes it, so many times at most.
 
-ghost use Rattle.std.specs.Prelude.{◌≡◌, ◌<◌, ◌≤◌, ◌+◌, ◌++◌, IfOk, IfSome, OnOk, Some, cond, unwrap_or};
+ghost use Rattle.std.specs.Prelude.{◌≡◌, ◌<◌, ◌≤◌, ◌+◌, ◌++◌, IfOk, IfSome, OnOk, Some};
 ghost use Rattle.std.specs.Option.{option_copied};
-ghost use Rattle.om_cells.specs.declared.control.Control.TheVariants as controls;
-ghost use Rattle.om_cells.specs.Values.{control_in};
+ghost use Rattle.om_live.specs.Stores.{plain_or_idle};
 ghost use Rattle.om_undo.specs.ReadyNames.{ready_names};
 ghost use Rattle.om_replies.specs.Stops.{ran_text};
 ghost use Rattle.om_journal.specs.Books.{machine_of};
@@ -13,9 +12,10 @@ ghost use Rattle.om_view.specs.Runs.{can_step, start_among, move_of, move_among,
 use crate::marks::Marks;
 use crate::moves::is_done;
 use crate::stops::step_and_stop;
-use om_cells::{Control, Label, Val};
-use om_foot::{Name, Obj};
+use om_cells::Label;
+use om_foot::Name;
 use om_journal::Book;
+use om_live::Control;
 use om_replies::{Stop, push_full, push_ran};
 use om_task::Choice;
 use om_task::laws::starts_at_scheduling_points;
@@ -118,7 +118,7 @@ fn first_move(alloc: Global, machine: &Machine) -> Result<Option<Label>, AllocEr
 
 // Whether the initial task has ended.
 fn has_ended(control: Option<&Control>) -> bool
-    ensures { result ≡ has_ended (unwrap_or (option_copied control.entry) controls.Idle) }
+    ensures { result ≡ has_ended (plain_or_idle (option_copied control.entry)) }
 {
     match control {
         Some(Control::Ended(_)) => true,
@@ -128,39 +128,24 @@ fn has_ended(control: Option<&Control>) -> bool
     }
 }
 
-// Why a run stops where no worker has a move, by the control of the initial task's worker.
-fn stop_of(value: &Val) -> Stop
-    ensures { result ≡ cond (has_ended (control_in value.now)) Stop.Ended Stop.Stuck }
+// Why a run stops where no worker has a move.
+fn stop_without_move(machine: &Machine) -> Stop
+    ensures { result ≡ stop_without_move machine.now }
 {
-    if has_ended(value.control()) {
+    if has_ended(machine.control(0)) {
         Stop::Ended
     } else {
         Stop::Stuck
     }
 }
 
-// Why a run stops where no worker has a move.
-fn stop_without_move(alloc: Global, machine: &Machine) -> Result<Stop, AllocError>
-    ensures { IfOk result (λ stop. stop ≡ stop_without_move machine.now) }
-{
-    let value = machine.look(alloc, &Obj::Control(0))?;
-    let stop = stop_of(&value);
-    drop(value);
-    Ok(stop)
-}
-
 // Tells that a run stops where no worker has a move.
-fn push_without_move(
-    alloc: Global,
-    book: &Book,
-    made: u64,
-    text: &mut Vec<u8>,
-) -> Result<(), AllocError>
+fn push_without_move(book: &Book, made: u64, text: &mut Vec<u8>) -> Result<(), AllocError>
     ensures { OnOk result
         (text.new.items ≡ text.old.items
         ++ ran_text book.now.start.program made (stop_without_move (machine_of book.now))) }
 {
-    let stop = stop_without_move(alloc, book.machine())?;
+    let stop = stop_without_move(book.machine());
     push_ran(text, book.machine().program(), made, stop)
 }
 
@@ -221,7 +206,7 @@ pub(crate) fn run(
     let mut made = 0;
     'steps: while left > 0 {
         match advance(alloc, book, marks)? {
-            Moved::NoMove => return push_without_move(alloc, book, made, text),
+            Moved::NoMove => return push_without_move(book, made, text),
             Moved::Full => return push_full(text),
             Moved::Stopped(stop) => {
                 return push_ran(text, book.machine().program(), made + 1, stop);

@@ -15,7 +15,8 @@ use Rattle.om_picture.proofs.replay.retraced.Goals as goal
 pub loop-entry-init : goal.loop-entry-init
 loop-entry-init c = record {
   held = c.new-history.ensures.held (rules_of c.args.program.now c.args.workers)
-      (c.steady_rules.ensures c.args.program.now c.args.workers) (sym c.in_ok-started.ensures);
+      (c.steady_rules.ensures c.args.program.now c.args.workers)
+      (c.shaped_rules.ensures c.args.program.now c.args.workers) (sym c.in_ok-started.ensures);
   labels = ap (λ (p : Past). map label_of (entries_of p.records)) c.new-history.ensures.past;
   made = ap (λ (p : Past). p.made) c.new-history.ensures.past;
   noted = ap (λ (ts : List Traced). map transition_of ts) c.new-steps.ensures.items;

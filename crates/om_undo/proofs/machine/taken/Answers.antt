@@ -1,23 +1,27 @@
 use Rattle.std.proofs.lemmas.Result.{IfOk-weaker, on_ok_weaker}
-use Rattle.om_undo.proofs.Planned.{is_planned, blocked_reply, blocked_after, ended_reply, ended_after}
+use Rattle.om_undo.proofs.Planned.{is_planned, has_room, blocked_reply, blocked_after, ended_reply, ended_after}
 use Rattle.om_undo.proofs.machine.taken.Goals as goal
 
 pub take-requires-clause-planned : goal.take-requires-clause-planned
 take-requires-clause-planned c = (
   c.requires.planned.0,
   is_planned c.requires.planned.0 c.args.history.now c.args.label
-      c.args.plan c.in-Updates.footprint c.in-Updates.updates c.in-Updates.line c.in-Updates.is c.requires.planned.1,
+      c.args.plan c.in-Updates.change c.in-Updates.is c.requires.planned.1,
 )
+
+pub take-requires-clause-room : goal.take-requires-clause-room
+take-requires-clause-room c = has_room c.requires.planned.0 c.args.history.now c.args.label c.args.plan
+    c.in-Updates.change c.in-Updates.is c.requires.planned.1
 
 pub returns-in-Updates-clause-reply : goal.returns-in-Updates-clause-reply
 returns-in-Updates-clause-reply c = IfOk-weaker c.take.result _ _
-    (λ x replies r is. replies r (is_planned r c.args.history.now c.args.label c.args.plan c.in-Updates.footprint
-    c.in-Updates.updates c.in-Updates.line c.in-Updates.is is)) c.take.ensures.reply
+    (λ x replies r is. replies r (is_planned r c.args.history.now c.args.label c.args.plan c.in-Updates.change
+    c.in-Updates.is is)) c.take.ensures.reply
 
 pub returns-in-Updates-clause-after : goal.returns-in-Updates-clause-after
 returns-in-Updates-clause-after c = on_ok_weaker c.take.result
-    (λ takes r is. takes r (is_planned r c.args.history.now c.args.label c.args.plan c.in-Updates.footprint
-    c.in-Updates.updates c.in-Updates.line c.in-Updates.is is)) c.take.ensures.after
+    (λ takes r is. takes r (is_planned r c.args.history.now c.args.label c.args.plan c.in-Updates.change
+    c.in-Updates.is is)) c.take.ensures.after
 
 pub returns-in-Blocked-clause-reply : goal.returns-in-Blocked-clause-reply
 returns-in-Blocked-clause-reply c = λ r is. blocked_reply r c.args.history.now c.args.label c.args.plan

@@ -7,5 +7,6 @@ invariant_of-result c = record {
   at_least_one = c.requires.at_least_one;
   at_most_32 = c.requires.at_most_32;
   held = c.new.ensures.held (rules_of c.args.program c.args.workers)
-      (c.steady_rules.ensures c.args.program c.args.workers) (sym c.in_ok-store.ensures);
+      (c.steady_rules.ensures c.args.program c.args.workers)
+      (c.shaped_rules.ensures c.args.program c.args.workers) (sym c.in_ok-store.ensures);
 }
