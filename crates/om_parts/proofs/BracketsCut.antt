@@ -20,9 +20,9 @@ use Rattle.om_parts.specs.Reading.{◌>>=◌, Outcome, Reader, syntax, too_deep,
 use Rattle.om_parts.specs.Repetition.{until}
 use Rattle.om_tree.specs.Spelling.{mark, name, text, prefix_mark, postfix_mark, binary_mark, assign_mark, expression_spelling, arguments_spelling}
 use Rattle.om_tree.specs.Tree.{ExpressionTree, Name, Constant, Text, Paren, Index, Call, Prefix, Postfix, Binary, Conditional, Assign, ArgumentsTree, NoArguments, Argument, arguments}
-use Rattle.om_parts.proofs.Outcomes.{ok, ok_is, bind_ok, bind_err, choose_cases, err_is}
-use Rattle.om_parts.proofs.ItemsSound.{until_sound}
-use Rattle.om_parts.proofs.Taken.{take_mark_is, mark_at_is}
+use Rattle.om_parts.specs.Outcomes.{ok, ok_is, bind_ok, bind_err, choose_cases, err_is}
+use Rattle.om_parts.specs.ItemsSound.{until_sound}
+use Rattle.om_parts.specs.Taken.{take_mark_is, mark_at_is}
 use Rattle.om_parts.proofs.ExpressionSound.{IsExpressionSound, within_ok, take_text_is, argument_spelling, arguments_flat, IsGoodArgument, arguments_good, argument_sound, first_sound}
 
 -- a reader that no limit stops

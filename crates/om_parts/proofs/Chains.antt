@@ -17,8 +17,8 @@ use Rattle.om_parts.specs.ExpressionReading.{expression_step, expression_after, 
 use Rattle.om_parts.specs.Reading.{Outcome, Reader, too_deep, mark_at}
 use Rattle.om_tree.specs.Tree.{ExpressionTree, Postfix, Binary}
 use Rattle.om_tree.specs.Spelling.{postfix_mark, expression_spelling}
-use Rattle.om_parts.proofs.Outcomes.{ok, ok_is, some, bind_ok, choose_cases}
-use Rattle.om_parts.proofs.Taken.{mark_at_is}
+use Rattle.om_parts.specs.Outcomes.{ok, ok_is, some, bind_ok, choose_cases}
+use Rattle.om_parts.specs.Taken.{mark_at_is}
 use Rattle.om_parts.proofs.ExpressionSound.{within_ok, option_map_is, postfix_is, take_operator_is, take_level_is}
 use Rattle.om_parts.proofs.ExpressionSound.{operand_sound, all_sound}
 

@@ -18,11 +18,11 @@ use Rattle.om_parts.specs.Repetition.{until}
 use Rattle.om_tree.specs.Spelling.{mark, name, number, perhaps, word, array_spelling, signed_spelling}
 use Rattle.om_tree.specs.Spelling.{initializer_spelling, declarator_spelling, further_spelling, declaration_spelling}
 use Rattle.om_tree.specs.Tree.{InitializerTree, DeclaratorTree, DeclarationTree}
-use Rattle.om_parts.proofs.Outcomes.{ok}
-use Rattle.om_parts.proofs.Again.{take_mark_again, mark_again, name_again, number_again, bind_answer}
+use Rattle.om_parts.specs.Outcomes.{ok}
+use Rattle.om_parts.specs.Again.{take_mark_again, mark_again, name_again, number_again, bind_answer}
 use Rattle.om_parts.specs.Laws.{IsAnswer}
 use Rattle.om_parts.proofs.DeclarationSound.{further_some}
-use Rattle.om_parts.proofs.ItemsComplete.{all_back, all_front, flat_all, AreAgain, until_again}
+use Rattle.om_parts.specs.ItemsComplete.{all_back, all_front, flat_all, AreAgain, until_again}
 
 -- what stands behind a declarator: a comma or a semicolon
 pub data EndsDeclarator : List Token → Type 0 where
@@ -189,7 +189,3 @@ module _ {I : Type 0} (spell : I → List Token) (Admitted Fits : I → Type 0) 
   unfolding declared_at
   declared_again d rest formed = rw (name_again d.first.name (declaration_rest spell d rest))
       (declaration_again d rest formed)
-
-pub all_any : {A : Type 0} (xs : List A) → All (λ (x : A). Unit {0}) xs
-all_any [] = All-nil (λ x. Unit {0})
-all_any (x ∷ xs) = All-cons (λ x. Unit {0}) x xs tt (all_any xs)

@@ -21,8 +21,8 @@ use Rattle.om_parts.proofs.ItemsCut.{until_never_deep}
 use Rattle.om_tree.specs.Spelling.{mark, word, name, expression_spelling, initializer_spelling, declarator_spelling}
 use Rattle.om_tree.specs.Spelling.{further_spelling, declaration_spelling, local_spelling}
 use Rattle.om_tree.specs.Tree.{ExpressionTree, DeclaratorTree, DeclarationTree}
-use Rattle.om_parts.proofs.Outcomes.{ok, bind_err, choose_cases}
-use Rattle.om_parts.proofs.Taken.{take_mark_is, mark_at_is, name_at_is}
+use Rattle.om_parts.specs.Outcomes.{ok, bind_err, choose_cases}
+use Rattle.om_parts.specs.Taken.{take_mark_is, mark_at_is, name_at_is}
 use Rattle.om_parts.specs.Laws.{IsSound}
 use Rattle.om_parts.proofs.DeclarationSound.{declarator_after_sound, further_sound}
 use Rattle.om_parts.proofs.BracketsCut.{IsNeverDeep, known_never_deep}

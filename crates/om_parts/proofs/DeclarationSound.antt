@@ -18,15 +18,12 @@ use Rattle.om_parts.specs.Repetition.{until}
 use Rattle.om_tree.specs.Spelling.{mark, word, name, number, array_spelling, initializer_spelling, signed_spelling}
 use Rattle.om_tree.specs.Spelling.{declarator_spelling, expression_spelling, further_spelling, declaration_spelling}
 use Rattle.om_tree.specs.Tree.{InitializerTree, DeclaratorTree, DeclarationTree}
-use Rattle.om_parts.proofs.Outcomes.{ok, ok_is, bind_ok, choose_cases, after_front, after_token}
-use Rattle.om_parts.proofs.Taken.{take_mark_is, mark_at_is, name_at_is, number_at_is}
+use Rattle.om_parts.specs.Outcomes.{ok, ok_is, bind_ok, choose_cases, after_front, after_token}
+use Rattle.om_parts.specs.Taken.{take_mark_is, mark_at_is, name_at_is, number_at_is}
 use Rattle.om_parts.specs.ExpressionReading.{whole_at}
 use Rattle.om_parts.proofs.ExpressionSound.{whole_sound}
 use Rattle.om_parts.specs.Laws.{IsRead, IsSound}
-use Rattle.om_parts.proofs.ItemsSound.{until_sound, all_flat}
-
-abbrev pub IsAny : {A : Type 0} → A → Type 0
-IsAny a = Unit {0}
+use Rattle.om_parts.specs.ItemsSound.{IsAny, until_sound, all_flat}
 
 array_sound : (left : Span) (ts : List Token) (x : ArrayLength × List Token) → array_after left ts ≡ ok x
     → mark punctuators.OpenBracket left ∷ ts ≡ array_spelling x.0 ++ x.1

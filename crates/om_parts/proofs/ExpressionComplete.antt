@@ -21,8 +21,8 @@ use Rattle.om_parts.specs.Reading.{◌>>=◌, Reader, take, take_mark, take_numb
 use Rattle.om_parts.specs.Repetition.{until}
 use Rattle.om_tree.specs.Spelling.{mark, name, prefix_mark, postfix_mark, binary_mark, assign_mark, expression_spelling, arguments_spelling}
 use Rattle.om_tree.specs.Tree.{ExpressionTree, Name, Constant, Text, Paren, Index, Call, Prefix, Postfix, Binary, Conditional, Assign, ArgumentsTree, NoArguments, Argument, arguments}
-use Rattle.om_parts.proofs.Outcomes.{ok, some}
-use Rattle.om_parts.proofs.Again.{take_mark_again, take_number_again, mark_again, name_again, take_operator_again, take_operator_here, deep_at, bind_answer, narrower, within_answer}
+use Rattle.om_parts.specs.Outcomes.{ok, some}
+use Rattle.om_parts.specs.Again.{take_mark_again, take_number_again, mark_again, name_again, take_operator_again, take_operator_here, deep_at, bind_answer, narrower, within_answer}
 use Rattle.om_parts.specs.Laws.{Stopping, IsAnswer}
 use Rattle.om_parts.proofs.ExpressionSound.{grade}
 use Rattle.om_parts.proofs.ExpressionTokens.{following, other_mark, mark_none, no_mark, no_text_here, text_again, binary_most, binary_least, expression_some, prefix_again, postfix_again, level_again, binary_strength, postfix_strength, assign_strength, take_assign_again, Fits, primaries, postfixed, binaries_of, expressions, Again, Begins, postfix_mores, binary_mores, ends, no_binary, postfix_from, unary_from, binary_from, weaken, up, expression_from}

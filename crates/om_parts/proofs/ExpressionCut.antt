@@ -14,8 +14,8 @@ use Rattle.om_tree.specs.Limits.{Limits, IsOpening, IsTooMuch, still_open}
 use Rattle.om_parts.specs.Reading.{Reader, known, take_mark, take_number, mark_at, name_at}
 use Rattle.om_tree.specs.Spelling.{mark, name, number, prefix_mark, postfix_mark, binary_mark, assign_mark, expression_spelling, arguments_spelling}
 use Rattle.om_tree.specs.Tree.{ExpressionTree, Name, Constant, Paren, Index, Call, Prefix, Postfix, Binary, Conditional, Assign, NoArguments}
-use Rattle.om_parts.proofs.Outcomes.{some, bind_err, choose_cases}
-use Rattle.om_parts.proofs.Taken.{take_mark_is, take_number_is, mark_at_is, name_at_is}
+use Rattle.om_parts.specs.Outcomes.{some, bind_err, choose_cases}
+use Rattle.om_parts.specs.Taken.{take_mark_is, take_number_is, mark_at_is, name_at_is}
 use Rattle.om_parts.proofs.ExpressionSound.{IsExpressionRead, IsExpressionSound, IsInsideSound, IsStepSound, looser, option_map_is, prefix_is, postfix_is, take_operator_is, take_level_is, take_assign_is, primary_step_sound, postfix_more_sound, binary_more_sound, binary_sound, grade, all_sound, operand_sound}
 use Rattle.om_parts.proofs.BracketsCut.{syntax_never_deep, known_never_deep, IsPassed, IsExpressionCut, IsCutting, looser_cut, within_err, prefix_flat, binary_flat, assign_flat, one_at, flat, IsInsideCutting, enter_err, balanced, call_cut, index_cut, paren_cut}
 

@@ -13,7 +13,7 @@ use Rattle.om_tree.specs.Limits.{Limits}
 use Rattle.om_parts.specs.Reading.{Outcome, Reader, take_mark, take_number, mark_at, name_at}
 use Rattle.om_parts.specs.Repetition.{until}
 use Rattle.om_tree.specs.Tree.{ExpressionTree}
-use Rattle.om_parts.proofs.Outcomes.{some, choose_cases}
+use Rattle.om_parts.specs.Outcomes.{some, choose_cases}
 use Rattle.om_parts.proofs.ExpressionSound.{option_map_is}
 use Rattle.om_parts.proofs.Refusals.{Refuses, done, wrong, deep, bind, either, expected, limited, until_refuses}
 

@@ -24,10 +24,10 @@ use Rattle.om_parts.specs.Reading.{◌>>=◌, Outcome, Reader, choose, take, too
 use Rattle.om_parts.specs.Repetition.{until}
 use Rattle.om_tree.specs.Spelling.{token, mark, name, text, perhaps, prefix_mark, postfix_mark, binary_mark, assign_mark, expression_spelling, arguments_spelling}
 use Rattle.om_tree.specs.Tree.{ExpressionTree, Name, Constant, Text, Paren, Index, Call, Prefix, Postfix, Binary, Conditional, Assign, NoArguments, Argument, arguments}
-use Rattle.om_parts.proofs.Outcomes.{ok, ok_is, some, some_is, bind_ok, choose_cases, after_front, after_token, cond_some}
-use Rattle.om_parts.proofs.Taken.{take_is, take_mark_is, take_number_is, mark_at_is, name_at_is}
+use Rattle.om_parts.specs.Outcomes.{ok, ok_is, some, some_is, bind_ok, choose_cases, after_front, after_token, cond_some}
+use Rattle.om_parts.specs.Taken.{take_is, take_mark_is, take_number_is, mark_at_is, name_at_is}
 use Rattle.om_parts.specs.Laws.{IsRead, IsSound}
-use Rattle.om_parts.proofs.ItemsSound.{until_sound}
+use Rattle.om_parts.specs.ItemsSound.{until_sound}
 
 -- an expression that stands at the front, binds at least so tightly, and keeps the limits
 pub record IsExpressionRead (m beyond room : ℕ) (ts : List Token) (x : ExpressionTree × List Token) : Type 0 where

@@ -28,8 +28,8 @@ use Rattle.om_tree.specs.Limits.{nesting}
 use Rattle.om_parts.specs.Reading.{Reader, choose, take, same_mark, mark_of, take_mark}
 use Rattle.om_tree.specs.Spelling.{mark, text, prefix_mark, postfix_mark, binary_mark, assign_mark, expression_spelling}
 use Rattle.om_tree.specs.Tree.{ExpressionTree, Name, Constant, Text, Paren, Index, Call, Prefix, Postfix, Binary, Conditional, Assign}
-use Rattle.om_parts.proofs.Outcomes.{some}
-use Rattle.om_parts.proofs.Again.{take_operator_again}
+use Rattle.om_parts.specs.Outcomes.{some}
+use Rattle.om_parts.specs.Again.{take_operator_again}
 use Rattle.om_parts.specs.Laws.{Stopping, IsAnswer}
 use Rattle.om_parts.proofs.ExpressionSound.{grade}
 

@@ -9,11 +9,13 @@ use Rattle.om_tree.specs.declared.tree.SignedNumber.{SignedNumber}
 use Rattle.om_tree.specs.Limits.{expressions_of_declaration}
 use Rattle.om_tree.specs.Spelling.{signed_spelling}
 use Rattle.om_parts.proofs.DeclarationComplete.{EndsDeclarator, signed_again, declaration_rest, rest_is}
-use Rattle.om_parts.proofs.DeclarationComplete.{no_parameters, declaration_again, all_any}
+use Rattle.om_parts.proofs.DeclarationComplete.{no_parameters, declaration_again}
+use Rattle.om_parts.specs.ItemsComplete.{all_any}
 use Rattle.om_parts.proofs.DeclarationCut.{signed_never_deep, declaration_never_deep}
 use Rattle.om_parts.proofs.DeclarationRefusals.{signed_refuses, declaration_refuses}
-use Rattle.om_parts.proofs.DeclarationSound.{IsAny, signed_sound, declaration_after_sound}
-use Rattle.om_parts.proofs.Outcomes.{ok}
+use Rattle.om_parts.proofs.DeclarationSound.{signed_sound, declaration_after_sound}
+use Rattle.om_parts.specs.ItemsSound.{IsAny}
+use Rattle.om_parts.specs.Outcomes.{ok}
 
 pub globals_sound : GlobalsAreSound
 unfolding global_at

@@ -12,9 +12,9 @@ use Rattle.om_tree.specs.Spelling.{expression_spelling}
 use Rattle.om_parts.specs.Reading.{◌>>=◌, Outcome, Reader}
 use Rattle.om_tree.specs.Tree.{ExpressionTree}
 use Rattle.om_parts.specs.Repetition.{until}
-use Rattle.om_parts.proofs.Outcomes.{ok, bind_err, choose_cases, err_is}
+use Rattle.om_parts.specs.Outcomes.{ok, bind_err, choose_cases, err_is}
 use Rattle.om_parts.proofs.BracketsCut.{IsNeverDeep, syntax_never_deep}
-use Rattle.om_parts.proofs.Loops.{Ender}
+use Rattle.om_parts.specs.Loops.{Ender}
 
 -- A limit is passed at this place: some well-formed part of a program begins with the same tokens up to there,
 -- and there one of its whole expressions has too many tokens, or parentheses that nest too deep.

@@ -1,10 +1,6 @@
-mod Outcomes
-mod Taken
 mod ExpressionSound
 mod Chains
 mod Prefixes
-mod Loops
-mod ItemsSound
 mod LineRuns
 mod LineTokens
 mod Mapping
@@ -17,10 +13,8 @@ mod LineStands
 mod LineCut
 mod PartsSound
 mod DeclarationSound
-mod Again
 mod ExpressionTokens
 mod ExpressionComplete
-mod ItemsComplete
 mod PartsComplete
 mod DeclarationComplete
 mod BracketsCut

@@ -13,7 +13,7 @@ use Rattle.om_pragma.specs.Refusals.{ClausesStand, IsAnswer, IsRefusal, IsWordFa
 use Rattle.om_pragma.specs.Table.{IsDirective, IsDirectiveOf}
 use Rattle.om_pragma.specs.Values.{StandsAsValue, IsFirstValue}
 use Rattle.om_parts.specs.Reading.{Reads}
-use Rattle.om_parts.proofs.Outcomes.{some}
+use Rattle.om_parts.specs.Outcomes.{some}
 
 -- ---- the directive of a run
 

@@ -23,8 +23,8 @@ use Rattle.om_tree.specs.Sizes.{most, extent}
 use Rattle.om_tree.specs.Spelling.{token, expression_spelling}
 use Rattle.om_tree.specs.Tree.{ExpressionTree}
 use Rattle.om_parts.specs.Laws.{IsAnswer, KeepsLine}
-use Rattle.om_parts.proofs.Again.{bind_answer}
-use Rattle.om_parts.proofs.Outcomes.{ok, some}
+use Rattle.om_parts.specs.Again.{bind_answer}
+use Rattle.om_parts.specs.Outcomes.{ok, some}
 use Rattle.om_parts.proofs.ExpressionComplete.{whole_again}
 use Rattle.om_parts.proofs.LineParts.{Each, first_mapped, mapped_twice, formed_value, only_first, mapped_itself}
 use Rattle.om_parts.proofs.LineAnswers.{OnlyOne, IsReading, HasOneExpression, run_reads}

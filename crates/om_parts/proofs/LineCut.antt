@@ -22,7 +22,7 @@ use Rattle.om_tree.specs.Places.{in_parentheses}
 use Rattle.om_parts.specs.Reading.{Outcome, syntax}
 use Rattle.om_tree.specs.Spelling.{token, mark}
 use Rattle.om_tree.specs.Tree.{ExpressionTree}
-use Rattle.om_parts.proofs.Outcomes.{ok, bind_err, choose_cases, err_is}
+use Rattle.om_parts.specs.Outcomes.{ok, bind_err, choose_cases, err_is}
 use Rattle.om_parts.proofs.ExpressionCut.{too_much_at, whole_cut}
 use Rattle.om_parts.proofs.ExpressionRefusals.{whole_refuses}
 use Rattle.om_parts.proofs.LineAnswers.{LineLaws, run_directive, run_reads, run_refused}

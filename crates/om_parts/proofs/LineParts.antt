@@ -14,7 +14,7 @@ use Rattle.om_pragma.specs.Expressions.{clause_expression, clause_expressions, e
 use Rattle.om_pragma.specs.Expressions.{map_clause, map_item, map_directive}
 use Rattle.om_pragma.specs.Spelling.{argument_spelling, clause_spelling, item_spelling, directive_spelling}
 use Rattle.om_pragma.specs.Table.{EachBehind, IsClause, IsItem, IsDirective}
-use Rattle.om_parts.proofs.Outcomes.{some, some_is}
+use Rattle.om_parts.specs.Outcomes.{some, some_is}
 
 -- each of these is such
 abbrev pub Each : {A : Type 0} → (A → Type 0) → List A → Type 0

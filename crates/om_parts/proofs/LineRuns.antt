@@ -13,7 +13,7 @@ use Rattle.om_pragma.specs.Refusals.{EndsOnce}
 use Rattle.om_parts.specs.WrongLines.{IsOneLine}
 use Rattle.om_parts.specs.LineReading.{run_of, place_behind}
 use Rattle.om_tree.specs.Spelling.{token}
-use Rattle.om_parts.proofs.Outcomes.{some, some_is}
+use Rattle.om_parts.specs.Outcomes.{some, some_is}
 
 -- the tokens of a run, and those behind it
 abbrev pub Run : Type 0
@@ -173,8 +173,7 @@ run_is_line hash ts r e = go (run_of ts) refl e
           hash = hash;
           inner = c.front;
           end = c.end;
-          parts =
-              ap (λ (w : List Token). token kinds.DirectiveBegin hash ∷ w) c.parts;
+          parts = ap (λ (w : List Token). token kinds.DirectiveBegin hash ∷ w) c.parts;
           endless = c.endless;
         })
     go None is e = absurd cc

@@ -20,7 +20,7 @@ use Rattle.om_parts.specs.Reading.{Outcome}
 use Rattle.om_tree.specs.Sizes.{most, extent}
 use Rattle.om_tree.specs.Spelling.{expression_spelling}
 use Rattle.om_tree.specs.Tree.{ExpressionTree}
-use Rattle.om_parts.proofs.Outcomes.{ok, ok_is, bind_ok, choose_cases}
+use Rattle.om_parts.specs.Outcomes.{ok, ok_is, bind_ok, choose_cases}
 use Rattle.om_parts.proofs.ExpressionSound.{whole_sound}
 use Rattle.om_parts.specs.Laws.{IsRead, IsSound, IsWholeLine}
 use Rattle.om_parts.proofs.LineParts.{Each, only_first, same_tokens}

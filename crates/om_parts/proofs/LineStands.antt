@@ -21,7 +21,7 @@ use Rattle.om_tree.specs.Spelling.{mark}
 use Rattle.om_parts.specs.WrongLines.{clause_token, ExpectsClause, IsNoDirective}
 use Rattle.om_parts.proofs.LineAnswers.{FindsFirst}
 use Rattle.om_parts.proofs.LineParts.{item}
-use Rattle.om_parts.proofs.Outcomes.{some, some_is}
+use Rattle.om_parts.specs.Outcomes.{some, some_is}
 
 abbrev Items : Type 0
 Items = List (ClauseItem (List Token))
@@ -72,8 +72,7 @@ first_clause (i ∷ items) es is = go i.clause (λ h. first_clause items es h) i
       comma = s.comma;
       word = s.word;
       at = s.at;
-      left =
-          s.left;
+      left = s.left;
       right = s.right;
       rest = s.rest;
       split = ap (λ (w : Items). item i.comma c ∷ w) s.split;
@@ -147,8 +146,7 @@ stands_before_fault first place line es none e =
         word = v.word;
         at = v.at;
         left = v.left;
-        after =
-            mark punctuators.CloseParen v.right ∷ v.behind;
+        after = mark punctuators.CloseParen v.right ∷ v.behind;
         stands = v.parts;
       };
       in_clause = inr none;

@@ -360,8 +360,7 @@ spelled_once d = record {
   front = before_end d;
   end = d.end;
   parts = end_last d;
-  endless = all_endless
-      (before_end d) (before_end_endless d);
+  endless = all_endless (before_end d) (before_end_endless d);
 }
   where
     all_endless : (ts : List Token) → Endless ts → All (λ t. t.kind ≢ kinds.DirectiveEnd) ts

@@ -19,7 +19,7 @@ use Rattle.om_parts.specs.LineReading.{clause_value, no_value, with_value, soone
 use Rattle.om_parts.specs.Reading.{Reads}
 use Rattle.om_tree.specs.Tree.{ExpressionTree, Constant}
 use Rattle.om_tree.specs.View.{expression_layer, view_expression, view_directive}
-use Rattle.om_parts.proofs.Outcomes.{ok, some, err_is}
+use Rattle.om_parts.specs.Outcomes.{ok, some, err_is}
 use Rattle.om_parts.proofs.LineParts.{first_is_only, first_mapped, mapped_twice}
 
 -- ---- the expression in its place

@@ -17,7 +17,7 @@ use Rattle.om_parts.proofs.LineComplete.{line_again}
 use Rattle.om_parts.specs.Laws.{IsAnswer, Keeps, KeepsDeclaration, IsEnd, IsExpressionAgain, declaration_tail}
 use Rattle.om_parts.specs.Laws.{IsDeclarationAgain, PartsAreReadAgain}
 use Rattle.om_parts.proofs.LineAnswers.{OnlyOne, IsReading, HasOneExpression}
-use Rattle.om_parts.proofs.Again.{narrower}
+use Rattle.om_parts.specs.Again.{narrower}
 use Rattle.om_parts.proofs.ExpressionComplete.{whole_again}
 use Rattle.om_parts.proofs.ExpressionTokens.{following}
 use Rattle.om_parts.proofs.DeclarationComplete.{EndsDeclarator, EndsBySemicolon, EndsByComma, declaration_rest}

@@ -43,8 +43,7 @@ module _ (l : Limits) (room round : ℕ) (sum : room + round ≡ l.nested) where
           r.formed.0,
           record {
             nested = omega (arith, r.formed.1, sum);
-            long = omega
-                (arith, r.formed.2);
+            long = omega (arith, r.formed.2);
           },
         );
       }
@@ -71,8 +70,7 @@ module _ (l : Limits) (room round : ℕ) (sum : room + round ≡ l.nested) where
         formed = record {
           formed = both.0;
           nested = most_nested (expressions_of_declaration x.0) both.1;
-          long =
-              most_long (expressions_of_declaration x.0) both.1;
+          long = most_long (expressions_of_declaration x.0) both.1;
         };
       }
 

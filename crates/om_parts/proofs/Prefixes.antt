@@ -10,7 +10,7 @@ use Rattle.om_parts.specs.ExpressionReading.{postfix_at, prefixed, behind}
 use Rattle.om_parts.specs.Reading.{Outcome, syntax, too_deep}
 use Rattle.om_tree.specs.Tree.{ExpressionTree, Prefix}
 use Rattle.om_tree.specs.Spelling.{prefix_mark}
-use Rattle.om_parts.proofs.Outcomes.{some}
+use Rattle.om_parts.specs.Outcomes.{some}
 use Rattle.om_parts.proofs.ExpressionSound.{prefix_is, take_operator_is}
 
 -- the last operator is the innermost

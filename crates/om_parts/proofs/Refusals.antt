@@ -9,9 +9,9 @@ use Rattle.om_lexer.specs.declared.token.Token.{Token}
 use Rattle.om_parts.specs.ExpressionReading.{within}
 use Rattle.om_parts.specs.Reading.{◌>>=◌, Outcome, Reader, choose, syntax, too_deep, known}
 use Rattle.om_parts.specs.Repetition.{until}
-use Rattle.om_parts.proofs.Outcomes.{err_is}
+use Rattle.om_parts.specs.Outcomes.{err_is}
 use Rattle.om_parts.specs.Laws.{Stops}
-use Rattle.om_parts.proofs.Loops.{Ender}
+use Rattle.om_parts.specs.Loops.{Ender}
 
 abbrev pub IsRefusal : SourceFault → Type 0
 IsRefusal f = (f.code ≡ codes.Syntax) ⊎ (f.code ≡ codes.TooDeep)

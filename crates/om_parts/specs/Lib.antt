@@ -7,3 +7,9 @@ pub mod WrongLines
 pub mod PartReading
 pub mod Made
 pub mod Laws
+pub mod Outcomes
+pub mod Taken
+pub mod Again
+pub mod Loops
+pub mod ItemsSound
+pub mod ItemsComplete

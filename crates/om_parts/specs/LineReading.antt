@@ -37,8 +37,7 @@ is_syntax _ = false
 abbrev pub in_run : (run es : List Token) → SourceFault → SourceFault
 in_run run es f = if is_syntax f.code && nat_eq f.at 4294967295 then record {
   code = codes.Syntax;
-  at = place_behind
-      (last_start es) run;
+  at = place_behind (last_start es) run;
 } else f
 
 -- the expression, where no tokens are left behind it

@@ -16,21 +16,12 @@ use Rattle.om_lexer.specs.declared.token.TokenKind.{TokenKind}
 use Rattle.om_lexer.specs.declared.token.TokenKind.TheVariants as kinds
 use Rattle.om_pragma.specs.declared.name.Name as names
 use Rattle.om_pragma.specs.declared.name.Number.{Number}
+-- as directives are read
+pub use Rattle.om_pragma.specs.Reading.{◌>>=◌, choose, place, name_of, number_of}
 
 -- what reading gives: a value, or the fault that stops it
 abbrev pub Outcome : Type 0 → Type 0
 Outcome A = Result A SourceFault
-
--- the next step, where this one gives a value
-infixl 10 ◌>>=◌
-abbrev pub ◌>>=◌ : {A B : Type 0} → Outcome A → (A → Outcome B) → Outcome B
-(Ok x) >>= f = f x
-(Err e) >>= f = Err e
-
--- goes on with what is there, or gives the other value
-abbrev pub choose : {A B : Type 0} → Option A → (A → B) → B → B
-choose (Some x) f other = f x
-choose None f other = other
 
 -- an item that stands first, and the tokens behind it
 abbrev pub Reader : Type 0 → Type 0
@@ -39,11 +30,6 @@ Reader A = List Token → Outcome (A × List Token)
 -- it leaves no more tokens than there were
 abbrev pub LeavesNoMore : {A : Type 0} → Reader A → Type 0
 LeavesNoMore {A} r = (ts : List Token) (x : A × List Token) → r ts ≡ Ok x → length x.1 ≤ length ts
-
--- where the first token starts; past every source where there is none
-abbrev pub place : List Token → ℕ
-place [] = 4294967295
-place (t ∷ ts) = t.span.start
 
 -- no tree goes on with the first of these tokens
 abbrev pub syntax : List Token → SourceFault
@@ -80,16 +66,6 @@ mark_of p _ s = None
 abbrev pub word_of : Keyword → TokenKind → Span → Option Span
 word_of k (kinds.Keyword j) s = if same_word j k then Some s else None
 word_of k _ s = None
-
--- the name that a token is
-abbrev pub name_of : TokenKind → Span → Option names.Name
-name_of (kinds.Name text) s = Some (record { text = text; span = s })
-name_of _ s = None
-
--- the constant that a token is
-abbrev pub number_of : TokenKind → Span → Option Number
-number_of (kinds.Constant value) s = Some (record { value = value; span = s })
-number_of _ s = None
 
 -- this punctuator, if it stands first
 unfoldable pub take_mark : Punctuator → List Token → Option (Span × List Token)

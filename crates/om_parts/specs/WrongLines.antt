@@ -42,11 +42,9 @@ pub record ExpectsClause (line rest : List Token) : Type 0 where
 abbrev pub IsNoDirective : List Token → Type 0
 IsNoDirective line = (d : Directive (List Token)) → IsDirectiveOf line d → ⊥
 
--- A limit is passed at this place of a line, in the parentheses of a clause: some well-formed expression
--- begins with the same
--- tokens up to there, and with the token there, which is one too many for it or nests too deep in it. In a
--- line that is no
--- directive, the parentheses behind any word of such a clause are meant.
+-- A limit is passed at this place of a line, in the parentheses of a clause: some well-formed expression begins with
+-- the same tokens up to there, and with the token there, which is one too many for it or nests too deep in it. In a
+-- line that is no directive, the parentheses behind any word of such a clause are meant.
 pub record IsPassedInClause (l : Limits) (line : List Token) (place : ℕ) : Type 0 where
   pub before : List Token
   pub word : ValueClause

@@ -1,4 +1,5 @@
 //! The parts of statements that are no statements.
+#![tactic(auto, unfolding(crate::specs::PartReading::parts))]
 
 ghost use Rattle.om_tree.specs.Limits.{accepted};
 ghost use Rattle.om_parts.specs.Made.{ReadsExpression};
@@ -15,7 +16,6 @@ use om_tree::{Declaration, Expression, NESTING_LIMIT, SignedNumber};
 use std::alloc::Global;
 
 /// A whole expression, and the tokens behind it.
-#[tactic(auto, unfolding(crate::specs::PartReading::parts))]
 pub fn expression(
     alloc: Global,
     tokens: &[Token],
@@ -26,7 +26,6 @@ pub fn expression(
 }
 
 /// A whole expression in the parentheses of a statement, and the tokens behind it.
-#[tactic(auto, unfolding(crate::specs::PartReading::parts))]
 pub fn enclosed(alloc: Global, tokens: &[Token]) -> Result<(Box<Expression>, &[Token]), SourceFault>
     ensures { ReadsExpression result ((parts accepted).enclosed tokens.now) }
 {
@@ -34,7 +33,6 @@ pub fn enclosed(alloc: Global, tokens: &[Token]) -> Result<(Box<Expression>, &[T
 }
 
 /// A declaration in a block, of which `int` is taken, and the tokens behind it.
-#[tactic(auto, unfolding(crate::specs::PartReading::parts))]
 pub fn declaration(
     alloc: Global,
     int: Span,
@@ -47,7 +45,6 @@ pub fn declaration(
 }
 
 /// A declaration in the parentheses of a `for`, of which `int` is taken, and the tokens behind it.
-#[tactic(auto, unfolding(crate::specs::PartReading::parts))]
 pub fn enclosed_declaration(
     alloc: Global,
     int: Span,
@@ -60,7 +57,6 @@ pub fn enclosed_declaration(
 }
 
 /// A directive line, and the tokens behind it.
-#[tactic(auto, unfolding(crate::specs::PartReading::parts))]
 pub fn directive_line(
     alloc: Global,
     tokens: &[Token],

@@ -19,9 +19,8 @@ use Rattle.om_tree.specs.Tree.{Continue, Construct, StandAlone, Sections, NoStat
 use Rattle.om_tree.specs.Tree.{PartsTree, NoParts, Part}
 
 -- levels of precedence, the loosest first: 1 assignment (C17 6.5.16), 2 conditional (6.5.15), 3 and 4 logical
--- (6.5.14, 6.5.13),
--- 5 equality (6.5.9), 6 relational (6.5.8), 7 additive (6.5.6), 8 multiplicative (6.5.5), 9 unary (6.5.3), 10
--- postfix (6.5.2), 11 primary, indexed or called (6.5.1, 6.5.2)
+-- (6.5.14, 6.5.13), 5 equality (6.5.9), 6 relational (6.5.8), 7 additive (6.5.6), 8 multiplicative (6.5.5), 9 unary
+-- (6.5.3), 10 postfix (6.5.2), 11 primary, indexed or called (6.5.1, 6.5.2)
 abbrev pub binary_level : BinaryOperator → ℕ
 binary_level binaries.Or = 3
 binary_level binaries.And = 4

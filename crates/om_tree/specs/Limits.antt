@@ -61,8 +61,7 @@ accepted = record {
   nested = NESTING_LIMIT;
   tokens = TOKEN_LIMIT;
   blocks = BLOCK_LIMIT;
-  statements =
-      STATEMENT_LIMIT;
+  statements = STATEMENT_LIMIT;
   checked = true;
 }
 

@@ -47,13 +47,7 @@ pub record IsOverIn {A : Type 0} (spelling : A → List Token) (expressions : A 
 
 -- the limits of an expression in the parentheses of a statement, which are the outermost ones round its parts
 abbrev pub in_parentheses : Limits → Limits
-in_parentheses l = record {
-  nested = l.nested - 1;
-  tokens = l.tokens;
-  blocks = l.blocks;
-  statements = l.statements;
-  checked = l.checked;
-}
+in_parentheses l = record l { nested = l.nested - 1 }
 
 -- in an expression
 abbrev pub IsOverInExpression : Limits → ExpressionTree → Place
@@ -173,9 +167,8 @@ IsOverInUnitItems l (i ∷ items) = Either (IsOverInItem l i) (Behind (item_spel
 abbrev pub IsOverInUnit : Limits → UnitTree → Place
 IsOverInUnit l u = IsOverInUnitItems l u.items
 
--- A limit is passed at this place: some well-formed part begins with the same tokens up to there, and with
--- the token there,
--- which is one too many for it.
+-- A limit is passed at this place: some well-formed part begins with the same tokens up to there, and with the token
+-- there, which is one too many for it.
 pub record IsPassed {A : Type 0} (spelling : A → List Token) (IsFormed : A → Type 0) (over : A → Place)
     (tokens : List Token) (place : ℕ) : Type 0 where
   pub part : A

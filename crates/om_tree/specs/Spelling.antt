@@ -7,7 +7,6 @@ use Rattle.om_lexer.specs.declared.token.Punctuator.{Punctuator}
 use Rattle.om_lexer.specs.declared.token.Punctuator.TheVariants as punctuators
 use Rattle.om_lexer.specs.declared.token.Span.{Span}
 use Rattle.om_lexer.specs.declared.token.Token.{Token}
-use Rattle.om_lexer.specs.declared.token.TokenKind.{TokenKind}
 use Rattle.om_lexer.specs.declared.token.TokenKind.TheVariants as kinds
 use Rattle.om_pragma.specs.declared.tree.Directive.{Directive}
 use Rattle.om_pragma.specs.Spelling.{directive_spelling}
@@ -17,7 +16,6 @@ use Rattle.om_tree.specs.declared.tree.AssignOperator.TheVariants as assigns
 use Rattle.om_tree.specs.declared.tree.BinaryOperator.{BinaryOperator}
 use Rattle.om_tree.specs.declared.tree.BinaryOperator.TheVariants as binaries
 use Rattle.om_pragma.specs.declared.name.Name as names
-use Rattle.om_pragma.specs.declared.name.Number.{Number}
 use Rattle.om_tree.specs.declared.tree.Parameter.{Parameter}
 use Rattle.om_tree.specs.declared.tree.PostfixOperator.{PostfixOperator}
 use Rattle.om_tree.specs.declared.tree.PostfixOperator.TheVariants as postfixes
@@ -36,26 +34,12 @@ use Rattle.om_tree.specs.Tree.{PartsTree, NoParts, Part, StatementsTree, NoState
 use Rattle.om_tree.specs.Tree.{ParametersTree, PartTree}
 use Rattle.om_tree.specs.Tree.{NoParameters, Void, Listed, HeadTree, ItemTree, Declaration, Prototype, Function}
 use Rattle.om_tree.specs.Tree.{UnitTree}
-
--- a token of a kind, where it stands
-abbrev pub token : TokenKind → Span → Token
-token k s = record { kind = k; span = s }
-
--- a punctuator (C17 6.4.6)
-abbrev pub mark : Punctuator → Span → Token
-mark p s = token (kinds.Punctuator p) s
+-- punctuators, names and constants are spelled as in directives
+pub use Rattle.om_pragma.specs.Spelling.{token, mark, name, number}
 
 -- a keyword (C17 6.4.1)
 abbrev pub word : Keyword → Span → Token
 word k s = token (kinds.Keyword k) s
-
--- a name (C17 6.4.2)
-abbrev pub name : names.Name → Token
-name n = token (kinds.Name n.text) n.span
-
--- a constant (C17 6.4.4.1)
-abbrev pub number : Number → Token
-number n = token (kinds.Constant n.value) n.span
 
 -- a text (C17 6.4.5)
 abbrev pub text : texts.Text → Token

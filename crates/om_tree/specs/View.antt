@@ -155,8 +155,7 @@ abbrev pub view_block : blocks.Block → BlockTree
 view_block b = record {
   open_brace = b.open_brace;
   items = map view_statement b.items.items;
-  close_brace =
-      b.close_brace;
+  close_brace = b.close_brace;
 }
 
 -- parameters without capacities
@@ -171,8 +170,7 @@ view_head h = record {
   result = h.result;
   name = h.name;
   open_paren = h.open_paren;
-  parameters = view_parameters
-      h.parameters;
+  parameters = view_parameters h.parameters;
   close_paren = h.close_paren;
 }
 

@@ -7,8 +7,8 @@ use Rattle.om_parts.specs.Reading.{take_mark}
 use Rattle.om_parts.specs.Repetition.{until}
 use Rattle.om_tree.specs.View.{view_declarator, view_further}
 use Rattle.om_parts.proofs.DeclarationSound.{further_shorter}
-use Rattle.om_parts.proofs.Loops.{until_begins, until_ends, until_fails, until_goes_on}
-use Rattle.om_parts.proofs.Taken.{mark_shorter}
+use Rattle.om_parts.specs.Loops.{until_begins, until_ends, until_fails, until_goes_on}
+use Rattle.om_parts.specs.Taken.{mark_shorter}
 use Rattle.om_parts.proofs.declaration.further_declarators.Goals as goal
 
 pub declarators-init : goal.declarators-init

@@ -4,7 +4,7 @@ use Rattle.om_parts.specs.DeclarationReading.{further_at}
 use Rattle.om_parts.specs.Reading.{take_mark}
 use Rattle.om_parts.specs.Repetition.{until}
 use Rattle.om_tree.specs.View.{view_further}
-use Rattle.om_parts.proofs.Loops.{GoesOn}
+use Rattle.om_parts.specs.Loops.{GoesOn}
 use Rattle.om_parts.proofs.declaration.further_declarators.Given as goal
 
 abbrev pub invariant-declarators : goal.invariant-declarators

@@ -10,8 +10,8 @@ use Rattle.om_tree.specs.View.{view_argument, view_expression}
 use Rattle.om_parts.proofs.Chains.{chain_ends, chain_stops, chain_goes_on, no_binary, binary_over, binary_fails}
 use Rattle.om_parts.proofs.Chains.{binary_on, binary_shorter, operand_shorter, argument_shorter, fails_or, binary_stops}
 use Rattle.om_parts.proofs.Chains.{level_stops, level_ends, turn_goes_on}
-use Rattle.om_parts.proofs.Loops.{until_ends, until_fails, until_goes_on}
-use Rattle.om_parts.proofs.Taken.{mark_shorter}
+use Rattle.om_parts.specs.Loops.{until_ends, until_fails, until_goes_on}
+use Rattle.om_parts.specs.Taken.{mark_shorter}
 use Rattle.om_parts.proofs.expression.+expression.Goals as goal
 
 pub expression-returns : goal.expression-returns

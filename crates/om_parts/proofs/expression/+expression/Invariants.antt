@@ -5,7 +5,7 @@ use Rattle.om_parts.specs.ExpressionReading.{operand_at}
 use Rattle.om_parts.specs.Reading.{take_mark}
 use Rattle.om_tree.specs.View.{view_argument, view_expression}
 use Rattle.om_parts.proofs.Chains.{GoesOn}
-use Rattle.om_parts.proofs.Loops as loops
+use Rattle.om_parts.specs.Loops as loops
 use Rattle.om_parts.proofs.expression.+expression.Given as goal
 
 -- the turns that are left, and in a turn the call that is nearer to an operand

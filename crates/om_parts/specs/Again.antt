@@ -1,11 +1,14 @@
--- What is spelled is taken again, and answers that only a fault of another code than that of syntax hinders.
+-- Matter of proofs, for om_parser too: what is spelled is taken again, and answers that only a fault of another
+-- code than that of syntax hinders.
 use Rattle.std.proofs.Common.{◌≡◌, ℕ, ◌≤◌, Option, List, ◌∷◌, length, Err, refl, sym, subst, Bool, true, false, cond}
 use Rattle.std.proofs.Common.{arith, inl, inr}
 use Rattle.std.proofs.lemmas.Bool.{leb-false}
 use Rattle.std.specs.Prelude.{nat_le}
 use denote.Enum.Bare.{true_same}
+use Rattle.om_lexer.specs.contracts.token.Keyword.{the_type as the_keywords}
 use Rattle.om_lexer.specs.contracts.token.Punctuator.{the_type as the_punctuators}
 use Rattle.om_lexer.specs.declared.fault.FaultCode.TheVariants as codes
+use Rattle.om_lexer.specs.declared.token.Keyword.{Keyword}
 use Rattle.om_lexer.specs.declared.token.Punctuator.{Punctuator}
 use Rattle.om_lexer.specs.declared.token.Span.{Span}
 use Rattle.om_lexer.specs.declared.token.Token.{Token}
@@ -14,15 +17,19 @@ use Rattle.om_lexer.specs.declared.token.TokenKind.TheVariants as kinds
 use Rattle.om_pragma.specs.declared.name.Name as names
 use Rattle.om_pragma.specs.declared.name.Number.{Number}
 use Rattle.om_parts.specs.ExpressionReading.{within, take_operator}
-use Rattle.om_parts.specs.Reading.{◌>>=◌, Outcome, too_deep, take, same_mark, take_mark, take_name, take_number}
-use Rattle.om_parts.specs.Reading.{mark_at, name_at, number_at}
-use Rattle.om_tree.specs.Spelling.{mark, name, number}
-use Rattle.om_parts.proofs.Outcomes.{ok, some}
+use Rattle.om_parts.specs.Reading.{◌>>=◌, Outcome, too_deep, take, same_mark, same_word, take_mark, take_word}
+use Rattle.om_parts.specs.Reading.{take_name, take_number, mark_at, word_at, name_at, number_at}
+use Rattle.om_tree.specs.Spelling.{mark, word, name, number}
+use Rattle.om_parts.specs.Outcomes.{ok, some}
 use Rattle.om_parts.specs.Laws.{Stopping, IsAnswer}
 
 pub take_mark_again : (p : Punctuator) (s : Span) (ts : List Token) → take_mark p (mark p s ∷ ts) ≡ some (s, ts)
 unfolding take_mark take same_mark
 take_mark_again p s ts = rw (true_same the_punctuators p p refl) refl
+
+pub take_word_again : (k : Keyword) (s : Span) (ts : List Token) → take_word k (word k s ∷ ts) ≡ some (s, ts)
+unfolding take_word take same_word
+take_word_again k s ts = rw (true_same the_keywords k k refl) refl
 
 pub take_number_again : (n : Number) (ts : List Token) → take_number (number n ∷ ts) ≡ some (n, ts)
 unfolding take_number take
@@ -41,6 +48,10 @@ take_operator_again f spell is o s ts = take_operator_here f (spell o) o s ts (i
 pub mark_again : (p : Punctuator) (s : Span) (ts : List Token) → mark_at p (mark p s ∷ ts) ≡ ok (s, ts)
 unfolding mark_at
 mark_again p s ts = rw (take_mark_again p s ts) refl
+
+pub word_again : (k : Keyword) (s : Span) (ts : List Token) → word_at k (word k s ∷ ts) ≡ ok (s, ts)
+unfolding word_at
+word_again k s ts = rw (take_word_again k s ts) refl
 
 pub name_again : (n : names.Name) (ts : List Token) → name_at (name n ∷ ts) ≡ ok (n, ts)
 unfolding name_at take_name take

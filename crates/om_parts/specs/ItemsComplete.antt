@@ -1,4 +1,4 @@
--- Several well-formed items are read again, within the limits.
+-- Matter of proofs, for om_parser too: several well-formed items are read again, within the limits.
 use Rattle.std.proofs.Common.{◌≡◌, ℕ, zero, suc, ◌<◌, ◌≤◌, List, [], ◌∷◌, ◌++◌, length, None, refl, sym, subst, arith}
 use Rattle.std.proofs.Common.{append_assoc, length-append, inl, All}
 use Rattle.std.specs.List.{flat_map}
@@ -7,10 +7,14 @@ use Rattle.om_lexer.specs.declared.token.Span.{Span}
 use Rattle.om_lexer.specs.declared.token.Token.{Token}
 use Rattle.om_parts.specs.Reading.{Reader}
 use Rattle.om_parts.specs.Repetition.{until}
-use Rattle.om_parts.proofs.Outcomes.{some}
+use Rattle.om_parts.specs.Outcomes.{some}
 use Rattle.om_parts.specs.Laws.{IsAnswer}
-use Rattle.om_parts.proofs.Again.{bind_answer}
-use Rattle.om_parts.proofs.Loops.{Ender}
+use Rattle.om_parts.specs.Again.{bind_answer}
+use Rattle.om_parts.specs.Loops.{Ender}
+
+pub all_any : {A : Type 0} (xs : List A) → All (λ (x : A). Unit {0}) xs
+all_any [] = All-nil (λ x. Unit {0})
+all_any (x ∷ xs) = All-cons (λ x. Unit {0}) x xs tt (all_any xs)
 
 -- each part of what all elements have
 pub all_front : {A : Type 0} (P : A → Type 0) (xs ys : List A) → All P (xs ++ ys) → All P xs
@@ -37,7 +41,7 @@ pub record AreAgain {A : Type 0} (spell : A → List Token) (P F : A → Type 0)
   pub follows : (x : A) (rest : List Token) → P x → MayFollow (spell x ++ rest)
   pub some_tokens : (x : A) → P x → 0 < length (spell x)
 
-items_length : {A : Type 0} (spell : A → List Token) (P : A → Type 0) → ((x : A) → P x → 0 < length (spell x))
+pub items_length : {A : Type 0} (spell : A → List Token) (P : A → Type 0) → ((x : A) → P x → 0 < length (spell x))
     → (xs : List A) → All P xs → length xs ≤ length (flat_map spell xs)
 items_length spell P some_tokens [] f = omega arith
 items_length spell P some_tokens (x ∷ xs) f = omega (

@@ -1,4 +1,4 @@
--- Reading items one after the other, as a loop does.
+-- Matter of proofs, for om_parser too: reading items one after the other, as a loop does.
 use Rattle.std.proofs.Common.{◌≡◌, ℕ, zero, suc, ◌<◌, ◌≤◌, List, [], ◌∷◌, ◌++◌, length, Option, None, Ok, Err, refl}
 use Rattle.std.proofs.Common.{sym, ap, ◌∙◌, append_assoc, arith, ◌⊎◌, inl, inr}
 use Rattle.std.proofs.lemmas.List.{append-nil}
@@ -8,7 +8,7 @@ use Rattle.om_lexer.specs.declared.token.Span.{Span}
 use Rattle.om_lexer.specs.declared.token.Token.{Token}
 use Rattle.om_parts.specs.Reading.{◌>>=◌, Outcome, Reader}
 use Rattle.om_parts.specs.Repetition.{until}
-use Rattle.om_parts.proofs.Outcomes.{ok, some}
+use Rattle.om_parts.specs.Outcomes.{ok, some}
 
 abbrev pub Ender : Type 0
 Ender = List Token → Option (Span × List Token)

@@ -1,4 +1,5 @@
--- Several items that are read are each well-formed, and spelled as the tokens were.
+-- Matter of proofs, for om_parser too: several items that are read are each well-formed, and spelled as the tokens
+-- were.
 use Rattle.std.proofs.Common.{◌≡◌, ℕ, zero, suc, List, [], ◌∷◌, ◌++◌, subst, ◌∙◌, append_assoc, inl, inr, All}
 use Rattle.std.specs.List.{flat_map}
 use Rattle.std.proofs.lemmas.List.Elements.{All-nil, All-cons, All-append, All-head, All-tail}
@@ -6,9 +7,13 @@ use Rattle.om_lexer.specs.declared.token.Span.{Span}
 use Rattle.om_lexer.specs.declared.token.Token.{Token}
 use Rattle.om_parts.specs.Reading.{Reader}
 use Rattle.om_parts.specs.Repetition.{until}
-use Rattle.om_parts.proofs.Outcomes.{ok, ok_is, some, bind_ok, choose_cases, after_front}
-use Rattle.om_parts.proofs.Loops.{Ender}
+use Rattle.om_parts.specs.Outcomes.{ok, ok_is, some, bind_ok, choose_cases, after_front}
+use Rattle.om_parts.specs.Loops.{Ender}
 use Rattle.om_parts.specs.Laws.{IsSound}
+
+-- a part of which nothing is asked
+abbrev pub IsAny : {A : Type 0} → A → Type 0
+IsAny a = Unit {0}
 
 -- a token that ends a list of items, and what is behind it
 abbrev pub EndsBy : (Span → Token) → Ender → Type 0

@@ -1,4 +1,4 @@
--- Outcomes of reading, step by step.
+-- Matter of proofs, for om_parser too: outcomes of reading, step by step.
 use Rattle.std.proofs.Common.{◌≡◌, List, ◌∷◌, ◌++◌, Option, Some, None, Ok, Err, refl, ap, ◌∙◌, sym, cond, Bool, true}
 use Rattle.std.proofs.Common.{false, ◌⊎◌, inl, inr, append_assoc}
 use Rattle.om_lexer.specs.declared.fault.SourceFault.{SourceFault}
@@ -50,3 +50,9 @@ after_front ts xs us ys vs e f = e ∙ ap (λ (w : List Token). xs ++ w) f ∙ s
 
 pub after_token : (t : Token) (us vs ys ws : List Token) → us ≡ t ∷ vs → vs ≡ ys ++ ws → us ≡ (t ∷ ys) ++ ws
 after_token t us vs ys ws e f = e ∙ ap (λ (w : List Token). t ∷ w) f
+
+-- one of two outcomes, by a test
+pub either_way : {A : Type 0} (b : Bool) (first other x : A) → cond b first other ≡ x → ((b ≡ true) × (first ≡ x))
+    ⊎ ((b ≡ false) × (other ≡ x))
+either_way true first other x h = inl (refl, h)
+either_way false first other x h = inr (refl, h)
