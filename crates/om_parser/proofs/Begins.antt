@@ -40,8 +40,7 @@ expression_starts (Constant n) rest f = record { first = number n; behind = rest
 expression_starts (Paren left e right) rest f = record {
   first = mark punctuators.OpenParen left;
   behind = _;
-  is =
-      refl;
+  is = refl;
   start = refl;
 }
 expression_starts (Index n left e right) rest f = record { first = name n; behind = _; is = refl; start = refl }
@@ -50,8 +49,7 @@ expression_starts (Prefix o at e) rest f = record {
   first = mark (prefix_mark o) at;
   behind = _;
   is = refl;
-  start =
-      prefix_starts o;
+  start = prefix_starts o;
 }
 expression_starts (Postfix e o at) rest f = rw append_assoc (expression_starts e _ f.0)
 expression_starts (Binary a o at b) rest f = rw append_assoc (expression_starts a _ f.0)
@@ -77,8 +75,7 @@ unfolding IsExpression expression_spelling zero_at
 prefixed o s = record {
   tree = Prefix o s (zero_at s);
   formed = (tt, omega arith);
-  behind = expression_spelling
-      (zero_at s);
+  behind = expression_spelling (zero_at s);
   spelled = refl;
 }
 
@@ -102,14 +99,12 @@ unfolding IsExpression expression_spelling
 begins_with (kinds.Name text) s e = record {
   tree = Name (record { text = text; span = s });
   formed = tt;
-  behind =
-      [];
+  behind = [];
   spelled = refl;
 }
 begins_with (kinds.Constant value) s e = record {
   tree = Constant (record { value = value; span = s });
-  formed =
-      tt;
+  formed = tt;
   behind = [];
   spelled = refl;
 }

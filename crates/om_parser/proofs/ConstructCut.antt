@@ -35,7 +35,7 @@ use Rattle.om_tree.specs.Spelling.{token, mark, expression_spelling, statement_s
 use Rattle.om_tree.specs.Spelling.{part_spelling}
 use Rattle.om_tree.specs.Tree.{ExpressionTree, StatementTree, Empty, Construct, Sections, NoStatements, Statement}
 use Rattle.om_tree.specs.Tree.{PartsTree, PartTree}
-use Rattle.om_parser.specs.Outcomes.{ok, bind_err, after_front, err_is}
+use Rattle.om_parts.specs.Outcomes.{ok, bind_err, after_front, err_is}
 use Rattle.om_parser.proofs.LineStarts.{start_of_directive, line_start_is}
 use Rattle.om_parts.specs.Laws.{IsSound, IsWholeLine, Stops, IsLineCut}
 use Rattle.om_parser.proofs.StatementParts.{IsStatementSound, braces_spelling}

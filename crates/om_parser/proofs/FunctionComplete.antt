@@ -16,15 +16,12 @@ use Rattle.om_parts.specs.Repetition.{optional, until}
 use Rattle.om_tree.specs.Spelling.{mark, word, perhaps, behind_comma, parameter_spelling, parameters_spelling}
 use Rattle.om_tree.specs.Spelling.{given_name}
 use Rattle.om_tree.specs.Tree.{ParametersTree, NoParameters, Void, Listed, HeadTree}
-use Rattle.om_parser.specs.Outcomes.{ok}
-use Rattle.om_parser.specs.Again.{take_mark_again, take_word_again, mark_again, word_again}
+use Rattle.om_parts.specs.Outcomes.{ok}
+use Rattle.om_parts.specs.Again.{take_mark_again, take_word_again, mark_again, word_again}
 use Rattle.om_parts.specs.Laws.{IsAnswer}
-use Rattle.om_parser.proofs.FunctionSound.{IsAny, further_parameter_some}
-use Rattle.om_parser.specs.ItemsComplete.{AreAgain, until_again}
-
-all_any : {A : Type 0} (xs : List A) → All (λ (x : A). Unit {0}) xs
-all_any [] = All-nil (λ x. Unit {0})
-all_any (x ∷ xs) = All-cons (λ x. Unit {0}) x xs tt (all_any xs)
+use Rattle.om_parser.proofs.FunctionSound.{further_parameter_some}
+use Rattle.om_parts.specs.ItemsSound.{IsAny}
+use Rattle.om_parts.specs.ItemsComplete.{all_any, AreAgain, until_again}
 
 -- what stands behind a parameter: a comma or the right parenthesis
 data EndsParameter : List Token → Type 0 where

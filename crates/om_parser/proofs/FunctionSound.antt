@@ -17,13 +17,10 @@ use Rattle.om_tree.specs.Spelling.{mark, word, name, perhaps, behind_comma, resu
 use Rattle.om_tree.specs.Spelling.{given_name, parameters_spelling, head_spelling, definition_spelling}
 use Rattle.om_tree.specs.Spelling.{prototype_spelling}
 use Rattle.om_tree.specs.Tree.{ParametersTree, NoParameters, Void, Listed, HeadTree}
-use Rattle.om_parser.specs.Outcomes.{ok, ok_is, some, known_ok, bind_ok, choose_cases, after_front, after_token}
-use Rattle.om_parser.specs.Taken.{take_mark_is, take_word_is, take_name_is, mark_at_is, word_at_is}
+use Rattle.om_parts.specs.Outcomes.{ok, ok_is, some, known_ok, bind_ok, choose_cases, after_front, after_token}
+use Rattle.om_parts.specs.Taken.{take_mark_is, take_word_is, take_name_is, mark_at_is, word_at_is}
 use Rattle.om_parts.specs.Laws.{IsRead, IsSound}
-use Rattle.om_parser.specs.ItemsSound.{until_sound}
-
-abbrev pub IsAny : {A : Type 0} → A → Type 0
-IsAny a = Unit {0}
+use Rattle.om_parts.specs.ItemsSound.{IsAny, until_sound}
 
 -- a token that may stand there
 optional_is : {A : Type 0} (spell : A → List Token) (found : Option (A × List Token)) (ts : List Token)

@@ -22,9 +22,9 @@ use Rattle.om_parser.specs.StatementReading.{condition_at, optional_before, for_
 use Rattle.om_tree.specs.Tree.{ExpressionTree, ConditionTree, Nothing, StartExpression, ForHeadTree, StatementTree, PartsTree, PartTree, statements}
 use Rattle.om_tree.specs.Tree as trees
 use Rattle.om_parts.specs.Laws.{IsRead, IsSound, IsWhole, ArePartsSound}
-use Rattle.om_parser.specs.Outcomes.{ok, ok_is, some, bind_ok, choose_cases, after_front, after_token}
-use Rattle.om_parser.specs.Taken.{take_mark_is, take_word_is, mark_at_is, word_at_is}
-use Rattle.om_parser.specs.ItemsSound.{until_sound}
+use Rattle.om_parts.specs.Outcomes.{ok, ok_is, some, bind_ok, choose_cases, after_front, after_token}
+use Rattle.om_parts.specs.Taken.{take_mark_is, take_word_is, mark_at_is, word_at_is}
+use Rattle.om_parts.specs.ItemsSound.{until_sound}
 use Rattle.om_parser.proofs.OneOrMore.{several_sound}
 use Rattle.om_parser.proofs.StatementParts.{IsWholeOptional, IsWholeStart, IsWholeHead, optional_spelling, opening_spelling, IsWholeOpening, IsGood, IsGoodBody, IsGoodPartItem, are_good, IsGoodPart, good_part, are_good_parts, body_is_part, statements_flat, parts_flat, IsStatementRead, IsStatementSound, AreItemsRead, braces_spelling, AreGoodBraces, Whole, alone_named, section_named}
 

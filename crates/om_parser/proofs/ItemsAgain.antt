@@ -26,9 +26,9 @@ use Rattle.om_parser.specs.StatementReading.{block_item_at}
 use Rattle.om_tree.specs.Tree.{ExpressionTree, DeclarationTree, StatementTree, StatementsTree, LocalDeclaration}
 use Rattle.om_tree.specs.Tree.{StandAlone, NoStatements, Statement, PartsTree, NoParts, Part, PartTree}
 use Rattle.om_parts.specs.Laws.{IsAnswer, declaration_tail, ArePartsAgain}
-use Rattle.om_parser.specs.Outcomes.{ok, some}
-use Rattle.om_parser.specs.Again.{take_word_again, bind_answer}
-use Rattle.om_parser.specs.ItemsComplete.{AreAgain}
+use Rattle.om_parts.specs.Outcomes.{ok, some}
+use Rattle.om_parts.specs.Again.{take_word_again, bind_answer}
+use Rattle.om_parts.specs.ItemsComplete.{AreAgain}
 use Rattle.om_parser.proofs.OneOrMore.{AreSeveralAgain, several_again}
 use Rattle.om_parser.proofs.StatementParts.{PartsHaveRoom}
 use Rattle.om_parser.proofs.Shorter.{statement_some, part_some}
@@ -162,8 +162,7 @@ module _ (p : Parts) (l : Limits) (again : ArePartsAgain p l) where
   have_room checked room blocks_left (Statement s rest) w =
       All-cons (HasRoom l checked room blocks_left) s (list_of rest) (record {
         high = omega (arith, w.high);
-        deep =
-            omega (arith, w.deep);
+        deep = omega (arith, w.deep);
         nested = omega (arith, w.nested);
         long = omega (arith, w.long);
         forms = w.forms.0;

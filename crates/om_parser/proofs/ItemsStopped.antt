@@ -19,23 +19,19 @@ use Rattle.om_tree.specs.Places.{Place, in_parentheses, Behind, InOptional, InCo
 use Rattle.om_parts.specs.PartReading.{Parts}
 use Rattle.om_parser.specs.StatementReading.{condition_at, optional_before, for_start_at, for_head_after, OpeningTree, OpensIf, OpensWhile, OpensFor, with_body, opening_of, else_after, behind_body, body_after, headed_of, do_end, do_after, block_item_at}
 use Rattle.om_tree.specs.Tree.{ExpressionTree, Constant, ConditionTree, ForStartTree, Nothing, StartExpression, StartDeclaration, ForHeadTree, StatementTree, StatementsTree, LocalDeclaration, Empty, IfElse, Do, NoStatements, Statement, statements}
-use Rattle.om_parser.specs.Outcomes.{some, bind_err, choose_cases, after_front}
-use Rattle.om_parser.specs.Taken.{take_word_is, mark_at_is, word_at_is}
+use Rattle.om_parts.specs.Outcomes.{some, bind_err, choose_cases, after_front}
+use Rattle.om_parts.specs.Taken.{take_word_is, mark_at_is, word_at_is}
 use Rattle.om_parts.specs.Laws.{ArePartsSound, Stops, IsExpressionCut, ArePartsCut}
 use Rattle.om_parser.proofs.ItemSound.{with_body_spelled, block_item_sound_with}
 use Rattle.om_parser.proofs.StatementParts.{optional_spelling, opening_spelling, IsWholeOpening, Whole, IsStatementSound}
 use Rattle.om_parser.proofs.ItemSound as sounds
 use Rattle.om_parser.specs.Stopped.{syntax_plain, mark_plain, word_plain, last_mark_plain, within_larger}
+use Rattle.om_parser.proofs.StatementTokens.{IsOpening}
 use Rattle.om_parser.proofs.ConstructCut.{IsPart, IsInsideStopped, IsStatementCut, part_item_cut}
 
 -- anything well-formed, to end a part with
 abbrev condition_of : Span → ExpressionTree → ConditionTree
 condition_of at e = record { open_paren = at; value = e; close_paren = at }
-
-abbrev pub IsOpening : OpeningTree → Type 0
-IsOpening (OpensIf at c) = IsExpression c.value
-IsOpening (OpensWhile at c) = IsExpression c.value
-IsOpening (OpensFor h) = IsForHead h
 
 abbrev pub InOpening : Limits → OpeningTree → Place
 InOpening l (OpensIf at c) = Behind (word keywords.If at ∷ []) (InCondition l c)

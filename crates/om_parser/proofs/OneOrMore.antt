@@ -9,10 +9,10 @@ use Rattle.om_lexer.specs.declared.fault.SourceFault.{SourceFault}
 use Rattle.om_lexer.specs.declared.token.Token.{Token}
 use Rattle.om_parts.specs.Laws.{IsAnswer}
 use Rattle.om_parts.specs.Reading.{◌>>=◌, Outcome, Reader}
-use Rattle.om_parser.specs.Again.{bind_answer}
-use Rattle.om_parser.specs.ItemsComplete.{items_length}
+use Rattle.om_parts.specs.Again.{bind_answer}
+use Rattle.om_parts.specs.ItemsComplete.{items_length}
 use Rattle.om_parser.specs.OneOrMore.{one_or_more}
-use Rattle.om_parser.specs.Outcomes.{ok, ok_is, bind_ok, either_way, after_front}
+use Rattle.om_parts.specs.Outcomes.{ok, ok_is, bind_ok, either_way, after_front}
 
 -- ---- as a loop reads them
 

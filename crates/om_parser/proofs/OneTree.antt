@@ -9,7 +9,7 @@ use Rattle.om_tree.specs.Tree.{ItemTree, Declaration, Prototype, Function, UnitT
 use Rattle.om_parser.specs.UnitReading.{unit_at}
 use Rattle.om_parts.specs.Laws.{GlobalsAreReadAgain}
 use Rattle.om_parser.specs.Laws.{BlocksAreReadAgain, UncheckedHaveForms}
-use Rattle.om_parser.specs.Outcomes.{ok, ok_is}
+use Rattle.om_parts.specs.Outcomes.{ok, ok_is}
 use Rattle.om_parser.proofs.Forms.{IsKeptItem}
 use Rattle.om_parser.proofs.UnitComplete.{unit_again}
 
@@ -33,8 +33,7 @@ limits_of (Function f) =
       nested = brackets_of items;
       tokens = longest_of items;
       blocks = blocks_of items + 1;
-      statements =
-          height_of items;
+      statements = height_of items;
       checked = false;
     }
 
@@ -73,8 +72,7 @@ first_wider l m = record {
   nested = omega arith;
   tokens = omega arith;
   blocks = omega arith;
-  statements = omega
-      arith;
+  statements = omega arith;
   checked = refl;
 }
 
@@ -83,8 +81,7 @@ second_wider l m = record {
   nested = omega arith;
   tokens = omega arith;
   blocks = omega arith;
-  statements = omega
-      arith;
+  statements = omega arith;
   checked = refl;
 }
 

@@ -21,8 +21,8 @@ use Rattle.om_tree.specs.Sizes.{Where, HasForms, HasRoom, for_start_extent, for_
 use Rattle.om_parser.specs.StatementReading.{condition_at, optional_before, for_start_at, for_head_after, OpeningTree, OpensIf, OpensWhile, OpensFor, opening_of, return_after, jump_after, expression_statement_at, else_after, behind_body, body_after, headed_of, do_end, do_after}
 use Rattle.om_tree.specs.Tree.{ExpressionTree, ConditionTree, ForStartTree, Nothing, StartExpression, StartDeclaration, ForHeadTree, StatementTree, LocalDeclaration, Block, Empty, Expression, If, IfElse, While, Do, For, Return, Break, Continue, Construct, StandAlone, Sections}
 use Rattle.om_parts.specs.Laws.{IsAnswer, Keeps, IsEnd, IsExpressionAgain, declaration_tail, ArePartsAgain}
-use Rattle.om_parser.specs.Outcomes.{ok}
-use Rattle.om_parser.specs.Again.{take_mark_again, take_word_again, mark_again, word_again, bind_answer}
+use Rattle.om_parts.specs.Outcomes.{ok}
+use Rattle.om_parts.specs.Again.{take_mark_again, take_word_again, mark_again, word_again, bind_answer}
 use Rattle.om_parser.proofs.UnaskedForms.{no_forms}
 use Rattle.om_parser.proofs.StatementParts.{optional_spelling}
 use Rattle.om_parser.proofs.Begins.{expression_starts}

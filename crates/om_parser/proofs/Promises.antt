@@ -17,7 +17,7 @@ use Rattle.om_parts.specs.Reading.{Reads}
 use Rattle.om_tree.specs.Tree.{UnitTree}
 use Rattle.om_parser.specs.UnitReading.{unit_at}
 use Rattle.om_tree.specs.View.{view_unit}
-use Rattle.om_parser.specs.Outcomes.{ok, ok_is, err_is}
+use Rattle.om_parts.specs.Outcomes.{ok, ok_is, err_is}
 use Rattle.om_parts.specs.Laws.{IsAnswer}
 use Rattle.om_parser.proofs.Forms.{IsKeptItem}
 use Rattle.om_parser.proofs.Given.{ReadingLaws}

@@ -14,7 +14,7 @@ use Rattle.om_parser.specs.declared.construct.LineStart.{LineStart}
 use Rattle.om_parser.specs.declared.construct.LineStart.TheVariants as lines
 use Rattle.om_parser.specs.BlockFaults.{IsStopped}
 use Rattle.om_parser.specs.OneOrMore.{one_or_more}
-use Rattle.om_parser.specs.Outcomes.{bind_err, either_way}
+use Rattle.om_parts.specs.Outcomes.{bind_err, either_way}
 use Rattle.om_parser.specs.Stopped.{syntax_plain, within_larger}
 use Rattle.om_parser.proofs.ConstructCut.{IsStatementStopped, IsStatementCut, part_item_cut, any_section_formed}
 use Rattle.om_parser.proofs.ConstructCut.{any_part, any_part_rest, any_part_spelled, line_stopped_in}

@@ -17,8 +17,8 @@ use Rattle.om_parser.specs.StatementReading.{block_item_at, statement_at}
 use Rattle.om_tree.specs.Tree.{ExpressionTree, StatementTree, LocalDeclaration, Block, Empty, Expression, If, IfElse}
 use Rattle.om_tree.specs.Tree.{While, Do, For, Return, Break, Continue, Construct, StandAlone, Sections}
 use Rattle.om_tree.specs.Tree.{StatementsTree, NoStatements, Statement, PartTree}
-use Rattle.om_parser.specs.Outcomes.{ok, some}
-use Rattle.om_parser.specs.Taken.{take_mark_is}
+use Rattle.om_parts.specs.Outcomes.{ok, some}
+use Rattle.om_parts.specs.Taken.{take_mark_is}
 use Rattle.om_parts.specs.Laws.{ArePartsSound}
 use Rattle.om_parser.proofs.StatementSound.{block_item_sound, part_item_sound, part_sound}
 

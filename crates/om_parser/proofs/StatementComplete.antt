@@ -21,9 +21,9 @@ use Rattle.om_parser.specs.StatementReading.{expression_statement_at, block_item
 use Rattle.om_tree.specs.Tree.{ExpressionTree, StatementTree, StatementsTree, LocalDeclaration, Block, Empty, Expression, If, IfElse, While, Do, For, Return, Break, Continue, Construct, StandAlone, Sections, NoStatements, Statement, statements, BlockTree, PartsTree, NoParts, Part, PartTree}
 use Rattle.om_parser.specs.Laws.{IsKeptBlock}
 use Rattle.om_parts.specs.Laws.{IsAnswer, ArePartsAgain}
-use Rattle.om_parser.specs.Outcomes.{ok}
-use Rattle.om_parser.specs.Again.{take_mark_again, mark_again, deep_at, bind_answer, narrower}
-use Rattle.om_parser.specs.ItemsComplete.{until_again}
+use Rattle.om_parts.specs.Outcomes.{ok}
+use Rattle.om_parts.specs.Again.{take_mark_again, mark_again, deep_at, bind_answer, narrower}
+use Rattle.om_parts.specs.ItemsComplete.{until_again}
 use Rattle.om_parser.proofs.OneOrMore.{several_again}
 use Rattle.om_parser.proofs.StatementParts.{statements_flat, PartsHaveRoom}
 use Rattle.om_parser.proofs.Shorter.{part_some}

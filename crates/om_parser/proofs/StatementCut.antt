@@ -28,8 +28,8 @@ use Rattle.om_parser.specs.StatementReading.{parts_after, simple_of, statement_o
 use Rattle.om_parser.specs.StatementReading.{statement_at, parts_at, block_with}
 use Rattle.om_tree.specs.Tree.{StatementTree, StatementsTree, Block, Empty, Expression, If, While, Do, For, Return}
 use Rattle.om_tree.specs.Tree.{Break, Continue, Construct, NoStatements, Statement, statements, BlockTree, PartsTree, NoParts, Part}
-use Rattle.om_parser.specs.Outcomes.{bind_err, err_is}
-use Rattle.om_parser.specs.Taken.{mark_at_is}
+use Rattle.om_parts.specs.Outcomes.{bind_err, err_is}
+use Rattle.om_parts.specs.Taken.{mark_at_is}
 use Rattle.om_parts.specs.Laws.{ArePartsSound, Stops, ArePartsCut}
 use Rattle.om_parser.proofs.StatementSound.{statement_sound}
 use Rattle.om_parser.proofs.StatementParts.{IsOf, is_of_start, braces_spelling, IsStatementSound}

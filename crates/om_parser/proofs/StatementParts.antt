@@ -36,7 +36,7 @@ use Rattle.om_tree.specs.Tree.{ExpressionTree, ForStartTree, ForHeadTree, Statem
 use Rattle.om_tree.specs.Tree.{LocalDeclaration, statements, PartsTree, NoParts, Part, PartTree}
 use Rattle.om_tree.specs.Tree as trees
 use Rattle.om_parts.specs.Laws.{IsSound, IsWhole}
-use Rattle.om_parser.specs.Outcomes.{ok}
+use Rattle.om_parts.specs.Outcomes.{ok}
 use Rattle.om_parser.proofs.OneOrMore.{FirstAndMore, each_of}
 use Rattle.om_parser.proofs.LineStarts.{line_start_is, start_of_directive}
 

@@ -31,8 +31,8 @@ use Rattle.om_parser.specs.StatementReading.{block_after, simple_of, statement_o
 use Rattle.om_parser.specs.StatementReading.{block_with}
 use Rattle.om_tree.specs.Tree.{ExpressionTree, StatementTree, Empty, Expression, Return, Break, Continue, Construct}
 use Rattle.om_parts.specs.Laws.{IsWholeLine, IsRead, IsSound, ArePartsSound}
-use Rattle.om_parser.specs.Outcomes.{ok, ok_is, bind_ok, either_way, after_front, after_token}
-use Rattle.om_parser.specs.Taken.{mark_at_is}
+use Rattle.om_parts.specs.Outcomes.{ok, ok_is, bind_ok, either_way, after_front, after_token}
+use Rattle.om_parts.specs.Taken.{mark_at_is}
 use Rattle.om_parser.proofs.StatementParts.{IsOf, is_of_start, IsGood, IsGoodBody, IsGoodPartItem, IsGoodPart, statements_flat}
 use Rattle.om_parser.proofs.StatementParts.{IsStatementRead}
 use Rattle.om_parser.proofs.StatementParts.{IsStatementSound, braces_spelling, AreGoodBraces, AreBracesSound}
@@ -189,8 +189,7 @@ module _ (p : Parts) (l : Limits) (one : 1 ≤ l.nested) (sound : ArePartsSound 
               high = omega (arith, items.high);
               deep = items.deep;
               nested = items.nested;
-              long =
-                  items.long;
+              long = items.long;
               forms = items.forms;
             };
           };
@@ -389,8 +388,7 @@ module _ (p : Parts) (l : Limits) (one : 1 ≤ l.nested) (sound : ArePartsSound 
           room_for = record {
             high = items.high;
             deep = items.deep;
-            nested =
-                items.nested;
+            nested = items.nested;
             long = items.long;
           };
           forms = items.forms;

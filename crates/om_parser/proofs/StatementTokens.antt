@@ -31,7 +31,7 @@ use Rattle.om_parser.specs.StatementReading.{start_of, OpeningTree, OpensIf, Ope
 use Rattle.om_tree.specs.Tree.{ExpressionTree, ForHeadTree, StatementTree, StatementsTree, NoStatements, Statement}
 use Rattle.om_tree.specs.Tree.{statements, PartsTree, NoParts, Part, PartTree, parts}
 use Rattle.om_parts.specs.Laws.{Keeps, IsEnd}
-use Rattle.om_parser.specs.Taken.{take_mark_is, take_word_is}
+use Rattle.om_parts.specs.Taken.{take_mark_is, take_word_is}
 use Rattle.om_parser.proofs.LineStarts.{start_of_directive, line_start_is}
 use Rattle.om_parser.proofs.Begins.{StartsExpression}
 

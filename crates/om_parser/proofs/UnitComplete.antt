@@ -23,11 +23,11 @@ use Rattle.om_tree.specs.Tree.{DeclarationTree, HeadTree, FunctionTree, ItemTree
 use Rattle.om_tree.specs.Tree.{UnitTree}
 use Rattle.om_parser.specs.UnitReading.{function_after, prototype_after, void_after, int_after, item_at, take_end}
 use Rattle.om_parser.specs.UnitReading.{unit_at}
-use Rattle.om_parser.specs.Again.{take_mark_again, take_word_again, mark_again, word_again, name_again, bind_answer}
+use Rattle.om_parts.specs.Again.{take_mark_again, take_word_again, mark_again, word_again, name_again, bind_answer}
 use Rattle.om_parts.specs.Laws.{IsAnswer, GlobalsAreReadAgain}
 use Rattle.om_parser.specs.Laws.{BlocksAreReadAgain}
-use Rattle.om_parser.specs.Outcomes.{ok}
-use Rattle.om_parser.specs.ItemsComplete.{AreAgain, until_again}
+use Rattle.om_parts.specs.Outcomes.{ok}
+use Rattle.om_parts.specs.ItemsComplete.{AreAgain, until_again}
 use Rattle.om_parser.proofs.Forms.{IsKeptItem}
 use Rattle.om_parser.proofs.FunctionSound.{named_head_is}
 use Rattle.om_parser.proofs.FunctionComplete.{head_again, int_is_no_void, unasked_head, named_head_again}

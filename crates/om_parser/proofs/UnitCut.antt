@@ -29,8 +29,8 @@ use Rattle.om_tree.specs.Spelling.{item_spelling, prototype_spelling, unit_spell
 use Rattle.om_tree.specs.Tree.{HeadTree, Function}
 use Rattle.om_parser.specs.UnitReading.{function_after, prototype_after, void_after, int_after, item_at, take_end}
 use Rattle.om_parser.specs.UnitReading.{unit_at}
-use Rattle.om_parser.specs.Outcomes.{bind_err, choose_cases}
-use Rattle.om_parser.specs.Taken.{take_mark_is, take_word_is, mark_at_is, word_at_is, name_at_is}
+use Rattle.om_parts.specs.Outcomes.{bind_err, choose_cases}
+use Rattle.om_parts.specs.Taken.{take_mark_is, take_word_is, mark_at_is, word_at_is, name_at_is}
 use Rattle.om_parser.proofs.FunctionSound.{head_sound, named_head_is}
 use Rattle.om_parser.proofs.UnitSound.{item_sound}
 use Rattle.om_parts.specs.Laws.{Stops}

@@ -26,11 +26,11 @@ use Rattle.om_parser.specs.StatementReading.{block_at}
 use Rattle.om_tree.specs.Tree.{HeadTree, ItemTree, Declaration, Prototype, Function, UnitTree}
 use Rattle.om_parser.specs.UnitReading.{function_after, prototype_after, void_after, int_after, item_at, end_of}
 use Rattle.om_parser.specs.UnitReading.{take_end, unit_at}
-use Rattle.om_parser.specs.Outcomes.{ok, ok_is, some, some_is, bind_ok, choose_cases, after_front}
-use Rattle.om_parser.specs.Taken.{take_mark_is, take_word_is, mark_at_is, word_at_is, name_at_is}
+use Rattle.om_parts.specs.Outcomes.{ok, ok_is, some, some_is, bind_ok, choose_cases, after_front}
+use Rattle.om_parts.specs.Taken.{take_mark_is, take_word_is, mark_at_is, word_at_is, name_at_is}
 use Rattle.om_parts.specs.Laws.{IsRead, IsSound, GlobalsAreSound}
 use Rattle.om_parser.specs.Laws.{BlocksAreSound}
-use Rattle.om_parser.specs.ItemsSound.{until_sound}
+use Rattle.om_parts.specs.ItemsSound.{until_sound}
 use Rattle.om_parser.proofs.Forms.{IsKeptItem}
 use Rattle.om_parser.proofs.FunctionSound.{head_sound, named_head_is}
 

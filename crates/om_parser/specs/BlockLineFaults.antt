@@ -8,9 +8,8 @@ use Rattle.om_parts.specs.WrongLines.{IsOneLine, IsWrongLine}
 use Rattle.om_tree.specs.Limits.{Limits}
 use Rattle.om_tree.specs.Spelling.{token}
 
--- Some of the tokens are a whole line, where one may stand: some well-formed part begins with the tokens
--- before the line, and
--- goes on with the beginning of one.
+-- Some of the tokens are a whole line, where one may stand: some well-formed part begins with the tokens before the
+-- line, and goes on with the beginning of one.
 pub record HasLine {A : Type 0} (spelling : A → List Token) (IsFormed : A → Type 0)
     (tokens line : List Token) : Type 0 where
   pub before : List Token

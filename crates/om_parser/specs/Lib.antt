@@ -5,12 +5,6 @@ pub mod StatementView
 pub mod BlockLineFaults
 pub mod BlockFaults
 pub mod Laws
-pub mod Outcomes
-pub mod Taken
-pub mod Again
-pub mod Loops
-pub mod ItemsSound
-pub mod ItemsComplete
 pub mod Stopped
 pub mod Parsing
 pub mod FunctionReading

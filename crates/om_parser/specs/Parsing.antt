@@ -17,9 +17,8 @@ pub record IsTreeOf (tokens : List Token) (u : UnitTree) : Type 0 where
   pub formed : IsUnit u
   pub spelled : unit_spelling u ≡ tokens
 
--- A limit is passed at this place: in a whole unit, where blocks or statements may nest too deep as well, or
--- in the expression
--- of a clause.
+-- A limit is passed at this place, as at the 129th `(` of nested ones: in a whole unit, where blocks or statements may
+-- nest too deep as well, or in the expression of a clause.
 abbrev pub IsLimitPassed : List Token → ℕ → Type 0
 IsLimitPassed tokens place = IsPassed unit_spelling IsUnit (IsOverInUnit accepted) tokens place
     ⊎ IsPassedInLine accepted tokens place

@@ -13,8 +13,8 @@ use Rattle.om_parser.specs.BlockLineFaults.{IsLineFault}
 use Rattle.om_tree.specs.Places.{Place, IsPassed}
 use Rattle.om_parts.specs.Reading.{◌>>=◌, Outcome, Reader, choose, syntax, known, mark_at, word_at}
 use Rattle.om_parts.specs.Repetition.{until}
-use Rattle.om_parser.specs.Loops.{Ender}
-use Rattle.om_parser.specs.Outcomes.{ok, err_is}
+use Rattle.om_parts.specs.Loops.{Ender}
+use Rattle.om_parts.specs.Outcomes.{ok, err_is}
 use Rattle.om_parts.specs.Laws.{Stops}
 
 -- a reader that is refused by syntax alone

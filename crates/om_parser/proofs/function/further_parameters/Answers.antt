@@ -5,8 +5,8 @@ use Rattle.om_parser.specs.FunctionReading.{further_parameter_at}
 use Rattle.om_parts.specs.Reading.{take_mark}
 use Rattle.om_parts.specs.Repetition.{until}
 use Rattle.om_parser.proofs.FunctionSound.{further_parameter_shorter}
-use Rattle.om_parser.specs.Loops.{until_begins, until_ends, until_fails, until_goes_on}
-use Rattle.om_parser.specs.Taken.{mark_shorter}
+use Rattle.om_parts.specs.Loops.{until_begins, until_ends, until_fails, until_goes_on}
+use Rattle.om_parts.specs.Taken.{mark_shorter}
 use Rattle.om_parser.proofs.function.further_parameters.Goals as goal
 
 pub parameters-init : goal.parameters-init

@@ -10,7 +10,7 @@ use Rattle.om_parser.specs.ConstructReading.{ends_part, ends_parts, part_at, par
 use Rattle.om_parser.specs.OneOrMore.{one_or_more}
 use Rattle.om_parser.specs.StatementReading.{block_item_at, statement_at}
 use Rattle.om_tree.specs.View.{view_part, view_statement}
-use Rattle.om_parser.specs.Loops.{until_begins, until_ends, until_fails, until_goes_on}
+use Rattle.om_parts.specs.Loops.{until_begins, until_ends, until_fails, until_goes_on}
 use Rattle.om_parser.proofs.OneOrMore.{more_begins, more_ends, more_fails, more_goes_on}
 use Rattle.om_parser.proofs.Shorter.{brace_shorter, block_item_shorter, part_item_shorter, part_shorter}
 use Rattle.om_parser.proofs.Started.{block_statement}

@@ -8,7 +8,7 @@ use Rattle.om_parser.specs.ConstructReading.{ends_part, ends_parts, part_at, par
 use Rattle.om_parser.specs.OneOrMore.{one_or_more}
 use Rattle.om_parser.specs.StatementReading.{block_item_at, statement_at}
 use Rattle.om_tree.specs.View.{view_part, view_statement}
-use Rattle.om_parser.specs.Loops.{GoesOn}
+use Rattle.om_parts.specs.Loops.{GoesOn}
 use Rattle.om_parser.proofs.OneOrMore.{MoreLeft}
 use Rattle.om_parser.proofs.statement.+statement.Given as goal
 

@@ -7,8 +7,7 @@ returns-clause-found c = is_found
     (record {
       sound = c.blocks_are_sound.ensures;
       again = c.blocks_are_read_again.ensures.read_again;
-      stop =
-          c.blocks_stop_so.ensures;
+      stop = c.blocks_stop_so.ensures;
       globals_sound = c.globals.ensures.sound;
       globals_again = c.globals.ensures.read_again;
       globals_stop = c.globals.ensures.stop_at_syntax;
@@ -19,8 +18,7 @@ returns-clause-found_within_limits c = is_within
     (record {
       sound = c.blocks_are_sound.ensures;
       again = c.blocks_are_read_again.ensures.read_again;
-      stop =
-          c.blocks_stop_so.ensures;
+      stop = c.blocks_stop_so.ensures;
       globals_sound = c.globals.ensures.sound;
       globals_again = c.globals.ensures.read_again;
       globals_stop = c.globals.ensures.stop_at_syntax;
@@ -31,8 +29,7 @@ returns-clause-atomics_have_forms c = has_forms
     (record {
       sound = c.blocks_are_sound.ensures;
       again = c.blocks_are_read_again.ensures.read_again;
-      stop =
-          c.blocks_stop_so.ensures;
+      stop = c.blocks_stop_so.ensures;
       globals_sound = c.globals.ensures.sound;
       globals_again = c.globals.ensures.read_again;
       globals_stop = c.globals.ensures.stop_at_syntax;
@@ -43,8 +40,7 @@ returns-clause-every_tree_is_found c = is_only
     (record {
       sound = c.blocks_are_sound.ensures;
       again = c.blocks_are_read_again.ensures.read_again;
-      stop =
-          c.blocks_stop_so.ensures;
+      stop = c.blocks_stop_so.ensures;
       globals_sound = c.globals.ensures.sound;
       globals_again = c.globals.ensures.read_again;
       globals_stop = c.globals.ensures.stop_at_syntax;
@@ -55,8 +51,7 @@ returns-clause-syntax_has_no_tree c = is_syntax
     (record {
       sound = c.blocks_are_sound.ensures;
       again = c.blocks_are_read_again.ensures.read_again;
-      stop =
-          c.blocks_stop_so.ensures;
+      stop = c.blocks_stop_so.ensures;
       globals_sound = c.globals.ensures.sound;
       globals_again = c.globals.ensures.read_again;
       globals_stop = c.globals.ensures.stop_at_syntax;
@@ -67,8 +62,7 @@ returns-clause-too_deep_passes_a_limit c = is_too_deep
     (record {
       sound = c.blocks_are_sound.ensures;
       again = c.blocks_are_read_again.ensures.read_again;
-      stop =
-          c.blocks_stop_so.ensures;
+      stop = c.blocks_stop_so.ensures;
       globals_sound = c.globals.ensures.sound;
       globals_again = c.globals.ensures.read_again;
       globals_stop = c.globals.ensures.stop_at_syntax;
@@ -79,8 +73,7 @@ returns-clause-unknown_word c = is_unknown
     (record {
       sound = c.blocks_are_sound.ensures;
       again = c.blocks_are_read_again.ensures.read_again;
-      stop =
-          c.blocks_stop_so.ensures;
+      stop = c.blocks_stop_so.ensures;
       globals_sound = c.globals.ensures.sound;
       globals_again = c.globals.ensures.read_again;
       globals_stop = c.globals.ensures.stop_at_syntax;
@@ -91,8 +84,7 @@ returns-clause-bad_clause c = is_bad_clause
     (record {
       sound = c.blocks_are_sound.ensures;
       again = c.blocks_are_read_again.ensures.read_again;
-      stop =
-          c.blocks_stop_so.ensures;
+      stop = c.blocks_stop_so.ensures;
       globals_sound = c.globals.ensures.sound;
       globals_again = c.globals.ensures.read_again;
       globals_stop = c.globals.ensures.stop_at_syntax;
@@ -103,8 +95,7 @@ returns-clause-no_other_refusal c = is_no_other
     (record {
       sound = c.blocks_are_sound.ensures;
       again = c.blocks_are_read_again.ensures.read_again;
-      stop =
-          c.blocks_stop_so.ensures;
+      stop = c.blocks_stop_so.ensures;
       globals_sound = c.globals.ensures.sound;
       globals_again = c.globals.ensures.read_again;
       globals_stop = c.globals.ensures.stop_at_syntax;
