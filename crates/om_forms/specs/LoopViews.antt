@@ -16,7 +16,6 @@ view_loop l = record {
   at = l.at;
   start = view_start l.start;
   comparison = l.comparison;
-  to = view_expression
-      l.to.now;
+  to = view_expression l.to.now;
   step = l.step;
 }

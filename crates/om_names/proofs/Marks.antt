@@ -117,8 +117,7 @@ marks-without constructs depth name nested =
     by : (found : Option Landmark) → marks_behind found (marks_of constructs)
         ≡ record {
           asking = found_behind (λ l. l.marks.asking) found (innermost asks constructs);
-          copying =
-              found_behind (λ l. l.marks.copying) found (innermost copies constructs);
+          copying = found_behind (λ l. l.marks.copying) found (innermost copies constructs);
         }
     by None = refl
     by (Some found) = refl

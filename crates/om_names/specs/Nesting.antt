@@ -73,8 +73,7 @@ marks_of constructs = record { asking = innermost asks constructs; copying = inn
 abbrev pub marks_without : List Construct → List ℕ → Marks
 marks_without constructs name = record {
   asking = innermost_without asks constructs name;
-  copying =
-      innermost_without copies constructs name;
+  copying = innermost_without copies constructs name;
 }
 
 -- those in a construct, round whose inner scope so many stand
@@ -94,8 +93,7 @@ abbrev pub entered : ℕ → Region → List Construct → List Construct
 entered depth region outer = record {
   depth = depth;
   region = region;
-  marks = marks_in region (suc depth)
-      (marks_of outer);
+  marks = marks_in region (suc depth) (marks_of outer);
 } ∷ outer
 
 -- ---- the constructs that list a name

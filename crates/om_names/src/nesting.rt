@@ -215,6 +215,7 @@ impl Nesting {
     pub fn is_unlisted_since(&self, depth: usize, name: &[u8]) -> bool
         ensures { result ≡ unlisted_since self.now depth name.now }
     {
+        // For the proof alone: it knows the invariant of `self` where a field of it is borrowed.
         let _ = &self.constructs;
         depth < self.marks_without(name).asking
     }

@@ -43,13 +43,11 @@ row region is_bound inside takes_loop = record {
   region = region;
   is_bound = is_bound;
   inside = inside;
-  takes_loop =
-      takes_loop;
+  takes_loop = takes_loop;
 }
 
--- What a directive is as a construct: whether it is a worksharing construct or a barrier, whether such may
--- stand in it (OpenMP
--- API 5.2, section 17.1), and whether it is for a loop.
+-- What a directive is as a construct: whether it is a worksharing construct or a barrier, whether such may stand in it
+-- (OpenMP API 5.2, section 17.1), and whether it is for a loop.
 abbrev pub traits_of : DirectiveName → Traits
 traits_of (directives.Parallel s) = row regions.Parallel false insides.Opens false
 traits_of (directives.For s) = row regions.Plain true insides.Closes true
@@ -89,9 +87,8 @@ constructing d flow = record {
   parallel = parallel_in d flow.parallel;
 }
 
--- S14 at the word: a worksharing construct or a barrier in a region of worksharing, `task`, `critical` or
--- `masked`, with no `parallel`
--- between
+-- S14 at the word: a worksharing construct or a barrier in a region of worksharing, `task`, `critical` or `masked`,
+-- with no `parallel` between
 abbrev pub nesting_breaches : Flow → DirectiveName → List SourceFault
 nesting_breaches flow name = breach_if ((traits_of name).is_bound && flow.is_closed) faults.LeavesConstruct
     (word_span name).start
@@ -117,23 +114,9 @@ copy_of name = (name.text, meanings.Variable (variables.Local name.span.start) s
 
 -- once a name stands in the list of a clause
 abbrev pub after_name : DataSharing → Listed → names.Name → Listed
-after_name lists.Shared listed name = record {
-  default = listed.default;
-  shared = with_name listed.shared name.text;
-  copies = listed.copies;
-}
-after_name lists.Private listed name = record {
-  default = listed.default;
-  shared = listed.shared;
-  copies =
-      listed.copies ++ copy_of name ∷ [];
-}
-after_name lists.Firstprivate listed name = record {
-  default = listed.default;
-  shared = listed.shared;
-  copies =
-      listed.copies ++ copy_of name ∷ [];
-}
+after_name lists.Shared listed name = record listed { shared = with_name listed.shared name.text }
+after_name lists.Private listed name = record listed { copies = listed.copies ++ copy_of name ∷ [] }
+after_name lists.Firstprivate listed name = record listed { copies = listed.copies ++ copy_of name ∷ [] }
 
 abbrev pub is_variable : Option Meaning → Bool
 is_variable (Some (meanings.Variable variable shape)) = true
@@ -179,7 +162,7 @@ abbrev pub after_names : DataSharing → Listed → List names.Name → Listed
 after_names sharing listed names = fold (after_name sharing) listed names
 
 abbrev pub with_default : Listed → Sharing → Listed
-with_default listed sharing = record { default = Some sharing; shared = listed.shared; copies = listed.copies }
+with_default listed sharing = record listed { default = Some sharing }
 
 unfoldable pub clause_breaches : Scopes → Listed → Clause ExpressionTree → List SourceFault
 clause_breaches scopes listed (clauses.Value kind s v) = expression_breaches scopes true v.expression

@@ -76,14 +76,7 @@ is_declared scopes name = is_some (meaning_here scopes name)
 
 -- the scopes once the innermost has further declarations
 abbrev pub with_bindings : Scopes → List Binding → Scopes
-with_bindings scopes bindings = record {
-  inner = scopes.inner ++ bindings;
-  outer = scopes.outer;
-  globals = scopes.globals;
-  cells = scopes.cells;
-  definitions = scopes.definitions;
-  defined = scopes.defined;
-}
+with_bindings scopes bindings = record scopes { inner = scopes.inner ++ bindings }
 
 -- the scopes once a name is declared as a variable of a function, which is known by where it is declared
 abbrev pub with_local : Scopes → names.Name → Shape → Scopes
@@ -95,13 +88,10 @@ with_function scopes name signature = with_bindings scopes ((name, meanings.Func
 
 -- the scopes once a name is declared as the next global, of so many cells
 abbrev pub with_global : Scopes → List ℕ → Shape → ℕ → Scopes
-with_global scopes name shape cells = record {
+with_global scopes name shape cells = record scopes {
   inner = scopes.inner ++ (name, meanings.Variable (variables.Global scopes.globals) shape) ∷ [];
-  outer = scopes.outer;
   globals = scopes.globals + 1;
   cells = scopes.cells + cells;
-  definitions = scopes.definitions;
-  defined = scopes.defined;
 }
 
 -- two names with the same text
@@ -114,25 +104,12 @@ with_name names name = if list_any (bytes_eq name) names then names else names +
 
 -- the scopes once a function is defined
 abbrev pub with_defined : Scopes → List ℕ → Scopes
-with_defined scopes name = record {
-  inner = scopes.inner;
-  outer = scopes.outer;
-  globals = scopes.globals;
-  cells = scopes.cells;
-  definitions = scopes.definitions;
-  defined = with_name scopes.defined name;
-}
+with_defined scopes name = record scopes { defined = with_name scopes.defined name }
 
 -- the scopes in a construct that has these declarations so far
 abbrev pub within : Scope → Region → Scopes → Scopes
-within inner region scopes = record {
-  inner = inner;
-  outer = record { scope = scopes.inner; region = region } ∷ scopes.outer;
-  globals = scopes.globals;
-  cells = scopes.cells;
-  definitions = scopes.definitions;
-  defined = scopes.defined;
-}
+within inner region scopes =
+    record scopes { inner = inner; outer = record { scope = scopes.inner; region = region } ∷ scopes.outer }
 
 -- no construct that says how variables are shared
 abbrev pub plain : Region
@@ -152,14 +129,8 @@ further_scopes (e ∷ outer) = outer
 
 -- the scopes behind a block
 abbrev pub outside : Scopes → Scopes
-outside scopes = record {
-  inner = first_scope scopes.inner scopes.outer;
-  outer = further_scopes scopes.outer;
-  globals = scopes.globals;
-  cells = scopes.cells;
-  definitions = scopes.definitions;
-  defined = scopes.defined;
-}
+outside scopes =
+    record scopes { inner = first_scope scopes.inner scopes.outer; outer = further_scopes scopes.outer }
 
 -- a function without parameters that returns an `int`
 abbrev pub asks : Signature

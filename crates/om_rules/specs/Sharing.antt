@@ -24,9 +24,8 @@ asks_for_clauses (Some sharings.None) = true
 abbrev pub lacks_clause : Region → List ℕ → Bool
 lacks_clause region name = asks_for_clauses region.default && not (list_any (bytes_eq name) region.shared)
 
--- Going out of a place up to the declaration of a name: a construct round it lacks a clause for it. A clause
--- other than `shared`
--- declares the name as a copy, in the construct.
+-- Going out of a place up to the declaration of a name: a construct round it lacks a clause for it. A clause other
+-- than `shared` declares the name as a copy, in the construct.
 abbrev pub unlisted_outside : List Enclosing → List ℕ → Bool
 unlisted_outside [] name = false
 unlisted_outside (e ∷ outer) name = lacks_clause e.region name || (not (declares e.scope name) && unlisted_outside
@@ -61,9 +60,8 @@ is_own [] name = false
 is_own (e ∷ outer) name = is_in_function outer && not (is_parallel e.region.kind)
     && (declares e.scope name || is_own outer name)
 
--- Going out of a place up to the declaration of a name: a `task` round it makes a copy, since the variable is
--- not shared by all
--- implicit tasks of the `parallel` round that task.
+-- Going out of a place up to the declaration of a name: a `task` round it makes a copy, since the variable is not
+-- shared by all implicit tasks of the `parallel` round that task.
 abbrev pub copied_outside : List Enclosing → List ℕ → Bool
 copied_outside [] name = false
 copied_outside (e ∷ outer) name = (is_task_without e.region name && is_own (e ∷ outer) name)

@@ -76,21 +76,12 @@ for_turn_breaches scopes h = perhaps_breaches scopes true h.condition ++ perhaps
 
 -- in a loop
 abbrev pub looping : Flow → Flow
-looping flow = record {
-  may_break = true;
-  may_continue = true;
-  returns = flow.returns;
-  in_construct =
-      flow.in_construct;
-  is_closed = flow.is_closed;
-  parallel = flow.parallel;
-}
+looping flow = record flow { may_break = true; may_continue = true }
 
 -- ---- canonical loops
 
--- the bounds of a loop use the originals of the copies that a `for` makes, and the copies of a `parallel
--- for`, which are those of its
--- `parallel` (OpenMP API 5.2, section 11.5)
+-- the bounds of a loop use the originals of the copies that a `for` makes, and the copies of a `parallel for`, which
+-- are those of its `parallel` (OpenMP API 5.2, section 11.5)
 abbrev pub round_bounds : Directive ExpressionTree → Scopes → Scopes
 round_bounds d scopes = if is_parallel (traits_of d.name).region then in_construct d scopes else scopes
 
@@ -124,15 +115,7 @@ in_loop scopes (Some found) = inside (with_iteration scopes found)
 
 -- a `continue` goes on with the next iteration
 abbrev pub continuing : Flow → Flow
-continuing flow = record {
-  may_break = flow.may_break;
-  may_continue = true;
-  returns = flow.returns;
-  in_construct =
-      flow.in_construct;
-  is_closed = flow.is_closed;
-  parallel = flow.parallel;
-}
+continuing flow = record flow { may_continue = true }
 
 -- ---- statements
 

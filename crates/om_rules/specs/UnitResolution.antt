@@ -52,8 +52,7 @@ global_of d = record {
   name = d.name.text;
   at = d.name.span.start;
   length = length_of d.array;
-  initial = initial_of
-      d.initializer;
+  initial = initial_of d.initializer;
 }
 
 -- the globals that an item declares

@@ -10,6 +10,7 @@ ghost use Rattle.om_scope.specs.Arounds.{with_around};
 ghost use Rattle.om_resolved.specs.ResolvedTree as resolved;
 ghost use Rattle.om_resolved.specs.ResolvedTree.{ResolvedClauseTree, ResolvedStatementTree};
 ghost use Rattle.om_resolved.specs.ResolvedView.{view_resolved_clause, view_resolved_loop, view_resolved_part, view_resolved_statement};
+ghost use Rattle.om_rules.specs.Outcomes.{Finds};
 ghost use Rattle.om_rules.specs.StatementResolution.{atomic_of, clause_schedule, construct_of, critical_name, has_default, has_nowait, loop_construct_of, parallel_of, schedule_in, schedule_of, sections_construct_of, task_of, with_update};
 ghost use Rattle.om_rules.specs.Updates.{update_of};
 
@@ -217,9 +218,9 @@ fn with_around(
 ) -> Result<ResolvedStatement, AllocError>
     requires is_there { IsSome (with_around around at (map view_resolved_clause clauses.items)
         (view_resolved_statement body.value)) }
-    ensures { IfOk result
-        (λ found. with_around around at (map view_resolved_clause clauses.items)
-        (view_resolved_statement body.value) ≡ Some (view_resolved_statement found)) }
+    ensures { Finds view_resolved_statement result
+        (with_around around at (map view_resolved_clause clauses.items)
+        (view_resolved_statement body.value)) }
 {
     match around {
         Around::Parallel(captures) => Ok(ResolvedStatement::Parallel {
@@ -252,9 +253,8 @@ fn with_update(
     body: Box<ResolvedStatement>,
 ) -> Result<ResolvedStatement, AllocError>
     requires is_update { IsSome (update_of side (view_resolved_statement body.value)) }
-    ensures { IfOk result
-        (λ found. with_update at (update_of side (view_resolved_statement body.value))
-        ≡ Some (view_resolved_statement found)) }
+    ensures { Finds view_resolved_statement result
+        (with_update at (update_of side (view_resolved_statement body.value))) }
 {
     let mut body = body;
     let Some(update) = update_of(side, &mut body) else {
@@ -277,10 +277,9 @@ pub(crate) fn construct_of(
         (map view_resolved_clause clauses.items) (view_resolved_statement body.value)) }
     ensures checked { Checks result [] }
     ensures made { let tree = view_directive directive.now in
-        IfOk result
-        (λ found. construct_of setting.parallel setting.side tree tree.name
-        (map view_resolved_clause clauses.items) (view_resolved_statement body.value)
-        ≡ Some (view_resolved_statement found)) }
+        Finds view_resolved_statement result
+        (construct_of setting.parallel setting.side tree tree.name
+        (map view_resolved_clause clauses.items) (view_resolved_statement body.value)) }
 {
     let around = around_of(alloc, setting, directive, clauses.as_slice(), &body)?;
     Ok(with_around(alloc, around, directive.hash, clauses, body)?)

@@ -6,6 +6,7 @@ ghost use Rattle.om_resolved.specs.ResolvedView.{view_resolved_clause, view_reso
 ghost use Rattle.om_forms.specs.LoopViews.{view_loop};
 ghost use Rattle.om_rules.specs.Checks.{Checks};
 ghost use Rattle.om_rules.specs.DirectiveRules.{directive_breaches, in_construct, in_kind, traits_of};
+ghost use Rattle.om_rules.specs.Outcomes.{Finds};
 ghost use Rattle.om_rules.specs.StatementResolution.{resolved_clauses, resolved_loop, schedule_of};
 ghost use Rattle.om_rules.specs.StatementRules.{found_breaches, round_bounds};
 ghost use Rattle.om_scope.specs.Parts.{round_listed};
@@ -50,7 +51,6 @@ fn enter_listed(symbols: &mut Symbols, kind: RegionKind, listed: Listed) -> Resu
 }
 
 /// Enters a construct that is for a loop, after its clauses and the loop's bounds.
-#[tactic(auto, using(om_rules::specs::InRow::first_of_left))]
 pub fn enter_loop_construct(
     alloc: Global,
     symbols: &mut Symbols,
@@ -69,13 +69,12 @@ pub fn enter_loop_construct(
         (view_loop found.now) ≡ []) }
     ensures in_scope { OnOk result
         (symbols.new ≡ in_construct (view_directive directive.now) symbols.old) }
-    ensures clauses { IfOk result
-        (λ made. resolved_clauses symbols.old (view_directive directive.now).clauses
-        ≡ Some (map view_resolved_clause made.0.items)) }
+    ensures clauses { Finds (λ made. map view_resolved_clause made.0.items) result
+        (resolved_clauses symbols.old (view_directive directive.now).clauses) }
     ensures repeated { let tree = view_directive directive.now in
-        IfOk result
-        (λ made. resolved_loop (round_bounds tree symbols.old) (schedule_of tree.clauses)
-        (view_loop found.now) ≡ Some (view_resolved_loop made.1.value)) }
+        Finds (λ made. view_resolved_loop made.1.value) result
+        (resolved_loop (round_bounds tree symbols.old) (schedule_of tree.clauses)
+        (view_loop found.now)) }
 {
     let (listed, clauses) = resolve_directive(alloc, symbols, flow, directive)?;
     let repeated = enter_bounds(alloc, symbols, directive, listed, found)?;
@@ -98,9 +97,8 @@ fn enter_bounds(
         OnOk result (symbols.new ≡ in_kind kind listed symbols.old) }
     ensures resolved { let tree = view_directive directive.now in
         let scopes = round_listed (traits_of tree.name).region listed symbols.old in
-        IfOk result
-        (λ repeated. resolved_loop scopes (schedule_of tree.clauses) (view_loop found.now)
-        ≡ Some (view_resolved_loop repeated.value)) }
+        Finds (λ repeated. view_resolved_loop repeated.value) result
+        (resolved_loop scopes (schedule_of tree.clauses) (view_loop found.now)) }
 {
     let kind = traits_of(&directive.name).region;
     let schedule = schedule_of(directive.clauses.as_slice());

@@ -1,11 +1,12 @@
 //! Functions: their rules, and their variables.
 
-ghost use Rattle.std.specs.Prelude.{◌≡◌, ◌++◌, ◌+◌, ◌<◌, [], ◌∷◌, OnOk, IfOk, Some, length, map};
+ghost use Rattle.std.specs.Prelude.{◌≡◌, ◌++◌, ◌+◌, ◌<◌, [], ◌∷◌, OnOk, length, map};
 ghost use Rattle.om_tree.specs.Tree.{statements};
 ghost use Rattle.om_tree.specs.View.{view_function, view_head, view_parameters};
 ghost use Rattle.om_rules.specs.Checks.{Checks, ChecksExactly};
+ghost use Rattle.om_rules.specs.Outcomes.{Finds};
 ghost use Rattle.om_rules.specs.Proper.{AreProper};
-ghost use Rattle.om_rules.specs.Scopes.{after_function, after_optional, after_optionals, after_parameter, after_parameters, after_prototype, asks, parameters_of, returns_value, signature_eq, signature_of, with_local};
+ghost use Rattle.om_rules.specs.Scopes.{after_function, after_optional, after_optionals, after_parameter, after_parameters, after_prototype, parameters_of, returns_value, signature_eq, signature_of, with_local};
 ghost use Rattle.om_rules.specs.Faults.{breaches_along};
 ghost use Rattle.om_resolved.specs.ResolvedTree as resolved;
 ghost use Rattle.om_resolved.specs.ResolvedView.{view_resolved_function, view_resolved_statement};
@@ -88,7 +89,6 @@ fn is_other_main(name: &[u8], signature: Signature) -> bool
 }
 
 /// The name and the signature of a function: S8, S9.
-#[tactic(auto, using(om_rules::specs::InRow::first_of_left))]
 fn check_head<N>(symbols: &Symbols, head: &FunctionHead<N>) -> Result<(), SourceFault>
     ensures { ChecksExactly result (head_breaches symbols.now (view_head head.now)) }
 {
@@ -130,7 +130,6 @@ fn declare_parameter_name(
 }
 
 /// Declares a parameter of a definition behind so many others: S8, S11.
-#[tactic(auto, using(om_rules::specs::InRow::first_of_left))]
 fn declare_parameter(
     alloc: Global,
     symbols: &mut Symbols,
@@ -179,7 +178,6 @@ fn declare_further_parameters(
 }
 
 /// Declares the parameters of a definition.
-#[tactic(auto, using(om_rules::specs::InRow::first_of_left))]
 fn declare_parameters(
     alloc: Global,
     symbols: &mut Symbols,
@@ -203,7 +201,6 @@ fn declare_parameters(
 }
 
 /// Declares a parameter of a prototype, if it has a name, behind so many others: S8, S11.
-#[tactic(auto, using(om_rules::specs::InRow::first_of_left))]
 fn declare_optional(
     alloc: Global,
     symbols: &mut Symbols,
@@ -246,7 +243,6 @@ fn declare_further_optionals(
 }
 
 /// Declares the parameters of a prototype.
-#[tactic(auto, using(om_rules::specs::InRow::first_of_left))]
 fn declare_optionals(
     alloc: Global,
     symbols: &mut Symbols,
@@ -266,7 +262,6 @@ fn declare_optionals(
 }
 
 /// A function that is declared and not defined.
-#[tactic(auto, using(om_rules::specs::InRow::first_of_left))]
 pub fn check_prototype(
     alloc: Global,
     symbols: &mut Symbols,
@@ -285,7 +280,6 @@ pub fn check_prototype(
 }
 
 /// That a definition is not one too many, that of no function before, and keeps the rules of its name.
-#[tactic(auto, using(om_rules::specs::InRow::first_of_left))]
 fn check_definition(symbols: &Symbols, head: &FunctionHead<Name>) -> Result<(), SourceFault>
     ensures { ChecksExactly result (definition_breaches symbols.now (view_head head.now)) }
 {
@@ -311,7 +305,6 @@ fn flow_of(head: &FunctionHead<Name>) -> Flow
 }
 
 /// Begins the definition of a function: its name is declared and defined.
-#[tactic(auto, using(om_rules::specs::InRow::first_of_left))]
 fn begin_definition(
     alloc: Global,
     symbols: &mut Symbols,
@@ -327,7 +320,6 @@ fn begin_definition(
 }
 
 /// The parameters and the statements of a function, in a scope of their own.
-#[tactic(auto, using(om_rules::specs::InRow::first_of_left))]
 fn resolve_inside(
     alloc: Global,
     symbols: &mut Symbols,
@@ -341,9 +333,9 @@ fn resolve_inside(
         (parameters.new.items ≡ parameters.old.items
         ++ map parameter_variable
         (parameters_of (view_function function.now).head.parameters)) }
-    ensures resolved { IfOk result
-        (λ body. resolved_inside symbols.old (view_function function.now)
-        ≡ Some (resolved.statements (map view_resolved_statement body.items))) }
+    ensures resolved { Finds
+        (λ body. resolved.statements (map view_resolved_statement body.items)) result
+        (resolved_inside symbols.old (view_function function.now)) }
 {
     symbols.enter(alloc)?;
     declare_parameters(alloc, symbols, parameters, &function.head.parameters)?;
@@ -364,9 +356,8 @@ pub fn resolve_function(
     ensures checked { Checks result (function_breaches symbols.old (view_function function.now)) }
     ensures in_scope { OnOk result
         (symbols.new ≡ after_function symbols.old (view_function function.now).head) }
-    ensures resolved { IfOk result
-        (λ found. resolved_function symbols.old (view_function function.now)
-        ≡ Some (view_resolved_function found)) }
+    ensures resolved { Finds view_resolved_function result
+        (resolved_function symbols.old (view_function function.now)) }
 {
     begin_definition(alloc, symbols, &function.head)?;
     let name = copy_of(alloc, &function.head.name)?;

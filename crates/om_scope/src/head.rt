@@ -1,10 +1,11 @@
 //! What a `for` has before its body (C17 6.8.5.3).
 
-ghost use Rattle.std.specs.Prelude.{◌≡◌, ◌++◌, [], OnOk, IfOk, Some, option_map};
+ghost use Rattle.std.specs.Prelude.{◌≡◌, ◌++◌, [], OnOk, IfOk, option_map};
 ghost use Rattle.om_tree.specs.View.{view_expression, view_for_head, view_for_start};
 ghost use Rattle.om_resolved.specs.ResolvedTree as resolved;
 ghost use Rattle.om_resolved.specs.ResolvedView.{view_resolved_expression, view_resolved_start, view_resolved_statement};
 ghost use Rattle.om_rules.specs.Checks.{Checks};
+ghost use Rattle.om_rules.specs.Outcomes.{Finds};
 ghost use Rattle.om_rules.specs.StatementResolution.{resolved_perhaps, resolved_start};
 ghost use Rattle.om_rules.specs.StatementRules.{after_for_start, continuing, for_start_breaches, for_turn_breaches, looping, perhaps_breaches};
 
@@ -17,7 +18,6 @@ use om_uses::{boxed, boxed_expression, resolve_locals, unboxed};
 use std::alloc::Global;
 
 /// What a `for` has before its body: what it begins with, its condition and its step.
-#[tactic(auto, using(om_rules::specs::InRow::first_of_left))]
 pub fn resolve_for_head(
     alloc: Global,
     symbols: &mut Symbols,
@@ -29,17 +29,14 @@ pub fn resolve_for_head(
         ++ for_turn_breaches (after_for_start symbols.old tree.start) tree) }
     ensures in_scope { OnOk result
         (symbols.new ≡ after_for_start symbols.old (view_for_head head.now).start) }
-    ensures start { IfOk result
-        (λ found. resolved_start symbols.old (view_for_head head.now).start
-        ≡ Some (view_resolved_start found.value.start)) }
+    ensures start { Finds (λ found. view_resolved_start found.value.start) result
+        (resolved_start symbols.old (view_for_head head.now).start) }
     ensures condition { let tree = view_for_head head.now in
-        IfOk result
-        (λ found. resolved_perhaps (after_for_start symbols.old tree.start) tree.condition
-        ≡ Some (option_map view_resolved_expression found.value.condition)) }
+        Finds (λ found. option_map view_resolved_expression found.value.condition) result
+        (resolved_perhaps (after_for_start symbols.old tree.start) tree.condition) }
     ensures step { let tree = view_for_head head.now in
-        IfOk result
-        (λ found. resolved_perhaps (after_for_start symbols.old tree.start) tree.step
-        ≡ Some (option_map view_resolved_expression found.value.step)) }
+        Finds (λ found. option_map view_resolved_expression found.value.step) result
+        (resolved_perhaps (after_for_start symbols.old tree.start) tree.step) }
 {
     let start = boxed(alloc, resolve_for_start(alloc, symbols, &head.start))?;
     let (condition, step) = resolve_for_turn(alloc, symbols, head)?;
@@ -80,9 +77,8 @@ fn resolve_for_start(
     ensures checked { Checks result (for_start_breaches symbols.old (view_for_start start.now)) }
     ensures in_scope { OnOk result
         (symbols.new ≡ after_for_start symbols.old (view_for_start start.now)) }
-    ensures resolved { IfOk result
-        (λ found. resolved_start symbols.old (view_for_start start.now)
-        ≡ Some (view_resolved_start found)) }
+    ensures resolved { Finds view_resolved_start result
+        (resolved_start symbols.old (view_for_start start.now)) }
 {
     match start {
         ForStart::Nothing(_) => Ok(ResolvedStart::Nothing),
@@ -101,7 +97,6 @@ fn resolve_for_start(
 }
 
 /// The condition and the step of a `for`.
-#[tactic(auto, using(om_rules::specs::InRow::first_of_left))]
 fn resolve_for_turn(
     alloc: Global,
     symbols: &Symbols,
@@ -114,12 +109,12 @@ fn resolve_for_turn(
     SourceFault,
 >
     ensures checked { Checks result (for_turn_breaches symbols.now (view_for_head head.now)) }
-    ensures condition { IfOk result
-        (λ found. resolved_perhaps symbols.now (view_for_head head.now).condition
-        ≡ Some (option_map (λ boxed. view_resolved_expression boxed.value) found.0)) }
-    ensures step { IfOk result
-        (λ found. resolved_perhaps symbols.now (view_for_head head.now).step
-        ≡ Some (option_map (λ boxed. view_resolved_expression boxed.value) found.1)) }
+    ensures condition { Finds
+        (λ found. option_map (λ boxed. view_resolved_expression boxed.value) found.0) result
+        (resolved_perhaps symbols.now (view_for_head head.now).condition) }
+    ensures step { Finds
+        (λ found. option_map (λ boxed. view_resolved_expression boxed.value) found.1) result
+        (resolved_perhaps symbols.now (view_for_head head.now).step) }
 {
     let condition = resolve_perhaps(alloc, symbols, true, &head.condition)?;
     let step = resolve_perhaps(alloc, symbols, false, &head.step)?;
@@ -135,9 +130,9 @@ fn resolve_perhaps(
 ) -> Result<Option<Box<ResolvedExpression>>, SourceFault>
     ensures checked { Checks result
         (perhaps_breaches symbols.now for_value (option_map view_expression expression.now)) }
-    ensures resolved { IfOk result
-        (λ found. resolved_perhaps symbols.now (option_map view_expression expression.now)
-        ≡ Some (option_map (λ boxed. view_resolved_expression boxed.value) found)) }
+    ensures resolved { Finds
+        (λ found. option_map (λ boxed. view_resolved_expression boxed.value) found) result
+        (resolved_perhaps symbols.now (option_map view_expression expression.now)) }
 {
     let Some(expression) = expression else {
         return Ok(None);

@@ -1,12 +1,13 @@
 //! Statements that have no statement in them.
 
-ghost use Rattle.std.specs.Prelude.{◌≡◌, ◌++◌, true, false, not, OnOk, IfOk, Some, option_map};
+ghost use Rattle.std.specs.Prelude.{◌≡◌, ◌++◌, true, false, not, OnOk, option_map};
 ghost use Rattle.om_pragma.specs.Questions.{is_stand_alone};
 ghost use Rattle.om_tree.specs.View.{view_directive, view_expression, view_local};
 ghost use Rattle.om_resolved.specs.ResolvedView.{view_resolved_expression, view_resolved_statement};
 ghost use Rattle.om_rules.specs.Checks.{Checks, ChecksExactly};
 ghost use Rattle.om_rules.specs.DirectiveRules.{flush_breaches};
 ghost use Rattle.om_rules.specs.ExpressionRules.{expression_breaches};
+ghost use Rattle.om_rules.specs.Outcomes.{Finds};
 ghost use Rattle.om_rules.specs.Scopes.{after_locals, declarators_of};
 ghost use Rattle.om_rules.specs.StatementResolution.{resolved_alone, resolved_perhaps};
 ghost use Rattle.om_rules.specs.StatementRules.{jump_breaches, locals_breaches, return_breaches, section_breaches, stand_alone_breaches};
@@ -36,9 +37,8 @@ pub fn resolve_declaration(
     ensures in_scope { OnOk result
         (symbols.new ≡ after_locals symbols.old
         (declarators_of (view_local declaration.now))) }
-    ensures resolved { IfOk result
-        (λ found. resolved_declaration symbols.old (view_local declaration.now)
-        ≡ Some (view_resolved_statement found)) }
+    ensures resolved { Finds view_resolved_statement result
+        (resolved_declaration symbols.old (view_local declaration.now)) }
 {
     let declared = resolve_locals(alloc, symbols, declaration)?;
     Ok(ResolvedStatement::Declaration {
@@ -55,9 +55,8 @@ pub fn resolve_effect(
 ) -> Result<ResolvedStatement, SourceFault>
     ensures checked { Checks result
         (expression_breaches symbols.now false (view_expression expression.now)) }
-    ensures resolved { IfOk result
-        (λ found. resolved_effect symbols.now (view_expression expression.now)
-        ≡ Some (view_resolved_statement found)) }
+    ensures resolved { Finds view_resolved_statement result
+        (resolved_effect symbols.now (view_expression expression.now)) }
 {
     let at = expression_first(expression);
     let expression = boxed_expression(alloc, symbols, false, expression)?;
@@ -68,7 +67,6 @@ pub fn resolve_effect(
 }
 
 /// A `return`: S9, S14.
-#[tactic(auto, using(om_rules::specs::InRow::first_of_left))]
 pub fn resolve_return(
     alloc: Global,
     symbols: &Symbols,
@@ -80,10 +78,9 @@ pub fn resolve_return(
         (jump_breaches (not flow.in_construct) at.start
         ++ return_breaches symbols.now flow
         (option_map (λ boxed. view_expression boxed.value) value.now)) }
-    ensures resolved { IfOk result
-        (λ found. resolved_return symbols.now at
-        (option_map (λ boxed. view_expression boxed.value) value.now)
-        ≡ Some (view_resolved_statement found)) }
+    ensures resolved { Finds view_resolved_statement result
+        (resolved_return symbols.now at
+        (option_map (λ boxed. view_expression boxed.value) value.now)) }
 {
     check_jump(!flow.in_construct, at.start)?;
     let value = resolve_returned(alloc, symbols, flow, value)?;
@@ -103,10 +100,10 @@ fn resolve_returned(
     ensures checked { Checks result
         (return_breaches symbols.now flow
         (option_map (λ boxed. view_expression boxed.value) value.now)) }
-    ensures resolved { IfOk result
-        (λ found. resolved_perhaps symbols.now
-        (option_map (λ boxed. view_expression boxed.value) value.now)
-        ≡ Some (option_map (λ boxed. view_resolved_expression boxed.value) found)) }
+    ensures resolved { Finds
+        (λ found. option_map (λ boxed. view_resolved_expression boxed.value) found) result
+        (resolved_perhaps symbols.now
+        (option_map (λ boxed. view_expression boxed.value) value.now)) }
 {
     let Some(value) = value else {
         return Ok(None);
@@ -126,7 +123,6 @@ pub fn check_jump(allowed: bool, at: u32) -> Result<(), SourceFault>
 }
 
 /// A directive that stands alone.
-#[tactic(auto, using(om_rules::specs::InRow::first_of_left))]
 pub fn resolve_stand_alone(
     alloc: Global,
     symbols: &Symbols,
@@ -137,9 +133,8 @@ pub fn resolve_stand_alone(
     ensures checked { Checks result
         (stand_alone_breaches symbols.now flow (view_directive directive.now)) }
     ensures resolved { let tree = view_directive directive.now in
-        IfOk result
-        (λ found. resolved_alone symbols.now tree tree.name
-        ≡ Some (view_resolved_statement found)) }
+        Finds view_resolved_statement result
+        (resolved_alone symbols.now tree tree.name) }
 {
     resolve_directive(alloc, symbols, flow, directive)?;
     resolve_alone(alloc, symbols, directive)
@@ -154,9 +149,8 @@ fn resolve_alone(
     requires stands_alone { is_stand_alone directive.now.name ≡ true }
     ensures checked { Checks result (flush_breaches symbols.now directive.now.name) }
     ensures resolved { let tree = view_directive directive.now in
-        IfOk result
-        (λ found. resolved_alone symbols.now tree tree.name
-        ≡ Some (view_resolved_statement found)) }
+        Finds view_resolved_statement result
+        (resolved_alone symbols.now tree tree.name) }
 {
     let at = directive.hash;
     match &directive.name {

@@ -1,6 +1,6 @@
 //! Statements: their rules, and the variables of their names.
 
-ghost use Rattle.std.specs.Prelude.{◌≡◌, true, false, OnOk, IfOk, Some, is_some, map};
+ghost use Rattle.std.specs.Prelude.{◌≡◌, true, false, OnOk, Some, is_some, map};
 ghost use Rattle.om_tree.specs.Formed.{AreParts};
 ghost use Rattle.om_tree.specs.Sizes.{PartsHaveForms};
 ghost use Rattle.om_tree.specs.Tree.{Construct, parts, statements};
@@ -11,10 +11,11 @@ ghost use Rattle.om_forms.specs.LoopViews.{view_loop};
 ghost use Rattle.om_rules.specs.Checks.{Checks};
 ghost use Rattle.om_rules.specs.DirectiveRules.{traits_of};
 ghost use Rattle.om_rules.specs.Loops.{loop_in};
+ghost use Rattle.om_rules.specs.Outcomes.{Finds};
 ghost use Rattle.om_rules.specs.Proper.{AreProper, AreProperParts, IsProper};
 ghost use Rattle.om_rules.specs.Scopes.{inside};
 ghost use Rattle.om_rules.specs.StatementResolution.{resolved_construct, resolved_for, resolved_loop_construct, resolved_parts, resolved_plain_construct, resolved_repeated, resolved_sections, resolved_statement, resolved_statements};
-ghost use Rattle.om_rules.specs.StatementRules.{after_statement, after_statements, body_breaches, construct_breaches, continuing, for_breaches, in_loop, loop_construct_breaches, looping, part_breaches, parts_breaches, plain_construct_breaches, sections_construct_breaches, statement_breaches, statements_breaches};
+ghost use Rattle.om_rules.specs.StatementRules.{after_statement, after_statements, body_breaches, construct_breaches, continuing, for_breaches, in_loop, loop_construct_breaches, part_breaches, parts_breaches, plain_construct_breaches, sections_construct_breaches, statement_breaches, statements_breaches};
 
 use crate::assembly::{Setting, construct_of, loop_construct_of, sections_construct_of};
 use crate::entering::{enter_construct, enter_loop_construct};
@@ -47,10 +48,10 @@ pub(crate) fn resolve_statements(
         (statements_breaches symbols.old flow (statements (map view_statement items.now))) }
     ensures in_scope { OnOk result
         (symbols.new ≡ after_statements symbols.old (map view_statement items.now)) }
-    ensures resolved { IfOk result
-        (λ found. resolved_statements symbols.old flow.parallel
-        (statements (map view_statement items.now))
-        ≡ Some (resolved.statements (map view_resolved_statement found.items))) }
+    ensures resolved { Finds
+        (λ found. resolved.statements (map view_resolved_statement found.items)) result
+        (resolved_statements symbols.old flow.parallel
+        (statements (map view_statement items.now))) }
 {
     let mut resolved = Vec::new(alloc);
     for item in items {
@@ -74,9 +75,8 @@ fn resolve_statement(
         (statement_breaches symbols.old flow (view_statement statement.now)) }
     ensures in_scope { OnOk result
         (symbols.new ≡ after_statement symbols.old (view_statement statement.now)) }
-    ensures resolved { IfOk result
-        (λ found. resolved_statement symbols.old flow.parallel (view_statement statement.now)
-        ≡ Some (view_resolved_statement found)) }
+    ensures resolved { Finds view_resolved_statement result
+        (resolved_statement symbols.old flow.parallel (view_statement statement.now)) }
 {
     match statement {
         Statement::Declaration(declaration) => resolve_declaration(alloc, symbols, declaration),
@@ -188,9 +188,8 @@ fn resolve_body(
     ensures checked { Checks result
         (statement_breaches (inside symbols.old) flow (view_statement body.now)) }
     ensures in_scope { OnOk result (symbols.new ≡ symbols.old) }
-    ensures resolved { IfOk result
-        (λ found. resolved_statement (inside symbols.old) flow.parallel (view_statement body.now)
-        ≡ Some (view_resolved_statement found.value)) }
+    ensures resolved { Finds (λ found. view_resolved_statement found.value) result
+        (resolved_statement (inside symbols.old) flow.parallel (view_statement body.now)) }
 {
     symbols.enter(alloc)?;
     let found = boxed_statement(alloc, symbols, flow, body);
@@ -211,9 +210,8 @@ fn boxed_statement(
         (statement_breaches symbols.old flow (view_statement statement.now)) }
     ensures in_scope { OnOk result
         (symbols.new ≡ after_statement symbols.old (view_statement statement.now)) }
-    ensures resolved { IfOk result
-        (λ found. resolved_statement symbols.old flow.parallel (view_statement statement.now)
-        ≡ Some (view_resolved_statement found.value)) }
+    ensures resolved { Finds (λ found. view_resolved_statement found.value) result
+        (resolved_statement symbols.old flow.parallel (view_statement statement.now)) }
 {
     boxed(alloc, resolve_statement(alloc, symbols, flow, statement))
 }
@@ -231,10 +229,10 @@ fn resolve_block(
         (statements_breaches (inside symbols.old) flow
         (statements (map view_statement items.now))) }
     ensures in_scope { OnOk result (symbols.new ≡ symbols.old) }
-    ensures resolved { IfOk result
-        (λ found. resolved_statements (inside symbols.old) flow.parallel
-        (statements (map view_statement items.now))
-        ≡ Some (resolved.statements (map view_resolved_statement found.items))) }
+    ensures resolved { Finds
+        (λ found. resolved.statements (map view_resolved_statement found.items)) result
+        (resolved_statements (inside symbols.old) flow.parallel
+        (statements (map view_statement items.now))) }
 {
     symbols.enter(alloc)?;
     let items = resolve_statements(alloc, symbols, flow, items);
@@ -243,7 +241,6 @@ fn resolve_block(
 }
 
 /// A `for`, in a scope of its own.
-#[tactic(auto, using(om_rules::specs::InRow::first_of_left))]
 #[cycle(statement)]
 fn resolve_for(
     alloc: Global,
@@ -256,9 +253,9 @@ fn resolve_for(
     ensures checked { Checks result
         (for_breaches symbols.old flow (view_for_head head.now) (view_statement body.now)) }
     ensures in_scope { OnOk result (symbols.new ≡ symbols.old) }
-    ensures resolved { IfOk result
-        (λ found. resolved_for symbols.old flow.parallel (view_for_head head.now)
-        (view_statement body.now) ≡ Some (view_resolved_statement found)) }
+    ensures resolved { Finds view_resolved_statement result
+        (resolved_for symbols.old flow.parallel (view_for_head head.now)
+        (view_statement body.now)) }
 {
     symbols.enter(alloc)?;
     let turn = resolve_for_head(alloc, symbols, head)?;
@@ -282,9 +279,9 @@ fn resolve_construct(
         (construct_breaches symbols.old flow (view_directive directive.now)
         (view_statement body.now)) }
     ensures in_scope { OnOk result (symbols.new ≡ symbols.old) }
-    ensures resolved { IfOk result
-        (λ found. resolved_construct symbols.old flow.parallel (view_directive directive.now)
-        (view_statement body.now) ≡ Some (view_resolved_statement found)) }
+    ensures resolved { Finds view_resolved_statement result
+        (resolved_construct symbols.old flow.parallel (view_directive directive.now)
+        (view_statement body.now)) }
 {
     if !traits_of(&directive.name).takes_loop {
         resolve_plain_construct(alloc, symbols, flow, directive, body)
@@ -294,7 +291,6 @@ fn resolve_construct(
 }
 
 /// A construct that is for any statement.
-#[tactic(auto, using(om_rules::specs::InRow::first_of_left))]
 #[cycle(statement)]
 fn resolve_plain_construct(
     alloc: Global,
@@ -310,9 +306,9 @@ fn resolve_plain_construct(
         (plain_construct_breaches symbols.old flow (view_directive directive.now)
         (view_statement body.now)) }
     ensures in_scope { OnOk result (symbols.new ≡ symbols.old) }
-    ensures resolved { IfOk result
-        (λ found. resolved_plain_construct symbols.old flow.parallel (view_directive directive.now)
-        (view_statement body.now) ≡ Some (view_resolved_statement found)) }
+    ensures resolved { Finds view_resolved_statement result
+        (resolved_plain_construct symbols.old flow.parallel (view_directive directive.now)
+        (view_statement body.now)) }
 {
     let inside = constructing(directive, flow);
     let setting = Setting {
@@ -326,7 +322,6 @@ fn resolve_plain_construct(
 }
 
 /// A construct that is for a loop: S12.
-#[tactic(auto, using(om_rules::specs::InRow::first_of_left))]
 #[cycle(statement)]
 fn resolve_loop_construct(
     alloc: Global,
@@ -340,10 +335,9 @@ fn resolve_loop_construct(
         (loop_construct_breaches symbols.old flow (view_directive directive.now)
         (loop_in (view_statement body.now)) (view_statement body.now)) }
     ensures in_scope { OnOk result (symbols.new ≡ symbols.old) }
-    ensures resolved { IfOk result
-        (λ found. resolved_loop_construct symbols.old flow.parallel (view_directive directive.now)
-        (loop_in (view_statement body.now)) (view_statement body.now)
-        ≡ Some (view_resolved_statement found)) }
+    ensures resolved { Finds view_resolved_statement result
+        (resolved_loop_construct symbols.old flow.parallel (view_directive directive.now)
+        (loop_in (view_statement body.now)) (view_statement body.now)) }
 {
     let inside = constructing(directive, flow);
     match loop_in(body) {
@@ -378,9 +372,9 @@ fn resolve_loop_body(
     ensures checked { Checks result
         (body_breaches symbols.old inside (Some (view_loop found.now)) (view_statement body.now)) }
     ensures in_scope { OnOk result (symbols.new ≡ symbols.old) }
-    ensures resolved { IfOk result
-        (λ made. resolved_repeated symbols.old inside.parallel (view_loop found.now)
-        (view_statement body.now) ≡ Some (view_resolved_statement made.value)) }
+    ensures resolved { Finds (λ made. view_resolved_statement made.value) result
+        (resolved_repeated symbols.old inside.parallel (view_loop found.now)
+        (view_statement body.now)) }
 {
     match body {
         Statement::For { body: repeated, .. } => resolve_repeated(
@@ -404,9 +398,9 @@ fn resolve_repeated(
         (statement_breaches (in_loop symbols.old (Some (view_loop found.now))) (continuing inside)
         (view_statement repeated.now)) }
     ensures in_scope { OnOk result (symbols.new ≡ symbols.old) }
-    ensures resolved { IfOk result
-        (λ made. resolved_statement (in_loop symbols.old (Some (view_loop found.now)))
-        inside.parallel (view_statement repeated.now) ≡ Some (view_resolved_statement made.value)) }
+    ensures resolved { Finds (λ made. view_resolved_statement made.value) result
+        (resolved_statement (in_loop symbols.old (Some (view_loop found.now))) inside.parallel
+        (view_statement repeated.now)) }
 {
     enter_loop(alloc, symbols, found)?;
     let repeated = resolve_body(alloc, symbols, continuing(inside), repeated)?;
@@ -415,7 +409,6 @@ fn resolve_repeated(
 }
 
 /// A construct of parts.
-#[tactic(auto, using(om_rules::specs::InRow::first_of_left))]
 #[cycle(statement)]
 fn resolve_sections(
     alloc: Global,
@@ -430,9 +423,9 @@ fn resolve_sections(
         (sections_construct_breaches symbols.old flow (view_directive directive.now)
         (parts (map view_part sections.now))) }
     ensures in_scope { OnOk result (symbols.new ≡ symbols.old) }
-    ensures resolved { IfOk result
-        (λ found. resolved_sections symbols.old flow.parallel (view_directive directive.now)
-        (parts (map view_part sections.now)) ≡ Some (view_resolved_statement found)) }
+    ensures resolved { Finds view_resolved_statement result
+        (resolved_sections symbols.old flow.parallel (view_directive directive.now)
+        (parts (map view_part sections.now))) }
 {
     let inside = constructing(directive, flow);
     let clauses = enter_construct(alloc, symbols, flow, directive)?;
@@ -454,9 +447,8 @@ fn resolve_parts(
     ensures checked { Checks result
         (parts_breaches symbols.old flow 0 (parts (map view_part sections.now))) }
     ensures in_scope { OnOk result (symbols.new ≡ symbols.old) }
-    ensures resolved { IfOk result
-        (λ found. resolved_parts symbols.old flow.parallel (parts (map view_part sections.now))
-        ≡ Some (resolved.parts (map view_resolved_part found.items))) }
+    ensures resolved { Finds (λ found. resolved.parts (map view_resolved_part found.items)) result
+        (resolved_parts symbols.old flow.parallel (parts (map view_part sections.now))) }
 {
     let mut resolved = Vec::new(alloc);
     for part in sections {
@@ -467,7 +459,6 @@ fn resolve_parts(
 }
 
 /// A part of `sections` behind so many of them, which is a block of its own.
-#[tactic(auto, using(om_rules::specs::InRow::first_of_left))]
 #[cycle(statement)]
 fn resolve_part(
     alloc: Global,
@@ -479,9 +470,8 @@ fn resolve_part(
     requires proper { AreProper (view_part part.now).items }
     ensures checked { Checks result (part_breaches symbols.old flow before (view_part part.now)) }
     ensures in_scope { OnOk result (symbols.new ≡ symbols.old) }
-    ensures resolved { IfOk result
-        (λ found. resolved_statements (inside symbols.old) flow.parallel (view_part part.now).items
-        ≡ Some (view_resolved_part found)) }
+    ensures resolved { Finds view_resolved_part result
+        (resolved_statements (inside symbols.old) flow.parallel (view_part part.now).items) }
 {
     check_section(before, &part.section)?;
     let items = resolve_block(alloc, symbols, flow, part.items.as_slice())?;

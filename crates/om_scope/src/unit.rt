@@ -9,6 +9,7 @@ ghost use Rattle.om_tree.specs.View.{view_item, view_unit};
 ghost use Rattle.om_rules.specs.Breaches.{breaches_of, is_main, main_breaches};
 ghost use Rattle.om_rules.specs.Checks.{Checks, ChecksExactly};
 ghost use Rattle.om_rules.specs.Faults.{first_of};
+ghost use Rattle.om_rules.specs.Outcomes.{Finds};
 ghost use Rattle.om_rules.specs.Perhaps.{all_along};
 ghost use Rattle.om_rules.specs.Proper.{IsProperItem};
 ghost use Rattle.om_resolved.specs.ResolvedView.{view_resolved, view_resolved_function};
@@ -122,8 +123,7 @@ fn resolve_from(
     requires proper { All IsProperItem (map view_item items.now) }
     ensures checked { let trees = map view_item items.now in
         Checks result (items_breaches (file_scope (definitions_of trees)) trees) }
-    ensures resolved { IfOk result
-        (λ found. items_resolution (map view_item items.now) ≡ Some (view_resolved found)) }
+    ensures resolved { Finds view_resolved result (items_resolution (map view_item items.now)) }
 {
     symbols.begin_file(alloc)?;
     let mut globals = Vec::new(alloc);
@@ -140,8 +140,7 @@ fn resolve_items(alloc: Global, items: &[Item]) -> Result<Resolved, SourceFault>
     requires proper { All IsProperItem (map view_item items.now) }
     ensures checked { let trees = map view_item items.now in
         Checks result (items_breaches (file_scope (definitions_of trees)) trees) }
-    ensures resolved { IfOk result
-        (λ found. items_resolution (map view_item items.now) ≡ Some (view_resolved found)) }
+    ensures resolved { Finds view_resolved result (items_resolution (map view_item items.now)) }
 {
     let definitions = definitions_of(alloc, items)?;
     let mut symbols = Symbols::new(alloc, definitions);
@@ -206,8 +205,7 @@ pub fn resolve(alloc: Global, unit: Unit) -> Result<Resolved, SourceFault>
     requires formed { IsUnit (view_unit unit) }
     requires atomics_have_forms { AtomicsHaveForms (view_unit unit) }
     ensures no_breach { OnOk result (breaches_of (view_unit unit) ≡ []) }
-    ensures resolved { IfOk result
-        (λ resolved. resolution_of (view_unit unit) ≡ Some (view_resolved resolved)) }
+    ensures resolved { Finds view_resolved result (resolution_of (view_unit unit)) }
     ensures is_resolved { IfOk result (λ resolved. IsResolved (view_resolved resolved)) }
     ensures whole { IfOk result (λ resolved. IsWholeTree (view_resolved resolved)) }
     ensures atomics_assign { IfOk result (λ resolved. TreeAtomicsAssign (view_resolved resolved)) }

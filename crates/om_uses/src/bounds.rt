@@ -1,9 +1,8 @@
 //! The bounds of a canonical loop.
 
-ghost use Rattle.std.specs.Prelude.{◌≡◌, ◌++◌, false, OnOk, IfOk, Some};
+ghost use Rattle.std.specs.Prelude.{◌≡◌, ◌++◌, OnOk};
 ghost use Rattle.om_rules.specs.Checks.{Checks, ChecksExactly};
-ghost use Rattle.om_rules.specs.ExpressionRules.{expression_breaches};
-ghost use Rattle.om_rules.specs.Scopes.{is_declared};
+ghost use Rattle.om_rules.specs.Outcomes.{Finds};
 ghost use Rattle.om_forms.specs.LoopViews.{view_loop};
 ghost use Rattle.om_rules.specs.Resolution.{resolved_expression};
 ghost use Rattle.om_resolved.specs.ResolvedView.{view_resolved_expression, view_resolved_loop};
@@ -20,7 +19,6 @@ use om_tree::Name;
 use std::alloc::{AllocError, Global};
 
 /// The variable of a loop that does not declare it: S7, S9.
-#[tactic(auto, using(om_rules::specs::InRow::first_of_left))]
 fn check_variable(symbols: &Symbols, name: &Name) -> Result<(), SourceFault>
     ensures { ChecksExactly result (variable_breaches symbols.now name.now) }
 {
@@ -30,19 +28,16 @@ fn check_variable(symbols: &Symbols, name: &Name) -> Result<(), SourceFault>
 }
 
 /// The first value and the bound of a loop's variable.
-#[tactic(auto, using(om_rules::specs::InRow::first_of_left))]
 fn resolve_values(
     alloc: Global,
     symbols: &Symbols,
     found: &Loop<'_>,
 ) -> Result<(Box<ResolvedExpression>, Box<ResolvedExpression>), SourceFault>
     ensures checked { Checks result (values_breaches symbols.now (view_loop found.now)) }
-    ensures from { IfOk result
-        (λ made. resolved_expression symbols.now (view_loop found.now).start.from
-        ≡ Some (view_resolved_expression made.0.value)) }
-    ensures to { IfOk result
-        (λ made. resolved_expression symbols.now (view_loop found.now).to
-        ≡ Some (view_resolved_expression made.1.value)) }
+    ensures from { Finds (λ made. view_resolved_expression made.0.value) result
+        (resolved_expression symbols.now (view_loop found.now).start.from) }
+    ensures to { Finds (λ made. view_resolved_expression made.1.value) result
+        (resolved_expression symbols.now (view_loop found.now).to) }
 {
     let from = boxed_expression(alloc, symbols, true, found.start.from)?;
     let to = boxed_expression(alloc, symbols, true, found.to)?;
@@ -59,7 +54,6 @@ pub fn enter_loop(alloc: Global, symbols: &mut Symbols, found: &Loop<'_>) -> Res
 }
 
 /// The bounds of a loop: S7, S9, S13.
-#[tactic(auto, using(om_rules::specs::InRow::first_of_left))]
 fn resolve_bounds(
     alloc: Global,
     symbols: &mut Symbols,
@@ -68,13 +62,11 @@ fn resolve_bounds(
     ensures checked { Checks result (found_breaches symbols.old (view_loop found.now)) }
     ensures in_scope { OnOk result (symbols.new ≡ symbols.old) }
     ensures from { let scopes = bounds_scopes symbols.old (view_loop found.now) in
-        IfOk result
-        (λ made. resolved_expression scopes (view_loop found.now).start.from
-        ≡ Some (view_resolved_expression made.0.value)) }
+        Finds (λ made. view_resolved_expression made.0.value) result
+        (resolved_expression scopes (view_loop found.now).start.from) }
     ensures to { let scopes = bounds_scopes symbols.old (view_loop found.now) in
-        IfOk result
-        (λ made. resolved_expression scopes (view_loop found.now).to
-        ≡ Some (view_resolved_expression made.1.value)) }
+        Finds (λ made. view_resolved_expression made.1.value) result
+        (resolved_expression scopes (view_loop found.now).to) }
 {
     if !found.start.is_declared {
         check_variable(symbols, found.start.variable)?;
@@ -100,9 +92,8 @@ pub fn resolve_loop(
 ) -> Result<Box<ResolvedLoop>, SourceFault>
     ensures checked { Checks result (found_breaches symbols.old (view_loop found.now)) }
     ensures in_scope { OnOk result (symbols.new ≡ symbols.old) }
-    ensures resolved { IfOk result
-        (λ made. resolved_loop symbols.old schedule (view_loop found.now)
-        ≡ Some (view_resolved_loop made.value)) }
+    ensures resolved { Finds (λ made. view_resolved_loop made.value) result
+        (resolved_loop symbols.old schedule (view_loop found.now)) }
 {
     let variable = local_of(alloc, found.start.variable)?;
     let (from, to) = resolve_bounds(alloc, symbols, found)?;

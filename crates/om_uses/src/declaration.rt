@@ -1,8 +1,9 @@
 //! Declarations in functions: their rules, and the variables that they declare.
 
-ghost use Rattle.std.specs.Prelude.{◌≡◌, ◌++◌, [], ◌∷◌, false, OnOk, IfOk, Some, option_map, map};
+ghost use Rattle.std.specs.Prelude.{◌≡◌, ◌++◌, [], ◌∷◌, OnOk, IfOk, Some, option_map, map};
 ghost use Rattle.om_tree.specs.View.{view_declarator, view_expression, view_further, view_initializer, view_local};
 ghost use Rattle.om_rules.specs.Checks.{Checks, ChecksExactly};
+ghost use Rattle.om_rules.specs.Outcomes.{Finds};
 ghost use Rattle.om_rules.specs.Scopes.{after_local, after_locals, behind_commas, cells_of, declarators_of, shape_of};
 ghost use Rattle.om_resolved.specs.ResolvedView.{view_resolved_declarator, view_resolved_expression};
 ghost use Rattle.om_rules.specs.StatementResolution.{length_of, local_of, resolved_declarator, resolved_declarators, resolved_initial};
@@ -99,10 +100,10 @@ fn resolve_initializer(
     ensures checked { Checks result
         (initializer_breaches symbols.now
         (option_map (view_initializer view_expression) initializer.now)) }
-    ensures resolved { IfOk result
-        (λ found. resolved_initial symbols.now
-        (option_map (view_initializer view_expression) initializer.now)
-        ≡ Some (option_map (λ boxed. view_resolved_expression boxed.value) found)) }
+    ensures resolved { Finds
+        (λ found. option_map (λ boxed. view_resolved_expression boxed.value) found) result
+        (resolved_initial symbols.now
+        (option_map (view_initializer view_expression) initializer.now)) }
 {
     let Some(initializer) = initializer else {
         return Ok(None);
@@ -112,7 +113,6 @@ fn resolve_initializer(
 }
 
 /// Declares the name of a local variable: S8, S9.
-#[tactic(auto, using(om_rules::specs::InRow::first_of_left))]
 fn declare_name(
     alloc: Global,
     symbols: &mut Symbols,
@@ -141,9 +141,8 @@ fn resolve_declarator(
         (local_breaches symbols.old (view_declarator view_expression declarator.now)) }
     ensures in_scope { OnOk result
         (symbols.new ≡ after_local symbols.old (view_declarator view_expression declarator.now)) }
-    ensures resolved { IfOk result
-        (λ found. resolved_declarator symbols.old (view_declarator view_expression declarator.now)
-        ≡ Some (view_resolved_declarator found)) }
+    ensures resolved { Finds view_resolved_declarator result
+        (resolved_declarator symbols.old (view_declarator view_expression declarator.now)) }
 {
     declare_name(alloc, symbols, declarator)?;
     let variable = local_of(alloc, &declarator.name)?;
@@ -204,7 +203,6 @@ fn resolve_further_locals(
 }
 
 /// Declares the variables of a declaration in a function.
-#[tactic(auto, using(om_rules::specs::InRow::first_of_left))]
 fn add_locals(
     alloc: Global,
     symbols: &mut Symbols,
@@ -242,10 +240,8 @@ pub fn resolve_locals(
     ensures in_scope { OnOk result
         (symbols.new ≡ after_locals symbols.old
         (declarators_of (view_local declaration.now))) }
-    ensures resolved { IfOk result
-        (λ found. resolved_declarators symbols.old
-        (declarators_of (view_local declaration.now))
-        ≡ Some (map view_resolved_declarator found.items)) }
+    ensures resolved { Finds (λ found. map view_resolved_declarator found.items) result
+        (resolved_declarators symbols.old (declarators_of (view_local declaration.now))) }
 {
     let mut declared = Vec::new(alloc);
     add_locals(alloc, symbols, &mut declared, declaration)?;

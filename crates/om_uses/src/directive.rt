@@ -1,12 +1,13 @@
 //! Directives and their clauses: their rules, and what they say of variables.
 
-ghost use Rattle.std.specs.Prelude.{◌≡◌, ◌++◌, ◌&&◌, ◌||◌, false, OnOk, IfOk, Option, Some, map, fold, not, option_map};
+ghost use Rattle.std.specs.Prelude.{◌≡◌, ◌++◌, ◌&&◌, ◌||◌, false, OnOk, IfOk, Some, map, fold, option_map};
 ghost use Rattle.std.specs.List.{flat_map};
 ghost use Rattle.om_tree.specs.View.{view_directive, view_expression};
 ghost use Rattle.om_pragma.specs.Expressions.{map_clause, map_item};
 ghost use Rattle.om_rules.specs.Checks.{Checks, ChecksExactly};
 ghost use Rattle.om_rules.specs.DirectiveRules.{after_clause, after_item, after_name, after_names, clause_breaches, directive_breaches, flushed_breaches, is_listed, is_mislisted, is_variable, item_breaches, list_breaches, listed_breaches, listed_by, names_breaches, names_in, nesting_breaches, nothing_listed, sharing_of, uses_original};
 ghost use Rattle.om_rules.specs.Faults.{breaches_along};
+ghost use Rattle.om_rules.specs.Outcomes.{Finds};
 ghost use Rattle.om_rules.specs.Perhaps.{each};
 ghost use Rattle.om_rules.specs.Resolution.{variable_named, variable_of};
 ghost use Rattle.om_resolved.specs.ResolvedView.{view_resolved_clause};
@@ -69,7 +70,6 @@ fn variable_in(meaning: Option<Meaning>) -> Option<Variable>
 }
 
 /// The variable of a name in the list of a clause: S7, S9, S13.
-#[tactic(auto, using(om_rules::specs::InRow::first_of_left))]
 fn resolve_listed(
     symbols: &Symbols,
     sharing: DataSharing,
@@ -136,7 +136,6 @@ struct Listing<'a> {
 }
 
 /// Takes a name in the list of a clause.
-#[tactic(auto, using(om_rules::specs::InRow::first_of_left))]
 fn list_name(
     listing: &Listing<'_>,
     listed: &mut Listed,
@@ -146,9 +145,8 @@ fn list_name(
         (listed_breaches listing.now.symbols.now (sharing_of listing.now.kind) listed.old name.now) }
     ensures listed { OnOk result
         (listed.new ≡ after_name (sharing_of listing.now.kind) listed.old name.now) }
-    ensures resolved { IfOk result
-        (λ clause. resolved_listed listing.now.kind listing.now.symbols.now name.now
-        ≡ Some (view_resolved_clause clause)) }
+    ensures resolved { Finds view_resolved_clause result
+        (resolved_listed listing.now.kind listing.now.symbols.now name.now) }
 {
     let sharing = sharing_of(listing.kind);
     let variable = resolve_listed(listing.symbols, sharing, listed, name)?;
@@ -184,7 +182,6 @@ fn list_further_names(
 }
 
 /// Takes the names of a list.
-#[tactic(auto, using(om_rules::specs::InRow::first_of_left))]
 fn list_names(
     listing: &Listing<'_>,
     listed: &mut Listed,
@@ -289,9 +286,8 @@ fn resolve_clauses(
     ensures listed { IfOk result
         (λ taken. taken.0 ≡ fold after_item nothing_listed
         (map (map_item view_expression) items.now)) }
-    ensures resolved { IfOk result
-        (λ taken. resolved_clauses symbols.now (map (map_item view_expression) items.now)
-        ≡ Some (map view_resolved_clause taken.1.items)) }
+    ensures resolved { Finds (λ taken. map view_resolved_clause taken.1.items) result
+        (resolved_clauses symbols.now (map (map_item view_expression) items.now)) }
 {
     let mut listed = Listed::new(alloc);
     let mut clauses = Vec::new(alloc);
@@ -306,7 +302,6 @@ fn resolve_clauses(
 /// Refusals: S14 at the word of a worksharing construct or a barrier that may not stand there (OpenMP
 /// API 5.2, section 17.1); S7, S9 and S13 at a listed name; those of a clause's expression; S0 out of
 /// memory. Nothing is declared.
-#[tactic(auto, using(om_rules::specs::InRow::first_of_left))]
 pub fn resolve_directive(
     alloc: Global,
     symbols: &Symbols,
@@ -316,9 +311,8 @@ pub fn resolve_directive(
     ensures checked { Checks result
         (directive_breaches symbols.now flow (view_directive directive.now)) }
     ensures listed { IfOk result (λ taken. taken.0 ≡ listed_by (view_directive directive.now)) }
-    ensures resolved { IfOk result
-        (λ taken. resolved_clauses symbols.now (view_directive directive.now).clauses
-        ≡ Some (map view_resolved_clause taken.1.items)) }
+    ensures resolved { Finds (λ taken. map view_resolved_clause taken.1.items) result
+        (resolved_clauses symbols.now (view_directive directive.now).clauses) }
 {
     check_nesting(flow, &directive.name)?;
     resolve_clauses(alloc, symbols, directive.clauses.as_slice())

@@ -1,12 +1,13 @@
 //! Expressions: their rules, and the variable of each use.
 
-ghost use Rattle.std.specs.Prelude.{◌≡◌, ◌<◌, pos, true, Some, IfOk, map, option_map};
+ghost use Rattle.std.specs.Prelude.{◌≡◌, ◌<◌, pos, true, IfOk, map, option_map};
 ghost use Rattle.om_tree.specs.Tree.{arguments};
 ghost use Rattle.om_tree.specs.View.{view_expression};
 ghost use Rattle.om_resolved.specs.ResolvedTree as trees;
 ghost use Rattle.om_resolved.specs.ResolvedView.{view_resolved_expression};
 ghost use Rattle.om_rules.specs.Checks.{Checks, ChecksExactly};
 ghost use Rattle.om_rules.specs.ExpressionRules.{argument_breaches, arguments_breaches, called_breaches, constant_breaches, element_breaches, expression_breaches, own_call_breaches, prefix_breaches, print_breaches, printed_breaches, target_breaches};
+ghost use Rattle.om_rules.specs.Outcomes.{Finds};
 ghost use Rattle.om_rules.specs.Resolution.{callee_named, format_in, own_call_of, prefixed, print_of, resolved_call, resolved_expression, resolved_printed, resolved_target, resolved_values, variable_named};
 ghost use Rattle.om_uses.specs.Parts.{step_of, unary_of};
 ghost use Rattle.om_uses.specs.TargetViews.{view_target};
@@ -35,9 +36,8 @@ pub fn resolve_expression(
 ) -> Result<ResolvedExpression, SourceFault>
     ensures checked { Checks result
         (expression_breaches symbols.now for_value (view_expression expression.now)) }
-    ensures resolved { IfOk result
-        (λ found. resolved_expression symbols.now (view_expression expression.now)
-        ≡ Some (view_resolved_expression found)) }
+    ensures resolved { Finds view_resolved_expression result
+        (resolved_expression symbols.now (view_expression expression.now)) }
 {
     match expression {
         Expression::Name(name) => Ok(ResolvedExpression::Variable(resolve_scalar(symbols, name)?)),
@@ -121,9 +121,8 @@ pub fn boxed_expression(
 ) -> Result<Box<ResolvedExpression>, SourceFault>
     ensures checked { Checks result
         (expression_breaches symbols.now for_value (view_expression expression.now)) }
-    ensures resolved { IfOk result
-        (λ found. resolved_expression symbols.now (view_expression expression.now)
-        ≡ Some (view_resolved_expression found.value)) }
+    ensures resolved { Finds (λ found. view_resolved_expression found.value) result
+        (resolved_expression symbols.now (view_expression expression.now)) }
 {
     boxed(
         alloc,
@@ -165,9 +164,9 @@ fn resolve_prefix(
     ensures checked { Checks result
         (prefix_breaches symbols.now operator (view_expression operand.now)) }
     ensures resolved { let tree = view_expression operand.now in
-        IfOk result
-        (λ found. prefixed operator (resolved_target symbols.now tree)
-        (resolved_expression symbols.now tree) ≡ Some (view_resolved_expression found)) }
+        Finds view_resolved_expression result
+        (prefixed operator (resolved_target symbols.now tree)
+        (resolved_expression symbols.now tree)) }
 {
     match operator {
         PrefixOperator::Increment => resolve_step(alloc, symbols, AssignOperator::Add, operand),
@@ -189,9 +188,8 @@ fn resolve_step(
     operand: &Expression,
 ) -> Result<ResolvedExpression, SourceFault>
     ensures checked { Checks result (target_breaches symbols.now (view_expression operand.now)) }
-    ensures resolved { IfOk result
-        (λ found. step_of operator (resolved_target symbols.now (view_expression operand.now))
-        ≡ Some (view_resolved_expression found)) }
+    ensures resolved { Finds view_resolved_expression result
+        (step_of operator (resolved_target symbols.now (view_expression operand.now))) }
 {
     let target = resolve_target(alloc, symbols, operand)?;
     let one = Box::new(alloc, ResolvedExpression::Constant(1))?;
@@ -208,9 +206,8 @@ fn resolve_unary(
 ) -> Result<ResolvedExpression, SourceFault>
     ensures checked { Checks result
         (expression_breaches symbols.now true (view_expression operand.now)) }
-    ensures resolved { IfOk result
-        (λ found. unary_of operator (resolved_expression symbols.now (view_expression operand.now))
-        ≡ Some (view_resolved_expression found)) }
+    ensures resolved { Finds view_resolved_expression result
+        (unary_of operator (resolved_expression symbols.now (view_expression operand.now))) }
 {
     let operand = boxed_expression(alloc, symbols, true, operand)?;
     Ok(ResolvedExpression::Unary { operator, operand })
@@ -225,9 +222,8 @@ fn resolve_target(
     target: &Expression,
 ) -> Result<Target, SourceFault>
     ensures checked { Checks result (target_breaches symbols.now (view_expression target.now)) }
-    ensures resolved { IfOk result
-        (λ found. resolved_target symbols.now (view_expression target.now)
-        ≡ Some (view_target found)) }
+    ensures resolved { Finds view_target result
+        (resolved_target symbols.now (view_expression target.now)) }
 {
     match target {
         Expression::Name(name) => Ok(Target::Variable(resolve_scalar(symbols, name)?)),
@@ -247,7 +243,6 @@ fn resolve_target(
 }
 
 /// An element of an array: the array and the index.
-#[tactic(auto, using(om_rules::specs::InRow::first_of_left))]
 #[cycle(expression)]
 fn resolve_element(
     alloc: Global,
@@ -257,10 +252,9 @@ fn resolve_element(
 ) -> Result<(Variable, Box<ResolvedExpression>), SourceFault>
     ensures checked { Checks result
         (element_breaches symbols.now name.now (view_expression index.now)) }
-    ensures array { IfOk result (λ found. variable_named symbols.now name.now ≡ Some found.0) }
-    ensures index { IfOk result
-        (λ found. resolved_expression symbols.now (view_expression index.now)
-        ≡ Some (view_resolved_expression found.1.value)) }
+    ensures array { Finds (λ found. found.0) result (variable_named symbols.now name.now) }
+    ensures index { Finds (λ found. view_resolved_expression found.1.value) result
+        (resolved_expression symbols.now (view_expression index.now)) }
 {
     let array = resolve_array(symbols, name)?;
     let index = boxed_expression(alloc, symbols, true, index)?;
@@ -279,9 +273,8 @@ fn resolve_call(
     ensures checked { Checks result
         (called_breaches symbols.now for_value name.now
         (arguments (map view_argument values.now))) }
-    ensures resolved { IfOk result
-        (λ found. resolved_call symbols.now name.now (arguments (map view_argument values.now))
-        ≡ Some (view_resolved_expression found)) }
+    ensures resolved { Finds view_resolved_expression result
+        (resolved_call symbols.now name.now (arguments (map view_argument values.now))) }
 {
     if is_printf(symbols.meaning_of(name.text.as_slice())) {
         return resolve_print(alloc, symbols, for_value, name, values);
@@ -290,7 +283,6 @@ fn resolve_call(
 }
 
 /// A call of `printf`: S9, S11.
-#[tactic(auto, using(om_rules::specs::InRow::first_of_left))]
 #[cycle(expression)]
 fn resolve_print(
     alloc: Global,
@@ -302,9 +294,8 @@ fn resolve_print(
     ensures checked { Checks result
         (print_breaches symbols.now for_value name.now (arguments (map view_argument values.now))) }
     ensures resolved { let given = arguments (map view_argument values.now) in
-        IfOk result
-        (λ found. print_of (format_in given) (resolved_printed symbols.now given)
-        ≡ Some (view_resolved_expression found)) }
+        Finds view_resolved_expression result
+        (print_of (format_in given) (resolved_printed symbols.now given)) }
 {
     let format = resolve_format(alloc, for_value, name, values)?;
     let printed = resolve_printed(alloc, symbols, values)?;
@@ -324,9 +315,9 @@ fn resolve_printed(
 ) -> Result<Vec<ResolvedExpression>, SourceFault>
     ensures checked { Checks result
         (printed_breaches symbols.now 0 (arguments (map view_argument values.now))) }
-    ensures resolved { IfOk result
-        (λ found. resolved_printed symbols.now (arguments (map view_argument values.now))
-        ≡ Some (trees.values (map view_resolved_expression found.items))) }
+    ensures resolved { Finds
+        (λ found. trees.values (map view_resolved_expression found.items)) result
+        (resolved_printed symbols.now (arguments (map view_argument values.now))) }
 {
     let mut resolved = Vec::new(alloc);
     let mut place = 0;
@@ -353,9 +344,8 @@ fn resolve_argument(
     requires { 0 < place }
     ensures checked { Checks result
         (argument_breaches symbols.now place (view_expression argument.now)) }
-    ensures resolved { IfOk result
-        (λ found. resolved_expression symbols.now (view_expression argument.now)
-        ≡ Some (view_resolved_expression found)) }
+    ensures resolved { Finds view_resolved_expression result
+        (resolved_expression symbols.now (view_expression argument.now)) }
 {
     let resolved = resolve_expression(alloc, symbols, true, argument);
     let at = expression_start(argument);
@@ -363,7 +353,6 @@ fn resolve_argument(
 }
 
 /// A call of another function than `printf`.
-#[tactic(auto, using(om_rules::specs::InRow::first_of_left))]
 #[cycle(expression)]
 fn resolve_own_call(
     alloc: Global,
@@ -376,9 +365,8 @@ fn resolve_own_call(
         (own_call_breaches symbols.now for_value name.now
         (arguments (map view_argument values.now))) }
     ensures resolved { let given = arguments (map view_argument values.now) in
-        IfOk result
-        (λ found. own_call_of (callee_named symbols.now name.now)
-        (resolved_values symbols.now given) ≡ Some (view_resolved_expression found)) }
+        Finds view_resolved_expression result
+        (own_call_of (callee_named symbols.now name.now) (resolved_values symbols.now given)) }
 {
     let place = resolve_callee(symbols, for_value, name, argument_count(values))?;
     let values = resolve_values(alloc, symbols, values)?;
@@ -395,9 +383,9 @@ fn resolve_values(
 ) -> Result<Vec<ResolvedExpression>, SourceFault>
     ensures checked { Checks result
         (arguments_breaches symbols.now (arguments (map view_argument values.now))) }
-    ensures resolved { IfOk result
-        (λ found. resolved_values symbols.now (arguments (map view_argument values.now))
-        ≡ Some (trees.values (map view_resolved_expression found.items))) }
+    ensures resolved { Finds
+        (λ found. trees.values (map view_resolved_expression found.items)) result
+        (resolved_values symbols.now (arguments (map view_argument values.now))) }
 {
     let mut resolved = Vec::new(alloc);
     for argument in values {

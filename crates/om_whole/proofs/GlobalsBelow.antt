@@ -73,8 +73,7 @@ outer_more m n (e ∷ outer) le h = (scope_more m n e.scope le h.0, outer_more m
 pub more : (m n : ℕ) (scopes : Scopes) → m ≤ n → Below m scopes → Below n scopes
 more m n scopes le h = record {
   inner = scope_more m n scopes.inner le h.inner;
-  outer = outer_more m n scopes.outer
-      le h.outer;
+  outer = outer_more m n scopes.outer le h.outer;
 }
 
 -- ---- what a name means
@@ -123,8 +122,7 @@ scope_push n scope b h hb = scope_append n scope (b ∷ []) h (hb, tt)
 pub below_local : (n : ℕ) (scopes : Scopes) (name : names.Name) (shape : Shape) → Below n scopes
     → Below n (with_local scopes name shape)
 below_local n scopes name shape h = record {
-  inner = scope_push n scopes.inner
-      (name.text, meanings.Variable (variables.Local name.span.start) shape) h.inner tt;
+  inner = scope_push n scopes.inner (name.text, meanings.Variable (variables.Local name.span.start) shape) h.inner tt;
   outer = h.outer;
 }
 

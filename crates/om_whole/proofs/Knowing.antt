@@ -64,8 +64,7 @@ module _ (globals : List GlobalVariable) (functions : List ResolvedFunctionTree)
       → Known globals functions locals scopes → Known globals functions locals (within inner region scopes)
   known_within locals inner region scopes own h = record {
     inner = own;
-    outer = λ name. known_meaning locals scopes
-        name h;
+    outer = λ name. known_meaning locals scopes name h;
   }
 
   pub known_inside : (locals : List Local) (scopes : Scopes) → Known globals functions locals scopes

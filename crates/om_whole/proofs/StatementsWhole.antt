@@ -95,8 +95,7 @@ whole_declarator around scopes d h w =
     (whole_initial (declared around (record {
       variable = local_of d.name;
       length = length_of d.array;
-      initial =
-          None;
+      initial = None;
     })) (after_local scopes d) d.initializer behind (back before own w))
     (λ initial hi. (has_element d.array full, hi, behind))
 
@@ -164,8 +163,7 @@ agrees_declarators (d ∷ ds) around flow f =
     agrees_declarators ds (declared around d) flow (record {
       breaks = f.breaks;
       continues = f.continues;
-      returns =
-          f.returns;
+      returns = f.returns;
       in_construct = f.in_construct;
     })
 
@@ -174,8 +172,7 @@ agrees_looping around flow f = record {
   breaks = refl;
   continues = refl;
   returns = f.returns;
-  in_construct =
-      f.in_construct;
+  in_construct = f.in_construct;
 }
 
 pub agrees_start : (around : Around) (flow : Flow) (start : ResolvedStartTree) → Agrees around flow
@@ -212,8 +209,7 @@ agrees_construct around flow d cs f = record {
   breaks = refl;
   continues = refl;
   returns = f.returns;
-  in_construct =
-      refl;
+  in_construct = refl;
 }
 
 pub agrees_loop : (around : Around) (flow : Flow) (d : Directive ExpressionTree) (cs : List ResolvedClauseTree)

@@ -62,8 +62,7 @@ use Rattle.om_tree.specs.Tree.{ExpressionTree, StatementTree, LocalDeclaration, 
 use Rattle.om_tree.specs.Tree.{While, Do, For, Return, Break, Continue, Construct, StandAlone, Sections}
 use Rattle.om_tree.specs.Tree.{StatementsTree, NoStatements, Statement, PartsTree, NoParts, Part}
 
--- what a test decides of two
--- resolved clauses, and what is known in their construct
+-- what a test decides of two resolved clauses, and what is known in their construct
 abbrev AreGood : Around → Directive ExpressionTree → Scopes → List ResolvedClauseTree → Type 0
 AreGood around d scopes cs = All (IsWholeClause around (admitted_by (has_nowait d) d.name)) cs
     × Known around.globals around.functions (around.locals ++ flat_map copies_in cs) (in_construct d scopes)
@@ -221,8 +220,7 @@ sections_whole around scopes flow parallel d parts f is formed clauses w whole =
           breaks = refl;
           continues = refl;
           returns = f.returns;
-          in_construct =
-              refl;
+          in_construct = refl;
         })) (λ parts hp. (
           hc,
           region _ d.hash.start cs (resolved.Sections d.hash [] true parts),

@@ -134,8 +134,7 @@ module _ (globals : List GlobalVariable) (functions : List ResolvedFunctionTree)
         let agrees : Agrees (body_around f) (flow_of f.head) = record {
           breaks = refl;
           continues = refl;
-          returns =
-              refl;
+          returns = refl;
           in_construct = refl;
         } in
         let few = few_parameters ps 0 (inside behind) (omega arith) (front listed items body) in
