@@ -1,7 +1,7 @@
 -- A worker that stands ends only where its instruction may lack something.
 use Rattle.std.proofs.Common.{◌≡◌, inl, inr, refl, sym, ap, subst, ℕ, ◌+◌, ◌≤◌, arith, Bool, true, false, List, ◌∷◌}
 use Rattle.std.proofs.Common.{Option, None, Some, length, option_map}
-use Rattle.std.specs.Prelude.{ℤ}
+use Rattle.std.specs.Prelude.{IfSome, ℤ}
 use Rattle.om_foot.specs.declared.object.Obj.TheVariants as obj
 use Rattle.om_code.specs.declared.frame.Operand.TheVariants.{Int, NoValue}
 use Rattle.om_code.specs.declared.instruction.Instr.{Instr}
@@ -33,6 +33,7 @@ use Rattle.om_task.specs.Rules.{rules_of, choice_row, leaving, admits_all, furth
 use Rattle.om_team.specs.Sites.{site}
 use Rattle.om_team.specs.Sites.{Site, context, operands, next, slots, line, launch, body_of, lock_of, targets_of}
 use Rattle.om_task.specs.Table.{row_of}
+use Rattle.om_standing.specs.Ints.{ShareHasInts}
 use Rattle.om_standing.specs.Reasons.{HasNoValue, MayLack}
 use Rattle.om_standing.specs.Standing.{IsMember, HasParent}
 use Rattle.om_standing.proofs.Operands.{no_int, no_ints, no_ints_below}
@@ -68,105 +69,108 @@ finished s false values le =
     finish_only (MayLack s.program s.stack (i.Finish false)) s.worker (context s) (context s).kind
     (value_of (context s) false) values inl (λ e. cc)
 
-instruction_only : (s : Site) (instr : Instr) (values : List Val) → IsMember s.stack.top.team
-    → HasParent s.stack.top.task
-    → pops instr ≤ length (operands s)
+-- what is known of a stack at its instruction
+pub record KnownAt (stack : Stack) (instr : Instr) : Type 0 where
+  pub operands : pops instr ≤ length stack.top.frame.operands
+  pub member : IsMember stack.top.team
+  pub named : HasParent stack.top.task
+  pub shared : IfSome (share_in stack.top) ShareHasInts
+
+instruction_only : (s : Site) (instr : Instr) (values : List Val) → KnownAt s.stack instr
     → Only (MayLack s.program s.stack instr) ((row_of s instr).row values)
-instruction_only s i.ThreadNumber values m p le = tt
-instruction_only s i.TeamSize values m p le = tt
-instruction_only s (i.Call body count) values m p le =
+instruction_only s i.ThreadNumber values h = tt
+instruction_only s i.TeamSize values h = tt
+instruction_only s (i.Call body count) values h =
     call_only (HasNoValue count (operands s)) (launch s count body) (body_of s.program body) (context s)
-    (ints_on count (operands s)) values (no_ints count (operands s) le)
-instruction_only s i.Return values m p le =
+    (ints_on count (operands s)) values (no_ints count (operands s) h.operands)
+instruction_only s i.Return values h =
     return_only (MayLack s.program s.stack i.Return) (context s) (slots s) (context s).callers
     (option_map Int (int_at 0 (operands s))) values
-    (λ e. inl (no_int (operands s) 0 1 (omega arith) le (no_operand (int_at 0 (operands s)) e))) inr
-instruction_only s i.ReturnNothing values m p le =
+    (λ e. inl (no_int (operands s) 0 1 (omega arith) h.operands (no_operand (int_at 0 (operands s)) e))) inr
+instruction_only s i.ReturnNothing values h =
     return_only (MayLack s.program s.stack i.ReturnNothing) (context s) (slots s) (context s).callers
     (Some NoValue) values (λ e. cc) (λ e. e)
-instruction_only s (i.Reduce reduction copy place) values m p le =
+instruction_only s (i.Reduce reduction copy place) values h =
     reduce_only (MayLack s.program s.stack (i.Reduce reduction copy place)) (context s) reduction copy place values
-instruction_only s (i.Fork body sized count) values m p le = forked s body count sized values le
-instruction_only s i.Begin values m p le = tt
-instruction_only s (i.Arrive barrier) values m p le =
+instruction_only s (i.Fork body sized count) values h = forked s body count sized values h.operands
+instruction_only s i.Begin values h = tt
+instruction_only s (i.Arrive barrier) values h =
     arrive_only (MayLack s.program s.stack (i.Arrive barrier)) s.worker (next s) barrier (context s) values
-instruction_only s (i.Depart barrier) values m p le =
+instruction_only s (i.Depart barrier) values h =
     depart_only (MayLack s.program s.stack (i.Depart barrier)) s.worker (next s) barrier (context s) values
-instruction_only s i.Leave values m p le =
+instruction_only s i.Leave values h =
     leave_only (MayLack s.program s.stack i.Leave) s.worker (context s) s.stack.below (slots s) (context s).kind
     (context s).team.number values inl inr
-instruction_only s (i.Loop form) values m p le =
+instruction_only s (i.Loop form) values h =
     loop_only (MayLack s.program s.stack (i.Loop form)) s.worker (next s) (context s) form (int_at 1 (operands s))
-    (int_at 0 (operands s)) values (λ e. inl (no_int (operands s) 1 2 (omega arith) le e))
-    (λ e. inl (no_int (operands s) 0 2 (omega arith) le e)) inr
-instruction_only s (i.Sections count) values m p le =
+    (int_at 0 (operands s)) values (λ e. inl (no_int (operands s) 1 2 (omega arith) h.operands e))
+    (λ e. inl (no_int (operands s) 0 2 (omega arith) h.operands e)) inr
+instruction_only s (i.Sections count) values h =
     sections_only (MayLack s.program s.stack (i.Sections count)) s.worker (next s) (context s) count values
-instruction_only s (i.Grab otherwise) values m p le =
+instruction_only s (i.Grab otherwise) values h =
     grab_only (MayLack s.program s.stack (i.Grab otherwise)) (next s) otherwise (context s)
-    (share_in (context s)) values (λ e. e) m
-instruction_only s (i.Iterate slot otherwise) values m p le =
-    iterate_only (next s) otherwise (context s) slot (share_in (context s)) values
-instruction_only s (i.Pick list) values m p le = pick_only (targets_of s.program list) (share_in (context s)) values
-instruction_only s (i.Single otherwise) values m p le =
+    (share_in (context s)) values (λ e. e) h.member
+instruction_only s (i.Iterate slot otherwise) values h =
+    iterate_only (next s) otherwise (context s) slot (share_in (context s)) values h.shared
+instruction_only s (i.Pick list) values h = pick_only (targets_of s.program list) (share_in (context s)) values
+instruction_only s (i.Single otherwise) values h =
     single_only (MayLack s.program s.stack (i.Single otherwise)) s.worker (next s) otherwise (context s) values
-instruction_only s i.EndWorksharing values m p le =
+instruction_only s i.EndWorksharing values h =
     end_worksharing_only s.worker (next s) (context s) (innermost (context s).constructs) values
-instruction_only s (i.Masked otherwise) values m p le =
+instruction_only s (i.Masked otherwise) values h =
     masked_only (MayLack s.program s.stack (i.Masked otherwise)) s.worker (next s) otherwise (context s)
-    (int_at 0 (operands s)) values (no_int (operands s) 0 1 (omega arith) le)
-instruction_only s i.EndMasked values m p le =
+    (int_at 0 (operands s)) values (no_int (operands s) 0 1 (omega arith) h.operands)
+instruction_only s i.EndMasked values h =
     end_masked_only (MayLack s.program s.stack i.EndMasked) s.worker (next s) (context s)
     (innermost (context s).constructs) values (λ e. e)
-instruction_only s (i.AskCritical lock) values m p le = tt
-instruction_only s (i.EnterCritical lock) values m p le =
+instruction_only s (i.AskCritical lock) values h = tt
+instruction_only s (i.EnterCritical lock) values h =
     enter_critical_only (MayLack s.program s.stack (i.EnterCritical lock)) s.worker (next s) lock
     (lock_of s.program lock) values
-instruction_only s (i.LeaveCritical lock) values m p le =
+instruction_only s (i.LeaveCritical lock) values h =
     leave_critical_only (MayLack s.program s.stack (i.LeaveCritical lock)) s.worker (next s) lock
     (lock_of s.program lock) (innermost (context s).constructs) values (λ e. e)
-instruction_only s (i.Spawn body count) values m p le =
+instruction_only s (i.Spawn body count) values h =
     spawn_only (HasNoValue count (operands s))
     (record { worker = s.worker; line = line s; launch = launch s count body }) (body_of s.program body)
-    (context s) values (no_ints count (operands s) le)
-instruction_only s i.TaskEnd values m p le =
-    task_end_only (MayLack s.program s.stack i.TaskEnd) s.worker s.stack (slots s) values inl inr p
-instruction_only s i.WaitBegin values m p le = tt
-instruction_only s i.WaitEnd values m p le =
+    (context s) values (no_ints count (operands s) h.operands)
+instruction_only s i.TaskEnd values h =
+    task_end_only (MayLack s.program s.stack i.TaskEnd) s.worker s.stack (slots s) values inl inr h.named
+instruction_only s i.WaitBegin values h = tt
+instruction_only s i.WaitEnd values h =
     wait_end_only (MayLack s.program s.stack i.WaitEnd) s.worker (next s) (context s) values
-instruction_only s i.Yield values m p le = tt
-instruction_only s i.GroupBegin values m p le =
+instruction_only s i.Yield values h = tt
+instruction_only s i.GroupBegin values h =
     group_begin_only (MayLack s.program s.stack i.GroupBegin) s.worker (next s) (context s) values
-instruction_only s i.GroupEnd values m p le =
+instruction_only s i.GroupEnd values h =
     group_end_only (MayLack s.program s.stack i.GroupEnd) s.worker (next s) (context s)
     (innermost_group (innermost (context s).constructs)) values (λ e. e)
-instruction_only s (i.Finish has_value) values m p le = finished s has_value values le
-instruction_only s (i.Constant k) values m p le = serial_only s.program s.stack (i.Constant k) values tt le
-instruction_only s i.Duplicate values m p le = serial_only s.program s.stack i.Duplicate values tt le
-instruction_only s i.Pop values m p le = serial_only s.program s.stack i.Pop values tt le
-instruction_only s i.Nop values m p le = serial_only s.program s.stack i.Nop values tt le
-instruction_only s i.Use values m p le = serial_only s.program s.stack i.Use values tt le
-instruction_only s (i.Unary operator) values m p le = serial_only s.program s.stack (i.Unary operator) values tt le
-instruction_only s (i.Binary operator) values m p le = serial_only s.program s.stack (i.Binary operator) values tt le
-instruction_only s (i.Jump target) values m p le = serial_only s.program s.stack (i.Jump target) values tt le
-instruction_only s (i.JumpIfZero target) values m p le = serial_only s.program s.stack (i.JumpIfZero target) values tt le
-instruction_only s (i.Load place) values m p le = serial_only s.program s.stack (i.Load place) values tt le
-instruction_only s (i.Store place keeps) values m p le = serial_only s.program s.stack (i.Store place keeps) values tt le
-instruction_only s (i.LoadElement place) values m p le = serial_only s.program s.stack (i.LoadElement place) values tt le
-instruction_only s (i.StoreElement place keeps) values m p le =
-    serial_only s.program s.stack (i.StoreElement place keeps) values tt le
-instruction_only s (i.Clear slot) values m p le = serial_only s.program s.stack (i.Clear slot) values tt le
-instruction_only s (i.Print text count) values m p le = serial_only s.program s.stack (i.Print text count) values tt le
-instruction_only s (i.Atomic operator side place) values m p le =
-    serial_only s.program s.stack (i.Atomic operator side place) values tt le
-instruction_only s (i.AtomicElement operator side place) values m p le =
-    serial_only s.program s.stack (i.AtomicElement operator side place) values tt le
+instruction_only s (i.Finish has_value) values h = finished s has_value values h.operands
+instruction_only s (i.Constant k) values h = serial_only s.program s.stack (i.Constant k) values tt h.operands
+instruction_only s i.Duplicate values h = serial_only s.program s.stack i.Duplicate values tt h.operands
+instruction_only s i.Pop values h = serial_only s.program s.stack i.Pop values tt h.operands
+instruction_only s i.Nop values h = serial_only s.program s.stack i.Nop values tt h.operands
+instruction_only s i.Use values h = serial_only s.program s.stack i.Use values tt h.operands
+instruction_only s (i.Unary operator) values h = serial_only s.program s.stack (i.Unary operator) values tt h.operands
+instruction_only s (i.Binary operator) values h = serial_only s.program s.stack (i.Binary operator) values tt h.operands
+instruction_only s (i.Jump target) values h = serial_only s.program s.stack (i.Jump target) values tt h.operands
+instruction_only s (i.JumpIfZero target) values h = serial_only s.program s.stack (i.JumpIfZero target) values tt h.operands
+instruction_only s (i.Load place) values h = serial_only s.program s.stack (i.Load place) values tt h.operands
+instruction_only s (i.Store place keeps) values h = serial_only s.program s.stack (i.Store place keeps) values tt h.operands
+instruction_only s (i.LoadElement place) values h = serial_only s.program s.stack (i.LoadElement place) values tt h.operands
+instruction_only s (i.StoreElement place keeps) values h =
+    serial_only s.program s.stack (i.StoreElement place keeps) values tt h.operands
+instruction_only s (i.Clear slot) values h = serial_only s.program s.stack (i.Clear slot) values tt h.operands
+instruction_only s (i.Print text count) values h = serial_only s.program s.stack (i.Print text count) values tt h.operands
+instruction_only s (i.Atomic operator side place) values h =
+    serial_only s.program s.stack (i.Atomic operator side place) values tt h.operands
+instruction_only s (i.AtomicElement operator side place) values h =
+    serial_only s.program s.stack (i.AtomicElement operator side place) values tt h.operands
 
-choice_only : (s : Site) (instr : Instr) (choice : Choice) (values : List Val) → IsMember s.stack.top.team
-    → HasParent s.stack.top.task
-    → pops instr ≤ length (operands s)
+choice_only : (s : Site) (instr : Instr) (choice : Choice) (values : List Val) → KnownAt s.stack instr
     → Only (MayLack s.program s.stack instr) ((choice_row s (Some instr) choice).row values)
-choice_only s instr Next values m p le = instruction_only s instr values m p le
-choice_only s instr (Start name) values m p le =
+choice_only s instr Next values h = instruction_only s instr values h
+choice_only s instr (Start name) values h =
     start_only (MayLack s.program s.stack instr)
     (record {
       worker = s.worker;
@@ -176,14 +180,12 @@ choice_only s instr (Start name) values m p le =
     }) name s.stack.top values
 
 row_only : (program : Raw) (workers : ℕ) (l : Label) (stack : Stack) (instr : Instr) (values : List Val)
-    → instruction_at program stack.top.frame.body stack.top.frame.next ≡ Some instr → IsMember stack.top.team
-    → HasParent stack.top.task
-    → pops instr ≤ length stack.top.frame.operands
+    → instruction_at program stack.top.frame.body stack.top.frame.next ≡ Some instr → KnownAt stack instr
     → Only (MayLack program stack instr) (row_in program workers l (Running stack) values)
-row_only program workers l stack instr values is m p le =
+row_only program workers l stack instr values is h =
     let s : Site = site program workers l.worker stack in
     subst (λ (o : Option Instr). Only (MayLack program stack instr) ((choice_row s o l.choice).row values)) (sym is)
-    (choice_only s instr l.choice values m p le)
+    (choice_only s instr l.choice values h)
 
 ended_only : (reason : Type 0) (c : controls.Control) (r : Row) → Only reason r → outcome_after c r ≡ outcome.Ended
     → reason
@@ -195,15 +197,14 @@ ended_only reason c (row.Blocked b) h e = cc
 -- a worker whose instruction has its operands ends only where this may lack something
 pub ends_only : (program : Raw) (workers : ℕ) (s : State) (l : Label) (stack : Stack) (instr : Instr)
     → s (obj.Control l.worker) ≡ value.Control (Running stack)
-    → instruction_at program stack.top.frame.body stack.top.frame.next ≡ Some instr → IsMember stack.top.team
-    → HasParent stack.top.task
-    → pops instr ≤ length stack.top.frame.operands → (step_at (rules_of program workers) s l).outcome ≡ outcome.Ended
+    → instruction_at program stack.top.frame.body stack.top.frame.next ≡ Some instr → KnownAt stack instr
+    → (step_at (rules_of program workers) s l).outcome ≡ outcome.Ended
     → MayLack program stack instr
 unfolding step_at
-ends_only program workers s l stack instr runs is m p le e =
+ends_only program workers s l stack instr runs is h e =
     let c : controls.Control = control_in (s (obj.Control l.worker)) in
     let values : List Val = values_read (further_in program workers l c) s in
     let same : c ≡ Running stack = ap control_in runs in
     ended_only (MayLack program stack instr) c (row_in program workers l c values)
     (subst (λ (d : controls.Control). Only (MayLack program stack instr) (row_in program workers l d values))
-    (sym same) (row_only program workers l stack instr values is m p le)) e
+    (sym same) (row_only program workers l stack instr values is h)) e

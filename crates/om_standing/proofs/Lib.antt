@@ -1,3 +1,4 @@
+mod Updates
 mod Homes
 mod Going
 mod Bounds
@@ -6,6 +7,13 @@ mod TaskRows
 mod Walk
 mod Runs
 mod Replays
+mod IntValues
+mod Iterations
+mod IntEdits
+mod IntTurns
+mod IntShares
+mod IntTasks
+mod IntRuns
 mod Operands
 mod Reasons
 mod RowReasons

@@ -1,9 +1,10 @@
 -- The other rows lack something for their reasons alone.
 use Rattle.std.proofs.Common.{◌≡◌, inl, inr, refl, ℕ, zero, suc, ◌+◌, ◌-◌, ℤ, pos, negsuc, Bool, true, false}
 use Rattle.std.proofs.Common.{if◌then◌else◌, cond, take, List, [], ◌∷◌, Option, None, Some, length, arith}
+use Rattle.std.proofs.lemmas.Bool.{ltb-true}
 use Rattle.std.proofs.lemmas.Bool.Decides.{nat_tests}
 use Rattle.std.specs.Ordering.{int_eq}
-use Rattle.std.specs.Prelude.{◌≢◌, Result, Ok, Err, slice_get, nat_lt, nat_le, nat_eq}
+use Rattle.std.specs.Prelude.{◌≢◌, ◌<◌, ◌≤◌, IfSome, Result, Ok, Err, slice_get, nat_lt, nat_le, nat_eq}
 use Rattle.om_foot.specs.Names.{parent_of}
 use Rattle.om_foot.specs.declared.footprint.Access.{Access}
 use Rattle.om_code.specs.declared.frame.Cell as cells
@@ -58,8 +59,10 @@ use Rattle.om_spawn.specs.Rows.{made_row, given_row, spawn_row, ended_row, end_r
 use Rattle.om_spawn.specs.Rows.{wait_end_row, opened_row, group_begin_row, closed, closed_row}
 use Rattle.om_fork.specs.Rows.{finished, finished_row}
 use Rattle.om_spawn.specs.Rows.{ready_for, started, started_row, start_row}
-use Rattle.om_standing.specs.Reasons.{HasNoIteration, HasNoSection, is_worksharing}
+use Rattle.om_standing.specs.Ints.{ShareHasInts}
+use Rattle.om_standing.specs.Reasons.{is_in_loop, HasNoSection, is_worksharing}
 use Rattle.om_standing.specs.Standing.{IsMember, HasParent}
+use Rattle.om_standing.proofs.Iterations.{an_int}
 use Rattle.om_standing.proofs.Reasons.{Only}
 
 no_none : (b : Bool) (xs : List ℕ) → b ≡ false → cond b None (Some xs) ≢ None
@@ -75,9 +78,9 @@ no_member : (team : Team) → IsMember team → is_member team ≡ false → ⊥
 no_member team m e = let is : is_member team ≡ true = grind (arith, nat_tests, m) in cc
 
 module _ (reason : Type 0) where
-  only_if : (b : Bool) (x y : Asked) (values : List Val) → Only reason (x.row values)
+  only_if : (b : Bool) (x y : Asked) (values : List Val) → (b ≡ true → Only reason (x.row values))
       → (b ≡ false → Only reason (y.row values)) → Only reason ((if b then x else y).row values)
-  only_if true x y values h k = h
+  only_if true x y values h k = h refl
   only_if false x y values h k = k refl
 
   only_row : (b : Bool) (x y : Row) → Only reason x → (b ≡ false → Only reason y) → Only reason (if b then x else y)
@@ -89,7 +92,7 @@ module _ (reason : Type 0) where
   pub call_only : (launch : Launch) (body : Body) (c : Context) (ints : Option (List ℤ)) (values : List Val)
       → (ints ≡ None → reason) → Only reason ((call_row launch body c ints).row values)
   call_only launch body c None values n = n refl
-  call_only launch body c (Some ns) values n = only_if (nat_le 999 (length c.callers)) _ _ values tt (λ e. tt)
+  call_only launch body c (Some ns) values n = only_if (nat_le 999 (length c.callers)) _ _ values (λ e. tt) (λ e. tt)
 
   pub return_only : (c : Context) (slots : List Slot) (callers : List Frame) (v : Option Operand) (values : List Val)
       → (v ≡ None → reason) → (callers ≡ [] → reason) → Only reason ((return_row c slots callers v).row values)
@@ -125,7 +128,7 @@ module _ (reason : Type 0) where
 
   named_only : (worker workers : ℕ) (launch : Launch) (body : Body) (c : Context) (asked : Option ℕ) (ns : List ℤ)
       (values : List Val) → Only reason ((named_row worker workers launch body c asked ns).row values)
-  named_only worker workers launch body c asked ns values = only_if (nat_lt 62 (length c.task)) _ _ values tt
+  named_only worker workers launch body c asked ns values = only_if (nat_lt 62 (length c.task)) _ _ values (λ e. tt)
       (λ e. forked_only launch c.task worker workers c asked (first_frame launch.body (homes_in c body.slots)) ns
       (first_busy 1 ((team_of workers c asked).size - 1) values))
 
@@ -149,7 +152,7 @@ module _ (reason : Type 0) where
 
   pub arrive_only : (worker to : ℕ) (b : Barrier) (c : Context) (values : List Val)
       → Only reason ((arrive_row worker to b c).row values)
-  arrive_only worker to b c values = only_if (is_misplaced_barrier b c) _ _ values tt (λ e. tt)
+  arrive_only worker to b c values = only_if (is_misplaced_barrier b c) _ _ values (λ e. tt) (λ e. tt)
 
   departed_only : (to : ℕ) (b : Barrier) (c : Context) (opens : Bool) → Only reason (departed to b c opens)
   departed_only to b c false = tt
@@ -181,13 +184,13 @@ module _ (reason : Type 0) where
 
   open_only : (worker to takes : ℕ) (c : Context) (share : Share) (values : List Val)
       → Only reason ((open_row worker to takes c share).row values)
-  open_only worker to takes c share values = only_if (is_misplaced c) _ _ values tt (λ e. tt)
+  open_only worker to takes c share values = only_if (is_misplaced c) _ _ values (λ e. tt) (λ e. tt)
 
   pub loop_only : (worker to : ℕ) (c : Context) (form : LoopForm) (lower upper : Option ℤ) (values : List Val)
       → (lower ≡ None → reason) → (upper ≡ None → reason) → (is_right_form form ≡ false → reason)
       → Only reason ((loop_row worker to c form lower upper).row values)
   loop_only worker to c form (Some lower) (Some upper) values n m k =
-      only_if (is_right_form form) _ _ values (open_only worker to 2 c _ values) k
+      only_if (is_right_form form) _ _ values (λ e. open_only worker to 2 c _ values) k
   loop_only worker to c form (Some lower) None values n m k = m refl
   loop_only worker to c form None upper values n m k = n refl
 
@@ -231,11 +234,12 @@ module _ (reason : Type 0) where
   value_only to c slot share None values h = h refl
 
   iteration_only : (to otherwise : ℕ) (c : Context) (slot : ℕ) (share : Share) (values : List Val)
-      → (int_of (value_of share.lower share.step share.next) ≡ None → reason)
+      → (nat_lt share.next share.end ≡ true → int_of (value_of share.lower share.step share.next) ≡ None → reason)
       → Only reason ((iteration_row to otherwise c slot share).row values)
   iteration_only to otherwise c slot share values h =
       only_if (nat_lt share.next share.end) _ _ values
-      (value_only to c slot share (int_of (value_of share.lower share.step share.next)) values h) (λ e. tt)
+      (λ left. value_only to c slot share (int_of (value_of share.lower share.step share.next)) values (h left))
+      (λ e. tt)
 
   section_only : (to : Option ℕ) → (to ≡ None → reason) → Only reason (section_row to)
   section_only (Some to) h = tt
@@ -248,7 +252,7 @@ module _ (reason : Type 0) where
   pub single_only : (worker to otherwise : ℕ) (c : Context) (values : List Val)
       → Only reason ((single_row worker to otherwise c).row values)
   single_only worker to otherwise c values =
-      only_if (is_misplaced c) _ _ values tt
+      only_if (is_misplaced c) _ _ values (λ e. tt)
       (λ e. chosen_only to otherwise c (nat_eq (number_in (first_of values)) 0))
 
   filtered_only : (worker to otherwise : ℕ) (c : Context) (own : Bool) (values : List Val)
@@ -264,7 +268,7 @@ module _ (reason : Type 0) where
 
   pub end_masked_only : (worker to : ℕ) (c : Context) (region : Option Construct) (values : List Val)
       → (is_masked region ≡ false → reason) → Only reason ((end_masked_row worker to c region).row values)
-  end_masked_only worker to c region values n = only_if (is_masked region) _ _ values tt n
+  end_masked_only worker to c region values n = only_if (is_masked region) _ _ values (λ e. tt) n
 
   lock_only : (worker to number : ℕ) (lock : List ℕ) (holder : Option ℕ)
       → Only reason (lock_row worker to number lock holder)
@@ -278,7 +282,7 @@ module _ (reason : Type 0) where
   pub leave_critical_only : (worker to number : ℕ) (lock : List ℕ) (region : Option Construct) (values : List Val)
       → (is_critical number region ≡ false → reason)
       → Only reason ((leave_critical_row worker to number lock region).row values)
-  leave_critical_only worker to number lock region values n = only_if (is_critical number region) _ _ values tt n
+  leave_critical_only worker to number lock region values n = only_if (is_critical number region) _ _ values (λ e. tt) n
 
   -- ---- tasks, task groups and the end of the program
 
@@ -371,12 +375,23 @@ module _ (reason : Type 0) where
 
 -- ---- rows whose reason is one of the region
 
+-- the value of an iteration that is given out is an int
+no_iteration : (share : Share) → ShareHasInts share → is_loop share.sharing ≡ true
+    → nat_lt share.next share.end ≡ true → int_of (value_of share.lower share.step share.next) ≡ None → ⊥
+no_iteration share h loops left =
+    let before : share.next < share.end = ltb-true share.next share.end left in
+    let within : share.end ≤ share.count = h.within in
+    an_int (value_of share.lower share.step share.next)
+    (h.values loops share.next (omega (arith, before, within)))
+
 pub iterate_only : (to otherwise : ℕ) (c : Context) (slot : ℕ) (share : Option Share) (values : List Val)
-    → Only (HasNoIteration share) ((iterate_row to otherwise c slot share).row values)
-iterate_only to otherwise c slot (Some share) values =
-    only_if (HasNoIteration (Some share)) (is_loop share.sharing) _ _ values
-    (iteration_only (HasNoIteration (Some share)) to otherwise c slot share values inr) inl
-iterate_only to otherwise c slot None values = tt
+    → IfSome share ShareHasInts
+    → Only (is_in_loop share ≡ false) ((iterate_row to otherwise c slot share).row values)
+iterate_only to otherwise c slot (Some share) values h =
+    only_if (is_loop share.sharing ≡ false) (is_loop share.sharing) _ _ values
+    (λ loops. iteration_only (is_loop share.sharing ≡ false) to otherwise c slot share values
+    (λ left none. absurd (no_iteration share h loops left none))) (λ e. e)
+iterate_only to otherwise c slot None values h = refl
 
 pub pick_only : (targets : List ℕ) (share : Option Share) (values : List Val)
     → Only (HasNoSection targets share) ((pick_row targets share).row values)

@@ -14,6 +14,7 @@ use Rattle.om_cells.specs.declared.step.Outcome.TheVariants.{Ended}
 use Rattle.om_cells.specs.Rules.{step_at, next_state, replay}
 use Rattle.om_cells.specs.State.{State}
 use Rattle.om_task.specs.Rules.{rules_of, start_of}
+use Rattle.om_standing.specs.Ints.{IsOfInts, AreFew, HasInts}
 use Rattle.om_standing.specs.Reasons.{MayLack}
 use Rattle.om_standing.specs.Running.{HasRun}
 use Rattle.om_standing.specs.Standing.{Owned, FitHomes, IsMember, HasParent, IsStanding}
@@ -52,10 +53,25 @@ WorkersHaveNeeds = (program : Raw) (workers : ℕ) (ls : List Label) (s : State)
     → IsValid program → 1 ≤ workers → replay (rules_of program workers) ls ≡ Some s
     → s (obj.Control worker) ≡ Control (Running stack) → HasItsNeeds program (HasRun program workers ls) stack
 
--- and the step of such a worker ends only where its instruction may lack something else
+-- a program of ints has ints where it starts
+abbrev pub StartHasInts : Type 0
+StartHasInts = (program : Raw) (workers : ℕ) → IsOfInts program → HasInts (start_of program workers)
+
+-- each of its steps leads from a state that has ints to one that has ints
+abbrev pub StepsKeepInts : Type 0
+StepsKeepInts = (program : Raw) (workers : ℕ) (l : Label) (s t : State) → IsOfInts program → AreFew workers
+    → HasInts s → next_state (rules_of program workers) s l ≡ Some t → HasInts t
+
+-- so each state of its runs has ints
+abbrev pub RunsHaveInts : Type 0
+RunsHaveInts = (program : Raw) (workers : ℕ) (ls : List Label) (s : State) → IsOfInts program → AreFew workers
+    → replay (rules_of program workers) ls ≡ Some s → HasInts s
+
+-- and the step of a worker that runs ends only where its instruction may lack something else
 abbrev pub LacksHaveReasons : Type 0
 LacksHaveReasons = (program : Raw) (workers : ℕ) (ls : List Label) (s : State) (l : Label) (stack : Stack)
-    (instr : Instr) → IsValid program → 1 ≤ workers → replay (rules_of program workers) ls ≡ Some s
+    (instr : Instr) → IsValid program → IsOfInts program → 1 ≤ workers → AreFew workers
+    → replay (rules_of program workers) ls ≡ Some s
     → s (obj.Control l.worker) ≡ Control (Running stack)
     → instruction_at program stack.top.frame.body stack.top.frame.next ≡ Some instr
     → (step_at (rules_of program workers) s l).outcome ≡ Ended → MayLack program stack instr

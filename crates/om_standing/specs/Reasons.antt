@@ -13,8 +13,7 @@ use Rattle.om_cells.specs.declared.control.Kind.TheVariants.{Initial, Implicit, 
 use Rattle.om_cells.specs.declared.control.Share.{Share}
 use Rattle.om_cells.specs.declared.control.Stack.{Stack}
 use Rattle.om_steps.specs.Objects.{innermost}
-use Rattle.om_share.specs.Chunks.{value_of}
-use Rattle.om_share.specs.Rows.{share_in, int_of, is_loop, is_section, is_right_form, is_masked, is_critical}
+use Rattle.om_share.specs.Rows.{share_in, is_loop, is_section, is_right_form, is_masked, is_critical}
 use Rattle.om_spawn.specs.Tasks.{innermost_group}
 use Rattle.om_team.specs.Sites.{targets_of}
 
@@ -22,11 +21,10 @@ use Rattle.om_team.specs.Sites.{targets_of}
 abbrev pub HasNoValue : ℕ → List Operand → Type 0
 HasNoValue count operands = Contains (take count operands) NoValue
 
--- the innermost region is no loop, or its iteration's value is no int
-abbrev pub HasNoIteration : Option Share → Type 0
-HasNoIteration None = Unit {0}
-HasNoIteration (Some share) =
-    (is_loop share.sharing ≡ false) ⊎ (int_of (value_of share.lower share.step share.next) ≡ None)
+-- the innermost region is no loop
+abbrev pub is_in_loop : Option Share → Bool
+is_in_loop None = false
+is_in_loop (Some share) = is_loop share.sharing
 
 -- the innermost region has no section taken, or one that the list doesn't have
 abbrev pub HasNoSection : List ℕ → Option Share → Type 0
@@ -49,7 +47,7 @@ MayLack program stack i.ReturnNothing = stack.top.callers ≡ []
 MayLack program stack i.Leave = (stack.top.kind ≢ Implicit) ⊎ (stack.below ≡ [])
 MayLack program stack (i.Loop form) = HasNoValue 2 stack.top.frame.operands ⊎ (is_right_form form ≡ false)
 MayLack program stack (i.Grab otherwise) = share_in stack.top ≡ None
-MayLack program stack (i.Iterate slot otherwise) = HasNoIteration (share_in stack.top)
+MayLack program stack (i.Iterate slot otherwise) = is_in_loop (share_in stack.top) ≡ false
 MayLack program stack (i.Pick list) = HasNoSection (targets_of program list) (share_in stack.top)
 MayLack program stack i.EndWorksharing = is_worksharing (innermost stack.top.constructs) ≡ false
 MayLack program stack i.EndMasked = is_masked (innermost stack.top.constructs) ≡ false

@@ -1,6 +1,6 @@
 //! Laws of the runs of valid programs.
 
-ghost use Rattle.om_standing.specs.Laws.{StartStands, StepsStand, RunsStand, WorkersHaveNeeds, LacksHaveReasons};
+ghost use Rattle.om_standing.specs.Laws.{StartStands, StepsStand, RunsStand, WorkersHaveNeeds, StartHasInts, StepsKeepInts, RunsHaveInts, LacksHaveReasons};
 
 /// In the state in which a valid program starts each worker stands: at a place of its body, with as
 /// many operands as each way to that place has, and with a home for each slot.
@@ -29,10 +29,30 @@ pub fn workers_have_needs()
     runs_stand();
 }
 
-/// So the step of such a worker ends only where its instruction lacks what validity says nothing
-/// of, as an open region of its kind, or an int among its operands.
+/// In the state in which a program of ints starts each variable that holds a value holds an int.
+pub fn start_has_ints()
+    ensures { StartHasInts }
+{}
+
+/// Each step of a program of ints leads from a state that has ints to one that has ints: its operands
+/// and variables are ints, and so is the value of each iteration of a loop that is open.
+pub fn steps_keep_ints()
+    ensures { StepsKeepInts }
+{}
+
+/// So each state that steps lead to from the start has ints.
+pub fn runs_have_ints()
+    ensures { RunsHaveInts }
+{
+    start_has_ints();
+    steps_keep_ints();
+}
+
+/// So the step of a worker of a valid program of ints ends only where its instruction lacks what
+/// validity says nothing of, as an open region of its kind, or an int among its operands.
 pub fn lacks_have_reasons()
     ensures { LacksHaveReasons }
 {
     workers_have_needs();
+    runs_have_ints();
 }
