@@ -12,12 +12,14 @@ use Rattle.om_foot.specs.Footprint.{conflict_of}
 use Rattle.om_history.specs.declared.reply.UndoReply.{UndoReply}
 use Rattle.om_history.specs.declared.reply.UndoReply.TheVariants.{Undone}
 use Rattle.om_history.specs.declared.records.UndoRecord.{UndoRecord}
-use Rattle.om_history.specs.declared.own.OwnEntries.{OwnEntries}
-use Rattle.om_history.specs.declared.touches.TouchLists.{TouchLists}
+use Rattle.om_touches.specs.declared.own.OwnEntries.{OwnEntries}
+use Rattle.om_touches.specs.declared.touches.TouchLists.{TouchLists}
 use Rattle.om_history.specs.Runs.{conflict_or}
 use Rattle.om_history.specs.Records.{kept_reply, AreBelow}
-use Rattle.om_history.specs.Touches.{names as names_it, touched, has_touch, meets, IsFirst, AreBySerial, AreListsOf, AreSame, AreWith}
-use Rattle.om_history.specs.Touches.{AreWithout, is_own, AreOwnOf, SameOwn, WithOwn, WithoutOwn, IsIndexed}
+use Rattle.om_touches.specs.Touches.{names as names_it, has_touch, meets, IsFirst, AreSame, AreWith}
+use Rattle.om_history.specs.Touches.{touched, AreBySerial, AreListsOf}
+use Rattle.om_touches.specs.Touches.{AreWithout, is_own, SameOwn, WithOwn, WithoutOwn}
+use Rattle.om_history.specs.Touches.{AreOwnOf, IsIndexed}
 use Rattle.om_history.proofs.Touched.{touched-below, touched-remove}
 use Rattle.om_history.proofs.BySerial.{rising, IsFound, is_found, Stands, stands, inserted, values-push, by_serial-push}
 use Rattle.om_history.proofs.Members.{lists-push}

@@ -21,10 +21,8 @@ pub mod Leastness
 pub mod RunLaws
 pub mod Exactly
 pub mod Changes
-pub mod Searches
 pub mod Touched
 pub mod BySerial
-pub mod Lists
 pub mod OwnEntries
 pub mod Replies
 pub mod Members

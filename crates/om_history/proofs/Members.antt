@@ -10,12 +10,13 @@ use Rattle.om_foot.specs.declared.footprint.Access.{Access}
 use Rattle.om_foot.specs.Footprint.{conflict_of}
 use Rattle.om_history.specs.declared.reply.Taken.{Taken}
 use Rattle.om_history.specs.declared.records.UndoRecord.{UndoRecord}
-use Rattle.om_history.specs.declared.touches.TouchLists.{TouchLists}
+use Rattle.om_touches.specs.declared.touches.TouchLists.{TouchLists}
 use Rattle.om_history.specs.Cones.{Transition, meets_one, is_member, cone_after, cone, taken_of}
 use Rattle.om_history.specs.Records.{transition_of, transitions_of, AreAbove}
-use Rattle.om_history.specs.Touches.{names, touched, has_touch, AreListsOf, AreWith, meets_at, meets, IsFirst}
+use Rattle.om_touches.specs.Touches.{names, has_touch, AreWith, meets_at, meets, IsFirst}
+use Rattle.om_history.specs.Touches.{touched, AreListsOf}
 use Rattle.om_history.proofs.Rolls.{cond_false}
-use Rattle.om_history.proofs.Searches.{either_true, meets-alike, meets-none, meets-named, conflict-mutual}
+use Rattle.om_touches.proofs.Searches.{either_true, meets-alike, meets-none, meets-named, conflict-mutual}
 use Rattle.om_history.proofs.Touched.{touched-push, nat_self}
 use Rattle.om_history.proofs.Replies.{footprint_of}
 

@@ -15,13 +15,15 @@ use Rattle.om_cells.specs.declared.step.Entry.{Entry}
 use Rattle.om_history.specs.declared.reply.UndoReply.{UndoReply}
 use Rattle.om_history.specs.declared.reply.UndoReply.TheVariants.{Undone}
 use Rattle.om_history.specs.declared.records.UndoRecord.{UndoRecord}
-use Rattle.om_history.specs.declared.own.OwnEntries.{OwnEntries}
-use Rattle.om_history.specs.declared.touches.TouchLists.{TouchLists}
+use Rattle.om_touches.specs.declared.own.OwnEntries.{OwnEntries}
+use Rattle.om_touches.specs.declared.touches.TouchLists.{TouchLists}
 use Rattle.om_history.specs.Runs.{conflict_or}
 use Rattle.om_history.specs.Records.{first_kept_conflict, reply_before, kept_reply, LastHasSerial}
-use Rattle.om_history.specs.Touches.{names, has_touch, AreListsOf, meets_at, meets, own_footprint, IsFirst, IsGreatest}
-use Rattle.om_history.specs.Touches.{is_own, AreOwnOf}
-use Rattle.om_history.proofs.Searches.{either_true, meets-alike, meets-named}
+use Rattle.om_touches.specs.Touches.{names, has_touch, meets_at, meets, IsFirst, IsGreatest}
+use Rattle.om_history.specs.Touches.{AreListsOf, own_footprint}
+use Rattle.om_touches.specs.Touches.{is_own}
+use Rattle.om_history.specs.Touches.{AreOwnOf}
+use Rattle.om_touches.proofs.Searches.{either_true, meets-alike, meets-named}
 use Rattle.om_history.proofs.OwnEntries.{own_named}
 use Rattle.om_history.proofs.Touched.{Rising, rising_later, rising_behind, touched-at, Toucher, toucher, nat_self}
 

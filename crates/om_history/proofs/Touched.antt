@@ -8,7 +8,8 @@ use Rattle.om_foot.specs.declared.footprint.Mode.{Mode}
 use Rattle.om_foot.specs.declared.footprint.Access.{Access}
 use Rattle.om_history.specs.declared.records.UndoRecord.{UndoRecord}
 use Rattle.om_history.specs.Records.{AreBelow, AreAbove}
-use Rattle.om_history.specs.Touches.{names, touched}
+use Rattle.om_touches.specs.Touches.{names}
+use Rattle.om_history.specs.Touches.{touched}
 use Rattle.om_history.proofs.Rising.{Ascends}
 
 abbrev pub serial_of : UndoRecord → ℕ

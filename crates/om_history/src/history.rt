@@ -15,8 +15,9 @@ ghost use Rattle.om_history.specs.Commands.{IsGone};
 ghost use Rattle.om_history.specs.Records.{is_done};
 ghost use Rattle.om_history.specs.Pasts.{past_in, history_in, IsHeld, IsPlanned, step_for, IsReplay, AreNumbered, Replies, RepliesToStep, Becomes, TakesStep, TakesOut, TakesItsCone, Stays};
 
-use crate::records::{Records, append, take_out};
+use crate::records::Records;
 use crate::reply::{RollReply, StepReply, Taken, UndoReply};
+use crate::steps::{append, take_out};
 use om_cells::{Change, Edit, Entry, Label};
 use om_code::frame::Fault;
 use om_live::{Control, Store, fault_after};

@@ -3,10 +3,10 @@
 ghost use Rattle.std.specs.Prelude.{◌≡◌, [], IfOk};
 ghost use Rattle.om_history.specs.Records.{choice_of};
 
-use crate::shared_access::SharedAccess;
 use om_cells::{Choice, Entry, Update};
 use om_foot::Name;
 use om_seq::Seq;
+use om_touches::SharedAccess;
 use std::alloc::{AllocError, Global};
 use std::marker::Model;
 

@@ -5,12 +5,9 @@
 pub mod history;
 mod kept;
 pub mod laws;
-mod own;
 pub mod records;
 pub mod reply;
-mod shared_access;
-mod shared_object;
-mod touches;
+mod steps;
 mod updates;
 
 pub use history::History;

@@ -1,33 +1,25 @@
 //! Undo records: the history's entries, each with its footprint and what takes it back.
 
-ghost use Rattle.std.specs.Prelude.{◌≡◌, ◌≢◌, ℕ, List, ◌<◌, ◌∷◌, ◌++◌, [], Some, IfOk, OnOk, OnErr, IfErr, IsSome, IfSome, IfNone, All, map, reverse, slice_get, remove, drop, false, true};
+ghost use Rattle.std.specs.Prelude.{◌≡◌, ◌≢◌, ℕ, List, ◌<◌, ◌∷◌, ◌++◌, [], Some, IfOk, OnOk, OnErr, IfErr, IsSome, IfSome, IfNone, All, map, reverse, slice_get, remove, false, true};
 ghost use Rattle.std.specs.Map.{values_of};
 ghost use Rattle.std.specs.Ordering.{nat_cmp};
 ghost use Rattle.std.specs.BTreeMap.{get};
 ghost use Rattle.om_foot.specs.declared.object.Obj.{Obj};
-ghost use Rattle.om_foot.specs.declared.object.Obj.TheVariants as obj;
 ghost use Rattle.om_foot.specs.declared.footprint.Mode.{Mode};
 ghost use Rattle.om_foot.specs.Footprint.{conflicts_with_any, conflict_of};
-ghost use Rattle.om_cells.specs.State.{updated, taken_back};
-ghost use Rattle.om_live.specs.Stores.{state_of, is_kept, pasts_of};
-ghost use Rattle.om_history.specs.Fills.{small_record, noted_all, full, before};
+ghost use Rattle.om_touches.specs.Touches.{has_touch, AreSame, AreWith, AreWithout, SameOwn, WithOwn, WithoutOwn};
 ghost use Rattle.om_history.specs.Cones.{meets_one, is_member as is_member_of, cone, taken_of};
 ghost use Rattle.om_history.specs.Runs.{conflict_or};
-ghost use Rattle.om_history.specs.Records.{entries_of, transition_of, transitions_of, kept_reply, HasRoom, LastHasSerial, AreBelow, AreAbove};
-ghost use Rattle.om_history.specs.Takes.{updates_by, small_for, CanMake, CanLeave};
+ghost use Rattle.om_history.specs.Records.{entries_of, transition_of, transitions_of, kept_reply, LastHasSerial, AreBelow, AreAbove};
 ghost use Rattle.om_history.specs.declared.records.UndoRecord.{UndoRecord};
-ghost use Rattle.om_history.specs.Touches.{has_touch, AreBySerial, AreListsOf, AreSame, AreWith, AreWithout, SameOwn, WithOwn, WithoutOwn, IsIndexed};
+ghost use Rattle.om_history.specs.Touches.{AreBySerial, AreListsOf, IsIndexed};
 
 use crate::kept::Kept;
-use crate::own::OwnEntries;
 use crate::reply::{Taken, UndoReply};
-use crate::shared_access::SharedAccess;
-use crate::touches::TouchLists;
-use crate::updates::{keep_all, make_all, take_back_all};
-use om_cells::{Change, Edit, Entry, Update};
+use om_cells::{Entry, Update};
 use om_foot::{Access, Obj, is_in_conflict};
-use om_live::Store;
 use om_seq::Seq;
+use om_touches::{OwnEntries, SharedAccess, TouchLists};
 use std::alloc::{AllocError, Global};
 use std::collections::BTreeMap;
 use std::marker::Model;
@@ -68,7 +60,7 @@ impl Model for Records {
 }
 
 /// Adds the touches of an entry to both lists. When out of memory, no touch changes.
-#[tactic(auto, using(crate::proofs::Lists::added_out))]
+#[tactic(auto, using(om_touches::proofs::Lists::added_out))]
 fn note(
     lists: &mut TouchLists,
     own: &mut OwnEntries,
@@ -333,19 +325,9 @@ impl Records {
         reply_at(&self.kept, &self.lists, serial)
     }
 
-    /// The record of an entry with this footprint, without what takes its updates back, to be
-    /// entered. Its only error is out of memory.
-    fn prepare(&self, alloc: Global, entry: Entry, footprint: &[Access]) -> Result<Kept, AllocError>
-        ensures { IfOk result
-            (λ k. k ≡ record { entry = entry; footprint = footprint.now; back = [] }) }
-    {
-        let shared = self.lists.share_all(alloc, footprint)?;
-        Kept::of(alloc, entry, shared)
-    }
-
     /// Adds a record whose serial is above all others. When out of memory, nothing changes, and the
     /// record comes back.
-    fn enter(&mut self, alloc: Global, made: Kept) -> Result<(), Kept>
+    pub(crate) fn enter(&mut self, alloc: Global, made: Kept) -> Result<(), Kept>
         requires some { 0 < made.entry.serial }
         requires latest { AreBelow made.entry.serial self.old }
         ensures entered { OnOk result (self.new ≡ self.old ++ made ∷ []) }
@@ -356,7 +338,7 @@ impl Records {
     }
 
     /// Takes the record with a serial out. It takes no memory, and moves no other record.
-    fn leave(&mut self, serial: u64) -> Option<Kept>
+    pub(crate) fn leave(&mut self, serial: u64) -> Option<Kept>
         ensures left { (i : ℕ) (k : UndoRecord) → slice_get self.old i ≡ Some k
             → k.entry.serial ≡ serial → self.new ≡ remove self.old i }
         ensures returned { (i : ℕ) (k : UndoRecord) → slice_get self.old i ≡ Some k
@@ -381,169 +363,5 @@ impl Records {
         ensures { IfOk result (λ v. v.items ≡ entries_of self.now) }
     {
         entries(alloc, &self.kept)
-    }
-}
-
-/// The accesses behind the first one.
-fn further(footprint: &[SharedAccess]) -> &[SharedAccess]
-    ensures { result.now ≡ drop 1 footprint.now }
-{
-    match footprint.split_first() {
-        Some((_, rest)) => rest,
-        None => footprint,
-    }
-}
-
-/// Takes the changes of a record back. It takes no memory.
-fn take_back(store: &mut Store, made: Kept)
-    requires { CanLeave store.old made }
-    ensures state { state_of store.new
-        ≡ taken_back made.footprint (full (pasts_of store.old) made).back (state_of store.old) }
-    ensures pasts { pasts_of store.new ≡ before (pasts_of store.old) made }
-    ensures kept { (q : Obj) → is_kept store.new q ≡ is_kept store.old q }
-{
-    let worker = made.worker();
-    let (footprint, back) = made.into_changes();
-    let mut back = back.into_vec();
-    take_back_all(store, further(footprint.as_slice()), &mut back);
-    store.undo(worker);
-}
-
-/// Makes edits of the control of a record's worker, and then the updates behind its first access,
-/// and leaves in the place of these what the record holds of them. When out of memory, nothing
-/// changes.
-fn make_changes(
-    store: &mut Store,
-    alloc: Global,
-    made: &Kept,
-    edits: Seq<Edit>,
-    updates: &mut Vec<Update>,
-) -> Result<(), AllocError>
-    requires room { HasRoom store.old made.now }
-    requires can { CanMake made.now.entry.worker made.now.footprint edits updates.old.items
-        (state_of store.old) }
-    ensures state { OnOk result (state_of store.new ≡ updated made.now.footprint
-        (updates_by made.now.entry.worker edits updates.old.items (state_of store.old))
-        (state_of store.old)) }
-    ensures pasts { OnOk result (pasts_of store.new ≡ noted_all made.now.footprint
-        (updates_by made.now.entry.worker edits updates.old.items (state_of store.old))
-        (state_of store.old) (pasts_of store.old)) }
-    ensures small { OnOk result (updates.new.items ≡ drop 1 (small_record made.now.footprint
-        (updates_by made.now.entry.worker edits updates.old.items (state_of store.old))
-        (state_of store.old))) }
-    ensures kept { (q : Obj) → is_kept store.new q ≡ is_kept store.old q }
-    ensures same_state_on_error { OnErr result (state_of store.new ≡ state_of store.old) }
-    ensures same_pasts_on_error { OnErr result (pasts_of store.new ≡ pasts_of store.old) }
-{
-    match store.change(alloc, made.worker(), edits) {
-        Ok(()) => {}
-        Err(error) => return Err(error),
-    }
-    match make_all(store, alloc, further(made.footprint()), updates) {
-        Ok(()) => Ok(()),
-        Err(error) => {
-            store.undo(made.worker());
-            Err(error)
-        }
-    }
-}
-
-/// Makes a change of an entry's worker, and answers the record of it. When out of memory, nothing
-/// changes.
-fn make(
-    store: &mut Store,
-    records: &Records,
-    alloc: Global,
-    entry: Entry,
-    change: Change,
-) -> Result<Kept, AllocError>
-    requires { CanMake entry.worker change.footprint change.edits change.updates
-        (state_of store.old) }
-    ensures state { OnOk result (state_of store.new ≡ updated change.footprint
-        (updates_by entry.worker change.edits change.updates (state_of store.old))
-        (state_of store.old)) }
-    ensures pasts { OnOk result (pasts_of store.new ≡ noted_all change.footprint
-        (updates_by entry.worker change.edits change.updates (state_of store.old))
-        (state_of store.old) (pasts_of store.old)) }
-    ensures made { IfOk result (λ k. k ≡ small_for entry change (state_of store.old)) }
-    ensures room { OnOk result (All (λ a. is_kept store.new a.object ≡ true) change.footprint) }
-    ensures others_kept { (q : Obj) → is_kept store.old q ≡ true → is_kept store.new q ≡ true }
-    ensures same_state_on_error { OnErr result (state_of store.new ≡ state_of store.old) }
-    ensures same_pasts_on_error { OnErr result (pasts_of store.new ≡ pasts_of store.old) }
-{
-    let Change {
-        footprint,
-        edits,
-        updates,
-        line: _,
-    } = change;
-    keep_all(store, alloc, footprint.as_slice())?;
-    let mut made = records.prepare(alloc, entry, footprint.as_slice())?;
-    let mut back = updates.into_vec();
-    back.shrink_to_fit();
-    match make_changes(store, alloc, &made, edits, &mut back) {
-        Ok(()) => {
-            made.set_back(Seq::of(back));
-            Ok(made)
-        }
-        Err(error) => Err(error),
-    }
-}
-
-/// Makes a change of an entry's worker, and adds the record of it at the end. When out of memory, no
-/// value and no record changes.
-pub(crate) fn append(
-    store: &mut Store,
-    records: &mut Records,
-    alloc: Global,
-    entry: Entry,
-    change: Change,
-) -> Result<(), AllocError>
-    requires can { CanMake entry.worker change.footprint change.edits change.updates
-        (state_of store.old) }
-    requires some { 0 < entry.serial }
-    requires latest { AreBelow entry.serial records.old }
-    ensures state { OnOk result (state_of store.new ≡ updated change.footprint
-        (updates_by entry.worker change.edits change.updates (state_of store.old))
-        (state_of store.old)) }
-    ensures pasts { OnOk result (pasts_of store.new ≡ noted_all change.footprint
-        (updates_by entry.worker change.edits change.updates (state_of store.old))
-        (state_of store.old) (pasts_of store.old)) }
-    ensures records { OnOk result
-        (records.new ≡ records.old ++ small_for entry change (state_of store.old) ∷ []) }
-    ensures room { OnOk result (All (λ a. is_kept store.new a.object ≡ true) change.footprint) }
-    ensures others_kept { (q : Obj) → is_kept store.old q ≡ true → is_kept store.new q ≡ true }
-    ensures same_state_on_error { OnErr result (state_of store.new ≡ state_of store.old) }
-    ensures same_pasts_on_error { OnErr result (pasts_of store.new ≡ pasts_of store.old) }
-    ensures same_records_on_error { OnErr result (records.new ≡ records.old) }
-{
-    let made = make(store, records, alloc, entry, change)?;
-    match records.enter(alloc, made) {
-        Ok(()) => Ok(()),
-        Err(made) => {
-            take_back(store, made);
-            Err(AllocError)
-        }
-    }
-}
-
-/// Takes the record with a serial out, and takes its changes back. It takes no memory.
-pub(crate) fn take_out(store: &mut Store, records: &mut Records, serial: u64)
-    requires can { (i : ℕ) (k : UndoRecord) → slice_get records.old i ≡ Some k
-        → k.entry.serial ≡ serial → CanLeave store.old k }
-    requires there { (i : ℕ) × (k : UndoRecord) × (slice_get records.old i ≡ Some k)
-        × (k.entry.serial ≡ serial) }
-    ensures state { (i : ℕ) (k : UndoRecord) → slice_get records.old i ≡ Some k
-        → k.entry.serial ≡ serial → state_of store.new
-        ≡ taken_back k.footprint (full (pasts_of store.old) k).back (state_of store.old) }
-    ensures pasts { (i : ℕ) (k : UndoRecord) → slice_get records.old i ≡ Some k
-        → k.entry.serial ≡ serial → pasts_of store.new ≡ before (pasts_of store.old) k }
-    ensures records { (i : ℕ) (k : UndoRecord) → slice_get records.old i ≡ Some k
-        → k.entry.serial ≡ serial → records.new ≡ remove records.old i }
-    ensures kept { (q : Obj) → is_kept store.new q ≡ is_kept store.old q }
-{
-    match records.leave(serial) {
-        Some(made) => take_back(store, made),
-        None => {}
     }
 }

@@ -10,10 +10,10 @@ ghost use Rattle.om_history.specs.Bounds.{FitsAt, FitsAtBack, FitsAll};
 ghost use Rattle.om_history.specs.Shapes.{IsShapedAt, AreShaped};
 ghost use Rattle.om_history.specs.Fills.{small_at, noted, small_record, noted_all, filled_at, popped, filled, popped_all, IfControl, CanTakeBack, control_at};
 
-use crate::shared_access::SharedAccess;
 use om_cells::{Control, SharedControl, Update, Val};
 use om_foot::{Access, Mode, Obj};
 use om_live::{Store, worker_of};
+use om_touches::SharedAccess;
 use std::alloc::{AllocError, Global};
 use std::mem;
 
@@ -245,22 +245,37 @@ fn exchange(
     Ok(())
 }
 
-/// Keeps each object of a footprint, so that its value can be put back without memory. No value
-/// changes, also when out of memory.
+/// Keeps the object of an access, and answers the access of it, shared. No value changes, also
+/// when out of memory.
+fn keep(store: &mut Store, alloc: Global, access: &Access) -> Result<SharedAccess, AllocError>
+    ensures shared { IfOk result (λ shared. shared ≡ access.now) }
+    ensures same { state_of store.new ≡ state_of store.old }
+    ensures same_pasts { pasts_of store.new ≡ pasts_of store.old }
+    ensures kept { OnOk result (is_kept store.new access.now.object ≡ true) }
+    ensures others_kept { (q : Obj) → is_kept store.old q ≡ true → is_kept store.new q ≡ true }
+{
+    let object = store.keep(alloc, &access.object)?;
+    Ok(SharedAccess::of(object, access.mode))
+}
+
+/// Keeps each object of a footprint, so that its value can be put back without memory, and answers
+/// the accesses of them, shared. No value changes, also when out of memory.
 pub(crate) fn keep_all(
     store: &mut Store,
     alloc: Global,
     footprint: &[Access],
-) -> Result<(), AllocError>
+) -> Result<Vec<SharedAccess>, AllocError>
+    ensures shared { IfOk result (λ shared. shared.items ≡ footprint.now) }
     ensures same { state_of store.new ≡ state_of store.old }
     ensures same_pasts { pasts_of store.new ≡ pasts_of store.old }
     ensures kept { OnOk result (All (λ a. is_kept store.new a.object ≡ true) footprint.now) }
     ensures others_kept { (q : Obj) → is_kept store.old q ≡ true → is_kept store.new q ≡ true }
 {
+    let mut shared = Vec::with_capacity(alloc, footprint.len())?;
     for access in footprint {
-        store.keep(alloc, &access.object)?;
+        shared.push(keep(store, alloc, access)?)?;
     }
-    Ok(())
+    Ok(shared)
 }
 
 /// Makes the updates of a footprint, and leaves in their place what a small record holds of them.

@@ -15,7 +15,9 @@ ghost use Rattle.om_live.specs.Stores.{worker_of, is_trailed, plain_or_idle, sta
 use crate::control::Control;
 use crate::live::control_of;
 use crate::trail::Trail;
-use om_cells::{Control as PlainControl, Edit, SharedControl, Store as Values, Tail, Task, Val};
+use om_cells::{
+    Control as PlainControl, Edit, SharedControl, SharedObject, Store as Values, Tail, Task, Val,
+};
 use om_code::frame::Cell;
 use om_foot::{Name, Obj};
 use om_seq::Seq;
@@ -184,17 +186,38 @@ impl Store {
         }
     }
 
-    /// Keeps an object, with the value that it holds. No value changes, also when out of memory.
-    pub fn keep(&mut self, alloc: Global, object: &Obj) -> Result<(), AllocError>
+    /// Keeps an object, with the value that it holds, and answers the object, shared with all that
+    /// name it. No value changes, also when out of memory.
+    pub fn keep(&mut self, alloc: Global, object: &Obj) -> Result<SharedObject, AllocError>
+        ensures shared { IfOk result (λ shared. shared ≡ object.now) }
         ensures state { state_of self.new ≡ state_of self.old }
         ensures pasts { pasts_of self.new ≡ pasts_of self.old }
         ensures kept { OnOk result (is_kept self.new object.now ≡ true) }
         ensures others_kept { (q : Obj) → is_kept self.old q ≡ true → is_kept self.new q ≡ true }
     {
         match worker_of(object) {
-            Some(worker) => grow(alloc, &mut self.trails, worker),
+            Some(worker) => self.keep_control(alloc, worker, object),
             None => self.values.keep(alloc, object),
         }
+    }
+
+    /// Keeps the control of a worker. The values have a place for it too, so that it is shared as
+    /// other objects are; what the worker's trail holds counts.
+    fn keep_control(
+        &mut self,
+        alloc: Global,
+        worker: u8,
+        object: &Obj,
+    ) -> Result<SharedObject, AllocError>
+        requires { object.now ≡ obj.Control worker }
+        ensures shared { IfOk result (λ shared. shared ≡ object.now) }
+        ensures state { state_of self.new ≡ state_of self.old }
+        ensures pasts { pasts_of self.new ≡ pasts_of self.old }
+        ensures kept { OnOk result (is_kept self.new object.now ≡ true) }
+        ensures others_kept { (q : Obj) → is_kept self.old q ≡ true → is_kept self.new q ≡ true }
+    {
+        grow(alloc, &mut self.trails, worker)?;
+        self.values.keep(alloc, object)
     }
 
     /// Puts the first control of a worker, which made no step then. When out of memory, nothing
@@ -283,7 +306,7 @@ impl Store {
 
     /// Puts a value at an object that is no control, which is kept from then on. When out of memory,
     /// nothing changes.
-    pub fn create(&mut self, object: &Obj, value: Val) -> Result<(), AllocError>
+    pub fn create(&mut self, alloc: Global, object: &Obj, value: Val) -> Result<(), AllocError>
         requires { is_trailed object.now ≡ false }
         ensures state { OnOk result
             (state_of self.new ≡ with_value object.now value (state_of self.old)) }
@@ -292,7 +315,7 @@ impl Store {
         ensures others_kept { (q : Obj) → is_kept self.old q ≡ true → is_kept self.new q ≡ true }
         ensures same_state_on_error { OnErr result (state_of self.new ≡ state_of self.old) }
     {
-        self.values.create(object, value)
+        self.values.create(alloc, object, value)
     }
 
     /// Puts a value at an object that is no control and is kept, and answers the one before. It

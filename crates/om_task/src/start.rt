@@ -126,11 +126,11 @@ fn with_globals(alloc: Global, program: &Program) -> Result<Store, AllocError>
 {
     let mut store = Store::new(alloc);
     store.begin(alloc, 0, &first_control(alloc, program)?)?;
-    store.create(&Obj::Events(0), initial_records(alloc)?)?;
+    store.create(alloc, &Obj::Events(0), initial_records(alloc)?)?;
     for (number, global) in program.globals().iter().enumerate() {
         let variable = number as u32;
         let object = Obj::Global { variable, index: 0 };
-        store.create(&object, initial_value(global))?;
+        store.create(alloc, &object, initial_value(global))?;
     }
     Ok(store)
 }
@@ -143,7 +143,7 @@ pub fn started(alloc: Global, program: &Program, workers: u8) -> Result<Store, A
 {
     let mut store = with_globals(alloc, program)?;
     for worker in 1..workers {
-        store.create(&Obj::Events(worker), worker_records(alloc)?)?;
+        store.create(alloc, &Obj::Events(worker), worker_records(alloc)?)?;
     }
     Ok(store)
 }

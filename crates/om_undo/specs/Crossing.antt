@@ -3,16 +3,17 @@ use Rattle.std.proofs.Crossing.{crosses}
 use Rattle.std.proofs.MapsCrossingOver.{crosses as maps}
 use denote.Param.Send.{IsSend, sendable}
 use Rattle.om_foot.specs.contracts.object.Obj as object
+use Rattle.om_cells.specs.contracts.place.Place as place
 use Rattle.om_cells.specs.contracts.shared.Shared as shared
+use Rattle.om_cells.specs.contracts.shared_object.SharedObject as shared_object
 use Rattle.om_cells.specs.contracts.store.Store as values
 use Rattle.om_live.specs.contracts.store.Store as store
+use Rattle.om_touches.specs.contracts.own.OwnEntries as own
+use Rattle.om_touches.specs.contracts.shared_access.SharedAccess as shared_access
+use Rattle.om_touches.specs.contracts.touches.Touches as touches
+use Rattle.om_touches.specs.contracts.touches.TouchLists as lists
 use Rattle.om_history.specs.contracts.history.History as history
 use Rattle.om_history.specs.contracts.kept.Kept as kept
-use Rattle.om_history.specs.contracts.own.OwnEntries as own
-use Rattle.om_history.specs.contracts.shared_access.SharedAccess as shared_access
-use Rattle.om_history.specs.contracts.shared_object.SharedObject as shared_object
-use Rattle.om_history.specs.contracts.touches.Touches as touches
-use Rattle.om_history.specs.contracts.touches.TouchLists as lists
 use Rattle.om_history.specs.contracts.records.Records as records
 use Rattle.om_undo.specs.contracts.machine.Machine as machine
 use Rattle.om_undo.specs.Lists.{seq_send}
@@ -22,17 +23,20 @@ use Rattle.om_undo.specs.Programs.{program_send}
 use Rattle.om_undo.specs.Shared.{shared_send}
 use Rattle.om_undo.specs.Values.{value_send, update_send}
 
-values_send : IsSend values.the_field.row
-values_send = search (object_send, value_send, maps, crosses, sendable) depth 40
-
-store_send : IsSend store.the_field.row
-store_send = search (trail_send, values_send, crosses, sendable) depth 40
-
 objects_send : IsSend (shared.the_row object.the_row)
 objects_send = shared_send object.the_row (search (object_send, sendable)) (search (object_sync, sendable))
 
 shared_object_send : IsSend shared_object.the_row
 shared_object_send = search (objects_send, sendable) depth 40
+
+place_send : IsSend place.the_row
+place_send = search (shared_object_send, value_send, sendable) depth 40
+
+values_send : IsSend values.the_field.row
+values_send = search (object_send, place_send, maps, crosses, sendable) depth 40
+
+store_send : IsSend store.the_field.row
+store_send = search (trail_send, values_send, crosses, sendable) depth 40
 
 shared_access_send : IsSend shared_access.the_row
 shared_access_send = search (shared_object_send, sendable) depth 40

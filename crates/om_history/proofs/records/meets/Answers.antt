@@ -1,5 +1,5 @@
 use Rattle.std.proofs.Common.{◌∙◌, subst}
-use Rattle.om_history.specs.Touches.{has_touch, meets, IsFirst}
+use Rattle.om_touches.specs.Touches.{has_touch, meets, IsFirst}
 use Rattle.om_history.proofs.Members.{meets-members}
 use Rattle.om_history.proofs.records.meets.Goals as goal
 

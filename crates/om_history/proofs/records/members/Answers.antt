@@ -1,6 +1,6 @@
 use Rattle.std.proofs.Common.{◌∙◌, sym, ap, subst, ◌∷◌, [], ◌++◌}
 use Rattle.std.specs.Map.{values_of}
-use Rattle.om_history.specs.Touches.{AreWith}
+use Rattle.om_touches.specs.Touches.{AreWith}
 use Rattle.om_history.proofs.BySerial.{above_zero}
 use Rattle.om_history.proofs.Members.{MembersTo, members_start, member_with}
 use Rattle.om_history.proofs.records.members.Goals as goal

@@ -5,7 +5,7 @@ use Rattle.std.specs.BTreeMap.{get}
 use Rattle.om_foot.specs.Footprint.{conflict_of}
 use Rattle.om_history.specs.Runs.{conflict_or}
 use Rattle.om_history.specs.declared.reply.UndoReply.TheVariants.{Undone}
-use Rattle.om_history.specs.Touches.{has_touch, meets, IsFirst}
+use Rattle.om_touches.specs.Touches.{has_touch, meets, IsFirst}
 use Rattle.om_history.proofs.Indexed.{is_kept, reply_free, reply_refused, not_missing}
 use Rattle.om_history.proofs.records.reply_at.Goals as goal
 

@@ -7,6 +7,7 @@ use Rattle.om_history.proofs.updates.keep_all.Given as goal
 -- the objects so far are kept
 abbrev pub invariant-loop-access : goal.invariant-loop-access
 invariant-loop-access l = record {
+  shared : l.shared.items ≡ take l.access-index l.footprint;
   same : state_of l.store ≡ state_of l.fn.store;
   same_pasts : pasts_of l.store ≡ pasts_of l.fn.store;
   kept : All (λ a. is_kept l.store a.object ≡ true) (take l.access-index l.footprint);

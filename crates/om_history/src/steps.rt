@@ -1,0 +1,177 @@
+//! Steps over a store, each with the undo record of it, and the way back.
+
+ghost use Rattle.std.specs.Prelude.{◌≡◌, ℕ, ◌<◌, ◌∷◌, ◌++◌, [], Some, IfOk, OnOk, OnErr, All, slice_get, remove, drop, true};
+ghost use Rattle.om_foot.specs.declared.object.Obj.{Obj};
+ghost use Rattle.om_cells.specs.State.{updated, taken_back};
+ghost use Rattle.om_live.specs.Stores.{state_of, is_kept, pasts_of};
+ghost use Rattle.om_history.specs.Fills.{small_record, noted_all, full, before};
+ghost use Rattle.om_history.specs.Records.{HasRoom, AreBelow};
+ghost use Rattle.om_history.specs.Takes.{updates_by, small_for, CanMake, CanLeave};
+ghost use Rattle.om_history.specs.declared.records.UndoRecord.{UndoRecord};
+
+use crate::kept::Kept;
+use crate::records::Records;
+use crate::updates::{keep_all, make_all, take_back_all};
+use om_cells::{Change, Edit, Entry, Update};
+use om_live::Store;
+use om_seq::Seq;
+use om_touches::SharedAccess;
+use std::alloc::{AllocError, Global};
+
+/// The accesses behind the first one.
+fn further(footprint: &[SharedAccess]) -> &[SharedAccess]
+    ensures { result.now ≡ drop 1 footprint.now }
+{
+    match footprint.split_first() {
+        Some((_, rest)) => rest,
+        None => footprint,
+    }
+}
+
+/// Takes the changes of a record back. It takes no memory.
+fn take_back(store: &mut Store, made: Kept)
+    requires { CanLeave store.old made }
+    ensures state { state_of store.new
+        ≡ taken_back made.footprint (full (pasts_of store.old) made).back (state_of store.old) }
+    ensures pasts { pasts_of store.new ≡ before (pasts_of store.old) made }
+    ensures kept { (q : Obj) → is_kept store.new q ≡ is_kept store.old q }
+{
+    let worker = made.worker();
+    let (footprint, back) = made.into_changes();
+    let mut back = back.into_vec();
+    take_back_all(store, further(footprint.as_slice()), &mut back);
+    store.undo(worker);
+}
+
+/// Makes edits of the control of a record's worker, and then the updates behind its first access,
+/// and leaves in the place of these what the record holds of them. When out of memory, nothing
+/// changes.
+fn make_changes(
+    store: &mut Store,
+    alloc: Global,
+    made: &Kept,
+    edits: Seq<Edit>,
+    updates: &mut Vec<Update>,
+) -> Result<(), AllocError>
+    requires room { HasRoom store.old made.now }
+    requires can { CanMake made.now.entry.worker made.now.footprint edits updates.old.items
+        (state_of store.old) }
+    ensures state { OnOk result (state_of store.new ≡ updated made.now.footprint
+        (updates_by made.now.entry.worker edits updates.old.items (state_of store.old))
+        (state_of store.old)) }
+    ensures pasts { OnOk result (pasts_of store.new ≡ noted_all made.now.footprint
+        (updates_by made.now.entry.worker edits updates.old.items (state_of store.old))
+        (state_of store.old) (pasts_of store.old)) }
+    ensures small { OnOk result (updates.new.items ≡ drop 1 (small_record made.now.footprint
+        (updates_by made.now.entry.worker edits updates.old.items (state_of store.old))
+        (state_of store.old))) }
+    ensures kept { (q : Obj) → is_kept store.new q ≡ is_kept store.old q }
+    ensures same_state_on_error { OnErr result (state_of store.new ≡ state_of store.old) }
+    ensures same_pasts_on_error { OnErr result (pasts_of store.new ≡ pasts_of store.old) }
+{
+    match store.change(alloc, made.worker(), edits) {
+        Ok(()) => {}
+        Err(error) => return Err(error),
+    }
+    match make_all(store, alloc, further(made.footprint()), updates) {
+        Ok(()) => Ok(()),
+        Err(error) => {
+            store.undo(made.worker());
+            Err(error)
+        }
+    }
+}
+
+/// Makes a change of an entry's worker, and answers the record of it. When out of memory, nothing
+/// changes.
+fn make(store: &mut Store, alloc: Global, entry: Entry, change: Change) -> Result<Kept, AllocError>
+    requires { CanMake entry.worker change.footprint change.edits change.updates
+        (state_of store.old) }
+    ensures state { OnOk result (state_of store.new ≡ updated change.footprint
+        (updates_by entry.worker change.edits change.updates (state_of store.old))
+        (state_of store.old)) }
+    ensures pasts { OnOk result (pasts_of store.new ≡ noted_all change.footprint
+        (updates_by entry.worker change.edits change.updates (state_of store.old))
+        (state_of store.old) (pasts_of store.old)) }
+    ensures made { IfOk result (λ k. k ≡ small_for entry change (state_of store.old)) }
+    ensures room { OnOk result (All (λ a. is_kept store.new a.object ≡ true) change.footprint) }
+    ensures others_kept { (q : Obj) → is_kept store.old q ≡ true → is_kept store.new q ≡ true }
+    ensures same_state_on_error { OnErr result (state_of store.new ≡ state_of store.old) }
+    ensures same_pasts_on_error { OnErr result (pasts_of store.new ≡ pasts_of store.old) }
+{
+    let Change {
+        footprint,
+        edits,
+        updates,
+        line: _,
+    } = change;
+    let shared = keep_all(store, alloc, footprint.as_slice())?;
+    let mut made = Kept::of(alloc, entry, shared)?;
+    let mut back = updates.into_vec();
+    back.shrink_to_fit();
+    match make_changes(store, alloc, &made, edits, &mut back) {
+        Ok(()) => {
+            made.set_back(Seq::of(back));
+            Ok(made)
+        }
+        Err(error) => Err(error),
+    }
+}
+
+/// Makes a change of an entry's worker, and adds the record of it at the end. When out of memory, no
+/// value and no record changes.
+pub(crate) fn append(
+    store: &mut Store,
+    records: &mut Records,
+    alloc: Global,
+    entry: Entry,
+    change: Change,
+) -> Result<(), AllocError>
+    requires can { CanMake entry.worker change.footprint change.edits change.updates
+        (state_of store.old) }
+    requires some { 0 < entry.serial }
+    requires latest { AreBelow entry.serial records.old }
+    ensures state { OnOk result (state_of store.new ≡ updated change.footprint
+        (updates_by entry.worker change.edits change.updates (state_of store.old))
+        (state_of store.old)) }
+    ensures pasts { OnOk result (pasts_of store.new ≡ noted_all change.footprint
+        (updates_by entry.worker change.edits change.updates (state_of store.old))
+        (state_of store.old) (pasts_of store.old)) }
+    ensures records { OnOk result
+        (records.new ≡ records.old ++ small_for entry change (state_of store.old) ∷ []) }
+    ensures room { OnOk result (All (λ a. is_kept store.new a.object ≡ true) change.footprint) }
+    ensures others_kept { (q : Obj) → is_kept store.old q ≡ true → is_kept store.new q ≡ true }
+    ensures same_state_on_error { OnErr result (state_of store.new ≡ state_of store.old) }
+    ensures same_pasts_on_error { OnErr result (pasts_of store.new ≡ pasts_of store.old) }
+    ensures same_records_on_error { OnErr result (records.new ≡ records.old) }
+{
+    let made = make(store, alloc, entry, change)?;
+    match records.enter(alloc, made) {
+        Ok(()) => Ok(()),
+        Err(made) => {
+            take_back(store, made);
+            Err(AllocError)
+        }
+    }
+}
+
+/// Takes the record with a serial out, and takes its changes back. It takes no memory.
+pub(crate) fn take_out(store: &mut Store, records: &mut Records, serial: u64)
+    requires can { (i : ℕ) (k : UndoRecord) → slice_get records.old i ≡ Some k
+        → k.entry.serial ≡ serial → CanLeave store.old k }
+    requires there { (i : ℕ) × (k : UndoRecord) × (slice_get records.old i ≡ Some k)
+        × (k.entry.serial ≡ serial) }
+    ensures state { (i : ℕ) (k : UndoRecord) → slice_get records.old i ≡ Some k
+        → k.entry.serial ≡ serial → state_of store.new
+        ≡ taken_back k.footprint (full (pasts_of store.old) k).back (state_of store.old) }
+    ensures pasts { (i : ℕ) (k : UndoRecord) → slice_get records.old i ≡ Some k
+        → k.entry.serial ≡ serial → pasts_of store.new ≡ before (pasts_of store.old) k }
+    ensures records { (i : ℕ) (k : UndoRecord) → slice_get records.old i ≡ Some k
+        → k.entry.serial ≡ serial → records.new ≡ remove records.old i }
+    ensures kept { (q : Obj) → is_kept store.new q ≡ is_kept store.old q }
+{
+    match records.leave(serial) {
+        Some(made) => take_back(store, made),
+        None => {}
+    }
+}

@@ -1,0 +1,30 @@
+use Rattle.std.proofs.Common.{true, sym}
+use Rattle.om_touches.proofs.Lists.{on_ok, on_err}
+use Rattle.om_touches.proofs.ByWorker.{own-set, own-same, own-is_known, own-not_known}
+use Rattle.om_touches.proofs.own.OwnEntries.add_known.Goals as goal
+
+pub unreachable-requires : goal.unreachable-requires
+unreachable-requires c = own-not_known c.args.self.now.workers.entries c.args.worker c.get_mut.result
+    c.get_mut.ensures.value c.in-None.is c.requires
+
+pub returns-clause-added : goal.returns-clause-added
+returns-clause-added c =
+    let es = c.args.self.now.workers.entries in
+    let x = c.put.new.serials in
+    let old = c.in-Some.serials.now in
+    on_ok c.put.result
+    (own-set true es (c.get_mut.follows.lender x).entries c.args.worker c.args.serial old x
+    (sym c.in-Some.ensures.value)
+    ((c.get_mut.follows.holds x).3 (own-is_known es c.args.worker old c.in-Some.ensures.value)).0)
+    c.put.ensures.added
+
+pub returns-clause-unchanged_on_error : goal.returns-clause-unchanged_on_error
+returns-clause-unchanged_on_error c =
+    let es = c.args.self.now.workers.entries in
+    let x = c.put.new.serials in
+    let old = c.in-Some.serials.now in
+    on_err c.put.result
+    (own-same es (c.get_mut.follows.lender x).entries c.args.worker old x
+    (sym c.in-Some.ensures.value)
+    ((c.get_mut.follows.holds x).3 (own-is_known es c.args.worker old c.in-Some.ensures.value)).0)
+    c.put.ensures.unchanged_on_error

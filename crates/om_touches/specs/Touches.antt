@@ -1,0 +1,112 @@
+-- The touches of objects, kept by object and mode, and each worker's own entries.
+use Rattle.std.specs.Prelude.{◌≡◌, Bool, true, false, cond, nat_eq, ◌&&◌, ℕ, ◌<◌, ◌≤◌, min, is_some, Option, None, Some, List, []}
+use Rattle.std.specs.Prelude.{◌∷◌}
+use Rattle.std.specs.Map.{lookup}
+use Rattle.std.specs.Ordering.{nat_cmp}
+use Rattle.std.specs.BTreeMap.{get}
+use Rattle.std.specs.BTreeSet.{BTreeSet, contains}
+use Rattle.om_foot.specs.declared.object.Obj.{Obj}
+use Rattle.om_foot.specs.declared.footprint.Mode.{Mode}
+use Rattle.om_foot.specs.declared.footprint.Mode.TheVariants.{Read, Write, Add}
+use Rattle.om_foot.specs.declared.footprint.Access.{Access}
+use Rattle.om_foot.specs.Footprint.{obj_eq, modes_conflict}
+use Rattle.om_touches.specs.declared.own.OwnEntries.{OwnEntries}
+use Rattle.om_touches.specs.declared.touches.Touches.{Touches}
+use Rattle.om_touches.specs.declared.touches.TouchLists.{TouchLists}
+
+abbrev pub mode_eq : Mode → Mode → Bool
+mode_eq Read Read = true
+mode_eq Write Write = true
+mode_eq Add Add = true
+mode_eq _ _ = false
+
+-- whether a footprint names an object with a mode
+abbrev pub names : Obj → Mode → List Access → Bool
+names o m [] = false
+names o m (a ∷ rest) = cond (obj_eq a.object o && mode_eq a.mode m) true (names o m rest)
+
+-- what is kept of them
+
+abbrev pub has : BTreeSet ℕ → ℕ → Bool
+has serials s = contains nat_cmp serials s
+
+abbrev pub list_of : Touches → Mode → BTreeSet ℕ
+list_of t Read = t.reads
+list_of t Write = t.writes
+list_of t Add = t.additions
+
+abbrev pub has_in : Option Touches → Mode → ℕ → Bool
+has_in None m s = false
+has_in (Some t) m s = has (list_of t m) s
+
+abbrev pub touches_at : TouchLists → Obj → Option Touches
+touches_at lists o = lookup (obj_eq o) lists.objects.entries
+
+abbrev pub knows : TouchLists → Obj → Bool
+knows lists o = is_some (touches_at lists o)
+
+-- whether there is a touch of an object, with a mode, by the entry of a serial
+abbrev pub has_touch : TouchLists → Obj → Mode → ℕ → Bool
+has_touch lists o m s = has_in (touches_at lists o) m s
+
+-- no touch changes; those of one entry come, or go
+abbrev pub AreSame : TouchLists → TouchLists → Type 0
+AreSame old new = (o : Obj) (m : Mode) (s : ℕ) → has_touch new o m s ≡ has_touch old o m s
+
+abbrev pub AreWith : List Access → ℕ → TouchLists → TouchLists → Type 0
+AreWith footprint serial old new = (o : Obj) (m : Mode) (s : ℕ)
+    → has_touch new o m s ≡ cond (nat_eq serial s && names o m footprint) true (has_touch old o m s)
+
+abbrev pub AreWithout : List Access → ℕ → TouchLists → TouchLists → Type 0
+AreWithout footprint serial old new = (o : Obj) (m : Mode) (s : ℕ)
+    → has_touch new o m s ≡ cond (nat_eq serial s && names o m footprint) false (has_touch old o m s)
+
+-- whether an entry, by its serial, has a touch that conflicts with an access of the mode
+abbrev pub meets_at : (Mode → ℕ → Bool) → Mode → ℕ → Bool
+meets_at touch m s = cond (modes_conflict m Read && touch Read s) true
+    (cond (modes_conflict m Write && touch Write s) true (modes_conflict m Add && touch Add s))
+
+-- whether it has one that conflicts with a footprint
+abbrev pub meets : (Obj → Mode → ℕ → Bool) → List Access → ℕ → Bool
+meets touch [] s = false
+meets touch (a ∷ rest) s = cond (meets_at (touch a.object) a.mode s) true (meets touch rest s)
+
+abbrev pub sooner : Option ℕ → Option ℕ → Option ℕ
+sooner None y = y
+sooner (Some a) None = Some a
+sooner (Some a) (Some b) = Some (min a b)
+
+-- the least number above another one that passes a test, if one does
+abbrev pub IsFirst : (ℕ → Bool) → ℕ → Option ℕ → Type 0
+IsFirst test above None = (s : ℕ) → above < s → test s ≡ false
+IsFirst test above (Some t) = (above < t) × (test t ≡ true) × ((s : ℕ) → above < s → s < t → test s ≡ false)
+
+-- the greatest number that passes a test, if one does
+abbrev pub IsGreatest : (ℕ → Bool) → Option ℕ → Type 0
+IsGreatest test None = (s : ℕ) → test s ≡ false
+IsGreatest test (Some t) = (test t ≡ true) × ((s : ℕ) → test s ≡ true → s ≤ t)
+
+-- what is kept of each worker's own entries
+
+abbrev pub is_in : Option (BTreeSet ℕ) → ℕ → Bool
+is_in None s = false
+is_in (Some serials) s = has serials s
+
+abbrev pub knows_worker : OwnEntries → ℕ → Bool
+knows_worker own w = is_some (get nat_cmp own.workers w)
+
+-- whether the entry of a serial is a worker's own
+abbrev pub is_own : OwnEntries → ℕ → ℕ → Bool
+is_own own w s = is_in (get nat_cmp own.workers w) s
+
+-- no own entry changes; one comes, or goes
+abbrev pub SameOwn : OwnEntries → OwnEntries → Type 0
+SameOwn old new = (w s : ℕ) → is_own new w s ≡ is_own old w s
+
+abbrev pub WithOwn : ℕ → ℕ → OwnEntries → OwnEntries → Type 0
+WithOwn worker serial old new = (w s : ℕ)
+    → is_own new w s ≡ cond (nat_eq serial s && nat_eq worker w) true (is_own old w s)
+
+abbrev pub WithoutOwn : ℕ → ℕ → OwnEntries → OwnEntries → Type 0
+WithoutOwn worker serial old new = (w s : ℕ)
+    → is_own new w s ≡ cond (nat_eq serial s && nat_eq worker w) false (is_own old w s)

@@ -1,0 +1,294 @@
+//! The touches of objects by the entries of a history, so that the first later one that conflicts
+//! with an entry is found without a look at the others.
+
+ghost use Rattle.std.specs.Prelude.{◌≡◌, ℕ, ◌∷◌, [], true, false, cond, nat_eq, ◌&&◌, take as first_so_many, OnOk, OnErr};
+ghost use Rattle.om_foot.specs.declared.object.Obj.{Obj};
+ghost use Rattle.om_foot.specs.declared.footprint.Mode.{Mode};
+ghost use Rattle.om_foot.specs.Footprint.{modes_conflict};
+ghost use Rattle.om_touches.specs.Touches.{has, list_of, mode_eq, sooner, IsFirst, IsGreatest, meets_at, meets, has_touch, knows, AreSame, AreWith, AreWithout};
+
+use crate::shared_access::SharedAccess;
+use om_cells::SharedObject;
+use om_foot::{Mode, Touch, first_touch};
+use std::alloc::{AllocError, Global};
+use std::collections::{BTreeMap, BTreeSet};
+use std::ops::Bound;
+
+/// The touches of one object: the serials of the entries that name it, apart by mode. So a search
+/// for a write or an addition goes through no reads.
+#[derive(Drop)]
+pub struct Touches {
+    reads: BTreeSet<u64>,
+    writes: BTreeSet<u64>,
+    additions: BTreeSet<u64>,
+}
+
+/// Adds a serial. When out of memory, nothing changes.
+pub(crate) fn put(serials: &mut BTreeSet<u64>, serial: u64) -> Result<(), AllocError>
+    ensures added { OnOk result
+        ((s : ℕ) → has serials.new s ≡ cond (nat_eq serial s) true (has serials.old s)) }
+    ensures unchanged_on_error { OnErr result ((s : ℕ) → has serials.new s ≡ has serials.old s) }
+{
+    let _is_new = serials.insert(serial)?;
+    Ok(())
+}
+
+/// Takes a serial out, if it is there. It takes no memory.
+pub(crate) fn take(serials: &mut BTreeSet<u64>, serial: u64)
+    ensures { (s : ℕ) → has serials.new s ≡ cond (nat_eq serial s) false (has serials.old s) }
+{
+    let _was_there = serials.remove(&serial);
+}
+
+/// The first serial after another one.
+fn first_after(serials: &BTreeSet<u64>, serial: u64) -> Option<u64>
+    ensures { IsFirst (has serials.now) serial result }
+{
+    match serials
+        .range((Bound::Excluded(serial), Bound::Unbounded))
+        .next()
+    {
+        Some(first) => Some(*first),
+        None => None,
+    }
+}
+
+/// The last serial.
+pub(crate) fn last(serials: &BTreeSet<u64>) -> Option<u64>
+    ensures { IsGreatest (has serials.now) result }
+{
+    match serials.last() {
+        Some(last) => Some(*last),
+        None => None,
+    }
+}
+
+/// The first touch after a serial, where all are of one mode, that conflicts with an access of
+/// another one.
+fn first_of_mode(serials: &BTreeSet<u64>, touched: Mode, mode: Mode, serial: u64) -> Option<u64>
+    ensures { IsFirst (λ s. modes_conflict mode touched && has serials.now s) serial result }
+{
+    match first_after(serials, serial) {
+        Some(first) => first_touch(
+            mode,
+            &[Touch {
+                serial: first,
+                mode: touched,
+            }],
+        ),
+        None => None,
+    }
+}
+
+/// The lesser of two serials, where there are any.
+fn sooner(first: Option<u64>, other: Option<u64>) -> Option<u64>
+    ensures { result ≡ sooner first other }
+{
+    match (first, other) {
+        (Some(a), Some(b)) => Some(a.min(b)),
+        (Some(a), None) => Some(a),
+        (None, Some(b)) => Some(b),
+        (None, None) => None,
+    }
+}
+
+impl Touches {
+    /// No touches. It takes no memory.
+    fn new(alloc: Global) -> Touches
+        ensures { (m : Mode) (s : ℕ) → has (list_of result m) s ≡ false }
+    {
+        Touches {
+            reads: BTreeSet::new(alloc),
+            writes: BTreeSet::new(alloc),
+            additions: BTreeSet::new(alloc),
+        }
+    }
+
+    /// Adds a touch. When out of memory, nothing changes.
+    fn add(&mut self, mode: Mode, serial: u64) -> Result<(), AllocError>
+        ensures added { OnOk result
+            ((m : Mode) (s : ℕ) → has (list_of self.new m) s
+            ≡ cond (mode_eq mode m && nat_eq serial s) true (has (list_of self.old m) s)) }
+        ensures unchanged_on_error { OnErr result
+            ((m : Mode) (s : ℕ) → has (list_of self.new m) s ≡ has (list_of self.old m) s) }
+    {
+        match mode {
+            Mode::Read => put(&mut self.reads, serial),
+            Mode::Write => put(&mut self.writes, serial),
+            Mode::Add => put(&mut self.additions, serial),
+        }
+    }
+
+    /// Takes a touch out, if it is there. It takes no memory.
+    fn remove(&mut self, mode: Mode, serial: u64)
+        ensures { (m : Mode) (s : ℕ) → has (list_of self.new m) s
+            ≡ cond (mode_eq mode m && nat_eq serial s) false (has (list_of self.old m) s) }
+    {
+        match mode {
+            Mode::Read => take(&mut self.reads, serial),
+            Mode::Write => take(&mut self.writes, serial),
+            Mode::Add => take(&mut self.additions, serial),
+        }
+    }
+
+    /// The first touch after a serial that conflicts with an access of the mode.
+    fn first_conflict(&self, mode: Mode, serial: u64) -> Option<u64>
+        ensures { IsFirst (meets_at (λ m s. has (list_of self.now m) s) mode) serial result }
+    {
+        let read = first_of_mode(&self.reads, Mode::Read, mode, serial);
+        let written = first_of_mode(&self.writes, Mode::Write, mode, serial);
+        let added = first_of_mode(&self.additions, Mode::Add, mode, serial);
+        sooner(read, sooner(written, added))
+    }
+}
+
+/// For each object its touches.
+///
+/// Contracts see which entry touches an object, and how (`has_touch`).
+#[derive(Drop)]
+pub struct TouchLists {
+    objects: BTreeMap<SharedObject, Touches>,
+}
+
+impl TouchLists {
+    /// Lists without a touch. It takes no memory.
+    pub fn new(alloc: Global) -> TouchLists
+        ensures { (o : Obj) (m : Mode) (s : ℕ) → has_touch result o m s ≡ false }
+    {
+        TouchLists {
+            objects: BTreeMap::new(alloc),
+        }
+    }
+
+    /// Makes an object known. No touch changes, also when out of memory.
+    fn know(&mut self, alloc: Global, object: &SharedObject) -> Result<(), AllocError>
+        ensures same { AreSame self.old self.new }
+        ensures known { OnOk result (knows self.new object.now ≡ true) }
+    {
+        if self.objects.contains_key(object) {
+            return Ok(());
+        }
+        let key = object.copy()?;
+        drop(self.objects.insert(key, Touches::new(alloc))?);
+        Ok(())
+    }
+
+    /// Adds a touch of an object that is known. When out of memory, no touch changes.
+    fn add_known(&mut self, access: &SharedAccess, serial: u64) -> Result<(), AllocError>
+        requires { knows self.old access.now.object ≡ true }
+        ensures added { OnOk result (AreWith (access.now ∷ []) serial self.old self.new) }
+        ensures unchanged_on_error { OnErr result (AreSame self.old self.new) }
+    {
+        match self.objects.get_mut(access.object()) {
+            Some(touches) => touches.add(access.mode(), serial),
+            None => unreachable!(),
+        }
+    }
+
+    /// Makes an object known, and adds its first touch. When out of memory, no touch changes.
+    fn add_first(
+        &mut self,
+        alloc: Global,
+        access: &SharedAccess,
+        serial: u64,
+    ) -> Result<(), AllocError>
+        ensures added { OnOk result (AreWith (access.now ∷ []) serial self.old self.new) }
+        ensures unchanged_on_error { OnErr result (AreSame self.old self.new) }
+    {
+        self.know(alloc, access.object())?;
+        self.add_known(access, serial)
+    }
+
+    /// Adds a touch; an object that is known is sought once. When out of memory, no touch changes.
+    fn add(&mut self, alloc: Global, access: &SharedAccess, serial: u64) -> Result<(), AllocError>
+        ensures added { OnOk result (AreWith (access.now ∷ []) serial self.old self.new) }
+        ensures unchanged_on_error { OnErr result (AreSame self.old self.new) }
+    {
+        match self.objects.get_mut(access.object()) {
+            Some(touches) => touches.add(access.mode(), serial),
+            None => self.add_first(alloc, access, serial),
+        }
+    }
+
+    /// Takes a touch out, if it is there. It takes no memory.
+    fn remove(&mut self, access: &SharedAccess, serial: u64)
+        ensures { AreWithout (access.now ∷ []) serial self.old self.new }
+    {
+        match self.objects.get_mut(access.object()) {
+            Some(touches) => touches.remove(access.mode(), serial),
+            None => {}
+        }
+    }
+
+    /// Adds the touches of an entry. When out of memory, those of some accesses in front are added.
+    pub fn add_each(
+        &mut self,
+        alloc: Global,
+        footprint: &[SharedAccess],
+        serial: u64,
+    ) -> Result<(), AllocError>
+        ensures added { OnOk result (AreWith footprint.now serial self.old self.new) }
+        ensures some_on_error { OnErr result
+            ((n : ℕ) × AreWith (first_so_many n footprint.now) serial self.old self.new) }
+    {
+        for access in footprint {
+            match self.add(alloc, access, serial) {
+                Ok(()) => {}
+                Err(error) => return Err(error),
+            }
+        }
+        Ok(())
+    }
+
+    /// Adds the touches of an entry that has none yet. When out of memory, no touch changes.
+    pub fn add_all(
+        &mut self,
+        alloc: Global,
+        footprint: &[SharedAccess],
+        serial: u64,
+    ) -> Result<(), AllocError>
+        requires { (o : Obj) (m : Mode) → has_touch self.old o m serial ≡ false }
+        ensures added { OnOk result (AreWith footprint.now serial self.old self.new) }
+        ensures unchanged_on_error { OnErr result (AreSame self.old self.new) }
+    {
+        match self.add_each(alloc, footprint, serial) {
+            Ok(()) => Ok(()),
+            Err(error) => {
+                self.remove_all(footprint, serial);
+                Err(error)
+            }
+        }
+    }
+
+    /// Takes the touches of an entry out. It takes no memory.
+    pub fn remove_all(&mut self, footprint: &[SharedAccess], serial: u64)
+        ensures { AreWithout footprint.now serial self.old self.new }
+    {
+        for access in footprint {
+            self.remove(access, serial);
+        }
+    }
+
+    /// The first touch after a serial that conflicts with an access.
+    fn first_at(&self, access: &SharedAccess, serial: u64) -> Option<u64>
+        ensures { IsFirst (meets_at (has_touch self.now access.now.object) access.now.mode) serial
+            result }
+    {
+        match self.objects.get(access.object()) {
+            Some(touches) => touches.first_conflict(access.mode(), serial),
+            None => None,
+        }
+    }
+
+    /// The serial of the first entry after a serial that conflicts with a footprint: the least one
+    /// over its objects. It takes no memory.
+    pub fn first_conflict(&self, footprint: &[SharedAccess], serial: u64) -> Option<u64>
+        ensures { IsFirst (meets (has_touch self.now) footprint.now) serial result }
+    {
+        let mut first = None;
+        for access in footprint {
+            first = sooner(first, self.first_at(access, serial));
+        }
+        first
+    }
+}
