@@ -16,8 +16,9 @@ history_after program workers commands = run (rules_of program workers) no_histo
 
 -- the three sentences, of a program with so many workers
 pub record Headline (program : Raw) (workers : ℕ) : Type 0 where
-  -- after any commands the state is the replay of the entries that remain: what they give, in order, from the start
-  pub state_is_the_replay : (commands : List Command)
+  -- after any commands the entries that remain can be made, in order, from the start; the state that they give is
+  -- `state_of_entries`. That a machine's store holds that state is promised by `Machine::look` and `Machine::control`
+  pub remaining_steps_can_be_made : (commands : List Command)
       → let r = rules_of program workers in let entries = (history_after program workers commands).entries in
       replay r (map label_of entries) ≡ Some (state_of_entries r entries)
   -- a step that is done and then an undo of its worker change nothing but the number of steps ever made

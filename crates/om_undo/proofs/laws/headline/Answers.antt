@@ -8,7 +8,7 @@ use Rattle.om_undo.proofs.laws.headline.Goals as goal
 
 pub returns : goal.returns
 returns c = λ program workers. let r : Rules = rules_of program workers in record {
-  state_is_the_replay = λ commands.
+  remaining_steps_can_be_made = λ commands.
       let x : IsReplayed r (history_after program workers commands).entries = c.remaining_steps.ensures r commands in
       x.replayed ∙ ap (λ o. Some (unwrap_or o r.start)) (sym x.replayed);
   undo_takes_the_step_back = λ commands label serial line fault.

@@ -16,4 +16,4 @@ returns-clause-replayed c =
     subst (λ (m : MachineView). replay (rules_for m) (map label_of m.history.entries) ≡ Some (state_in m))
     c.self.view_is
     (subst (λ (h : History). replay r (map label_of h.entries) ≡ Some (state_of_entries r h.entries)) run.is
-    ((c.headline.ensures c.self.inside.program c.self.inside.workers).state_is_the_replay run.commands))
+    ((c.headline.ensures c.self.inside.program c.self.inside.workers).remaining_steps_can_be_made run.commands))
