@@ -14,6 +14,7 @@ ghost use Rattle.om_history.specs.Commands.{IsRun, IsGone, Rise, TakesCone};
 ghost use Rattle.om_history.specs.Pasts.{past_in, IsHeld, Stays};
 ghost use Rattle.om_undo.specs.Headline.{Headline};
 ghost use Rattle.om_undo.specs.Machines.{rules_for, state_in, IsPlan, RepliesToPlan, TakesPlan};
+ghost use Rattle.om_undo.specs.PlannedSteps.{choice_in, is_made, planned_at};
 
 use crate::laws::{headline, shaped_rules, steady_rules};
 use om_cells::{Entry, Label, Val};
@@ -27,6 +28,7 @@ use om_task::start::started;
 use om_task::{Choice, Plan, Worker, plan};
 use std::alloc::{AllocError, Global};
 use std::marker::Model;
+use std::snapshot::Snapshot;
 
 /// A program's run.
 ///
@@ -53,6 +55,85 @@ impl Model for Machine {
     ghost invariant = { λ m. IsSound m.program m.workers m.history };
 }
 
+/// A choice as a planned step keeps it: the names of tasks are large, and lie apart.
+#[derive(Drop)]
+enum PlannedChoice {
+    Next,
+    Start(Box<Name>),
+}
+
+/// The step that a worker would take by a choice, as it was planned at a machine.
+///
+/// Contracts see that machine and the step's label. Its plan is always the one of that label at that
+/// machine, so a machine that is the same one takes it without planning again.
+#[derive(Drop)]
+pub struct PlannedStep {
+    worker: u8,
+    choice: PlannedChoice,
+    plan: Plan,
+    at: Snapshot<Machine>,
+}
+
+impl Model for PlannedStep {
+    ghost use Rattle.om_undo.specs.PlannedSteps.{PlannedView, label_by, IsPlanAt};
+
+    ghost Value = { PlannedView };
+
+    ghost view = { λ p. record { machine = p.at.value; label = label_by p.worker p.choice } };
+
+    ghost invariant = { λ p. IsPlanAt p.at.value (label_by p.worker p.choice) p.plan };
+}
+
+/// A choice, to be kept. Its only error is out of memory.
+fn kept(alloc: Global, choice: &Choice) -> Result<PlannedChoice, AllocError>
+    ensures { IfOk result (λ kept. choice_in kept ≡ choice.now) }
+{
+    match choice {
+        Choice::Next => Ok(PlannedChoice::Next),
+        Choice::Start(task) => Ok(PlannedChoice::Start(Box::new(alloc, *task)?)),
+    }
+}
+
+impl PlannedChoice {
+    /// The choice.
+    fn get(&self) -> Choice
+        ensures { result ≡ choice_in self.now }
+    {
+        match self {
+            PlannedChoice::Next => Choice::Next,
+            PlannedChoice::Start(task) => Choice::Start(**task),
+        }
+    }
+}
+
+impl PlannedStep {
+    /// Its worker, from 0.
+    pub fn worker(&self) -> u8
+        ensures { result ≡ self.now.label.worker }
+    {
+        self.worker
+    }
+
+    /// The choice by which it is taken.
+    pub fn choice(&self) -> Choice
+        ensures { result ≡ self.now.label.choice }
+    {
+        self.choice.get()
+    }
+
+    /// Whether it can be made: it is neither blocked, nor has its worker ended.
+    pub fn is_possible(&self) -> bool
+        ensures { result ≡ is_made (reply_to_step (rules_for self.now.machine)
+            self.now.machine.history self.now.label) }
+    {
+        match &self.plan {
+            Plan::Updates(_) => true,
+            Plan::Blocked(_) => false,
+            Plan::Ended => false,
+        }
+    }
+}
+
 /// The step that a worker would take by its choice.
 fn label(worker: u8, choice: &Choice) -> Label
     ensures { result ≡ record { worker = worker; choice = choice.now } }
@@ -69,10 +150,11 @@ fn planned(
     program: &Program,
     workers: u8,
     history: &History,
-    label: Label,
+    label: &Label,
 ) -> Result<Plan, AllocError>
     requires { IsHeld (rules_of program.now workers) history.now }
-    ensures { IfOk result (λ plan. IsPlan (rules_of program.now workers) history.now label plan) }
+    ensures { IfOk result
+        (λ plan. IsPlan (rules_of program.now workers) history.now label.now plan) }
 {
     low_counters();
     let worker = Worker {
@@ -82,15 +164,16 @@ fn planned(
     plan(alloc, program, history.store(), worker, label.choice)
 }
 
-/// What `taken` of a plan for a label would answer now: the reply of the definition of a run. Nothing
-/// changes.
-fn replied(history: &History, label: Label, plan: Plan) -> StepReply
+/// What `taken` of a plan for a worker's label would answer now: the reply of the definition of a run.
+/// Nothing changes.
+fn replied(history: &History, worker: u8, plan: &Plan) -> StepReply
     requires { (r : Rules) × IsHeld r history.now }
-    ensures { RepliesToPlan label plan history.now result }
+    ensures { (label : Label) → label.worker ≡ worker
+        → RepliesToPlan label plan.now history.now result }
 {
     match plan {
-        Plan::Updates(change) => history.reply(label.worker, &change),
-        Plan::Blocked(why) => StepReply::Blocked(why),
+        Plan::Updates(change) => history.reply(worker, change),
+        Plan::Blocked(why) => StepReply::Blocked(*why),
         Plan::Ended => StepReply::Ended,
     }
 }
@@ -156,14 +239,9 @@ impl Machine {
             }) }
         ensures unchanged_on_error { OnErr result (self.new ≡ self.old) }
     {
-        let plan = planned(
-            alloc,
-            &self.program,
-            self.workers,
-            &self.history,
-            label(worker, &choice),
-        )?;
-        taken(&mut self.history, alloc, label(worker, &choice), plan)
+        let label = label(worker, &choice);
+        let plan = planned(alloc, &self.program, self.workers, &self.history, &label)?;
+        taken(&mut self.history, alloc, label, plan)
     }
 
     /// What `step` would answer now. Nothing changes; the only error is out of memory.
@@ -173,14 +251,58 @@ impl Machine {
             (λ x. x ≡ reply_to_step (rules_for self.now) self.now.history
             (record { worker = worker; choice = choice })) }
     {
-        let plan = planned(
-            alloc,
-            &self.program,
-            self.workers,
-            &self.history,
-            label(worker, &choice),
-        )?;
-        Ok(replied(&self.history, label(worker, &choice), plan))
+        let label = label(worker, &choice);
+        let plan = planned(alloc, &self.program, self.workers, &self.history, &label)?;
+        let reply = replied(&self.history, worker, &plan);
+        drop(plan);
+        Ok(reply)
+    }
+
+    /// The step that a worker would take by a choice, planned and not taken. Nothing changes; the only
+    /// error is out of memory.
+    pub fn plan(
+        &self,
+        alloc: Global,
+        worker: u8,
+        choice: &Choice,
+    ) -> Result<PlannedStep, AllocError>
+        requires { worker < self.now.workers }
+        ensures { IfOk result
+            (λ p. p ≡ planned_at self.now (record { worker = worker; choice = choice.now })) }
+    {
+        let kept = kept(alloc, choice)?;
+        let label = label(worker, choice);
+        let plan = planned(alloc, &self.program, self.workers, &self.history, &label)?;
+        Ok(PlannedStep {
+            worker,
+            choice: kept,
+            plan,
+            at: Snapshot::of(self),
+        })
+    }
+
+    /// Takes a step that was planned at this very machine, or says why it can't be taken: what `step`
+    /// does, which plans it first.
+    ///
+    /// Only `Done` changes anything. When out of memory, nothing changes.
+    pub fn take(&mut self, alloc: Global, step: PlannedStep) -> Result<StepReply, AllocError>
+        requires planned { step.machine ≡ self.old }
+        requires few_made { self.old.history.made < 2 ^ 63 }
+        ensures reply { IfOk result
+            (λ x. x ≡ reply_to_step (rules_for self.old) self.old.history step.label) }
+        ensures after { OnOk result
+            (self.new ≡ record self.old
+            { history = after_step (rules_for self.old) self.old.history step.label }) }
+        ensures unchanged_on_error { OnErr result (self.new ≡ self.old) }
+    {
+        let PlannedStep {
+            worker,
+            choice,
+            plan,
+            at: _,
+        } = step;
+        let label = label(worker, &choice.get());
+        taken(&mut self.history, alloc, label, plan)
     }
 
     /// Takes a worker's last step out of the history, wherever it stands, unless a later step
