@@ -1,5 +1,6 @@
 -- What contracts see of a book.
-use Rattle.std.specs.Prelude.{◌≡◌, ◌+◌, ℕ, Bool, nat_le, List, [], ◌∷◌, ◌++◌, length, take}
+use Rattle.std.specs.Prelude.{◌≡◌, ◌+◌, ◌-◌, ℕ, Bool, nat_le, List, [], ◌∷◌, ◌++◌, length, take, slice_get}
+use Rattle.std.specs.Prelude.{Option, option_map}
 use Rattle.om_undo.specs.Machines.{MachineView}
 use Rattle.om_journal.specs.Runs.{fresh}
 use Rattle.om_journal.specs.Journals.{left_by}
@@ -28,6 +29,10 @@ is_full b = nat_le 200000 (records_of b)
 abbrev pub with_record : BookView → ℕ → Command → Reply → BookView
 with_record b seat command reply =
     record b { journal = b.journal ++ record { seat = seat; command = command; reply = reply } ∷ [] }
+
+-- what the last call was answered, where there is one
+abbrev pub last_reply : BookView → Option Reply
+last_reply b = option_map (λ (r : JournalRecord). r.reply) (slice_get b.journal (records_of b - 1))
 
 -- so many records were added to a book, and nothing else of it changed
 abbrev pub IsGrown : BookView → BookView → ℕ → Type 0

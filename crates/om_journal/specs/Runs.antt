@@ -1,6 +1,7 @@
 -- What a machine of one thread replies to a command, and what the command leaves.
 use Rattle.std.specs.Prelude.{◌≡◌, ◌<◌, ℕ, Bool, true, false}
 use Rattle.om_code.specs.declared.raw.Raw.{Raw}
+use Rattle.om_cells.specs.declared.step.Label.{Label}
 use Rattle.om_history.specs.declared.reply.StepReply.TheVariants as step_reply
 use Rattle.om_history.specs.Runs.{History, no_history, reply_to_step, after_step, reply_to_undo, after_undo}
 use Rattle.om_history.specs.Cones.{reply_to_roll, after_roll}
@@ -16,6 +17,10 @@ use Rattle.om_journal.specs.declared.reply.Reply.TheVariants as reply
 -- the machine of a program, before any command
 abbrev pub fresh : Raw → ℕ → MachineView
 fresh program workers = record { program = program; workers = workers; history = no_history }
+
+-- the command of a label's step
+abbrev pub step_command : Label → Command
+step_command l = command.Step l.worker l.choice
 
 -- the worker that a command names, if it names one, is below so many
 abbrev pub IsInRange : ℕ → Command → Type 0

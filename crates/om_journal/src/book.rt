@@ -1,19 +1,20 @@
 //! The book: a machine beside the journal of all calls that it answered.
 
-ghost use Rattle.std.specs.Prelude.{◌≡◌, ◌<◌, ◌≤◌, ◌+◌, ◌^◌, ◌++◌, ◌∷◌, [], ◌↔◌, IfOk, IfErr, OnOk, OnErr, drop, length};
-ghost use Rattle.om_journal.specs.Runs.{IsInRange, IsReply, after, fresh};
+ghost use Rattle.std.specs.Prelude.{◌≡◌, ◌<◌, ◌≤◌, ◌+◌, ◌^◌, ◌++◌, ◌∷◌, [], ◌↔◌, IfOk, IfErr, OnOk, OnErr, drop, length, vec_capacity, Some};
+ghost use Rattle.om_journal.specs.Runs.{IsInRange, IsReply, after, fresh, reply_to, step_command};
 ghost use Rattle.om_journal.specs.Journals.{IsLegal, IsSound, done_in};
-ghost use Rattle.om_journal.specs.Books.{is_full, machine_of, records_of, with_record};
+ghost use Rattle.om_journal.specs.Books.{is_full, last_reply, machine_of, records_of, with_record};
 ghost use Rattle.om_journal.specs.Histories.{told_in};
 ghost use Rattle.om_history.specs.Commands.{run};
+ghost use Rattle.om_history.specs.Runs.{reply_to_step};
 ghost use Rattle.om_undo.specs.Machines.{rules_for};
 
 use crate::command::Command;
 use crate::kept::KeptCommand;
-use crate::replies::done;
+use crate::replies::{done, done_thrice};
 use crate::reply::Reply;
 use om_code::Program;
-use om_undo::Machine;
+use om_undo::{Machine, PlannedStep, StepReply};
 use std::alloc::{AllocError, Global};
 use std::marker::Model;
 use std::mem::size_of;
@@ -127,6 +128,78 @@ impl Book {
         done_in(&self.journal.as_slice()[calls..])
     }
 
+    /// What the last call was answered.
+    pub fn last_reply(&self) -> &Reply
+        requires { 0 < records_of self.now }
+        ensures { Some result.now ≡ last_reply self.now }
+    {
+        match self.journal.as_slice().last() {
+            Some(answered) => &answered.reply,
+            None => unreachable!(),
+        }
+    }
+
+    /// There is room for one more record, or the error is `Full`.
+    fn has_room(&self) -> Result<(), CallError>
+        ensures room { OnOk result (records_of self.now < 200000) }
+        ensures full { IfErr result (λ e. (e ≡ CallError.Full) × (200000 ≤ records_of self.now)) }
+    {
+        if self.records() >= MAX_RECORDS {
+            return Err(CallError::Full);
+        }
+        Ok(())
+    }
+
+    /// Does what a seat's command asks, and adds its record to the journal, where its reply can be read
+    /// (`last_reply`).
+    ///
+    /// Errors are `Full`, exactly where there are 200,000 records, and out of memory. They
+    /// change nothing.
+    pub fn call(&mut self, alloc: Global, seat: u8, command: &Command) -> Result<(), CallError>
+        requires { IsInRange self.old.start.workers command.now }
+        ensures recorded { OnOk result (self.new ≡ with_record self.old seat command.now
+            (reply_to (machine_of self.old) command.now)) }
+        ensures unchanged_on_error { OnErr result (self.new ≡ self.old) }
+        ensures full { IfErr result (λ e. e ≡ CallError.Full ↔ 200000 ≤ records_of self.old) }
+        ensures room { OnOk result (records_of self.old < 200000) }
+    {
+        self.has_room()?;
+        match append_call(alloc, &mut self.machine, &mut self.journal, seat, command) {
+            Ok(()) => Ok(()),
+            Err(AllocError) => Err(CallError::OutOfMemory),
+        }
+    }
+
+    /// Takes a step that was planned at its machine, and adds the record of that call of a seat to the
+    /// journal: as `call` of the step's command, which plans it first.
+    ///
+    /// Errors are `Full`, exactly where there are 200,000 records, and out of memory. They
+    /// change nothing.
+    pub fn take(
+        &mut self,
+        alloc: Global,
+        seat: u8,
+        step: PlannedStep,
+    ) -> Result<StepReply, CallError>
+        requires { step.machine ≡ machine_of self.old }
+        ensures reply { IfOk result (λ x. x ≡ reply_to_step (rules_for (machine_of self.old))
+            (machine_of self.old).history step.label) }
+        ensures recorded { OnOk result (self.new ≡ with_record self.old seat (step_command step.label)
+            (reply_to (machine_of self.old) (step_command step.label))) }
+        ensures unchanged_on_error { OnErr result (self.new ≡ self.old) }
+        ensures full { IfErr result (λ e. e ≡ CallError.Full ↔ 200000 ≤ records_of self.old) }
+        ensures room { OnOk result (records_of self.old < 200000) }
+    {
+        if let Err(error) = self.has_room() {
+            drop(step);
+            return Err(error);
+        }
+        match append_step(alloc, &mut self.machine, &mut self.journal, seat, step) {
+            Ok(reply) => Ok(reply),
+            Err(AllocError) => Err(CallError::OutOfMemory),
+        }
+    }
+
     /// Does what a seat's command asks, and adds its record to the journal.
     ///
     /// Errors are `Full`, exactly where there are 200,000 records, and out of memory. They
@@ -159,10 +232,8 @@ impl Book {
         ensures full { IfErr result (λ e. e ≡ CallError.Full ↔ 200000 ≤ records_of self.old) }
         ensures room { OnOk result (records_of self.old < 200000) }
     {
-        if self.records() >= MAX_RECORDS {
-            return Err(CallError::Full);
-        }
-        match append(alloc, &mut self.machine, &mut self.journal, seat, command) {
+        self.has_room()?;
+        match append_thrice(alloc, &mut self.machine, &mut self.journal, seat, &command) {
             Ok(replies) => Ok(replies),
             Err(AllocError) => Err(CallError::OutOfMemory),
         }
@@ -170,26 +241,108 @@ impl Book {
 }
 
 /// Does what a command asks, and adds its record. When out of memory, nothing changes.
-fn append(
+fn append_call(
     alloc: Global,
     machine: &mut Machine,
     journal: &mut Vec<JournalRecord>,
     seat: u8,
-    command: Command,
-) -> Result<(Reply, Reply), AllocError>
-    requires in_range { IsInRange machine.old.workers command }
+    command: &Command,
+) -> Result<(), AllocError>
+    requires in_range { IsInRange machine.old.workers command.now }
     requires few_made { machine.old.history.made < 2 ^ 63 }
-    ensures reply { IfOk result (λ x. IsReply machine.old command x.0) }
-    ensures copy { IfOk result (λ x. x.1 ≡ x.0) }
-    ensures machine { OnOk result (machine.new ≡ after machine.old command) }
-    ensures journal { IfOk result (λ x. journal.new.items
-        ≡ journal.old.items ++ record { seat = seat; command = command; reply = x.0 } ∷ []) }
+    ensures machine { OnOk result (machine.new ≡ after machine.old command.now) }
+    ensures journal { OnOk result (journal.new.items ≡ journal.old.items
+        ++ record { seat = seat; command = command.now; reply = reply_to machine.old command.now }
+        ∷ []) }
     ensures unchanged_machine { OnErr result (machine.new ≡ machine.old) }
     ensures unchanged_journal { OnErr result (journal.new.items ≡ journal.old.items) }
 {
     journal.reserve(1)?;
-    let asked = KeptCommand::of(alloc, &command)?;
-    let replies = done(alloc, machine, command)?;
+    let asked = KeptCommand::of(alloc, command)?;
+    let reply = done(alloc, machine, command)?;
+    match journal.push(JournalRecord {
+        seat,
+        command: asked,
+        reply,
+    }) {
+        Ok(()) => Ok(()),
+        Err(_) => unreachable!(),
+    }
+}
+
+/// The command of a planned step, to be kept, with room for its record. Its only error is out of memory.
+fn prepared(
+    alloc: Global,
+    journal: &mut Vec<JournalRecord>,
+    step: &PlannedStep,
+) -> Result<KeptCommand, AllocError>
+    ensures command { IfOk result (λ asked. asked ≡ step_command step.now.label) }
+    ensures room { OnOk result (length journal.new.items < vec_capacity journal.new) }
+    ensures unchanged { journal.new.items ≡ journal.old.items }
+{
+    journal.reserve(1)?;
+    KeptCommand::of_step(alloc, step.worker(), &step.choice())
+}
+
+/// Takes a planned step, and adds its record. When out of memory, nothing changes.
+fn append_step(
+    alloc: Global,
+    machine: &mut Machine,
+    journal: &mut Vec<JournalRecord>,
+    seat: u8,
+    step: PlannedStep,
+) -> Result<StepReply, AllocError>
+    requires planned { step.machine ≡ machine.old }
+    requires few_made { machine.old.history.made < 2 ^ 63 }
+    ensures reply { IfOk result
+        (λ x. x ≡ reply_to_step (rules_for machine.old) machine.old.history step.label) }
+    ensures machine { OnOk result (machine.new ≡ after machine.old (step_command step.label)) }
+    ensures journal { OnOk result (journal.new.items ≡ journal.old.items
+        ++ record {
+          seat = seat;
+          command = step_command step.label;
+          reply = reply_to machine.old (step_command step.label);
+        } ∷ []) }
+    ensures unchanged_machine { OnErr result (machine.new ≡ machine.old) }
+    ensures unchanged_journal { OnErr result (journal.new.items ≡ journal.old.items) }
+{
+    let Ok(asked) = prepared(alloc, journal, &step) else {
+        drop(step);
+        return Err(AllocError);
+    };
+    let reply = machine.take(alloc, step)?;
+    match journal.push(JournalRecord {
+        seat,
+        command: asked,
+        reply: Reply::Step(reply),
+    }) {
+        Ok(()) => Ok(reply),
+        Err(_) => unreachable!(),
+    }
+}
+
+/// Does what a command asks, and adds its record; the reply comes twice. When out of memory, nothing
+/// changes.
+fn append_thrice(
+    alloc: Global,
+    machine: &mut Machine,
+    journal: &mut Vec<JournalRecord>,
+    seat: u8,
+    command: &Command,
+) -> Result<(Reply, Reply), AllocError>
+    requires in_range { IsInRange machine.old.workers command.now }
+    requires few_made { machine.old.history.made < 2 ^ 63 }
+    ensures reply { IfOk result (λ x. IsReply machine.old command.now x.0) }
+    ensures copy { IfOk result (λ x. x.1 ≡ x.0) }
+    ensures machine { OnOk result (machine.new ≡ after machine.old command.now) }
+    ensures journal { IfOk result (λ x. journal.new.items ≡ journal.old.items
+        ++ record { seat = seat; command = command.now; reply = x.0 } ∷ []) }
+    ensures unchanged_machine { OnErr result (machine.new ≡ machine.old) }
+    ensures unchanged_journal { OnErr result (journal.new.items ≡ journal.old.items) }
+{
+    journal.reserve(1)?;
+    let asked = KeptCommand::of(alloc, command)?;
+    let replies = done_thrice(alloc, machine, command)?;
     match journal.push(JournalRecord {
         seat,
         command: asked,

@@ -87,22 +87,25 @@ impl Model for KeptCommand {
     ghost view = { λ k. command_in k.parts };
 }
 
+/// The parts of a step, to be kept. Its only error is out of memory.
+fn step_parts_of(alloc: Global, worker: u8, choice: &Choice) -> Result<CommandParts, AllocError>
+    ensures { IfOk result (λ parts. command_in parts ≡ Command.Step worker choice.now) }
+{
+    match choice {
+        Choice::Next => Ok(CommandParts::Next(worker)),
+        Choice::Start(task) => Ok(CommandParts::Start {
+            worker,
+            task: Box::new(alloc, *task)?,
+        }),
+    }
+}
+
 /// The parts of a command, to be kept. Its only error is out of memory.
 fn parts_of(alloc: Global, command: &Command) -> Result<CommandParts, AllocError>
     ensures { IfOk result (λ parts. command_in parts ≡ command.now) }
 {
     match command {
-        Command::Step {
-            worker,
-            choice: Choice::Next,
-        } => Ok(CommandParts::Next(*worker)),
-        Command::Step {
-            worker,
-            choice: Choice::Start(task),
-        } => Ok(CommandParts::Start {
-            worker: *worker,
-            task: Box::new(alloc, *task)?,
-        }),
+        Command::Step { worker, choice } => step_parts_of(alloc, *worker, choice),
         Command::Undo(worker) => Ok(CommandParts::Undo(*worker)),
         Command::Roll(serial) => Ok(CommandParts::Roll(*serial)),
         Command::Look(Query::Value(object)) => {
@@ -120,6 +123,15 @@ impl KeptCommand {
     {
         Ok(KeptCommand {
             parts: parts_of(alloc, command)?,
+        })
+    }
+
+    /// The step of a worker by its choice, to be kept; its only error is out of memory.
+    pub fn of_step(alloc: Global, worker: u8, choice: &Choice) -> Result<KeptCommand, AllocError>
+        ensures { IfOk result (λ kept. kept ≡ Command.Step worker choice.now) }
+    {
+        Ok(KeptCommand {
+            parts: step_parts_of(alloc, worker, choice)?,
         })
     }
 

@@ -1,4 +1,4 @@
-//! The machine's reply to a command, three times: all copies are made before anything changes.
+//! The machine's reply to a command, once or three times: all copies are made before anything changes.
 
 ghost use Rattle.std.specs.Prelude.{◌≡◌, ◌<◌, ◌^◌, IfOk, OnOk, OnErr, true};
 ghost use Rattle.om_journal.specs.Kept.{is_conflict};
@@ -27,20 +27,42 @@ pub(crate) struct Replies {
 pub(crate) fn done(
     alloc: Global,
     machine: &mut Machine,
-    command: Command,
-) -> Result<Replies, AllocError>
-    requires in_range { IsInRange machine.old.workers command }
+    command: &Command,
+) -> Result<Reply, AllocError>
+    requires in_range { IsInRange machine.old.workers command.now }
     requires few_made { machine.old.history.made < 2 ^ 63 }
-    ensures reply { IfOk result (λ x. IsReply machine.old command x.answer) }
-    ensures same { IfOk result (λ x. (x.receipt ≡ x.answer) × (x.kept ≡ x.answer)) }
-    ensures after { OnOk result (machine.new ≡ after machine.old command) }
+    ensures reply { IfOk result (λ x. IsReply machine.old command.now x) }
+    ensures after { OnOk result (machine.new ≡ after machine.old command.now) }
     ensures unchanged_on_error { OnErr result (machine.new ≡ machine.old) }
 {
     match command {
-        Command::Step { worker, choice } => Ok(stepped(&machine.step(alloc, worker, choice)?)),
-        Command::Undo(worker) => undo(alloc, machine, worker),
-        Command::Roll(serial) => roll(alloc, machine, serial),
-        Command::Look(query) => look(alloc, machine, &query),
+        Command::Step { worker, choice } => {
+            Ok(Reply::Step(machine.step(alloc, *worker, *choice)?))
+        }
+        Command::Undo(worker) => undo(alloc, machine, *worker),
+        Command::Roll(serial) => Ok(Reply::Roll(machine.roll(alloc, *serial)?)),
+        Command::Look(query) => looked(alloc, machine, query),
+    }
+}
+
+/// As `done`, and answers the reply three times.
+pub(crate) fn done_thrice(
+    alloc: Global,
+    machine: &mut Machine,
+    command: &Command,
+) -> Result<Replies, AllocError>
+    requires in_range { IsInRange machine.old.workers command.now }
+    requires few_made { machine.old.history.made < 2 ^ 63 }
+    ensures reply { IfOk result (λ x. IsReply machine.old command.now x.answer) }
+    ensures same { IfOk result (λ x. (x.receipt ≡ x.answer) × (x.kept ≡ x.answer)) }
+    ensures after { OnOk result (machine.new ≡ after machine.old command.now) }
+    ensures unchanged_on_error { OnErr result (machine.new ≡ machine.old) }
+{
+    match command {
+        Command::Step { worker, choice } => Ok(stepped(&machine.step(alloc, *worker, *choice)?)),
+        Command::Undo(worker) => undo_thrice(alloc, machine, *worker),
+        Command::Roll(serial) => roll_thrice(alloc, machine, *serial),
+        Command::Look(query) => look_thrice(alloc, machine, query),
     }
 }
 
@@ -58,7 +80,23 @@ fn stepped(reply: &StepReply) -> Replies
 
 /// Takes a worker's last step back. Only an undo that is refused, and so changes nothing, asks for memory.
 #[tactic(auto, using(crate::proofs::Undos::refused_same))]
-fn undo(alloc: Global, machine: &mut Machine, worker: u8) -> Result<Replies, AllocError>
+fn undo(alloc: Global, machine: &mut Machine, worker: u8) -> Result<Reply, AllocError>
+    requires { worker < machine.old.workers }
+    ensures reply { IfOk result (λ x. IsReply machine.old (Command.Undo worker) x) }
+    ensures after { OnOk result (machine.new ≡ after machine.old (Command.Undo worker)) }
+    ensures unchanged_on_error { OnErr result (machine.new ≡ machine.old) }
+{
+    let reply = machine.undo(worker);
+    match KeptUndoReply::of(alloc, &reply) {
+        Ok(kept) => Ok(Reply::Undo(kept)),
+        Err(error) => Err(error),
+    }
+}
+
+/// Takes a worker's last step back, and answers three times. Only an undo that is refused, and so changes
+/// nothing, asks for memory.
+#[tactic(auto, using(crate::proofs::Undos::refused_same))]
+fn undo_thrice(alloc: Global, machine: &mut Machine, worker: u8) -> Result<Replies, AllocError>
     requires { worker < machine.old.workers }
     ensures reply { IfOk result (λ x. IsReply machine.old (Command.Undo worker) x.answer) }
     ensures same { IfOk result (λ x. (x.receipt ≡ x.answer) × (x.kept ≡ x.answer)) }
@@ -88,9 +126,10 @@ fn undone(alloc: Global, reply: &UndoReply) -> Result<Replies, AllocError>
     })
 }
 
-/// Rolls the entry with a serial. What it takes out is found beforehand for the copies.
+/// Rolls the entry with a serial, and answers three times. What it takes out is found beforehand for the
+/// copies.
 #[tactic(auto, using(crate::proofs::Rolls::rolled_same))]
-fn roll(alloc: Global, machine: &mut Machine, serial: u64) -> Result<Replies, AllocError>
+fn roll_thrice(alloc: Global, machine: &mut Machine, serial: u64) -> Result<Replies, AllocError>
     ensures reply { IfOk result (λ x. IsReply machine.old (Command.Roll serial) x.answer) }
     ensures same { IfOk result (λ x. (x.receipt ≡ x.answer) × (x.kept ≡ x.answer)) }
     ensures after { OnOk result (machine.new ≡ after machine.old (Command.Roll serial)) }
@@ -114,7 +153,7 @@ fn roll(alloc: Global, machine: &mut Machine, serial: u64) -> Result<Replies, Al
 }
 
 /// Answers a question three times.
-fn look(alloc: Global, machine: &Machine, query: &Query) -> Result<Replies, AllocError>
+fn look_thrice(alloc: Global, machine: &Machine, query: &Query) -> Result<Replies, AllocError>
     ensures reply { IfOk result (λ x. x.answer ≡ answer_to machine.now query.now) }
     ensures same { IfOk result (λ x. (x.receipt ≡ x.answer) × (x.kept ≡ x.answer)) }
 {

@@ -1,5 +1,5 @@
-use Rattle.std.proofs.Common.{rules, arith, ◌<◌, length}
-use Rattle.std.proofs.lemmas.Grind.{common_steps}
+use Rattle.std.proofs.Common.{rules, subst, sym, ◌<◌, length}
+use Rattle.om_journal.specs.Books.{BookView}
 use Rattle.om_journal.proofs.Growing.{sound_next, sound_same}
 use Rattle.om_journal.proofs.book.Book.apply_with_copy.Goals.{in-Ok, in-Err}
 use Rattle.om_journal.proofs.book.Book.apply_with_copy.Goals as goal
@@ -7,9 +7,10 @@ use Rattle.om_journal.proofs.book.Book.apply_with_copy.Goals as goal
 pub invariant_of-self : goal.invariant_of-self
 invariant_of-self c =
     let journal = c.self.inside.journal.items in
-    elim c.match-append.branch [
+    elim c.match-append_thrice.branch [
       | in-Ok w ↦
-          let room : length journal < 200000 = grind (arith, common_steps) in
+          let room : length journal < 200000 = subst (λ (b : BookView). length b.journal < 200000)
+          (sym c.self.view_is) c.in_ok-has_room.ensures.room in
           sound_next c.self.inside.machine _ _ journal _ c.args.seat c.args.command w.in-Ok.replies.0
           c.self.invariant room
           (search rules) (search rules) (search rules)
