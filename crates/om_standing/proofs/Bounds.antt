@@ -1,6 +1,6 @@
 -- What every row keeps to: behind its edits the worker stands, and so does what it puts.
 use Rattle.std.specs.Prelude.{◌⊎◌}
-use Rattle.std.proofs.Common.{◌≡◌, subst, ℕ, arith, Bool, true, false, if◌then◌else◌, List, [], ◌∷◌, ◌++◌, Option}
+use Rattle.std.proofs.Common.{◌≡◌, subst, ℕ, arith, Bool, true, false, if◌then◌else◌, List, [], ◌∷◌, Option}
 use Rattle.om_code.specs.declared.frame.Operand.{Operand}
 use Rattle.om_code.specs.declared.raw.Raw.{Raw}
 use Rattle.om_code.specs.Ways.{Way}
@@ -27,6 +27,7 @@ use Rattle.om_steps.specs.Rows.{Asked}
 use Rattle.om_steps.specs.Objects.{write}
 use Rattle.om_standing.specs.Standing.{Owned, AreWaiting, IsStandingContext, AreStanding, IsStandingControl}
 use Rattle.om_standing.specs.Standing.{IsStandingTask, IsNotReady, HasParent}
+use Rattle.om_standing.proofs.Updates.{AllPut}
 
 -- an edit that leaves frames where they are, or begins a context that stands
 abbrev pub Keeps : Raw → Owned → Edit → Type 0
@@ -45,13 +46,8 @@ StandsAnywhere program owned (value.Control control) = IsStandingControl program
 StandsAnywhere program owned (value.Task t) = IsNotReady t
 StandsAnywhere program owned _ = Unit {0}
 
-abbrev pub PutsStanding : Raw → Owned → Update → Type 0
-PutsStanding program owned (Put v) = StandsAnywhere program owned v
-PutsStanding program owned _ = Unit {0}
-
 abbrev pub AllPutStanding : Raw → Owned → List Update → Type 0
-AllPutStanding program owned [] = Unit {0}
-AllPutStanding program owned (u ∷ us) = PutsStanding program owned u × AllPutStanding program owned us
+AllPutStanding program owned us = AllPut (StandsAnywhere program owned) us
 
 abbrev pub RowStands : Raw → Owned → Stack → Row → Type 0
 RowStands program owned stack (Goes edits us) =
@@ -157,8 +153,3 @@ pub if_asked : (program : Raw) (owned : Owned) (stack : Stack) (b : Bool) (x y :
     → AskedStands program owned stack (if b then x else y) values
 if_asked program owned stack true x y values h k = h
 if_asked program owned stack false x y values h k = k
-
-pub puts_append : (program : Raw) (owned : Owned) (us ws : List Update) → AllPutStanding program owned us
-    → AllPutStanding program owned ws → AllPutStanding program owned (us ++ ws)
-puts_append program owned [] ws h k = k
-puts_append program owned (u ∷ us) ws h k = (h.0, puts_append program owned us ws h.1 k)

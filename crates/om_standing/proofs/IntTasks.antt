@@ -1,6 +1,6 @@
 -- The rows of calls, parallel regions, barriers and tasks push and put ints alone.
 use Rattle.std.proofs.Common.{◌≡◌, ℕ, zero, suc, ◌+◌, ◌-◌, ◌≤◌, ℤ, pos, negsuc, Bool, true, false, arith, refl}
-use Rattle.std.proofs.Common.{List, [], ◌∷◌, ◌++◌, Option, None, Some, length, replicate}
+use Rattle.std.proofs.Common.{List, [], ◌∷◌, Option, None, Some, length}
 use Rattle.std.specs.Prelude.{All, IfSome, Result, Ok, Err, min, nat_lt, nat_le}
 use Rattle.std.proofs.Math.Nat.{min-le_right}
 use Rattle.std.proofs.lemmas.List.Elements.{All-nil, All-head, All-tail}
@@ -24,8 +24,6 @@ use Rattle.om_cells.specs.declared.control.Kind.{Kind}
 use Rattle.om_cells.specs.declared.control.Kind.TheVariants as kind
 use Rattle.om_cells.specs.declared.control.Stack.{Stack}
 use Rattle.om_cells.specs.declared.control.Team.{Team}
-use Rattle.om_cells.specs.declared.step.Update.{Update}
-use Rattle.om_cells.specs.declared.step.Update.TheVariants.{Keep}
 use Rattle.om_cells.specs.declared.value.Ready.{Ready}
 use Rattle.om_cells.specs.declared.value.Val.{Val}
 use Rattle.om_cells.specs.Values.{cell_in, count_in, task_in}
@@ -40,38 +38,22 @@ use Rattle.om_fork.specs.Rows.{forked, team_of, named_row, sized_row, fork_row, 
 use Rattle.om_fork.specs.Rows.{departed, depart_row, left, leave_row, value_of, finished, finished_row, finish_row}
 use Rattle.om_spawn.specs.declared.start.Starting.{Starting}
 use Rattle.om_spawn.specs.declared.task.Making.{Making}
-use Rattle.om_spawn.specs.Tasks.{born, group_of, innermost_group, additions}
+use Rattle.om_spawn.specs.Tasks.{born, group_of, innermost_group}
 use Rattle.om_spawn.specs.Rows.{made_row, given_row as values_row, spawn_row, ended_row, end_row_of, task_end_row}
 use Rattle.om_spawn.specs.Rows.{waited, wait_end_row, opened_row, group_begin_row, closed, closed_row, group_end_row}
 use Rattle.om_spawn.specs.Rows.{ready_for, started, started_row, start_row}
 use Rattle.om_standing.specs.Ints.{IsInt, AreFew, IsIntOperand, HoldsInt, FrameHasInts, ConstructHasInts}
 use Rattle.om_standing.specs.Ints.{IsSmall, ContextHasInts, ValueHasInts}
 use Rattle.om_standing.proofs.IntEdits.{UpdatesHaveInts, RowHasInts, AskedHasInts, if_asked}
+use Rattle.om_standing.proofs.Updates.{append, put_deaths, keeps, sums}
 use Rattle.om_standing.proofs.IntTurns.{first_int, rest_ints}
 use Rattle.om_standing.proofs.IntValues.{IsIntResult, combine_int, on_ints}
 
 -- ---- what is put
 
-append_ints : (us ws : List Update) → UpdatesHaveInts us → UpdatesHaveInts ws → UpdatesHaveInts (us ++ ws)
-append_ints [] ws h k = k
-append_ints (u ∷ us) ws h k = (h.0, append_ints us ws h.1 k)
-
 puts_ints : (ns : List ℤ) → All IsInt ns → UpdatesHaveInts (puts ns)
 puts_ints [] h = tt
 puts_ints (n ∷ ns) h = (All-head IsInt n ns h, puts_ints ns (All-tail IsInt n ns h))
-
-deaths_ints : (own : List Access) → UpdatesHaveInts (deaths own)
-deaths_ints [] = tt
-deaths_ints (a ∷ own) = (tt, deaths_ints own)
-
-keeps_ints : (k : ℕ) → UpdatesHaveInts (replicate k Keep)
-keeps_ints zero = tt
-keeps_ints (suc k) = (tt, keeps_ints k)
-
-sums_ints : (d : ℤ) (group : Option (List ℕ)) (us : List Update) → UpdatesHaveInts us
-    → UpdatesHaveInts (additions d group ++ us)
-sums_ints d None us h = (tt, (tt, h))
-sums_ints d (Some g) us h = (tt, (tt, (tt, h)))
 
 member_ints : (team : Team) (frame : Frame) → IsSmall team → FrameHasInts frame → ContextHasInts (member team frame)
 member_ints team frame m h = (h, All-nil FrameHasInts, All-nil ConstructHasInts, m)
@@ -90,7 +72,7 @@ controls_ints team frame number (suc count) few m h = (
 member_puts_ints : (ns : List ℤ) (count : ℕ) → All IsInt ns → UpdatesHaveInts (member_puts ns count)
 member_puts_ints ns zero h = tt
 member_puts_ints ns (suc count) h =
-    append_ints (puts ns) (member_puts ns count) (puts_ints ns h) (member_puts_ints ns count h)
+    append ValueHasInts (puts ns) (member_puts ns count) (puts_ints ns h) (member_puts_ints ns count h)
 
 size_few : (workers level : ℕ) (asked : Option ℕ) → AreFew workers → AreFew (size_of workers level asked)
 size_few workers zero None few = few
@@ -109,7 +91,7 @@ pub return_ints : (c : Context) (slots : List Slot) (callers : List Frame) (v : 
     → IfSome v IsIntOperand → AskedHasInts (return_row c slots callers v) values
 return_ints c slots callers None values h = tt
 return_ints c slots [] (Some v) values h = tt
-return_ints c slots (f ∷ callers) (Some v) values h = ((h, tt), deaths_ints (own_cells c slots))
+return_ints c slots (f ∷ callers) (Some v) values h = ((h, tt), put_deaths ValueHasInts (own_cells c slots) tt)
 
 combined_ints : (to : ℕ) (r : Result ℤ Fault) → IsIntResult r → RowHasInts (combined to r)
 combined_ints to (Ok v) h = ((tt, tt), (tt, (h, tt)))
@@ -140,9 +122,9 @@ forked_ints : (launch : Launch) (name : List ℕ) (team : Team) (frame : Frame) 
 forked_ints launch name team frame ns (Some worker) z few f h = tt
 forked_ints launch name team frame ns None z few f h = (
   (tt, (tt, (member_ints team frame (record { number = omega (arith, z); size = few }) f, tt))),
-  append_ints (member_controls team frame 1 (team.size - 1)) _
+  append ValueHasInts (member_controls team frame 1 (team.size - 1)) _
       (controls_ints team frame 1 (team.size - 1) few (omega arith) f)
-      (append_ints (member_puts ns team.size) _ (member_puts_ints ns team.size h) (tt, tt)),
+      (append ValueHasInts (member_puts ns team.size) _ (member_puts_ints ns team.size h) (tt, tt)),
 )
 
 named_ints : (worker workers : ℕ) (launch : Launch) (body : Body) (c : Context) (asked : Option ℕ) (ns : List ℤ)
@@ -179,7 +161,7 @@ arrive_ints worker to b c values = if_asked (is_misplaced_barrier b c) _ _ value
 departed_ints : (to : ℕ) (b : Barrier) (c : Context) (opens : Bool) → RowHasInts (departed to b c opens)
 departed_ints to b c false = tt
 departed_ints to b c true =
-    ((tt, (tt, tt)), append_ints (kept c.team.size) _ (keeps_ints (c.team.size + 1)) (tt, tt))
+    ((tt, (tt, tt)), append ValueHasInts (kept c.team.size) _ (keeps ValueHasInts (c.team.size + 1)) (tt, tt))
 
 pub depart_ints : (worker to : ℕ) (b : Barrier) (c : Context) (values : List Val)
     → AskedHasInts (depart_row worker to b c) values
@@ -190,8 +172,8 @@ left_ints : (c : Context) (below : List Context) (own : List Access) (opens : Bo
 left_ints c below own false = tt
 left_ints c below own true = (
   (tt, tt),
-  append_ints (kept c.team.size) _ (keeps_ints (c.team.size + 1))
-      (append_ints (deaths own) _ (deaths_ints own) (tt, tt)),
+  append ValueHasInts (kept c.team.size) _ (keeps ValueHasInts (c.team.size + 1))
+      (append ValueHasInts (deaths own) _ (put_deaths ValueHasInts own tt) (tt, tt)),
 )
 
 pub leave_ints : (worker : ℕ) (c : Context) (below : List Context) (slots : List Slot) (k : Kind) (number : ℕ)
@@ -228,7 +210,7 @@ made_ints : (m : Making) (body : Body) (c : Context) (ns : List ℤ) (new : Opti
 made_ints m body c ns None values h = tt
 made_ints m body c ns (Some new) values h = (
   (tt, (tt, tt)),
-  (tt, append_ints (puts ns) _ (puts_ints ns h) (sums_ints (pos 1) (group_of c) _ (tt, tt))),
+  (tt, append ValueHasInts (puts ns) _ (puts_ints ns h) (sums ValueHasInts (pos 1) (group_of c) _ (tt, tt))),
 )
 
 values_ints : (m : Making) (body : Body) (c : Context) (ints : Option (List ℤ)) (values : List Val)
@@ -248,7 +230,7 @@ ended_ints worker c below own None values = tt
 ended_ints worker c [] own (Some parent) values = tt
 ended_ints worker c (b ∷ below) own (Some parent) values = (
   (tt, tt),
-  (tt, append_ints (deaths own) _ (deaths_ints own) (sums_ints (negsuc 0) c.group _ (tt, tt))),
+  (tt, append ValueHasInts (deaths own) _ (put_deaths ValueHasInts own tt) (sums ValueHasInts (negsuc 0) c.group _ (tt, tt))),
 )
 
 end_ints : (worker : ℕ) (s : Stack) (slots : List Slot) (k : Kind) (values : List Val)

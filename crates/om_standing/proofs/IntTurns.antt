@@ -2,7 +2,6 @@
 use Rattle.std.proofs.Common.{ℕ, ◌+◌, ℤ, pos, Bool, true, false, List, [], ◌∷◌, ◌++◌, Option, None, Some}
 use Rattle.std.specs.Ordering.{int_eq}
 use Rattle.std.specs.Prelude.{All, IfSome, Result, Ok, Err, slice_get}
-use Rattle.om_foot.specs.declared.footprint.Access.{Access}
 use Rattle.om_code.specs.declared.frame.Cell as cells
 use Rattle.om_code.specs.declared.frame.Cell.TheVariants as cell
 use Rattle.om_code.specs.declared.frame.Fault.{Fault}
@@ -32,6 +31,7 @@ use Rattle.om_steps.specs.SerialRows.{put_of, row_of, unsets, cells_of_slot, tou
 use Rattle.std.proofs.lemmas.List.Elements.{All-nil, All-head, All-tail}
 use Rattle.om_standing.specs.Ints.{IsInt, HasIntConstant, IsIntOperand, HoldsInt, FrameHasInts, ValueHasInts}
 use Rattle.om_standing.proofs.IntEdits.{UpdatesHaveInts, RowHasInts}
+use Rattle.om_standing.proofs.Updates.{put_unsets}
 use Rattle.om_standing.proofs.IntValues.{IsIntResult, operate_int, operate_on_one_int, update_int, found_one, at_int}
 
 -- ---- what is read
@@ -185,10 +185,6 @@ turn_ints to us turn.Lacks h p = tt
 turn_ints to us (turn.Returns v) h p = tt
 turn_ints to us (turn.Finishes v) h p = tt
 
-unsets_ints : (own : List Access) → UpdatesHaveInts (unsets own)
-unsets_ints [] = tt
-unsets_ints (a ∷ own) = (tt, unsets_ints own)
-
 touch_ints : (program : Raw) (c : Context) (t : cells.Cell → Turn) (x : Touch) (values : List Val)
     → All ValueHasInts values → ((y : cells.Cell) → HoldsInt y → TurnHasInts (t y))
     → RowHasInts ((touch_row program c t x).row values)
@@ -202,7 +198,7 @@ touch_ints program c t (touch.Writes p index) values v h =
     (h (cell_in (first_of values)) (first_int values v)) tt
 touch_ints program c t (touch.Clears slot) values v h =
     turn_ints (c.frame.next + 1) (unsets (cells_of_slot program c slot)) (t cell.Unset) (h cell.Unset tt)
-    (unsets_ints (cells_of_slot program c slot))
+    (put_unsets ValueHasInts (cells_of_slot program c slot) tt)
 touch_ints program c t (touch.Prints text count) values v h =
     turn_ints (c.frame.next + 1) _ (t cell.Unset) (h cell.Unset tt) (tt, tt)
 

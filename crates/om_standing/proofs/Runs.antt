@@ -1,12 +1,10 @@
 -- A step leads from a state that stands to one that stands, and the start stands.
-use Rattle.std.proofs.Common.{◌≡◌, refl, inl, inr, sym, subst, ℕ, ◌≤◌, arith, Bool, true, false, cond, List, [], ◌∷◌, Some}
-use Rattle.std.specs.Prelude.{◌⊎◌, ℤ, if◌then◌else◌, nat_eq}
+use Rattle.std.proofs.Common.{◌≡◌, refl, inl, inr, sym, subst, ℕ, ◌≤◌, arith, Bool, true, false, List, [], ◌∷◌, Some}
+use Rattle.std.specs.Prelude.{◌⊎◌, if◌then◌else◌, nat_eq}
 use Rattle.om_foot.specs.Footprint.{obj_eq}
 use Rattle.om_foot.specs.declared.object.Obj.{Obj}
 use Rattle.om_foot.specs.declared.object.Obj.TheVariants as obj
 use Rattle.om_foot.specs.declared.footprint.Access.{Access}
-use Rattle.om_foot.specs.declared.footprint.Mode.{Mode}
-use Rattle.om_foot.specs.declared.footprint.Mode.TheVariants as mode
 use Rattle.om_code.specs.declared.raw.Raw.{Raw}
 use Rattle.om_code.specs.Validity.{IsValid, NamesKnown}
 use Rattle.om_cells.specs.declared.control.Control as controls
@@ -15,18 +13,16 @@ use Rattle.om_cells.specs.declared.control.Stack.{Stack}
 use Rattle.om_cells.specs.declared.edit.Edit.{Edit}
 use Rattle.om_cells.specs.declared.edit.Edit.TheVariants.{Fail}
 use Rattle.om_cells.specs.declared.step.Label.{Label}
-use Rattle.om_cells.specs.declared.step.Tail.{Tail}
-use Rattle.om_cells.specs.declared.step.Tail.TheVariants as tail
 use Rattle.om_cells.specs.declared.step.Update.{Update}
-use Rattle.om_cells.specs.declared.step.Update.TheVariants.{Keep, Put, Add, Append, Cut}
+use Rattle.om_cells.specs.declared.step.Update.TheVariants.{Put}
 use Rattle.om_cells.specs.declared.value.Task as tasks
 use Rattle.om_cells.specs.declared.value.Task.TheVariants as task
 use Rattle.om_cells.specs.declared.value.Val.{Val}
 use Rattle.om_cells.specs.declared.value.Val.TheVariants as value
 use Rattle.om_cells.specs.Edits.{changed}
 use Rattle.om_cells.specs.Rules.{control_access, step_at, next_state, state_after_outcome}
-use Rattle.om_cells.specs.State.{State, values_read, value_after, state_after, updated}
-use Rattle.om_cells.specs.Values.{control_in, task_in, value_plus, value_with}
+use Rattle.om_cells.specs.State.{State, values_read, state_after, updated}
+use Rattle.om_cells.specs.Values.{control_in, task_in}
 use Rattle.om_steps.specs.Objects.{write}
 use Rattle.om_steps.specs.declared.row.Row.{Row}
 use Rattle.om_steps.specs.declared.row.Row.TheVariants as row
@@ -34,7 +30,8 @@ use Rattle.om_task.specs.Rules.{rules_of, start_of, first_context, further_in, r
 use Rattle.om_standing.specs.Laws.{HasItsNeeds}
 use Rattle.om_standing.specs.Standing.{Owned, FitHomes, IsStandingControl, IsStandingTask, IsStandingValue, IsStanding}
 use Rattle.om_standing.specs.Standing.{IsNotReady, HasParent}
-use Rattle.om_standing.proofs.Bounds.{StandsAnywhere, AllPutStanding, PutsStanding, RowStands, MakesTask, RowMakes}
+use Rattle.om_standing.proofs.Updates.{IsOfAll, one_of, weaker, updated_at}
+use Rattle.om_standing.proofs.Bounds.{StandsAnywhere, AllPutStanding, RowStands, MakesTask, RowMakes}
 use Rattle.om_standing.proofs.Bounds.{RowBehind, changed_stands}
 use Rattle.om_standing.proofs.Going.{stands_at, found_slots}
 use Rattle.om_standing.proofs.Homes.{WorkerHasOwn, WorkersHaveOwn, around_none, begins}
@@ -52,36 +49,6 @@ control_stands program owned (value.Output k) h = tt
 control_stands program owned (value.Events k) h = tt
 
 -- ---- a state after updates
-
-plus_stands : (program : Raw) (owned : Owned) (d : ℤ) (v : Val) → IsStandingValue program owned v
-    → IsStandingValue program owned (value_plus d v)
-plus_stands program owned d (value.Count k) h = tt
-plus_stands program owned d (value.Control c) h = h
-plus_stands program owned d (value.Task t) h = h
-plus_stands program owned d (value.Cell c) h = tt
-plus_stands program owned d (value.Number k) h = tt
-plus_stands program owned d (value.Lock k) h = tt
-plus_stands program owned d (value.Output k) h = tt
-plus_stands program owned d (value.Events k) h = tt
-
-with_stands : (program : Raw) (owned : Owned) (t : Tail) (v : Val) → IsStandingValue program owned v
-    → IsStandingValue program owned (value_with t v)
-with_stands program owned (tail.Bytes bytes) (value.Output k) h = tt
-with_stands program owned (tail.Bytes bytes) (value.Events k) h = tt
-with_stands program owned (tail.Bytes bytes) (value.Count k) h = tt
-with_stands program owned (tail.Bytes bytes) (value.Control c) h = h
-with_stands program owned (tail.Bytes bytes) (value.Task t) h = h
-with_stands program owned (tail.Bytes bytes) (value.Cell c) h = tt
-with_stands program owned (tail.Bytes bytes) (value.Number k) h = tt
-with_stands program owned (tail.Bytes bytes) (value.Lock k) h = tt
-with_stands program owned (tail.Events records) (value.Output k) h = tt
-with_stands program owned (tail.Events records) (value.Events k) h = tt
-with_stands program owned (tail.Events records) (value.Count k) h = tt
-with_stands program owned (tail.Events records) (value.Control c) h = h
-with_stands program owned (tail.Events records) (value.Task t) h = h
-with_stands program owned (tail.Events records) (value.Cell c) h = tt
-with_stands program owned (tail.Events records) (value.Number k) h = tt
-with_stands program owned (tail.Events records) (value.Lock k) h = tt
 
 -- what stands wherever it is put stands, and is no task that is ready
 anywhere_stands : (program : Raw) (owned : Owned) (v : Val) → StandsAnywhere program owned v
@@ -109,92 +76,24 @@ anywhere_unready program owned (value.Lock k) h = tt
 anywhere_unready program owned (value.Output k) h = tt
 anywhere_unready program owned (value.Events k) h = tt
 
-plus_unready : (d : ℤ) (v : Val) → IsNotReady (task_in v) → IsNotReady (task_in (value_plus d v))
-plus_unready d (value.Count k) h = tt
-plus_unready d (value.Control c) h = h
-plus_unready d (value.Task t) h = h
-plus_unready d (value.Cell c) h = tt
-plus_unready d (value.Number k) h = tt
-plus_unready d (value.Lock k) h = tt
-plus_unready d (value.Output k) h = tt
-plus_unready d (value.Events k) h = tt
+stands_of_all : (program : Raw) (owned : Owned) → IsOfAll (IsStandingValue program owned)
+stands_of_all program owned = record { counts = λ n. tt; outputs = λ bytes. tt; events = λ records. tt }
 
-with_unready : (t : Tail) (v : Val) → IsNotReady (task_in v) → IsNotReady (task_in (value_with t v))
-with_unready (tail.Bytes bytes) (value.Output k) h = tt
-with_unready (tail.Bytes bytes) (value.Events k) h = tt
-with_unready (tail.Bytes bytes) (value.Count k) h = tt
-with_unready (tail.Bytes bytes) (value.Control c) h = tt
-with_unready (tail.Bytes bytes) (value.Task t) h = h
-with_unready (tail.Bytes bytes) (value.Cell c) h = tt
-with_unready (tail.Bytes bytes) (value.Number k) h = tt
-with_unready (tail.Bytes bytes) (value.Lock k) h = tt
-with_unready (tail.Events records) (value.Output k) h = tt
-with_unready (tail.Events records) (value.Events k) h = tt
-with_unready (tail.Events records) (value.Count k) h = tt
-with_unready (tail.Events records) (value.Control c) h = tt
-with_unready (tail.Events records) (value.Task t) h = h
-with_unready (tail.Events records) (value.Cell c) h = tt
-with_unready (tail.Events records) (value.Number k) h = tt
-with_unready (tail.Events records) (value.Lock k) h = tt
+abbrev IsUnready : Val → Type 0
+IsUnready v = IsNotReady (task_in v)
 
-after_unready : (program : Raw) (owned : Owned) (m : Mode) (u : Update) (old : Val) → PutsStanding program owned u
-    → IsNotReady (task_in old) → IsNotReady (task_in (value_after m u old))
-after_unready program owned mode.Write (Put v) old p h = anywhere_unready program owned v p
-after_unready program owned mode.Write (Append t) old p h = with_unready t old h
-after_unready program owned mode.Write (Add d) old p h = h
-after_unready program owned mode.Write Keep old p h = h
-after_unready program owned mode.Write (Cut k) old p h = h
-after_unready program owned mode.Add (Add d) old p h = plus_unready d old h
-after_unready program owned mode.Add (Put v) old p h = h
-after_unready program owned mode.Add (Append t) old p h = h
-after_unready program owned mode.Add Keep old p h = h
-after_unready program owned mode.Add (Cut k) old p h = h
-after_unready program owned mode.Read (Put v) old p h = h
-after_unready program owned mode.Read (Append t) old p h = h
-after_unready program owned mode.Read (Add d) old p h = h
-after_unready program owned mode.Read Keep old p h = h
-after_unready program owned mode.Read (Cut k) old p h = h
-
-unready_of : (b : Bool) (v w : Val) → IsNotReady (task_in v) → IsNotReady (task_in w)
-    → IsNotReady (task_in (cond b v w))
-unready_of true v w h k = h
-unready_of false v w h k = k
-
-after_stands : (program : Raw) (owned : Owned) (m : Mode) (u : Update) (old : Val) → PutsStanding program owned u
-    → IsStandingValue program owned old → IsStandingValue program owned (value_after m u old)
-after_stands program owned mode.Write (Put v) old p h = anywhere_stands program owned v p
-after_stands program owned mode.Write (Append t) old p h = with_stands program owned t old h
-after_stands program owned mode.Write (Add d) old p h = h
-after_stands program owned mode.Write Keep old p h = h
-after_stands program owned mode.Write (Cut k) old p h = h
-after_stands program owned mode.Add (Add d) old p h = plus_stands program owned d old h
-after_stands program owned mode.Add (Put v) old p h = h
-after_stands program owned mode.Add (Append t) old p h = h
-after_stands program owned mode.Add Keep old p h = h
-after_stands program owned mode.Add (Cut k) old p h = h
-after_stands program owned mode.Read (Put v) old p h = h
-after_stands program owned mode.Read (Append t) old p h = h
-after_stands program owned mode.Read (Add d) old p h = h
-after_stands program owned mode.Read Keep old p h = h
-after_stands program owned mode.Read (Cut k) old p h = h
-
-one_of : (program : Raw) (owned : Owned) (b : Bool) (v w : Val) → IsStandingValue program owned v
-    → IsStandingValue program owned w → IsStandingValue program owned (cond b v w)
-one_of program owned true v w h k = h
-one_of program owned false v w h k = k
+unready_of_all : IsOfAll IsUnready
+unready_of_all = record { counts = λ n. tt; outputs = λ bytes. tt; events = λ records. tt }
 
 updated_stands : (program : Raw) (owned : Owned) (accesses : List Access) (us : List Update) (s : State)
     → AllPutStanding program owned us → IsStanding program owned s → IsStanding program owned (updated accesses us s)
-updated_stands program owned [] us s p h = h
-updated_stands program owned (a ∷ rest) [] s p h = h
-updated_stands program owned (a ∷ rest) (u ∷ us) s p h =
-    updated_stands program owned rest us (state_after a u s) p.1
-    (record {
-      values = λ q. one_of program owned (obj_eq a.object q) (value_after a.mode u (s q)) (s q)
-          (after_stands program owned a.mode u (s q) p.0 (h.values q)) (h.values q);
-      root = unready_of (obj_eq a.object (obj.Task [])) (value_after a.mode u (s (obj.Task []))) (s (obj.Task []))
-          (after_unready program owned a.mode u (s (obj.Task [])) p.0 h.root) h.root;
-    })
+updated_stands program owned accesses us s p h = record {
+  values = λ q. updated_at (IsStandingValue program owned) (stands_of_all program owned) accesses us s q
+      (weaker (StandsAnywhere program owned) (IsStandingValue program owned) (anywhere_stands program owned) us p)
+      (h.values q);
+  root = updated_at IsUnready unready_of_all accesses us s (obj.Task [])
+      (weaker (StandsAnywhere program owned) IsUnready (anywhere_unready program owned) us p) h.root;
+}
 
 -- a task that becomes ready under a name with a number
 ready_root : (name : List ℕ) (v : Val) (s : State) → HasParent name → IsNotReady (task_in (s (obj.Task [])))
@@ -206,7 +105,7 @@ made_stands : (program : Raw) (owned : Owned) (name : List ℕ) (t : tasks.Task)
     → IsStandingTask program owned t → IsStanding program owned s
     → IsStanding program owned (state_after (write (obj.Task name)) (Put (value.Task t)) s)
 made_stands program owned name t s n k h = record {
-  values = λ q. one_of program owned (obj_eq (obj.Task name) q) (value.Task t) (s q) k (h.values q);
+  values = λ q. one_of (IsStandingValue program owned) (obj_eq (obj.Task name) q) (value.Task t) (s q) k (h.values q);
   root = ready_root name (value.Task t) s n h.root;
 }
 

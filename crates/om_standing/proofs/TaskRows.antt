@@ -1,7 +1,7 @@
 -- The rows of serial instructions, calls, parallel regions, barriers and tasks lead from a stack that stands to one
 -- that does.
 use Rattle.std.proofs.Common.{◌≡◌, refl, subst, ℕ, zero, suc, ◌+◌, ◌-◌, ◌≤◌, arith, ℤ, pos, negsuc, Bool, true, false}
-use Rattle.std.proofs.Common.{if◌then◌else◌, cond, List, [], ◌∷◌, ◌++◌, Option, None, Some, length, replicate}
+use Rattle.std.proofs.Common.{if◌then◌else◌, cond, List, [], ◌∷◌, ◌++◌, Option, None, Some, length}
 use Rattle.std.specs.Prelude.{Result, Ok, Err, IfSome, min, nat_lt, nat_le, nat_eq, unwrap_or}
 use Rattle.std.specs.Cmp.Lexicographic.{pointwise}
 use Rattle.om_foot.specs.Names.{parent_of}
@@ -34,7 +34,6 @@ use Rattle.om_cells.specs.declared.control.Team.{Team}
 use Rattle.om_cells.specs.declared.control.Control.TheVariants.{Running}
 use Rattle.om_cells.specs.declared.edit.Edit.TheVariants.{BeginFrame, EndFrame, EndContext}
 use Rattle.om_cells.specs.declared.step.Update.{Update}
-use Rattle.om_cells.specs.declared.step.Update.TheVariants.{Keep}
 use Rattle.om_cells.specs.declared.value.Ready.{Ready}
 use Rattle.om_cells.specs.declared.value.Task as tasks
 use Rattle.om_cells.specs.declared.value.Task.TheVariants as task
@@ -57,7 +56,7 @@ use Rattle.om_fork.specs.Rows.{arrive_row, kept, departed, depart_row, left, lea
 use Rattle.om_spawn.specs.declared.start.Starting.{Starting}
 use Rattle.om_spawn.specs.declared.task.Making.{Making}
 use Rattle.om_steps.specs.Rows.{is_zero}
-use Rattle.om_spawn.specs.Tasks.{born, group_of, innermost_group, additions, ready_of}
+use Rattle.om_spawn.specs.Tasks.{born, group_of, innermost_group, ready_of}
 use Rattle.om_spawn.specs.Rows.{made_row, given_row, spawn_row, ended_row, end_row_of, task_end_row, wait_begin_row}
 use Rattle.om_spawn.specs.Rows.{waited, wait_end_row, opened_row, group_begin_row, closed, closed_row, group_end_row}
 use Rattle.om_fork.specs.Rows.{value_of, finished, finished_row, finish_row}
@@ -66,7 +65,8 @@ use Rattle.om_spawn.specs.Rows.{start_row}
 use Rattle.om_standing.specs.Standing.{Owned, IsStandingFrame, IsStandingContext, IsStandingControl, IsStandingTask}
 use Rattle.om_standing.specs.Standing.{IsStandingValue, IsStanding, IsMember, HasParent, IsNotReady}
 use Rattle.om_standing.proofs.Bounds.{AllPutStanding, RowStands, RowMakes, AskedStands, Leads, changed_stands}
-use Rattle.om_standing.proofs.Bounds.{if_asked, puts_append}
+use Rattle.om_standing.proofs.Bounds.{StandsAnywhere, if_asked}
+use Rattle.om_standing.proofs.Updates.{append, put_unsets, put_deaths, keeps, sums}
 
 -- ---- what is put
 
@@ -75,21 +75,9 @@ put_stands : (program : Raw) (owned : Owned) (o : Option ℤ) (us : List Update)
 put_stands program owned None us h = h
 put_stands program owned (Some x) us h = (tt, h)
 
-unsets_stand : (program : Raw) (owned : Owned) (own : List Access) → AllPutStanding program owned (unsets own)
-unsets_stand program owned [] = tt
-unsets_stand program owned (a ∷ own) = (tt, unsets_stand program owned own)
-
 puts_stand : (program : Raw) (owned : Owned) (ns : List ℤ) → AllPutStanding program owned (puts ns)
 puts_stand program owned [] = tt
 puts_stand program owned (x ∷ ns) = (tt, puts_stand program owned ns)
-
-deaths_stand : (program : Raw) (owned : Owned) (own : List Access) → AllPutStanding program owned (deaths own)
-deaths_stand program owned [] = tt
-deaths_stand program owned (a ∷ own) = (tt, deaths_stand program owned own)
-
-keeps_stand : (program : Raw) (owned : Owned) (k : ℕ) → AllPutStanding program owned (replicate k Keep)
-keeps_stand program owned zero = tt
-keeps_stand program owned (suc k) = (tt, keeps_stand program owned k)
 
 -- a name that a number ends has a number
 last_named : (xs : List ℕ) (x : ℕ) → HasParent (xs ++ x ∷ [])
@@ -134,13 +122,8 @@ values_stand : (program : Raw) (owned : Owned) (ns : List ℤ) (count : ℕ)
     → AllPutStanding program owned (member_puts ns count)
 values_stand program owned ns zero = tt
 values_stand program owned ns (suc count) =
-    puts_append program owned (puts ns) (member_puts ns count) (puts_stand program owned ns)
+    append (StandsAnywhere program owned) (puts ns) (member_puts ns count) (puts_stand program owned ns)
     (values_stand program owned ns count)
-
-sums_stand : (program : Raw) (owned : Owned) (d : ℤ) (group : Option (List ℕ)) (us : List Update)
-    → AllPutStanding program owned us → AllPutStanding program owned (additions d group ++ us)
-sums_stand program owned d None us h = (tt, (tt, h))
-sums_stand program owned d (Some g) us h = (tt, (tt, (tt, h)))
 
 -- ---- rows
 
@@ -168,7 +151,7 @@ module _ (program : Raw) (owned : Owned) (stack : Stack) where
       turn_stands (c.frame.next + 1) [] (t (cell_in (first_of values))) (h (cell_in (first_of values))) tt
   touch_stands c t (touch.Clears slot) values h =
       turn_stands (c.frame.next + 1) (unsets (cells_of_slot program c slot)) (t cell.Unset) (h cell.Unset)
-      (unsets_stand program owned (cells_of_slot program c slot))
+      (put_unsets (StandsAnywhere program owned) (cells_of_slot program c slot) tt)
   touch_stands c t (touch.Prints text count) values h =
       turn_stands (c.frame.next + 1) _ (t cell.Unset) (h cell.Unset) (tt, tt)
 
@@ -195,8 +178,7 @@ module _ (program : Raw) (owned : Owned) (stack : Stack) where
   return_stands c slots [] (Some v) values h = tt
   return_stands c slots (f ∷ callers) (Some v) values h = (
     changed_stands program owned (EndFrame v ∷ []) (Running stack) (tt, tt) h,
-    deaths_stand program owned
-        (own_cells c slots),
+    put_deaths (StandsAnywhere program owned) (own_cells c slots) tt,
   )
 
   combined_stands : (to : ℕ) (r : Result ℤ Fault) → Leads program owned stack to 0 None
@@ -226,9 +208,9 @@ module _ (program : Raw) (owned : Owned) (stack : Stack) where
   forked_stands launch name team frame ns (Some worker) m h f = tt
   forked_stands launch name team frame ns None m h f = (
     (member_stands program owned team frame m f, (record { frame = h.0.frame; callers = h.0.callers; member = h.0.member; named = h.0.named }, h.1)),
-    (puts_append program owned (member_controls team frame 1 (team.size - 1)) _
+    (append (StandsAnywhere program owned) (member_controls team frame 1 (team.size - 1)) _
         (controls_stand program owned team frame 1 (team.size - 1) (omega (arith, m)) f)
-        (puts_append program owned (member_puts ns team.size) _ (values_stand program owned ns team.size) (tt, tt))),
+        (append (StandsAnywhere program owned) (member_puts ns team.size) _ (values_stand program owned ns team.size) (tt, tt))),
   )
 
   named_stands : (worker workers : ℕ) (launch : Launch) (body : Body) (c : Context) (asked : Option ℕ) (ns : List ℤ)
@@ -277,7 +259,7 @@ module _ (program : Raw) (owned : Owned) (stack : Stack) where
   departed_stands to b c false h = tt
   departed_stands to b c true h = (
     (record { frame = h.0.frame; callers = h.0.callers; member = h.0.member; named = h.0.named }, h.1),
-    (puts_append program owned (kept c.team.size) _ (keeps_stand program owned (c.team.size + 1)) (tt, tt)),
+    (append (StandsAnywhere program owned) (kept c.team.size) _ (keeps (StandsAnywhere program owned) (c.team.size + 1)) (tt, tt)),
   )
 
   pub depart_stands : (worker to : ℕ) (b : Barrier) (c : Context) (values : List Val)
@@ -289,9 +271,9 @@ module _ (program : Raw) (owned : Owned) (stack : Stack) where
   left_stands c below own false h = tt
   left_stands c below own true h = (
     changed_stands program owned (EndContext ∷ []) (Running stack) (tt, tt) h,
-    puts_append program owned
-        (kept c.team.size) _ (keeps_stand program owned (c.team.size + 1))
-        (puts_append program owned (deaths own) _ (deaths_stand program owned own) (tt, tt)),
+    append (StandsAnywhere program owned)
+        (kept c.team.size) _ (keeps (StandsAnywhere program owned) (c.team.size + 1))
+        (append (StandsAnywhere program owned) (deaths own) _ (put_deaths (StandsAnywhere program owned) own tt) (tt, tt)),
   )
 
   pub leave_stands : (worker : ℕ) (c : Context) (below : List Context) (slots : List Slot) (k : Kind) (number : ℕ)
@@ -322,8 +304,8 @@ module _ (program : Raw) (owned : Owned) (stack : Stack) where
     named = n new refl;
     stands = t;
     control = (record { frame = h.0.frame; callers = h.0.callers; member = h.0.member; named = h.0.named }, h.1);
-    besides = puts_append program owned (puts ns) _ (puts_stand program owned ns)
-        (sums_stand program owned (pos 1) (group_of c) _ (tt, tt));
+    besides = append (StandsAnywhere program owned) (puts ns) _ (puts_stand program owned ns)
+        (sums (StandsAnywhere program owned) (pos 1) (group_of c) _ (tt, tt));
   }
 
   given_ints_stand : (m : Making) (body : Body) (c : Context) (ints : Option (List ℤ)) (values : List Val)
@@ -348,8 +330,8 @@ module _ (program : Raw) (owned : Owned) (stack : Stack) where
     changed_stands program owned (EndContext ∷ []) (Running stack) (tt, tt) h,
     (
       tt,
-      puts_append program owned (deaths own) _ (deaths_stand program owned own)
-          (sums_stand program owned (negsuc 0) c.group _ (tt, tt)),
+      append (StandsAnywhere program owned) (deaths own) _ (put_deaths (StandsAnywhere program owned) own tt)
+          (sums (StandsAnywhere program owned) (negsuc 0) c.group _ (tt, tt)),
     ),
   )
 

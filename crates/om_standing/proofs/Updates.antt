@@ -1,5 +1,6 @@
 -- What is true of values stays true behind updates, where it is true of what they put and of all that only grows.
-use Rattle.std.proofs.Common.{ℕ, ℤ, Bool, true, false, cond, List, [], ◌∷◌}
+use Rattle.std.proofs.Common.{ℕ, zero, suc, ℤ, Bool, true, false, cond, List, [], ◌∷◌, ◌++◌, Option, None, Some, replicate}
+use Rattle.om_code.specs.declared.frame.Cell.TheVariants as cell
 use Rattle.om_foot.specs.Footprint.{obj_eq}
 use Rattle.om_foot.specs.declared.object.Obj.{Obj}
 use Rattle.om_foot.specs.declared.footprint.Access.{Access}
@@ -14,6 +15,9 @@ use Rattle.om_cells.specs.declared.value.Val.{Val}
 use Rattle.om_cells.specs.declared.value.Val.TheVariants as value
 use Rattle.om_cells.specs.State.{State, value_after, state_after, updated}
 use Rattle.om_cells.specs.Values.{value_plus, value_with}
+use Rattle.om_steps.specs.Objects.{deaths}
+use Rattle.om_steps.specs.SerialRows.{unsets}
+use Rattle.om_spawn.specs.Tasks.{additions}
 
 -- of each count, of any output and of any records
 pub record IsOfAll (P : Val → Type 0) : Type 0 where
@@ -28,6 +32,43 @@ Puts P _ = Unit {0}
 abbrev pub AllPut : (Val → Type 0) → List Update → Type 0
 AllPut P [] = Unit {0}
 AllPut P (u ∷ us) = Puts P u × AllPut P us
+
+pub one_of : (P : Val → Type 0) (b : Bool) (v w : Val) → P v → P w → P (cond b v w)
+one_of P true v w h k = h
+one_of P false v w h k = k
+
+pub weaker : (P Q : Val → Type 0) → ((v : Val) → P v → Q v) → (us : List Update) → AllPut P us → AllPut Q us
+weaker P Q f [] h = tt
+weaker P Q f (Put v ∷ us) h = (f v h.0, weaker P Q f us h.1)
+weaker P Q f (Keep ∷ us) h = (tt, weaker P Q f us h.1)
+weaker P Q f (Add d ∷ us) h = (tt, weaker P Q f us h.1)
+weaker P Q f (Append t ∷ us) h = (tt, weaker P Q f us h.1)
+weaker P Q f (Cut k ∷ us) h = (tt, weaker P Q f us h.1)
+
+-- ---- the updates that rows make
+
+pub append : (P : Val → Type 0) (us ws : List Update) → AllPut P us → AllPut P ws → AllPut P (us ++ ws)
+append P [] ws h k = k
+append P (u ∷ us) ws h k = (h.0, append P us ws h.1 k)
+
+pub put_unsets : (P : Val → Type 0) (own : List Access) → P (value.Cell cell.Unset) → AllPut P (unsets own)
+put_unsets P [] h = tt
+put_unsets P (a ∷ own) h = (h, put_unsets P own h)
+
+pub put_deaths : (P : Val → Type 0) (own : List Access) → P (value.Cell cell.Dead) → AllPut P (deaths own)
+put_deaths P [] h = tt
+put_deaths P (a ∷ own) h = (h, put_deaths P own h)
+
+pub keeps : (P : Val → Type 0) (k : ℕ) → AllPut P (replicate k Keep)
+keeps P zero = tt
+keeps P (suc k) = (tt, keeps P k)
+
+pub sums : (P : Val → Type 0) (d : ℤ) (group : Option (List ℕ)) (us : List Update) → AllPut P us
+    → AllPut P (additions d group ++ us)
+sums P d None us h = (tt, (tt, h))
+sums P d (Some g) us h = (tt, (tt, (tt, h)))
+
+-- ---- a state behind updates
 
 module _ (P : Val → Type 0) (all : IsOfAll P) where
   plus : (d : ℤ) (v : Val) → P v → P (value_plus d v)
@@ -75,10 +116,6 @@ module _ (P : Val → Type 0) (all : IsOfAll P) where
   after mode.Read Keep old p h = h
   after mode.Read (Cut k) old p h = h
 
-  one_of : (b : Bool) (v w : Val) → P v → P w → P (cond b v w)
-  one_of true v w h k = h
-  one_of false v w h k = k
-
   -- at an object, behind the updates of a footprint
   pub updated_at : (accesses : List Access) (us : List Update) (s : State) (q : Obj) → AllPut P us → P (s q)
       → P (updated accesses us s q)
@@ -86,4 +123,4 @@ module _ (P : Val → Type 0) (all : IsOfAll P) where
   updated_at (a ∷ rest) [] s q p h = h
   updated_at (a ∷ rest) (u ∷ us) s q p h =
       updated_at rest us (state_after a u s) q p.1
-      (one_of (obj_eq a.object q) (value_after a.mode u (s q)) (s q) (after a.mode u (s q) p.0 h) h)
+      (one_of P (obj_eq a.object q) (value_after a.mode u (s q)) (s q) (after a.mode u (s q) p.0 h) h)
