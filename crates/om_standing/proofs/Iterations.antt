@@ -21,7 +21,7 @@ fits : (v : ℤ) → IsInt v → FitsSigned w32 v
 fits (pos n) e = let lt : n < 2 ^ 31 = ltb-true n (2 ^ 31) e in omega (arith, ints, lt)
 fits (negsuc n) e = let lt : n < 2 ^ 31 = ltb-true n (2 ^ 31) e in omega (arith, ints, lt)
 
-int_that_fits : (v : ℤ) → FitsSigned w32 v → IsInt v
+pub int_that_fits : (v : ℤ) → FitsSigned w32 v → IsInt v
 int_that_fits (pos n) f = lt-ltb n (2 ^ 31) (omega (arith, ints, f))
 int_that_fits (negsuc n) f = lt-ltb n (2 ^ 31) (omega (arith, ints, f))
 
