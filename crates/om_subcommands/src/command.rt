@@ -46,6 +46,41 @@ fn number<'a>(alloc: Global, name: &'a str, help: &'a str) -> Arg<'a> {
         .value_parser(clap::value_parser!(u64).range(1..=1_000_000_000))
 }
 
+// A command with one more argument. In its callers there is then no way out at which a command or an argument is
+// alive.
+fn with<'a>(
+    command: Result<Command<'a>, AllocError>,
+    arg: Arg<'a>,
+) -> Result<Command<'a>, AllocError> {
+    match command {
+        Ok(command) => command.arg(arg),
+        Err(error) => {
+            drop(arg);
+            Err(error)
+        }
+    }
+}
+
+// A command with one more subcommand.
+fn over<'a>(
+    command: Result<Command<'a>, AllocError>,
+    subcommand: Result<Command<'a>, AllocError>,
+) -> Result<Command<'a>, AllocError> {
+    match subcommand {
+        Ok(subcommand) => match command {
+            Ok(command) => command.subcommand(subcommand),
+            Err(error) => {
+                drop(subcommand);
+                Err(error)
+            }
+        },
+        Err(error) => {
+            drop(command);
+            Err(error)
+        }
+    }
+}
+
 fn check<'a>(alloc: Global) -> Result<Command<'a>, AllocError> {
     Command::new(alloc, "check")
         .about("Says whether ompback runs a source, and else why not and what to write")
@@ -53,44 +88,56 @@ fn check<'a>(alloc: Global) -> Result<Command<'a>, AllocError> {
 }
 
 fn hunt<'a>(alloc: Global) -> Result<Command<'a>, AllocError> {
-    let seeds = number(alloc, "seeds", "How many schedules are tried").default_value("100");
-    let steps = number(
+    let command = Command::new(alloc, "hunt")
+        .about("Tries schedules by chance, and shortens the first bad one to a script for ompback")
+        .after_help(
+            "A schedule is bad where the program prints something else, meets a fault, or is stuck.
+This is no exploration of all schedules and no race detector.",
+        );
+    let command = command.arg(seeds(alloc));
+    let command = with(command, steps(alloc));
+    let command = with(command, expect(alloc));
+    with(command, file(alloc, true))
+}
+
+fn seeds<'a>(alloc: Global) -> Arg<'a> {
+    number(alloc, "seeds", "How many schedules are tried").default_value("100")
+}
+
+fn steps<'a>(alloc: Global) -> Arg<'a> {
+    number(
         alloc,
         "steps",
         "How many steps chance makes at most, before `run` makes the others",
     )
-    .default_value("100000");
-    let expect = Arg::new(alloc, "expect")
+    .default_value("100000")
+}
+
+fn expect<'a>(alloc: Global) -> Arg<'a> {
+    Arg::new(alloc, "expect")
         .long("expect")
         .value_name("TEXT")
         .help(
             "What the program is to print, with \\n for a line end; without it, what `run` prints",
         )
-        .action(ArgAction::Set);
-    Command::new(alloc, "hunt")
-        .about("Tries schedules by chance, and shortens the first bad one to a script for ompback")
-        .after_help(
-            "A schedule is bad where the program prints something else, meets a fault, or is stuck.
-This is no exploration of all schedules and no race detector.",
-        )
-        .arg(seeds)?
-        .arg(steps)?
-        .arg(expect)?
-        .arg(file(alloc, true))
+        .action(ArgAction::Set)
 }
 
 fn script<'a>(alloc: Global) -> Result<Command<'a>, AllocError> {
-    let cone = number(
+    let command = Command::new(alloc, "script")
+        .about("Writes the steps that a session leaves as a script for ompback")
+        .after_help(SESSION);
+    let command = command.arg(cone(alloc));
+    with(command, file(alloc, false))
+}
+
+fn cone<'a>(alloc: Global) -> Arg<'a> {
+    number(
         alloc,
         "cone",
         "Lists the steps that `roll S` would take back, in place of all",
     )
-    .value_name("S");
-    Command::new(alloc, "script")
-        .about("Writes the steps that a session leaves as a script for ompback")
-        .after_help(SESSION)
-        .arg(cone)?
-        .arg(file(alloc, false))
+    .value_name("S")
 }
 
 fn notes<'a>(alloc: Global) -> Result<Command<'a>, AllocError> {
@@ -108,14 +155,14 @@ fn draw<'a>(alloc: Global) -> Result<Command<'a>, AllocError> {
 
 /// The command line of omplab. Its only error is out of memory.
 pub(crate) fn omplab<'a>(alloc: Global) -> Result<Command<'a>, AllocError> {
-    Command::new(alloc, "omplab")
+    let command = Command::new(alloc, "omplab")
         .about(ABOUT)
         .after_help(STATUSES)
-        .subcommand_required(true)
-        .arg(threads(alloc))?
-        .subcommand(check(alloc)?)?
-        .subcommand(hunt(alloc)?)?
-        .subcommand(script(alloc)?)?
-        .subcommand(notes(alloc)?)?
-        .subcommand(draw(alloc)?)
+        .subcommand_required(true);
+    let command = command.arg(threads(alloc));
+    let command = over(command, check(alloc));
+    let command = over(command, hunt(alloc));
+    let command = over(command, script(alloc));
+    let command = over(command, notes(alloc));
+    over(command, draw(alloc))
 }

@@ -3,7 +3,7 @@ ghost use Rattle.std.specs.Prelude.{◌<◌, ◌≤◌, IfOk, IfSome};
 
 use crate::command::omplab;
 use clap::error::ErrorKind;
-use clap::{ArgMatches, Error};
+use clap::{ArgMatches, Command, Error};
 use std::alloc::Global;
 
 /// What the words ask for.
@@ -55,8 +55,20 @@ pub fn words_in<'a>(alloc: Global, words: &'a [&'a str]) -> Result<Words<'a>, Er
     ensures most { IfOk result (λ words. words.workers ≤ 32) }
 {
     let mut command = omplab(alloc)?;
+    let found = found_by(&mut command, words);
+    drop(command);
+    found
+}
+
+// What a command finds words to ask for.
+fn found_by<'a>(command: &mut Command<'a>, words: &'a [&'a str]) -> Result<Words<'a>, Error>
+    ensures least { IfOk result (λ words. 0 < words.workers) }
+    ensures most { IfOk result (λ words. words.workers ≤ 32) }
+{
     let matches = command.try_get_matches_from_mut(words)?;
-    match found_in(&matches) {
+    let found = found_in(&matches);
+    drop(matches);
+    match found {
         Some(words) => Ok(words),
         None => Err(command.error(ErrorKind::InvalidValue, "a subcommand lacks a value")?),
     }
