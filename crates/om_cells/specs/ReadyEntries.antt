@@ -1,27 +1,23 @@
 -- What a search of kept values for ready tasks finds: matter of its proof.
-use Rattle.std.specs.Prelude.{Option, None, Some, option_to_list, cond, ℕ, List, [], ◌∷◌, ◌++◌}
-use Rattle.om_foot.specs.declared.object.Obj.{Obj}
-use Rattle.om_foot.specs.declared.object.Obj.TheVariants as obj
+use Rattle.std.specs.Prelude.{Bool, Option, None, Some, option_to_list, unwrap_or, cond, ℕ, List, [], ◌∷◌, ◌++◌}
+use Rattle.om_cells.specs.declared.part.Part.TheVariants as part
+use Rattle.om_cells.specs.declared.places.Places.{Places}
 use Rattle.om_cells.specs.declared.value.Val.{Val}
+use Rattle.om_cells.specs.declared.value.Val.TheVariants as value
+use Rattle.om_cells.specs.declared.value.Task.TheVariants as task
+use Rattle.om_cells.specs.Places.{value_at}
 use Rattle.om_cells.specs.Values.{task_in}
 use Rattle.om_cells.specs.Ready.{is_ready}
 
+-- whether the task that is kept is ready
+abbrev pub is_ready_task : Option Val → Bool
+is_ready_task o = is_ready (task_in (unwrap_or o (value.Task task.Absent)))
+
 -- the name of a task that is ready
-abbrev pub name_if_ready : Obj → Val → Option (List ℕ)
-name_if_ready (obj.Task name) v = cond (is_ready (task_in v)) (Some name) None
-name_if_ready (obj.Control w) v = None
-name_if_ready (obj.Cell t f s i) v = None
-name_if_ready (obj.Global g i) v = None
-name_if_ready (obj.Kids t) v = None
-name_if_ready (obj.Pending t p) v = None
-name_if_ready (obj.Arrived t n) v = None
-name_if_ready (obj.Work t r) v = None
-name_if_ready (obj.Lock l) v = None
-name_if_ready (obj.Group g) v = None
-name_if_ready obj.Output v = None
-name_if_ready (obj.Events w) v = None
+abbrev pub name_if_ready : List ℕ → Places → Option (List ℕ)
+name_if_ready name ps = cond (is_ready_task (value_at ps part.Task)) (Some name) None
 
 -- the names of the ready tasks among kept values, in their order
-abbrev pub names_ready : List (Obj × Val) → List (List ℕ)
+abbrev pub names_ready : List (List ℕ × Places) → List (List ℕ)
 names_ready [] = []
 names_ready (e ∷ es) = option_to_list (name_if_ready e.0 e.1) ++ names_ready es

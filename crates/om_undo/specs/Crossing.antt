@@ -3,7 +3,9 @@ use Rattle.std.proofs.Crossing.{crosses}
 use Rattle.std.proofs.MapsCrossingOver.{crosses as maps}
 use denote.Param.Send.{IsSend, sendable}
 use Rattle.om_foot.specs.contracts.object.Obj as object
+use Rattle.om_cells.specs.contracts.part.Part as part
 use Rattle.om_cells.specs.contracts.place.Place as place
+use Rattle.om_cells.specs.contracts.places.Places as places
 use Rattle.om_cells.specs.contracts.shared.Shared as shared
 use Rattle.om_cells.specs.contracts.shared_object.SharedObject as shared_object
 use Rattle.om_cells.specs.contracts.store.Store as values
@@ -32,8 +34,14 @@ shared_object_send = search (objects_send, sendable) depth 40
 place_send : IsSend place.the_row
 place_send = search (shared_object_send, value_send, sendable) depth 40
 
+part_send : IsSend part.the_field.row
+part_send = search sendable depth 40
+
+places_send : IsSend places.the_field.row
+places_send = search (part_send, place_send, maps, crosses, sendable) depth 40
+
 values_send : IsSend values.the_field.row
-values_send = search (object_send, place_send, maps, crosses, sendable) depth 40
+values_send = search (name_send, places_send, maps, crosses, sendable) depth 40
 
 store_send : IsSend store.the_field.row
 store_send = search (trail_send, values_send, crosses, sendable) depth 40

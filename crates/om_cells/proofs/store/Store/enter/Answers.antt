@@ -1,31 +1,22 @@
-use Rattle.std.proofs.Common.{◌≡◌, ◌∙◌, ap, subst, true}
-use Rattle.std.specs.Prelude.{is_some}
-use Rattle.std.specs.Map.{lookup}
-use Rattle.om_foot.specs.Footprint.{obj_eq}
-use Rattle.om_cells.specs.Stores.{state_of, is_kept}
-use Rattle.om_cells.specs.State.{with_value}
-use Rattle.om_cells.proofs.StoreLemmas.{held, held-sets, kept-there, kept-others, on_error}
+use Rattle.std.proofs.Common.{sym}
+use Rattle.std.proofs.lemmas.Result.{on_ok_weaker, on_err_weaker}
+use Rattle.om_cells.proofs.PlaceLemmas.{put_unnamed, stay_unnamed, owner_none, owner_some, puts_part}
 use Rattle.om_cells.proofs.store.Store.enter.Goals as goal
 
-pub returns-in_err-insert-clause-others_kept : goal.returns-in_err-insert-clause-others_kept
-unfolding is_kept
-returns-in_err-insert-clause-others_kept c = λ q h. ap (λ es. is_some (lookup (obj_eq q) es))
-    c.in_err-insert.ensures.err ∙ h
+pub returns-in-None-clause-entered : goal.returns-in-None-clause-entered
+returns-in-None-clause-entered c = on_ok_weaker c.enter.result
+    (λ puts. put_unnamed c.args.self.now.unnamed c.enter.new.self c.args.self.now.named.entries c.args.object.now _
+    (owner_none c.name_of.result _ c.name_of.ensures c.in-None.is)
+    (puts_part c.part_of-part.result _ _ c.args.self.now.unnamed c.enter.new.self c.part_of-part.ensures puts))
+    c.enter.ensures.entered
 
-pub returns-in_err-insert-clause-unchanged_on_error : goal.returns-in_err-insert-clause-unchanged_on_error
-unfolding state_of
-returns-in_err-insert-clause-unchanged_on_error c = on_error _ (ap held c.in_err-insert.ensures.err)
+pub returns-in-None-clause-unchanged_on_error : goal.returns-in-None-clause-unchanged_on_error
+returns-in-None-clause-unchanged_on_error c = on_err_weaker c.enter.result
+    (stay_unnamed c.args.self.now.unnamed c.enter.new.self c.args.self.now.named.entries)
+    c.enter.ensures.unchanged_on_error
 
-pub returns-clause-state : goal.returns-clause-state
-unfolding state_of
-returns-clause-state c = held-sets _ _ _ _ c.in_ok-insert.ensures.updates.0
-    ∙ (λ i. with_value (c.get-key.ensures i) (c.of.ensures i) (held c.args.self.now.values.entries))
-
-pub returns-clause-kept : goal.returns-clause-kept
-unfolding is_kept
-returns-clause-kept c = subst (λ q. is_some (lookup (obj_eq q) c.insert.new.self.entries) ≡ true) c.get-key.ensures
-    (kept-there _ _ _ _ c.in_ok-insert.ensures.updates.0)
-
-pub returns-clause-others_kept : goal.returns-clause-others_kept
-unfolding is_kept
-returns-clause-others_kept c = kept-others _ _ _ _ c.in_ok-insert.ensures.updates.0
+pub returns-in-Some-clause-entered : goal.returns-in-Some-clause-entered
+returns-in-Some-clause-entered c = on_ok_weaker c.enter_with.result
+    (λ h. h c.args.object.now (owner_some c.name_of.result _ c.in-Some.name c.name_of.ensures c.in-Some.is)
+    (sym c.part_of-part.ensures))
+    c.enter_with.ensures.entered

@@ -1,0 +1,20 @@
+-- What is kept of the objects of one name.
+use Rattle.std.specs.Prelude.{◌≡◌, cond, Option}
+use Rattle.std.specs.Map.{lookup}
+use Rattle.std.specs.BTreeMap.{is_at}
+use Rattle.om_cells.specs.declared.part.Part.{Part}
+use Rattle.om_cells.specs.contracts.part.PartOrd.TheImpl.{cmp-value}
+use Rattle.om_cells.specs.declared.value.Val.{Val}
+use Rattle.om_cells.specs.declared.places.Places.{Places}
+
+-- the value that is kept at a part
+abbrev pub value_at : Places → Part → Option Val
+value_at ps p = lookup (is_at (cmp-value.it p)) ps.places.entries
+
+-- another value, or none, is kept at a part, and the others stay
+abbrev pub PutsAt : Part → Option Val → Places → Places → Type 0
+PutsAt p v old new = (q : Part) → value_at new q ≡ cond (is_at (cmp-value.it p) q) v (value_at old q)
+
+-- what is kept stays
+abbrev pub StaysAt : Places → Places → Type 0
+StaysAt old new = (q : Part) → value_at new q ≡ value_at old q

@@ -1,0 +1,59 @@
+//! The places of the objects of one name.
+
+ghost use Rattle.std.specs.Prelude.{◌≡◌, None, Some, true, is_some, OnOk, OnErr};
+ghost use Rattle.std.specs.Option.{option_copied};
+ghost use Rattle.om_cells.specs.declared.part.Part.{Part};
+ghost use Rattle.om_cells.specs.Places.{value_at, PutsAt, StaysAt};
+
+use crate::part::Part;
+use crate::place::Place;
+use crate::value::Val;
+use std::alloc::{AllocError, Global};
+use std::collections::BTreeMap;
+
+/// The places that are kept of the objects of one name, or of those without a name.
+///
+/// Contracts see the value that is kept at each part, as `value_at`.
+#[derive(Drop)]
+pub struct Places {
+    places: BTreeMap<Part, Place>,
+}
+
+impl Places {
+    /// No places. It takes no memory.
+    pub fn new(alloc: Global) -> Places
+        ensures { (q : Part) → value_at result q ≡ None }
+    {
+        Places {
+            places: BTreeMap::new(alloc),
+        }
+    }
+
+    /// The place at a part, if one is kept.
+    pub fn get(&self, part: &Part) -> Option<&Place>
+        ensures { option_copied result ≡ value_at self.now part.now }
+    {
+        self.places.get(part)
+    }
+
+    /// Keeps a place at a part. When out of memory, what is kept stays.
+    pub fn enter(&mut self, part: Part, place: Place) -> Result<(), AllocError>
+        ensures entered { OnOk result (PutsAt part (Some place) self.old self.new) }
+        ensures unchanged_on_error { OnErr result (StaysAt self.old self.new) }
+    {
+        drop(self.places.insert(part, place)?);
+        Ok(())
+    }
+
+    /// Puts a value at a part that is kept, and answers the one before. It takes no memory.
+    pub fn put(&mut self, part: &Part, value: Val) -> Val
+        requires { is_some (value_at self.old part.now) ≡ true }
+        ensures before { Some result ≡ value_at self.old part.now }
+        ensures after { PutsAt part.now (Some value) self.old self.new }
+    {
+        match self.places.get_mut(part) {
+            Some(place) => place.put(value),
+            None => unreachable!(),
+        }
+    }
+}
