@@ -12,7 +12,7 @@ use Rattle.std.specs.Cmp.Lexicographic.{slice_cmp, texts_ties}
 use Rattle.om_foot.specs.declared.object.Obj.{Obj}
 use Rattle.om_foot.specs.declared.object.Obj.TheVariants as obj
 use Rattle.om_foot.specs.Footprint.{obj_eq}
-use Rattle.om_foot.specs.Objects.{cmp-is_eq}
+use Rattle.om_foot.specs.Objects.{cmp-is_eq, obj_eq-true}
 use Rattle.om_foot.specs.Below.{same_list}
 use Rattle.om_cells.specs.declared.part.Part.{Part}
 use Rattle.om_cells.specs.contracts.part.PartOrd.TheImpl.{cmp-value}
@@ -254,3 +254,15 @@ pub none_through : (s : Store) (q : Obj) (r : Option (Bor Places)) (o : Option (
 none_through s q r o found is named =
     ap (λ x. value_among x (part_of q)) (sym (ap option_copied is) ∙ found)
     ∙ ap (λ x. value_among (places_in s.unnamed s.named.entries x) (part_of q)) named
+
+-- where a name is not known, nothing is kept at its parts
+none_there : (b : Bool) (o : Option Val) → (b ≡ true → o ≡ None) → o ≡ cond b None o
+none_there true o h = h refl
+none_there false o h = refl
+
+pub none_named : (s : Store) (n : List ℕ) (p : Part) → lookup (same_name n) s.named.entries ≡ None
+    → (k : Obj) → name_of k ≡ Some n → part_of k ≡ p → (q : Obj) → kept_at s q ≡ cond (obj_eq k q) None (kept_at s q)
+none_named s n p absent k named parted q = none_there (obj_eq k q) (kept_at s q) (λ same.
+    ap (kept_at s) (sym (obj_eq-true k q same))
+    ∙ ap (λ o. value_among (places_in s.unnamed s.named.entries o) (part_of k)) named
+    ∙ ap (λ o. value_among o (part_of k)) absent)

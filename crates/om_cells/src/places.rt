@@ -56,4 +56,11 @@ impl Places {
             None => unreachable!(),
         }
     }
+
+    /// Keeps nothing at a part. It takes no memory.
+    pub fn remove(&mut self, part: &Part)
+        ensures { PutsAt part.now None self.old self.new }
+    {
+        drop(self.places.remove(part));
+    }
 }
