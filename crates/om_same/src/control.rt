@@ -5,7 +5,18 @@ use om_cells::{Construct, Context, Control, Frame, Home, Kind, Share, Sharing, S
 
 impl Same for Home {
     fn is_same(&self, other: &Home) -> bool {
-        self == other
+        match (self, other) {
+            (Home::Own, Home::Own) => true,
+            (
+                Home::Elsewhere { task, frame, slot },
+                Home::Elsewhere {
+                    task: other_task,
+                    frame: other_frame,
+                    slot: other_slot,
+                },
+            ) => task.is_same(other_task) && frame == other_frame && slot == other_slot,
+            _ => false,
+        }
     }
 }
 

@@ -45,13 +45,14 @@ pub fn object_of(context: &Context, place: Place, index: u32) -> Obj
     }
 }
 
-/// Where the cells of a slot lie.
-fn home_at(homes: &[Home], slot: u32) -> Home
-    ensures { result ≡ home_at homes.now slot }
+/// Where the cells of a slot lie; a slot that has no home lies in the frame itself.
+fn home_at<'a>(homes: &'a [Home], slot: u32, own: &'a Home) -> &'a Home
+    requires { own.now ≡ Home.Own }
+    ensures { result.now ≡ home_at homes.now slot }
 {
     match homes.get(slot as usize) {
-        Some(home) => *home,
-        None => Home::Own,
+        Some(home) => home,
+        None => own,
     }
 }
 
@@ -67,7 +68,8 @@ pub fn name_slot(
         (plain_context context.now).frame.ordinal slot
         (home_at (plain_context context.now).frame.homes slot) 0 cells) }
 {
-    let home = &home_at(context.frame.homes.get().as_slice(), slot);
+    let own = Home::Own;
+    let home = home_at(context.frame.homes.get().as_slice(), slot, &own);
     for index in 0..cells {
         let cell = home.cell(context.task.get(), context.frame.ordinal, slot, index);
         name(names, cell, Mode::Write)?;
@@ -107,10 +109,10 @@ fn name_own(
         (own.new ≡ own.old ++ own_slot (plain_context context.now) slot cells
         (home_at (plain_context context.now).frame.homes slot)) }
 {
-    let Home::Own = home_at(context.frame.homes.get().as_slice(), slot) else {
-        return Ok(());
-    };
-    name_slot(own, context, slot, cells)
+    match home_at(context.frame.homes.get().as_slice(), slot, &Home::Own) {
+        Home::Own => name_slot(own, context, slot, cells),
+        Home::Elsewhere { .. } => Ok(()),
+    }
 }
 
 /// The cells of the running frame's own slots, as what is written.
@@ -130,26 +132,31 @@ pub fn own_cells(
 }
 
 /// Where the cells of a slot lie, for a frame that is begun from another one.
-fn home_from(task: &Name, frame: u64, slot: u32, home: &Home) -> Home
-    ensures { result ≡ home_from task.now frame slot home.now }
+fn home_from(task: &Shared<Name>, frame: u64, slot: u32, home: &Home) -> Result<Home, AllocError>
+    ensures { IfOk result (λ from. from ≡ home_from task.now frame slot home.now) }
 {
     match home {
-        Home::Own => Home::Elsewhere {
-            task: *task,
+        Home::Own => Ok(Home::Elsewhere {
+            task: task.copy()?,
             frame,
             slot,
-        },
-        Home::Elsewhere { .. } => *home,
+        }),
+        Home::Elsewhere { .. } => home.copy(),
     }
 }
 
 /// Where the cells of a slot lie, for a frame that is begun from one with these homes.
-fn home_for(task: &Name, frame: u64, homes: &[Home], source: Source) -> Home
-    ensures { result ≡ home_for task.now frame homes.now source }
+fn home_for(
+    task: &Shared<Name>,
+    frame: u64,
+    homes: &[Home],
+    source: Source,
+) -> Result<Home, AllocError>
+    ensures { IfOk result (λ home. home ≡ home_for task.now frame homes.now source) }
 {
     match source {
-        Source::Own => Home::Own,
-        Source::Outer(slot) => home_from(task, frame, slot, &home_at(homes, slot)),
+        Source::Own => Ok(Home::Own),
+        Source::Outer(slot) => home_from(task, frame, slot, home_at(homes, slot, &Home::Own)),
     }
 }
 
@@ -157,7 +164,7 @@ fn home_for(task: &Name, frame: u64, homes: &[Home], source: Source) -> Home
 /// this ordinal and these homes.
 pub fn homes_for(
     alloc: Global,
-    task: &Name,
+    task: &Shared<Name>,
     frame: u64,
     homes: &[Home],
     slots: &[Slot],
@@ -166,7 +173,7 @@ pub fn homes_for(
 {
     let mut all = Seq::new(alloc);
     for slot in slots {
-        all.push(home_for(task, frame, homes, slot.source))?;
+        all.push(home_for(task, frame, homes, slot.source)?)?;
     }
     Ok(all)
 }
@@ -178,7 +185,7 @@ pub fn homes_in(alloc: Global, context: &Context, slots: &[Slot]) -> Result<Seq<
     let frame = &context.frame;
     homes_for(
         alloc,
-        context.task.get(),
+        &context.task,
         frame.ordinal,
         frame.homes.get().as_slice(),
         slots,

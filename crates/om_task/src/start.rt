@@ -48,7 +48,8 @@ fn main_frame(alloc: Global, program: &Program) -> Result<Frame, AllocError>
     ensures { IfOk result (λ frame. frame ≡ (first_context program.now).frame) }
 {
     let slots = main_body(program).slots.as_slice();
-    let homes = homes_for(alloc, &first_task(), 0, &[], slots)?;
+    let task = Shared::of(alloc, first_task())?;
+    let homes = homes_for(alloc, &task, 0, &[], slots)?;
     let homes = Shared::of(alloc, homes)?;
     Ok(first_frame(alloc, program.main(), homes))
 }

@@ -24,23 +24,23 @@ event_send : IsSend event.the_row
 event_send = search (name_send, seq_send, sendable) depth 60 fits 20000
 
 -- ---- what contexts and tasks share
+pub names_send : IsSend (shared.the_row name.the_row)
+names_send = shared_send _ name_send name_sync
+
+names_sync : IsSync (shared.the_row name.the_row)
+names_sync = shared_sync _ name_send name_sync
+
 home_send : IsSend home.the_row
-home_send = search (name_send, sendable) depth 40
+home_send = search (names_send, sendable) depth 40
 
 home_sync : IsSync home.the_row
-home_sync = search (name_sync, sendable) depth 40
+home_sync = search (names_sync, sendable) depth 40
 
 pub homes_send : IsSend (shared.the_row (seq.the_row home.the_row))
 homes_send = shared_send _ (seq_send _ home_send) (seq_sync _ home_sync)
 
 homes_sync : IsSync (shared.the_row (seq.the_row home.the_row))
 homes_sync = shared_sync _ (seq_send _ home_send) (seq_sync _ home_sync)
-
-pub names_send : IsSend (shared.the_row name.the_row)
-names_send = shared_send _ name_send name_sync
-
-names_sync : IsSync (shared.the_row name.the_row)
-names_sync = shared_sync _ name_send name_sync
 
 team_send : IsSend team.the_row
 team_send = search (name_send, sendable) depth 40

@@ -8,13 +8,13 @@ use Rattle.om_steps.proofs.names.name_slot.Goals as goal
 pub loop-index-preserved : goal.loop-index-preserved
 loop-index-preserved c =
     let found = subst (λ task. c.cell-cell.result ≡ cell_of task c.deref-in-loop-index.result.now.ordinal c.args.slot
-    c.loop-index.index c.home_at.result)
+    c.loop-index.index c.home_at-home.result.now)
     c.get-in-loop-index.ensures c.cell-cell.ensures in
     let cell = subst (λ n. c.cell-cell.result ≡ cell_of c.args.context.now.task n c.args.slot
-    c.loop-index.index c.home_at.result)
+    c.loop-index.index c.home_at-home.result.now)
     (ap (λ (f : Frame). f.ordinal) c.deref-in-loop-index.ensures) found in
     ap (λ names. names ++ slot_cells c.args.context.now.task c.args.context.now.frame.value.ordinal c.args.slot
-    c.home_at.result (c.loop-index.index + 1) (c.args.cells - (c.loop-index.index + 1))) (c.in_ok-name.ensures)
-    ∙ slot_past c.loop-index.names _ _ c.args.slot c.home_at.result c.loop-index.index c.args.cells
+    c.home_at-home.result.now (c.loop-index.index + 1) (c.args.cells - (c.loop-index.index + 1))) (c.in_ok-name.ensures)
+    ∙ slot_past c.loop-index.names _ _ c.args.slot c.home_at-home.result.now c.loop-index.index c.args.cells
     c.cell-cell.result (omega (arith, c.loop-index-test.true)) cell
     ∙ c.loop-index.invariant
