@@ -1,6 +1,6 @@
 -- Commands of many steps, one step at a time.
 use Rattle.std.proofs.Common.{◌≡◌, refl, sym, ap, ◌∙◌, ◌<◌, ◌≤◌, ◌-◌, ◌+◌, zero, suc, true, false, None, Some, ℕ, List}
-use Rattle.std.proofs.Common.{[], ◌∷◌, ◌++◌, length, drop, get_or, append_assoc, arith, Bool, map}
+use Rattle.std.proofs.Common.{Option, cond, [], ◌∷◌, ◌++◌, length, drop, get_or, append_assoc, arith, Bool, map}
 use Rattle.om_cells.specs.declared.step.Choice.{Choice}
 use Rattle.om_cells.specs.declared.step.Choice.TheVariants.{Next, Start}
 use Rattle.om_cells.specs.declared.step.Outcome.{Outcome}
@@ -11,10 +11,18 @@ use Rattle.om_replies.specs.Lists.{joined}
 use Rattle.om_replies.specs.declared.stop.Stop.TheVariants as stop
 use Rattle.om_cells.specs.Values.{control_in}
 use Rattle.om_foot.specs.declared.object.Obj.TheVariants as object
-use Rattle.om_history.specs.Runs.{reply_for}
+use Rattle.om_cells.specs.declared.step.Entry.{Entry}
+use Rattle.om_cells.specs.declared.step.Label.{Label}
+use Rattle.om_cells.specs.declared.value.Val.{Val}
+use Rattle.om_history.specs.declared.reply.RollReply.{RollReply}
+use Rattle.om_history.specs.declared.reply.UndoReply.{UndoReply}
+use Rattle.om_history.specs.Runs.{reply_for, reply_to_step}
+use Rattle.om_history.specs.declared.reply.StepReply.{StepReply}
+use Rattle.om_history.specs.declared.reply.StepReply.TheVariants as step_reply
 use Rattle.om_task.specs.Laws.{StartsAtSchedulingPoints}
 use Rattle.om_task.specs.Rules.{is_at_scheduling_point}
-use Rattle.om_undo.specs.Machines.{MachineView, state_in}
+use Rattle.om_undo.specs.Machines.{MachineView, rules_for, state_in}
+use Rattle.om_undo.specs.PlannedSteps.{PlannedView, is_made, planned_at}
 use Rattle.om_view.specs.declared.marks.Marks.{Marks}
 use Rattle.om_view.specs.declared.runs.Moved.{Moved}
 use Rattle.om_view.specs.Moves.{goes_on, steps_within, undoes_within, next_within, back_within}
@@ -29,7 +37,7 @@ use Rattle.om_journal.specs.declared.reply.Reply.TheVariants as reply
 use Rattle.om_view.specs.Calls.{label_of, step_reply_of, undo_reply_of, with_call, with_step}
 use Rattle.om_view.specs.Freed.{SeatCall, records_by}
 use Rattle.om_view.specs.Runs.{after_move, can_step, move_among, move_of, moved_of, ran, run_within, said_by}
-use Rattle.om_view.specs.Runs.{start_among}
+use Rattle.om_view.specs.Runs.{planned_for, planned_if, planned_move, start_among}
 use Rattle.om_view.specs.Said.{Said}
 
 abbrev full : BookView → Said
@@ -133,6 +141,111 @@ pub start_behind : (m : MachineView) (worker : ℕ) (name : List ℕ) (names : L
     (Start name) ≡ false
     → start_among m worker (name ∷ names) ≡ start_among m worker names
 start_behind m worker name names e = rw e refl
+
+pub some_same : {A : Type 0} (a b : A) → Some a ≡ Some b → a ≡ b
+some_same a b e = cc
+
+some_none : {A : Type 0} (a : A) → Some a ≡ None → ⊥
+some_none a e = cc
+
+-- what is told in a reply of a kind
+
+pub same_undo : (x y : UndoReply) → reply.Undo x ≡ reply.Undo y → x ≡ y
+same_undo x y e = cc
+
+pub same_roll : (x y : RollReply) → reply.Roll x ≡ reply.Roll y → x ≡ y
+same_roll x y e = cc
+
+pub same_value : (x y : Val) → reply.Value x ≡ reply.Value y → x ≡ y
+same_value x y e = cc
+
+pub same_names : (x y : List (List ℕ)) → reply.Ready x ≡ reply.Ready y → x ≡ y
+same_names x y e = cc
+
+pub same_entries : (x y : List Entry) → reply.Entries x ≡ reply.Entries y → x ≡ y
+same_entries x y e = cc
+
+-- planned steps
+
+same_made : (x : StepReply) → is_made x ≡ is_done (reply.Step x)
+same_made (step_reply.Done serial line fault) = refl
+same_made (step_reply.Blocked b) = refl
+same_made step_reply.Ended = refl
+
+-- a planned step is possible where the worker can make it
+pub can_be_made : (m : MachineView) (worker : ℕ) (choice : Choice) (p : PlannedView) (can : Bool)
+    → p ≡ planned_at m (label_of worker choice)
+    → can ≡ is_made (reply_to_step (rules_for p.machine) p.machine.history p.label) → can ≡ can_step m worker choice
+can_be_made m worker choice p can e is =
+    is
+    ∙ ap (λ (v : PlannedView). is_made (reply_to_step (rules_for v.machine) v.machine.history v.label)) e
+    ∙ same_made (step_reply_of m (label_of worker choice))
+
+pub planned_here : (m : MachineView) (worker : ℕ) (choice : Choice) (p : PlannedView)
+    → p ≡ planned_at m (label_of worker choice) → can_step m worker choice ≡ true
+    → Some p ≡ planned_if m (can_step m worker choice) (label_of worker choice)
+planned_here m worker choice p e can = rw can (ap Some e)
+
+pub planned_not : (m : MachineView) (worker : ℕ) (choice : Choice) → can_step m worker choice ≡ false
+    → None ≡ planned_if m (can_step m worker choice) (label_of worker choice)
+planned_not m worker choice cannot = rw cannot refl
+
+some_if : (m : MachineView) (can : Bool) (label : Label) (p : PlannedView) → Some p ≡ planned_if m can label
+    → can ≡ true
+some_if m true label p e = refl
+some_if m false label p e = cc
+
+none_if : (m : MachineView) (can : Bool) (label : Label) → None ≡ planned_if m can label → can ≡ false
+none_if m true label e = cc
+none_if m false label e = refl
+
+-- what is planned says whether it can be made
+pub can_where_planned : (m : MachineView) (worker : ℕ) (choice : Choice) (o : Option PlannedView) (p : PlannedView)
+    → o ≡ Some p → o ≡ planned_if m (can_step m worker choice) (label_of worker choice)
+    → can_step m worker choice ≡ true
+can_where_planned m worker choice o p some is = some_if m (can_step m worker choice) (label_of worker choice) p
+    (sym some ∙ is)
+
+pub cannot_where_none : (m : MachineView) (worker : ℕ) (choice : Choice) (o : Option PlannedView)
+    → o ≡ None → o ≡ planned_if m (can_step m worker choice) (label_of worker choice)
+    → can_step m worker choice ≡ false
+cannot_where_none m worker choice o none is = none_if m (can_step m worker choice) (label_of worker choice)
+    (sym none ∙ is)
+
+-- and which step it is
+pub planned_is : (m : MachineView) (worker : ℕ) (choice : Choice) (o : Option PlannedView) (p : PlannedView)
+    → o ≡ Some p → o ≡ planned_if m (can_step m worker choice) (label_of worker choice)
+    → Some p ≡ planned_for m worker (Some choice)
+planned_is m worker choice o p some is =
+    sym some ∙ is
+    ∙ ap (λ b. planned_if m b (label_of worker choice)) (can_where_planned m worker choice o p some is)
+
+-- a move that is planned for a worker, or that there is none
+
+pub some_move : (m : MachineView) (worker : ℕ) (choice : Option Choice) (p : PlannedView)
+    → Some p ≡ planned_for m worker choice → (c : Choice) × (choice ≡ Some c) × (p ≡ planned_at m (label_of worker c))
+some_move m worker (Some c) p e = (c, refl, some_same p (planned_at m (label_of worker c)) e)
+some_move m worker None p e = absurd (some_none p e)
+
+pub none_move : (m : MachineView) (worker : ℕ) (choice : Option Choice) → None ≡ planned_for m worker choice
+    → choice ≡ None
+none_move m worker (Some c) e = cc
+none_move m worker None e = refl
+
+-- a move that is planned among workers is the step of its label
+
+pub planned_label : (m : MachineView) (o : Option Label) (p : PlannedView) → Some p ≡ planned_move m o
+    → (o ≡ Some p.label) × (p.machine ≡ m)
+planned_label m (Some label) p e =
+    let is : p ≡ planned_at m label = some_same p (planned_at m label) e in (
+      ap (λ (v : PlannedView). Some v.label) (sym is),
+      ap (λ (v : PlannedView). v.machine) is,
+    )
+planned_label m None p e = absurd (some_none p e)
+
+pub no_label : (m : MachineView) (o : Option Label) → None ≡ planned_move m o → o ≡ None
+no_label m (Some label) e = cc
+no_label m None e = refl
 
 -- a worker that is at no scheduling point can begin no task
 

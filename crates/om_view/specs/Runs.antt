@@ -12,6 +12,7 @@ use Rattle.om_replies.specs.declared.stop.Stop.TheVariants as stop
 use Rattle.om_replies.specs.Steps.{full_text}
 use Rattle.om_replies.specs.Stops.{ran_text}
 use Rattle.om_undo.specs.Machines.{MachineView, state_in}
+use Rattle.om_undo.specs.PlannedSteps.{PlannedView, planned_at}
 use Rattle.om_view.specs.declared.marks.Marks.{Marks}
 use Rattle.om_view.specs.declared.runs.Moved.{Moved}
 use Rattle.om_view.specs.declared.runs.Moved.TheVariants as moved
@@ -49,6 +50,19 @@ move_among m (suc more) = move_or (m.workers - suc more) (move_of m (m.workers -
 -- the move of the least worker that has one
 unfoldable pub first_move : MachineView → Option Label
 first_move m = move_among m m.workers
+
+-- the step of a move, as it is planned where the machine stands
+abbrev pub planned_move : MachineView → Option Label → Option PlannedView
+planned_move m None = None
+planned_move m (Some label) = Some (planned_at m label)
+
+-- that of a worker by a choice, where it has one
+abbrev pub planned_for : MachineView → ℕ → Option Choice → Option PlannedView
+planned_for m worker choice = planned_move m (move_or worker choice None)
+
+-- that of a label, where it can be made
+abbrev pub planned_if : MachineView → Bool → Label → Option PlannedView
+planned_if m can label = cond can (Some (planned_at m label)) None
 
 -- the initial task has ended
 abbrev pub has_ended : controls.Control → Bool

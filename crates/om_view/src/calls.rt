@@ -1,32 +1,53 @@
 //! Calls of the debugger's book. A debugger is the only one who calls, through one seat.
 
-ghost use Rattle.std.specs.Prelude.{◌≡◌, ◌<◌, IfOk, OnOk};
+ghost use Rattle.std.specs.Prelude.{◌≡◌, ◌<◌, ℕ, IfOk, OnOk};
+ghost use Rattle.om_foot.specs.declared.object.Obj.{Obj};
 ghost use Rattle.om_history.specs.Cones.{reply_to_roll};
-ghost use Rattle.om_journal.specs.Books.{machine_of, records_of};
+ghost use Rattle.om_journal.specs.Books.{BookView, machine_of, records_of};
 ghost use Rattle.om_journal.specs.Runs.{IsInRange, reply_to};
+ghost use Rattle.om_journal.specs.declared.command.Command.{Command as Asked};
+ghost use Rattle.om_journal.specs.declared.command.Query.TheVariants as query;
 ghost use Rattle.om_undo.specs.Machines.{rules_for, state_in};
 ghost use Rattle.om_undo.specs.ReadyNames.{ready_names};
 ghost use Rattle.om_view.specs.Calls.{label_of, step_reply_of, undo_reply_of, with_call, with_step};
 
 use om_cells::Val;
-use om_foot::{Name, Obj};
-use om_journal::{Book, CallError, Command, Query, Reply};
+use om_foot::Name;
+use om_journal::{Book, CallError, Command, KeptUndoReply, Reply};
 use om_seq::Seq;
 use om_task::Choice;
-use om_undo::{Entry, RollReply, StepReply, UndoReply};
+use om_undo::{Entry, PlannedStep, RollReply, StepReply};
 use std::alloc::{AllocError, Global};
 
 // The debugger's seat.
 const SEAT: u8 = 0;
 
-// Applies a command. Its only error is out of memory.
-fn apply(alloc: Global, book: &mut Book, command: Command) -> Result<Reply, AllocError>
-    requires in_range { IsInRange book.old.start.workers command }
+/// Does what a command asks. What it was answered is told by the book. Its only error is out of memory.
+pub(crate) fn call(alloc: Global, book: &mut Book, command: &Command) -> Result<(), AllocError>
+    requires in_range { IsInRange book.old.start.workers command.now }
     requires room { records_of book.old < 200000 }
-    ensures reply { IfOk result (λ x. x ≡ reply_to (machine_of book.old) command) }
-    ensures after { OnOk result (book.new ≡ with_call book.old command) }
+    ensures { OnOk result (book.new ≡ with_call book.old command.now) }
 {
-    match book.apply(alloc, SEAT, command) {
+    match book.call(alloc, SEAT, command) {
+        Ok(()) => Ok(()),
+        Err(CallError::OutOfMemory) => Err(AllocError),
+        Err(CallError::Full) => unreachable!(),
+    }
+}
+
+/// Takes a step that was planned where the book stands.
+pub(crate) fn take(
+    alloc: Global,
+    book: &mut Book,
+    step: PlannedStep,
+) -> Result<StepReply, AllocError>
+    requires planned { step.machine ≡ machine_of book.old }
+    requires room { records_of book.old < 200000 }
+    ensures reply { IfOk result
+        (λ reply. reply ≡ step_reply_of (machine_of book.old) step.label) }
+    ensures after { OnOk result (book.new ≡ with_step book.old step.label) }
+{
+    match book.take(alloc, SEAT, step) {
         Ok(reply) => Ok(reply),
         Err(CallError::OutOfMemory) => Err(AllocError),
         Err(CallError::Full) => unreachable!(),
@@ -38,82 +59,85 @@ pub(crate) fn step(
     alloc: Global,
     book: &mut Book,
     worker: u8,
-    choice: Choice,
+    choice: &Choice,
 ) -> Result<StepReply, AllocError>
     requires in_range { worker < book.old.start.workers }
     requires room { records_of book.old < 200000 }
     ensures reply { IfOk result
-        (λ reply. reply ≡ step_reply_of (machine_of book.old) (label_of worker choice)) }
-    ensures after { OnOk result (book.new ≡ with_step book.old (label_of worker choice)) }
+        (λ reply. reply ≡ step_reply_of (machine_of book.old) (label_of worker choice.now)) }
+    ensures after { OnOk result (book.new ≡ with_step book.old (label_of worker choice.now)) }
 {
-    let Reply::Step(reply) = apply(alloc, book, Command::Step { worker, choice })? else {
-        unreachable!()
-    };
-    Ok(reply)
+    let planned = book.machine().plan(alloc, worker, choice)?;
+    take(alloc, book, planned)
 }
 
-/// Takes a worker's last step back.
-pub(crate) fn undo(alloc: Global, book: &mut Book, worker: u8) -> Result<UndoReply, AllocError>
-    requires in_range { worker < book.old.start.workers }
-    requires room { records_of book.old < 200000 }
-    ensures reply { IfOk result
-        (λ reply. reply ≡ undo_reply_of (machine_of book.old) worker) }
-    ensures after { OnOk result (book.new ≡ with_call book.old (Command.Undo worker)) }
+// What the last call was answered.
+fn told(book: &Book) -> &Reply
+    requires { (b : BookView) × (c : Asked) × (book.now ≡ with_call b c) }
+    ensures { (b : BookView) (c : Asked) → book.now ≡ with_call b c
+        → result.now ≡ reply_to (machine_of b) c }
 {
-    let Reply::Undo(reply) = apply(alloc, book, Command::Undo(worker))? else {
-        unreachable!()
-    };
-    Ok(reply.get())
+    book.last_reply()
 }
 
-/// Takes a step back, with all that depends on it.
-pub(crate) fn roll(alloc: Global, book: &mut Book, serial: u64) -> Result<RollReply, AllocError>
-    requires room { records_of book.old < 200000 }
-    ensures reply { IfOk result
-        (λ reply. reply ≡ reply_to_roll (rules_for (machine_of book.old))
-        (machine_of book.old).history serial) }
-    ensures after { OnOk result (book.new ≡ with_call book.old (Command.Roll serial)) }
+/// What the last call was answered, which was a worker's undo.
+pub(crate) fn undo_told(book: &Book) -> &KeptUndoReply
+    requires { (b : BookView) × (worker : ℕ) × (book.now ≡ with_call b (Command.Undo worker)) }
+    ensures { (b : BookView) (worker : ℕ) → book.now ≡ with_call b (Command.Undo worker)
+        → result.now ≡ undo_reply_of (machine_of b) worker }
 {
-    let Reply::Roll(reply) = apply(alloc, book, Command::Roll(serial))? else {
+    let Reply::Undo(reply) = told(book) else {
         unreachable!()
     };
-    Ok(reply)
+    reply
 }
 
-/// Looks at what an object holds.
-pub(crate) fn look(alloc: Global, book: &mut Book, object: Obj) -> Result<Val, AllocError>
-    requires room { records_of book.old < 200000 }
-    ensures value { IfOk result (λ value. value ≡ state_in (machine_of book.old) object) }
-    ensures after { OnOk result
-        (book.new ≡ with_call book.old (Command.Look (Query.Value object))) }
+/// What the last call was answered, which was a roll.
+pub(crate) fn roll_told(book: &Book) -> &RollReply
+    requires { (b : BookView) × (serial : ℕ) × (book.now ≡ with_call b (Command.Roll serial)) }
+    ensures { (b : BookView) (serial : ℕ) → book.now ≡ with_call b (Command.Roll serial)
+        → result.now ≡ reply_to_roll (rules_for (machine_of b)) (machine_of b).history serial }
 {
-    let Reply::Value(value) = apply(alloc, book, Command::Look(Query::Value(object)))? else {
+    let Reply::Roll(reply) = told(book) else {
         unreachable!()
     };
-    Ok(value)
+    reply
 }
 
-/// Looks at the entries that stand.
-pub(crate) fn entries(alloc: Global, book: &mut Book) -> Result<Seq<Entry>, AllocError>
-    requires room { records_of book.old < 200000 }
-    ensures entries { IfOk result
-        (λ entries. entries ≡ (machine_of book.old).history.entries) }
-    ensures after { OnOk result (book.new ≡ with_call book.old (Command.Look Query.Entries)) }
+/// What the last call was answered, which was a look at what an object holds.
+pub(crate) fn value_told(book: &Book) -> &Val
+    requires { (b : BookView) × (object : Obj)
+        × (book.now ≡ with_call b (Command.Look (query.Value object))) }
+    ensures { (b : BookView) (object : Obj)
+        → book.now ≡ with_call b (Command.Look (query.Value object))
+        → result.now ≡ state_in (machine_of b) object }
 {
-    let Reply::Entries(entries) = apply(alloc, book, Command::Look(Query::Entries))? else {
+    let Reply::Value(value) = told(book) else {
         unreachable!()
     };
-    Ok(entries)
+    value
 }
 
-/// Looks at the names of the tasks that are ready, ascending.
-pub(crate) fn ready(alloc: Global, book: &mut Book) -> Result<Seq<Name>, AllocError>
-    requires room { records_of book.old < 200000 }
-    ensures names { IfOk result (λ names. names ≡ ready_names (machine_of book.old)) }
-    ensures after { OnOk result (book.new ≡ with_call book.old (Command.Look Query.Ready)) }
+/// What the last call was answered, which was a look at the entries that stand.
+pub(crate) fn entries_told(book: &Book) -> &Seq<Entry>
+    requires { (b : BookView) × (book.now ≡ with_call b (Command.Look query.Entries)) }
+    ensures { (b : BookView) → book.now ≡ with_call b (Command.Look query.Entries)
+        → result.now ≡ (machine_of b).history.entries }
 {
-    let Reply::Ready(names) = apply(alloc, book, Command::Look(Query::Ready))? else {
+    let Reply::Entries(entries) = told(book) else {
         unreachable!()
     };
-    Ok(names)
+    entries
+}
+
+/// What the last call was answered, which was a look at the names of the tasks that are ready, ascending.
+pub(crate) fn names_told(book: &Book) -> &Seq<Name>
+    requires { (b : BookView) × (book.now ≡ with_call b (Command.Look query.Ready)) }
+    ensures { (b : BookView) → book.now ≡ with_call b (Command.Look query.Ready)
+        → result.now ≡ ready_names (machine_of b) }
+{
+    let Reply::Ready(names) = told(book) else {
+        unreachable!()
+    };
+    names
 }

@@ -10,13 +10,13 @@ ghost use Rattle.om_replies.specs.Places.{where_text};
 ghost use Rattle.om_cells.specs.Values.{control_in};
 ghost use Rattle.om_view.specs.Looks.{local_said, print_said, where_said, history_said, events_said, output_said, directive_line, ready_line, tasks_text, tasks_said};
 
-use crate::calls::{entries, look, ready};
+use crate::calls::{call, entries_told, names_told, value_told};
 use om_cells::value::Task;
 use om_cells::{Control, Val};
 use om_code::Program;
 use om_command::Variable;
 use om_foot::{Name, Obj};
-use om_journal::Book;
+use om_journal::{Book, Command, Query};
 use om_lookup::line_of;
 use om_replies::{
     GlobalCell, push_events, push_full, push_history, push_local, push_no_tasks, push_output,
@@ -39,10 +39,8 @@ pub(crate) fn print(
     if book.is_full() {
         return push_full(text);
     }
-    let value = look(alloc, book, cell.object())?;
-    let pushed = push_print(text, book.machine().program(), cell, &value);
-    drop(value);
-    pushed
+    call(alloc, book, &Command::Look(Query::Value(cell.object())))?;
+    push_print(text, book.machine().program(), cell, value_told(book))
 }
 
 /// Answers `print W VAR`, where the worker sees a cell.
@@ -61,10 +59,8 @@ pub(crate) fn print_local(
     if book.is_full() {
         return push_full(text);
     }
-    let value = look(alloc, book, *cell)?;
-    let pushed = push_local(text, variable, &value);
-    drop(value);
-    pushed
+    call(alloc, book, &Command::Look(Query::Value(*cell)))?;
+    push_local(text, variable, value_told(book))
 }
 
 // The line of the instruction at which a worker of this control stands; 0 where it is idle or has
@@ -111,10 +107,12 @@ pub(crate) fn place(
     if book.is_full() {
         return push_full(text);
     }
-    let value = look(alloc, book, Obj::Control(worker))?;
-    let pushed = push_control(text, book.machine().program(), worker, &value);
-    drop(value);
-    pushed
+    call(
+        alloc,
+        book,
+        &Command::Look(Query::Value(Obj::Control(worker))),
+    )?;
+    push_control(text, book.machine().program(), worker, value_told(book))
 }
 
 /// Answers `history`.
@@ -126,8 +124,8 @@ pub(crate) fn history(alloc: Global, book: &mut Book, text: &mut Vec<u8>) -> Res
     if book.is_full() {
         return push_full(text);
     }
-    let all = entries(alloc, book)?;
-    push_history(text, all.as_slice())
+    call(alloc, book, &Command::Look(Query::Entries))?;
+    push_history(text, entries_told(book).as_slice())
 }
 
 /// Answers `events W`.
@@ -144,10 +142,12 @@ pub(crate) fn events(
     if book.is_full() {
         return push_full(text);
     }
-    let value = look(alloc, book, Obj::Events(worker))?;
-    let pushed = push_events(text, value.records());
-    drop(value);
-    pushed
+    call(
+        alloc,
+        book,
+        &Command::Look(Query::Value(Obj::Events(worker))),
+    )?;
+    push_events(text, value_told(book).records())
 }
 
 /// Answers `output`.
@@ -159,10 +159,8 @@ pub(crate) fn output(alloc: Global, book: &mut Book, text: &mut Vec<u8>) -> Resu
     if book.is_full() {
         return push_full(text);
     }
-    let value = look(alloc, book, Obj::Output)?;
-    let pushed = push_output(text, value.bytes());
-    drop(value);
-    pushed
+    call(alloc, book, &Command::Look(Query::Value(Obj::Output)))?;
+    push_output(text, value_told(book).bytes())
 }
 
 // The line of the directive of a task that is ready; 0 for another one.
@@ -231,6 +229,6 @@ pub(crate) fn tasks(alloc: Global, book: &mut Book, text: &mut Vec<u8>) -> Resul
     if book.is_full() {
         return push_full(text);
     }
-    let names = ready(alloc, book)?;
-    push_tasks(alloc, book.machine(), names.as_slice(), text)
+    call(alloc, book, &Command::Look(Query::Ready))?;
+    push_tasks(alloc, book.machine(), names_told(book).as_slice(), text)
 }

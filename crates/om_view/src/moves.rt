@@ -8,7 +8,7 @@ ghost use Rattle.om_journal.specs.Runs.{is_done};
 ghost use Rattle.om_view.specs.Moves.{goes_on, is_undone, step_said, undo_said, next_within, next_said, back_within, back_said, roll_said};
 
 use crate::calls;
-use om_journal::Book;
+use om_journal::{Book, Command};
 use om_replies::{push_full, push_roll, push_step, push_undo};
 use om_task::Choice;
 use om_undo::{Machine, StepReply, UndoReply};
@@ -40,7 +40,7 @@ pub(crate) fn step(
     if book.is_full() {
         return push_full(text);
     }
-    let reply = calls::step(alloc, book, worker, choice)?;
+    let reply = calls::step(alloc, book, worker, &choice)?;
     push_step(text, worker, reply)
 }
 
@@ -59,10 +59,9 @@ pub(crate) fn undo(
     if book.is_full() {
         return push_full(text);
     }
-    match calls::undo(alloc, book, worker) {
-        Ok(reply) => push_undo(text, book.machine().program(), worker, &reply),
-        Err(error) => Err(error),
-    }
+    calls::call(alloc, book, &Command::Undo(worker))?;
+    let reply = calls::undo_told(book).get();
+    push_undo(text, book.machine().program(), worker, &reply)
 }
 
 /// Whether a step was made.
@@ -127,7 +126,7 @@ fn next_within(
         if book.is_full() {
             return push_full(text);
         }
-        let reply = calls::step(alloc, book, stay.worker, Choice::Next)?;
+        let reply = calls::step(alloc, book, stay.worker, &Choice::Next)?;
         if !steps_on(book.machine(), &reply, stay, further) {
             return push_step(text, stay.worker, reply);
         }
@@ -171,13 +170,10 @@ fn back_within(
         if book.is_full() {
             return push_full(text);
         }
-        match calls::undo(alloc, book, stay.worker) {
-            Ok(reply) => {
-                if !undoes_on(book.machine(), &reply, stay, further) {
-                    return push_undo(text, book.machine().program(), stay.worker, &reply);
-                }
-            }
-            Err(error) => return Err(error),
+        calls::call(alloc, book, &Command::Undo(stay.worker))?;
+        let reply = calls::undo_told(book).get();
+        if !undoes_on(book.machine(), &reply, stay, further) {
+            return push_undo(text, book.machine().program(), stay.worker, &reply);
         }
         further -= 1;
     }
@@ -213,6 +209,6 @@ pub(crate) fn roll(
     if book.is_full() {
         return push_full(text);
     }
-    let reply = calls::roll(alloc, book, serial)?;
-    push_roll(text, serial, &reply)
+    calls::call(alloc, book, &Command::Roll(serial))?;
+    push_roll(text, serial, calls::roll_told(book))
 }

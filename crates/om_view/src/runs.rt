@@ -6,35 +6,40 @@ ghost use Rattle.om_live.specs.Stores.{plain_or_idle};
 ghost use Rattle.om_undo.specs.ReadyNames.{ready_names};
 ghost use Rattle.om_replies.specs.Stops.{ran_text};
 ghost use Rattle.om_journal.specs.Books.{machine_of};
+ghost use Rattle.om_view.specs.Calls.{label_of};
 ghost use Rattle.om_undo.specs.Machines.{state_in};
-ghost use Rattle.om_view.specs.Runs.{can_step, start_among, move_of, move_among, first_move, has_ended, stop_without_move, moved_by, behind_move, moved_of, after_move, run_within};
+ghost use Rattle.om_view.specs.Runs.{can_step, planned_if, planned_for, planned_move, start_among, move_of, move_among, first_move, has_ended, stop_without_move, moved_by, behind_move, moved_of, after_move, run_within};
 
 use crate::marks::Marks;
-use crate::moves::is_done;
 use crate::stops::step_and_stop;
-use om_cells::Label;
 use om_foot::Name;
 use om_journal::Book;
 use om_live::Control;
 use om_replies::{Stop, push_full, push_ran};
 use om_task::Choice;
 use om_task::laws::starts_at_scheduling_points;
-use om_undo::Machine;
 use om_undo::laws::{one_ready_list, ready_names_are_ready};
+use om_undo::{Machine, PlannedStep};
 use std::alloc::{AllocError, Global};
 
-// Whether a worker can make a step by a choice.
-fn can_step(
+// The step of a worker by a choice, planned, where it can be made.
+fn planned(
     alloc: Global,
     machine: &Machine,
     worker: u8,
-    choice: Choice,
-) -> Result<bool, AllocError>
+    choice: &Choice,
+) -> Result<Option<PlannedStep>, AllocError>
     requires { worker < machine.now.workers }
-    ensures { IfOk result (λ can. can ≡ can_step machine.now worker choice) }
+    ensures { IfOk result
+        (λ step. step ≡ planned_if machine.now (can_step machine.now worker choice.now)
+        (label_of worker choice.now)) }
 {
-    let reply = machine.peek(alloc, worker, choice)?;
-    Ok(is_done(&reply))
+    let step = machine.plan(alloc, worker, choice)?;
+    if step.is_possible() {
+        return Ok(Some(step));
+    }
+    drop(step);
+    Ok(None)
 }
 
 // The names of the tasks that are ready, ascending.
@@ -52,13 +57,15 @@ fn start_among(
     machine: &Machine,
     worker: u8,
     names: &[Name],
-) -> Result<Option<Choice>, AllocError>
+) -> Result<Option<PlannedStep>, AllocError>
     requires { worker < machine.now.workers }
-    ensures { IfOk result (λ choice. choice ≡ start_among machine.now worker names.now) }
+    ensures { IfOk result
+        (λ step. step ≡ planned_for machine.now worker (start_among machine.now worker names.now)) }
 {
     for name in names {
-        if can_step(alloc, machine, worker, Choice::Start(*name))? {
-            return Ok(Some(Choice::Start(*name)));
+        match planned(alloc, machine, worker, &Choice::Start(*name))? {
+            Some(step) => return Ok(Some(step)),
+            None => {}
         }
     }
     Ok(None)
@@ -66,10 +73,14 @@ fn start_among(
 
 // The start of the least ready task that a worker can begin. Only at a scheduling point is it asked
 // which tasks are ready.
-fn first_start(alloc: Global, machine: &Machine, worker: u8) -> Result<Option<Choice>, AllocError>
+fn first_start(
+    alloc: Global,
+    machine: &Machine,
+    worker: u8,
+) -> Result<Option<PlannedStep>, AllocError>
     requires { worker < machine.now.workers }
-    ensures { IfOk result
-        (λ choice. choice ≡ start_among machine.now worker (ready_names machine.now)) }
+    ensures { IfOk result (λ step. step ≡ planned_for machine.now worker
+        (start_among machine.now worker (ready_names machine.now))) }
 {
     starts_at_scheduling_points();
     if !machine.is_at_scheduling_point(worker) {
@@ -80,27 +91,29 @@ fn first_start(alloc: Global, machine: &Machine, worker: u8) -> Result<Option<Ch
 }
 
 // A worker's move: its next step, else the start of the least task that it can begin.
-fn move_of(alloc: Global, machine: &Machine, worker: u8) -> Result<Option<Choice>, AllocError>
+fn move_of(alloc: Global, machine: &Machine, worker: u8) -> Result<Option<PlannedStep>, AllocError>
     requires { worker < machine.now.workers }
-    ensures { IfOk result (λ choice. choice ≡ move_of machine.now worker) }
+    ensures { IfOk result
+        (λ step. step ≡ planned_for machine.now worker (move_of machine.now worker)) }
 {
-    if can_step(alloc, machine, worker, Choice::Next)? {
-        return Ok(Some(Choice::Next));
+    match planned(alloc, machine, worker, &Choice::Next)? {
+        Some(step) => Ok(Some(step)),
+        None => first_start(alloc, machine, worker),
     }
-    first_start(alloc, machine, worker)
 }
 
 // The move of the least of the last so many workers that has one.
-fn move_among(alloc: Global, machine: &Machine, last: u8) -> Result<Option<Label>, AllocError>
+fn move_among(alloc: Global, machine: &Machine, last: u8) -> Result<Option<PlannedStep>, AllocError>
     requires { last ≤ machine.now.workers }
-    ensures moved { IfOk result (λ label. label ≡ move_among machine.now last) }
-    ensures in_range { IfOk result (λ label. IfSome label (λ l. l.worker < machine.now.workers)) }
+    ensures moved { IfOk result
+        (λ step. step ≡ planned_move machine.now (move_among machine.now last)) }
+    ensures in_range { IfOk result (λ step. IfSome step (λ p. p.label.worker < machine.now.workers)) }
 {
     let mut last = last;
     'workers: while last > 0 {
         let worker = machine.workers() - last;
         match move_of(alloc, machine, worker)? {
-            Some(choice) => return Ok(Some(Label { worker, choice })),
+            Some(step) => return Ok(Some(step)),
             None => {}
         }
         last -= 1;
@@ -109,9 +122,9 @@ fn move_among(alloc: Global, machine: &Machine, last: u8) -> Result<Option<Label
 }
 
 // The move of the least worker that has one.
-fn first_move(alloc: Global, machine: &Machine) -> Result<Option<Label>, AllocError>
-    ensures moved { IfOk result (λ label. label ≡ first_move machine.now) }
-    ensures in_range { IfOk result (λ label. IfSome label (λ l. l.worker < machine.now.workers)) }
+fn first_move(alloc: Global, machine: &Machine) -> Result<Option<PlannedStep>, AllocError>
+    ensures moved { IfOk result (λ step. step ≡ planned_move machine.now (first_move machine.now)) }
+    ensures in_range { IfOk result (λ step. IfSome step (λ p. p.label.worker < machine.now.workers)) }
 {
     move_among(alloc, machine, machine.workers())
 }
@@ -163,16 +176,23 @@ enum Moved {
 }
 
 // Makes a move, where there is room to record it.
-fn make(alloc: Global, book: &mut Book, marks: &Marks, label: &Label) -> Result<Moved, AllocError>
-    requires { label.now.worker < book.old.start.workers }
+fn make(
+    alloc: Global,
+    book: &mut Book,
+    marks: &Marks,
+    step: PlannedStep,
+) -> Result<Moved, AllocError>
+    requires planned { step.machine ≡ machine_of book.old }
+    requires in_range { step.label.worker < book.old.start.workers }
     ensures moved { IfOk result
-        (λ moved. moved ≡ moved_by marks.now book.old (Some label.now)) }
-    ensures after { OnOk result (book.new ≡ behind_move book.old (Some label.now)) }
+        (λ moved. moved ≡ moved_by marks.now book.old (Some step.label)) }
+    ensures after { OnOk result (book.new ≡ behind_move book.old (Some step.label)) }
 {
     if book.is_full() {
+        drop(step);
         return Ok(Moved::Full);
     }
-    match step_and_stop(alloc, book, marks, label)? {
+    match step_and_stop(alloc, book, marks, step)? {
         Some(stop) => Ok(Moved::Stopped(stop)),
         None => Ok(Moved::GoesOn),
     }
@@ -184,7 +204,7 @@ fn advance(alloc: Global, book: &mut Book, marks: &Marks) -> Result<Moved, Alloc
     ensures after { OnOk result (book.new ≡ after_move book.old) }
 {
     match first_move(alloc, book.machine())? {
-        Some(Label { worker, choice }) => make(alloc, book, marks, &Label { worker, choice }),
+        Some(step) => make(alloc, book, marks, step),
         None => Ok(Moved::NoMove),
     }
 }

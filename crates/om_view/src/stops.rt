@@ -7,13 +7,12 @@ ghost use Rattle.om_journal.specs.Books.{machine_of, records_of};
 ghost use Rattle.om_view.specs.Calls.{with_step};
 ghost use Rattle.om_view.specs.Stops.{or_else, fault_stop, break_stop, cell_eq, value_of, watched, watch_stop, stop_behind};
 
-use crate::calls::step;
+use crate::calls::take;
 use crate::marks::{Marks, has_line};
-use om_cells::Label;
 use om_code::frame::Cell;
 use om_journal::Book;
 use om_replies::{GlobalCell, Stop};
-use om_undo::{Machine, StepReply};
+use om_undo::{Machine, PlannedStep, StepReply};
 use std::alloc::{AllocError, Global};
 
 // A step that ended with a fault.
@@ -124,24 +123,31 @@ fn or_else(first: Option<Stop>, second: Option<Stop>) -> Option<Stop>
     }
 }
 
-/// Takes a step that can be taken, and answers why a run stops behind it, if it does.
+/// Takes a step that was planned where the book stands, and answers why a run stops behind it, if it does.
 pub(crate) fn step_and_stop(
     alloc: Global,
     book: &mut Book,
     marks: &Marks,
-    label: &Label,
+    step: PlannedStep,
 ) -> Result<Option<Stop>, AllocError>
-    requires in_range { label.now.worker < book.old.start.workers }
+    requires planned { step.machine ≡ machine_of book.old }
+    requires in_range { step.label.worker < book.old.start.workers }
     requires room { records_of book.old < 200000 }
     ensures stop { IfOk result
         (λ stop. stop ≡ stop_behind marks.now (machine_of book.old)
-        (machine_of (with_step book.old label.now)) label.now) }
-    ensures after { OnOk result (book.new ≡ with_step book.old label.now) }
+        (machine_of (with_step book.old step.label)) step.label) }
+    ensures after { OnOk result (book.new ≡ with_step book.old step.label) }
 {
-    let worker = label.worker;
+    let worker = step.worker();
     let line = book.machine().line(worker);
-    let all = held_by(alloc, book.machine(), marks.watches.as_slice())?;
-    let reply = step(alloc, book, worker, label.choice)?;
+    let all = match held_by(alloc, book.machine(), marks.watches.as_slice()) {
+        Ok(all) => all,
+        Err(error) => {
+            drop(step);
+            return Err(error);
+        }
+    };
+    let reply = take(alloc, book, step)?;
     let machine = book.machine();
     let breaks = break_stop(marks.breaks.as_slice(), line, machine.line(worker), worker);
     let watches = watch_stop(alloc, machine, &all, worker)?;

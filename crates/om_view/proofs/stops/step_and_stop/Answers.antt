@@ -10,7 +10,7 @@ returns-clause-stop c =
       c.break_stop-breaks.ensures,
       c.in_ok-watches.ensures,
       c.deref.ensures.value,
-      c.in_ok-all.ensures,
+      c.in-Ok.ensures,
       c.as_slice-2.ensures,
       c.as_slice.ensures,
       c.line-line.ensures,
@@ -20,4 +20,5 @@ returns-clause-stop c =
       c.machine-machine.ensures.left,
       c.in_ok-reply.ensures.after,
       c.in_ok-reply.ensures.reply,
+      c.worker-worker.ensures,
     ) refl

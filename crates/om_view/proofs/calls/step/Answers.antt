@@ -1,0 +1,18 @@
+use Rattle.std.proofs.Common.{◌≡◌, subst}
+use Rattle.std.specs.Prelude.{Result, OnOk}
+use Rattle.om_cells.specs.declared.step.Label.{Label}
+use Rattle.om_journal.specs.Books.{BookView}
+use Rattle.om_undo.specs.Machines.{MachineView}
+use Rattle.om_undo.specs.PlannedSteps.{PlannedView, planned_at}
+use Rattle.om_view.specs.Calls.{label_of, with_step}
+use Rattle.om_view.proofs.calls.step.Goals as goal
+
+-- what is taken is the step that was planned
+step_taken : {T E : Type 0} (result : Result T E) (old new : BookView) (p : PlannedView) (m : MachineView) (l : Label)
+    → p ≡ planned_at m l → OnOk result (new ≡ with_step old p.label) → OnOk result (new ≡ with_step old l)
+step_taken result old new p m l is h = subst (λ (v : PlannedView). OnOk result (new ≡ with_step old v.label)) is h
+
+pub returns-clause-after : goal.returns-clause-after
+returns-clause-after c =
+    step_taken c.take.result c.args.book.now c.take.new.book c.in_ok-planned.planned c.machine.result.now
+    (label_of c.args.worker c.args.choice.now) c.in_ok-planned.ensures c.take.ensures.after

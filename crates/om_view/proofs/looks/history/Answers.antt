@@ -1,0 +1,11 @@
+use Rattle.std.proofs.Common.{sym, ◌∙◌}
+use Rattle.om_view.proofs.looks.history.Goals as goal
+
+pub entries_told-requires : goal.entries_told-requires
+entries_told-requires c = (_, c.in_ok-call.ensures)
+
+pub returns-clause-text : goal.returns-clause-text
+returns-clause-text c =
+    let told = c.entries_told.ensures _ c.in_ok-call.ensures in
+    rw (sym c.is_full.ensures ∙ c.if-is_full.false)
+    (rw (c.as_slice.ensures, told) at c.push_history.ensures)
