@@ -8,7 +8,7 @@ use Rattle.om_emit.specs.Writing.{goes_part}
 use Rattle.om_resolved.specs.declared.resolved.ResolvedExpression.{ResolvedExpression}
 use Rattle.om_resolved.specs.ResolvedTree as trees
 use Rattle.om_resolved.specs.ResolvedView.{view_resolved_expression}
-use Rattle.om_rows.specs.Coded.{ValueHasCode, ValuesHaveCode}
+use Rattle.om_rows.specs.Coded.{CallHasCode, ValueHasCode, ValuesHaveCode}
 use Rattle.om_rows.specs.Expressions.{value, values, value_count}
 use Rattle.om_tables.specs.Names.{Names}
 
@@ -19,6 +19,10 @@ listed es = trees.values (map view_resolved_expression es)
 pub counted : (es : List ResolvedExpression) → length es ≡ value_count (listed es)
 counted [] = refl
 counted (e ∷ es) = ap suc (counted es) ∙ sym (add-one (value_count (listed es)))
+
+-- a call has 16 values at most
+pub few : (es : List ResolvedExpression) → CallHasCode (listed es) → length es ≤ 16
+few es code = let within : value_count (listed es) ≤ 16 = code.0 in omega (arith, counted es, within)
 
 pub has_code : (es : List ResolvedExpression) (k : ℕ) (e : ResolvedExpression) → k < length es → e ≡ get_or es k e
     → ValuesHaveCode (listed es) → ValueHasCode (view_resolved_expression e)

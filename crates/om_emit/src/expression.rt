@@ -1,11 +1,11 @@
 //! The code of expressions (C17 6.5).
 
-ghost use Rattle.std.specs.Prelude.{◌≡◌, OnOk, map, true};
+ghost use Rattle.std.specs.Prelude.{◌≡◌, ◌≤◌, OnOk, length, map, true};
 ghost use Rattle.om_emit.specs.Emits.{EmitsRow, EmitsValue, EmitsValues};
 ghost use Rattle.om_emit.specs.Rests as rows;
 ghost use Rattle.om_resolved.specs.ResolvedTree as trees;
 ghost use Rattle.om_resolved.specs.ResolvedView.{view_resolved_expression};
-ghost use Rattle.om_rows.specs.Coded.{ValueHasCode, ValuesHaveCode};
+ghost use Rattle.om_rows.specs.Coded.{CallHasCode, ValueHasCode, ValuesHaveCode};
 ghost use Rattle.om_rows.specs.Operators.{Both, Either, form_of};
 ghost use Rattle.om_rows.specs.Rows.{Site};
 ghost use Rattle.om_tables.specs.Scopes.{names_of};
@@ -32,7 +32,7 @@ pub(crate) struct Target {
 
 /// Writes an expression, which leaves its value on top.
 ///
-/// The error is out of memory. A call of more than 65,535 values counts as that.
+/// Its only error is out of memory.
 #[cycle(expression)]
 pub fn value(
     draft: &mut Draft,
@@ -160,6 +160,14 @@ fn element(
     Ok(())
 }
 
+/// How many values a call has.
+pub(crate) fn count_of(arguments: &[ResolvedExpression]) -> u16
+    requires { length arguments.now ≤ 16 }
+    ensures { result ≡ length arguments.now }
+{
+    arguments.len() as u16
+}
+
 /// Writes the values of a call, and the call (C17 6.5.2.2).
 #[cycle(expression)]
 pub(crate) fn call(
@@ -169,15 +177,13 @@ pub(crate) fn call(
     function: usize,
     arguments: &[ResolvedExpression],
 ) -> Result<(), AllocError>
-    requires { ValuesHaveCode (trees.values (map view_resolved_expression arguments.now)) }
+    requires { CallHasCode (trees.values (map view_resolved_expression arguments.now)) }
     ensures { let tree = trees.values (map view_resolved_expression arguments.now) in
         let row = λ (at : Site). rows.call at line function tree in
         OnOk result (EmitsRow (names_of scope.now) row draft.old draft.new) }
 {
-    let Ok(count) = u16::try_from(arguments.len()) else {
-        return Err(AllocError);
-    };
     let body = scope.called_body(function);
+    let count = count_of(arguments);
     values(draft, scope, line, arguments)?;
     let values = count;
     draft.put(line, Instr::Call { body, values })?;
@@ -193,7 +199,7 @@ fn used_call(
     function: usize,
     arguments: &[ResolvedExpression],
 ) -> Result<(), AllocError>
-    requires { ValuesHaveCode (trees.values (map view_resolved_expression arguments.now)) }
+    requires { CallHasCode (trees.values (map view_resolved_expression arguments.now)) }
     ensures { let tree = trees.Call function
         (trees.values (map view_resolved_expression arguments.now)) in
         OnOk result (EmitsValue (names_of scope.now) line tree draft.old draft.new) }

@@ -11,4 +11,5 @@ mod single;
 mod unused;
 
 pub use expression::{value, values};
+pub use single::{load, store};
 pub use unused::effect;

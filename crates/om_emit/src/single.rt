@@ -30,8 +30,8 @@ pub(crate) struct Stepped {
     pub(crate) keeps: bool,
 }
 
-/// Loads a variable.
-pub(crate) fn load(
+/// Loads a variable. Its only error is out of memory.
+pub fn load(
     draft: &mut Draft,
     scope: &Scope<'_>,
     line: u32,
@@ -58,8 +58,8 @@ pub(crate) fn load_element(
     draft.put(line, Instr::LoadElement(place))
 }
 
-/// Stores the value on top in a variable; `keeps` says whether it is left.
-pub(crate) fn store(
+/// Stores the value on top in a variable; `keeps` says whether it is left. Its only error is out of memory.
+pub fn store(
     draft: &mut Draft,
     scope: &Scope<'_>,
     line: u32,

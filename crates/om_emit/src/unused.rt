@@ -5,12 +5,12 @@ ghost use Rattle.om_emit.specs.Emits.{EmitsEffect, EmitsRow};
 ghost use Rattle.om_emit.specs.Rests as rows;
 ghost use Rattle.om_resolved.specs.ResolvedTree as trees;
 ghost use Rattle.om_resolved.specs.ResolvedView.{view_resolved_expression};
-ghost use Rattle.om_rows.specs.Coded.{EffectHasCode, ValueHasCode, ValuesHaveCode};
+ghost use Rattle.om_rows.specs.Coded.{CallHasCode, EffectHasCode, ValueHasCode};
 ghost use Rattle.om_rows.specs.Rows.{Site};
 ghost use Rattle.om_tables.specs.Scopes.{names_of};
 
 use crate::draft::Draft;
-use crate::expression::{Target, assign, assign_element, call, value, values};
+use crate::expression::{Target, assign, assign_element, call, count_of, value, values};
 use crate::single::{Stepped, step, step_element};
 use om_code::Instr;
 use om_resolved::{ResolvedExpression, Variable};
@@ -20,7 +20,7 @@ use std::alloc::AllocError;
 
 /// Writes an expression, which leaves nothing.
 ///
-/// The error is out of memory. A call of more than 65,535 values counts as that.
+/// Its only error is out of memory.
 pub fn effect(
     draft: &mut Draft,
     scope: &Scope<'_>,
@@ -128,15 +128,13 @@ fn print(
     format: &[u8],
     arguments: &[ResolvedExpression],
 ) -> Result<(), AllocError>
-    requires { ValuesHaveCode (trees.values (map view_resolved_expression arguments.now)) }
+    requires { CallHasCode (trees.values (map view_resolved_expression arguments.now)) }
     ensures { let tree = trees.values (map view_resolved_expression arguments.now) in
         let row = λ (at : Site). rows.print at line format.now tree in
         OnOk result (EmitsRow (names_of scope.now) row draft.old draft.new) }
 {
-    let Ok(count) = u16::try_from(arguments.len()) else {
-        return Err(AllocError);
-    };
     let text = scope.format_number(format);
+    let count = count_of(arguments);
     values(draft, scope, line, arguments)?;
     let values = count;
     draft.put(line, Instr::Print { text, values })?;

@@ -1,12 +1,12 @@
 -- What is known of the bodies of a function, by their numbers.
-use Rattle.std.proofs.Common.{◌≡◌, ◌≤◌, ◌<◌, ℕ, zero, suc, ◌+◌, ◌-◌, List, [], ◌∷◌, ◌++◌, Some, All, length, map, take}
-use Rattle.std.proofs.Common.{slice_get, get_or, refl, sym, ap, subst, ◌∙◌, arith}
+use Rattle.std.proofs.Common.{◌≡◌, ◌<◌, ℕ, zero, suc, ◌+◌, ◌-◌, List, [], ◌∷◌, ◌++◌, Some, All, length, map, take}
+use Rattle.std.proofs.Common.{slice_get, refl, sym, ap, subst, ◌∙◌, arith}
 use Rattle.std.proofs.lemmas.List.{append_assoc, length-append, length-map, map-append, take-map}
 use Rattle.std.proofs.lemmas.List.Elements.{All-nil, All-cons, All-append}
 use Rattle.std.proofs.lemmas.Option.{slice_get_within}
 use Rattle.std.specs.List.{AllZip}
 use Rattle.om_lower.specs.Limits.{HasFewSlots}
-use Rattle.om_lower.specs.Sites.{IsListed, IsPlaced}
+use Rattle.om_lower.specs.Ready.{IsListed, IsPlaced}
 use Rattle.om_lower.proofs.Items.{all_at, take_pushed}
 use Rattle.om_resolved.specs.ResolvedTree.{ResolvedStatementTree, Declaration, Block, Empty, Expression, If, IfElse}
 use Rattle.om_resolved.specs.ResolvedTree.{While, Do, For, Return, Break, Continue, Parallel, Task, Loop, Sections}
@@ -22,7 +22,6 @@ use Rattle.om_rows.specs.Positions.{stands_back, stands_front, stands_head, stan
 use Rattle.om_tables.specs.declared.numbers.Numbers as tables
 use Rattle.om_tables.specs.Ends.{HasAllEnds, HasEnds, HasPartsEnds, IsKnown, KnownBodies, all_region_ends, ends_from}
 use Rattle.om_tables.specs.Ends.{function_ends, parts_region_ends, region_ends}
-use Rattle.om_tables.specs.Numbering.{numbers_of}
 use Rattle.om_tables.specs.Tables.{AreCellsOf}
 
 -- ---- the numbers behind bodies

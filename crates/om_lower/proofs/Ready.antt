@@ -4,7 +4,7 @@ use Rattle.std.proofs.lemmas.List.Elements.{All-nil, All-cons, All-head, All-tai
 use Rattle.om_lower.specs.declared.functions.Next.{Next}
 use Rattle.om_lower.specs.Limits.{HasFewSlots}
 use Rattle.om_lower.specs.Made.{IsNext, next_function, next_numbers}
-use Rattle.om_lower.specs.Sites.{IsPlaced, IsReady}
+use Rattle.om_lower.specs.Ready.{IsPlaced, IsReady}
 use Rattle.om_lower.proofs.Knowing.{placed_by}
 use Rattle.om_lower.proofs.Rounds.{IsRound, round_function}
 use Rattle.om_resolved.specs.ResolvedTree.{ResolvedFunctionTree}

@@ -1,47 +1,13 @@
--- The bodies round each body of a function.
-use Rattle.std.proofs.Common.{◌≡◌, ◌<◌, ◌≤◌, ℕ, zero, suc, ◌+◌, ◌-◌, Bool, List, [], ◌∷◌, ◌++◌, Some, All, length, take}
-use Rattle.std.proofs.Common.{slice_get, get_or, refl, sym, ap, subst, ◌∙◌, arith}
-use Rattle.std.specs.Prelude.{unwrap_or}
-use Rattle.std.proofs.Math.Nat.{min-le_right}
-use Rattle.std.proofs.Math.Seq.{take-append_seam}
-use Rattle.std.proofs.lemmas.List.{length-append, length-take, length-take-le}
-use Rattle.std.proofs.lemmas.Option.{slice_get_within}
+-- The bodies of a function, one behind the other, as a loop meets them.
+use Rattle.std.proofs.Common.{◌≡◌, ◌<◌, ◌≤◌, ℕ, zero, suc, ◌+◌, Bool, List, [], ◌∷◌, ◌++◌, Some, All, length, take}
+use Rattle.std.proofs.Common.{slice_get, get_or, refl, ap, subst, sym, ◌∙◌, arith}
 use Rattle.om_lower.specs.declared.bodies.Bodies.{Bodies}
-use Rattle.om_lower.specs.declared.sites.Site.{Site}
 use Rattle.om_lower.specs.Made.{AddsBody}
-use Rattle.om_lower.specs.Sites.{IsRound, KeepsRound, bodies_in, body_in, body_round, innermost, round_behind}
-use Rattle.om_lower.specs.Sites.{part_tree, round_with, variables_at}
 use Rattle.om_lower.proofs.Items.{all_taken, item_get, take_pushed}
-use Rattle.om_resolved.specs.ResolvedView.{view_resolved_function}
 use Rattle.om_resolved.specs.ResolvedTree.{ResolvedTree}
-use Rattle.om_rows.specs.Bodies.{BodySite, Numbers}
-use Rattle.om_tables.specs.Numbering.{numbers_of}
-
--- ---- lists
-
-get_take : {A : Type 0} (n : ℕ) (xs : List A) (k : ℕ) → k < n → slice_get (take n xs) k ≡ slice_get xs k
-get_take zero xs k lt = let none : ⊥ = omega (arith, lt) in absurd none
-get_take (suc n) [] k lt = refl
-get_take (suc n) (x ∷ xs) zero lt = refl
-get_take (suc n) (x ∷ xs) (suc k) lt = get_take n xs k (let below : k < n = omega (arith, lt) in below)
-
-take_less : {A : Type 0} (n m : ℕ) (xs : List A) → n ≤ m → take n (take m xs) ≡ take n xs
-take_less zero m xs le = refl
-take_less (suc n) zero xs le = let none : ⊥ = omega (arith, le) in absurd none
-take_less (suc n) (suc m) [] le = refl
-take_less (suc n) (suc m) (x ∷ xs) le =
-    ap (λ rest. x ∷ rest) (take_less n m xs (let below : n ≤ m = omega (arith, le) in below))
-
-get_end : {A : Type 0} (xs : List A) (x : A) → slice_get (xs ++ x ∷ []) (length xs) ≡ Some x
-get_end [] x = refl
-get_end (y ∷ xs) x = get_end xs x
-
--- ---- further bodies
-
-bodies_append : (round : List (List ℕ)) (xs ys : List Site)
-    → bodies_in round (xs ++ ys) ≡ bodies_in round xs ++ bodies_in (round_behind round xs) ys
-bodies_append round [] ys = refl
-bodies_append round (x ∷ xs) ys = ap (λ rest. body_round round x ∷ rest) (bodies_append (round_with round x) xs ys)
+use Rattle.om_rows.specs.Bodies.{BodySite}
+use Rattle.om_sights.specs.declared.sites.Site.{Site}
+use Rattle.om_sights.specs.Sites.{bodies_in, body_in, body_round, round_behind, round_with}
 
 behind_append : (round : List (List ℕ)) (xs ys : List Site)
     → round_behind round (xs ++ ys) ≡ round_behind (round_behind round xs) ys
@@ -51,106 +17,6 @@ behind_append round (x ∷ xs) ys = behind_append (round_with round x) xs ys
 length_bodies : (round : List (List ℕ)) (sites : List Site) → length (bodies_in round sites) ≡ length sites
 length_bodies round [] = refl
 length_bodies round (x ∷ sites) = ap (λ n. suc n) (length_bodies (round_with round x) sites)
-
-length_behind : (round : List (List ℕ)) (sites : List Site) → length (round_behind round sites)
-    ≤ length round + length sites
-length_behind round [] = omega arith
-length_behind round (x ∷ sites) =
-    let vars = variables_at (view_resolved_function x.function.now) x.part in
-    let long : length (round_with round x) ≡ length (take x.depth round) + 1 =
-    length-append (take x.depth round) (vars ∷ []) in
-    let taken = length-take x.depth round in
-    let less = min-le_right x.depth (length round) in
-    let rest = length_behind (round_with round x) sites in
-    omega (arith, long, taken, less, rest)
-
--- ---- a region in an open body
-
-abbrev numbered : List ℕ → Site → Numbers → BodySite
-numbered outer site n = record {
-  function = view_resolved_function site.function.now;
-  tree = part_tree site.part;
-  outer = outer;
-  numbers = n;
-}
-
-kept_length : (round : List (List ℕ)) (d : ℕ) (v : List ℕ) → slice_get round d ≡ Some v
-    → length (take (d + 1) round) ≡ d + 1
-kept_length round d v open_at =
-    let below = slice_get_within round d v open_at in
-    length-take-le (d + 1) round (omega (arith, below))
-
-kept_innermost : (round : List (List ℕ)) (d : ℕ) (v : List ℕ) → slice_get round d ≡ Some v
-    → innermost (take (d + 1) round) ≡ v
-kept_innermost round d v open_at =
-    let last : d + 1 - 1 ≡ d = omega arith in
-    ap (λ n. unwrap_or (slice_get (take (d + 1) round) (n - 1)) []) (kept_length round d v open_at)
-    ∙ ap (λ n. unwrap_or (slice_get (take (d + 1) round) n) []) last
-    ∙ ap (λ x. unwrap_or x []) (get_take (d + 1) round d (omega arith) ∙ open_at)
-
-pub region_bodies : (old new : List Site) (site : Site) (d : ℕ) (v : List ℕ) (n : Numbers)
-    → new ≡ old ++ site ∷ [] → IsRound d v old → site.depth ≡ d + 1 → numbers_of site.numbers ≡ n
-    → bodies_in [] new ≡ bodies_in [] old ++ record {
-      function = view_resolved_function site.function.now;
-      tree = part_tree site.part;
-      outer = v;
-      numbers = n;
-    } ∷ []
-region_bodies old new site d v n same open_at deep is =
-    let round = round_behind [] old in
-    ap (λ sites. bodies_in [] sites) same ∙ bodies_append [] old (site ∷ [])
-    ∙ ap (λ outer. bodies_in [] old ++ body_in outer site ∷ [])
-    (ap (λ k. innermost (take k round)) deep ∙ kept_innermost round d v open_at)
-    ∙ ap (λ m. bodies_in [] old ++ numbered v site m ∷ []) is
-
-behind_region : (old new : List Site) (site : Site) (d : ℕ) → site.depth ≡ d + 1 → new ≡ old ++ site ∷ []
-    → round_behind [] new
-    ≡ take (d + 1) (round_behind [] old) ++ variables_at (view_resolved_function site.function.now) site.part ∷ []
-behind_region old new site d deep same =
-    let vars = variables_at (view_resolved_function site.function.now) site.part in
-    ap (λ sites. round_behind [] sites) same ∙ behind_append [] old (site ∷ [])
-    ∙ ap (λ n. take n (round_behind [] old) ++ vars ∷ []) deep
-
-pub region_round : (old new : List Site) (site : Site) (d : ℕ) (v : List ℕ) → new ≡ old ++ site ∷ []
-    → IsRound d v old → site.depth ≡ d + 1
-    → IsRound site.depth (variables_at (view_resolved_function site.function.now) site.part) new
-region_round old new site d v same open_at deep =
-    let round = round_behind [] old in
-    let vars = variables_at (view_resolved_function site.function.now) site.part in
-    ap (λ all. slice_get all site.depth) (behind_region old new site d deep same)
-    ∙ ap (λ n. slice_get (take (d + 1) round ++ vars ∷ []) n) (deep ∙ sym (kept_length round d v open_at))
-    ∙ get_end (take (d + 1) round) vars
-
-pub region_keeps : (old new : List Site) (site : Site) (d : ℕ) (v : List ℕ) → IsRound d v old
-    → site.depth ≡ d + 1 → new ≡ old ++ site ∷ [] → KeepsRound d old new
-region_keeps old new site d v open_at deep same =
-    let round = round_behind [] old in
-    let vars = variables_at (view_resolved_function site.function.now) site.part in
-    ap (λ all. take (d + 1) all) (behind_region old new site d deep same)
-    ∙ ap (λ n. take n (take (d + 1) round ++ vars ∷ [])) (sym (kept_length round d v open_at))
-    ∙ take-append_seam (take (d + 1) round) (vars ∷ [])
-
--- a body is less deep than there are bodies
-pub round_below : (sites : List Site) (d : ℕ) (v : List ℕ) → IsRound d v sites → d < length sites
-round_below sites d v open_at =
-    let below = slice_get_within (round_behind [] sites) d v open_at in
-    let most = length_behind [] sites in
-    omega (arith, below, most)
-
-pub round_kept : (old new : List Site) (d : ℕ) (v : List ℕ) → IsRound d v old → KeepsRound d old new
-    → IsRound d v new
-round_kept old new d v open_at kept =
-    sym (get_take (d + 1) (round_behind [] new) d (omega arith)) ∙ ap (λ round. slice_get round d) kept
-    ∙ get_take (d + 1) (round_behind [] old) d (omega arith) ∙ open_at
-
-pub kept_then : (a b c : List Site) (d : ℕ) → KeepsRound d a b → KeepsRound d b c → KeepsRound d a c
-kept_then a b c d first second = second ∙ first
-
-pub kept_outer : (a b c : List Site) (d e : ℕ) → e ≡ d + 1 → KeepsRound d a b → KeepsRound e b c → KeepsRound d a c
-kept_outer a b c d e deep first second =
-    let le : d + 1 ≤ e + 1 = omega (arith, deep) in
-    sym (take_less (d + 1) (e + 1) (round_behind [] c) le) ∙ ap (λ round. take (d + 1) round) second
-    ∙ take_less (d + 1) (e + 1) (round_behind [] b) le ∙ first
 
 -- ---- where a loop stands
 

@@ -29,20 +29,11 @@ HasScopesRow names f tree made = (picks : List (List ℕ)) → ListsStand made.l
 abbrev pub HasLists : Numbers → ResolvedFunctionTree → BodyTree → Emitted → Type 0
 HasLists n f tree made = map number_of made.lists.items ≡ body_picks n f tree
 
--- the same of a region, in whichever function it stands
-abbrev pub HasRegionRow : Names → Numbers → BodyTree → Emitted → Type 0
-HasRegionRow names n tree made = (f : ResolvedFunctionTree) → HasRow names n f tree made
-
-abbrev pub HasRegionScopes : Names → BodyTree → Emitted → Type 0
-HasRegionScopes names tree made = (f : ResolvedFunctionTree) → HasScopesRow names f tree made
-
-abbrev pub HasRegionLists : Numbers → BodyTree → Emitted → Type 0
-HasRegionLists n tree made = (f : ResolvedFunctionTree) → HasLists n f tree made
-
 -- all of a body is written, with the lists of the `sections` in it
 abbrev pub EmitsBody : Names → Numbers → ResolvedFunctionTree → BodyTree → Written → Written → Type 0
 EmitsBody names n f tree = EmitsWith (body_picks n f tree) (λ done at. body_row (site names done) n f tree)
 
+-- the same of a region, in whichever function it stands
 abbrev pub EmitsRegion : Names → Numbers → BodyTree → Written → Written → Type 0
 EmitsRegion names n tree old new = (f : ResolvedFunctionTree) → EmitsBody names n f tree old new
 

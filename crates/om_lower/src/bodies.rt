@@ -1,11 +1,11 @@
 //! The bodies of a function, each within its limits.
 
 ghost use Rattle.std.specs.Prelude.{◌≡◌, ◌≤◌, ◌∷◌, ◌++◌, [], All, Any, IfOk, OnOk, Some, false, length, map, true};
-ghost use Rattle.om_lower.specs.Emitted.{HasLists, HasRow, HasScopesRow};
 ghost use Rattle.om_lower.specs.Frames.{FitsFrame};
 ghost use Rattle.om_lower.specs.Limits.{HasFewSlots, HasManySlots, HasSlots};
 ghost use Rattle.om_lower.specs.Made.{AddsBody, FitsBodies, FitsBody, FitsCode};
-ghost use Rattle.om_lower.specs.Sites.{IsListed, IsReady, bodies_in, body_in, body_round, innermost, known_with, part_tree, round_with, seen_body, variables_at};
+ghost use Rattle.om_lower.specs.Ready.{IsListed, IsReady, known_with, seen_body};
+ghost use Rattle.om_sights.specs.Sites.{bodies_in, body_in, body_round, innermost, part_tree, round_with, variables_at};
 ghost use Rattle.om_resolved.specs.ResolvedView.{view_resolved, view_resolved_clause, view_resolved_function, view_resolved_statement};
 ghost use Rattle.om_rows.specs.Bodies.{region_variables, variables_of};
 ghost use Rattle.om_rows.specs.Code.{captures_of, given_of, slots_of};
@@ -13,25 +13,20 @@ ghost use Rattle.om_rows.specs.Coded.{BodyHasCode};
 ghost use Rattle.om_rows.specs.Slots.{slot_of};
 ghost use Rattle.om_rows.specs.Statements.{given_copies};
 ghost use Rattle.om_tables.specs.Ends.{HasBodyEnds};
-ghost use Rattle.om_tables.specs.Scopes.{names_of};
-ghost use Rattle.om_tables.specs.Tables.{IsTablesOf, known_in};
+ghost use Rattle.om_tables.specs.Tables.{IsTablesOf};
 
-use crate::body::{function_body, parallel_body, task_body};
+use crate::body::emitted_in;
 use crate::emitted::Emitted;
 use crate::frames::{SLOT_LIMIT, frame_of};
 use crate::functions::{INSTRUCTION_LIMIT, Whole, is_main};
 use crate::names::names_with;
-use crate::region::Region;
-use crate::sites::{BodyPart, Site};
 use om_code::Body;
 use om_code::raw::Slot;
 use om_emit::draft::PickList;
 use om_resolved::Capture;
 use om_seq::Seq;
-use om_tables::{
-    Extents, Scope, Variables, copy_slots, function_variables, given_copies_in, parameter_slots,
-    region_variables,
-};
+use om_sights::{BodyPart, Site, function_variables, region_variables};
+use om_tables::{Extents, Region, Scope, Variables, copy_slots, given_copies, parameter_slots};
 use std::alloc::{AllocError, Global};
 
 /// Adds the variables of these bodies behind those of other ones; false where a body has more than 256 slots.
@@ -344,31 +339,6 @@ fn code_in(
     Ok(Some(emitted))
 }
 
-/// The code of a body, of whatever length.
-fn emitted_in(alloc: Global, scope: &Scope<'_>, site: &Site<'_>) -> Result<Emitted, AllocError>
-    requires code { BodyHasCode (body_in [] site.now).function (body_in [] site.now).tree }
-    requires regions { let b = body_in [] site.now in
-        HasBodyEnds (known_in scope.now) b.numbers b.function b.tree }
-    ensures row { let b = body_in [] site.now in
-        IfOk result (HasRow (names_of scope.now) b.numbers b.function b.tree) }
-    ensures lists { let b = body_in [] site.now in
-        IfOk result (HasLists b.numbers b.function b.tree) }
-    ensures scopes { let b = body_in [] site.now in
-        IfOk result (HasScopesRow (names_of scope.now) b.function b.tree) }
-{
-    match &site.part {
-        BodyPart::Function => function_body(alloc, scope, site.numbers, site.function),
-        BodyPart::Parallel(region) => {
-            let made = parallel_body(alloc, scope, site.numbers, region)?;
-            Ok(made)
-        }
-        BodyPart::Task(region) => {
-            let made = task_body(alloc, scope, site.numbers, region)?;
-            Ok(made)
-        }
-    }
-}
-
 /// The slots that the values go to with which a frame of a body begins.
 fn given_in(alloc: Global, seen: &SeenBody<'_>) -> Result<Seq<u32>, AllocError>
     requires few { HasFewSlots (seen_body seen.now) }
@@ -401,6 +371,6 @@ fn copies_given(
         IfOk result (λ slots. slots
         ≡ map (slot_of variables.now) (map (λ copy. copy.variable) copies)) }
 {
-    let copies = given_copies_in(alloc, region.clauses, region.captures, variables)?;
+    let copies = given_copies(alloc, region.clauses, region.captures, variables)?;
     copy_slots(alloc, variables, copies.as_slice())
 }

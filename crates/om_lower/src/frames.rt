@@ -1,6 +1,6 @@
 //! The slots of a frame, within their limits.
 
-ghost use Rattle.std.specs.Prelude.{◌≡◌, ◌≤◌, ◌<◌, ℕ, IfOk, None, Some, length, map};
+ghost use Rattle.std.specs.Prelude.{◌≡◌, ◌≤◌, ◌<◌, IfOk, None, Some, length, map};
 ghost use Rattle.om_lower.specs.Frames.{FitsFrame};
 ghost use Rattle.om_lower.specs.Limits.{frame_cells, own_cells};
 ghost use Rattle.om_rows.specs.Slots.{slot_with};

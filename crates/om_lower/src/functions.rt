@@ -2,7 +2,8 @@
 
 ghost use Rattle.std.specs.Prelude.{◌≡◌, ◌<◌, ◌∷◌, ◌++◌, [], All, IfOk, OnOk, Some, length, slice_get, true};
 ghost use Rattle.om_lower.specs.Made.{AddsFunction, AddsSlots, IsGathered, IsNext, next_function, next_numbers};
-ghost use Rattle.om_lower.specs.Sites.{IsReady, bodies_in};
+ghost use Rattle.om_lower.specs.Ready.{IsReady};
+ghost use Rattle.om_sights.specs.Sites.{bodies_in};
 ghost use Rattle.om_resolved.specs.ResolvedView.{view_resolved, view_resolved_function};
 ghost use Rattle.om_resolved.specs.Uses.{is_main_function};
 ghost use Rattle.om_rows.specs.Bodies.{function_bodies};
@@ -11,11 +12,11 @@ ghost use Rattle.om_tables.specs.Numbering.{numbers_of};
 ghost use Rattle.om_tables.specs.Tables.{IsTablesOf, ends_in, known_of};
 
 use crate::bodies::{Bodies, Known, add_slots, lower_bodies};
-use crate::sites::{Site, sites_of};
 use om_code::Body;
 use om_emit::draft::PickList;
 use om_resolved::{Resolved, ResolvedFunction};
 use om_seq::Seq;
+use om_sights::{Site, sites_of};
 use om_tables::{Extents, Numbers, Tables, Variables};
 use std::alloc::{AllocError, Global};
 

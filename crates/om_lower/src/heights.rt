@@ -1,12 +1,10 @@
 //! Which functions have a body with more than 256 operands at once.
 
-ghost use Rattle.std.specs.Prelude.{◌≡◌, ◌≤◌, All, IfOk, false, length, true};
+ghost use Rattle.std.specs.Prelude.{◌≡◌, All, IfOk, false, true};
 ghost use Rattle.om_code.specs.Validity.{IsLow};
 ghost use Rattle.om_lower.specs.Heights.{AreLevel, AreLow, IsFirstHigh, IsHigh, IsLevelBody};
-ghost use Rattle.om_rows.specs.Laws.{IsLevel};
 
 use om_code::height::check_heights;
-use om_code::raw::Line;
 use om_code::{Body, CodeFault};
 use om_seq::Seq;
 use std::alloc::{AllocError, Global};

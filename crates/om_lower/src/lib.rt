@@ -14,8 +14,6 @@ mod lists;
 mod lowering;
 mod names;
 mod program;
-mod region;
-mod sites;
 pub mod texts;
 mod whole;
 

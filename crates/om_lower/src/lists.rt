@@ -1,6 +1,6 @@
 //! Lists of PICK, each put at its number.
 
-ghost use Rattle.std.specs.Prelude.{◌≡◌, ◌<◌, IfOk, OnOk, length, map, slice_set};
+ghost use Rattle.std.specs.Prelude.{◌≡◌, ◌<◌, IfOk, length, map, slice_set};
 ghost use Rattle.om_emit.specs.Settled.{ListsStand, number_of};
 ghost use Rattle.om_lower.specs.Once.{IsEachOnce};
 

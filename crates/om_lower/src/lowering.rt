@@ -2,7 +2,6 @@
 
 ghost use Rattle.std.specs.Prelude.{◌≡◌, ◌≢◌, ◌<◌, IfErr, IfOk, IfSome, OnOk, None, length};
 ghost use Rattle.om_lexer.specs.Faults.{no_memory};
-ghost use Rattle.om_lower.specs.Heights.{AreLevel};
 ghost use Rattle.om_lower.specs.Limits.{AreWithin, IsTooMany};
 ghost use Rattle.om_lower.specs.Made.{IsLowered, IsOverAt};
 ghost use Rattle.om_lower.specs.Refusals.{too_many};
@@ -24,7 +23,7 @@ use om_lexer::{FaultCode, SourceFault};
 use om_meaning::laws::serial_meaning;
 use om_resolved::{Resolved, ResolvedFunction};
 use om_rows::laws::{body_is_level, whole_has_code};
-use om_tables::tables_of;
+use om_sights::tables_of;
 use std::alloc::{AllocError, Global};
 
 /// The program whose bodies are the code of the tree's functions.

@@ -2,7 +2,7 @@
 
 ghost use Rattle.std.specs.Prelude.{◌≡◌, OnOk, false};
 ghost use Rattle.om_lower.specs.Emitted.{EmitsBody, EmitsRegion, EmitsRegionScopes};
-ghost use Rattle.om_lower.specs.Regions.{parallel_tree, statement_of, task_tree};
+ghost use Rattle.om_sights.specs.Regions.{parallel_tree, statement_of, task_tree};
 ghost use Rattle.om_resolved.specs.ResolvedView.{view_resolved_function};
 ghost use Rattle.om_rows.specs.Bodies.{FunctionBody};
 ghost use Rattle.om_rows.specs.Code as codes;
@@ -14,7 +14,6 @@ ghost use Rattle.om_tables.specs.Numbering.{numbers_of};
 ghost use Rattle.om_tables.specs.Scopes.{names_of};
 ghost use Rattle.om_tables.specs.Tables.{known_in};
 
-use crate::region::Region;
 use om_code::Instr;
 use om_code::instruction::Barrier;
 use om_resolved::ResolvedFunction;
@@ -22,7 +21,7 @@ use om_statements::clause::{parameters, reduction_starts, reductions, task_copie
 use om_statements::spot::Spot;
 use om_statements::statement::{inner, statements};
 use om_statements::writing::Writing;
-use om_tables::{Numbers, Scope};
+use om_tables::{Numbers, Region, Scope};
 use std::alloc::{AllocError, Global};
 
 /// Writes the statements of a function, and its end.

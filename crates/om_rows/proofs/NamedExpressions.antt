@@ -27,7 +27,7 @@ use Rattle.om_resolved.specs.ResolvedTree.{ResolvedExpressionTree, Constant, Var
 use Rattle.om_resolved.specs.ResolvedTree.{TeamSize, Print, Unary, Binary, Conditional, Assign, AssignElement, Postfix}
 use Rattle.om_resolved.specs.ResolvedTree.{PostfixElement, ValuesTree, NoValues, Value, ResolvedFunctionTree}
 use Rattle.om_resolved.specs.ResolvedTree.{ResolvedTree}
-use Rattle.om_resolved.specs.Whole.{Around, IsInScope, IsWhole, AreWhole, IsCalled, count_of, shape_of}
+use Rattle.om_resolved.specs.Whole.{Around, IsInScope, IsWhole, AreWhole, IsCalled, shape_of}
 use Rattle.om_rows.specs.Bodies.{called_body}
 use Rattle.om_rows.specs.Code.{global_of}
 use Rattle.om_rows.specs.Expressions.{value_count, constant, unary_row, binary_row, conditional_row, assigned}
@@ -38,6 +38,7 @@ use Rattle.om_rows.specs.Rows.{Site, Row}
 use Rattle.om_rows.specs.Slots.{place, slot_of}
 use Rattle.om_rows.specs.Tables.{number_in}
 use Rattle.om_rows.proofs.Named.{Named, named_end, named_ins, named_part, number_found, Has, has_front, has_back}
+use Rattle.om_rows.proofs.WholeCode.{same_count}
 
 -- what the code of a body can count on: its slots, the globals, texts and functions of its program
 pub record Program (tree : ResolvedTree) (raw : Raw) (at : Site) (slots : List Slot) : Type 0 where
@@ -52,10 +53,6 @@ same_nat x = eq-eqb x x refl
 
 pub same_bytes : (x : List ℕ) → bytes_eq x x ≡ true
 same_bytes x = (bytes_eq-Decides x x).1 refl
-
-same_count : (es : ValuesTree) → count_of es ≡ value_count es
-same_count NoValues = refl
-same_count (Value e rest) = ap (λ n. n + 1) (same_count rest)
 
 text_count : (format : List Piece) → validity.value_count (map text_piece format) ≡ formats.value_count format
 text_count [] = refl

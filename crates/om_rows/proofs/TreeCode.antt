@@ -1,6 +1,6 @@
 -- A whole tree has code, and a tree of which there is code has code.
-use Rattle.std.proofs.Common.{◌≡◌, ℕ, zero, suc, ◌<◌, Bool, true, List, [], ◌∷◌, ◌++◌, length, Option, Some, None, refl}
-use Rattle.std.proofs.Common.{sym, ap, ◌∙◌, arith}
+use Rattle.std.proofs.Common.{◌≡◌, ℕ, zero, suc, ◌<◌, Bool, false, true, List, [], ◌∷◌, ◌++◌, length, Option, Some, None}
+use Rattle.std.proofs.Common.{refl, sym, ap, ◌∙◌, arith}
 use Rattle.std.specs.Prelude.{All, Any, IsSome, IsSomeAnd, map, option_map, position, slice_get}
 use Rattle.std.specs.List.{AllZip}
 use Rattle.std.specs.Str.{bytes_eq}
@@ -18,7 +18,7 @@ use Rattle.om_resolved.specs.Uses.{is_main_function}
 use Rattle.om_resolved.specs.Whole.{Around, IsWhole, AreWhole, count_of}
 use Rattle.om_rows.specs.Bodies.{BodySite, bodies_of, first_numbers, called_body}
 use Rattle.om_rows.specs.Code.{site_of, IsBodyOf}
-use Rattle.om_rows.specs.Coded.{BodyHasCode}
+use Rattle.om_rows.specs.Coded.{BodyIsCoded}
 use Rattle.om_rows.specs.Laws.{WholeHasCode, RowsHaveCode}
 use Rattle.om_rows.specs.Mentions.{expression_formats, values_formats, format_mention, formats_of, tree_mentioned}
 use Rattle.om_rows.specs.Mentions.{IsTextOf, text_piece}
@@ -73,7 +73,7 @@ mutual
 
 pub whole_has_code : WholeHasCode
 whole_has_code tree w a = record {
-  bodies = whole_bodies tree.globals tree.functions tree.functions first_numbers w.functions a;
+  bodies = whole_bodies tree.globals tree.functions tree.functions first_numbers w.functions w.functions a;
   formats = table_all IsCut bytes_eq (tree_mentioned format_mention tree) [] (All-nil IsCut)
       (functions_all format_mention IsCut expression_cut (λ d w. All-nil IsCut) (λ kind. All-nil IsCut) tree.globals
       tree.functions tree.functions w.functions);
@@ -84,11 +84,11 @@ whole_has_code tree w a = record {
 
 module _ (tree : ResolvedTree) (raw : Raw) where
   bodies_say : (bs : List BodySite) (xs : List Body) → AllZip (IsBodyOf tree raw) bs xs
-      → All (λ b. BodyHasCode b.function b.tree) bs
-  bodies_say [] xs a = All-nil (λ b. BodyHasCode b.function b.tree)
+      → All (λ b. BodyIsCoded false b.function b.tree) bs
+  bodies_say [] xs a = All-nil (λ b. BodyIsCoded false b.function b.tree)
   bodies_say (b ∷ bs) [] a = absurd a
   bodies_say (b ∷ bs) (x ∷ xs) a =
-      All-cons (λ b. BodyHasCode b.function b.tree) b bs (body_says (site_of tree raw b x) b.numbers b.function
+      All-cons (λ b. BodyIsCoded false b.function b.tree) b bs (body_says (site_of tree raw b x) b.numbers b.function
       b.tree 0 _ a.0.code) (bodies_say bs xs a.1)
 
 texts_say : (formats : List (List ℕ)) (xs : List (List texts.Piece)) → AllZip IsTextOf formats xs → All IsCut formats

@@ -1,5 +1,5 @@
 -- What the code of every tree is.
-use Rattle.std.specs.Prelude.{◌≡◌, ◌<◌, ◌≤◌, ◌^◌, ℕ, List, [], true, Some, All, IsSomeAnd, length, is_some}
+use Rattle.std.specs.Prelude.{◌≡◌, ◌<◌, ◌≤◌, ◌^◌, ℕ, List, [], false, true, Some, All, IsSomeAnd, length, is_some}
 use Rattle.std.specs.Prelude.{slice_get}
 use Rattle.std.specs.List.{list_any}
 use Rattle.std.specs.Str.{bytes_eq}
@@ -14,7 +14,7 @@ use Rattle.om_resolved.specs.ResolvedTree.{ResolvedTree}
 use Rattle.om_resolved.specs.Whole.{IsWholeTree}
 use Rattle.om_rows.specs.Bodies.{Numbers, BodyTree, FunctionBody, called_body}
 use Rattle.om_rows.specs.Code.{body_row, IsBodyOf, IsCodeOf}
-use Rattle.om_rows.specs.Coded.{ValueHasCode, EffectHasCode, StatementHasCode, TreeHasCode}
+use Rattle.om_rows.specs.Coded.{ValueIsCoded, EffectIsCoded, StatementIsCoded, TreeHasCode, TreeIsCoded}
 use Rattle.om_rows.specs.Expressions.{value, effect}
 use Rattle.om_rows.specs.Mentions.{format_mention, formats_of, tree_mentioned}
 use Rattle.om_rows.specs.Rows.{Site}
@@ -89,19 +89,19 @@ FormatsAreNumbered =
     (tree : ResolvedTree) →
     All (λ format. list_any (bytes_eq format) (formats_of tree) ≡ true) (tree_mentioned format_mention tree)
 
--- What has code by the rows is what has code.
+-- What has code by the rows is what has code, whatever the numbers of its values and parts.
 abbrev pub RowsHaveCode : Type 0
-RowsHaveCode = (tree : ResolvedTree) (raw : Raw) → IsCodeOf tree raw → TreeHasCode tree
+RowsHaveCode = (tree : ResolvedTree) (raw : Raw) → IsCodeOf tree raw → TreeIsCoded false tree
 
 abbrev pub ValueRowsHaveCode : Type 0
 ValueRowsHaveCode =
-    (at : Site) (l : ℕ) (e : ResolvedExpressionTree) (p q : ℕ) → value at l e p q → ValueHasCode e
+    (at : Site) (l : ℕ) (e : ResolvedExpressionTree) (p q : ℕ) → value at l e p q → ValueIsCoded false e
 
 abbrev pub EffectRowsHaveCode : Type 0
 EffectRowsHaveCode =
-    (at : Site) (l : ℕ) (e : ResolvedExpressionTree) (p q : ℕ) → effect at l e p q → EffectHasCode e
+    (at : Site) (l : ℕ) (e : ResolvedExpressionTree) (p q : ℕ) → effect at l e p q → EffectIsCoded false e
 
 abbrev pub StatementRowsHaveCode : Type 0
 StatementRowsHaveCode =
     (at : Site) (n : Numbers) (s : ResolvedStatementTree) (jumps : Jumps) (p q : ℕ) →
-    statement at n s jumps p q → StatementHasCode (is_some jumps.over) (is_some jumps.next) s
+    statement at n s jumps p q → StatementIsCoded false (is_some jumps.over) (is_some jumps.next) s

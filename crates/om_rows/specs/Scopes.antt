@@ -72,10 +72,6 @@ opened_with length p variable = record {
   to = p;
 }
 
--- parameters and copies are no arrays
-abbrev pub opened_at : ℕ → LocalVariable → VariableScope
-opened_at p variable = opened_with None p variable
-
 -- ---- rows of scopes
 
 -- between two places stands code in which these scopes begin and end

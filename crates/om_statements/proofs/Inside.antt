@@ -1,10 +1,12 @@
 -- What is in a statement is smaller than it, and has code where that does.
-use Rattle.std.proofs.Common.{◌≡◌, ◌<◌, Bool, true, false, List, None, map, option_map, sym, ap, ◌∙◌, subst, arith}
+use Rattle.std.proofs.Common.{◌≡◌, ◌<◌, ◌≤◌, suc, Bool, true, false, List, [], ◌∷◌, None, length, map, option_map}
+use Rattle.std.proofs.Common.{add-one, refl, sym, ap, ◌∙◌, subst, arith}
 use Rattle.std.specs.Prelude.{IfSome, is_some}
 use Rattle.om_statements.specs.declared.spot.Spot.{Spot}
 use Rattle.om_statements.specs.Stretches.{IsNoAtomic}
 use Rattle.om_resolved.specs.declared.resolved.ConstructKind.{ConstructKind}
 use Rattle.om_resolved.specs.declared.resolved.ConstructKind.TheVariants as constructs
+use Rattle.om_resolved.specs.declared.resolved.ResolvedPart.{ResolvedPart}
 use Rattle.om_resolved.specs.declared.resolved.ResolvedStatement.{ResolvedStatement}
 use Rattle.om_resolved.specs.declared.resolved.ResolvedStatement.TheVariants as v
 use Rattle.om_resolved.specs.declared.resolved.ResolvedStatement.TheViews.{size-ResolvedStatement, sized-Construct}
@@ -13,11 +15,14 @@ use Rattle.om_resolved.specs.declared.resolved.ResolvedStatement.TheViews.{sized
 use Rattle.om_resolved.specs.ResolvedTree as trees
 use Rattle.om_resolved.specs.ResolvedTree.{ResolvedPartsTree, ResolvedStatementTree, ResolvedStatementsTree}
 use Rattle.om_resolved.specs.ResolvedView.{view_resolved_clause, view_resolved_expression, view_resolved_loop}
-use Rattle.om_resolved.specs.ResolvedView.{view_resolved_start, view_resolved_statement}
-use Rattle.om_rows.specs.Coded.{EffectHasCode, LoopHasCode, PartsHaveCode, StartHasCode, StatementHasCode}
-use Rattle.om_rows.specs.Coded.{StatementsHaveCode, ValueHasCode}
+use Rattle.om_resolved.specs.ResolvedView.{view_resolved_part, view_resolved_start, view_resolved_statement}
+use Rattle.om_resolved.specs.Whole.{part_count}
+use Rattle.om_rows.specs.Bodies.{Numbers, behind}
+use Rattle.om_rows.specs.Coded.{AssignmentHasCode, EffectHasCode, LoopHasCode, PartsHaveCode, StartHasCode}
+use Rattle.om_rows.specs.Coded.{StatementHasCode, StatementsHaveCode, ValueHasCode}
 use Rattle.om_tables.specs.declared.numbers.Numbers as tables
-use Rattle.om_statements.proofs.Views.{view_construct, view_do, view_for, view_if, view_if_else, view_loop, view_while}
+use Rattle.om_statements.proofs.Views.{view_construct, view_do, view_for, view_if, view_if_else, view_loop, view_sections}
+use Rattle.om_statements.proofs.Views.{view_while}
 
 -- ---- smaller
 
@@ -126,6 +131,46 @@ construct_code breaks continues tree at kind clauses s h is code =
     kind_code breaks continues at kind (map view_resolved_clause clauses.items) (view_resolved_statement s.value) h
     (subst (λ z. StatementHasCode breaks continues z) (ap view_resolved_statement is
     ∙ view_construct at kind clauses s) code)
+
+pub sections_code : (breaks continues : Bool) (tree : ResolvedStatement) (at : _) (clauses : _) (nowait : _)
+    (parts : _) → tree ≡ v.Sections at clauses nowait parts
+    → StatementHasCode breaks continues (view_resolved_statement tree)
+    → (part_count (trees.parts (map view_resolved_part parts.items)) ≤ 256)
+    × PartsHaveCode (trees.parts (map view_resolved_part parts.items))
+sections_code breaks continues tree at clauses nowait parts is code =
+    subst (λ z. StatementHasCode breaks continues z) (ap view_resolved_statement is
+    ∙ view_sections at clauses nowait parts) code
+
+parts_counted : (ps : List ResolvedPart) → length ps ≡ part_count (trees.parts (map view_resolved_part ps))
+parts_counted [] = refl
+parts_counted (p ∷ ps) = ap suc (parts_counted ps) ∙ sym (add-one (part_count (trees.parts (map view_resolved_part ps))))
+
+-- its parts are few
+pub sections_few : (breaks continues : Bool) (tree : ResolvedStatement) (xs : List ResolvedPart) (at : _)
+    (clauses : _) (nowait : _) (parts : _) → tree ≡ v.Sections at clauses nowait parts → xs ≡ parts.items
+    → StatementHasCode breaks continues (view_resolved_statement tree) → length xs ≤ 256
+sections_few breaks continues tree xs at clauses nowait parts is same code =
+    omega (
+      arith,
+      ap length same,
+      parts_counted parts.items,
+      (sections_code breaks continues tree at clauses nowait parts is code).0,
+    )
+
+-- no body begins in the assignment of an `atomic`
+assignment_ends : (n : Numbers) (s : ResolvedStatementTree) → AssignmentHasCode s → n ≡ behind n s
+assignment_ends n (trees.Expression at e) code = refl
+assignment_ends n _ code = absurd code
+
+pub atomic_ends : (breaks continues : Bool) (n : Numbers) (tree : ResolvedStatement) (at : _) (kind : ConstructKind)
+    (clauses : _) (s : _) → tree ≡ v.Construct at kind clauses s → kind ≡ constructs.Atomic
+    → StatementHasCode breaks continues (view_resolved_statement tree) → n ≡ behind n (view_resolved_statement tree)
+atomic_ends breaks continues n tree at kind clauses s is plain code =
+    let seen = ap view_resolved_statement is ∙ view_construct at kind clauses s in
+    let assigned : AssignmentHasCode (view_resolved_statement s.value) =
+    subst (λ k. StatementHasCode breaks continues (trees.Construct at k (map view_resolved_clause clauses.items)
+    (view_resolved_statement s.value))) plain (subst (λ z. StatementHasCode breaks continues z) seen code) in
+    assignment_ends n (view_resolved_statement s.value) assigned ∙ ap (λ z. behind n z) (sym seen)
 
 -- where it stands at a spot
 pub code_at : (x y : Spot) (s t : ResolvedStatement) → x ≡ y → s ≡ t

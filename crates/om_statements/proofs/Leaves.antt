@@ -14,7 +14,7 @@ use Rattle.om_resolved.specs.ResolvedTree.{ResolvedExpressionTree}
 use Rattle.om_rows.specs.Expressions.{value}
 use Rattle.om_rows.specs.Statements.{returned}
 use Rattle.om_emit.specs.Drafts.{Written, moved, Puts}
-use Rattle.om_emit.specs.Emits.{Part, site, Writes, Keeps, Goes, Emits}
+use Rattle.om_emit.specs.Emits.{Part, site, Goes, Emits}
 use Rattle.om_emit.specs.Writing.{goes_end, goes_put, goes_part}
 use Rattle.om_rows.specs.Rows.{Site, Row, end, ins, part, each}
 use Rattle.om_tables.specs.Names.{Names}

@@ -1,5 +1,5 @@
 -- The numbers behind the regions in a statement are those behind the regions in its parts.
-use Rattle.std.proofs.Common.{◌≡◌, ◌+◌, ◌∷◌, List, drop, map, sym, ap, ◌∙◌, subst}
+use Rattle.std.proofs.Common.{◌≡◌, List, map, sym, ap, ◌∙◌, subst}
 use Rattle.om_resolved.specs.declared.resolved.ResolvedStatement.{ResolvedStatement}
 use Rattle.om_resolved.specs.declared.resolved.ResolvedStatement.TheVariants as v
 use Rattle.om_resolved.specs.ResolvedTree as trees

@@ -1,18 +1,16 @@
 -- The scopes of each form, of what is written before its statement, of the statement, and of what is written
 -- behind it.
-use Rattle.std.proofs.Common.{◌≡◌, ℕ, ◌+◌, ◌≤◌, List, [], ◌∷◌, Option, Some, None, Bool, length, map, refl, sym, ap, ◌∙◌, subst, arith}
+use Rattle.std.proofs.Common.{◌≡◌, ℕ, ◌+◌, ◌≤◌, List, Option, Some, None, Bool, length, map, refl, sym, ap, ◌∙◌, subst, arith}
 use Rattle.om_code.specs.declared.instruction.Instr.{Instr}
 use Rattle.std.specs.Prelude.{slice_get}
 use Rattle.std.proofs.lemmas.Option.{slice_get_within}
 use Rattle.om_emit.specs.Drafts.{Labels, Written, Defines, Fresh, FreshList, Puts, unplaced}
-use Rattle.om_emit.specs.Emits.{Finished, Part, Writes, Goes, Emits, site}
+use Rattle.om_emit.specs.Emits.{Finished, Writes, Goes, Emits, site}
 use Rattle.om_emit.specs.Writing.{get_left, goes_end}
 use Rattle.om_lexer.specs.declared.token.Span.{Span}
 use Rattle.om_resolved.specs.declared.resolved.ConstructKind.{ConstructKind}
 use Rattle.om_resolved.specs.declared.resolved.ConstructKind.TheVariants as constructs
-use Rattle.om_resolved.specs.declared.resolved.CopyKind.{CopyKind}
 use Rattle.om_resolved.specs.declared.resolved.CopyKind.TheVariants as copies
-use Rattle.om_resolved.specs.declared.resolved.LocalVariable.{LocalVariable}
 use Rattle.om_resolved.specs.declared.resolved.Variable as variables
 use Rattle.om_resolved.specs.ResolvedTree.{ResolvedExpressionTree, ResolvedClauseTree, ClauseValue, Shared, Copied}
 use Rattle.om_resolved.specs.ResolvedTree.{ResolvedLoopTree, ResolvedStartTree, ResolvedStatementTree, If, IfElse, While}
@@ -38,11 +36,11 @@ use Rattle.om_statements.specs.declared.writing.ScopeStack.{ScopeStack}
 use Rattle.om_statements.specs.Emits.{jumps_at}
 use Rattle.om_statements.specs.Going.{writes_then}
 use Rattle.om_statements.specs.Scoped.{BeginsCopy, BeginsScope, EndsScopes, ScopesStand, team_from}
-use Rattle.om_statements.specs.Scoping.{stand_after, stand_ahead, stand_as, stand_before, stand_behind, stand_block}
+use Rattle.om_statements.specs.Scoping.{stand_after, stand_ahead, stand_before, stand_behind, stand_block}
 use Rattle.om_statements.specs.Scoping.{stand_both, stand_opens, stand_opens_at, stand_plain, writes_as, writes_behind}
 use Rattle.om_statements.specs.Scoping.{ScopesOn, scopes_end, scopes_next, writes_fresh, writes_here, writes_put}
 use Rattle.om_statements.specs.Stretches.{Begins, BeginsTurn, FreshTurn, Opens, close_row, construct_end, do_begin, do_end}
-use Rattle.om_statements.specs.Stretches.{else_begin, for_end, IsNoAtomic, loop_end, loop_labels, test_at, while_begin}
+use Rattle.om_statements.specs.Stretches.{else_begin, for_end, IsNoAtomic, loop_end, test_at, while_begin}
 use Rattle.om_tables.specs.Names.{Names}
 
 -- the list of a PICK, and the labels of its parts

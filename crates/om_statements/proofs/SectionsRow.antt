@@ -22,7 +22,7 @@ use Rattle.om_rows.specs.Statements.{parts}
 use Rattle.om_statements.specs.declared.sections.PartsSpot.{PartsSpot}
 use Rattle.om_statements.specs.declared.labels.JumpLabels.{JumpLabels}
 use Rattle.om_statements.specs.Emits.{EmitsStatement, GoesWith, pick_number}
-use Rattle.om_statements.specs.Parts.{AreFree, EmitsParts, GoesParts, OpensParts, PartHead, head_row, part_head}
+use Rattle.om_statements.specs.Parts.{AreFree, EmitsParts, GoesParts, OpensParts, PartHead, head_row}
 use Rattle.om_statements.specs.Parts.{part_labels}
 use Rattle.om_statements.specs.Going.{free_within, goes_place, goes_then, then_with, with_as, with_behind}
 use Rattle.om_tables.specs.declared.numbers.Numbers as tables
@@ -128,14 +128,6 @@ opens_parts names head labels spot a b c again over line numbers g h = record {
     same_labels : labels ≡ record { again = spot.again; over = spot.over }
     same_labels = ap (λ l. record labels { again = l }) (sym again)
         ∙ ap (λ l. record labels { again = spot.again; over = l }) (sym over)
-
--- the same count
-pub opens_counted : (names : Names) (l : ℕ) (numbers : tables.Numbers) (clauses : List ResolvedClauseTree)
-    (count n : ℕ) (spot : PartsSpot) (a b : Written) → count ≡ n
-    → OpensParts names (part_head l numbers clauses count) spot a b → OpensParts names
-    (part_head l numbers clauses n) spot a b
-opens_counted names l numbers clauses count n spot a b e h = subst
-    (λ z. OpensParts names (part_head l numbers clauses z) spot a b) e h
 
 -- ---- the whole
 

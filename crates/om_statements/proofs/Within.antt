@@ -1,10 +1,9 @@
 -- What stands in a statement is smaller than it, has code where that does, and the numbers behind its regions are
 -- known where those behind the statement's are. This is what the call for it needs.
-use Rattle.std.proofs.Common.{◌≡◌, ◌≤◌, ◌<◌, ℕ, ◌+◌, ◌*◌, Bool, List, None, Some, length, get_or, map, refl, sym, ap}
+use Rattle.std.proofs.Common.{◌≡◌, ◌≤◌, ◌<◌, ℕ, ◌+◌, ◌*◌, List, None, Some, length, get_or, map, refl, sym, ap}
 use Rattle.std.proofs.Common.{◌∙◌, subst, arith}
 use denote.Param.Weighed.{at_most, most}
 use Rattle.std.specs.Prelude.{is_some}
-use Rattle.om_statements.specs.declared.labels.JumpLabels.{JumpLabels}
 use Rattle.om_statements.specs.declared.spot.Spot.{Spot}
 use Rattle.om_statements.specs.Stretches.{IsNoAtomic}
 use Rattle.om_resolved.specs.declared.resolved.ConstructKind.{ConstructKind}
@@ -20,12 +19,12 @@ use Rattle.om_rows.specs.Coded.{PartsHaveCode, StatementHasCode, StatementsHaveC
 use Rattle.om_tables.specs.declared.numbers.Numbers as tables
 use Rattle.om_tables.specs.Ends.{HasAllEnds, HasEnds, HasPartsEnds, KnownBodies}
 use Rattle.om_tables.specs.Numbering.{numbers_of}
-use Rattle.om_statements.proofs.Inside.{code_at, construct_code, construct_inside, do_code, do_inside, else_inside}
+use Rattle.om_statements.proofs.Inside.{code_at, construct_code, construct_inside, do_code, do_inside, else_inside, sections_code}
 use Rattle.om_statements.proofs.Inside.{for_code, for_inside, if_code, if_else_code, if_inside, loop_code, loop_inside}
 use Rattle.om_statements.proofs.Inside.{then_inside, while_code, while_inside}
 use Rattle.om_statements.proofs.RegionEnds.{construct_ends, do_ends, ends_at, ends_behind, for_ends, if_ends}
 use Rattle.om_statements.proofs.RegionEnds.{if_else_ends, loop_ends, sections_ends, while_ends}
-use Rattle.om_statements.proofs.Views.{view_block, view_sections}
+use Rattle.om_statements.proofs.Views.{view_block}
 
 abbrev Within : (ends : KnownBodies) → (tree s : ResolvedStatement) → Spot → Type 0
 Within ends tree s x = (size-ResolvedStatement s < size-ResolvedStatement tree)
@@ -160,7 +159,6 @@ pub parts_within : (ends : KnownBodies) (m : Numbers) (y : Spot) (tree : Resolve
     × PartsHaveCode (trees.parts (map view_resolved_part xs))
     × HasPartsEnds ends m (trees.parts (map view_resolved_part xs))
 parts_within ends m y tree xs at clauses nowait parts is same begun code has =
-    let seen = ap view_resolved_statement is ∙ view_sections at clauses nowait parts in
     let listed = ap (λ ys. trees.parts (map view_resolved_part ys)) (sym same) in (
       omega (
         arith,
@@ -168,8 +166,7 @@ parts_within ends m y tree xs at clauses nowait parts is same begun code has =
         sized-Sections at clauses nowait parts,
         ap (most size-ResolvedPart) same,
       ),
-      subst (λ z. PartsHaveCode z) listed
-          (subst (λ z. StatementHasCode (is_some y.jumps.over) (is_some y.jumps.next) z) seen code),
+      subst (λ z. PartsHaveCode z) listed (sections_code _ _ tree at clauses nowait parts is code).1,
       subst (λ k. HasPartsEnds ends k (trees.parts (map view_resolved_part xs))) (sym begun)
           (subst (λ z. HasPartsEnds ends (next_pick (numbers_of y.numbers)) z) listed
           (sections_ends ends (numbers_of y.numbers) tree at clauses nowait parts is has)),

@@ -15,6 +15,7 @@ use crate::operator::{identity_of, reduction_of};
 use crate::writing::{ScopeStack, Writing};
 use om_code::Instr;
 use om_emit::draft::Draft;
+use om_emit::{load, store};
 use om_pragma::ReductionOperator;
 use om_resolved::{CopyKind, LocalVariable, ResolvedClause, ResolvedExpression, Variable};
 use om_tables::Scope;
@@ -46,14 +47,7 @@ fn set_identity(
 {
     let identity = identity_of(operator);
     draft.put(line, identity)?;
-    let place = scope.place(Variable::Local(copy.at));
-    draft.put(
-        line,
-        Instr::Store {
-            place,
-            keeps: false,
-        },
-    )?;
+    store(draft, scope, line, Variable::Local(copy.at), false)?;
     Ok(())
 }
 
@@ -68,16 +62,8 @@ fn set_original(
     ensures { let begin = original_start line original copy.now in
         OnOk result (EmitsRow (names_of scope.now) begin draft.old draft.new) }
 {
-    let from = scope.place(original);
-    draft.put(line, Instr::Load(from))?;
-    let place = scope.place(Variable::Local(copy.at));
-    draft.put(
-        line,
-        Instr::Store {
-            place,
-            keeps: false,
-        },
-    )?;
+    load(draft, scope, line, original)?;
+    store(draft, scope, line, Variable::Local(copy.at), false)?;
     Ok(())
 }
 

@@ -8,7 +8,6 @@ ghost use Rattle.om_resolved.specs.ResolvedView.{view_resolved_clause};
 ghost use Rattle.om_rows.specs.Coded.{ValueHasCode};
 ghost use Rattle.om_rows.specs.Statements as rows;
 ghost use Rattle.om_rows.specs.Statements.{filter_row};
-ghost use Rattle.om_tables.specs.Names.{Names};
 ghost use Rattle.om_tables.specs.Scopes.{names_of};
 
 use crate::barrier::worksharing_end;

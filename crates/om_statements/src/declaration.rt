@@ -15,7 +15,7 @@ ghost use Rattle.om_tables.specs.Scopes.{names_of};
 use crate::writing::Writing;
 use om_code::Instr;
 use om_emit::draft::Draft;
-use om_emit::{effect, value};
+use om_emit::{effect, store, value};
 use om_resolved::{ResolvedDeclarator, ResolvedExpression, ResolvedStart, Variable};
 use om_tables::Scope;
 use std::alloc::AllocError;
@@ -39,13 +39,12 @@ fn initialize(
         }
         Some(initial) => {
             value(draft, scope, line, initial)?;
-            let place = scope.place(Variable::Local(declared.variable.at));
-            draft.put(
+            store(
+                draft,
+                scope,
                 line,
-                Instr::Store {
-                    place,
-                    keeps: false,
-                },
+                Variable::Local(declared.variable.at),
+                false,
             )?;
             Ok(())
         }

@@ -17,20 +17,8 @@ ghost use Rattle.om_tables.specs.Ends.{IsKnown};
 
 use crate::stand_in::{fork, load_originals, spawn, team_size};
 use om_emit::draft::Draft;
-use om_lexer::Span;
-use om_resolved::{Capture, ResolvedClause, ResolvedStatement};
-use om_tables::{Numbers, Scope, Variables, given_copies_in};
+use om_tables::{Numbers, Region, Scope, Variables, given_copies};
 use std::alloc::{AllocError, Global};
-
-/// A `parallel` or a `task`, by its parts.
-#[derive(Clone, Copy)]
-pub(crate) struct RegionHead<'a> {
-    pub(crate) at: Span,
-    pub(crate) clauses: &'a [ResolvedClause],
-    /// What it takes from outside.
-    pub(crate) captures: &'a [Capture],
-    pub(crate) statement: &'a ResolvedStatement,
-}
 
 /// Writes what stands in the place of a `parallel`, and gives the numbers behind it. Its body gets
 /// the number of the next one.
@@ -39,7 +27,7 @@ pub(crate) fn parallel(
     draft: &mut Draft,
     scope: &Scope<'_>,
     numbers: Numbers,
-    region: &RegionHead<'_>,
+    region: &Region<'_>,
 ) -> Result<Numbers, AllocError>
     requires code { IfSome (clause_value (map view_resolved_clause region.now.clauses.now))
         ValueHasCode }
@@ -71,7 +59,7 @@ pub(crate) fn task(
     draft: &mut Draft,
     scope: &Scope<'_>,
     numbers: Numbers,
-    region: &RegionHead<'_>,
+    region: &Region<'_>,
 ) -> Result<Numbers, AllocError>
     requires known { let body = view_resolved_statement region.now.statement.now in
         IsKnown (known_in scope.now) numbers.bodies
@@ -98,7 +86,7 @@ fn load_given(
     alloc: Global,
     draft: &mut Draft,
     scope: &Scope<'_>,
-    region: &RegionHead<'_>,
+    region: &Region<'_>,
     variables: &Variables,
 ) -> Result<usize, AllocError>
     requires variables { let trees = map view_resolved_clause region.now.clauses.now in
@@ -116,7 +104,7 @@ fn load_given(
         (EmitsRow (names_of scope.now) (λ at. each (load_original at region.now.at.line) given)
         draft.old draft.new) }
 {
-    let copies = given_copies_in(alloc, region.clauses, region.captures, variables)?;
+    let copies = given_copies(alloc, region.clauses, region.captures, variables)?;
     load_originals(draft, scope, region.at.line, copies.as_slice())?;
     Ok(copies.len())
 }

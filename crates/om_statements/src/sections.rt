@@ -1,6 +1,6 @@
 //! The begin of a `sections`, before its parts.
 
-ghost use Rattle.std.specs.Prelude.{IfOk, OnOk, length, map};
+ghost use Rattle.std.specs.Prelude.{◌≤◌, IfOk, OnOk, length, map};
 ghost use Rattle.om_resolved.specs.ResolvedView.{view_resolved_clause};
 ghost use Rattle.om_rows.specs.Scopes.{sections_head};
 ghost use Rattle.om_statements.specs.Scoped.{EmitsScopes};
@@ -44,6 +44,7 @@ pub fn begin_parts(
     head: &SectionsHead<'_>,
     parts: &[ResolvedPart],
 ) -> Result<PartsSpot, AllocError>
+    requires { length parts.now ≤ 256 }
     ensures code { let begin = part_head head.now.line head.now.numbers
         (map view_resolved_clause head.now.clauses.now) (length parts.now) in
         IfOk result (λ spot. OpensParts (names_of scope.now) begin spot writing.old.draft
@@ -52,9 +53,7 @@ pub fn begin_parts(
         OnOk result (EmitsScopes (names_of scope.now) (λ at. sections_head at head.now.line trees)
         writing.old writing.new) }
 {
-    let Ok(count) = u32::try_from(parts.len()) else {
-        return Err(AllocError);
-    };
+    let count = parts.len() as u32;
     let number = head.numbers.picks;
     let list = Parts { number, count };
     let labels = begin_sections(writing, scope, head.line, head.clauses, list)?;

@@ -19,7 +19,7 @@ use crate::branch::{begin_else, begin_if};
 use crate::construct::{begin_construct, end_construct};
 use crate::declaration::{declarators, returned};
 use crate::jump::{go_on, leave_loop};
-use crate::region::{RegionHead, parallel, task};
+use crate::region::{parallel, task};
 use crate::repeated::{begin_do, begin_for, begin_while, end_do, end_for, end_loop};
 use crate::sections::{PartsSpot, SectionsHead, begin_parts};
 use crate::spot::Spot;
@@ -28,7 +28,7 @@ use crate::writing::Writing;
 use om_code::Instr;
 use om_emit::effect;
 use om_resolved::{ConstructKind, ResolvedHead, ResolvedPart, ResolvedStatement};
-use om_tables::{Numbers, Scope, behind};
+use om_tables::{Numbers, Region, Scope};
 use std::alloc::{AllocError, Global};
 
 /// Writes the code of a statement, and gives the numbers behind it.
@@ -155,7 +155,7 @@ pub fn statement(
             captures,
             body,
         } => {
-            let region = RegionHead {
+            let region = Region {
                 at: *at,
                 clauses: clauses.as_slice(),
                 captures: captures.as_slice(),
@@ -170,7 +170,7 @@ pub fn statement(
             captures,
             body,
         } => {
-            let region = RegionHead {
+            let region = Region {
                 at: *at,
                 clauses: clauses.as_slice(),
                 captures: captures.as_slice(),
@@ -236,8 +236,7 @@ pub fn statement(
         } => {
             if let ConstructKind::Atomic = kind {
                 assignment(&mut writing.draft, scope, at.line, body)?;
-                let after = behind(numbers, body)?;
-                return Ok(after);
+                return Ok(numbers);
             }
             let height = writing.scopes.height();
             let label = begin_construct(writing, scope, at.line, kind, clauses.as_slice())?;

@@ -1,5 +1,5 @@
 -- The tables of a program.
-use Rattle.std.specs.Prelude.{◌≡◌, ℕ, List, [], ◌∷◌, ◌++◌, map}
+use Rattle.std.specs.Prelude.{◌≡◌, ℕ, List, map}
 use Rattle.std.specs.List.{AllZip}
 use Rattle.om_resolved.specs.ResolvedTree.{ResolvedFunctionTree, ResolvedTree}
 use Rattle.om_rows.specs.Bodies.{Numbers, behind_functions, first_numbers}
@@ -22,10 +22,6 @@ ends_in tables = map numbers_of tables.ends.items
 -- how many cells the variables of a function have
 abbrev pub AreCellsOf : ResolvedFunctionTree → List Extent → Type 0
 AreCellsOf f extents = (variable : ℕ) → cells_in extents variable ≡ cells_in (extents_of f) variable
-
--- those of one more function
-abbrev pub AddsCells : ResolvedFunctionTree → (old new : List (List Extent)) → Type 0
-AddsCells f old new = (extents : List Extent) × (new ≡ old ++ extents ∷ []) × AreCellsOf f extents
 
 pub record IsTablesOf (tree : ResolvedTree) (tables : Tables) : Type 0 where
   pub formats : tables.formats ≡ formats_of tree

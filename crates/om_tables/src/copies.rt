@@ -2,16 +2,12 @@
 
 ghost use Rattle.std.specs.Prelude.{◌≡◌, ◌++◌, ◌∷◌, [], OnOk, IfOk, map};
 ghost use Rattle.std.specs.List.{flat_map};
-ghost use Rattle.om_resolved.specs.ResolvedView.{view_resolved_clause, view_resolved_statement};
+ghost use Rattle.om_resolved.specs.ResolvedView.{view_resolved_clause};
 ghost use Rattle.om_rows.specs.Slots.{by_slots, capture_first, clause_first, copied_first, first_copies, first_copy_at};
-ghost use Rattle.om_rows.specs.Statements as rows;
 ghost use Rattle.om_tables.specs.Copies.{first_copies_of};
 
-use crate::sights::region_variables;
 use crate::variables::Variables;
-use om_resolved::{
-    Capture, CopyKind, LocalVariable, ResolvedClause, ResolvedStatement, Taking, Variable,
-};
+use om_resolved::{Capture, CopyKind, LocalVariable, ResolvedClause, Taking, Variable};
 use std::alloc::{AllocError, Global};
 
 /// A firstprivate copy: its variable, and what it begins with.
@@ -21,23 +17,8 @@ pub struct FirstCopy {
     pub original: Variable,
 }
 
-/// The firstprivate copies of a `parallel` or a `task`, by their slots in its body.
+/// The firstprivate copies of a `parallel` or a `task`, by their slots in its body, which has these variables.
 pub fn given_copies(
-    alloc: Global,
-    clauses: &[ResolvedClause],
-    captures: &[Capture],
-    body: &ResolvedStatement,
-) -> Result<Vec<FirstCopy>, AllocError>
-    ensures { let trees = map view_resolved_clause clauses.now in
-        let given = rows.given_copies trees captures.now (view_resolved_statement body.now) in
-        IfOk result (λ made. first_copies_of made.items ≡ given) }
-{
-    let variables = region_variables(alloc, clauses, body)?;
-    given_copies_in(alloc, clauses, captures, &variables)
-}
-
-/// The same, where the variables of the body are known.
-pub fn given_copies_in(
     alloc: Global,
     clauses: &[ResolvedClause],
     captures: &[Capture],

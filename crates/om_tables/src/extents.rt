@@ -44,7 +44,7 @@ impl Extents {
     }
 
     /// Notes a declared variable.
-    pub(crate) fn note(&mut self, variable: u32, cells: u32) -> Result<(), AllocError>
+    pub fn note(&mut self, variable: u32, cells: u32) -> Result<(), AllocError>
         ensures { OnOk result
             (self.new ≡ with_extent self.old (record { variable = variable; cells = cells })) }
     {

@@ -3,23 +3,20 @@
 
 mod copies;
 mod extents;
-mod formats;
-mod mentions;
 mod numbers;
+mod region;
 mod scope;
-mod sights;
 mod slots;
 mod tables;
 mod texts;
-mod uses;
 mod variables;
 
-pub use copies::{FirstCopy, given_copies, given_copies_in};
+pub use copies::{FirstCopy, given_copies};
 pub use extents::Extents;
-pub use numbers::{Numbers, behind};
+pub use numbers::Numbers;
+pub use region::Region;
 pub use scope::Scope;
-pub use sights::{function_variables, region_variables};
 pub use slots::{copy_slots, parameter_slots, slots_with};
-pub use tables::{Tables, tables_of};
+pub use tables::Tables;
 pub use texts::Texts;
 pub use variables::Variables;

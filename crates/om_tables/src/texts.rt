@@ -62,7 +62,7 @@ impl Texts {
     }
 
     /// Gives a text the next number, unless it has one. There is no memory for 2^32 - 1 of them.
-    pub(crate) fn note(&mut self, alloc: Global, text: &[u8]) -> Result<(), AllocError>
+    pub fn note(&mut self, alloc: Global, text: &[u8]) -> Result<(), AllocError>
         ensures { OnOk result (self.new ≡ with_sight bytes_eq self.old text.now) }
     {
         if self.texts.len() >= TEXT_LIMIT {

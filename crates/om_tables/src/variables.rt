@@ -60,7 +60,7 @@ impl Variables {
     }
 
     /// Gives a variable the next slot, unless it has one.
-    pub(crate) fn add(&mut self, variable: u32) -> Result<(), AllocError>
+    pub fn add(&mut self, variable: u32) -> Result<(), AllocError>
         ensures { OnOk result (self.new ≡ with_sight nat_eq self.old variable) }
     {
         self.seen.insert(variable)?;
@@ -68,7 +68,7 @@ impl Variables {
     }
 
     /// The same for a variable that is used, where it is one of the function.
-    pub(crate) fn sight(&mut self, variable: Variable) -> Result<(), AllocError>
+    pub fn sight(&mut self, variable: Variable) -> Result<(), AllocError>
         ensures { OnOk result
             (self.new ≡ fold (with_sight nat_eq) self.old (variable_uses variable)) }
     {

@@ -3,7 +3,7 @@ use Rattle.std.proofs.lemmas.Result.{on_ok_weaker}
 use Rattle.om_code.specs.declared.instruction.Instr.TheVariants as i
 use Rattle.om_emit.specs.Forms.{form}
 use Rattle.om_emit.specs.Writing.{fresh_length, free_new, free_fresh, free_put, free_part, free_define}
-use Rattle.om_emit.proofs.Arguments.{listed, counted, with_depth, has_code, emits_next}
+use Rattle.om_emit.proofs.Arguments.{listed, counted, few, with_depth, has_code, emits_next}
 use Rattle.om_emit.proofs.Expressions.{emits_element, emits_used_call, emits_right, emits_unary, emits_set}
 use Rattle.om_emit.proofs.Expressions.{emits_compound, emits_set_element, emits_compound_element, emits_call}
 use Rattle.om_emit.proofs.Expressions.{emits_binary, rest_is, emits_element_assigned, emits_postfix_element, value_is}
@@ -29,9 +29,12 @@ element-returns t c =
 pub call-returns : goal.call-returns
 call-returns t c =
     emits_call (names_of c.args.scope.now) c.args.line c.args.function
-    (listed c.args.arguments.now) c.called_body-body.result c.in-Ok.count _ _ _
-    c.called_body-body.ensures (c.in-Ok.ensures.1
+    (listed c.args.arguments.now) c.called_body-body.result c.count_of-count.result _ _ _
+    c.called_body-body.ensures (c.count_of-count.ensures
     ∙ counted c.args.arguments.now) c.in_ok-values.ensures c.in_ok-put.ensures
+
+pub call-count_of-count-requires : goal.call-count_of-count-requires
+call-count_of-count-requires t c = few c.args.arguments.now c.requires
 
 pub used_call-returns : goal.used_call-returns
 used_call-returns t c =

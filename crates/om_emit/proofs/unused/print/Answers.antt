@@ -1,5 +1,5 @@
 use Rattle.std.proofs.Common.{◌∙◌}
-use Rattle.om_emit.proofs.Arguments.{listed, counted}
+use Rattle.om_emit.proofs.Arguments.{listed, counted, few}
 use Rattle.om_emit.proofs.Expressions.{emits_print}
 use Rattle.om_tables.specs.Scopes.{names_of}
 use Rattle.om_emit.proofs.unused.print.Goals as goal
@@ -7,6 +7,9 @@ use Rattle.om_emit.proofs.unused.print.Goals as goal
 pub returns : goal.returns
 returns c =
     emits_print (names_of c.args.scope.now) c.args.line c.args.format.now
-    (listed c.args.arguments.now) c.format_number-text.result c.in-Ok.count _ _ _
-    c.format_number-text.ensures (c.in-Ok.ensures.1
+    (listed c.args.arguments.now) c.format_number-text.result c.count_of-count.result _ _ _
+    c.format_number-text.ensures (c.count_of-count.ensures
     ∙ counted c.args.arguments.now) c.in_ok-values.ensures c.in_ok-put.ensures
+
+pub count_of-count-requires : goal.count_of-count-requires
+count_of-count-requires c = few c.args.arguments.now c.requires

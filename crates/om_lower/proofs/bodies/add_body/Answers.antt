@@ -1,6 +1,6 @@
 use Rattle.std.proofs.Common.{subst}
 use Rattle.om_lower.specs.Made.{FitsBody}
-use Rattle.om_lower.specs.Sites.{seen_body}
+use Rattle.om_lower.specs.Ready.{seen_body}
 use Rattle.om_resolved.specs.ResolvedView.{view_resolved}
 use Rattle.om_lower.proofs.bodies.add_body.Goals as goal
 

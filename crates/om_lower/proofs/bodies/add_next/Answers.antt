@@ -1,5 +1,5 @@
 use Rattle.std.proofs.Common.{ap, ◌∙◌}
-use Rattle.om_lower.specs.Sites.{innermost}
+use Rattle.om_sights.specs.Sites.{innermost}
 use Rattle.om_lower.proofs.Knowing.{round_pushed, round_seen}
 use Rattle.om_lower.proofs.SiteBodies.{adds_in}
 use Rattle.om_resolved.specs.ResolvedView.{view_resolved}

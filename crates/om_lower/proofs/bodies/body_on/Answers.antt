@@ -1,7 +1,7 @@
 use Rattle.std.proofs.Common.{◌≤◌, length, refl, sym, ap, subst, ◌∙◌}
 use Rattle.om_lower.specs.declared.bodies.LoweredBody.{LoweredBody}
 use Rattle.om_lower.specs.Made.{FitsCode}
-use Rattle.om_lower.specs.Sites.{seen_body}
+use Rattle.om_lower.specs.Ready.{seen_body}
 use Rattle.om_resolved.specs.ResolvedView.{view_resolved}
 use Rattle.om_rows.specs.Scopes.{names_with}
 use Rattle.om_lower.proofs.Coding.{made_body, over_code}

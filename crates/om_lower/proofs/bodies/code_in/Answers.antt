@@ -1,7 +1,7 @@
 use Rattle.std.proofs.Common.{rules, ℕ, List}
 use Rattle.om_emit.specs.Settled.{ListsStand}
 use Rattle.om_lower.specs.Limits.{IsCodeAt}
-use Rattle.om_lower.specs.Sites.{seen_body}
+use Rattle.om_lower.specs.Ready.{seen_body}
 use Rattle.om_lower.proofs.Coding.{code_at, over_limit, too_long}
 use Rattle.om_resolved.specs.ResolvedView.{view_resolved}
 use Rattle.om_lower.proofs.bodies.code_in.Goals as goal

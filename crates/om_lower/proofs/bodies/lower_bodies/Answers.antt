@@ -1,7 +1,8 @@
 use Rattle.std.proofs.Common.{[], ap, sym, subst, take, ◌∙◌}
 use Rattle.om_lower.specs.Limits.{IsOver}
 use Rattle.om_lower.specs.Made.{AddsBody, AreListsOf, AreMade}
-use Rattle.om_lower.specs.Sites.{IsReady, bodies_in, body_round, known_with, round_behind, round_with}
+use Rattle.om_lower.specs.Ready.{IsReady, known_with}
+use Rattle.om_sights.specs.Sites.{bodies_in, body_round, round_behind, round_with}
 use Rattle.om_lower.proofs.Items.{all_at, any_at}
 use Rattle.om_lower.proofs.Coding.{body_added}
 use Rattle.om_lower.proofs.SiteBodies.{adds_round, round_next, site_at, taken_bodies}

@@ -1,6 +1,6 @@
 use Rattle.std.proofs.Common.{◌≡◌, [], map, take}
 use Rattle.om_lower.specs.Made.{AreListsOf, AreMade}
-use Rattle.om_lower.specs.Sites.{bodies_in, round_behind}
+use Rattle.om_sights.specs.Sites.{bodies_in, round_behind}
 use Rattle.om_resolved.specs.ResolvedView.{view_resolved}
 use Rattle.om_lower.proofs.bodies.lower_bodies.Given as goal
 

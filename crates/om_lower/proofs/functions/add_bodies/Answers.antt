@@ -1,6 +1,6 @@
 use Rattle.std.proofs.Common.{[], None, refl, subst}
 use Rattle.om_lower.specs.Made.{FitsBodies}
-use Rattle.om_lower.specs.Sites.{bodies_in}
+use Rattle.om_sights.specs.Sites.{bodies_in}
 use Rattle.om_resolved.specs.ResolvedView.{view_resolved}
 use Rattle.om_lower.proofs.functions.add_bodies.Goals as goal
 

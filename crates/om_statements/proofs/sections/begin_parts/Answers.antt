@@ -1,6 +1,6 @@
-use Rattle.std.proofs.Common.{rules, ◌≡◌, length, refl, map}
+use Rattle.std.proofs.Common.{length, refl, map}
 use Rattle.om_resolved.specs.ResolvedView.{view_resolved_clause}
-use Rattle.om_statements.proofs.SectionsRow.{opens_counted, opens_parts}
+use Rattle.om_statements.proofs.SectionsRow.{opens_parts}
 use Rattle.om_statements.specs.Parts.{part_head}
 use Rattle.om_tables.specs.Scopes.{names_of}
 use Rattle.om_rows.specs.Scopes.{sections_head}
@@ -11,11 +11,9 @@ use Rattle.om_statements.proofs.sections.begin_parts.Goals as goal
 pub returns-clause-code : goal.returns-clause-code
 returns-clause-code c =
     let clauses = map view_resolved_clause c.args.head.now.clauses.now in
-    let same : c.in-Ok.count ≡ length c.args.parts.now = search rules in
-    opens_counted (names_of c.args.scope.now) c.args.head.now.line c.args.head.now.numbers clauses _ _ _ _ _ same
-    (opens_parts (names_of c.args.scope.now) (part_head c.args.head.now.line c.args.head.now.numbers clauses
-    c.in-Ok.count)
-    c.in_ok-labels.labels _ _ _ _ refl refl refl c.in_ok-numbers.ensures c.in_ok-labels.ensures.code c.in_ok-first.ensures)
+    opens_parts (names_of c.args.scope.now) (part_head c.args.head.now.line c.args.head.now.numbers clauses
+    (length c.args.parts.now))
+    c.in_ok-labels.labels _ _ _ _ refl refl refl c.in_ok-numbers.ensures c.in_ok-labels.ensures.code c.in_ok-first.ensures
 
 pub returns-clause-scopes : goal.returns-clause-scopes
 returns-clause-scopes c =

@@ -30,7 +30,8 @@ use Rattle.om_statements.proofs.Forms.{emits_if, emits_if_else, emits_loop, emit
 use Rattle.om_statements.proofs.PartLists.{free_first, free_start, items_are, left_count, left_part, onward_parts_begin}
 use Rattle.om_statements.proofs.PartLists.{onward_parts_done, opens_are, parts_are, parts_next}
 use Rattle.om_statements.proofs.SectionsRow.{emits_sections, labels_are}
-use Rattle.om_statements.proofs.Inside.{code_here, if_code, if_else_code, parts_code_here, while_code}
+use Rattle.om_statements.proofs.Inside.{atomic_ends, code_here, if_code, if_else_code, parts_code_here, sections_few}
+use Rattle.om_statements.proofs.Inside.{while_code}
 use Rattle.om_statements.proofs.Within.{block_within, construct_within, do_within, else_within, for_within, if_within}
 use Rattle.om_statements.proofs.Within.{loop_within, parts_within, then_within, while_within, with_depth}
 use Rattle.om_rows.specs.Scopes.{all_scopes, scopes}
@@ -78,7 +79,7 @@ statement-end_loop-requires-in-Loop t c =
 pub statement-end_construct-requires : goal.statement-end_construct-requires
 statement-end_construct-requires t c =
     record {
-      free = free_with _ _ _ _ _ c.in_ok-label-in-Construct.ensures.code.free c.in_ok-after-in-Construct-2.ensures.emitted;
+      free = free_with _ _ _ _ _ c.in_ok-label-in-Construct.ensures.code.free c.in_ok-after-in-Construct.ensures.emitted;
       kind = no_atomic c.in-Construct.kind c.in_default.not-Atomic;
     }
 
@@ -294,7 +295,7 @@ statement-returns-in_ok-end-in-Construct t c =
     c.deref-in-Construct.ensures ∙ sym (ap view_resolved_statement c.in-Construct.is
     ∙ view_construct c.in-Construct.at c.in-Construct.kind c.in-Construct.clauses c.in-Construct.body)) in
     record {
-      behind = c.in_ok-after-in-Construct-2.ensures.behind
+      behind = c.in_ok-after-in-Construct.ensures.behind
           ∙ ap (λ x. rows.behind (numbers_of x.numbers) (view_resolved_statement c.deref-in-Construct.result.now))
           c.outside-inside.ensures ∙ ap (λ z. rows.behind (numbers_of c.args.spot.numbers) z) seen;
       emitted = statement_is (names_of c.args.scope.now) (numbers_of c.args.spot.numbers) _ _ c.args.spot.jumps _ _
@@ -307,7 +308,7 @@ statement-returns-in_ok-end-in-Construct t c =
           c.in_ok-label-in-Construct.label _ _ _ _ c.as_slice-in-Construct.ensures.value
           c.in_ok-label-in-Construct.ensures.code)
           (spot_is (names_of c.args.scope.now) (view_resolved_statement c.deref-in-Construct.result.now) _ _ _ _
-          c.outside-inside.ensures c.in_ok-after-in-Construct-2.ensures.emitted)
+          c.outside-inside.ensures c.in_ok-after-in-Construct.ensures.emitted)
           c.in_ok-end_construct-in-Construct.ensures);
       scopes = scopes_are (names_of c.args.scope.now) _ _ _ _ _ _ seen
           (construct_stands (names_of c.args.scope.now) c.in-Construct.at c.in-Construct.kind
@@ -317,7 +318,7 @@ statement-returns-in_ok-end-in-Construct t c =
           c.place-to-in-Construct.ensures
           (construct_scopes_clauses (names_of c.args.scope.now) c.in-Construct.at.line c.in-Construct.kind _ _ _ _ _ _
           c.as_slice-in-Construct.ensures.value c.in_ok-label-in-Construct.ensures.scopes)
-          c.in_ok-after-in-Construct-2.ensures.scopes c.in_ok-end_construct-in-Construct.ensures
+          c.in_ok-after-in-Construct.ensures.scopes c.in_ok-end_construct-in-Construct.ensures
           c.in_ok-end-in-Construct.ensures);
     }
 
@@ -745,3 +746,13 @@ statement-returns-in-Atomic-clause-scopes t c =
     c.in-Construct.clauses c.in-Construct.body))
     (stand_plain (names_of c.args.scope.now) (λ at. assignment_row at c.in-Construct.at.line s) _ _ _
     c.in_ok-assignment-in-Construct.ensures.writes)
+
+pub statement-returns-in-Atomic-clause-behind : goal.statement-returns-in-Atomic-clause-behind
+statement-returns-in-Atomic-clause-behind t c =
+    atomic_ends _ _ (numbers_of c.args.spot.numbers) c.args.tree.now c.in-Construct.at c.in-Construct.kind
+    c.in-Construct.clauses c.in-Construct.body c.in-Construct.is c.in-Atomic.is c.requires.code
+
+pub statement-begin_parts-requires : goal.statement-begin_parts-requires
+statement-begin_parts-requires t c =
+    sections_few _ _ c.args.tree.now _ c.in-Sections.at c.in-Sections.clauses c.in-Sections.nowait
+    c.in-Sections.sections c.in-Sections.is c.as_slice-in-Sections-2.ensures.value c.requires.code

@@ -1,0 +1,31 @@
+use Rattle.std.proofs.Common.{[], sym, subst}
+use Rattle.om_lower.specs.Emitted.{EmitsBody}
+use Rattle.om_sights.specs.Sites.{body_in, part_tree}
+use Rattle.om_rows.specs.Scopes.{body_scopes}
+use Rattle.om_statements.specs.Scoped.{EmitsScopes}
+use Rattle.om_tables.specs.Scopes.{names_of}
+use Rattle.om_lower.proofs.body.write_body.Goals as goal
+
+pub returns-in_ok-write_parallel-in-Parallel-clause-code : goal.returns-in_ok-write_parallel-in-Parallel-clause-code
+returns-in_ok-write_parallel-in-Parallel-clause-code c =
+    let b = body_in [] c.args.site.now in
+    subst (λ part. EmitsBody (names_of c.args.scope.now) b.numbers b.function (part_tree part) _ _)
+    (sym c.in-Parallel.is) (c.in_ok-write_parallel-in-Parallel.ensures.code b.function)
+
+pub returns-in_ok-write_parallel-in-Parallel-clause-scopes : goal.returns-in_ok-write_parallel-in-Parallel-clause-scopes
+returns-in_ok-write_parallel-in-Parallel-clause-scopes c =
+    let b = body_in [] c.args.site.now in
+    subst (λ part. EmitsScopes (names_of c.args.scope.now) (λ at. body_scopes at b.function (part_tree part)) _ _)
+    (sym c.in-Parallel.is) (c.in_ok-write_parallel-in-Parallel.ensures.scopes b.function)
+
+pub returns-in_ok-write_task-in-Task-clause-code : goal.returns-in_ok-write_task-in-Task-clause-code
+returns-in_ok-write_task-in-Task-clause-code c =
+    let b = body_in [] c.args.site.now in
+    subst (λ part. EmitsBody (names_of c.args.scope.now) b.numbers b.function (part_tree part) _ _)
+    (sym c.in-Task.is) (c.in_ok-write_task-in-Task.ensures.code b.function)
+
+pub returns-in_ok-write_task-in-Task-clause-scopes : goal.returns-in_ok-write_task-in-Task-clause-scopes
+returns-in_ok-write_task-in-Task-clause-scopes c =
+    let b = body_in [] c.args.site.now in
+    subst (λ part. EmitsScopes (names_of c.args.scope.now) (λ at. body_scopes at b.function (part_tree part)) _ _)
+    (sym c.in-Task.is) (c.in_ok-write_task-in-Task.ensures.scopes b.function)

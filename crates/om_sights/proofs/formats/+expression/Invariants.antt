@@ -1,0 +1,11 @@
+use Rattle.std.proofs.Common.{◌≡◌, map, drop}
+use Rattle.om_resolved.specs.ResolvedTree as trees
+use Rattle.om_resolved.specs.ResolvedView.{view_resolved_expression}
+use Rattle.om_rows.specs.Mentions.{values_formats}
+use Rattle.om_sights.specs.Noted.{noted}
+use Rattle.om_sights.proofs.formats.+expression.Given as goal
+
+abbrev pub invariant-note_values-loop-value : goal.invariant-note_values-loop-value
+invariant-note_values-loop-value l =
+    noted l.formats (values_formats (trees.values (map view_resolved_expression (drop l.value-index l.values))))
+    ≡ noted l.fn.formats (values_formats (trees.values (map view_resolved_expression l.values)))

@@ -1,0 +1,27 @@
+use Rattle.std.proofs.Common.{◌≡◌, ◌++◌, map, drop}
+use Rattle.om_resolved.specs.ResolvedTree as trees
+use Rattle.om_resolved.specs.ResolvedView.{view_resolved_part, view_resolved_statement}
+use Rattle.om_rows.specs.Bodies as bodies
+use Rattle.om_rows.specs.Mentions.{all_mentioned, parts_mentioned}
+use Rattle.om_tables.specs.Ends.{all_region_ends, parts_region_ends}
+use Rattle.om_tables.specs.Numbering.{numbers_of}
+use Rattle.om_sights.proofs.Noting.{AreLeft}
+use Rattle.om_sights.proofs.mentions.+statement.Given as goal
+
+abbrev pub invariant-note_statements-loop-item : goal.invariant-note_statements-loop-item
+invariant-note_statements-loop-item l =
+    let left = trees.statements (map view_resolved_statement (drop l.item-index l.items)) in
+    let all = trees.statements (map view_resolved_statement l.items) in
+    (bodies.behind_all (numbers_of l.numbers) left ≡ bodies.behind_all (numbers_of l.fn.numbers) all)
+    × (map numbers_of l.ends.items ++ all_region_ends (numbers_of l.numbers) left
+    ≡ map numbers_of l.fn.ends.items ++ all_region_ends (numbers_of l.fn.numbers) all)
+    × AreLeft (λ A m. all_mentioned m left) (λ A m. all_mentioned m all) l.found l.fn.found
+
+abbrev pub invariant-note_parts-loop-part : goal.invariant-note_parts-loop-part
+invariant-note_parts-loop-part l =
+    let left = trees.parts (map view_resolved_part (drop l.part-index l.parts)) in
+    let all = trees.parts (map view_resolved_part l.parts) in
+    (bodies.behind_parts (numbers_of l.numbers) left ≡ bodies.behind_parts (numbers_of l.fn.numbers) all)
+    × (map numbers_of l.ends.items ++ parts_region_ends (numbers_of l.numbers) left
+    ≡ map numbers_of l.fn.ends.items ++ parts_region_ends (numbers_of l.fn.numbers) all)
+    × AreLeft (λ A m. parts_mentioned m left) (λ A m. parts_mentioned m all) l.found l.fn.found

@@ -1,0 +1,27 @@
+use Rattle.std.proofs.Common.{◌≡◌, ◌++◌, [], List, map, drop}
+use Rattle.std.specs.List.{AllZip, flat_map}
+use Rattle.om_resolved.specs.ResolvedView.{view_resolved_function}
+use Rattle.om_rows.specs.Bodies.{behind_functions, first_numbers}
+use Rattle.om_rows.specs.Mentions.{format_mention, function_mentioned, lock_mention}
+use Rattle.om_rows.specs.Slots.{Extent}
+use Rattle.om_tables.specs.Ends.{ends_from}
+use Rattle.om_sights.specs.Noted.{noted}
+use Rattle.om_tables.specs.Numbering.{function_numbers, numbers_of}
+use Rattle.om_tables.specs.Tables.{AreCellsOf}
+use Rattle.om_sights.proofs.tables.note_functions.Given as goal
+
+abbrev pub invariant-loop-function : goal.invariant-loop-function
+invariant-loop-function l =
+    let left = map view_resolved_function (drop l.function-index l.functions) in
+    let all = map view_resolved_function l.functions in
+    (behind_functions (numbers_of l.numbers) left ≡ behind_functions first_numbers all)
+    × (noted l.found.formats (flat_map (function_mentioned format_mention) left)
+    ≡ noted l.fn.found.formats (flat_map (function_mentioned format_mention) all))
+    × (noted l.found.locks (flat_map (function_mentioned lock_mention) left)
+    ≡ noted l.fn.found.locks (flat_map (function_mentioned lock_mention) all))
+    × (l.found.extents ≡ [])
+    × (l.made.bodies.items ++ function_numbers (numbers_of l.numbers) left ≡ l.fn.made.bodies.items
+    ++ function_numbers first_numbers all)
+    × (map numbers_of l.made.ends.items ++ ends_from (numbers_of l.numbers) left
+    ≡ map numbers_of l.fn.made.ends.items ++ ends_from first_numbers all)
+    × ((rest : List (List Extent)) → AllZip AreCellsOf left rest → AllZip AreCellsOf all (l.made.extents.items ++ rest))

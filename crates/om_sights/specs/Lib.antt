@@ -1,0 +1,4 @@
+pub mod Sighted
+pub mod Noted
+pub mod Regions
+pub mod Sites

@@ -1,0 +1,62 @@
+-- The bodies of a function, as they are found.
+use Rattle.std.specs.Prelude.{◌≡◌, ◌+◌, ◌-◌, ℕ, List, [], ◌∷◌, ◌++◌, Some, length, slice_get, take, unwrap_or}
+use Rattle.om_sights.specs.Regions.{parallel_tree, task_tree}
+use Rattle.om_sights.specs.declared.sites.BodyPart.{BodyPart}
+use Rattle.om_sights.specs.declared.sites.BodyPart.TheVariants as parts
+use Rattle.om_sights.specs.declared.sites.Site.{Site}
+use Rattle.om_resolved.specs.ResolvedTree.{ResolvedFunctionTree}
+use Rattle.om_resolved.specs.ResolvedView.{view_resolved_function}
+use Rattle.om_rows.specs.Bodies.{BodySite, BodyTree, FunctionBody, variables_in}
+use Rattle.om_tables.specs.Numbering.{numbers_of}
+
+abbrev pub part_tree : BodyPart → BodyTree
+part_tree parts.Function = FunctionBody
+part_tree (parts.Parallel region) = parallel_tree region
+part_tree (parts.Task region) = task_tree region
+
+-- the variables of a body, by their slots
+abbrev pub variables_at : ResolvedFunctionTree → BodyPart → List ℕ
+variables_at f part = variables_in f (part_tree part)
+
+-- a body of a function, in a body with these variables
+abbrev pub body_in : List ℕ → Site → BodySite
+body_in outer site = record {
+  function = view_resolved_function site.function.now;
+  tree = part_tree site.part;
+  outer = outer;
+  numbers = numbers_of site.numbers;
+}
+
+-- ---- the bodies round the next one, from the outermost in, by their variables
+
+-- those of the innermost, if there is one
+abbrev pub innermost : List (List ℕ) → List ℕ
+innermost round = unwrap_or (slice_get round (length round - 1)) []
+
+-- those round a body, which is as deep as it stands in so many of them
+abbrev pub round_of : List (List ℕ) → Site → List (List ℕ)
+round_of round site = take site.depth round
+
+abbrev pub body_round : List (List ℕ) → Site → BodySite
+body_round round site = body_in (innermost (round_of round site)) site
+
+-- those behind the begin of a body
+abbrev pub round_with : List (List ℕ) → Site → List (List ℕ)
+round_with round site = round_of round site ++ variables_at (view_resolved_function site.function.now) site.part ∷ []
+
+abbrev pub round_behind : List (List ℕ) → List Site → List (List ℕ)
+round_behind round [] = round
+round_behind round (site ∷ sites) = round_behind (round_with round site) sites
+
+-- bodies in the order of the text, each in those round it
+abbrev pub bodies_in : List (List ℕ) → List Site → List BodySite
+bodies_in round [] = []
+bodies_in round (site ∷ sites) = body_round round site ∷ bodies_in (round_with round site) sites
+
+-- behind these bodies the one with these variables is still open, which stands in so many
+abbrev pub IsRound : (depth : ℕ) → List ℕ → List Site → Type 0
+IsRound depth variables sites = slice_get (round_behind [] sites) depth ≡ Some variables
+
+-- it is so behind further ones, with all that it stands in
+abbrev pub KeepsRound : (depth : ℕ) → List Site → List Site → Type 0
+KeepsRound depth old new = take (depth + 1) (round_behind [] new) ≡ take (depth + 1) (round_behind [] old)

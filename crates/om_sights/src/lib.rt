@@ -1,0 +1,14 @@
+//! What a resolved tree mentions and uses, in the order of the text: the tables of a program, and the variables
+//! of its bodies.
+#![tactic(auto)]
+
+mod formats;
+mod mentions;
+mod sights;
+mod sites;
+mod tables;
+mod uses;
+
+pub use sights::{function_variables, region_variables};
+pub use sites::{BodyPart, Site, sites_of};
+pub use tables::tables_of;
