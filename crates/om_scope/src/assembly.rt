@@ -218,9 +218,9 @@ fn with_around(
 ) -> Result<ResolvedStatement, AllocError>
     requires is_there { IsSome (with_around around at (map view_resolved_clause clauses.items)
         (view_resolved_statement body.value)) }
-    ensures { Finds view_resolved_statement result
-        (with_around around at (map view_resolved_clause clauses.items)
-        (view_resolved_statement body.value)) }
+    ensures { IfOk result
+        (λ found. with_around around at (map view_resolved_clause clauses.items)
+        (view_resolved_statement body.value) ≡ Some (view_resolved_statement found)) }
 {
     match around {
         Around::Parallel(captures) => Ok(ResolvedStatement::Parallel {
@@ -253,8 +253,9 @@ fn with_update(
     body: Box<ResolvedStatement>,
 ) -> Result<ResolvedStatement, AllocError>
     requires is_update { IsSome (update_of side (view_resolved_statement body.value)) }
-    ensures { Finds view_resolved_statement result
-        (with_update at (update_of side (view_resolved_statement body.value))) }
+    ensures { IfOk result
+        (λ found. with_update at (update_of side (view_resolved_statement body.value))
+        ≡ Some (view_resolved_statement found)) }
 {
     let mut body = body;
     let Some(update) = update_of(side, &mut body) else {
