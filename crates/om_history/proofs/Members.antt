@@ -16,7 +16,7 @@ use Rattle.om_history.specs.Records.{transition_of, transitions_of, AreAbove}
 use Rattle.om_touches.specs.Touches.{names, has_touch, AreWith, meets_at, meets, IsFirst}
 use Rattle.om_history.specs.Touches.{touched, AreListsOf}
 use Rattle.om_history.proofs.Rolls.{cond_false}
-use Rattle.om_touches.proofs.Searches.{either_true, meets-alike, meets-none, meets-named, conflict-mutual}
+use Rattle.om_touches.specs.Searches.{either_true, meets-alike, meets-none, meets-named, conflict-mutual}
 use Rattle.om_history.proofs.Touched.{touched-push, nat_self}
 use Rattle.om_history.proofs.Replies.{footprint_of}
 

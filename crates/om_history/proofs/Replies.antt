@@ -23,7 +23,7 @@ use Rattle.om_touches.specs.Touches.{names, has_touch, meets_at, meets, IsFirst,
 use Rattle.om_history.specs.Touches.{AreListsOf, own_footprint}
 use Rattle.om_touches.specs.Touches.{is_own}
 use Rattle.om_history.specs.Touches.{AreOwnOf}
-use Rattle.om_touches.proofs.Searches.{either_true, meets-alike, meets-named}
+use Rattle.om_touches.specs.Searches.{either_true, meets-alike, meets-named}
 use Rattle.om_history.proofs.OwnEntries.{own_named}
 use Rattle.om_history.proofs.Touched.{Rising, rising_later, rising_behind, touched-at, Toucher, toucher, nat_self}
 

@@ -1,1 +1,5 @@
+pub mod Serials
 pub mod Touches
+pub mod Lists
+pub mod Searches
+pub mod ByWorker

@@ -4,15 +4,17 @@ use Rattle.std.specs.Prelude.{◌∷◌}
 use Rattle.std.specs.Map.{lookup}
 use Rattle.std.specs.Ordering.{nat_cmp}
 use Rattle.std.specs.BTreeMap.{get}
-use Rattle.std.specs.BTreeSet.{BTreeSet, contains}
+use Rattle.std.specs.BTreeSet.{BTreeSet}
 use Rattle.om_foot.specs.declared.object.Obj.{Obj}
 use Rattle.om_foot.specs.declared.footprint.Mode.{Mode}
 use Rattle.om_foot.specs.declared.footprint.Mode.TheVariants.{Read, Write, Add}
 use Rattle.om_foot.specs.declared.footprint.Access.{Access}
 use Rattle.om_foot.specs.Footprint.{obj_eq, modes_conflict}
 use Rattle.om_touches.specs.declared.own.OwnEntries.{OwnEntries}
+use Rattle.om_touches.specs.declared.serials.Serials.{Serials}
 use Rattle.om_touches.specs.declared.touches.Touches.{Touches}
 use Rattle.om_touches.specs.declared.touches.TouchLists.{TouchLists}
+use Rattle.om_touches.specs.Serials.{has, is_among}
 
 abbrev pub mode_eq : Mode → Mode → Bool
 mode_eq Read Read = true
@@ -27,10 +29,7 @@ names o m (a ∷ rest) = cond (obj_eq a.object o && mode_eq a.mode m) true (name
 
 -- what is kept of them
 
-abbrev pub has : BTreeSet ℕ → ℕ → Bool
-has serials s = contains nat_cmp serials s
-
-abbrev pub list_of : Touches → Mode → BTreeSet ℕ
+abbrev pub list_of : Touches → Mode → Serials
 list_of t Read = t.reads
 list_of t Write = t.writes
 list_of t Add = t.additions
@@ -90,7 +89,7 @@ IsGreatest test (Some t) = (test t ≡ true) × ((s : ℕ) → test s ≡ true �
 
 abbrev pub is_in : Option (BTreeSet ℕ) → ℕ → Bool
 is_in None s = false
-is_in (Some serials) s = has serials s
+is_in (Some serials) s = is_among serials s
 
 abbrev pub knows_worker : OwnEntries → ℕ → Bool
 knows_worker own w = is_some (get nat_cmp own.workers w)

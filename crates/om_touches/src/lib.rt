@@ -2,6 +2,7 @@
 #![tactic(auto)]
 
 pub mod own;
+mod serials;
 pub mod shared_access;
 pub mod touches;
 

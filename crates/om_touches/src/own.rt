@@ -3,7 +3,7 @@
 ghost use Rattle.std.specs.Prelude.{◌≡◌, ℕ, true, false, OnOk, OnErr};
 ghost use Rattle.om_touches.specs.Touches.{is_own, knows_worker, IsGreatest, SameOwn, WithOwn, WithoutOwn};
 
-use crate::touches::{last, put, take};
+use crate::serials::{last, put, take};
 use std::alloc::{AllocError, Global};
 use std::collections::{BTreeMap, BTreeSet};
 

@@ -5,70 +5,31 @@ ghost use Rattle.std.specs.Prelude.{◌≡◌, ℕ, ◌∷◌, [], true, false, 
 ghost use Rattle.om_foot.specs.declared.object.Obj.{Obj};
 ghost use Rattle.om_foot.specs.declared.footprint.Mode.{Mode};
 ghost use Rattle.om_foot.specs.Footprint.{modes_conflict};
-ghost use Rattle.om_touches.specs.Touches.{has, list_of, mode_eq, sooner, IsFirst, IsGreatest, meets_at, meets, has_touch, knows, AreSame, AreWith, AreWithout};
+ghost use Rattle.om_touches.specs.Serials.{has};
+ghost use Rattle.om_touches.specs.Touches.{list_of, mode_eq, sooner, IsFirst, meets_at, meets, has_touch, knows, AreSame, AreWith, AreWithout};
 
+use crate::serials::Serials;
 use crate::shared_access::SharedAccess;
 use om_cells::SharedObject;
 use om_foot::{Mode, Touch, first_touch};
 use std::alloc::{AllocError, Global};
-use std::collections::{BTreeMap, BTreeSet};
-use std::ops::Bound;
+use std::collections::BTreeMap;
 
 /// The touches of one object: the serials of the entries that name it, apart by mode. So a search
 /// for a write or an addition goes through no reads.
 #[derive(Drop)]
 pub struct Touches {
-    reads: BTreeSet<u64>,
-    writes: BTreeSet<u64>,
-    additions: BTreeSet<u64>,
-}
-
-/// Adds a serial. When out of memory, nothing changes.
-pub(crate) fn put(serials: &mut BTreeSet<u64>, serial: u64) -> Result<(), AllocError>
-    ensures added { OnOk result
-        ((s : ℕ) → has serials.new s ≡ cond (nat_eq serial s) true (has serials.old s)) }
-    ensures unchanged_on_error { OnErr result ((s : ℕ) → has serials.new s ≡ has serials.old s) }
-{
-    let _is_new = serials.insert(serial)?;
-    Ok(())
-}
-
-/// Takes a serial out, if it is there. It takes no memory.
-pub(crate) fn take(serials: &mut BTreeSet<u64>, serial: u64)
-    ensures { (s : ℕ) → has serials.new s ≡ cond (nat_eq serial s) false (has serials.old s) }
-{
-    let _was_there = serials.remove(&serial);
-}
-
-/// The first serial after another one.
-fn first_after(serials: &BTreeSet<u64>, serial: u64) -> Option<u64>
-    ensures { IsFirst (has serials.now) serial result }
-{
-    match serials
-        .range((Bound::Excluded(serial), Bound::Unbounded))
-        .next()
-    {
-        Some(first) => Some(*first),
-        None => None,
-    }
-}
-
-/// The last serial.
-pub(crate) fn last(serials: &BTreeSet<u64>) -> Option<u64>
-    ensures { IsGreatest (has serials.now) result }
-{
-    match serials.last() {
-        Some(last) => Some(*last),
-        None => None,
-    }
+    reads: Serials,
+    writes: Serials,
+    additions: Serials,
 }
 
 /// The first touch after a serial, where all are of one mode, that conflicts with an access of
 /// another one.
-fn first_of_mode(serials: &BTreeSet<u64>, touched: Mode, mode: Mode, serial: u64) -> Option<u64>
+fn first_of_mode(serials: &Serials, touched: Mode, mode: Mode, serial: u64) -> Option<u64>
     ensures { IsFirst (λ s. modes_conflict mode touched && has serials.now s) serial result }
 {
-    match first_after(serials, serial) {
+    match serials.first_after(serial) {
         Some(first) => first_touch(
             mode,
             &[Touch {
@@ -94,18 +55,18 @@ fn sooner(first: Option<u64>, other: Option<u64>) -> Option<u64>
 
 impl Touches {
     /// No touches. It takes no memory.
-    fn new(alloc: Global) -> Touches
+    fn new() -> Touches
         ensures { (m : Mode) (s : ℕ) → has (list_of result m) s ≡ false }
     {
         Touches {
-            reads: BTreeSet::new(alloc),
-            writes: BTreeSet::new(alloc),
-            additions: BTreeSet::new(alloc),
+            reads: Serials::None,
+            writes: Serials::None,
+            additions: Serials::None,
         }
     }
 
     /// Adds a touch. When out of memory, nothing changes.
-    fn add(&mut self, mode: Mode, serial: u64) -> Result<(), AllocError>
+    fn add(&mut self, alloc: Global, mode: Mode, serial: u64) -> Result<(), AllocError>
         ensures added { OnOk result
             ((m : Mode) (s : ℕ) → has (list_of self.new m) s
             ≡ cond (mode_eq mode m && nat_eq serial s) true (has (list_of self.old m) s)) }
@@ -113,9 +74,9 @@ impl Touches {
             ((m : Mode) (s : ℕ) → has (list_of self.new m) s ≡ has (list_of self.old m) s) }
     {
         match mode {
-            Mode::Read => put(&mut self.reads, serial),
-            Mode::Write => put(&mut self.writes, serial),
-            Mode::Add => put(&mut self.additions, serial),
+            Mode::Read => self.reads.put(alloc, serial),
+            Mode::Write => self.writes.put(alloc, serial),
+            Mode::Add => self.additions.put(alloc, serial),
         }
     }
 
@@ -125,9 +86,9 @@ impl Touches {
             ≡ cond (mode_eq mode m && nat_eq serial s) false (has (list_of self.old m) s) }
     {
         match mode {
-            Mode::Read => take(&mut self.reads, serial),
-            Mode::Write => take(&mut self.writes, serial),
-            Mode::Add => take(&mut self.additions, serial),
+            Mode::Read => self.reads.take(serial),
+            Mode::Write => self.writes.take(serial),
+            Mode::Add => self.additions.take(serial),
         }
     }
 
@@ -161,7 +122,7 @@ impl TouchLists {
     }
 
     /// Makes an object known. No touch changes, also when out of memory.
-    fn know(&mut self, alloc: Global, object: &SharedObject) -> Result<(), AllocError>
+    fn know(&mut self, object: &SharedObject) -> Result<(), AllocError>
         ensures same { AreSame self.old self.new }
         ensures known { OnOk result (knows self.new object.now ≡ true) }
     {
@@ -169,18 +130,23 @@ impl TouchLists {
             return Ok(());
         }
         let key = object.copy()?;
-        drop(self.objects.insert(key, Touches::new(alloc))?);
+        drop(self.objects.insert(key, Touches::new())?);
         Ok(())
     }
 
     /// Adds a touch of an object that is known. When out of memory, no touch changes.
-    fn add_known(&mut self, access: &SharedAccess, serial: u64) -> Result<(), AllocError>
+    fn add_known(
+        &mut self,
+        alloc: Global,
+        access: &SharedAccess,
+        serial: u64,
+    ) -> Result<(), AllocError>
         requires { knows self.old access.now.object ≡ true }
         ensures added { OnOk result (AreWith (access.now ∷ []) serial self.old self.new) }
         ensures unchanged_on_error { OnErr result (AreSame self.old self.new) }
     {
         match self.objects.get_mut(access.object()) {
-            Some(touches) => touches.add(access.mode(), serial),
+            Some(touches) => touches.add(alloc, access.mode(), serial),
             None => unreachable!(),
         }
     }
@@ -195,8 +161,8 @@ impl TouchLists {
         ensures added { OnOk result (AreWith (access.now ∷ []) serial self.old self.new) }
         ensures unchanged_on_error { OnErr result (AreSame self.old self.new) }
     {
-        self.know(alloc, access.object())?;
-        self.add_known(access, serial)
+        self.know(access.object())?;
+        self.add_known(alloc, access, serial)
     }
 
     /// Adds a touch; an object that is known is sought once. When out of memory, no touch changes.
@@ -205,7 +171,7 @@ impl TouchLists {
         ensures unchanged_on_error { OnErr result (AreSame self.old self.new) }
     {
         match self.objects.get_mut(access.object()) {
-            Some(touches) => touches.add(access.mode(), serial),
+            Some(touches) => touches.add(alloc, access.mode(), serial),
             None => self.add_first(alloc, access, serial),
         }
     }

@@ -11,6 +11,7 @@ use Rattle.om_cells.specs.contracts.shared_object.SharedObject as shared_object
 use Rattle.om_cells.specs.contracts.store.Store as values
 use Rattle.om_live.specs.contracts.store.Store as store
 use Rattle.om_touches.specs.contracts.own.OwnEntries as own
+use Rattle.om_touches.specs.contracts.serials.Serials as serials
 use Rattle.om_touches.specs.contracts.shared_access.SharedAccess as shared_access
 use Rattle.om_touches.specs.contracts.touches.Touches as touches
 use Rattle.om_touches.specs.contracts.touches.TouchLists as lists
@@ -52,8 +53,11 @@ shared_access_send = search (shared_object_send, sendable) depth 40
 kept_send : IsSend kept.the_row
 kept_send = search (name_send, shared_access_send, update_send, seq_send, crosses, sendable) depth 40
 
+serials_send : IsSend serials.the_field.row
+serials_send = search (maps, crosses, sendable) depth 40
+
 touches_send : IsSend touches.the_field.row
-touches_send = search (maps, crosses, sendable) depth 40
+touches_send = search (serials_send, sendable) depth 40
 
 lists_send : IsSend lists.the_field.row
 lists_send = search (shared_object_send, touches_send, maps, crosses, sendable) depth 40

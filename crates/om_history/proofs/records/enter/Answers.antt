@@ -5,7 +5,7 @@ use Rattle.std.specs.Map.{values_of}
 use Rattle.om_history.specs.declared.records.UndoRecord.{UndoRecord}
 use Rattle.om_touches.specs.Touches.{AreWithout, WithoutOwn}
 use Rattle.om_history.specs.Touches.{IsIndexed}
-use Rattle.om_touches.proofs.Lists.{added_out}
+use Rattle.om_touches.specs.Lists.{added_out}
 use Rattle.om_history.proofs.OwnEntries.{own-added_out}
 use Rattle.om_history.proofs.Replies.{footprint_of}
 use Rattle.om_history.proofs.Indexed.{fresh, indexed_same, indexed_with, values_with}

@@ -1,6 +1,6 @@
 use Rattle.std.proofs.Common.{true, sym}
-use Rattle.om_touches.proofs.Lists.{on_ok, on_err}
-use Rattle.om_touches.proofs.ByWorker.{own-set, own-same, own-is_known, own-not_known}
+use Rattle.om_touches.specs.Lists.{on_ok, on_err}
+use Rattle.om_touches.specs.ByWorker.{own-set, own-same, own-is_known, own-not_known}
 use Rattle.om_touches.proofs.own.OwnEntries.add_known.Goals as goal
 
 pub unreachable-requires : goal.unreachable-requires

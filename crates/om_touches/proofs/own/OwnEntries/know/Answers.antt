@@ -1,5 +1,5 @@
 use Rattle.std.proofs.Common.{◌∙◌, sym}
-use Rattle.om_touches.proofs.ByWorker.{own-known, own-there, none_among}
+use Rattle.om_touches.specs.ByWorker.{own-known, own-there, none_among}
 use Rattle.om_touches.proofs.own.OwnEntries.know.Goals as goal
 
 pub returns-clause-same : goal.returns-clause-same

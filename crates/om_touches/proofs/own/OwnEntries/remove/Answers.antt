@@ -1,6 +1,6 @@
 use Rattle.std.proofs.Common.{◌∙◌, sym, ap, false}
 use Rattle.om_touches.specs.Touches.{is_in}
-use Rattle.om_touches.proofs.ByWorker.{serials_at, own-set, own-unset, own-is_known}
+use Rattle.om_touches.specs.ByWorker.{serials_at, own-set, own-unset, own-is_known}
 use Rattle.om_touches.proofs.own.OwnEntries.remove.Goals as goal
 
 pub returns-in-Some : goal.returns-in-Some

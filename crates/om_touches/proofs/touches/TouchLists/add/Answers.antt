@@ -1,7 +1,7 @@
 use Rattle.std.proofs.Common.{◌≡◌, true, subst, ◌∷◌, []}
 use Rattle.om_foot.specs.declared.footprint.Access.{Access}
 use Rattle.om_touches.specs.Touches.{AreWith}
-use Rattle.om_touches.proofs.Lists.{known_at, is_known, set_touches, same_touches, on_ok, on_err}
+use Rattle.om_touches.specs.Lists.{known_at, is_known, set_touches, same_touches, on_ok, on_err}
 use Rattle.om_touches.proofs.touches.TouchLists.add.Goals as goal
 
 pub returns-in-Some-clause-added : goal.returns-in-Some-clause-added

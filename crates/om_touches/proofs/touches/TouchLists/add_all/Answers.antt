@@ -1,4 +1,4 @@
-use Rattle.om_touches.proofs.Lists.{taken_out}
+use Rattle.om_touches.specs.Lists.{taken_out}
 use Rattle.om_touches.proofs.touches.TouchLists.add_all.Goals as goal
 
 pub returns-in-Err-clause-unchanged_on_error : goal.returns-in-Err-clause-unchanged_on_error

@@ -1,5 +1,5 @@
 use Rattle.std.proofs.Common.{true}
-use Rattle.om_touches.proofs.Lists.{set_next}
+use Rattle.om_touches.specs.Lists.{set_next}
 use Rattle.om_touches.proofs.touches.TouchLists.add_each.Goals as goal
 
 pub loop-access-preserved : goal.loop-access-preserved

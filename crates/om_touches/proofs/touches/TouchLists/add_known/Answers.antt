@@ -4,7 +4,7 @@ use Rattle.std.specs.Prelude.{is_some}
 use Rattle.om_foot.specs.declared.footprint.Access.{Access}
 use Rattle.om_foot.specs.Footprint.{obj_eq}
 use Rattle.om_touches.specs.Touches.{AreWith}
-use Rattle.om_touches.proofs.Lists.{known_at, is_known, not_known, set_touches, same_touches, on_ok, on_err}
+use Rattle.om_touches.specs.Lists.{known_at, is_known, not_known, set_touches, same_touches, on_ok, on_err}
 use Rattle.om_touches.proofs.touches.TouchLists.add_known.Goals as goal
 
 pub unreachable-requires : goal.unreachable-requires

@@ -2,8 +2,8 @@ use Rattle.std.proofs.Common.{◌≡◌, sym, ap, subst, Some, None}
 use Rattle.std.specs.Map.{lookup}
 use Rattle.om_foot.specs.Footprint.{obj_eq}
 use Rattle.om_touches.specs.Touches.{has_in, has_touch, meets_at, IsFirst}
-use Rattle.om_touches.proofs.Lists.{known_at, unknown_at}
-use Rattle.om_touches.proofs.Searches.{meets_at_none}
+use Rattle.om_touches.specs.Lists.{known_at, unknown_at}
+use Rattle.om_touches.specs.Searches.{meets_at_none}
 use Rattle.om_touches.proofs.touches.TouchLists.first_at.Goals as goal
 
 pub returns-in-Some : goal.returns-in-Some

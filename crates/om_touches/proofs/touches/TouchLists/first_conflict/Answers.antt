@@ -1,6 +1,6 @@
 use Rattle.std.proofs.Common.{sym, subst, take, ◌+◌}
 use Rattle.om_touches.specs.Touches.{has_touch, meets_at, meets, sooner, IsFirst}
-use Rattle.om_touches.proofs.Searches.{sooner-first, IsFirst-same, meets_next}
+use Rattle.om_touches.specs.Searches.{sooner-first, IsFirst-same, meets_next}
 use Rattle.om_touches.proofs.touches.TouchLists.first_conflict.Goals as goal
 
 pub loop-access-preserved : goal.loop-access-preserved

@@ -3,7 +3,7 @@ use Rattle.std.specs.Prelude.{is_some}
 use Rattle.std.specs.Map.{lookup}
 use Rattle.om_foot.specs.Footprint.{obj_eq}
 use Rattle.om_foot.specs.Objects.{lookup-is_at}
-use Rattle.om_touches.proofs.Lists.{absent_at, known_same, known_there}
+use Rattle.om_touches.specs.Lists.{absent_at, known_same, known_there}
 use Rattle.om_touches.proofs.touches.TouchLists.know.Goals as goal
 
 pub returns-then-contains_key-clause-known : goal.returns-then-contains_key-clause-known

@@ -3,7 +3,7 @@ use Rattle.std.specs.Map.{lookup}
 use Rattle.om_foot.specs.declared.footprint.Access.{Access}
 use Rattle.om_foot.specs.Footprint.{obj_eq}
 use Rattle.om_touches.specs.Touches.{has_in, AreWithout}
-use Rattle.om_touches.proofs.Lists.{known_at, is_known, unknown_at, set_touches, unset_unknown}
+use Rattle.om_touches.specs.Lists.{known_at, is_known, unknown_at, set_touches, unset_unknown}
 use Rattle.om_touches.proofs.touches.TouchLists.remove.Goals as goal
 
 pub returns-in-Some : goal.returns-in-Some

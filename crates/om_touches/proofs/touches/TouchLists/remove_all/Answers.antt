@@ -1,5 +1,5 @@
 use Rattle.std.proofs.Common.{false}
-use Rattle.om_touches.proofs.Lists.{set_next}
+use Rattle.om_touches.specs.Lists.{set_next}
 use Rattle.om_touches.proofs.touches.TouchLists.remove_all.Goals as goal
 
 pub loop-access-preserved : goal.loop-access-preserved

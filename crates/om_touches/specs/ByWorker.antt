@@ -1,4 +1,4 @@
--- Each worker's own entries, with and without one.
+-- Matter of proofs: each worker's serials, with and without one.
 use Rattle.std.proofs.Common.{◌≡◌, refl, sym, ◌∙◌, ap, subst, Bool, true, false, cond, ◌&&◌, nat_eq, ℕ, arith}
 use Rattle.std.proofs.Common.{MutBor, Option, None, Some, List, []}
 use Rattle.std.proofs.lemmas.Bool.Decides.{nat_tests, Decides-eqb}
@@ -9,7 +9,8 @@ use Rattle.std.specs.Ordering.{nat_cmp}
 use Rattle.std.specs.BTreeMap.{is_at}
 use Rattle.std.specs.BTreeSet.{BTreeSet}
 use Rattle.std.specs.Map.{lookup}
-use Rattle.om_touches.specs.Touches.{has, is_in}
+use Rattle.om_touches.specs.Touches.{is_in}
+use Rattle.om_touches.specs.Serials.{is_among}
 
 abbrev pub Workers : Type 0
 Workers = List (ℕ × BTreeSet ℕ)
@@ -42,7 +43,7 @@ with_none false b x = refl
 -- a change of a worker's serials is one of its own entries
 pub own-set : (b : Bool) (es fs : Workers) (worker serial : ℕ) (old x : BTreeSet ℕ)
     → serials_at es worker ≡ Some old → Puts es fs worker x
-    → ((s : ℕ) → has x s ≡ cond (nat_eq serial s) b (has old s))
+    → ((s : ℕ) → is_among x s ≡ cond (nat_eq serial s) b (is_among old s))
     → (w s : ℕ) → is_in (serials_at fs w) s ≡ cond (nat_eq serial s && nat_eq worker w) b (is_in (serials_at es w) s)
 own-set b es fs worker serial old x there puts changed w s =
     ap (λ o. is_in o s) (puts_at es fs worker x puts w) ∙ go (nat_eq worker w) refl
@@ -51,13 +52,13 @@ own-set b es fs worker serial old x there puts changed w s =
         ≡ cond (nat_eq serial s && same) b (is_in (serials_at es w) s)
     go false is = with_none (nat_eq serial s) b (is_in (serials_at es w) s)
     go true is =
-        changed s ∙ with_all (nat_eq serial s) b (has old s)
+        changed s ∙ with_all (nat_eq serial s) b (is_among old s)
         ∙ ap (λ o. cond (nat_eq serial s && true) b (is_in o s))
         (sym there ∙ ap (serials_at es) (number_is worker w is))
 
 -- the same serials in the place of others change nothing
 pub own-same : (es fs : Workers) (worker : ℕ) (old x : BTreeSet ℕ)
-    → serials_at es worker ≡ Some old → Puts es fs worker x → ((s : ℕ) → has x s ≡ has old s)
+    → serials_at es worker ≡ Some old → Puts es fs worker x → ((s : ℕ) → is_among x s ≡ is_among old s)
     → (w s : ℕ) → is_in (serials_at fs w) s ≡ is_in (serials_at es w) s
 own-same es fs worker old x there puts same w s =
     ap (λ o. is_in o s) (puts_at es fs worker x puts w) ∙ go (nat_eq worker w) refl
@@ -68,9 +69,9 @@ own-same es fs worker old x there puts same w s =
     go true is = same s
         ∙ sym (ap (λ o. is_in o s) (ap (serials_at es) (sym (number_is worker w is)) ∙ there))
 
--- a worker that gets to be known has no entry
+-- a worker that gets to be known is_among no entry
 pub own-known : (es fs : Workers) (worker : ℕ) (x : BTreeSet ℕ)
-    → is_some (serials_at es worker) ≡ false → Puts es fs worker x → ((s : ℕ) → has x s ≡ false)
+    → is_some (serials_at es worker) ≡ false → Puts es fs worker x → ((s : ℕ) → is_among x s ≡ false)
     → (w s : ℕ) → is_in (serials_at fs w) s ≡ is_in (serials_at es w) s
 own-known es fs worker x none puts new w s =
     ap (λ o. is_in o s) (puts_at es fs worker x puts w) ∙ go (nat_eq worker w) refl
@@ -85,7 +86,7 @@ own-known es fs worker x none puts new w s =
     go true is = new s
         ∙ sym (absent (serials_at es w) (ap (λ n. is_some (serials_at es n)) (sym (number_is worker w is)) ∙ none))
 
-pub none_among : (x : BTreeSet ℕ) → x.keys ≡ [] → (s : ℕ) → has x s ≡ false
+pub none_among : (x : BTreeSet ℕ) → x.keys ≡ [] → (s : ℕ) → is_among x s ≡ false
 none_among x h s = ap (list_any (is_at (nat_cmp s))) h
 
 -- and then it is known
@@ -108,7 +109,7 @@ none_in : (b : Bool) → false ≡ cond b false false
 none_in true = refl
 none_in false = refl
 
--- a worker that is not known has no entry to take out
+-- a worker that is not known is_among no entry to take out
 pub own-unset : (es : Workers) (worker serial : ℕ) → serials_at es worker ≡ None
     → (w s : ℕ) → is_in (serials_at es w) s
     ≡ cond (nat_eq serial s && nat_eq worker w) false (is_in (serials_at es w) s)

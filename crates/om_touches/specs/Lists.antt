@@ -1,4 +1,4 @@
--- Touch lists with and without the touches of an entry.
+-- Matter of proofs: touch lists with and without the touches of an entry.
 use Rattle.std.proofs.Common.{◌≡◌, refl, sym, ◌∙◌, ap, subst, Bool, true, false, cond, ◌&&◌, nat_eq, ℕ, zero, suc, ◌+◌, ◌<◌}
 use Rattle.std.proofs.Common.{Option, None, Some, List, [], ◌∷◌, ◌++◌, take, get_or, length}
 use Rattle.std.proofs.lemmas.List.{take_more}
@@ -16,7 +16,8 @@ use Rattle.om_foot.specs.contracts.object.ObjOrd.TheImpl.{cmp-value}
 use Rattle.om_foot.specs.Objects.{lookup-is_at, cmp-is_eq, obj_eq-true, obj_eq-same}
 use Rattle.om_touches.specs.declared.touches.Touches.{Touches}
 use Rattle.om_touches.specs.declared.touches.TouchLists.{TouchLists}
-use Rattle.om_touches.specs.Touches.{mode_eq, names, has, list_of, has_in, has_touch, AreSame}
+use Rattle.om_touches.specs.Touches.{mode_eq, names, list_of, has_in, has_touch, AreSame}
+use Rattle.om_touches.specs.Serials.{has}
 
 -- lists with one entry's touches there, or not there
 abbrev pub AreSet : Bool → List Access → ℕ → TouchLists → TouchLists → Type 0

@@ -1,4 +1,4 @@
--- The first serial that passes one of two tests, and the first entry that conflicts with a footprint.
+-- Matter of proofs: the first serial that passes one of two tests, and the first entry that conflicts with a footprint.
 use Rattle.std.proofs.Common.{◌≡◌, refl, sym, ◌∙◌, ap, Bool, true, false, cond, ◌&&◌, nat_le, ℕ, ◌<◌, ◌≤◌, arith}
 use Rattle.std.proofs.Common.{Option, None, Some, List, [], ◌∷◌, ◌++◌, ◌⊎◌, inl, inr, ⊎_elim, ◌+◌, take, get_or, length}
 use Rattle.std.specs.Prelude.{is_some, min}

@@ -1,3 +1,0 @@
-pub mod Searches
-pub mod Lists
-pub mod ByWorker
