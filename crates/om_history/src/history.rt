@@ -30,11 +30,23 @@ use std::alloc::{AllocError, Global};
 /// Contracts see it as the past that it holds (`past_in`): the state, the undo records that the small
 /// ones stand for, and how many steps were ever made. They speak of any rules under which commands
 /// led to it (`IsHeld`), so that it serves every program.
-#[derive(Drop)]
 pub struct History {
     store: Store,
     records: Records,
     made: u64,
+}
+
+// By hand: crates above call this, and do not prove anew how each part is dropped.
+impl Drop for History {
+    fn drop(self) {
+        let History {
+            store,
+            records,
+            made: _,
+        } = self;
+        drop(store);
+        drop(records);
+    }
 }
 
 /// The fault that a worker comes to by edits of its control, or met before them.

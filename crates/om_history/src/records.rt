@@ -39,11 +39,20 @@ pub struct UndoRecord {
 /// first entry that conflicts with one, and each worker's last one.
 ///
 /// Contracts see the records, in the order of their serials, which rise.
-#[derive(Drop)]
 pub struct Records {
     kept: BTreeMap<u64, Kept>,
     lists: TouchLists,
     own: OwnEntries,
+}
+
+// By hand: crates above call this, and do not prove anew how each part is dropped.
+impl Drop for Records {
+    fn drop(self) {
+        let Records { kept, lists, own } = self;
+        drop(kept);
+        drop(lists);
+        drop(own);
+    }
 }
 
 impl Model for Records {
@@ -60,7 +69,7 @@ impl Model for Records {
 }
 
 /// Adds the touches of an entry to both lists. When out of memory, no touch changes.
-#[tactic(auto, using(om_touches::proofs::Lists::added_out))]
+#[tactic(auto, using(om_touches::specs::Lists::added_out))]
 fn note(
     lists: &mut TouchLists,
     own: &mut OwnEntries,

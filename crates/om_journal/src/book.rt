@@ -24,12 +24,24 @@ use std::snapshot::Snapshot;
 pub const MAX_RECORDS: u64 = 200_000;
 
 /// A call that was answered.
-#[derive(Drop)]
 pub struct JournalRecord {
     /// The number of the seat that made it, from 0.
     pub seat: u8,
     pub command: KeptCommand,
     pub reply: Reply,
+}
+
+// By hand: crates above call this, and do not prove anew how each part is dropped.
+impl Drop for JournalRecord {
+    fn drop(self) {
+        let JournalRecord {
+            seat: _,
+            command,
+            reply,
+        } = self;
+        drop(command);
+        drop(reply);
+    }
 }
 
 // There are up to 200,000 of them.
@@ -48,11 +60,23 @@ pub enum CallError {
 /// Contracts see the machine at its opening and the journal. The machine where it stands is no part
 /// of what they see: it is always the one that the commands of the journal, in order, leave
 /// (`machine_of`).
-#[derive(Drop)]
 pub struct Book {
     machine: Machine,
     start: Snapshot<Machine>,
     journal: Vec<JournalRecord>,
+}
+
+// By hand: crates above call this, and do not prove anew how each part is dropped.
+impl Drop for Book {
+    fn drop(self) {
+        let Book {
+            machine,
+            start: _,
+            journal,
+        } = self;
+        drop(machine);
+        drop(journal);
+    }
 }
 
 impl Model for Book {

@@ -29,12 +29,20 @@ use std::alloc::{AllocError, Global};
 /// Contracts see the store as the state `state_of`, whether an object is kept as `is_kept`, and what
 /// the controls were before their changes as `pasts_of`. What is kept can be put back without a
 /// request for memory.
-#[derive(Drop)]
 pub struct Store {
     /// The controls of the first workers; the others are idle.
     trails: Vec<Trail>,
     /// What the other objects hold.
     values: Values,
+}
+
+// By hand: crates above call this, and do not prove anew how each part is dropped.
+impl Drop for Store {
+    fn drop(self) {
+        let Store { trails, values } = self;
+        drop(trails);
+        drop(values);
+    }
 }
 
 /// The worker whose control an object is, if it is one.

@@ -417,10 +417,18 @@ pub struct ResolvedFunction {
 }
 
 /// A whole source, resolved.
-#[derive(Drop)]
 pub struct Resolved {
     /// The globals, in the order of their numbers.
     pub globals: Seq<GlobalVariable>,
     /// The functions, in the order of their definitions, which is that of their numbers.
     pub functions: Vec<ResolvedFunction>,
+}
+
+// By hand: crates above call this, and do not prove anew how each part is dropped.
+impl Drop for Resolved {
+    fn drop(self) {
+        let Resolved { globals, functions } = self;
+        drop(globals);
+        drop(functions);
+    }
 }

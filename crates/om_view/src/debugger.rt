@@ -25,10 +25,18 @@ use std::sync::Wait;
 use std::thread::Threads;
 
 /// A book, which each command is applied to, and where its runs stop.
-#[derive(Drop)]
 pub struct Debugger {
     book: Book,
     marks: Marks,
+}
+
+// By hand: crates above call this, and do not prove anew how each part is dropped.
+impl Drop for Debugger {
+    fn drop(self) {
+        let Debugger { book, marks } = self;
+        drop(book);
+        drop(marks);
+    }
 }
 
 impl Debugger {
