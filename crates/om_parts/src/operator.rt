@@ -1,5 +1,4 @@
 //! Operators, and what an operand may begin with.
-#![tactic(auto, unfolding(crate::specs::ExpressionReading::take_operator, crate::specs::Reading::take))]
 
 ghost use Rattle.std.specs.Prelude.{◌≡◌, ◌-◌, IfOk, nat_le, option_map};
 ghost use Rattle.om_parts.specs.ExpressionReading.{assign_of, binary_of, level_operator, postfix_of, prefix_of, prefixed, take_assign, take_operator, take_text, text_of};
@@ -107,6 +106,7 @@ fn is_unary(expression: &Expression) -> bool
 }
 
 /// The operator before an operand that stands first, its span, and the tokens behind it.
+#[tactic(auto, unfolding(crate::specs::ExpressionReading::take_operator, crate::specs::Reading::take))]
 pub fn take_prefix(tokens: &[Token]) -> Option<(PrefixOperator, Span, &[Token])>
     ensures { Takes result (take_operator prefix_of tokens.now) }
 {
@@ -118,6 +118,7 @@ pub fn take_prefix(tokens: &[Token]) -> Option<(PrefixOperator, Span, &[Token])>
 }
 
 /// The operator behind an operand that stands first, its span, and the tokens behind it.
+#[tactic(auto, unfolding(crate::specs::ExpressionReading::take_operator, crate::specs::Reading::take))]
 pub fn take_postfix(tokens: &[Token]) -> Option<(PostfixOperator, Span, &[Token])>
     ensures { Takes result (take_operator postfix_of tokens.now) }
 {
@@ -141,6 +142,7 @@ fn operator_of_level(kind: &TokenKind, wanted: usize) -> Option<BinaryOperator>
 }
 
 /// The binary operator of this level that stands first, its span, and the tokens behind it.
+#[tactic(auto, unfolding(crate::specs::ExpressionReading::take_operator, crate::specs::Reading::take))]
 fn take_binary(tokens: &[Token], wanted: usize) -> Option<(BinaryOperator, Span, &[Token])>
     ensures { Takes result (take_operator (level_operator wanted) tokens.now) }
 {
@@ -160,6 +162,7 @@ pub fn take_looser(tokens: &[Token], tighter: usize) -> Option<(BinaryOperator, 
 }
 
 /// The assignment that stands first, its span, and the tokens behind it.
+#[tactic(auto, unfolding(crate::specs::ExpressionReading::take_operator, crate::specs::Reading::take))]
 fn take_any_assign(tokens: &[Token]) -> Option<(AssignOperator, Span, &[Token])>
     ensures { Takes result (take_operator assign_of tokens.now) }
 {
@@ -188,6 +191,7 @@ pub fn take_assign<'a>(
 }
 
 /// The text that stands first, and the tokens behind it.
+#[tactic(auto, unfolding(crate::specs::Reading::take))]
 fn take_any_text(alloc: Global, tokens: &[Token]) -> Result<Option<(Text, &[Token])>, AllocError>
     ensures { IfOk result (λ found. option_map (λ x. (x.0, x.1.now)) found ≡ take
         (λ t. text_of t.kind t.span) tokens.now) }
