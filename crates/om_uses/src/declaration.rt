@@ -113,6 +113,7 @@ fn resolve_initializer(
 }
 
 /// Declares the name of a local variable: S8, S9.
+#[tactic(auto, using(om_rules::specs::InRow::first_of_left))]
 fn declare_name(
     alloc: Global,
     symbols: &mut Symbols,
@@ -203,6 +204,7 @@ fn resolve_further_locals(
 }
 
 /// Declares the variables of a declaration in a function.
+#[tactic(auto, using(om_rules::specs::InRow::first_of_left))]
 fn add_locals(
     alloc: Global,
     symbols: &mut Symbols,

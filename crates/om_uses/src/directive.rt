@@ -70,6 +70,7 @@ fn variable_in(meaning: Option<Meaning>) -> Option<Variable>
 }
 
 /// The variable of a name in the list of a clause: S7, S9, S13.
+#[tactic(auto, using(om_rules::specs::InRow::first_of_left))]
 fn resolve_listed(
     symbols: &Symbols,
     sharing: DataSharing,
@@ -136,6 +137,7 @@ struct Listing<'a> {
 }
 
 /// Takes a name in the list of a clause.
+#[tactic(auto, using(om_rules::specs::InRow::first_of_left))]
 fn list_name(
     listing: &Listing<'_>,
     listed: &mut Listed,
@@ -182,6 +184,7 @@ fn list_further_names(
 }
 
 /// Takes the names of a list.
+#[tactic(auto, using(om_rules::specs::InRow::first_of_left))]
 fn list_names(
     listing: &Listing<'_>,
     listed: &mut Listed,
@@ -302,6 +305,7 @@ fn resolve_clauses(
 /// Refusals: S14 at the word of a worksharing construct or a barrier that may not stand there (OpenMP
 /// API 5.2, section 17.1); S7, S9 and S13 at a listed name; those of a clause's expression; S0 out of
 /// memory. Nothing is declared.
+#[tactic(auto, using(om_rules::specs::InRow::first_of_left))]
 pub fn resolve_directive(
     alloc: Global,
     symbols: &Symbols,

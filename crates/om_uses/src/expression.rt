@@ -243,6 +243,7 @@ fn resolve_target(
 }
 
 /// An element of an array: the array and the index.
+#[tactic(auto, using(om_rules::specs::InRow::first_of_left))]
 #[cycle(expression)]
 fn resolve_element(
     alloc: Global,
@@ -283,6 +284,7 @@ fn resolve_call(
 }
 
 /// A call of `printf`: S9, S11.
+#[tactic(auto, using(om_rules::specs::InRow::first_of_left))]
 #[cycle(expression)]
 fn resolve_print(
     alloc: Global,
@@ -353,6 +355,7 @@ fn resolve_argument(
 }
 
 /// A call of another function than `printf`.
+#[tactic(auto, using(om_rules::specs::InRow::first_of_left))]
 #[cycle(expression)]
 fn resolve_own_call(
     alloc: Global,

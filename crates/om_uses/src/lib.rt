@@ -1,6 +1,6 @@
 //! Uses: expressions, declarations, directives and the bounds of loops. Each has its breaches or its
 //! resolution.
-#![tactic(auto, using(om_rules::specs::InRow::first_of_left))]
+#![tactic(auto)]
 
 mod bounds;
 mod call;
