@@ -51,6 +51,7 @@ fn enter_listed(symbols: &mut Symbols, kind: RegionKind, listed: Listed) -> Resu
 }
 
 /// Enters a construct that is for a loop, after its clauses and the loop's bounds.
+#[tactic(auto, using(om_rules::specs::InRow::first_of_left))]
 pub fn enter_loop_construct(
     alloc: Global,
     symbols: &mut Symbols,

@@ -18,6 +18,7 @@ use om_uses::{boxed, boxed_expression, resolve_locals, unboxed};
 use std::alloc::Global;
 
 /// What a `for` has before its body: what it begins with, its condition and its step.
+#[tactic(auto, using(om_rules::specs::InRow::first_of_left))]
 pub fn resolve_for_head(
     alloc: Global,
     symbols: &mut Symbols,
@@ -97,6 +98,7 @@ fn resolve_for_start(
 }
 
 /// The condition and the step of a `for`.
+#[tactic(auto, using(om_rules::specs::InRow::first_of_left))]
 fn resolve_for_turn(
     alloc: Global,
     symbols: &Symbols,

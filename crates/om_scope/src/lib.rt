@@ -1,5 +1,5 @@
 //! Resolving: a tree to the tree in which every use has its variable (C17 6.2.1).
-#![tactic(auto, using(om_rules::specs::InRow::first_of_left))]
+#![tactic(auto)]
 
 mod assembly;
 mod entering;

@@ -241,6 +241,7 @@ fn resolve_block(
 }
 
 /// A `for`, in a scope of its own.
+#[tactic(auto, using(om_rules::specs::InRow::first_of_left))]
 #[cycle(statement)]
 fn resolve_for(
     alloc: Global,
@@ -291,6 +292,7 @@ fn resolve_construct(
 }
 
 /// A construct that is for any statement.
+#[tactic(auto, using(om_rules::specs::InRow::first_of_left))]
 #[cycle(statement)]
 fn resolve_plain_construct(
     alloc: Global,
@@ -322,6 +324,7 @@ fn resolve_plain_construct(
 }
 
 /// A construct that is for a loop: S12.
+#[tactic(auto, using(om_rules::specs::InRow::first_of_left))]
 #[cycle(statement)]
 fn resolve_loop_construct(
     alloc: Global,
@@ -409,6 +412,7 @@ fn resolve_repeated(
 }
 
 /// A construct of parts.
+#[tactic(auto, using(om_rules::specs::InRow::first_of_left))]
 #[cycle(statement)]
 fn resolve_sections(
     alloc: Global,
@@ -459,6 +463,7 @@ fn resolve_parts(
 }
 
 /// A part of `sections` behind so many of them, which is a block of its own.
+#[tactic(auto, using(om_rules::specs::InRow::first_of_left))]
 #[cycle(statement)]
 fn resolve_part(
     alloc: Global,
