@@ -20,3 +20,8 @@ pub mod StatementResolution
 pub mod Proper
 pub mod ProperConstructs
 pub mod UnitResolution
+pub mod Knowing
+pub mod WholeLaws
+pub mod Behind
+pub mod TreePlaces
+pub mod PlaceLaws

@@ -1,5 +1,4 @@
--- Matter of proofs: a construct of a proper tree has a resolution where its statement has one, for om_scope and
--- om_whole.
+-- Matter of proofs, for om_scope too: a construct of a proper tree has a resolution where its statement has one.
 use Rattle.std.proofs.Common.{◌≡◌, ℕ, Bool, true, false, List, Option, None, Some, refl, subst}
 use Rattle.std.specs.Prelude.{IfSome, IsSome, ◌&&◌}
 use Rattle.om_lexer.specs.declared.token.Span.{Span}

@@ -25,10 +25,10 @@ use om_lexer::{FaultCode, SourceFault};
 use om_names::{Symbols, add_predeclared};
 use om_resolved::{GlobalVariable, Resolved, ResolvedFunction};
 use om_rules::Names;
+use om_rules::laws::{atomics_assign, unbroken_trees_are_resolved, unbroken_trees_are_whole};
 use om_seq::Seq;
 use om_tree::{Item, Unit};
 use om_uses::{add, declare_globals};
-use om_whole::laws::{atomics_assign, unbroken_trees_are_resolved, unbroken_trees_are_whole};
 use std::alloc::{AllocError, Global};
 
 /// Adds the function that an item defines.

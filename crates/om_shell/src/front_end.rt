@@ -11,7 +11,7 @@ use om_code::Program;
 use om_lexer::{SourceFault, lex};
 use om_lower::lower;
 use om_parser::{Unit, parse};
-use om_places::laws::sources_have_copies_behind;
+use om_rules::laws::sources_have_copies_behind;
 use om_scope::{Resolved, resolve};
 use std::alloc::Global;
 

@@ -1,5 +1,0 @@
-use Rattle.om_places.proofs.Copies.{copies_stand_behind}
-use Rattle.om_places.proofs.laws.copies_stand_behind.Goals as goal
-
-pub returns : goal.returns
-returns c = copies_stand_behind

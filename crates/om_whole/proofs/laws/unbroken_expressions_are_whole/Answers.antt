@@ -1,5 +1,0 @@
-use Rattle.om_whole.proofs.ExpressionsWhole.{whole_expression}
-use Rattle.om_whole.proofs.laws.unbroken_expressions_are_whole.Goals as goal
-
-pub returns : goal.returns
-returns c = whole_expression

@@ -1,2 +1,0 @@
-pub mod Knowing
-pub mod Laws
