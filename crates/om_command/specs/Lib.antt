@@ -2,3 +2,9 @@ pub mod Words
 pub mod Arguments
 pub mod Verbs
 pub mod Commands
+pub mod Objects
+pub mod Steps
+pub mod Values
+pub mod Places
+pub mod Lists
+pub mod Stops

@@ -3,7 +3,7 @@
 ghost use Rattle.std.specs.Prelude.{◌≡◌, ◌++◌, OnOk};
 ghost use Rattle.om_draw.specs.Escapes.{escaped, escaped_byte, attribute_text};
 
-use om_replies::push_numbered;
+use om_command::push_numbered;
 use std::alloc::AllocError;
 
 /// Appends a byte as text of a page.

@@ -4,8 +4,8 @@ use crate::escape::{push_attribute, push_escaped};
 use crate::marks::push_hue;
 use crate::scale::Scale;
 use crate::style::{HEAD, HEADS, LEGEND};
+use om_command::push_numbered;
 use om_picture::StepBox;
-use om_replies::push_numbered;
 use std::alloc::AllocError;
 
 /// How large a picture is.

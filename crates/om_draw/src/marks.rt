@@ -5,8 +5,8 @@ ghost use Rattle.om_draw.specs.Marks.{hue_of, corner_text, title_text, hue_text,
 
 use crate::escape::{push_after, push_attribute};
 use crate::scale::Scale;
+use om_command::push_numbered;
 use om_picture::StepBox;
-use om_replies::push_numbered;
 use std::alloc::AllocError;
 
 /// The hue of a source line, in degrees; lines near one another differ much.

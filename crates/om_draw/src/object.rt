@@ -6,8 +6,8 @@ ghost use Rattle.om_draw.specs.Objects.{named_text, numbered_text, cell_words, i
 
 use crate::escape::{push_after, push_escaped};
 use om_code::Program;
+use om_command::push_numbered;
 use om_foot::{Name, Obj};
-use om_replies::push_numbered;
 use std::alloc::AllocError;
 
 /// Appends the words for an object: a global variable has its name in the source.

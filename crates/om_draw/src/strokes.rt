@@ -7,9 +7,9 @@ use crate::escape::push_attribute;
 use crate::object::push_object;
 use crate::scale::{Scale, label_base};
 use om_code::Program;
+use om_command::push_numbered;
 use om_foot::Obj;
 use om_picture::{Arrow, End};
-use om_replies::push_numbered;
 use std::alloc::AllocError;
 
 /// Appends what is shown of an arrow when it is pointed at.

@@ -10,7 +10,7 @@ use Rattle.om_hunt.specs.declared.hunted.Hunted.{Hunted}
 use Rattle.om_hunt.specs.declared.hunted.Hunted.TheVariants as hunted
 use Rattle.om_hunt.specs.declared.judge.Badness.{Badness}
 use Rattle.om_hunt.specs.declared.judge.Badness.TheVariants as badness
-use Rattle.om_replies.specs.Lists.{joined}
+use Rattle.om_command.specs.Lists.{joined}
 
 -- a byte in quotes: line ends, quotes and backslashes stand behind a backslash
 abbrev pub byte_text : ℕ → List ℕ

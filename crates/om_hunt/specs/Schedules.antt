@@ -3,7 +3,7 @@ use Rattle.std.specs.Prelude.{ℕ, zero, suc, List, [], ◌++◌, codes, decimal
 use Rattle.om_foot.specs.Names.{name_text}
 use Rattle.om_hunt.specs.declared.block.Block.{Block}
 use Rattle.om_hunt.specs.declared.block.Block.TheVariants.{Steps, Start}
-use Rattle.om_replies.specs.Lists.{joined}
+use Rattle.om_command.specs.Lists.{joined}
 
 -- how many steps a block is
 abbrev pub steps_of : Block → ℕ

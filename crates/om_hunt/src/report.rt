@@ -1,15 +1,15 @@
 //! The text of a report: words, an empty line, and the script.
 
 ghost use Rattle.std.specs.Prelude.{◌≡◌, ◌++◌, OnOk};
-ghost use Rattle.om_replies.specs.Lists.{joined};
+ghost use Rattle.om_command.specs.Lists.{joined};
 ghost use Rattle.om_hunt.specs.Reports.{byte_text, quoted, seed_text, outputs_text, fault_words, badness_text, block_words, length_text, words_text, found_text, limits_text, nothing_text, report_text};
 
 use crate::block::Block;
 use crate::hunted::{Found, Hunted};
 use crate::judge::Badness;
 use om_code::frame::Fault;
+use om_command::push_numbered;
 use om_foot::Name;
-use om_replies::push_numbered;
 use std::alloc::AllocError;
 
 /// Appends what came of a hunt.

@@ -1,12 +1,12 @@
 //! Scripts: a schedule as ompback's commands.
 
 ghost use Rattle.std.specs.Prelude.{◌≡◌, ◌++◌, IfOk, OnOk};
-ghost use Rattle.om_replies.specs.Lists.{joined};
+ghost use Rattle.om_command.specs.Lists.{joined};
 ghost use Rattle.om_hunt.specs.Schedules.{step_text, start_text, times, block_text, schedule_text};
 
 use crate::block::Block;
+use om_command::push_numbered;
 use om_foot::Name;
-use om_replies::push_numbered;
 use std::alloc::{AllocError, Global};
 
 /// How many steps `run` finishes a schedule with, at most.

@@ -6,7 +6,7 @@ use crate::words::number;
 use om_code::instruction::Instr;
 use om_code::raw::{Scope, Source};
 use om_code::{Body, Program};
-use om_replies::push_numbered;
+use om_command::push_numbered;
 use std::alloc::{AllocError, Global};
 
 // A cell, by the words that an answer has for it.

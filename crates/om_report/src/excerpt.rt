@@ -2,9 +2,9 @@
 
 use crate::place::{front_of, line_behind, rest_of};
 use crate::token::{line_front, line_rest, name_before, token_at};
+use om_command::push_numbered;
 use om_explain::{help_for, is_left_out, refusal_words};
 use om_lexer::{FaultCode, SourceFault};
-use om_replies::push_numbered;
 use std::alloc::{AllocError, Global};
 
 // What stands round the place of a refusal.

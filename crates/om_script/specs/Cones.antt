@@ -4,8 +4,8 @@ use Rattle.om_history.specs.declared.reply.Taken.{Taken}
 use Rattle.om_history.specs.declared.reply.RollReply.TheVariants.{NoEntry}
 use Rattle.om_history.specs.Cones.{taken_by_roll}
 use Rattle.om_history.specs.Commands.{IsGone}
-use Rattle.om_replies.specs.Lists.{joined, roll_text}
-use Rattle.om_replies.specs.Steps.{entry_text}
+use Rattle.om_command.specs.Lists.{joined, roll_text}
+use Rattle.om_command.specs.Steps.{entry_text}
 use Rattle.om_undo.specs.Machines.{MachineView, rules_for}
 
 -- a step as `history` has it

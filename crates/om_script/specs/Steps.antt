@@ -4,7 +4,7 @@ use Rattle.om_foot.specs.Names.{name_text}
 use Rattle.om_cells.specs.declared.step.Choice.{Choice}
 use Rattle.om_cells.specs.declared.step.Choice.TheVariants.{Next, Start}
 use Rattle.om_cells.specs.declared.step.Entry.{Entry}
-use Rattle.om_replies.specs.Lists.{joined}
+use Rattle.om_command.specs.Lists.{joined}
 
 -- the command that makes a worker's step by a choice
 abbrev pub command_text : ℕ → Choice → List ℕ

@@ -3,7 +3,7 @@
 ghost use Rattle.std.specs.Prelude.{◌≡◌, ◌<◌, ◌≤◌, ◌++◌, Some, map, reverse, IfOk, OnOk, IfSome};
 ghost use Rattle.std.specs.Option.{option_copied};
 ghost use Rattle.om_journal.specs.Books.{machine_of};
-ghost use Rattle.om_replies.specs.Lists.{joined, roll_text};
+ghost use Rattle.om_command.specs.Lists.{joined, roll_text};
 ghost use Rattle.om_script.specs.Cones.{taken_line, cone_text, IsConeOf};
 ghost use Rattle.om_script.specs.Sessions.{IsConeFor};
 
@@ -11,9 +11,9 @@ use crate::answer::{Script, ScriptFault};
 use crate::input::read_all;
 use crate::run::{Ran, run_over};
 use crate::source::{Session, session_of};
+use om_command::{push_numbered, push_roll};
 use om_history::{RollReply, Taken};
 use om_journal::Book;
-use om_replies::{push_numbered, push_roll};
 use om_shell::Options;
 use std::alloc::{AllocError, Global};
 use std::io::Read;

@@ -1,11 +1,11 @@
 //! Steps as commands.
 
 ghost use Rattle.std.specs.Prelude.{◌≡◌, ◌++◌, IfOk, OnOk};
-ghost use Rattle.om_replies.specs.Lists.{joined};
+ghost use Rattle.om_command.specs.Lists.{joined};
 ghost use Rattle.om_script.specs.Steps.{command_line, script_text};
 
 use om_cells::{Choice, Entry};
-use om_replies::push_numbered;
+use om_command::push_numbered;
 use std::alloc::{AllocError, Global};
 
 /// The commands that make the steps of entries.

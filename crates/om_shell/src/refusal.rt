@@ -2,8 +2,8 @@
 ghost use Rattle.std.specs.Prelude.{◌≡◌, ◌++◌, ◌≤◌, take, length, decimal, codes, OnOk};
 ghost use Rattle.om_shell.specs.Places.{line_after, column_after, refusal_text};
 
+use om_command::push_number;
 use om_lexer::SourceFault;
-use om_replies::push_number;
 use std::alloc::AllocError;
 
 // The part of a source that stands before a place.

@@ -6,9 +6,9 @@ use Rattle.om_cells.specs.declared.step.Choice.TheVariants.{Next, Start}
 use Rattle.om_cells.specs.declared.step.Outcome.{Outcome}
 use Rattle.om_cells.specs.declared.step.Outcome.TheVariants as outcome
 use Rattle.om_cells.specs.declared.step.Update.{Update}
-use Rattle.om_replies.specs.Steps.{full_text, step_text, undo_text}
-use Rattle.om_replies.specs.Lists.{joined}
-use Rattle.om_replies.specs.declared.stop.Stop.TheVariants as stop
+use Rattle.om_command.specs.Steps.{full_text, step_text, undo_text}
+use Rattle.om_command.specs.Lists.{joined}
+use Rattle.om_command.specs.declared.stop.Stop.TheVariants as stop
 use Rattle.om_cells.specs.Values.{control_in}
 use Rattle.om_foot.specs.declared.object.Obj.TheVariants as object
 use Rattle.om_cells.specs.declared.step.Entry.{Entry}

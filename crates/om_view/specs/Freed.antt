@@ -6,8 +6,8 @@ use Rattle.om_journal.specs.Journals.{done_in}
 use Rattle.om_journal.specs.Runs.{after, reply_to}
 use Rattle.om_journal.specs.declared.book.JournalRecord.{JournalRecord}
 use Rattle.om_journal.specs.declared.command.Command.{Command}
-use Rattle.om_replies.specs.Steps.{full_text}
-use Rattle.om_replies.specs.Stops.{freed_text}
+use Rattle.om_command.specs.Steps.{full_text}
+use Rattle.om_command.specs.Stops.{freed_text}
 use Rattle.om_undo.specs.Machines.{MachineView}
 use Rattle.om_view.specs.Said.{Said}
 

@@ -9,8 +9,8 @@ use Rattle.om_command.specs.declared.command.Variable.{Variable}
 use Rattle.om_lookup.specs.declared.visible.Var.{Var}
 use Rattle.om_lookup.specs.declared.visible.Var.TheVariants as var
 use Rattle.om_lookup.specs.Visible.{variable_at}
-use Rattle.om_replies.specs.declared.value.GlobalCell.{GlobalCell}
-use Rattle.om_replies.specs.Objects.{length_of}
+use Rattle.om_command.specs.declared.value.GlobalCell.{GlobalCell}
+use Rattle.om_command.specs.Objects.{length_of}
 use Rattle.om_steps.specs.Objects.{object_of}
 use Rattle.om_view.specs.declared.local.Seen.{Seen}
 use Rattle.om_view.specs.declared.local.Seen.TheVariants as seen

@@ -7,10 +7,10 @@ use Rattle.om_cells.specs.declared.value.Task.TheVariants as task
 use Rattle.om_cells.specs.State.{State}
 use Rattle.om_cells.specs.Values.{bytes_in, control_in, records_in, task_in}
 use Rattle.om_command.specs.declared.command.Variable.{Variable}
-use Rattle.om_replies.specs.declared.value.GlobalCell.{GlobalCell}
-use Rattle.om_replies.specs.Lists.{history_text, events_text, output_text, task_text, no_tasks_text, joined}
-use Rattle.om_replies.specs.Places.{where_text}
-use Rattle.om_replies.specs.Values.{local_text, print_text}
+use Rattle.om_command.specs.declared.value.GlobalCell.{GlobalCell}
+use Rattle.om_command.specs.Lists.{history_text, events_text, output_text, task_text, no_tasks_text, joined}
+use Rattle.om_command.specs.Places.{where_text}
+use Rattle.om_command.specs.Values.{local_text, print_text}
 use Rattle.om_task.specs.Rules.{line_in}
 use Rattle.om_undo.specs.Machines.{MachineView, state_in}
 use Rattle.om_undo.specs.ReadyNames.{ready_names}

@@ -1,6 +1,6 @@
 -- Breaks and watches that are set and taken back.
 use Rattle.std.specs.Prelude.{ℕ, Bool, true, false, cond, nat_eq, ◌&&◌, List, [], ◌∷◌, ◌++◌}
-use Rattle.om_replies.specs.declared.value.GlobalCell.{GlobalCell}
+use Rattle.om_command.specs.declared.value.GlobalCell.{GlobalCell}
 use Rattle.om_view.specs.declared.marks.Marks.{Marks}
 use Rattle.om_view.specs.Stops.{has_line}
 

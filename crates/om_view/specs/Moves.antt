@@ -9,8 +9,8 @@ use Rattle.om_journal.specs.Books.{BookView, machine_of}
 use Rattle.om_journal.specs.Runs.{is_done}
 use Rattle.om_journal.specs.declared.command.Command.TheVariants as call
 use Rattle.om_journal.specs.declared.reply.Reply.TheVariants as reply
-use Rattle.om_replies.specs.Steps.{step_text, undo_text}
-use Rattle.om_replies.specs.Lists.{roll_text}
+use Rattle.om_command.specs.Steps.{step_text, undo_text}
+use Rattle.om_command.specs.Lists.{roll_text}
 use Rattle.om_undo.specs.Machines.{rules_for}
 use Rattle.om_view.specs.Calls.{label_of, step_reply_of, undo_reply_of, with_call, with_step}
 use Rattle.om_view.specs.Looks.{line_at}

@@ -7,10 +7,10 @@ use Rattle.om_cells.specs.declared.step.Choice.{Choice}
 use Rattle.om_cells.specs.declared.step.Choice.TheVariants.{Next, Start}
 use Rattle.om_cells.specs.declared.step.Label.{Label}
 use Rattle.om_cells.specs.Values.{control_in}
-use Rattle.om_replies.specs.declared.stop.Stop.{Stop}
-use Rattle.om_replies.specs.declared.stop.Stop.TheVariants as stop
-use Rattle.om_replies.specs.Steps.{full_text}
-use Rattle.om_replies.specs.Stops.{ran_text}
+use Rattle.om_command.specs.declared.stop.Stop.{Stop}
+use Rattle.om_command.specs.declared.stop.Stop.TheVariants as stop
+use Rattle.om_command.specs.Steps.{full_text}
+use Rattle.om_command.specs.Stops.{ran_text}
 use Rattle.om_undo.specs.Machines.{MachineView, state_in}
 use Rattle.om_undo.specs.PlannedSteps.{PlannedView, planned_at}
 use Rattle.om_view.specs.declared.marks.Marks.{Marks}

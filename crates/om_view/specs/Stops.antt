@@ -9,9 +9,9 @@ use Rattle.om_cells.specs.State.{State}
 use Rattle.om_cells.specs.Values.{cell_in}
 use Rattle.om_history.specs.declared.reply.StepReply.{StepReply}
 use Rattle.om_history.specs.declared.reply.StepReply.TheVariants as step_reply
-use Rattle.om_replies.specs.declared.stop.Stop.{Stop}
-use Rattle.om_replies.specs.declared.stop.Stop.TheVariants as stop
-use Rattle.om_replies.specs.declared.value.GlobalCell.{GlobalCell}
+use Rattle.om_command.specs.declared.stop.Stop.{Stop}
+use Rattle.om_command.specs.declared.stop.Stop.TheVariants as stop
+use Rattle.om_command.specs.declared.value.GlobalCell.{GlobalCell}
 use Rattle.om_undo.specs.Machines.{MachineView, state_in}
 use Rattle.om_view.specs.declared.marks.Marks.{Marks}
 use Rattle.om_view.specs.declared.stops.Watched.{Watched}

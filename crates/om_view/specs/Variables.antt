@@ -3,8 +3,8 @@ use Rattle.std.specs.Prelude.{ℕ, nat_lt, if◌then◌else◌, Option, None, So
 use Rattle.om_code.specs.declared.raw.Raw.{Raw}
 use Rattle.om_command.specs.declared.command.Variable.{Variable}
 use Rattle.om_lookup.specs.Visible.{global_named}
-use Rattle.om_replies.specs.declared.value.GlobalCell.{GlobalCell}
-use Rattle.om_replies.specs.Objects.{length_of}
+use Rattle.om_command.specs.declared.value.GlobalCell.{GlobalCell}
+use Rattle.om_command.specs.Objects.{length_of}
 
 -- the element of a variable by its index: an array has one below its length, a scalar none
 abbrev pub element_at : Option ℕ → Option ℕ → Option ℕ

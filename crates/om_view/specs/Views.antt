@@ -11,9 +11,9 @@ use Rattle.om_command.specs.declared.command.Request.TheVariants as request
 use Rattle.om_command.specs.declared.command.Variable.{Variable}
 use Rattle.om_command.specs.Commands.{request_of}
 use Rattle.om_foot.specs.declared.object.Obj.TheVariants as object
-use Rattle.om_replies.specs.declared.value.GlobalCell.{GlobalCell}
-use Rattle.om_replies.specs.Steps.{command_fault_text}
-use Rattle.om_replies.specs.Stops.{break_text, deleted_text, watch_text}
+use Rattle.om_command.specs.declared.value.GlobalCell.{GlobalCell}
+use Rattle.om_command.specs.Steps.{command_fault_text}
+use Rattle.om_command.specs.Stops.{break_text, deleted_text, watch_text}
 use Rattle.om_undo.specs.Machines.{state_in}
 use Rattle.om_code.specs.declared.raw.Raw.{Raw}
 use Rattle.om_view.specs.declared.debugger.Debugger.{Debugger}

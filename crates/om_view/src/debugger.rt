@@ -15,9 +15,11 @@ use crate::moves::{back, next, roll, step, undo};
 use crate::runs::run;
 use crate::variable::cell_of;
 use om_code::Program;
-use om_command::{Command, CommandFault, Request, Variable, request_of};
+use om_command::{
+    Command, CommandFault, Request, Variable, push_break, push_command_fault, push_deleted,
+    push_watch, request_of,
+};
 use om_journal::Book;
-use om_replies::{push_break, push_command_fault, push_deleted, push_watch};
 use om_seq::Seq;
 use om_task::Choice;
 use std::alloc::{AllocError, Global};

@@ -10,11 +10,10 @@ ghost use Rattle.om_view.specs.Locals.{cell_seen, global_seen, seen_by, seen_in,
 use crate::variable::{cell_at, cell_of, element_at, length_of};
 use om_code::Program;
 use om_code::instruction::Place;
-use om_command::Variable;
+use om_command::{GlobalCell, Variable};
 use om_foot::Obj;
 use om_live::{Context, Control};
 use om_lookup::{Var, variable_at};
-use om_replies::GlobalCell;
 use om_steps::names::object_of;
 use om_undo::Machine;
 

@@ -3,10 +3,10 @@
 ghost use Rattle.std.specs.Prelude.{◌≡◌, ◌<◌, ◌++◌, unwrap_or, OnOk};
 ghost use Rattle.std.specs.Option.{option_copied};
 ghost use Rattle.om_cells.specs.declared.value.Task.TheVariants as tasks;
-ghost use Rattle.om_replies.specs.Lists.{joined};
+ghost use Rattle.om_command.specs.Lists.{joined};
 ghost use Rattle.om_task.specs.Rules.{line_in};
 ghost use Rattle.om_undo.specs.Machines.{state_in};
-ghost use Rattle.om_replies.specs.Places.{where_text};
+ghost use Rattle.om_command.specs.Places.{where_text};
 ghost use Rattle.om_cells.specs.Values.{control_in};
 ghost use Rattle.om_view.specs.Looks.{local_said, print_said, where_said, history_said, events_said, output_said, directive_line, ready_line, tasks_text, tasks_said};
 
@@ -14,14 +14,13 @@ use crate::calls::{call, entries_told, names_told, value_told};
 use om_cells::value::Task;
 use om_cells::{Control, Val};
 use om_code::Program;
-use om_command::Variable;
+use om_command::{
+    GlobalCell, Variable, push_events, push_full, push_history, push_local, push_no_tasks,
+    push_output, push_print, push_task, push_where,
+};
 use om_foot::{Name, Obj};
 use om_journal::{Book, Command, Query};
 use om_lookup::line_of;
-use om_replies::{
-    GlobalCell, push_events, push_full, push_history, push_local, push_no_tasks, push_output,
-    push_print, push_task, push_where,
-};
 use om_undo::Machine;
 use std::alloc::{AllocError, Global};
 

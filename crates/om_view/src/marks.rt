@@ -4,7 +4,7 @@ ghost use Rattle.std.specs.Prelude.{◌≡◌, ◌++◌, IfOk, OnOk};
 ghost use Rattle.om_view.specs.Marked.{with_break, has_cell, with_watch, without, without_break};
 ghost use Rattle.om_view.specs.Stops.{has_line};
 
-use om_replies::GlobalCell;
+use om_command::GlobalCell;
 use om_seq::Seq;
 use std::alloc::{AllocError, Global};
 

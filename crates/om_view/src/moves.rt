@@ -8,8 +8,8 @@ ghost use Rattle.om_journal.specs.Runs.{is_done};
 ghost use Rattle.om_view.specs.Moves.{goes_on, is_undone, step_said, undo_said, next_within, next_said, back_within, back_said, roll_said};
 
 use crate::calls;
+use om_command::{push_full, push_roll, push_step, push_undo};
 use om_journal::{Book, Command};
-use om_replies::{push_full, push_roll, push_step, push_undo};
 use om_task::Choice;
 use om_undo::{Machine, StepReply, UndoReply};
 use std::alloc::{AllocError, Global};

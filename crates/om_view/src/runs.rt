@@ -4,7 +4,7 @@ ghost use Rattle.std.specs.Prelude.{◌≡◌, ◌<◌, ◌≤◌, ◌+◌, ◌+
 ghost use Rattle.std.specs.Option.{option_copied};
 ghost use Rattle.om_live.specs.Stores.{plain_or_idle};
 ghost use Rattle.om_undo.specs.ReadyNames.{ready_names};
-ghost use Rattle.om_replies.specs.Stops.{ran_text};
+ghost use Rattle.om_command.specs.Stops.{ran_text};
 ghost use Rattle.om_journal.specs.Books.{machine_of};
 ghost use Rattle.om_view.specs.Calls.{label_of};
 ghost use Rattle.om_undo.specs.Machines.{state_in};
@@ -12,10 +12,10 @@ ghost use Rattle.om_view.specs.Runs.{can_step, planned_if, planned_for, planned_
 
 use crate::marks::Marks;
 use crate::stops::step_and_stop;
+use om_command::{Stop, push_full, push_ran};
 use om_foot::Name;
 use om_journal::Book;
 use om_live::Control;
-use om_replies::{Stop, push_full, push_ran};
 use om_task::Choice;
 use om_task::laws::starts_at_scheduling_points;
 use om_undo::laws::{one_ready_list, ready_names_are_ready};

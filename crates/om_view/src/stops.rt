@@ -10,8 +10,8 @@ ghost use Rattle.om_view.specs.Stops.{or_else, fault_stop, break_stop, cell_eq, 
 use crate::calls::take;
 use crate::marks::{Marks, has_line};
 use om_code::frame::Cell;
+use om_command::{GlobalCell, Stop};
 use om_journal::Book;
-use om_replies::{GlobalCell, Stop};
 use om_undo::{Machine, PlannedStep, StepReply};
 use std::alloc::{AllocError, Global};
 

@@ -1,13 +1,12 @@
 //! The cell of a global variable that a command names.
 
 ghost use Rattle.std.specs.Prelude.{◌≡◌};
-ghost use Rattle.om_replies.specs.Objects.{length_of};
+ghost use Rattle.om_command.specs.Objects.{length_of};
 ghost use Rattle.om_view.specs.Variables.{cell_at, cell_of, element_at};
 
 use om_code::Program;
-use om_command::Variable;
+use om_command::{GlobalCell, Variable};
 use om_lookup::global_named;
-use om_replies::GlobalCell;
 
 /// How many cells a global variable has, where it is an array.
 pub(crate) fn length_of(program: &Program, variable: u32) -> Option<u32>

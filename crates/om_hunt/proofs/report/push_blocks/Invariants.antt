@@ -1,5 +1,5 @@
 use Rattle.std.proofs.Common.{◌≡◌, ◌++◌, drop}
-use Rattle.om_replies.specs.Lists.{joined}
+use Rattle.om_command.specs.Lists.{joined}
 use Rattle.om_hunt.specs.Reports.{block_words}
 use Rattle.om_hunt.proofs.report.push_blocks.Given as goal
 

@@ -1,5 +1,5 @@
 use Rattle.std.proofs.Common.{◌≡◌, ◌++◌, drop}
-use Rattle.om_replies.specs.Lists.{joined}
+use Rattle.om_command.specs.Lists.{joined}
 use Rattle.om_hunt.specs.Schedules.{block_text}
 use Rattle.om_hunt.proofs.script.push_blocks.Given as goal
 

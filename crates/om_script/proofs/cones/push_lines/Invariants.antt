@@ -1,5 +1,5 @@
 use Rattle.std.proofs.Common.{◌≡◌, ◌++◌, drop}
-use Rattle.om_replies.specs.Lists.{joined}
+use Rattle.om_command.specs.Lists.{joined}
 use Rattle.om_script.specs.Cones.{taken_line}
 use Rattle.om_script.proofs.cones.push_lines.Given as goal
 

@@ -1,5 +1,5 @@
 use Rattle.std.proofs.Common.{◌≡◌, ◌++◌, drop}
-use Rattle.om_replies.specs.Lists.{joined}
+use Rattle.om_command.specs.Lists.{joined}
 use Rattle.om_script.specs.Steps.{command_line}
 use Rattle.om_script.proofs.text.push_commands.Given as goal
 

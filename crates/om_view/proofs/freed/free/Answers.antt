@@ -3,7 +3,7 @@ use Rattle.std.proofs.lemmas.Result.{on_ok_weaker}
 use Rattle.om_drive.specs.FreeRuns.{gained, with_records}
 use Rattle.om_journal.specs.Books.{machine_of}
 use Rattle.om_journal.specs.Journals.{done_in}
-use Rattle.om_replies.specs.Stops.{freed_text}
+use Rattle.om_command.specs.Stops.{freed_text}
 use Rattle.om_view.specs.Freed.{FreeRun, made_by}
 use Rattle.om_view.proofs.Bounded.{call_of, legal_records}
 use Rattle.om_view.proofs.freed.free.Goals as goal

@@ -1,5 +1,5 @@
 use Rattle.std.proofs.Common.{◌≡◌, ◌++◌, drop}
-use Rattle.om_replies.specs.Lists.{joined}
+use Rattle.om_command.specs.Lists.{joined}
 use Rattle.om_undo.specs.Machines.{state_in}
 use Rattle.om_view.specs.Looks.{ready_line}
 use Rattle.om_view.proofs.looks.push_all_ready.Given as goal

@@ -1,7 +1,7 @@
 //! Breaks, watches, why a run stopped, and what a free run did.
 
 ghost use Rattle.std.specs.Prelude.{◌≡◌, ◌++◌, OnOk};
-ghost use Rattle.om_replies.specs.Stops.{break_text, watch_text, deleted_text, stop_text, ran_text, freed_text};
+ghost use Rattle.om_command.specs.Stops.{break_text, watch_text, deleted_text, stop_text, ran_text, freed_text};
 
 use crate::number::push_numbered;
 use crate::object::push_variable;

@@ -2,10 +2,10 @@
 use Rattle.std.specs.Prelude.{ℕ, List, ◌++◌, Bool, true, false, codes, decimal}
 use Rattle.om_code.specs.declared.raw.Raw.{Raw}
 use Rattle.om_code.specs.Faults.{fault_number}
-use Rattle.om_replies.specs.declared.stop.Stop.{Stop}
-use Rattle.om_replies.specs.declared.stop.Stop.TheVariants as stop
-use Rattle.om_replies.specs.declared.value.GlobalCell.{GlobalCell}
-use Rattle.om_replies.specs.Objects.{variable_text}
+use Rattle.om_command.specs.declared.stop.Stop.{Stop}
+use Rattle.om_command.specs.declared.stop.Stop.TheVariants as stop
+use Rattle.om_command.specs.declared.value.GlobalCell.{GlobalCell}
+use Rattle.om_command.specs.Objects.{variable_text}
 
 abbrev pub break_text : ℕ → List ℕ
 break_text line = codes "break " ++ decimal line ++ codes "\n"

@@ -1,7 +1,7 @@
 //! The texts of objects, as a reply names them.
 ghost use Rattle.std.specs.Prelude.{◌≡◌, ◌++◌, OnOk, codes};
 ghost use Rattle.om_foot.specs.Names.{name_text};
-ghost use Rattle.om_replies.specs.Objects.{cell_place_text, index_text, lock_text, object_text, place_text, variable_text};
+ghost use Rattle.om_command.specs.Objects.{cell_place_text, index_text, lock_text, object_text, place_text, variable_text};
 
 use crate::number::push_numbered;
 use crate::value::GlobalCell;

@@ -1,6 +1,6 @@
 use Rattle.std.proofs.Common.{◌≡◌, ◌++◌, drop}
-use Rattle.om_replies.specs.Lists.{joined, taken_line}
-use Rattle.om_replies.proofs.list.push_members.Given as goal
+use Rattle.om_command.specs.Lists.{joined, taken_line}
+use Rattle.om_command.proofs.list.push_members.Given as goal
 
 -- the lines so far and those of what is left are all
 abbrev pub invariant-loop-taken : goal.invariant-loop-taken

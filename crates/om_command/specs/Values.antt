@@ -7,8 +7,8 @@ use Rattle.om_code.specs.declared.frame.Cell.TheVariants as cell
 use Rattle.om_cells.specs.declared.value.Val.{Val}
 use Rattle.om_cells.specs.Values.{cell_in}
 use Rattle.om_command.specs.declared.command.Variable.{Variable}
-use Rattle.om_replies.specs.declared.value.GlobalCell.{GlobalCell}
-use Rattle.om_replies.specs.Objects.{variable_text}
+use Rattle.om_command.specs.declared.value.GlobalCell.{GlobalCell}
+use Rattle.om_command.specs.Objects.{variable_text}
 
 abbrev pub cell_text : Cell → List ℕ
 cell_text (cell.Int n) = signed_decimal n

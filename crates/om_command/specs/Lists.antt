@@ -7,7 +7,7 @@ use Rattle.om_events.specs.Records.{record_text}
 use Rattle.om_history.specs.declared.reply.Taken.{Taken}
 use Rattle.om_history.specs.declared.reply.RollReply.{RollReply}
 use Rattle.om_history.specs.declared.reply.RollReply.TheVariants.{Rolled, NoEntry}
-use Rattle.om_replies.specs.Steps.{entry_text}
+use Rattle.om_command.specs.Steps.{entry_text}
 
 -- the texts of all, one behind the other
 abbrev pub joined : {A : Type 0} → (A → List ℕ) → List A → List ℕ

@@ -5,7 +5,7 @@ use Rattle.om_code.specs.declared.raw.Raw.{Raw}
 use Rattle.om_foot.specs.declared.object.Obj.{Obj}
 use Rattle.om_foot.specs.declared.object.Obj.TheVariants as object
 use Rattle.om_foot.specs.Names.{name_text}
-use Rattle.om_replies.specs.declared.value.GlobalCell.{GlobalCell}
+use Rattle.om_command.specs.declared.value.GlobalCell.{GlobalCell}
 
 abbrev pub name_in : Option GlobalVariable → List ℕ
 name_in None = []

@@ -1,7 +1,7 @@
 //! Replies of many lines.
 
 ghost use Rattle.std.specs.Prelude.{◌≡◌, ◌++◌, OnOk};
-ghost use Rattle.om_replies.specs.Lists.{joined, entry_line, history_text, event_line, events_text, output_text, task_text, no_tasks_text, taken_line, roll_text};
+ghost use Rattle.om_command.specs.Lists.{joined, entry_line, history_text, event_line, events_text, output_text, task_text, no_tasks_text, taken_line, roll_text};
 
 use crate::number::push_numbered;
 use crate::object::push_named;

@@ -1,15 +1,15 @@
 //! The values of variables.
 
 ghost use Rattle.std.specs.Prelude.{◌≡◌, ◌++◌, OnOk};
-ghost use Rattle.om_replies.specs.Objects.{variable_text};
-ghost use Rattle.om_replies.specs.Values.{cell_text, local_text, print_text, written_index};
+ghost use Rattle.om_command.specs.Objects.{variable_text};
+ghost use Rattle.om_command.specs.Values.{cell_text, local_text, print_text, written_index};
 
+use crate::command::Variable;
 use crate::number::{push_number, push_numbered};
 use crate::object::push_variable;
 use om_cells::Val;
 use om_code::Program;
 use om_code::frame::Cell;
-use om_command::Variable;
 use om_foot::Obj;
 use std::alloc::AllocError;
 

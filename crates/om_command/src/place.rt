@@ -1,7 +1,7 @@
 //! What a worker is doing, and where.
 
 ghost use Rattle.std.specs.Prelude.{◌≡◌, ◌++◌, OnOk, codes};
-ghost use Rattle.om_replies.specs.Places.{context_text, control_text, where_text};
+ghost use Rattle.om_command.specs.Places.{context_text, control_text, where_text};
 
 use crate::number::push_numbered;
 use crate::object::push_named;

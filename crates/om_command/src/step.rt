@@ -1,14 +1,14 @@
 //! The replies to steps and undos, and to lines that are refused.
 ghost use Rattle.std.specs.Prelude.{◌≡◌, ◌++◌, decimal, OnOk, codes};
-ghost use Rattle.om_replies.specs.Objects.{object_text};
-ghost use Rattle.om_replies.specs.Steps.{entry_text, fault_text, blocker_text, step_text, undo_text, command_fault_text, full_text};
+ghost use Rattle.om_command.specs.Objects.{object_text};
+ghost use Rattle.om_command.specs.Steps.{entry_text, fault_text, blocker_text, step_text, undo_text, command_fault_text, full_text};
 
+use crate::command::CommandFault;
 use crate::number::{push_number, push_numbered};
 use crate::object::push_object;
 use om_cells::Blocked;
 use om_code::Program;
 use om_code::frame::Fault;
-use om_command::CommandFault;
 use om_foot::Obj;
 use om_history::{StepReply, UndoReply};
 use std::alloc::AllocError;

@@ -1,6 +1,6 @@
 use Rattle.std.proofs.Common.{◌≡◌, ◌++◌, drop}
-use Rattle.om_replies.specs.Lists.{joined, entry_line}
-use Rattle.om_replies.proofs.list.push_entries.Given as goal
+use Rattle.om_command.specs.Lists.{joined, entry_line}
+use Rattle.om_command.proofs.list.push_entries.Given as goal
 
 -- the lines so far and those of what is left are all
 abbrev pub invariant-loop-entry : goal.invariant-loop-entry

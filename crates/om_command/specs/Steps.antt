@@ -12,7 +12,7 @@ use Rattle.om_history.specs.declared.reply.StepReply.{StepReply}
 use Rattle.om_history.specs.declared.reply.StepReply.TheVariants as step_reply
 use Rattle.om_history.specs.declared.reply.UndoReply.{UndoReply}
 use Rattle.om_history.specs.declared.reply.UndoReply.TheVariants.{Undone, Conflict, Nothing}
-use Rattle.om_replies.specs.Objects.{object_text}
+use Rattle.om_command.specs.Objects.{object_text}
 
 -- `#S worker W line L`
 abbrev pub entry_text : ℕ → ℕ → ℕ → List ℕ
