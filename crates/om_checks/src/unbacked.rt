@@ -58,7 +58,7 @@ fn orders(alloc: Global) -> Result<Vec<Vec<Order>>, AllocError>
 }
 
 /// Compares the answers to the orders of the session that is meant.
-#[tactic(auto, using(om_drive::proofs::Freeing::seats_count))]
+#[tactic(auto, using(om_drive::specs::DistinctSeats::seats_count))]
 fn compared_in<L: Sitting, R: Wait>(
     rt: &R,
     alloc: Global,

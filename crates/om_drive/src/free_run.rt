@@ -94,7 +94,7 @@ fn open_gates(alloc: Global, workers: u8) -> Result<Vec<Open>, AllocError>
 }
 
 /// Opens a session over a book. It has as many seats as parts.
-#[tactic(auto, using(crate::proofs::Freeing::seats_count))]
+#[tactic(auto, using(crate::specs::DistinctSeats::seats_count))]
 fn opened<L: Sitting>(
     alloc: Global,
     blank: Blank,
@@ -112,7 +112,7 @@ fn opened<L: Sitting>(
 }
 
 /// Runs freely through a session over a book.
-#[tactic(auto, using(crate::proofs::Freeing::seats_differ, crate::proofs::Freeing::seats_count, crate::proofs::Freeing::as_many_back, crate::proofs::Freeing::goes_on_same))]
+#[tactic(auto, using(crate::specs::DistinctSeats::seats_differ, crate::specs::DistinctSeats::seats_count, crate::specs::DistinctSeats::as_many_back, crate::proofs::Freeing::goes_on_same))]
 fn run_through<L: Sitting + Send + Sync, R: Threads + Wait + Sync>(
     errand: Errand<'_, R>,
     gates: Vec<Open>,

@@ -33,7 +33,7 @@ pub struct Driven<L: Sitting> {
 /// come. Each answer with a reply has its receipt: its seat was told the order of its number, and
 /// has the receipt of the order's command with that reply, at the answer's place. An answer without
 /// its receipt is left out, and that one alone (V1).
-#[tactic(auto, using(om_orders::proofs::Backed::none_kept, om_orders::proofs::Backed::none_backed))]
+#[tactic(auto, using(om_orders::specs::KeptAnswers::none_kept, om_orders::specs::KeptAnswers::none_backed))]
 pub fn drive<L: Sitting + Send + Sync, G: Gate + Drop + Send, R: Threads + Wait + Sync>(
     session: &Session<L>,
     rt: &R,
@@ -103,7 +103,7 @@ struct Came {
 
 /// Compares the answers with the receipts. An answer without its receipt is left out, which is a
 /// fault.
-#[tactic(auto, using(om_orders::proofs::Backed::kept_backed))]
+#[tactic(auto, using(om_orders::specs::KeptAnswers::kept_backed))]
 fn compared<L: Sitting>(
     seats: Vec<Seat<L>>,
     orders: &[Vec<Order>],

@@ -1,28 +1,22 @@
 -- Taking an entry out of the undo records.
 use Rattle.std.proofs.Common.{◌≡◌, refl, sym, ◌∙◌, ap, subst, Some, List, [], ◌∷◌, ◌++◌, ℕ, zero, suc, take, drop}
-use Rattle.std.specs.Prelude.{map, slice_get, unwrap_or}
+use Rattle.std.specs.Prelude.{slice_get, unwrap_or}
 use Rattle.om_foot.specs.declared.footprint.Access.{Access}
 use Rattle.om_foot.specs.Footprint.{conflict_of}
 use Rattle.om_foot.specs.Apart.{AllApart, AllApart-flip, all_apart}
 use Rattle.om_cells.specs.declared.step.Label.{Label}
 use Rattle.om_cells.specs.declared.step.Step.{Step}
 use Rattle.om_cells.specs.State.{State, updated, taken_back}
-use Rattle.om_cells.specs.Rules.{Rules, step_at, next_state, and_then, replay_from}
+use Rattle.om_cells.specs.Rules.{Rules, step_at, next_state}
 use Rattle.om_history.specs.Laws.{Apart, updates_of}
 use Rattle.om_history.specs.Runs.{label_of, state_of_entries, state_after_step, conflict_or, first_conflict}
 use Rattle.om_history.specs.declared.reply.UndoReply.{UndoReply}
 use Rattle.om_history.specs.declared.records.UndoRecord.{UndoRecord}
 use Rattle.om_history.specs.Records.{entries_of, back_of, IsRight, ReplaysTo, first_kept_conflict}
+use Rattle.om_history.specs.Replayed.{ReplaysTo-replay}
 use Rattle.om_history.proofs.Frame.{undo_record-agree}
 use Rattle.om_history.proofs.Back.{taken_back-updated}
 use Rattle.om_history.proofs.Exchange.{Made, made, Swapped, swapped}
-
--- what is kept is the replay
-pub ReplaysTo-replay : (r : Rules) (s : State) (ks : List UndoRecord) (now : State) → ReplaysTo r s ks now
-    → replay_from r s (map label_of (entries_of ks)) ≡ Some now
-ReplaysTo-replay r s [] now h = ap Some h
-ReplaysTo-replay r s (k ∷ ks) now h = ap (λ o. and_then o (λ t. replay_from r t (map label_of (entries_of ks)))) h.1
-    ∙ ReplaysTo-replay r h.0 ks now h.3
 
 pub ReplaysTo-now : (r : Rules) (ks : List UndoRecord) (now : State) → ReplaysTo r r.start ks now
     → state_of_entries r (entries_of ks) ≡ now

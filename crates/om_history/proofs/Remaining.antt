@@ -13,7 +13,8 @@ use Rattle.om_history.specs.Cones.{after_roll}
 use Rattle.om_history.specs.Commands.{Command, ToStep, ToUndo, ToRoll, after_command, run, RemainingSteps, Rise}
 use Rattle.om_history.specs.declared.records.UndoRecord.{UndoRecord}
 use Rattle.om_history.specs.Records.{entries_of, back_of, IsRight, ReplaysTo}
-use Rattle.om_history.proofs.Logs.{ReplaysTo-replay, ReplaysTo-now, ReplaysTo-push}
+use Rattle.om_history.proofs.Logs.{ReplaysTo-now, ReplaysTo-push}
+use Rattle.om_history.specs.Replayed.{ReplaysTo-replay}
 use Rattle.om_history.proofs.Rising.{Rise-pushed, Rise-removed}
 use Rattle.om_history.proofs.Undos.{history_of, TakesOne, undone_or}
 use Rattle.om_history.proofs.Rolls.{rolls, rest_of, rest_of-rises, after_roll-is}

@@ -5,6 +5,7 @@ pub mod Runs
 pub mod Cones
 pub mod Commands
 pub mod Records
+pub mod Replayed
 pub mod Takes
 pub mod Undos
 pub mod Bounds

@@ -16,10 +16,7 @@ use Rattle.om_journal.specs.declared.command.Command.{Command}
 use Rattle.om_journal.specs.declared.command.Command.TheVariants as command
 use Rattle.om_journal.specs.declared.reply.Reply.{Reply}
 use Rattle.om_journal.specs.declared.book.JournalRecord.{JournalRecord}
-use Rattle.std.specs.Prelude.{option_map}
-use Rattle.std.proofs.lemmas.List.{get_or_push}
-use Rattle.std.proofs.lemmas.Option.{slice_get_read}
-use Rattle.om_journal.specs.Books.{BookView, last_reply, records_of, with_record}
+use Rattle.om_journal.specs.AddedRecords.{left_by-snoc}
 use Rattle.om_journal.specs.Runs.{IsReply, after, history_after}
 use Rattle.om_journal.specs.Journals.{IsLegal, IsSound, left_by}
 
@@ -48,11 +45,6 @@ made_after m (command.Undo worker) =
     )
 made_after m (command.Roll serial) = omega arith
 made_after m (command.Look question) = omega arith
-
-pub left_by-snoc : (m : MachineView) (rs : List JournalRecord) (r : JournalRecord)
-    → left_by m (rs ++ r ∷ []) ≡ after (left_by m rs) r.command
-left_by-snoc m [] r = refl
-left_by-snoc m (x ∷ xs) r = left_by-snoc (after m x.command) xs r
 
 pub IsLegal-snoc : (m : MachineView) (rs : List JournalRecord) (r : JournalRecord) → IsLegal m rs
     → IsReply (left_by m rs) r.command r.reply → IsLegal m (rs ++ r ∷ [])
@@ -85,20 +77,3 @@ sound_same m next start rs js h same none = rw (same, none) h
 -- the records from a place on
 pub slice_to_end : (rs : List JournalRecord) (at : ℕ) → take (length rs - at) (drop at rs) ≡ drop at rs
 slice_to_end rs at = take_all (length rs - at) (drop at rs) (omega (arith, length-drop at rs))
-
--- the last reply is that of the record that was added
-pub some_record : (b : BookView) (seat : ℕ) (c : Command) (x : Reply) → 0 < records_of (with_record b seat c x)
-some_record b seat c x =
-    let r : JournalRecord = record { seat = seat; command = c; reply = x } in
-    omega (arith, length-append b.journal (r ∷ []))
-
-pub last_of_record : (b : BookView) (seat : ℕ) (c : Command) (x : Reply)
-    → last_reply (with_record b seat c x) ≡ Some x
-last_of_record b seat c x =
-    let r : JournalRecord = record { seat = seat; command = c; reply = x } in
-    let js : List JournalRecord = b.journal in
-    let longer : length (js ++ r ∷ []) ≡ length js + 1 = length-append js (r ∷ []) in
-    let at : length js ≡ length (js ++ r ∷ []) - 1 = omega (arith, longer) in
-    ap (option_map (λ (k : JournalRecord). k.reply))
-    (slice_get_read (js ++ r ∷ []) (length (js ++ r ∷ [])) (length (js ++ r ∷ []) - 1) r refl (omega (arith, longer))
-    (sym (get_or_push js r r (length (js ++ r ∷ []) - 1) at)))

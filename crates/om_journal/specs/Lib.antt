@@ -3,3 +3,4 @@ pub mod Journals
 pub mod Books
 pub mod Kept
 pub mod Histories
+pub mod AddedRecords

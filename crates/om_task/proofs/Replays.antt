@@ -31,7 +31,7 @@ use Rattle.om_task.specs.Laws.{LowCounters}
 use Rattle.om_task.specs.Rules.{rules_of, start_of, first_context, further_in, row_in, outcome_after}
 use Rattle.om_task.proofs.Bounds.{counts, AreGentle, IsGentle, RowWithin}
 use Rattle.om_task.proofs.Counters.{control_more, changed_within}
-use Rattle.om_team.proofs.Within.{control_within}
+use Rattle.om_team.specs.Within.{control_within}
 use Rattle.om_task.proofs.Plans.{values_within}
 use Rattle.om_task.proofs.Walk.{row_within}
 

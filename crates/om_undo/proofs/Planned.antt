@@ -21,7 +21,7 @@ use Rattle.om_history.specs.declared.reply.StepReply.TheVariants as step_reply
 use Rattle.om_history.specs.Runs.{History, entry_for, reply_for, history_with, reply_to_step, after_step}
 use Rattle.om_history.specs.Runs.{state_of_entries}
 use Rattle.om_history.specs.Pasts.{past_in, history_in, IsHeld, IsPlanned, IsReplay, Stays, step_for}
-use Rattle.om_history.proofs.Logs.{ReplaysTo-replay}
+use Rattle.om_history.specs.Replayed.{ReplaysTo-replay}
 use Rattle.om_code.specs.declared.raw.Raw.{Raw}
 use Rattle.om_task.specs.Rules.{rules_of}
 use Rattle.om_undo.specs.Machines.{IsPlan, MachineView, PlansAt, TakesPlan, rules_for, state_in}

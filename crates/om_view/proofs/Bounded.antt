@@ -30,7 +30,7 @@ use Rattle.om_journal.specs.Books.{BookView, is_full, machine_of}
 use Rattle.om_journal.specs.Journals.{IsLegal}
 use Rattle.om_journal.specs.Runs.{after, is_done, reply_to}
 use Rattle.om_journal.specs.declared.book.JournalRecord.{JournalRecord}
-use Rattle.om_journal.proofs.Growing.{left_by-snoc}
+use Rattle.om_journal.specs.AddedRecords.{left_by-snoc}
 use Rattle.om_journal.specs.declared.command.Command.TheVariants as call
 use Rattle.om_journal.specs.declared.command.Query.{Query}
 use Rattle.om_journal.specs.declared.reply.Reply.TheVariants as reply

@@ -1,6 +1,6 @@
 use Rattle.std.proofs.Common.{rules, ◌≡◌, ◌∙◌, ◌+◌, ◌-◌, ◌++◌, ap, append_assoc, sym}
 use Rattle.om_orders.specs.Rounds.{round_at, rounds}
-use Rattle.om_orders.proofs.Backed.{rounds_next}
+use Rattle.om_orders.specs.KeptAnswers.{rounds_next}
 use Rattle.om_orders.proofs.numbers.numbers_in.Goals as goal
 
 pub loop-round-preserved : goal.loop-round-preserved

@@ -6,8 +6,8 @@ use Rattle.om_live.specs.declared.control.Context.{Context}
 use Rattle.om_live.specs.declared.control.Frame.{Frame}
 use Rattle.om_spawn.specs.Rows.{spawn_row, wait_begin_row, task_yield_row}
 use Rattle.om_team.specs.Sites.{site}
-use Rattle.om_team.proofs.AtStates.{at_state, to_same}
-use Rattle.om_team.proofs.Running.{next_is}
+use Rattle.om_team.specs.AtStates.{at_state, to_same}
+use Rattle.om_team.specs.Running.{next_is}
 use Rattle.om_task.specs.Table.{task_row}
 use Rattle.om_task.proofs.Answers.{body_is}
 use Rattle.om_task.proofs.table.task_answer.Goals as goal

@@ -6,7 +6,7 @@ use Rattle.om_live.specs.declared.control.Context.{Context}
 use Rattle.om_steps.specs.SerialRows.{number_row}
 use Rattle.om_team.specs.Sites.{site}
 use Rattle.om_team.specs.Table.{frame_row}
-use Rattle.om_team.proofs.AtStates.{at_state, to_same}
+use Rattle.om_team.specs.AtStates.{at_state, to_same}
 use Rattle.om_team.proofs.table.frame_answer.Goals as goal
 
 pub returns-in-ThreadNumber : goal.returns-in-ThreadNumber

@@ -5,8 +5,8 @@ use Rattle.om_code.specs.Frames.{int_at}
 use Rattle.om_share.specs.Rows.{share_in, loop_row, iterate_row, pick_row}
 use Rattle.om_team.specs.Sites.{site}
 use Rattle.om_team.specs.Table.{share_row}
-use Rattle.om_team.proofs.AtStates.{to_same}
-use Rattle.om_team.proofs.Running.{next_is, operands_are}
+use Rattle.om_team.specs.AtStates.{to_same}
+use Rattle.om_team.specs.Running.{next_is, operands_are}
 use Rattle.om_team.proofs.table.share_answer.Goals as goal
 
 pub returns-in-Loop : goal.returns-in-Loop

@@ -4,8 +4,8 @@ use Rattle.om_live.specs.Stores.{state_of}
 use Rattle.om_fork.specs.Rows.{begin_row, arrive_row, depart_row, leave_row}
 use Rattle.om_team.specs.Sites.{site}
 use Rattle.om_team.specs.Table.{team_row}
-use Rattle.om_team.proofs.AtStates.{to_same}
-use Rattle.om_team.proofs.Running.{next_is}
+use Rattle.om_team.specs.AtStates.{to_same}
+use Rattle.om_team.specs.Running.{next_is}
 use Rattle.om_team.proofs.table.team_answer.Goals as goal
 
 pub returns-in-Begin : goal.returns-in-Begin

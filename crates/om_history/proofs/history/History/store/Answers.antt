@@ -1,4 +1,4 @@
-use Rattle.om_history.proofs.Logs.{ReplaysTo-replay}
+use Rattle.om_history.specs.Replayed.{ReplaysTo-replay}
 use Rattle.om_history.specs.Pasts.{past_in}
 use Rattle.om_history.proofs.history.History.store.Goals as goal
 

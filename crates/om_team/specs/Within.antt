@@ -1,4 +1,4 @@
--- A control that is read of a state with low counters has low counters.
+-- Matter of proofs, for om_task: a control that is read of a state with low counters has low counters.
 use Rattle.std.proofs.Common.{◌≡◌, sym, subst, ℕ}
 use Rattle.om_foot.specs.declared.object.Obj.TheVariants as obj
 use Rattle.om_cells.specs.declared.control.Control as controls

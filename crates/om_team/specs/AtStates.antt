@@ -1,4 +1,4 @@
--- Answers at a state.
+-- Matter of proofs, for om_task too: answers at a state.
 use Rattle.std.proofs.Common.{◌≡◌, subst}
 use Rattle.std.specs.Prelude.{Result, Ok, Err, IfOk}
 use Rattle.om_cells.specs.State.{State}
