@@ -9,13 +9,14 @@ use Rattle.om_resolved.specs.ResolvedView.{view_resolved_part, view_resolved_sta
 use Rattle.om_rules.specs.ProperConstructs.{construct_there, parts_proper, proper_inside}
 use Rattle.om_rules.specs.Scopes.{outside}
 use Rattle.om_rules.specs.StatementResolution.{resolved_statement}
-use Rattle.om_rules.specs.StatementRules.{after_for_start, after_statement, after_statements}
+use Rattle.om_rules.specs.StatementRules.{after_for_start, after_statement, after_statements, statement_breaches}
 use Rattle.om_scope.proofs.Blocks.{block_outside, body_outside, construct_outside, for_outside, parts_refuse}
 use Rattle.om_scope.proofs.Blocks.{parts_step, statements_made, statements_refuse, statements_step, statements_whole}
-use Rattle.om_scope.proofs.Constructs.{view_construct}
+use Rattle.om_scope.proofs.Constructs.{view_construct, view_do, view_if, view_if_else, view_while}
 use Rattle.om_scope.proofs.Founds.{ok_anyway, ok_then}
 use Rattle.om_scope.proofs.Fronts.{bounds_refuse}
 use Rattle.om_scope.proofs.MadeParts.{parts_made, parts_whole}
+use Rattle.om_scope.proofs.Rows.{both_whole, first_refuses, second_refuses}
 use Rattle.om_scope.proofs.BlockPropers.{left_parts_proper, left_proper, with_depth}
 use Rattle.om_scope.specs.Items.{drop-item, length-map}
 use Rattle.om_scope.specs.Pushes.{map-push}
@@ -26,6 +27,161 @@ unfolding resolved_statement
 resolve_statement-returns-in-Construct-clause-resolved t c =
     let h = rw (c.deref-in-Construct.ensures, c.deref-in-Construct-2.ensures) at c.resolve_construct.ensures.resolved in
     rw (c.in-Construct.is, view_construct c.in-Construct.directive c.in-Construct.body) h
+
+pub resolve_statement-returns-in_err-condition-in-If-clause-checked :
+    goal.resolve_statement-returns-in_err-condition-in-If-clause-checked
+unfolding statement_breaches
+resolve_statement-returns-in_err-condition-in-If-clause-checked t c =
+    let p = err_from_is_err_and c.from_residual-in_err-condition-in-If.result
+    c.from_residual-in_err-condition-in-If.ensures.1 in
+    let refused = rw c.deref-in-If.ensures at c.in_err-condition-in-If.ensures.checked in
+    rw (p.1, p.2, c.in-If.is, view_if c.in-If.at c.in-If.condition c.in-If.then)
+    (first_refuses _ _ _ refused)
+
+pub resolve_statement-returns-in_err-then-in-If-clause-checked :
+    goal.resolve_statement-returns-in_err-then-in-If-clause-checked
+unfolding statement_breaches
+resolve_statement-returns-in_err-then-in-If-clause-checked t c =
+    let p = err_from_is_err_and c.from_residual-in_err-then-in-If.result
+    c.from_residual-in_err-then-in-If.ensures.1 in
+    let condition = rw c.deref-in-If.ensures at c.in_ok-condition-in-If.ensures.checked in
+    let refused = rw c.deref-in-If-2.ensures at c.in_err-then-in-If.ensures.checked in
+    rw (p.1, p.2, c.in-If.is, view_if c.in-If.at c.in-If.condition c.in-If.then)
+    (second_refuses _ _ _ condition refused)
+
+pub resolve_statement-returns-in_ok-then-in-If-clause-checked :
+    goal.resolve_statement-returns-in_ok-then-in-If-clause-checked
+unfolding statement_breaches
+resolve_statement-returns-in_ok-then-in-If-clause-checked t c =
+    let condition = rw c.deref-in-If.ensures at c.in_ok-condition-in-If.ensures.checked in
+    let branch = rw c.deref-in-If-2.ensures at c.in_ok-then-in-If.ensures.checked in
+    rw (c.in-If.is, view_if c.in-If.at c.in-If.condition c.in-If.then)
+    (both_whole _ _ condition branch)
+
+pub resolve_statement-returns-in_err-condition-in-IfElse-clause-checked :
+    goal.resolve_statement-returns-in_err-condition-in-IfElse-clause-checked
+unfolding statement_breaches
+resolve_statement-returns-in_err-condition-in-IfElse-clause-checked t c =
+    let p = err_from_is_err_and c.from_residual-in_err-condition-in-IfElse.result
+    c.from_residual-in_err-condition-in-IfElse.ensures.1 in
+    let refused = rw c.deref-in-IfElse.ensures at c.in_err-condition-in-IfElse.ensures.checked in
+    rw (
+      p.1,
+      p.2,
+      c.in-IfElse.is,
+      view_if_else c.in-IfElse.at c.in-IfElse.condition c.in-IfElse.then c.in-IfElse.else_word c.in-IfElse.other,
+    )
+    (first_refuses _ _ _ (first_refuses _ _ _ refused))
+
+pub resolve_statement-returns-in_err-then-in-IfElse-clause-checked :
+    goal.resolve_statement-returns-in_err-then-in-IfElse-clause-checked
+unfolding statement_breaches
+resolve_statement-returns-in_err-then-in-IfElse-clause-checked t c =
+    let p = err_from_is_err_and c.from_residual-in_err-then-in-IfElse.result
+    c.from_residual-in_err-then-in-IfElse.ensures.1 in
+    let condition = rw c.deref-in-IfElse.ensures at c.in_ok-condition-in-IfElse.ensures.checked in
+    let refused = rw c.deref-in-IfElse-2.ensures at c.in_err-then-in-IfElse.ensures.checked in
+    rw (
+      p.1,
+      p.2,
+      c.in-IfElse.is,
+      view_if_else c.in-IfElse.at c.in-IfElse.condition c.in-IfElse.then c.in-IfElse.else_word c.in-IfElse.other,
+    )
+    (first_refuses _ _ _ (second_refuses _ _ _ condition refused))
+
+pub resolve_statement-returns-in_err-other-in-IfElse-clause-checked :
+    goal.resolve_statement-returns-in_err-other-in-IfElse-clause-checked
+unfolding statement_breaches
+resolve_statement-returns-in_err-other-in-IfElse-clause-checked t c =
+    let p = err_from_is_err_and c.from_residual-in_err-other-in-IfElse.result
+    c.from_residual-in_err-other-in-IfElse.ensures.1 in
+    let condition = rw c.deref-in-IfElse.ensures at c.in_ok-condition-in-IfElse.ensures.checked in
+    let branch = rw c.deref-in-IfElse-2.ensures at c.in_ok-then-in-IfElse.ensures.checked in
+    let refused = rw (c.deref-in-IfElse-3.ensures, c.in_ok-then-in-IfElse.ensures.in_scope)
+    at c.in_err-other-in-IfElse.ensures.checked in
+    rw (
+      p.1,
+      p.2,
+      c.in-IfElse.is,
+      view_if_else c.in-IfElse.at c.in-IfElse.condition c.in-IfElse.then c.in-IfElse.else_word c.in-IfElse.other,
+    )
+    (second_refuses _ _ _ (both_whole _ _ condition branch) refused)
+
+pub resolve_statement-returns-in_ok-other-in-IfElse-clause-checked :
+    goal.resolve_statement-returns-in_ok-other-in-IfElse-clause-checked
+unfolding statement_breaches
+resolve_statement-returns-in_ok-other-in-IfElse-clause-checked t c =
+    let condition = rw c.deref-in-IfElse.ensures at c.in_ok-condition-in-IfElse.ensures.checked in
+    let branch = rw c.deref-in-IfElse-2.ensures at c.in_ok-then-in-IfElse.ensures.checked in
+    let other = rw (c.deref-in-IfElse-3.ensures, c.in_ok-then-in-IfElse.ensures.in_scope)
+    at c.in_ok-other-in-IfElse.ensures.checked in
+    rw (
+      c.in-IfElse.is,
+      view_if_else c.in-IfElse.at c.in-IfElse.condition c.in-IfElse.then c.in-IfElse.else_word c.in-IfElse.other,
+    )
+    (both_whole _ _ (both_whole _ _ condition branch) other)
+
+pub resolve_statement-returns-in_err-condition-in-While-clause-checked :
+    goal.resolve_statement-returns-in_err-condition-in-While-clause-checked
+unfolding statement_breaches
+resolve_statement-returns-in_err-condition-in-While-clause-checked t c =
+    let p = err_from_is_err_and c.from_residual-in_err-condition-in-While.result
+    c.from_residual-in_err-condition-in-While.ensures.1 in
+    let refused = rw c.deref-in-While.ensures at c.in_err-condition-in-While.ensures.checked in
+    rw (p.1, p.2, c.in-While.is, view_while c.in-While.at c.in-While.condition c.in-While.body)
+    (first_refuses _ _ _ refused)
+
+pub resolve_statement-returns-in_err-body-in-While-clause-checked :
+    goal.resolve_statement-returns-in_err-body-in-While-clause-checked
+unfolding statement_breaches
+resolve_statement-returns-in_err-body-in-While-clause-checked t c =
+    let p = err_from_is_err_and c.from_residual-in_err-body-in-While.result
+    c.from_residual-in_err-body-in-While.ensures.1 in
+    let condition = rw c.deref-in-While.ensures at c.in_ok-condition-in-While.ensures.checked in
+    let refused = rw (c.deref-in-While-2.ensures, c.looping.ensures) at c.in_err-body-in-While.ensures.checked in
+    rw (p.1, p.2, c.in-While.is, view_while c.in-While.at c.in-While.condition c.in-While.body)
+    (second_refuses _ _ _ condition refused)
+
+pub resolve_statement-returns-in_ok-body-in-While-clause-checked :
+    goal.resolve_statement-returns-in_ok-body-in-While-clause-checked
+unfolding statement_breaches
+resolve_statement-returns-in_ok-body-in-While-clause-checked t c =
+    let condition = rw c.deref-in-While.ensures at c.in_ok-condition-in-While.ensures.checked in
+    let body = rw (c.deref-in-While-2.ensures, c.looping.ensures) at c.in_ok-body-in-While.ensures.checked in
+    rw (c.in-While.is, view_while c.in-While.at c.in-While.condition c.in-While.body)
+    (both_whole _ _ condition body)
+
+pub resolve_statement-returns-in_err-body-in-Do-clause-checked :
+    goal.resolve_statement-returns-in_err-body-in-Do-clause-checked
+unfolding statement_breaches
+resolve_statement-returns-in_err-body-in-Do-clause-checked t c =
+    let p = err_from_is_err_and c.from_residual-in_err-body-in-Do.result
+    c.from_residual-in_err-body-in-Do.ensures.1 in
+    let refused = rw (c.deref-in-Do.ensures, c.looping-in-Do.ensures) at c.in_err-body-in-Do.ensures.checked in
+    rw (p.1, p.2, c.in-Do.is, view_do c.in-Do.at c.in-Do.body c.in-Do.while_word c.in-Do.condition c.in-Do.semicolon)
+    (first_refuses _ _ _ refused)
+
+pub resolve_statement-returns-in_err-condition-in-Do-clause-checked :
+    goal.resolve_statement-returns-in_err-condition-in-Do-clause-checked
+unfolding statement_breaches
+resolve_statement-returns-in_err-condition-in-Do-clause-checked t c =
+    let p = err_from_is_err_and c.from_residual-in_err-condition-in-Do.result
+    c.from_residual-in_err-condition-in-Do.ensures.1 in
+    let body = rw (c.deref-in-Do.ensures, c.looping-in-Do.ensures) at c.in_ok-body-in-Do.ensures.checked in
+    let refused = rw (c.deref-in-Do-2.ensures, c.in_ok-body-in-Do.ensures.in_scope)
+    at c.in_err-condition-in-Do.ensures.checked in
+    rw (p.1, p.2, c.in-Do.is, view_do c.in-Do.at c.in-Do.body c.in-Do.while_word c.in-Do.condition c.in-Do.semicolon)
+    (second_refuses _ _ _ body refused)
+
+pub resolve_statement-returns-in_ok-condition-in-Do-clause-checked :
+    goal.resolve_statement-returns-in_ok-condition-in-Do-clause-checked
+unfolding statement_breaches
+resolve_statement-returns-in_ok-condition-in-Do-clause-checked t c =
+    let body = rw (c.deref-in-Do.ensures, c.looping-in-Do.ensures) at c.in_ok-body-in-Do.ensures.checked in
+    let condition = rw (c.deref-in-Do-2.ensures, c.in_ok-body-in-Do.ensures.in_scope)
+    at c.in_ok-condition-in-Do.ensures.checked in
+    rw (c.in-Do.is, view_do c.in-Do.at c.in-Do.body c.in-Do.while_word c.in-Do.condition c.in-Do.semicolon)
+    (both_whole _ _ body condition)
 
 pub resolve_construct-resolve_loop_construct-requires : goal.resolve_construct-resolve_loop_construct-requires
 resolve_construct-resolve_loop_construct-requires t c = (
