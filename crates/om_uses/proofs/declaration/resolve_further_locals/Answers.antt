@@ -1,4 +1,4 @@
-use Rattle.std.proofs.Common.{◌+◌, map, drop, ap, ◌∙◌}
+use Rattle.std.proofs.Common.{◌+◌, map, drop, ap, refl, ◌∙◌}
 use Rattle.std.proofs.lemmas.Result.{err_from_is_err_and}
 use Rattle.om_tree.specs.View.{view_declarator, view_expression, view_further}
 use Rattle.om_rules.specs.Scopes.{after_local, behind_commas}
@@ -6,6 +6,10 @@ use Rattle.om_rules.specs.StatementResolution.{resolved_declarator}
 use Rattle.om_rules.specs.StatementRules.{local_breaches}
 use Rattle.om_rules.specs.InRow.{each_along-step, unbroken-refuse, unbroken-step}
 use Rattle.om_uses.proofs.Items.{drop-item}
+use Rattle.std.proofs.lemmas.List.{drop_all}
+use Rattle.om_rules.specs.InRow.{unbroken-begin}
+use Rattle.om_rules.specs.StatementResolution.{resolved_declarators}
+use Rattle.om_uses.proofs.Rows.{row_behind, row_made, row_whole}
 use Rattle.om_uses.proofs.declaration.resolve_further_locals.Goals as goal
 
 pub returns-in_err-add_local-clause-checked : goal.returns-in_err-add_local-clause-checked
@@ -31,3 +35,24 @@ loop-further-preserved c =
           ∙ each_along-step after_local resolved_declarator c.loop-further.symbols
           (view_declarator view_expression c.further-item.result.1) rest _ _ one.resolved);
     }
+
+pub loop-further-init : goal.loop-further-init
+loop-further-init c = record { rules = unbroken-begin local_breaches after_local _ _; resolved = refl }
+
+pub returns-clause-checked : goal.returns-clause-checked
+returns-clause-checked c =
+    let none = ap (λ left. behind_commas (map (view_further view_expression) left))
+    (drop_all c.loop-further.further-index c.args.rest.now c.loop-further-test.false) in
+    row_whole none c.loop-further.invariant.rules
+
+pub returns-clause-in_scope : goal.returns-clause-in_scope
+returns-clause-in_scope c =
+    let none = ap (λ left. behind_commas (map (view_further view_expression) left))
+    (drop_all c.loop-further.further-index c.args.rest.now c.loop-further-test.false) in
+    row_behind none c.loop-further.invariant.rules
+
+pub returns-clause-resolved : goal.returns-clause-resolved
+returns-clause-resolved c =
+    let none = ap (λ left. behind_commas (map (view_further view_expression) left))
+    (drop_all c.loop-further.further-index c.args.rest.now c.loop-further-test.false) in
+    c.loop-further.invariant.resolved ∙ row_made (resolved_declarators c.loop-further.symbols) _ _ refl none

@@ -1,4 +1,4 @@
-use Rattle.std.proofs.Common.{◌+◌, map, drop, ap, sym, ◌∙◌}
+use Rattle.std.proofs.Common.{◌+◌, map, drop, ap, sym, refl, ◌∙◌}
 use Rattle.std.proofs.lemmas.Result.{err_from_is_err_and}
 use Rattle.om_rules.specs.DirectiveRules.{after_name, listed_breaches, sharing_of}
 use Rattle.om_rules.specs.Perhaps.{each}
@@ -6,6 +6,9 @@ use Rattle.om_resolved.specs.ResolvedView.{view_resolved_clause}
 use Rattle.om_rules.specs.StatementResolution.{resolved_listed}
 use Rattle.om_rules.specs.InRow.{each-step, made_and, unbroken-refuse, unbroken-step}
 use Rattle.om_uses.proofs.Items.{drop-item, map-push}
+use Rattle.std.proofs.lemmas.List.{drop_all}
+use Rattle.om_rules.specs.InRow.{unbroken-begin}
+use Rattle.om_uses.proofs.Rows.{row_behind, row_made, row_whole}
 use Rattle.om_uses.proofs.directive.list_further_names.Goals as goal
 
 pub returns-in_err-add-clause-checked : goal.returns-in_err-add-clause-checked
@@ -41,3 +44,29 @@ loop-further-preserved c =
           (view_resolved_clause clause) found
           ∙ ap (λ grown. made_and grown (each part rest)) (sym pushed);
     }
+
+pub loop-further-init : goal.loop-further-init
+loop-further-init c = record {
+  rules = unbroken-begin (listed_breaches c.args.listing.now.symbols.now (sharing_of c.args.listing.now.kind))
+      (after_name (sharing_of c.args.listing.now.kind)) _ _;
+  resolved = refl;
+}
+
+pub returns-clause-checked : goal.returns-clause-checked
+returns-clause-checked c =
+    let none = ap (map (λ further. further.1)) (drop_all c.loop-further.further-index c.args.rest.now
+    c.loop-further-test.false) in
+    row_whole none c.loop-further.invariant.rules
+
+pub returns-clause-listed : goal.returns-clause-listed
+returns-clause-listed c =
+    let none = ap (map (λ further. further.1)) (drop_all c.loop-further.further-index c.args.rest.now
+    c.loop-further-test.false) in
+    row_behind none c.loop-further.invariant.rules
+
+pub returns-clause-resolved : goal.returns-clause-resolved
+returns-clause-resolved c =
+    let none = ap (map (λ further. further.1)) (drop_all c.loop-further.further-index c.args.rest.now
+    c.loop-further-test.false) in
+    c.loop-further.invariant.resolved
+    ∙ row_made (each (resolved_listed c.args.listing.now.kind c.args.listing.now.symbols.now)) _ _ refl none

@@ -1,4 +1,4 @@
-use Rattle.std.proofs.Common.{◌+◌, map, drop, ap, ◌∙◌}
+use Rattle.std.proofs.Common.{◌+◌, map, drop, ap, sym, refl, ◌∙◌}
 use Rattle.std.proofs.lemmas.Result.{err_from_is_err_and}
 use Rattle.om_tree.specs.View.{view_expression}
 use Rattle.om_pragma.specs.Expressions.{map_item}
@@ -7,6 +7,10 @@ use Rattle.om_resolved.specs.ResolvedView.{view_resolved_clause}
 use Rattle.om_rules.specs.StatementResolution.{resolved_item}
 use Rattle.om_rules.specs.InRow.{all_of-step, unbroken-refuse, unbroken-step}
 use Rattle.om_uses.proofs.Items.{drop-item}
+use Rattle.std.proofs.lemmas.List.{drop_all}
+use Rattle.om_rules.specs.InRow.{nothing_made, unbroken-begin}
+use Rattle.om_rules.specs.StatementResolution.{resolved_clauses}
+use Rattle.om_uses.proofs.Rows.{row_behind, row_made, row_whole}
 use Rattle.om_uses.proofs.directive.resolve_clauses.Goals as goal
 
 pub returns-in_err-resolve_clause-clause-checked : goal.returns-in_err-resolve_clause-clause-checked
@@ -33,3 +37,27 @@ loop-item-preserved c =
       resolved = (rw here at c.loop-item.invariant.resolved) ∙ all_of-step (resolved_item c.args.symbols.now) item
           rest made grown one.resolved;
     }
+
+pub loop-item-init : goal.loop-item-init
+loop-item-init c = rw (c.new-listed.ensures, c.new-clauses.ensures.items) record {
+  rules = unbroken-begin (item_breaches c.args.symbols.now) after_item _ _;
+  resolved = sym (nothing_made _);
+}
+
+pub returns-clause-checked : goal.returns-clause-checked
+returns-clause-checked c =
+    let none = ap (map (map_item view_expression)) (drop_all c.loop-item.item-index c.args.items.now
+    c.loop-item-test.false) in
+    row_whole none c.loop-item.invariant.rules
+
+pub returns-clause-listed : goal.returns-clause-listed
+returns-clause-listed c =
+    let none = ap (map (map_item view_expression)) (drop_all c.loop-item.item-index c.args.items.now
+    c.loop-item-test.false) in
+    row_behind none c.loop-item.invariant.rules
+
+pub returns-clause-resolved : goal.returns-clause-resolved
+returns-clause-resolved c =
+    let none = ap (map (map_item view_expression)) (drop_all c.loop-item.item-index c.args.items.now
+    c.loop-item-test.false) in
+    c.loop-item.invariant.resolved ∙ row_made (resolved_clauses c.args.symbols.now) _ _ refl none
