@@ -2,7 +2,7 @@
 
 ghost use Rattle.std.specs.Prelude.{◌≡◌, ◌++◌, ◌∷◌, [], IfOk, vec_len};
 
-use crate::orders::looks;
+use crate::orders::two_lists_of_looks;
 use om_book::{CallError, Command, KeptCommand, Receipt, Reply};
 use om_drive::{Debuggee, Gate, Order, drive_over};
 use om_undo::StepReply;
@@ -116,7 +116,7 @@ pub(crate) fn both_are_inside_at_once<R: Threads + Wait + Sync>(
     let (zero, one) = (AtomicBool::new(false), AtomicBool::new(false));
     let fakes = fakes(alloc, &zero, &one)?;
     let gates = gates(alloc, &one)?;
-    let orders = orders(alloc)?;
+    let orders = two_lists_of_looks(alloc, &[0], &[1])?;
     let driven = drive_over(rt, fakes, gates, orders.as_slice());
     let in_time = driven.answers.iter().filter(|answer| !answer.late).count();
     let seen = driven.debuggees.iter().filter(|fake| fake.saw).count();
@@ -143,14 +143,4 @@ fn gates(alloc: Global, one: &AtomicBool) -> Result<Vec<After<'_>>, AllocError>
     gates.push(After { flag: Some(one) })?;
     gates.push(After { flag: None })?;
     Ok(gates)
-}
-
-/// One order for each of the two.
-fn orders(alloc: Global) -> Result<Vec<Vec<Order>>, AllocError>
-    ensures { IfOk result (λ lists. vec_len lists ≡ 2) }
-{
-    let mut lists = Vec::new(alloc);
-    lists.push(looks(alloc, &[0])?)?;
-    lists.push(looks(alloc, &[1])?)?;
-    Ok(lists)
 }

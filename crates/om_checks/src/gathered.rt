@@ -2,6 +2,7 @@
 
 ghost use Rattle.std.specs.Prelude.{◌≡◌, length};
 
+use crate::orders::{answer, are_answers};
 use crossbeam_channel::{Receiver, bounded};
 use om_book::Reply;
 use om_drive::{Answer, Fault, Gathered, gather};
@@ -30,7 +31,7 @@ fn takes_none<R: Wait>(rt: &R, alloc: Global) -> bool {
 fn takes_all<R: Wait>(rt: &R, alloc: Global) -> Result<bool, AllocError> {
     let receivers = [sent(rt, alloc, 7)?, sent(rt, alloc, 8)?];
     let gathered = gather(rt, alloc, &receivers, &[7, 8]);
-    Ok(gathered.fault.is_none() && are_answers(&gathered, &[7, 8]))
+    Ok(gathered.fault.is_none() && are_answers(gathered.answers.as_slice(), &[7, 8]))
 }
 
 /// Whether an answer is taken, and a channel behind it whose other end was dropped is V2.
@@ -39,41 +40,27 @@ fn tells_closed<R: Wait>(rt: &R, alloc: Global) -> Result<bool, AllocError> {
     drop(sender);
     let receivers = [sent(rt, alloc, 7)?, receiver];
     let gathered = gather(rt, alloc, &receivers, &[7, 8]);
-    Ok(matches!(gathered.fault, Some(Fault::Closed)) && are_answers(&gathered, &[7]))
+    Ok(
+        matches!(gathered.fault, Some(Fault::Closed))
+            && are_answers(gathered.answers.as_slice(), &[7]),
+    )
 }
 
 /// Whether an answer is taken, and one behind it of a strange number is V1.
 fn tells_strange<R: Wait>(rt: &R, alloc: Global) -> Result<bool, AllocError> {
     let receivers = [sent(rt, alloc, 7)?, sent(rt, alloc, 9)?];
     let gathered = gather(rt, alloc, &receivers, &[7, 8]);
-    Ok(matches!(gathered.fault, Some(Fault::Strange)) && are_answers(&gathered, &[7]))
+    Ok(
+        matches!(gathered.fault, Some(Fault::Strange))
+            && are_answers(gathered.answers.as_slice(), &[7]),
+    )
 }
 
 /// A channel in which the answer to the order of this number lies.
 fn sent<R: Wait>(rt: &R, alloc: Global, number: u64) -> Result<Receiver<Answer>, AllocError> {
     let (sender, receiver) = bounded(alloc, 1)?;
-    match sender.send(rt, answer(number)) {
+    match sender.send(rt, answer(number, 0, Reply::Step(StepReply::Ended))) {
         Ok(()) => Ok(receiver),
         Err(_) => Err(AllocError),
     }
-}
-
-/// An answer to the order of this number.
-fn answer(number: u64) -> Answer {
-    Answer {
-        number,
-        reply: Ok(Reply::Step(StepReply::Ended)),
-        late: false,
-        place: Some(0),
-    }
-}
-
-/// Whether the answers to the orders of these numbers were taken, in this order.
-fn are_answers(gathered: &Gathered, numbers: &[u64]) -> bool {
-    gathered.answers.len() == numbers.len()
-        && gathered
-            .answers
-            .iter()
-            .zip(numbers)
-            .all(|(answer, number)| answer.number == *number)
 }

@@ -4,7 +4,7 @@ ghost use Rattle.std.specs.Prelude.{◌≡◌, IfOk, vec_len};
 
 use crate::book_of_two::BookOfTwo;
 use crate::driven::ADDING;
-use crate::orders::looks;
+use crate::orders::two_lists_of_looks;
 use crate::table::{Drove, Ran, Table};
 use om_drive::{Errand, Gate, Order};
 use std::alloc::{AllocError, Global};
@@ -105,7 +105,7 @@ pub(crate) fn drives_are_side_by_side<R: Threads + Wait + Sync>(
 ) -> Result<bool, AllocError> {
     let board = Board::new();
     let gates = gates(alloc, &board, (2, 1))?;
-    let orders = orders(alloc)?;
+    let orders = two_lists_of_looks(alloc, &[1], &[2])?;
     let Some(book) = BookOfTwo::of(alloc, ADDING) else {
         return Ok(false);
     };
@@ -125,16 +125,6 @@ fn are_in_time(drove: &Drove) -> bool {
         .filter(|answer| !answer.late && answer.reply.is_ok())
         .count();
     drove.fault.is_none() && drove.answers.len() == 2 && in_time == 2
-}
-
-/// One order for each of two seats: 1 and 2.
-fn orders(alloc: Global) -> Result<Vec<Vec<Order>>, AllocError>
-    ensures { IfOk result (λ lists. vec_len lists ≡ 2) }
-{
-    let mut lists = Vec::new(alloc);
-    lists.push(looks(alloc, &[1])?)?;
-    lists.push(looks(alloc, &[2])?)?;
-    Ok(lists)
 }
 
 /// Whether two rounds of a free run go on side by side: worker 0 is held in its first round until worker 1 comes to

@@ -1,10 +1,10 @@
 //! Answers of two seats that are compared with the receipts of the seats.
 
-ghost use Rattle.std.specs.Prelude.{◌≡◌, IfOk, length, vec_len};
+ghost use Rattle.std.specs.Prelude.{◌≡◌, length};
 
 use crate::book_of_two::BookOfTwo;
 use crate::driven::ADDING;
-use crate::orders::looks;
+use crate::orders::{answer, are_answers, two_lists_of_looks};
 use om_book::{Blank, Command, Query, Reply, Seat, Session, Sitting};
 use om_drive::{Answer, KeptAnswers, Order, Rows, keep_backed};
 use om_foot::Obj;
@@ -21,21 +21,11 @@ pub(crate) fn unbacked_answers_are_left_out<R: Wait>(
     let all = compared(rt, alloc, [0, 1, 2, 3])?;
     let fewer = compared(rt, alloc, [0, 1, 1, 3])?;
     Ok(
-        are_kept(&all, &[10, 20, 11, 21])
+        are_answers(all.answers.as_slice(), &[10, 20, 11, 21])
             && !all.strange
-            && are_kept(&fewer, &[10, 20, 21])
+            && are_answers(fewer.answers.as_slice(), &[10, 20, 21])
             && fewer.strange,
     )
-}
-
-/// Whether the answers to the orders of these numbers were kept, in this order.
-fn are_kept(backed: &KeptAnswers, numbers: &[u64]) -> bool {
-    backed.answers.len() == numbers.len()
-        && backed
-            .answers
-            .iter()
-            .zip(numbers)
-            .all(|(answer, number)| answer.number == *number)
 }
 
 /// What is kept of the answers to two orders for each of two seats, where the answers tell these places.
@@ -43,18 +33,8 @@ fn compared<R: Wait>(rt: &R, alloc: Global, places: [u64; 4]) -> Result<KeptAnsw
     let Some(book) = BookOfTwo::of(alloc, ADDING) else {
         return Err(AllocError);
     };
-    let orders = orders(alloc)?;
+    let orders = two_lists_of_looks(alloc, &[10, 11], &[20, 21])?;
     compared_in::<Brand, _>(rt, alloc, Blank::new(2), book, (orders.as_slice(), places))
-}
-
-/// Two looks for each of two seats.
-fn orders(alloc: Global) -> Result<Vec<Vec<Order>>, AllocError>
-    ensures { IfOk result (λ lists. vec_len lists ≡ 2) }
-{
-    let mut lists = Vec::new(alloc);
-    lists.push(looks(alloc, &[10, 11])?)?;
-    lists.push(looks(alloc, &[20, 21])?)?;
-    Ok(lists)
 }
 
 /// Compares the answers to the orders of the session that is meant.
@@ -115,15 +95,5 @@ fn look<L: Sitting, R: Wait>(
     match session.call(rt, alloc, seat, Command::Look(Query::Value(Obj::Output))) {
         Ok(reply) => Ok(reply),
         Err(_) => Err(AllocError),
-    }
-}
-
-/// An answer in time.
-fn answer(number: u64, place: u64, reply: Reply) -> Answer {
-    Answer {
-        number,
-        reply: Ok(reply),
-        late: false,
-        place: Some(place),
     }
 }
