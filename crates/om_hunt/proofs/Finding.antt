@@ -1,8 +1,8 @@
 -- What a hunt finds.
 use Rattle.std.proofs.Common.{◌≡◌, ℕ, List, Option, Some, subst}
 use Rattle.om_journal.specs.Books.{BookView, machine_of}
-use Rattle.om_hunt.specs.declared.hunted.Found.{Found}
-use Rattle.om_hunt.specs.Bad.{wanted_by}
+use Rattle.om_schedules.specs.declared.hunted.Found.{Found}
+use Rattle.om_schedules.specs.Bad.{wanted_by}
 use Rattle.om_hunt.specs.Finds.{FindsBad, FindsNothing, IsFound, RunsAlone}
 
 -- what was found by what is wanted is bad

@@ -1,4 +1,1 @@
-pub mod Made
-pub mod Texts
-pub mod Moves
 pub mod Finding

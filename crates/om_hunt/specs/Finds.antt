@@ -1,10 +1,10 @@
 -- What is promised of a hunt.
 use Rattle.std.specs.Prelude.{◌≡◌, ℕ, List, [], Option, None, Some}
-use Rattle.om_hunt.specs.declared.hunted.Found.{Found}
-use Rattle.om_hunt.specs.declared.hunted.Hunted.{Hunted}
-use Rattle.om_hunt.specs.declared.hunted.Hunted.TheVariants as hunted
-use Rattle.om_hunt.specs.Bad.{IsEnd, wanted_by}
-use Rattle.om_hunt.specs.Schedules.{schedule_text}
+use Rattle.om_schedules.specs.declared.hunted.Found.{Found}
+use Rattle.om_schedules.specs.declared.hunted.Hunted.{Hunted}
+use Rattle.om_schedules.specs.declared.hunted.Hunted.TheVariants as hunted
+use Rattle.om_schedules.specs.Bad.{IsEnd, wanted_by}
+use Rattle.om_schedules.specs.Schedules.{schedule_text}
 use Rattle.om_journal.specs.Books.{BookView, machine_of}
 use Rattle.om_script.specs.Runs.{Leaves}
 

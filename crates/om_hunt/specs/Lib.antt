@@ -1,4 +1,1 @@
-pub mod Schedules
-pub mod Bad
 pub mod Finds
-pub mod Reports

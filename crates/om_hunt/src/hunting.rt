@@ -2,42 +2,16 @@
 
 ghost use Rattle.std.specs.Prelude.{◌≡◌, ◌<◌, ◌≤◌, IfOk, IfSome};
 ghost use Rattle.std.specs.Option.{option_copied};
-ghost use Rattle.om_journal.specs.Books.{machine_of};
-ghost use Rattle.om_hunt.specs.Bad.{IsEnd, wanted_by};
 ghost use Rattle.om_hunt.specs.Finds.{IsFound, IsHunted};
 
-use crate::block::Block;
-use crate::hunted::{Aims, Found, Hunted, Progress};
-use crate::judge::{Badness, Wanted, output};
-use crate::player::Player;
-use crate::script::{MOST_STEPS, script};
-use crate::shorten::Search;
-use crate::trial::finish;
-use crate::wander::wander;
-use om_journal::Book;
+use om_schedules::{
+    Aims, Found, Ground, Hunted, Progress, Schedule, end_of, next_bad, script, wanted_of,
+};
 use om_script::{Ran, run_over};
 use om_shell::{ShellFault, program_of};
-use std::alloc::{AllocError, Global};
+use std::alloc::Global;
 use std::sync::Wait;
 use std::thread::Threads;
-
-// What a hunt is made over.
-#[derive(Clone, Copy)]
-struct Ground<'a> {
-    source: &'a [u8],
-    workers: u8,
-    // How many steps chance makes at most.
-    steps: u64,
-    seeds: u64,
-    wanted: &'a Wanted,
-}
-
-// A schedule, and the seed that led to it.
-#[derive(Drop)]
-struct Schedule {
-    seed: u64,
-    blocks: Vec<Block>,
-}
 
 /// Tries schedules by chance, and answers the first that is bad, made short.
 ///
@@ -67,13 +41,12 @@ pub fn hunt<H: Threads + Wait + Sync, P: Progress>(
         Some(book) => {
             let wanted = wanted_of(alloc, book, aims.expected)?;
             let ground = Ground {
-                source,
                 workers: aims.workers,
                 steps: aims.steps,
                 seeds: aims.seeds,
                 wanted: &wanted,
             };
-            match find(rt, alloc, &ground, progress)? {
+            match find(rt, alloc, source, &ground, progress)? {
                 Some(found) => Ok(Hunted::Found(found)),
                 None => Ok(Hunted::Nothing {
                     seeds: aims.seeds,
@@ -85,19 +58,11 @@ pub fn hunt<H: Threads + Wait + Sync, P: Progress>(
     }
 }
 
-// What is wanted, where `run` alone left this book.
-fn wanted_of(alloc: Global, alone: Book, expected: Option<&[u8]>) -> Result<Wanted, AllocError>
-    ensures { IfOk result
-        (λ wanted.
-        wanted.text.items ≡ wanted_by (option_copied expected.entry) (machine_of alone)) }
-{
-    Wanted::of(alloc, alone.machine(), expected)
-}
-
 // The first bad schedule: that of `run`, or the first that a seed leads to.
 fn find<H: Threads + Wait + Sync, P: Progress>(
     rt: &H,
     alloc: Global,
+    source: &[u8],
     ground: &Ground<'_>,
     progress: &mut P,
 ) -> Result<Option<Found>, ShellFault>
@@ -105,15 +70,15 @@ fn find<H: Threads + Wait + Sync, P: Progress>(
     requires at_most_32 { ground.now.workers ≤ 32 }
     ensures { IfOk result
         (λ found. IfSome found
-        (IsFound ground.now.workers ground.now.source.now ground.now.wanted.now.text.items)) }
+        (IsFound ground.now.workers source.now ground.now.wanted.now.text.items)) }
 {
     let alone = Schedule {
         seed: 0,
         blocks: Vec::new(alloc),
     };
-    match shown(rt, alloc, ground, alone)? {
+    match shown(rt, alloc, source, ground, alone)? {
         Some(found) => Ok(Some(found)),
-        None => find_by_chance(rt, alloc, ground, progress),
+        None => find_by_chance(rt, alloc, source, ground, progress),
     }
 }
 
@@ -121,6 +86,7 @@ fn find<H: Threads + Wait + Sync, P: Progress>(
 fn find_by_chance<H: Threads + Wait + Sync, P: Progress>(
     rt: &H,
     alloc: Global,
+    source: &[u8],
     ground: &Ground<'_>,
     progress: &mut P,
 ) -> Result<Option<Found>, ShellFault>
@@ -128,12 +94,15 @@ fn find_by_chance<H: Threads + Wait + Sync, P: Progress>(
     requires at_most_32 { ground.now.workers ≤ 32 }
     ensures { IfOk result
         (λ found. IfSome found
-        (IsFound ground.now.workers ground.now.source.now ground.now.wanted.now.text.items)) }
+        (IsFound ground.now.workers source.now ground.now.wanted.now.text.items)) }
 {
-    let mut player = player_of(alloc, ground)?;
-    'seeds: for before in 0..ground.seeds {
-        progress.tell(before + 1, ground.seeds);
-        match try_seed(rt, alloc, ground, &mut player, before + 1)? {
+    let mut behind = 0;
+    'schedules: for _ in 0..ground.seeds {
+        let Some(schedule) = next_over(alloc, source, ground, behind, progress)? else {
+            return Ok(None);
+        };
+        behind = schedule.seed;
+        match shown(rt, alloc, source, ground, schedule)? {
             Some(found) => return Ok(Some(found)),
             None => {}
         }
@@ -141,57 +110,28 @@ fn find_by_chance<H: Threads + Wait + Sync, P: Progress>(
     Ok(None)
 }
 
-// A player of the program of an accepted source.
-fn player_of(alloc: Global, ground: &Ground<'_>) -> Result<Player, ShellFault>
+// The first bad schedule behind a seed, over an accepted source.
+fn next_over<P: Progress>(
+    alloc: Global,
+    source: &[u8],
+    ground: &Ground<'_>,
+    behind: u64,
+    progress: &mut P,
+) -> Result<Option<Schedule>, ShellFault>
     requires at_least_one { 0 < ground.now.workers }
     requires at_most_32 { ground.now.workers ≤ 32 }
 {
-    match program_of(alloc, ground.source) {
-        Ok(program) => Ok(Player::new(alloc, program, ground.workers)?),
+    match program_of(alloc, source) {
+        Ok(program) => Ok(next_bad(alloc, program, ground, behind, progress)?),
         Err(_) => Err(ShellFault::Memory),
     }
-}
-
-// The bad schedule that a seed leads to, if it does.
-fn try_seed<H: Threads + Wait + Sync>(
-    rt: &H,
-    alloc: Global,
-    ground: &Ground<'_>,
-    player: &mut Player,
-    seed: u64,
-) -> Result<Option<Found>, ShellFault>
-    requires at_least_one { 0 < ground.now.workers }
-    requires at_most_32 { ground.now.workers ≤ 32 }
-    ensures { IfOk result
-        (λ found. IfSome found
-        (IsFound ground.now.workers ground.now.source.now ground.now.wanted.now.text.items)) }
-{
-    match bad_blocks(alloc, ground, player, seed)? {
-        Some(blocks) => shown(rt, alloc, ground, Schedule { seed, blocks }),
-        None => Ok(None),
-    }
-}
-
-// The schedule that a seed leads to, made short, where it is bad.
-fn bad_blocks(
-    alloc: Global,
-    ground: &Ground<'_>,
-    player: &mut Player,
-    seed: u64,
-) -> Result<Option<Vec<Block>>, AllocError> {
-    let blocks = wander(alloc, player, seed, ground.steps)?;
-    if finish(alloc, player, ground.wanted, MOST_STEPS)?.is_none() {
-        return Ok(None);
-    }
-    let mut search = Search::new(ground.wanted, blocks);
-    search.shorten(alloc, player)?;
-    Ok(Some(search.blocks))
 }
 
 // What the debugger shows of a schedule, where that is bad.
 fn shown<H: Threads + Wait + Sync>(
     rt: &H,
     alloc: Global,
+    source: &[u8],
     ground: &Ground<'_>,
     schedule: Schedule,
 ) -> Result<Option<Found>, ShellFault>
@@ -199,10 +139,10 @@ fn shown<H: Threads + Wait + Sync>(
     requires at_most_32 { ground.now.workers ≤ 32 }
     ensures { IfOk result
         (λ found. IfSome found
-        (IsFound ground.now.workers ground.now.source.now ground.now.wanted.now.text.items)) }
+        (IsFound ground.now.workers source.now ground.now.wanted.now.text.items)) }
 {
     let commands = script(alloc, &schedule.blocks)?;
-    let Ran { text, book } = run_over(rt, alloc, ground.workers, ground.source, &commands)?;
+    let Ran { text, book } = run_over(rt, alloc, ground.workers, source, &commands)?;
     match book {
         Some(book) => {
             let Some(end) = end_of(alloc, book, ground.wanted)? else {
@@ -219,28 +159,6 @@ fn shown<H: Threads + Wait + Sync>(
                 why: end.why,
             }))
         }
-        None => Ok(None),
-    }
-}
-
-// What a script came to that is bad.
-#[derive(Drop)]
-struct End {
-    output: Vec<u8>,
-    why: Badness,
-}
-
-// What is bad about the book that a script left, if something is.
-fn end_of(alloc: Global, book: Book, wanted: &Wanted) -> Result<Option<End>, AllocError>
-    ensures { IfOk result
-        (λ end. IfSome end (λ e.
-        IsEnd (machine_of book) wanted.now.text.items e.output.items e.why)) }
-{
-    match wanted.judge(alloc, book.machine())? {
-        Some(why) => Ok(Some(End {
-            output: output(alloc, book.machine())?,
-            why,
-        })),
         None => Ok(None),
     }
 }

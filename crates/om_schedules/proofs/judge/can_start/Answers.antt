@@ -1,0 +1,12 @@
+use Rattle.std.proofs.Common.{sym, ap, ◌∙◌}
+use Rattle.om_view.specs.Runs.{start_among}
+use Rattle.om_schedules.proofs.Moves.{start_behind, drop_next}
+use Rattle.om_schedules.proofs.judge.can_start.Goals as goal
+
+pub loop-name-preserved : goal.loop-name-preserved
+loop-name-preserved c =
+    let here = drop_next c.args.names.now c.loop-name.name-index c.name-item.result c.loop-name-test.true
+    c.name-item.is in
+    sym (start_behind c.args.machine.now c.args.worker c.name-item.result _ (sym c.in_ok-can_step.ensures
+    ∙ c.if-branch.false))
+    ∙ ap (start_among c.args.machine.now c.args.worker) (sym here) ∙ c.loop-name.invariant

@@ -1,0 +1,50 @@
+-- What is bad about where a machine stands.
+use Rattle.std.specs.Prelude.{◌≡◌, ◌≢◌, ◌<◌, ℕ, true, false, cond, List, [], Option, None, Some}
+use Rattle.om_cells.specs.declared.control.Control as controls
+use Rattle.om_cells.specs.declared.control.Control.TheVariants as control
+use Rattle.om_cells.specs.Values.{control_in, bytes_in}
+use Rattle.om_code.specs.declared.frame.Fault.{Fault}
+use Rattle.om_foot.specs.declared.object.Obj.TheVariants as object
+use Rattle.om_schedules.specs.declared.judge.Badness.{Badness}
+use Rattle.om_schedules.specs.declared.judge.Badness.TheVariants as badness
+use Rattle.om_undo.specs.Machines.{MachineView, state_in}
+use Rattle.om_view.specs.Runs.{has_ended, move_of}
+
+-- what a worker is doing
+abbrev pub control_of : MachineView → ℕ → controls.Control
+control_of m worker = control_in (state_in m (object.Control worker))
+
+-- what the program printed
+abbrev pub output_of : MachineView → List ℕ
+output_of m = bytes_in (state_in m object.Output)
+
+-- the fault that a worker met, if it did
+abbrev pub fault_of : controls.Control → Option Fault
+fault_of (control.Faulted fault stack) = Some fault
+fault_of _ = None
+
+-- the initial task has ended, and something else was printed than is wanted
+pub record PrintsOther (m : MachineView) (wanted : List ℕ) : Type 0 where
+  pub ended : has_ended (control_of m 0) ≡ true
+  pub other : output_of m ≢ wanted
+
+-- the initial task has not ended, and no worker has a move
+pub record IsStuck (m : MachineView) : Type 0 where
+  pub not_ended : has_ended (control_of m 0) ≡ false
+  pub no_move : (worker : ℕ) → worker < m.workers → move_of m worker ≡ None
+
+-- this is bad about where a machine stands
+abbrev pub IsBad : MachineView → List ℕ → Badness → Type 0
+IsBad m wanted badness.Output = PrintsOther m wanted
+IsBad m wanted (badness.Fault fault worker) = fault_of (control_of m worker) ≡ Some fault
+IsBad m wanted badness.Stuck = IsStuck m
+
+-- this was printed where a machine stands, and this is bad there
+pub record IsEnd (m : MachineView) (wanted output : List ℕ) (why : Badness) : Type 0 where
+  pub printed : output ≡ output_of m
+  pub bad : IsBad m wanted why
+
+-- what a program has to print: what is expected, else what it printed where it ended
+abbrev pub wanted_by : Option (List ℕ) → MachineView → List ℕ
+wanted_by (Some text) m = text
+wanted_by None m = cond (has_ended (control_of m 0)) (output_of m) []

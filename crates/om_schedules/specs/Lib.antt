@@ -1,0 +1,3 @@
+pub mod Schedules
+pub mod Bad
+pub mod Reports

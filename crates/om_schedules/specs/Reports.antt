@@ -1,0 +1,73 @@
+-- The text of a report.
+use Rattle.std.specs.Prelude.{ℕ, List, [], ◌∷◌, ◌++◌, ◌==◌, if◌then◌else◌, codes, decimal, length}
+use Rattle.om_code.specs.declared.frame.Fault.{Fault}
+use Rattle.om_code.specs.Faults.{fault_number}
+use Rattle.om_foot.specs.Names.{name_text}
+use Rattle.om_schedules.specs.declared.block.Block.{Block}
+use Rattle.om_schedules.specs.declared.block.Block.TheVariants as block
+use Rattle.om_schedules.specs.declared.hunted.Found.{Found}
+use Rattle.om_schedules.specs.declared.hunted.Hunted.{Hunted}
+use Rattle.om_schedules.specs.declared.hunted.Hunted.TheVariants as hunted
+use Rattle.om_schedules.specs.declared.judge.Badness.{Badness}
+use Rattle.om_schedules.specs.declared.judge.Badness.TheVariants as badness
+use Rattle.om_command.specs.Lists.{joined}
+
+-- a byte in quotes: line ends, quotes and backslashes stand behind a backslash
+abbrev pub byte_text : ℕ → List ℕ
+byte_text byte =
+    if byte == 10 then 92 ∷ 110 ∷ []
+    else if byte == 13 then 92 ∷ 114 ∷ []
+    else if byte == 34 then 92 ∷ 34 ∷ []
+    else if byte == 92 then 92 ∷ 92 ∷ []
+    else byte ∷ []
+
+-- bytes in quotes, on one line
+abbrev pub quoted : List ℕ → List ℕ
+quoted bytes = (34 ∷ []) ++ joined byte_text bytes ++ (34 ∷ [])
+
+abbrev pub seed_text : ℕ → List ℕ
+seed_text seed = if seed == 0 then codes "run: " else codes "seed " ++ decimal seed ++ codes ": "
+
+abbrev pub outputs_text : List ℕ → List ℕ → List ℕ
+outputs_text output wanted = codes "printed " ++ quoted output ++ codes ", wanted " ++ quoted wanted
+
+abbrev pub of_worker : ℕ → List ℕ
+of_worker worker = codes " of worker " ++ decimal worker
+
+abbrev pub fault_words : Fault → ℕ → List ℕ
+fault_words fault worker = codes "fault F" ++ decimal (fault_number fault) ++ of_worker worker
+
+-- what is bad, by what was printed and what was wanted
+abbrev pub badness_text : Badness → List ℕ → List ℕ → List ℕ
+badness_text badness.Output output wanted = outputs_text output wanted
+badness_text (badness.Fault fault worker) output wanted = fault_words fault worker
+badness_text badness.Stuck output wanted = codes "stuck: no worker has a move"
+
+abbrev pub block_words : Block → List ℕ
+block_words (block.Steps worker count) = decimal count ++ codes " of worker " ++ decimal worker ++ codes ", "
+block_words (block.Start worker task) = codes "task " ++ name_text task ++ codes " by worker " ++ decimal worker
+    ++ codes ", "
+
+abbrev pub length_text : List Block → List ℕ
+length_text blocks = codes "shortened to " ++ decimal (length blocks) ++ codes " blocks: "
+    ++ joined block_words blocks ++ codes "then `run`\n"
+
+-- what was found, in words
+abbrev pub words_text : Found → List ℕ
+words_text found = seed_text found.seed ++ badness_text found.why found.output.items found.wanted.items ++ codes "\n"
+    ++ length_text found.blocks.items
+
+-- the words, an empty line, and the script
+abbrev pub found_text : Found → List ℕ
+found_text found = words_text found ++ codes "\n" ++ found.script.items
+
+abbrev pub limits_text : List ℕ
+limits_text = codes "These are not all schedules, " ++ codes "and this is no race detector.\n"
+
+abbrev pub nothing_text : ℕ → List ℕ
+nothing_text seeds = codes "nothing bad in the schedules of " ++ decimal seeds ++ codes " seeds\n" ++ limits_text
+
+abbrev pub report_text : Hunted → List ℕ
+report_text (hunted.Refused line) = line.items
+report_text (hunted.Nothing seeds printed) = nothing_text seeds
+report_text (hunted.Found found) = found_text found

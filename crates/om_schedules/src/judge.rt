@@ -1,0 +1,242 @@
+//! What is bad about where a machine stands.
+
+ghost use Rattle.std.specs.Prelude.{◌≡◌, ◌<◌, ℕ, List, None, true, false, unwrap_or, IfOk, IfSome};
+ghost use Rattle.std.specs.Option.{option_copied};
+ghost use Rattle.om_cells.specs.declared.control.Control.TheVariants as controls;
+ghost use Rattle.om_journal.specs.Runs.{is_done};
+ghost use Rattle.om_journal.specs.declared.reply.Reply.TheVariants as replies;
+ghost use Rattle.om_undo.specs.ReadyNames.{ready_names};
+ghost use Rattle.om_view.specs.Runs.{can_step, start_among, move_of, has_ended};
+ghost use Rattle.om_schedules.specs.Bad.{IsBad, control_of, output_of, wanted_by, fault_of};
+
+use om_cells::{Choice, Control, Val};
+use om_code::frame::Fault;
+use om_foot::{Name, Obj};
+use om_undo::laws::{one_ready_list, ready_names_are_ready};
+use om_undo::{Machine, StepReply};
+use std::alloc::{AllocError, Global};
+
+/// What is bad about an outcome.
+#[derive(Clone, Copy)]
+pub enum Badness {
+    /// The program ended, and printed something else than was wanted.
+    Output,
+    /// This worker met this fault.
+    Fault { fault: Fault, worker: u8 },
+    /// The initial task has not ended, and no worker has a move.
+    Stuck,
+}
+
+/// What a program has to print.
+#[derive(Drop)]
+pub struct Wanted {
+    /// The bytes; none where they are not known.
+    pub text: Vec<u8>,
+    /// Whether they are known. Where not, any output will do.
+    pub is_known: bool,
+}
+
+impl Wanted {
+    /// What is expected, else what was printed where a machine stands, if the initial task has ended there.
+    pub(crate) fn of(
+        alloc: Global,
+        machine: &Machine,
+        expected: Option<&[u8]>,
+    ) -> Result<Wanted, AllocError>
+        ensures { IfOk result
+            (λ wanted. wanted.text.items ≡ wanted_by (option_copied expected.entry) machine.now) }
+    {
+        if let Some(text) = expected {
+            return Ok(Wanted {
+                text: Vec::from_slice(alloc, text)?,
+                is_known: true,
+            });
+        }
+        let is_known = has_ended(alloc, machine)?;
+        let text = if is_known {
+            output(alloc, machine)?
+        } else {
+            Vec::new(alloc)
+        };
+        Ok(Wanted { text, is_known })
+    }
+
+    /// What is bad about where a machine stands, if something is: a fault, else the output of a program that
+    /// ended, else that it is stuck. Its only error is out of memory.
+    pub(crate) fn judge(
+        &self,
+        alloc: Global,
+        machine: &Machine,
+    ) -> Result<Option<Badness>, AllocError>
+        ensures { IfOk result
+            (λ bad. IfSome bad (IsBad machine.now self.now.text.items)) }
+    {
+        if let Some(bad) = first_fault(alloc, machine)? {
+            return Ok(Some(bad));
+        }
+        if has_ended(alloc, machine)? {
+            return self.judge_output(alloc, machine);
+        }
+        if can_move(alloc, machine)? {
+            Ok(None)
+        } else {
+            Ok(Some(Badness::Stuck))
+        }
+    }
+
+    // Whether something else was printed than is wanted.
+    fn judge_output(&self, alloc: Global, machine: &Machine) -> Result<Option<Badness>, AllocError>
+        requires { has_ended (control_of machine.now 0) ≡ true }
+        ensures { IfOk result
+            (λ bad. IfSome bad (IsBad machine.now self.now.text.items)) }
+    {
+        let printed = output(alloc, machine)?;
+        if self.is_known && printed.as_slice() != self.text.as_slice() {
+            Ok(Some(Badness::Output))
+        } else {
+            Ok(None)
+        }
+    }
+}
+
+// The fault of the least worker that met one.
+fn first_fault(alloc: Global, machine: &Machine) -> Result<Option<Badness>, AllocError>
+    ensures { IfOk result (λ bad. (wanted : List ℕ) → IfSome bad (IsBad machine.now wanted)) }
+{
+    for worker in 0..machine.workers() {
+        if let Some(fault) = fault_at(alloc, machine, worker)? {
+            return Ok(Some(Badness::Fault { fault, worker }));
+        }
+    }
+    Ok(None)
+}
+
+// The fault that a worker met, if it did.
+fn fault_at(alloc: Global, machine: &Machine, worker: u8) -> Result<Option<Fault>, AllocError>
+    ensures { IfOk result (λ fault. fault ≡ fault_of (control_of machine.now worker)) }
+{
+    let value = machine.look(alloc, &Obj::Control(worker))?;
+    let fault = fault_in(value.control());
+    drop(value);
+    Ok(fault)
+}
+
+fn fault_in(control: Option<&Control>) -> Option<Fault>
+    ensures { result ≡ fault_of (unwrap_or (option_copied control.entry) controls.Idle) }
+{
+    match control {
+        Some(Control::Faulted(fault, _)) => Some(*fault),
+        Some(Control::Idle) | Some(Control::Running(_)) | Some(Control::Ended(_)) | None => None,
+    }
+}
+
+// Whether the initial task has ended.
+fn has_ended(alloc: Global, machine: &Machine) -> Result<bool, AllocError>
+    ensures { IfOk result (λ ended. ended ≡ has_ended (control_of machine.now 0)) }
+{
+    let value = machine.look(alloc, &Obj::Control(0))?;
+    let ended = is_ended(value.control());
+    drop(value);
+    Ok(ended)
+}
+
+fn is_ended(control: Option<&Control>) -> bool
+    ensures { result ≡ has_ended (unwrap_or (option_copied control.entry) controls.Idle) }
+{
+    match control {
+        Some(Control::Ended(_)) => true,
+        Some(Control::Idle) | Some(Control::Running(_)) | Some(Control::Faulted(_, _)) | None => {
+            false
+        }
+    }
+}
+
+/// What the program printed. Its only error is out of memory.
+pub(crate) fn output(alloc: Global, machine: &Machine) -> Result<Vec<u8>, AllocError>
+    ensures { IfOk result (λ bytes. bytes.items ≡ output_of machine.now) }
+{
+    let value = machine.look(alloc, &Obj::Output)?;
+    let bytes = Vec::from_slice(alloc, value.bytes());
+    drop(value);
+    bytes
+}
+
+// Whether some worker has a move.
+fn can_move(alloc: Global, machine: &Machine) -> Result<bool, AllocError>
+    ensures { IfOk result (λ can. can ≡ false →
+        (worker : ℕ) → worker < machine.now.workers → move_of machine.now worker ≡ None) }
+{
+    let names = ready_in(alloc, machine)?;
+    for worker in 0..machine.workers() {
+        if has_move(alloc, machine, worker, &names)? {
+            return Ok(true);
+        }
+    }
+    Ok(false)
+}
+
+// The names of the tasks that are ready, ascending.
+fn ready_in(alloc: Global, machine: &Machine) -> Result<Vec<Name>, AllocError>
+    ensures { IfOk result (λ names. names.items ≡ ready_names machine.now) }
+{
+    one_ready_list();
+    ready_names_are_ready();
+    machine.ready(alloc)
+}
+
+// Whether a worker has a move, where these tasks are ready.
+fn has_move(
+    alloc: Global,
+    machine: &Machine,
+    worker: u8,
+    names: &[Name],
+) -> Result<bool, AllocError>
+    requires in_range { worker < machine.now.workers }
+    requires ready { names.now ≡ ready_names machine.now }
+    ensures { IfOk result (λ has. has ≡ false → move_of machine.now worker ≡ None) }
+{
+    if can_step(alloc, machine, worker, Choice::Next)? {
+        return Ok(true);
+    }
+    can_start(alloc, machine, worker, names)
+}
+
+// Whether a worker can begin one of these tasks.
+fn can_start(
+    alloc: Global,
+    machine: &Machine,
+    worker: u8,
+    names: &[Name],
+) -> Result<bool, AllocError>
+    requires { worker < machine.now.workers }
+    ensures { IfOk result
+        (λ can. can ≡ false → start_among machine.now worker names.now ≡ None) }
+{
+    for name in names {
+        if can_step(alloc, machine, worker, Choice::Start(*name))? {
+            return Ok(true);
+        }
+    }
+    Ok(false)
+}
+
+// Whether a worker can make a step by a choice.
+fn can_step(
+    alloc: Global,
+    machine: &Machine,
+    worker: u8,
+    choice: Choice,
+) -> Result<bool, AllocError>
+    requires { worker < machine.now.workers }
+    ensures { IfOk result (λ can. can ≡ can_step machine.now worker choice) }
+{
+    let reply = machine.peek(alloc, worker, choice)?;
+    Ok(is_done(&reply))
+}
+
+// Whether a step was made.
+fn is_done(reply: &StepReply) -> bool
+    ensures { result ≡ is_done (replies.Step reply.now) }
+{
+    matches!(reply, StepReply::Done { .. })
+}

@@ -1,0 +1,58 @@
+//! What the book that a session left says of its schedule.
+
+ghost use Rattle.std.specs.Prelude.{◌≡◌, IfOk, IfSome};
+ghost use Rattle.std.specs.Option.{option_copied};
+ghost use Rattle.om_journal.specs.Books.{machine_of};
+ghost use Rattle.om_schedules.specs.Bad.{IsEnd, wanted_by};
+
+use crate::judge::{Badness, Wanted, output};
+use om_journal::Book;
+use om_undo::Machine;
+use std::alloc::{AllocError, Global};
+
+/// What is wanted: what is expected, else what was printed where `run` alone left this book, if the initial task
+/// has ended there. Its only error is out of memory.
+pub fn wanted_of(alloc: Global, alone: Book, expected: Option<&[u8]>) -> Result<Wanted, AllocError>
+    ensures { IfOk result
+        (λ wanted.
+        wanted.text.items ≡ wanted_by (option_copied expected.entry) (machine_of alone)) }
+{
+    let wanted = Wanted::of(alloc, alone.machine(), expected);
+    drop(alone);
+    wanted
+}
+
+/// What a session came to that is bad.
+#[derive(Drop)]
+pub struct End {
+    /// What the program printed.
+    pub output: Vec<u8>,
+    /// What is bad.
+    pub why: Badness,
+}
+
+/// What is bad about the book that a session left, if something is. Its only error is out of memory.
+pub fn end_of(alloc: Global, book: Book, wanted: &Wanted) -> Result<Option<End>, AllocError>
+    ensures { IfOk result
+        (λ end. IfSome end (λ e.
+        IsEnd (machine_of book) wanted.now.text.items e.output.items e.why)) }
+{
+    let end = end_at(alloc, book.machine(), wanted);
+    drop(book);
+    end
+}
+
+// What is bad about where a machine stands, if something is.
+fn end_at(alloc: Global, machine: &Machine, wanted: &Wanted) -> Result<Option<End>, AllocError>
+    ensures { IfOk result
+        (λ end. IfSome end (λ e.
+        IsEnd machine.now wanted.now.text.items e.output.items e.why)) }
+{
+    match wanted.judge(alloc, machine)? {
+        Some(why) => Ok(Some(End {
+            output: output(alloc, machine)?,
+            why,
+        })),
+        None => Ok(None),
+    }
+}

@@ -1,0 +1,90 @@
+//! The schedules of seeds, up to the first that is bad.
+
+ghost use Rattle.std.specs.Prelude.{◌<◌, ◌≤◌};
+
+use crate::block::Block;
+use crate::commands::MOST_STEPS;
+use crate::hunted::Progress;
+use crate::judge::Wanted;
+use crate::player::Player;
+use crate::shorten::Search;
+use crate::trial::finish;
+use crate::wander::wander;
+use om_code::Program;
+use std::alloc::{AllocError, Global};
+
+/// What schedules are tried over.
+#[derive(Clone, Copy)]
+pub struct Ground<'a> {
+    /// How many workers there are, 1 to 32.
+    pub workers: u8,
+    /// How many steps chance makes at most.
+    pub steps: u64,
+    /// How many seeds there are.
+    pub seeds: u64,
+    /// What the program has to print.
+    pub wanted: &'a Wanted,
+}
+
+/// A schedule, and the seed that led to it.
+#[derive(Drop)]
+pub struct Schedule {
+    /// The seed, from 1; 0 for that of `run` alone.
+    pub seed: u64,
+    /// The steps before those that `run` makes.
+    pub blocks: Vec<Block>,
+}
+
+/// Tries the schedule of each seed behind this one, and answers the first that is bad, made short.
+///
+/// `progress` is told before each. Its only error is out of memory.
+pub fn next_bad<P: Progress>(
+    alloc: Global,
+    program: Program,
+    ground: &Ground<'_>,
+    behind: u64,
+    progress: &mut P,
+) -> Result<Option<Schedule>, AllocError>
+    requires at_least_one { 0 < ground.now.workers }
+    requires at_most_32 { ground.now.workers ≤ 32 }
+{
+    let mut player = Player::new(alloc, program, ground.workers)?;
+    let found = next_played(alloc, &mut player, ground, behind, progress);
+    drop(player);
+    found
+}
+
+// The first bad schedule behind a seed, played so.
+fn next_played<P: Progress>(
+    alloc: Global,
+    player: &mut Player,
+    ground: &Ground<'_>,
+    behind: u64,
+    progress: &mut P,
+) -> Result<Option<Schedule>, AllocError> {
+    'seeds: for before in behind..ground.seeds {
+        let seed = before + 1;
+        progress.tell(seed, ground.seeds);
+        match bad_blocks(alloc, player, ground, seed)? {
+            Some(blocks) => return Ok(Some(Schedule { seed, blocks })),
+            None => {}
+        }
+    }
+    Ok(None)
+}
+
+// The schedule that a seed leads to, made short, where it is bad.
+fn bad_blocks(
+    alloc: Global,
+    player: &mut Player,
+    ground: &Ground<'_>,
+    seed: u64,
+) -> Result<Option<Vec<Block>>, AllocError> {
+    let blocks = wander(alloc, player, seed, ground.steps)?;
+    if finish(alloc, player, ground.wanted, MOST_STEPS)?.is_none() {
+        return Ok(None);
+    }
+    let mut search = Search::new(ground.wanted, blocks);
+    search.shorten(alloc, player)?;
+    Ok(Some(search.blocks))
+}
