@@ -5,6 +5,7 @@ use Rattle.om_undo.specs.Machines.{MachineView, rules_for}
 use Rattle.om_journal.specs.Books.{BookView, machine_of}
 use Rattle.om_outcome.specs.Files.{ReadsAll}
 use Rattle.om_shell.specs.Ends.{RunsToEnd}
+use Rattle.om_shell.specs.Progress.{moment_of}
 use Rattle.om_picture.specs.declared.traced.Traced.{Traced}
 use Rattle.om_picture.specs.declared.picture.Arrow.{Arrow}
 use Rattle.om_draw.specs.declared.scale.Scale.{Scale}
@@ -17,7 +18,8 @@ use Rattle.om_draw.specs.Strokes.{arrows_text}
 -- a session over these bytes came to its end: what it wrote, and the book that it left
 abbrev pub Leaves : List ℕ → List ℕ → List ℕ → ℕ → Option (List ℕ) → ℕ → Option BookView → Type 0
 Leaves input old new workers given status book =
-    (left : Option (List ℕ)) × RunsToEnd (Some input) left (Some old) (Some new) workers given status book
+    (left : Option (List ℕ))
+    × RunsToEnd (moment_of (Some input) (Some old) []) (moment_of left (Some new) []) workers given status book
 
 -- A page has the picture of the first 5,000 entries of a machine's history: the texts of its arrows and of its boxes.
 -- The boxes are those of the steps, and an arrow is there exactly where the steps have one.

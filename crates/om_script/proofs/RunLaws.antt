@@ -4,6 +4,7 @@ use Rattle.std.specs.Io.KnownBytes.{Appends, Consumes}
 use Rattle.std.specs.Str.Lines.{lines}
 use Rattle.om_journal.specs.Books.{BookView}
 use Rattle.om_shell.specs.Ends.{RunsToEnd}
+use Rattle.om_shell.specs.Progress.{moment_of}
 use Rattle.om_shell.specs.Script.{IsScript, book_of, commands_of, source_of, script_by, transcript_of}
 use Rattle.om_shell.specs.Verdict.{IsVerdict}
 use Rattle.om_cells.specs.declared.step.Entry.{Entry}
@@ -14,7 +15,8 @@ use Rattle.om_script.specs.Sessions.{LeadsTo, IsScriptFor, IsConeFor}
 
 -- the run took all of its commands, or nothing that is left could change what it wrote
 whole_of : (workers : ℕ) (source commands rest left : List ℕ) (status : ℕ) (book : Option BookView)
-    → (p : RunsToEnd (Some commands) (Some rest) (Some []) (Some left) workers (Some source) status book)
+    → (p : RunsToEnd (moment_of (Some commands) (Some []) []) (moment_of (Some rest) (Some left) []) workers
+    (Some source) status book)
     → script_by p.verdict workers p.runs (Some source) commands
     ≡ script_by p.verdict workers p.runs (Some source) p.taken
     → IsRun workers source commands left book
@@ -27,7 +29,8 @@ whole_of workers source commands rest left status book p same = record {
 
 pub Run_of : (workers : ℕ) (source commands left : List ℕ) (after : Option (List ℕ)) (status : ℕ)
     (book : Option BookView)
-    → RunsToEnd (Some commands) after (Some []) (Some left) workers (Some source) status book
+    → RunsToEnd (moment_of (Some commands) (Some []) []) (moment_of after (Some left) []) workers (Some source) status
+    book
     → IsRun workers source commands left book
 Run_of workers source commands left None status book p = absurd p.consumes
 Run_of workers source commands left (Some rest) status book p =

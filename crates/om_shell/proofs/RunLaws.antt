@@ -12,7 +12,7 @@ use Rattle.om_shell.specs.declared.fault.ShellFault.{ShellFault}
 use Rattle.om_shell.specs.declared.fault.ShellFault.TheVariants.{Read, Memory}
 use Rattle.om_shell.specs.Ends.{RunsToEnd, BreaksOffRun, WritesScript}
 use Rattle.om_shell.specs.Lines.{parts_of, source_in, commands_in}
-use Rattle.om_shell.specs.Progress.{Advance, BreaksOff}
+use Rattle.om_shell.specs.Progress.{Moment, moment_of, Advance, BreaksOff}
 use Rattle.om_shell.specs.Script.{book_of, source_of, script_by, transcript_of}
 use Rattle.om_shell.specs.Serving.{due_for, Serves, BreaksOffServing, ServesAlone, ServesAlonePart, BreaksOffAlone}
 use Rattle.om_shell.specs.Source.{IsMarked, IsUnmarked, ReadsNoMark}
@@ -23,7 +23,8 @@ use Rattle.om_shell.proofs.Advances.{Done_then, Breaks_then}
 -- reading a source up to behind the mark's line
 abbrev pub Marked_advance : (ra rb w : Option (List ℕ)) (pending source rest : List ℕ) (at after workers : ℕ)
     (verdict : Result Raw SourceFault) (runs : List FreeRun) → Consumes ra rb pending → IsMarked pending at after
-    → source ≡ take at pending → rest ≡ drop after pending → Advance ra rb w w [] rest
+    → source ≡ take at pending → rest ≡ drop after pending
+    → Advance (moment_of ra w []) (moment_of rb w rest)
     (script_by verdict workers runs None) (due_for verdict workers runs source)
 Marked_advance ra rb w pending source rest at after workers verdict runs read p e d = record {
   taken = pending;
@@ -46,17 +47,18 @@ marked_source pending source more at after p e =
     ∙ append_assoc (take after pending) (drop after pending) more)
     ∙ p.source (drop after pending ++ more) ∙ sym e
 
-pub Runs_marked : (ra rb rc w wc : Option (List ℕ)) (pending source rest : List ℕ) (at after workers status : ℕ)
-    (book : Option BookView) → Consumes ra rb pending → IsMarked pending at after
-    → source ≡ take at pending → rest ≡ drop after pending → Serves rb rc w wc rest workers source status book
-    → RunsToEnd ra rc w wc workers None status book
-Runs_marked ra rb rc w wc pending source rest at after workers status book read p e d q =
+pub Runs_marked : (ra rb w : Option (List ℕ)) (end : Moment) (pending source rest : List ℕ)
+    (at after workers status : ℕ) (book : Option BookView) → Consumes ra rb pending → IsMarked pending at after
+    → source ≡ take at pending → rest ≡ drop after pending
+    → Serves (moment_of rb w rest) end workers source status book
+    → RunsToEnd (moment_of ra w []) end workers None status book
+Runs_marked ra rb w end pending source rest at after workers status book read p e d q =
     let verdict = q.verdict in
     let runs = q.runs in
     let kept = q.with_book in
-    let done = Done_then ra rb rc w w wc [] rest (script_by verdict workers runs None)
-    (due_for verdict workers runs source) kept.view (Marked_advance ra rb w pending source rest at after workers
-    verdict runs read p e d) kept.done in
+    let done = Done_then (moment_of ra w []) (moment_of rb w rest) end
+    (script_by verdict workers runs None) (due_for verdict workers runs source) kept.view
+    (Marked_advance ra rb w pending source rest at after workers verdict runs read p e d) kept.done in
     let same = marked_source pending source q.with_book.done.taken at after p e in
     record {
       taken = pending ++ q.with_book.done.taken;
@@ -68,7 +70,7 @@ Runs_marked ra rb rc w wc pending source rest at after workers status book read 
       book_is = kept.book_is ∙ ap book_of done.left;
       status_is = q.status_is;
       stops = elim done.stops [
-        | inl end ↦ inl end
+        | inl nothing_left ↦ inl nothing_left
         | inr settled ↦ inr (record {
           source = λ future. ap (λ l. source_in (parts_of l)) (append_assoc pending q.with_book.done.taken future)
               ∙ marked_source pending source (q.with_book.done.taken ++ future) at after p e ∙ sym same;
@@ -77,11 +79,11 @@ Runs_marked ra rb rc w wc pending source rest at after workers status book read 
       ];
     }
 
-pub Runs_unmarked : (ra rb wa wb : Option (List ℕ)) (pending source : List ℕ) (at workers status : ℕ)
-    (book : Option BookView) → Consumes ra rb pending → IsAtEnd rb → IsUnmarked pending at
-    → source ≡ take at pending → ServesAlone wa wb workers source status book → RunsToEnd ra rb wa wb workers None
-    status book
-Runs_unmarked ra rb wa wb pending source at workers status book read end p e q =
+pub Runs_unmarked : (before after : Moment) (pending source : List ℕ) (at workers status : ℕ)
+    (book : Option BookView) → Consumes before.left after.left pending → IsAtEnd after.left → IsUnmarked pending at
+    → source ≡ take at pending → ServesAlone before.held after.held workers source status book
+    → RunsToEnd before after workers None status book
+Runs_unmarked before after pending source at workers status book read end p e q =
     let verdict = q.verdict in
     let runs : List FreeRun = [] in
     let same : source_in (parts_of pending) ≡ source = p.source ∙ sym e in
@@ -94,16 +96,16 @@ Runs_unmarked ra rb wa wb pending source at workers status book read end p e q =
       judged = subst (λ l. IsVerdict l verdict) (sym same) q.judged;
       runs = runs;
       consumes = read;
-      appends = subst (λ (t : Transcript Debugger). Appends wa wb t.text) (sym all) q.appends;
+      appends = subst (λ (t : Transcript Debugger). Appends before.held after.held t.text) (sym all) q.appends;
       book_is = q.book_is ∙ sym (ap (λ (t : Transcript Debugger). book_of t.view) all);
       status_is = q.status_is;
       stops = inl end;
     }
 
-pub Runs_given : (ra rb wa wb : Option (List ℕ)) (source : List ℕ) (workers status : ℕ) (book : Option BookView)
-    → Serves ra rb wa wb [] workers source status book
-    → RunsToEnd ra rb wa wb workers (Some source) status book
-Runs_given ra rb wa wb source workers status book q = record {
+pub Runs_given : (left held : Option (List ℕ)) (after : Moment) (source : List ℕ) (workers status : ℕ)
+    (book : Option BookView) → Serves (moment_of left held []) after workers source status book
+    → RunsToEnd (moment_of left held []) after workers (Some source) status book
+Runs_given left held after source workers status book q = record {
   taken = q.with_book.done.taken;
   verdict = q.verdict;
   judged = q.judged;
@@ -120,10 +122,10 @@ Runs_given ra rb wa wb source workers status book q = record {
 }
 
 -- nothing was written, and it was no read that failed
-unwritten : (ra rb wa wb : Option (List ℕ)) (taken : List ℕ) (workers : ℕ) (given : Option (List ℕ))
-    (fault : ShellFault) → Consumes ra rb taken → Appends wa wb [] → fault ≢ Read
-    → BreaksOffRun ra rb wa wb workers given fault
-unwritten ra rb wa wb taken workers given fault read wrote other = record {
+unwritten : (before after : Moment) (taken : List ℕ) (workers : ℕ) (given : Option (List ℕ)) (fault : ShellFault)
+    → Consumes before.left after.left taken → Appends before.held after.held [] → fault ≢ Read
+    → BreaksOffRun before after workers given fault
+unwritten before after taken workers given fault read wrote other = record {
   taken = taken;
   text = [];
   consumes =
@@ -134,12 +136,13 @@ unwritten ra rb wa wb taken workers given fault read wrote other = record {
 }
 
 pub Breaks_for_memory : (ra rb w : Option (List ℕ)) (taken : List ℕ) (workers : ℕ) (given : Option (List ℕ))
-    (fault : ShellFault) → Consumes ra rb taken → fault ≡ Memory → BreaksOffRun ra rb w w workers given fault
-Breaks_for_memory ra rb w taken workers given fault read is_memory = unwritten ra rb w w taken workers given fault
-    read (Appends-nil w) (λ is_read. cc)
+    (fault : ShellFault) → Consumes ra rb taken → fault ≡ Memory
+    → BreaksOffRun (moment_of ra w []) (moment_of rb w []) workers given fault
+Breaks_for_memory ra rb w taken workers given fault read is_memory = unwritten (moment_of ra w []) (moment_of rb w [])
+    taken workers given fault read (Appends-nil w) (λ is_read. cc)
 
 pub Breaks_reading : (ra rb w : Option (List ℕ)) (workers : ℕ) (fault : ShellFault) → ReadsNoMark ra rb fault
-    → BreaksOffRun ra rb w w workers None fault
+    → BreaksOffRun (moment_of ra w []) (moment_of rb w []) workers None fault
 Breaks_reading ra rb w workers fault p = record {
   taken = p.taken;
   text = [];
@@ -150,11 +153,11 @@ Breaks_reading ra rb w workers fault p = record {
 }
 
 -- a part of a script that has a verdict
-begun : (ra rb wa wb : Option (List ℕ)) (workers : ℕ) (given : Option (List ℕ)) (fault : ShellFault)
+begun : (left held : Option (List ℕ)) (after : Moment) (workers : ℕ) (given : Option (List ℕ)) (fault : ShellFault)
     (verdict : Result Raw SourceFault) (runs : List FreeRun)
-    → (part : BreaksOff ra rb wa wb [] (script_by verdict workers runs given) fault)
-    → IsVerdict (source_of given part.taken) verdict → BreaksOffRun ra rb wa wb workers given fault
-begun ra rb wa wb workers given fault verdict runs part judged = record {
+    → (part : BreaksOff (moment_of left held []) after (script_by verdict workers runs given) fault)
+    → IsVerdict (source_of given part.taken) verdict → BreaksOffRun (moment_of left held []) after workers given fault
+begun left held after workers given fault verdict runs part judged = record {
   taken = part.taken;
   text = part.text;
   consumes = part.consumes;
@@ -169,34 +172,37 @@ begun ra rb wa wb workers given fault verdict runs part judged = record {
   });
 }
 
-pub Breaks_marked : (ra rb rc w wc : Option (List ℕ)) (pending source rest : List ℕ) (at after workers : ℕ)
+pub Breaks_marked : (ra rb w : Option (List ℕ)) (end : Moment) (pending source rest : List ℕ) (at after workers : ℕ)
     (fault : ShellFault) → Consumes ra rb pending → IsMarked pending at after
-    → source ≡ take at pending → rest ≡ drop after pending → BreaksOffServing rb rc w wc rest workers source fault
-    → BreaksOffRun ra rc w wc workers None fault
-Breaks_marked ra rb rc w wc pending source rest at after workers fault read p e d (inl q) =
-    unwritten ra rc w wc (pending ++ []) workers None fault (Consumes-trans _ _ _ _ _ read q.consumes) q.appends
-    q.no_read
-Breaks_marked ra rb rc w wc pending source rest at after workers fault read p e d (inr q) =
-    begun ra rc w wc workers None fault q.verdict q.runs
-    (Breaks_then ra rb rc w w wc [] rest (script_by q.verdict workers q.runs None)
-    (due_for q.verdict workers q.runs source) fault (Marked_advance ra rb w pending source rest at after workers
-    q.verdict q.runs read p e d) q.part)
+    → source ≡ take at pending → rest ≡ drop after pending
+    → BreaksOffServing (moment_of rb w rest) end workers source fault
+    → BreaksOffRun (moment_of ra w []) end workers None fault
+Breaks_marked ra rb w end pending source rest at after workers fault read p e d (inl q) =
+    unwritten (moment_of ra w []) end (pending ++ []) workers None fault (Consumes-trans _ _ _ _ _ read q.consumes)
+    q.appends q.no_read
+Breaks_marked ra rb w end pending source rest at after workers fault read p e d (inr q) =
+    begun ra w end workers None fault q.verdict q.runs
+    (Breaks_then (moment_of ra w []) (moment_of rb w rest) end
+    (script_by q.verdict workers q.runs None) (due_for q.verdict workers q.runs source) fault
+    (Marked_advance ra rb w pending source rest at after workers q.verdict q.runs read p e d) q.part)
     (subst (λ l. IsVerdict l q.verdict) (sym (marked_source pending source q.part.taken at after p e)) q.judged)
 
-pub Breaks_given : (ra rb wa wb : Option (List ℕ)) (source : List ℕ) (workers : ℕ) (fault : ShellFault)
-    → BreaksOffServing ra rb wa wb [] workers source fault → BreaksOffRun ra rb wa wb workers (Some source) fault
-Breaks_given ra rb wa wb source workers fault (inl q) = unwritten ra rb wa wb [] workers (Some source) fault
-    q.consumes q.appends q.no_read
-Breaks_given ra rb wa wb source workers fault (inr q) = begun ra rb wa wb workers (Some source) fault q.verdict
+pub Breaks_given : (left held : Option (List ℕ)) (after : Moment) (source : List ℕ) (workers : ℕ)
+    (fault : ShellFault) → BreaksOffServing (moment_of left held []) after workers source fault
+    → BreaksOffRun (moment_of left held []) after workers (Some source) fault
+Breaks_given left held after source workers fault (inl q) = unwritten (moment_of left held []) after [] workers
+    (Some source) fault q.consumes q.appends q.no_read
+Breaks_given left held after source workers fault (inr q) = begun left held after workers (Some source) fault q.verdict
     q.runs q.part q.judged
 
-alone : (ra rb wa wb : Option (List ℕ)) (pending source : List ℕ) (at workers : ℕ) (fault : ShellFault)
-    → Consumes ra rb pending → IsUnmarked pending at
-    → source ≡ take at pending → fault ≢ Read → Appends wa wb [] ⊎ ServesAlonePart wa wb workers source
-    → BreaksOffRun ra rb wa wb workers None fault
-alone ra rb wa wb pending source at workers fault read p e other (inl wrote) = unwritten ra rb wa wb pending workers
+alone : (before after : Moment) (pending source : List ℕ) (at workers : ℕ) (fault : ShellFault)
+    → Consumes before.left after.left pending → IsUnmarked pending at
+    → source ≡ take at pending → fault ≢ Read
+    → Appends before.held after.held [] ⊎ ServesAlonePart before.held after.held workers source
+    → BreaksOffRun before after workers None fault
+alone before after pending source at workers fault read p e other (inl wrote) = unwritten before after pending workers
     None fault read wrote other
-alone ra rb wa wb pending source at workers fault read p e other (inr q) =
+alone before after pending source at workers fault read p e other (inr q) =
     let same : source_in (parts_of pending) ≡ source = p.source ∙ sym e in
     let all : script_by q.verdict workers [] None pending ≡ transcript_of q.verdict workers [] source [] =
     ap (λ l. transcript_of q.verdict workers [] l (commands_in (parts_of pending))) same
@@ -219,10 +225,11 @@ alone ra rb wa wb pending source at workers fault read p e other (inr q) =
       answered = λ is_read. absurd (other is_read);
     }
 
-pub Breaks_unmarked : (ra rb wa wb : Option (List ℕ)) (pending source : List ℕ) (at workers : ℕ)
-    (fault : ShellFault) → Consumes ra rb pending → IsUnmarked pending at
-    → source ≡ take at pending → BreaksOffAlone wa wb workers source fault → BreaksOffRun ra rb wa wb workers None fault
-Breaks_unmarked ra rb wa wb pending source at workers fault read p e q = alone ra rb wa wb pending source at workers
+pub Breaks_unmarked : (before after : Moment) (pending source : List ℕ) (at workers : ℕ) (fault : ShellFault)
+    → Consumes before.left after.left pending → IsUnmarked pending at
+    → source ≡ take at pending → BreaksOffAlone before.held after.held workers source fault
+    → BreaksOffRun before after workers None fault
+Breaks_unmarked before after pending source at workers fault read p e q = alone before after pending source at workers
     fault read p e q.no_read q.part
 
 whole_of : (wa wb : Option (List ℕ)) (workers : ℕ) (given : Option (List ℕ)) (input taken rest : List ℕ)
@@ -245,7 +252,7 @@ whole_of wa wb workers given input taken rest verdict runs e judged wrote same_s
 
 -- what was written is the script of all that the reader had
 pub Runs_whole : (ra rb wa wb : Option (List ℕ)) (workers : ℕ) (given : Option (List ℕ)) (status : ℕ)
-    (book : Option BookView) → RunsToEnd ra rb wa wb workers given status book
+    (book : Option BookView) → RunsToEnd (moment_of ra wa []) (moment_of rb wb []) workers given status book
     → IfSome ra (λ input. WritesScript wa wb workers given input)
 Runs_whole None rb wa wb workers given status book p = tt
 Runs_whole (Some input) None wa wb workers given status book p = absurd p.consumes

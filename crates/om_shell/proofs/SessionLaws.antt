@@ -15,7 +15,7 @@ use Rattle.om_shell.specs.declared.fault.ShellFault.{ShellFault}
 use Rattle.om_shell.specs.declared.fault.ShellFault.TheVariants.{Read}
 use Rattle.om_shell.specs.Lines.{HasNoLineEnd}
 use Rattle.om_shell.specs.Transcript.{Transcript, after_text}
-use Rattle.om_shell.specs.Progress.{IsBeginning, AppendsPart, AreWholeLines, Advance}
+use Rattle.om_shell.specs.Progress.{Moment, moment_of, IsBeginning, AppendsPart, AreWholeLines, Advance}
 use Rattle.om_shell.specs.Batch.{Answers, AnswersPart}
 use Rattle.om_shell.specs.Sessions.{over, after_answer, session, due, due_behind, AnswersBatch, AdvancesTo}
 use Rattle.om_shell.proofs.Advances.{after_text-append, Advance_none, Advance_trans, Advance_read, Advance_answers}
@@ -215,22 +215,25 @@ pub no_part : (a : Option (List ℕ)) (d : Debugger) (line : List ℕ) → (runs
 no_part a d line = ([], record { sent = []; begins = nothing_begins _; appends = Appends-nil a })
 
 -- advances, by what the free runs do
-pub Advances_none : (r w : Option (List ℕ)) (pending : List ℕ) (d : Debugger) → AdvancesTo r r w w pending pending d d
-Advances_none r w pending d = ([], λ later. Advance_none r w pending (due d later))
+pub Advances_none : (now : Moment) (d : Debugger) → AdvancesTo now now d d
+Advances_none now d = ([], λ later. Advance_none now (due d later))
 
-pub Advances_trans : (ra rb rc wa wb wc : Option (List ℕ)) (pa pb pc : List ℕ) (d e f : Debugger)
-    → AdvancesTo ra rb wa wb pa pb d e → AdvancesTo rb rc wb wc pb pc e f → AdvancesTo ra rc wa wc pa pc d f
-Advances_trans ra rb rc wa wb wc pa pb pc d e f p q = (
+pub Advances_trans : (a b c : Moment) (d e f : Debugger) → AdvancesTo a b d e → AdvancesTo b c e f → AdvancesTo a c d f
+Advances_trans a b c d e f p q = (
   p.0 ++ q.0,
-  λ later. subst (λ (rs : List FreeRun). Advance ra rc wa wc pa pc (due d rs) (due f later))
-      (sym (append_assoc p.0 q.0 later))
-      (Advance_trans ra rb rc wa wb wc pa pb pc _ _ _ (p.1 (q.0 ++ later)) (q.1 later)),
+  λ later. subst (λ (rs : List FreeRun). Advance a c (due d rs) (due f later)) (sym (append_assoc p.0 q.0 later))
+      (Advance_trans a b c _ _ _ (p.1 (q.0 ++ later)) (q.1 later)),
 )
 
-pub Advances_read : (ra rb w : Option (List ℕ)) (pa pb bytes : List ℕ) (d : Debugger) → Consumes ra rb bytes → pb
-    ≡ pa ++ bytes → AdvancesTo ra rb w w pa pb d d
-Advances_read ra rb w pa pb bytes d p e = ([], λ later. Advance_read ra rb w pa pb bytes (due d later) p e)
+pub Advances_read : (now : Moment) (left : Option (List ℕ)) (pending bytes : List ℕ) (d : Debugger)
+    → Consumes now.left left bytes → pending ≡ now.pending ++ bytes
+    → AdvancesTo now (moment_of left now.held pending) d d
+Advances_read now left pending bytes d p e = ([], λ later. Advance_read now left pending bytes (due d later) p e)
 
-pub Advances_answers : (r wa wb : Option (List ℕ)) (pa pb : List ℕ) (used : ℕ) (d after : Debugger)
-    → AnswersBatch wa wb pa used d false after → pb ≡ drop used pa → AdvancesTo r r wa wb pa pb d after
-Advances_answers r wa wb pa pb used d after p e = (p.0, λ later. Advance_answers r wa wb pa pb used _ _ (p.1 later) e)
+pub Advances_answers : (now : Moment) (held : Option (List ℕ)) (pending : List ℕ) (used : ℕ) (d after : Debugger)
+    → AnswersBatch now.held held now.pending used d false after → pending ≡ drop used now.pending
+    → AdvancesTo now (moment_of now.left held pending) d after
+Advances_answers now held pending used d after p e = (
+  p.0,
+  λ later. Advance_answers now held pending used _ _ (p.1 later) e,
+)

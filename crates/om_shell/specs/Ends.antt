@@ -9,7 +9,7 @@ use Rattle.om_view.specs.Freed.{FreeRun}
 use Rattle.om_shell.specs.declared.fault.ShellFault.{ShellFault}
 use Rattle.om_shell.specs.declared.fault.ShellFault.TheVariants.{Read}
 use Rattle.om_shell.specs.Lines.{parts_of, has_mark}
-use Rattle.om_shell.specs.Progress.{IsBeginning, AnswersWholeLines}
+use Rattle.om_shell.specs.Progress.{Moment, IsBeginning, AnswersWholeLines}
 use Rattle.om_shell.specs.Script.{book_of, source_of, script_by, IsScript}
 use Rattle.om_shell.specs.Transcript.{Transcript}
 use Rattle.om_shell.specs.Verdict.{IsVerdict}
@@ -27,18 +27,18 @@ pub record IsSettled (verdict : Result Raw SourceFault) (workers : ℕ) (runs : 
       workers runs given taken
 
 -- A run that came to its end: it wrote the script of the bytes that it took and nothing else, and left its book;
--- and the input has ended, or nothing that could follow changes the script.
-pub record RunsToEnd (left_before left_after held_before held_after : Option (List ℕ)) (workers : ℕ)
-    (given : Option (List ℕ)) (status : ℕ) (book : Option BookView) : Type 0 where
+-- and the input has ended, or nothing that could follow changes the script. No bytes are pending before a run.
+pub record RunsToEnd (before after : Moment) (workers : ℕ) (given : Option (List ℕ)) (status : ℕ)
+    (book : Option BookView) : Type 0 where
   pub taken : List ℕ
   pub verdict : Result Raw SourceFault
   pub judged : IsVerdict (source_of given taken) verdict
   pub runs : List FreeRun
-  pub consumes : Consumes left_before left_after taken
-  pub appends : Appends held_before held_after (script_by verdict workers runs given taken).text
+  pub consumes : Consumes before.left after.left taken
+  pub appends : Appends before.held after.held (script_by verdict workers runs given taken).text
   pub book_is : book ≡ book_of (script_by verdict workers runs given taken).view
   pub status_is : status ≡ status_of verdict
-  pub stops : IsAtEnd left_after ⊎ IsSettled verdict workers runs given taken
+  pub stops : IsAtEnd after.left ⊎ IsSettled verdict workers runs given taken
 
 -- the text is a beginning of a script of the bytes that were taken
 pub record BeginsScript (workers : ℕ) (given : Option (List ℕ)) (taken text : List ℕ) : Type 0 where
@@ -61,14 +61,14 @@ pub record AnswersLines (workers : ℕ) (given : Option (List ℕ)) (taken text 
 
 -- A run that a fault broke off: nothing was written, or a beginning of the script of the bytes that were taken. Where
 -- a read failed, all whole lines before it were answered; none is while the source is still read.
-pub record BreaksOffRun (left_before left_after held_before held_after : Option (List ℕ)) (workers : ℕ)
-    (given : Option (List ℕ)) (fault : ShellFault) : Type 0 where
-  pub taken : List ℕ
-  pub text : List ℕ
-  pub consumes : Consumes left_before left_after taken
-  pub appends : Appends held_before held_after text
-  pub begins : (text ≡ []) ⊎ BeginsScript workers given taken text
-  pub answered : fault ≡ Read → (HasOpenSource given taken × (text ≡ [])) ⊎ AnswersLines workers given taken text
+pub record BreaksOffRun (before after : Moment) (workers : ℕ) (given : Option (List ℕ)) (fault : ShellFault) : Type 0
+  where
+    pub taken : List ℕ
+    pub text : List ℕ
+    pub consumes : Consumes before.left after.left taken
+    pub appends : Appends before.held after.held text
+    pub begins : (text ≡ []) ⊎ BeginsScript workers given taken text
+    pub answered : fault ≡ Read → (HasOpenSource given taken × (text ≡ [])) ⊎ AnswersLines workers given taken text
 
 -- what was written is a script of the whole input
 pub record WritesScript (held_before held_after : Option (List ℕ)) (workers : ℕ) (given : Option (List ℕ))

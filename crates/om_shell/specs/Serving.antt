@@ -10,7 +10,7 @@ use Rattle.om_view.specs.Freed.{FreeRun}
 use Rattle.om_shell.specs.declared.fault.ShellFault.{ShellFault}
 use Rattle.om_shell.specs.declared.fault.ShellFault.TheVariants.{Read}
 use Rattle.om_shell.specs.Ends.{status_of}
-use Rattle.om_shell.specs.Progress.{AppendsPart, BreaksOff, IsDone}
+use Rattle.om_shell.specs.Progress.{Moment, AppendsPart, BreaksOff, IsDone}
 use Rattle.om_shell.specs.Script.{book_of, transcript_of}
 use Rattle.om_shell.specs.Transcript.{Transcript}
 use Rattle.om_shell.specs.Verdict.{IsVerdict}
@@ -20,42 +20,37 @@ abbrev pub due_for : Result Raw SourceFault → ℕ → List FreeRun → List �
 due_for verdict workers runs source bytes = transcript_of verdict workers runs source (lines bytes)
 
 -- all that was due is done, and this is the book that it leaves
-pub record DoneWith (left_before left_after held_before held_after : Option (List ℕ)) (pending : List ℕ)
-    (due : List ℕ → Transcript Debugger) (book : Option BookView) : Type 0 where
-  pub view : Option Debugger
-  pub done : IsDone left_before left_after held_before held_after pending due view
-  pub book_is : book ≡ book_of view
+pub record DoneWith (before after : Moment) (due : List ℕ → Transcript Debugger) (book : Option BookView) : Type 0
+  where
+    pub view : Option Debugger
+    pub done : IsDone before after due view
+    pub book_is : book ≡ book_of view
 
 -- by a verdict on the source, all that was due is done
-pub record Serves (left_before left_after held_before held_after : Option (List ℕ)) (pending : List ℕ) (workers : ℕ)
-    (source : List ℕ) (status : ℕ) (book : Option BookView) : Type 0 where
+pub record Serves (before after : Moment) (workers : ℕ) (source : List ℕ) (status : ℕ) (book : Option BookView) : Type
+    0 where
   pub verdict : Result Raw SourceFault
   pub judged : IsVerdict source verdict
   pub status_is : status ≡ status_of verdict
   pub runs : List FreeRun
-  pub with_book : DoneWith left_before left_after held_before held_after pending (due_for verdict workers runs source)
-      book
+  pub with_book : DoneWith before after (due_for verdict workers runs source) book
 
 -- by a verdict on the source, a part of what was due is done
-pub record ServesPart (left_before left_after held_before held_after : Option (List ℕ)) (pending : List ℕ)
-    (workers : ℕ) (source : List ℕ) (fault : ShellFault) : Type 0 where
+pub record ServesPart (before after : Moment) (workers : ℕ) (source : List ℕ) (fault : ShellFault) : Type 0 where
   pub verdict : Result Raw SourceFault
   pub judged : IsVerdict source verdict
   pub runs : List FreeRun
-  pub part : BreaksOff left_before left_after held_before held_after pending (due_for verdict workers runs source) fault
+  pub part : BreaksOff before after (due_for verdict workers runs source) fault
 
 -- no read failed, and nothing was taken or written
-pub record IsUntouched (left_before left_after held_before held_after : Option (List ℕ)) (fault : ShellFault) : Type
-    0 where
-  pub consumes : Consumes left_before left_after []
-  pub appends : Appends held_before held_after []
+pub record IsUntouched (before after : Moment) (fault : ShellFault) : Type 0 where
+  pub consumes : Consumes before.left after.left []
+  pub appends : Appends before.held after.held []
   pub no_read : fault ≢ Read
 
-abbrev pub BreaksOffServing : Option (List ℕ) → Option (List ℕ) → Option (List ℕ) → Option (List ℕ) → List ℕ → ℕ
-    → List ℕ → ShellFault → Type 0
-BreaksOffServing left_before left_after held_before held_after pending workers source fault =
-    IsUntouched left_before left_after held_before held_after fault ⊎ ServesPart left_before left_after held_before
-    held_after pending workers source fault
+abbrev pub BreaksOffServing : Moment → Moment → ℕ → List ℕ → ShellFault → Type 0
+BreaksOffServing before after workers source fault =
+    IsUntouched before after fault ⊎ ServesPart before after workers source fault
 
 -- a source that no command follows
 pub record ServesAlone (held_before held_after : Option (List ℕ)) (workers : ℕ) (source : List ℕ) (status : ℕ)

@@ -2,7 +2,7 @@
 use Rattle.std.specs.Prelude.{Bool, true, false, cond, ℕ, List, [], ◌∷◌, ◌++◌, Option, Some}
 use Rattle.std.specs.Str.Lines.{lines}
 use Rattle.om_shell.specs.Batch.{Answers}
-use Rattle.om_shell.specs.Progress.{Advance}
+use Rattle.om_shell.specs.Progress.{Moment, Advance}
 use Rattle.om_shell.specs.Transcript.{Transcript, after_text}
 use Rattle.om_view.specs.declared.debugger.Debugger.{Debugger}
 use Rattle.om_view.specs.Freed.{FreeRun}
@@ -38,9 +38,6 @@ AnswersBatch old new bytes used d quits after =
     (due_behind quits after later))
 
 -- Some calls were made, with free runs among them; and whatever runs follow, this is what is due then.
-abbrev pub AdvancesTo : Option (List ℕ) → Option (List ℕ) → Option (List ℕ) → Option (List ℕ) → List ℕ → List ℕ
-    → Debugger → Debugger → Type 0
-AdvancesTo left_before left_after held_before held_after pending_before pending_after d after =
-    (runs : List FreeRun)
-    × ((later : List FreeRun) → Advance left_before left_after held_before held_after pending_before pending_after
-    (due d (runs ++ later)) (due after later))
+abbrev pub AdvancesTo : Moment → Moment → Debugger → Debugger → Type 0
+AdvancesTo before after d later_d =
+    (runs : List FreeRun) × ((later : List FreeRun) → Advance before after (due d (runs ++ later)) (due later_d later))

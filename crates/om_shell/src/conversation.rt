@@ -1,7 +1,7 @@
 //! Lines of commands, each answered before anything more is read.
-ghost use Rattle.std.specs.Prelude.{◌≡◌, ◌≤◌, List, Some, false, drop, take, length, IfOk, IfErr, OnOk};
+ghost use Rattle.std.specs.Prelude.{◌≡◌, ◌≤◌, List, [], Some, false, drop, take, length, IfOk, IfErr, OnOk};
 ghost use Rattle.om_shell.specs.Lines.{HasNoLineEnd};
-ghost use Rattle.om_shell.specs.Progress.{BreaksOff, IsDone};
+ghost use Rattle.om_shell.specs.Progress.{BreaksOff, IsDone, moment_of};
 ghost use Rattle.om_shell.specs.Batch.{AnswersPart};
 ghost use Rattle.om_shell.specs.Sessions.{due, AnswersBatch};
 ghost use Rattle.om_view.specs.Freed.{FreeRun};
@@ -57,14 +57,16 @@ pub(crate) fn converse<H: Threads + Wait + Sync, R: Read, W: Write>(
     reader: &mut R,
     writer: &mut W,
 ) -> Result<(), ShellFault>
-    ensures done { OnOk result
-        ((runs : List FreeRun) × IsDone (R.remaining reader.old) (R.remaining reader.new)
-        (W.contents writer.old) (W.contents writer.new)
-        input.old.pending.items (due session.old.debugger runs) (Some session.new.debugger)) }
+    ensures done { OnOk result ((runs : List FreeRun)
+        × IsDone (moment_of (R.remaining reader.old) (W.contents writer.old)
+        input.old.pending.items)
+        (moment_of (R.remaining reader.new) (W.contents writer.new) [])
+        (due session.old.debugger runs) (Some session.new.debugger)) }
     ensures broken_off { IfErr result (λ fault. (runs : List FreeRun)
-        × BreaksOff (R.remaining reader.old) (R.remaining reader.new) (W.contents writer.old)
-        (W.contents writer.new)
-        input.old.pending.items (due session.old.debugger runs) fault) }
+        × BreaksOff (moment_of (R.remaining reader.old) (W.contents writer.old)
+        input.old.pending.items)
+        (moment_of (R.remaining reader.new) (W.contents writer.new) [])
+        (due session.old.debugger runs) fault) }
 {
     let mut searched = 0;
     'reads: loop {

@@ -3,7 +3,7 @@ ghost use Rattle.std.specs.Prelude.{◌≡◌, ◌<◌, ◌≤◌, ◌+◌, ◌*
 ghost use Rattle.std.specs.Io.KnownBytes.{Appends};
 ghost use Rattle.om_lexer.specs.declared.fault.FaultCode.TheVariants.{Memory};
 ghost use Rattle.om_shell.specs.Places.{refusal_text};
-ghost use Rattle.om_shell.specs.Progress.{AppendsPart, BreaksOff};
+ghost use Rattle.om_shell.specs.Progress.{AppendsPart, BreaksOff, moment_of};
 ghost use Rattle.om_shell.specs.Sessions.{due};
 ghost use Rattle.om_view.specs.Freed.{FreeRun};
 ghost use Rattle.om_view.specs.Views.{opened};
@@ -56,13 +56,15 @@ fn answer_commands<H: Threads + Wait + Sync, R: Read, W: Write>(
     requires at_most_32 { host.now.workers ≤ 32 }
     ensures status { IfOk result (λ ended. ended.status ≡ 0) }
     ensures done { IfOk result (λ ended. (runs : List FreeRun)
-        × DoneWith (R.remaining reader.old) (R.remaining reader.new) (W.contents writer.old)
-        (W.contents writer.new)
-        input.old.pending.items (due (opened program host.now.workers) runs) ended.book) }
+        × DoneWith (moment_of (R.remaining reader.old) (W.contents writer.old)
+        input.old.pending.items)
+        (moment_of (R.remaining reader.new) (W.contents writer.new) [])
+        (due (opened program host.now.workers) runs) ended.book) }
     ensures broken_off { IfErr result (λ fault. (runs : List FreeRun)
-        × BreaksOff (R.remaining reader.old) (R.remaining reader.new) (W.contents writer.old)
-        (W.contents writer.new)
-        input.old.pending.items (due (opened program host.now.workers) runs) fault) }
+        × BreaksOff (moment_of (R.remaining reader.old) (W.contents writer.old)
+        input.old.pending.items)
+        (moment_of (R.remaining reader.new) (W.contents writer.new) [])
+        (due (opened program host.now.workers) runs) fault) }
 {
     let mut session = Session::new(host.alloc, program, host.workers)?;
     match converse(host, &mut session, input, reader, writer) {
@@ -87,13 +89,15 @@ pub(crate) fn serve<H: Threads + Wait + Sync, R: Read, W: Write>(
     requires at_least_one { 0 < host.now.workers }
     requires at_most_32 { host.now.workers ≤ 32 }
     ensures served { IfOk result
-        (λ ended. Serves (R.remaining reader.old) (R.remaining reader.new) (W.contents writer.old)
-        (W.contents writer.new)
-        input.old.pending.items host.now.workers source.now ended.status ended.book) }
+        (λ ended. Serves (moment_of (R.remaining reader.old) (W.contents writer.old)
+        input.old.pending.items)
+        (moment_of (R.remaining reader.new) (W.contents writer.new) [])
+        host.now.workers source.now ended.status ended.book) }
     ensures broken_off { IfErr result
-        (BreaksOffServing (R.remaining reader.old) (R.remaining reader.new) (W.contents writer.old)
-        (W.contents writer.new)
-        input.old.pending.items host.now.workers source.now) }
+        (BreaksOffServing (moment_of (R.remaining reader.old) (W.contents writer.old)
+        input.old.pending.items)
+        (moment_of (R.remaining reader.new) (W.contents writer.new) [])
+        host.now.workers source.now) }
 {
     let alloc = host.alloc;
     match program_of(alloc, source) {

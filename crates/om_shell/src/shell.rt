@@ -1,7 +1,8 @@
 //! A run: a source, and then commands, each answered before more is read.
-ghost use Rattle.std.specs.Prelude.{◌≡◌, ◌<◌, ◌≤◌, None, take, length, IfOk, IfErr, OnOk, IfSome, option_copied};
+ghost use Rattle.std.specs.Prelude.{◌≡◌, ◌<◌, ◌≤◌, [], None, take, length, IfOk, IfErr, OnOk, IfSome, option_copied};
 ghost use Rattle.std.specs.Io.KnownBytes.{Appends};
 ghost use Rattle.om_shell.specs.Ends.{RunsToEnd, BreaksOffRun, WritesScript};
+ghost use Rattle.om_shell.specs.Progress.{moment_of};
 
 use crate::ended::Ended;
 use crate::fault::ShellFault;
@@ -33,12 +34,12 @@ fn run_from_input<H: Threads + Wait + Sync, R: Read, W: Write>(
     requires at_least_one { 0 < host.now.workers }
     requires at_most_32 { host.now.workers ≤ 32 }
     ensures to_end { IfOk result
-        (λ ended. RunsToEnd (R.remaining reader.old) (R.remaining reader.new)
-        (W.contents writer.old) (W.contents writer.new)
+        (λ ended. RunsToEnd (moment_of (R.remaining reader.old) (W.contents writer.old) [])
+        (moment_of (R.remaining reader.new) (W.contents writer.new) [])
         host.now.workers None ended.status ended.book) }
     ensures broken_off { IfErr result
-        (BreaksOffRun (R.remaining reader.old) (R.remaining reader.new) (W.contents writer.old)
-        (W.contents writer.new)
+        (BreaksOffRun (moment_of (R.remaining reader.old) (W.contents writer.old) [])
+        (moment_of (R.remaining reader.new) (W.contents writer.new) [])
         host.now.workers None) }
 {
     let mut input = Input::new(host.alloc);
@@ -62,12 +63,12 @@ fn run_by<H: Threads + Wait + Sync, R: Read, W: Write>(
     requires at_least_one { 0 < host.now.workers }
     requires at_most_32 { host.now.workers ≤ 32 }
     ensures to_end { IfOk result
-        (λ ended. RunsToEnd (R.remaining reader.old) (R.remaining reader.new)
-        (W.contents writer.old) (W.contents writer.new)
+        (λ ended. RunsToEnd (moment_of (R.remaining reader.old) (W.contents writer.old) [])
+        (moment_of (R.remaining reader.new) (W.contents writer.new) [])
         host.now.workers (option_copied source.entry) ended.status ended.book) }
     ensures broken_off { IfErr result
-        (BreaksOffRun (R.remaining reader.old) (R.remaining reader.new) (W.contents writer.old)
-        (W.contents writer.new)
+        (BreaksOffRun (moment_of (R.remaining reader.old) (W.contents writer.old) [])
+        (moment_of (R.remaining reader.new) (W.contents writer.new) [])
         host.now.workers (option_copied source.entry)) }
 {
     match source {
@@ -96,8 +97,8 @@ pub fn run<H: Threads + Wait + Sync, R: Read, W: Write>(
 
     // What was written is the script of the bytes that were taken, and nothing further could change it.
     ensures runs_to_end { IfOk result
-        (λ ended. RunsToEnd (R.remaining reader.old) (R.remaining reader.new)
-        (W.contents writer.old) (W.contents writer.new)
+        (λ ended. RunsToEnd (moment_of (R.remaining reader.old) (W.contents writer.old) [])
+        (moment_of (R.remaining reader.new) (W.contents writer.new) [])
         options.entry.workers (option_copied options.entry.source) ended.status ended.book) }
 
     // So it is the script of all that the reader had.
@@ -107,8 +108,8 @@ pub fn run<H: Threads + Wait + Sync, R: Read, W: Write>(
 
     // After a fault it is a beginning of the script of the bytes that were taken.
     ensures begun_on_error { IfErr result
-        (BreaksOffRun (R.remaining reader.old) (R.remaining reader.new) (W.contents writer.old)
-        (W.contents writer.new)
+        (BreaksOffRun (moment_of (R.remaining reader.old) (W.contents writer.old) [])
+        (moment_of (R.remaining reader.new) (W.contents writer.new) [])
         options.entry.workers (option_copied options.entry.source)) }
 {
     let host = Host {

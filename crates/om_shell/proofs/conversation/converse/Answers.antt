@@ -1,4 +1,4 @@
-use Rattle.std.proofs.Common.{arith, rules, ◌++◌, [], length, drop, refl, sym, ap, subst, ◌∙◌, Some}
+use Rattle.std.proofs.Common.{arith, rules, ◌++◌, [], length, drop, refl, sym, ap, subst, ◌∙◌}
 use Rattle.std.proofs.lemmas.Result.{err_from_is_err_and}
 use Rattle.std.proofs.KnownBytes.{Consumes-nil}
 use Rattle.om_shell.specs.Lines.{HasNoLineEnd}
@@ -10,7 +10,7 @@ use Rattle.om_shell.proofs.SessionLaws.{Advances_answers}
 use Rattle.om_shell.proofs.conversation.converse.Goals as goal
 
 pub reads-init : goal.reads-init
-reads-init g c = record { advance = Advances_none _ _ _ _; within = omega arith; known = refl }
+reads-init g c = record { advance = Advances_none _ _; within = omega arith; known = refl }
 
 pub answer_lines-requires : goal.answer_lines-requires
 answer_lines-requires g c = rw c.deref.ensures.value (search rules, (c.reads.invariant.within, c.reads.invariant.known))
@@ -27,7 +27,7 @@ returns-in_err-used-clause-broken_off g c =
     let far = c.reads.invariant.advance in
     rw (p.1, p.2) (
       far.0 ++ part.0,
-      Breaks_after _ _ _ _ _ _ _ _ [] part.1.text _ _ _ (far.1 part.0)
+      Breaks_after _ _ _ [] part.1.text _ _ _ (far.1 part.0)
           (Consumes-nil _) part.1.appends (part.1.begins []) part.1.no_read,
     )
 
@@ -37,8 +37,8 @@ returns-then-quits-clause-done g c =
     let far = c.reads.invariant.advance in
     let runs = batch.0 ++ [] in (
       far.0 ++ runs,
-      Done_settled _ _ _ _ _ _ _ _ (Advance_trans _ _ _ _ _ _ _ _ _ _ _ _ (far.1 runs)
-          (Advance_answers _ _ _ _ _ _ _ _ (batch.1 []) refl)),
+      Done_settled _ _ _ _ (Advance_trans _ _ _ _ _ _ (far.1 runs)
+          (Advance_answers _ _ _ _ _ _ (batch.1 []) refl)),
     )
 
 pub reads-preserved : goal.reads-preserved
@@ -51,9 +51,9 @@ reads-preserved g c =
     (read.2 ∙ ap (λ l. l ++ read.0) c.discard.ensures.pending)
     (omega (arith, ap length c.discard.ensures.pending)) left in
     record {
-      advance = Advances_trans _ _ _ _ _ _ _ _ _ _ _ _ c.reads.invariant.advance
-          (Advances_trans _ _ _ _ _ _ _ _ _ _ _ _ (Advances_answers _ _ _ _ _ _ _ _ batch c.discard.ensures.pending)
-          (Advances_read _ _ _ _ _ read.0 _ read.1 read.2));
+      advance = Advances_trans _ _ _ _ _ _ c.reads.invariant.advance
+          (Advances_trans _ _ _ _ _ _ (Advances_answers _ _ _ _ _ _ batch c.discard.ensures.pending)
+          (Advances_read _ _ _ read.0 _ read.1 read.2));
       within = known.0;
       known = known.1;
     }
@@ -64,11 +64,11 @@ returns-in_err-read_more-clause-broken_off g c =
     let batch = rw (c.if-quits.false, c.deref.ensures.value) at c.in_ok-used.ensures.answered in
     let left = rw c.deref.ensures.value at (c.in_ok-used.ensures.left c.if-quits.false) in
     let fails = c.in_err-read_more.ensures.failed in
-    let far = Advances_trans _ _ _ _ _ _ _ _ _ _ _ _ c.reads.invariant.advance
-    (Advances_answers _ _ _ _ _ _ _ _ batch c.discard.ensures.pending) in
+    let far = Advances_trans _ _ _ _ _ _ c.reads.invariant.advance
+    (Advances_answers _ _ _ _ _ _ batch c.discard.ensures.pending) in
     rw (p.1, p.2) (
       far.0 ++ [],
-      Breaks_at_read _ _ _ _ _ _ _ fails.bytes _ _ _ (far.1 [])
+      Breaks_at_read _ _ _ fails.bytes _ _ _ (far.1 [])
           fails.consumes fails.none (subst HasNoLineEnd (sym c.discard.ensures.pending) left) refl,
     )
 
@@ -77,9 +77,9 @@ returns-in_err-answer-clause-broken_off g c =
     let p = err_from_is_err_and c.from_residual-in_err-answer.result c.from_residual-in_err-answer.ensures.1 in
     let batch = rw (c.if-quits.false, c.deref.ensures.value) at c.in_ok-used.ensures.answered in
     let read = c.in_ok-read_more.ensures.read in
-    let so_far = Advances_trans _ _ _ _ _ _ _ _ _ _ _ _ c.reads.invariant.advance
-    (Advances_trans _ _ _ _ _ _ _ _ _ _ _ _ (Advances_answers _ _ _ _ _ _ _ _ batch c.discard.ensures.pending)
-    (Advances_read _ _ _ _ _ read.0 _ read.1 read.2)) in
+    let so_far = Advances_trans _ _ _ _ _ _ c.reads.invariant.advance
+    (Advances_trans _ _ _ _ _ _ (Advances_answers _ _ _ _ _ _ batch c.discard.ensures.pending)
+    (Advances_read _ _ _ read.0 _ read.1 read.2)) in
     let fault = rw c.deref-then-not-branch.ensures.value at c.in_err-answer.ensures.begun_on_error in
     let left = rw c.deref.ensures.value at (c.in_ok-used.ensures.left c.if-quits.false) in
     let kept = (c.in_ok-read_more.ensures.ended c.if-not-branch.true).1 ∙ c.discard.ensures.pending in
@@ -87,7 +87,7 @@ returns-in_err-answer-clause-broken_off g c =
     let part = fault.1.1 in
     rw (p.1, p.2) (
       so_far.0 ++ runs,
-      Breaks_after _ _ _ _ _ _ _ _ [] part.sent _ _ _ (so_far.1 runs) (Consumes-nil _) part.appends
+      Breaks_after _ _ _ [] part.sent _ _ _ (so_far.1 runs) (Consumes-nil _) part.appends
           (last_begins _ runs _ _ (subst HasNoLineEnd (sym kept) left) part.begins) fault.0,
     )
 
@@ -95,15 +95,15 @@ pub returns-then-not-branch-clause-done : goal.returns-then-not-branch-clause-do
 returns-then-not-branch-clause-done g c =
     let batch = rw (c.if-quits.false, c.deref.ensures.value) at c.in_ok-used.ensures.answered in
     let read = c.in_ok-read_more.ensures.read in
-    let so_far = Advances_trans _ _ _ _ _ _ _ _ _ _ _ _ c.reads.invariant.advance
-    (Advances_trans _ _ _ _ _ _ _ _ _ _ _ _ (Advances_answers _ _ _ _ _ _ _ _ batch c.discard.ensures.pending)
-    (Advances_read _ _ _ _ _ read.0 _ read.1 read.2)) in
+    let so_far = Advances_trans _ _ _ _ _ _ c.reads.invariant.advance
+    (Advances_trans _ _ _ _ _ _ (Advances_answers _ _ _ _ _ _ batch c.discard.ensures.pending)
+    (Advances_read _ _ _ read.0 _ read.1 read.2)) in
     let said = rw c.deref-then-not-branch.ensures.value at c.in_ok-answer.ensures.answered in
     let left = rw c.deref.ensures.value at (c.in_ok-used.ensures.left c.if-quits.false) in
     let kept = (c.in_ok-read_more.ensures.ended c.if-not-branch.true).1 ∙ c.discard.ensures.pending in
     let runs = said.2.runs ++ [] in
     let last = last_answered _ _ runs _ _ _ (subst HasNoLineEnd (sym kept) left) (said.2.is []) in (
       so_far.0 ++ runs,
-      Done_at_end _ _ _ _ _ _ _ _ _ _ _ (so_far.1 runs)
+      Done_at_end _ _ _ _ _ _ _ (so_far.1 runs)
           (c.in_ok-read_more.ensures.ended c.if-not-branch.true).0 last said.1 refl,
     )

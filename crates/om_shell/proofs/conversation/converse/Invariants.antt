@@ -1,13 +1,16 @@
 use Rattle.std.proofs.Common.{◌≤◌, length, take}
 use Rattle.om_shell.specs.Lines.{HasNoLineEnd}
+use Rattle.om_shell.specs.Progress.{moment_of}
 use Rattle.om_shell.specs.Sessions.{AdvancesTo}
 use Rattle.om_shell.proofs.conversation.converse.Given as goal
 
 abbrev pub invariant-reads : goal.invariant-reads
 invariant-reads g l = record {
-  advance : AdvancesTo (g.R.Read.remaining l.initial.reader) (g.R.Read.remaining l.reader)
-      (g.W.Write.contents l.initial.writer) (g.W.Write.contents l.writer)
-      l.initial.input.pending.items l.input.pending.items l.initial.session.debugger l.session.debugger;
+  advance : AdvancesTo
+      (moment_of (g.R.Read.remaining l.initial.reader) (g.W.Write.contents l.initial.writer)
+      l.initial.input.pending.items)
+      (moment_of (g.R.Read.remaining l.reader) (g.W.Write.contents l.writer) l.input.pending.items)
+      l.initial.session.debugger l.session.debugger;
   within : l.searched ≤ length l.input.pending.items;
   known : HasNoLineEnd (take l.searched l.input.pending.items);
 }

@@ -9,7 +9,7 @@ pub returns-in_err-session-clause-broken_off : goal.returns-in_err-session-claus
 returns-in_err-session-clause-broken_off g c =
     let p = err_from_is_err_and c.from_residual.result c.from_residual.ensures.1 in
     let other : Memory ≢ Read = search rules in
-    rw (p.1, p.2) (Breaks_unread _ _ _ _ _ other)
+    rw (p.1, p.2) (Breaks_unread _ _ _ other)
 
 pub returns-in-Err-clause-broken_off : goal.returns-in-Err-clause-broken_off
 returns-in-Err-clause-broken_off g c =

@@ -9,11 +9,11 @@ returns-in_err-tell-in-Err-clause-broken_off g c =
     let p = err_from_is_err_and c.from_residual.result c.from_residual.ensures.1 in
     let other : c.in-Err.fault.code ≢ Memory = search rules in
     let part = c.in_err-tell-in-Err.ensures.begun_on_error in
-    rw (p.1, p.2) (inr (ServesPart_refused _ _ _ _ _ _ c.in-Err.fault _ (is_refused _ _ c.in-Err.ensures.refused
+    rw (p.1, p.2) (inr (ServesPart_refused _ _ _ _ c.in-Err.fault _ (is_refused _ _ c.in-Err.ensures.refused
     other) part.0 part.1))
 
 pub returns-in_ok-tell-in-Err-clause-served : goal.returns-in_ok-tell-in-Err-clause-served
 returns-in_ok-tell-in-Err-clause-served g c =
     let other : c.in-Err.fault.code ≢ Memory = search rules in
-    rw (c.refused.ensures.status, c.refused.ensures.book) (Serves_refused _ _ _ _ _ _ c.in-Err.fault
+    rw (c.refused.ensures.status, c.refused.ensures.book) (Serves_refused _ _ _ _ c.in-Err.fault
     (is_refused _ _ c.in-Err.ensures.refused other) c.in_ok-tell-in-Err.ensures.told)

@@ -13,7 +13,7 @@ returns-in-Some-clause-to_end g c =
     let pending = c.read_source.new.input.pending.items in
     let mark = rw c.in-Some.is at c.in_ok-end.ensures.marked in
     let source = c.in_ok-source.ensures.source ∙ ap (take c.in_ok-end.end) c.deref.ensures.value in
-    IfOk-weaker c.serve.result _ _ (λ ended served. Runs_marked _ _ _ _ _ pending _ _ _ _ _ _ _
+    IfOk-weaker c.serve.result _ _ (λ ended served. Runs_marked _ _ _ _ pending _ _ _ _ _ _ _
     c.in_ok-end.ensures.read mark source c.discard.ensures.pending served)
     (rw c.deref-in-Some.ensures.value at c.serve.ensures.served)
 
@@ -22,6 +22,6 @@ returns-in-Some-clause-broken_off g c =
     let pending = c.read_source.new.input.pending.items in
     let mark = rw c.in-Some.is at c.in_ok-end.ensures.marked in
     let source = c.in_ok-source.ensures.source ∙ ap (take c.in_ok-end.end) c.deref.ensures.value in
-    IfErr_weaker c.serve.result _ _ (λ fault part. Breaks_marked _ _ _ _ _ pending _ _ _ _ _ fault
+    IfErr_weaker c.serve.result _ _ (λ fault part. Breaks_marked _ _ _ _ pending _ _ _ _ _ fault
     c.in_ok-end.ensures.read mark source c.discard.ensures.pending part)
     (rw c.deref-in-Some.ensures.value at c.serve.ensures.broken_off)
