@@ -1,4 +1,5 @@
--- Histories, and what steps and undos reply and leave: the definition of a run.
+-- Histories, and what steps and undos reply and leave: the definition of a run. It is written as functions. `Undos` says
+-- as relations when an undo is done, when it is refused and when it has nothing to take out: read that first.
 use Rattle.std.specs.Prelude.{◌≡◌, ◌==◌, Bool, true, false, Option, None, Some, List, [], ◌∷◌, ◌++◌, map, ℕ, ◌+◌}
 use Rattle.std.specs.Prelude.{unwrap_or}
 use Rattle.om_foot.specs.declared.object.Obj.{Obj}
