@@ -1,3 +1,5 @@
+pub mod Offsets
+pub mod Blocks
 pub mod Serials
 pub mod Touches
 pub mod Lists

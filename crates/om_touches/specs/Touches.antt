@@ -1,10 +1,9 @@
 -- The touches of objects, kept by object and mode, and each worker's own entries.
-use Rattle.std.specs.Prelude.{◌≡◌, Bool, true, false, cond, nat_eq, ◌&&◌, ℕ, ◌<◌, ◌≤◌, min, is_some, Option, None, Some, List, []}
+use Rattle.std.specs.Prelude.{◌≡◌, Bool, true, false, cond, nat_eq, ◌&&◌, ℕ, ◌<◌, ◌≤◌, min, max, is_some, Option, None, Some, List, []}
 use Rattle.std.specs.Prelude.{◌∷◌}
 use Rattle.std.specs.Map.{lookup}
 use Rattle.std.specs.Ordering.{nat_cmp}
 use Rattle.std.specs.BTreeMap.{get}
-use Rattle.std.specs.BTreeSet.{BTreeSet}
 use Rattle.om_foot.specs.declared.object.Obj.{Obj}
 use Rattle.om_foot.specs.declared.footprint.Mode.{Mode}
 use Rattle.om_foot.specs.declared.footprint.Mode.TheVariants.{Read, Write, Add}
@@ -14,7 +13,7 @@ use Rattle.om_touches.specs.declared.own.OwnEntries.{OwnEntries}
 use Rattle.om_touches.specs.declared.serials.Serials.{Serials}
 use Rattle.om_touches.specs.declared.touches.Touches.{Touches}
 use Rattle.om_touches.specs.declared.touches.TouchLists.{TouchLists}
-use Rattle.om_touches.specs.Serials.{has, is_among}
+use Rattle.om_touches.specs.Serials.{has}
 
 abbrev pub mode_eq : Mode → Mode → Bool
 mode_eq Read Read = true
@@ -75,6 +74,11 @@ sooner None y = y
 sooner (Some a) None = Some a
 sooner (Some a) (Some b) = Some (min a b)
 
+abbrev pub later : Option ℕ → Option ℕ → Option ℕ
+later None y = y
+later (Some a) None = Some a
+later (Some a) (Some b) = Some (max a b)
+
 -- the least number above another one that passes a test, if one does
 abbrev pub IsFirst : (ℕ → Bool) → ℕ → Option ℕ → Type 0
 IsFirst test above None = (s : ℕ) → above < s → test s ≡ false
@@ -87,9 +91,9 @@ IsGreatest test (Some t) = (test t ≡ true) × ((s : ℕ) → test s ≡ true �
 
 -- what is kept of each worker's own entries
 
-abbrev pub is_in : Option (BTreeSet ℕ) → ℕ → Bool
+abbrev pub is_in : Option Serials → ℕ → Bool
 is_in None s = false
-is_in (Some serials) s = is_among serials s
+is_in (Some serials) s = has serials s
 
 abbrev pub knows_worker : OwnEntries → ℕ → Bool
 knows_worker own w = is_some (get nat_cmp own.workers w)

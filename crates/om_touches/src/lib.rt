@@ -1,9 +1,12 @@
 //! Touch lists: which entries of a history touch an object, and which are a worker's own.
 #![tactic(auto)]
 
+mod blocks;
+mod offsets;
 pub mod own;
 mod serials;
 pub mod shared_access;
+mod sooner;
 pub mod touches;
 
 pub use own::OwnEntries;

@@ -3,16 +3,16 @@
 ghost use Rattle.std.specs.Prelude.{◌≡◌, ℕ, true, false, OnOk, OnErr};
 ghost use Rattle.om_touches.specs.Touches.{is_own, knows_worker, IsGreatest, SameOwn, WithOwn, WithoutOwn};
 
-use crate::serials::{last, put, take};
+use crate::serials::Serials;
 use std::alloc::{AllocError, Global};
-use std::collections::{BTreeMap, BTreeSet};
+use std::collections::BTreeMap;
 
 /// For each worker the serials of its entries. Another worker's step may touch its control too, as
 /// the start of a team does, so the touches of its control don't tell them.
 ///
 /// Contracts see which entry is a worker's own (`is_own`).
 pub struct OwnEntries {
-    workers: BTreeMap<u8, BTreeSet<u64>>,
+    workers: BTreeMap<u8, Serials>,
 }
 
 // By hand: crates above call this, and do not prove anew how each part is dropped.
@@ -34,25 +34,25 @@ impl OwnEntries {
     }
 
     /// Makes a worker known. No entry is added, also when out of memory.
-    fn know(&mut self, alloc: Global, worker: u8) -> Result<(), AllocError>
+    fn know(&mut self, worker: u8) -> Result<(), AllocError>
         ensures same { SameOwn self.old self.new }
         ensures known { OnOk result (knows_worker self.new worker ≡ true) }
     {
         if self.workers.contains_key(&worker) {
             return Ok(());
         }
-        drop(self.workers.insert(worker, BTreeSet::new(alloc))?);
+        drop(self.workers.insert(worker, Serials::None)?);
         Ok(())
     }
 
     /// Adds an entry of a worker that is known. When out of memory, nothing changes.
-    fn add_known(&mut self, worker: u8, serial: u64) -> Result<(), AllocError>
+    fn add_known(&mut self, alloc: Global, worker: u8, serial: u64) -> Result<(), AllocError>
         requires { knows_worker self.old worker ≡ true }
         ensures added { OnOk result (WithOwn worker serial self.old self.new) }
         ensures unchanged_on_error { OnErr result (SameOwn self.old self.new) }
     {
         match self.workers.get_mut(&worker) {
-            Some(serials) => put(serials, serial),
+            Some(serials) => serials.put(alloc, serial),
             None => unreachable!(),
         }
     }
@@ -62,8 +62,8 @@ impl OwnEntries {
         ensures added { OnOk result (WithOwn worker serial self.old self.new) }
         ensures unchanged_on_error { OnErr result (SameOwn self.old self.new) }
     {
-        self.know(alloc, worker)?;
-        self.add_known(worker, serial)
+        self.know(worker)?;
+        self.add_known(alloc, worker, serial)
     }
 
     /// Takes an entry of a worker out, if it is there. It takes no memory.
@@ -71,7 +71,7 @@ impl OwnEntries {
         ensures { WithoutOwn worker serial self.old self.new }
     {
         match self.workers.get_mut(&worker) {
-            Some(serials) => take(serials, serial),
+            Some(serials) => serials.take(serial),
             None => {}
         }
     }
@@ -81,7 +81,7 @@ impl OwnEntries {
         ensures { IsGreatest (is_own self.now worker) result }
     {
         match self.workers.get(&worker) {
-            Some(serials) => last(serials),
+            Some(serials) => serials.last(),
             None => None,
         }
     }

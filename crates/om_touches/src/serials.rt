@@ -1,12 +1,12 @@
 //! Sets of serials.
 
 ghost use Rattle.std.specs.Prelude.{◌≡◌, ℕ, true, false, cond, nat_eq, IfOk, OnOk, OnErr};
-ghost use Rattle.om_touches.specs.Serials.{has, is_among};
+ghost use Rattle.om_touches.specs.Blocks.{has_in};
+ghost use Rattle.om_touches.specs.Serials.{has};
 ghost use Rattle.om_touches.specs.Touches.{IsFirst, IsGreatest};
 
+use crate::blocks::Blocks;
 use std::alloc::{AllocError, Global};
-use std::collections::BTreeSet;
-use std::ops::Bound;
 
 /// A set of serials. One that is alone stands in place, since most objects of a long run are
 /// touched once.
@@ -16,59 +16,16 @@ use std::ops::Bound;
 pub enum Serials {
     None,
     One(u64),
-    Many(BTreeSet<u64>),
-}
-
-/// Adds a serial. When out of memory, nothing changes.
-pub(crate) fn put(serials: &mut BTreeSet<u64>, serial: u64) -> Result<(), AllocError>
-    ensures added { OnOk result
-        ((s : ℕ) → is_among serials.new s ≡ cond (nat_eq serial s) true (is_among serials.old s)) }
-    ensures unchanged_on_error { OnErr result
-        ((s : ℕ) → is_among serials.new s ≡ is_among serials.old s) }
-{
-    let _is_new = serials.insert(serial)?;
-    Ok(())
-}
-
-/// Takes a serial out, if it is there. It takes no memory.
-pub(crate) fn take(serials: &mut BTreeSet<u64>, serial: u64)
-    ensures { (s : ℕ) → is_among serials.new s
-        ≡ cond (nat_eq serial s) false (is_among serials.old s) }
-{
-    let _was_there = serials.remove(&serial);
-}
-
-/// The first serial after another one.
-fn first_after(serials: &BTreeSet<u64>, serial: u64) -> Option<u64>
-    ensures { IsFirst (is_among serials.now) serial result }
-{
-    match serials
-        .range((Bound::Excluded(serial), Bound::Unbounded))
-        .next()
-    {
-        Some(first) => Some(*first),
-        None => None,
-    }
-}
-
-/// The last serial.
-pub(crate) fn last(serials: &BTreeSet<u64>) -> Option<u64>
-    ensures { IsGreatest (is_among serials.now) result }
-{
-    match serials.last() {
-        Some(last) => Some(*last),
-        None => None,
-    }
+    Many(Box<Blocks>),
 }
 
 /// The set of two serials.
-fn both(alloc: Global, first: u64, other: u64) -> Result<BTreeSet<u64>, AllocError>
-    ensures { IfOk result (λ serials. (s : ℕ) → is_among serials s
+fn both(alloc: Global, first: u64, other: u64) -> Result<Box<Blocks>, AllocError>
+    ensures { IfOk result (λ serials. (s : ℕ) → has_in serials.value s
         ≡ cond (nat_eq other s) true (nat_eq first s)) }
 {
-    let mut serials = BTreeSet::new(alloc);
-    put(&mut serials, first)?;
-    put(&mut serials, other)?;
+    let mut serials = Box::new(alloc, Blocks::of(alloc, first))?;
+    serials.put(other)?;
     Ok(serials)
 }
 
@@ -89,7 +46,7 @@ impl Serials {
                 *self = Serials::Many(serials);
                 Ok(())
             }
-            Serials::Many(serials) => put(serials, serial),
+            Serials::Many(serials) => serials.put(serial),
         }
     }
 
@@ -104,7 +61,7 @@ impl Serials {
                     *self = Serials::None;
                 }
             }
-            Serials::Many(serials) => take(serials, serial),
+            Serials::Many(serials) => serials.take(serial),
         }
     }
 
@@ -115,7 +72,18 @@ impl Serials {
         match self {
             Serials::None => None,
             Serials::One(only) => (*only > serial).then_some(*only),
-            Serials::Many(serials) => first_after(serials, serial),
+            Serials::Many(serials) => serials.first_after(serial),
+        }
+    }
+
+    /// The last serial.
+    pub(crate) fn last(&self) -> Option<u64>
+        ensures { IsGreatest (has self.now) result }
+    {
+        match self {
+            Serials::None => None,
+            Serials::One(only) => Some(*only),
+            Serials::Many(serials) => serials.last(),
         }
     }
 }

@@ -10,6 +10,7 @@ ghost use Rattle.om_touches.specs.Touches.{list_of, mode_eq, sooner, IsFirst, me
 
 use crate::serials::Serials;
 use crate::shared_access::SharedAccess;
+use crate::sooner::sooner;
 use om_cells::SharedObject;
 use om_foot::{Mode, Touch, first_touch};
 use std::alloc::{AllocError, Global};
@@ -38,18 +39,6 @@ fn first_of_mode(serials: &Serials, touched: Mode, mode: Mode, serial: u64) -> O
             }],
         ),
         None => None,
-    }
-}
-
-/// The lesser of two serials, where there are any.
-fn sooner(first: Option<u64>, other: Option<u64>) -> Option<u64>
-    ensures { result ≡ sooner first other }
-{
-    match (first, other) {
-        (Some(a), Some(b)) => Some(a.min(b)),
-        (Some(a), None) => Some(a),
-        (None, Some(b)) => Some(b),
-        (None, None) => None,
     }
 }
 

@@ -10,7 +10,7 @@ unreachable-requires c = own-not_known c.args.self.now.workers.entries c.args.wo
 pub returns-clause-added : goal.returns-clause-added
 returns-clause-added c =
     let es = c.args.self.now.workers.entries in
-    let x = c.put.new.serials in
+    let x = c.put.new.self in
     let old = c.in-Some.serials.now in
     on_ok c.put.result
     (own-set true es (c.get_mut.follows.lender x).entries c.args.worker c.args.serial old x
@@ -21,7 +21,7 @@ returns-clause-added c =
 pub returns-clause-unchanged_on_error : goal.returns-clause-unchanged_on_error
 returns-clause-unchanged_on_error c =
     let es = c.args.self.now.workers.entries in
-    let x = c.put.new.serials in
+    let x = c.put.new.self in
     let old = c.in-Some.serials.now in
     on_err c.put.result
     (own-same es (c.get_mut.follows.lender x).entries c.args.worker old x

@@ -6,7 +6,7 @@ use Rattle.om_touches.proofs.own.OwnEntries.remove.Goals as goal
 pub returns-in-Some : goal.returns-in-Some
 returns-in-Some c =
     let es = c.args.self.now.workers.entries in
-    let x = c.take.new.serials in
+    let x = c.take.new.self in
     let old = c.in-Some.serials.now in
     own-set false es (c.get_mut.follows.lender x).entries c.args.worker c.args.serial old x
     (sym c.in-Some.ensures.value)

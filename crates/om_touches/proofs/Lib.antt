@@ -1,0 +1,2 @@
+pub mod OffsetLemmas
+pub mod BlockLemmas
