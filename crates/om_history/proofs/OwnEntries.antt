@@ -6,7 +6,7 @@ use Rattle.om_foot.specs.declared.object.Obj.TheVariants as obj
 use Rattle.om_foot.specs.declared.footprint.Mode.TheVariants.{Write}
 use Rattle.om_touches.specs.declared.own.OwnEntries.{OwnEntries}
 use Rattle.om_touches.specs.Touches.{names, is_own, SameOwn, WithOwn, WithoutOwn}
-use Rattle.om_touches.specs.ByWorker.{number_is}
+use Rattle.om_touches.specs.Workers.{number_is}
 use Rattle.om_history.specs.declared.records.UndoRecord.{UndoRecord}
 use Rattle.om_history.specs.Records.{AreBelow}
 use Rattle.om_history.specs.Touches.{own_footprint, AreOwnOf}

@@ -4,4 +4,5 @@ pub mod Serials
 pub mod Touches
 pub mod Lists
 pub mod Searches
-pub mod ByWorker
+pub mod Workers
+pub mod Controls

@@ -14,7 +14,7 @@ use Rattle.om_foot.specs.declared.footprint.Access.{Access}
 use Rattle.om_foot.specs.Footprint.{obj_eq}
 use Rattle.om_foot.specs.contracts.object.ObjOrd.TheImpl.{cmp-value}
 use Rattle.om_foot.specs.Objects.{lookup-is_at, cmp-is_eq, obj_eq-true, obj_eq-same}
-use Rattle.om_touches.specs.declared.touches.Touches.{Touches}
+use Rattle.om_touches.specs.declared.by_mode.Touches.{Touches}
 use Rattle.om_touches.specs.declared.touches.TouchLists.{TouchLists}
 use Rattle.om_touches.specs.Touches.{mode_eq, names, list_of, has_in, has_touch, AreSame}
 use Rattle.om_touches.specs.Serials.{has}

@@ -5,13 +5,16 @@ use Rattle.std.specs.Map.{lookup}
 use Rattle.std.specs.Ordering.{nat_cmp}
 use Rattle.std.specs.BTreeMap.{get}
 use Rattle.om_foot.specs.declared.object.Obj.{Obj}
+use Rattle.om_foot.specs.declared.object.Obj.TheVariants as object
 use Rattle.om_foot.specs.declared.footprint.Mode.{Mode}
 use Rattle.om_foot.specs.declared.footprint.Mode.TheVariants.{Read, Write, Add}
 use Rattle.om_foot.specs.declared.footprint.Access.{Access}
 use Rattle.om_foot.specs.Footprint.{obj_eq, modes_conflict}
+use Rattle.om_touches.specs.declared.by_mode.Touches.{Touches}
+use Rattle.om_touches.specs.declared.controls.ControlTouches.{ControlTouches}
+use Rattle.om_touches.specs.declared.objects.ObjectTouches.{ObjectTouches}
 use Rattle.om_touches.specs.declared.own.OwnEntries.{OwnEntries}
 use Rattle.om_touches.specs.declared.serials.Serials.{Serials}
-use Rattle.om_touches.specs.declared.touches.Touches.{Touches}
 use Rattle.om_touches.specs.declared.touches.TouchLists.{TouchLists}
 use Rattle.om_touches.specs.Serials.{has}
 
@@ -37,15 +40,68 @@ abbrev pub has_in : Option Touches → Mode → ℕ → Bool
 has_in None m s = false
 has_in (Some t) m s = has (list_of t m) s
 
-abbrev pub touches_at : TouchLists → Obj → Option Touches
-touches_at lists o = lookup (obj_eq o) lists.objects.entries
+-- of objects that are no worker's control
 
-abbrev pub knows : TouchLists → Obj → Bool
-knows lists o = is_some (touches_at lists o)
+abbrev pub touches_at : ObjectTouches → Obj → Option Touches
+touches_at touches o = lookup (obj_eq o) touches.objects.entries
+
+abbrev pub knows : ObjectTouches → Obj → Bool
+knows touches o = is_some (touches_at touches o)
+
+-- whether there is a touch of an object, with a mode, by the entry of a serial
+abbrev pub has_object_touch : ObjectTouches → Obj → Mode → ℕ → Bool
+has_object_touch touches o m s = has_in (touches_at touches o) m s
+
+-- no touch changes; one comes, or goes
+abbrev pub SameObjects : ObjectTouches → ObjectTouches → Type 0
+SameObjects old new = (o : Obj) (m : Mode) (s : ℕ) → has_object_touch new o m s ≡ has_object_touch old o m s
+
+abbrev pub ObjectsWith : Access → ℕ → ObjectTouches → ObjectTouches → Type 0
+ObjectsWith access serial old new = (o : Obj) (m : Mode) (s : ℕ) → has_object_touch new o m s
+    ≡ cond (nat_eq serial s && names o m (access ∷ [])) true (has_object_touch old o m s)
+
+abbrev pub ObjectsWithout : Access → ℕ → ObjectTouches → ObjectTouches → Type 0
+ObjectsWithout access serial old new = (o : Obj) (m : Mode) (s : ℕ) → has_object_touch new o m s
+    ≡ cond (nat_eq serial s && names o m (access ∷ [])) false (has_object_touch old o m s)
+
+-- of workers' controls
+
+abbrev pub control_touches_at : ControlTouches → ℕ → Option Touches
+control_touches_at controls w = get nat_cmp controls.workers w
+
+abbrev pub knows_control : ControlTouches → ℕ → Bool
+knows_control controls w = is_some (control_touches_at controls w)
+
+-- whether there is a touch of a worker's control, with a mode, by the entry of a serial
+abbrev pub has_control_touch : ControlTouches → ℕ → Mode → ℕ → Bool
+has_control_touch controls w m s = has_in (control_touches_at controls w) m s
+
+-- no touch changes; one comes, or goes
+abbrev pub SameControls : ControlTouches → ControlTouches → Type 0
+SameControls old new = (w : ℕ) (m : Mode) (s : ℕ) → has_control_touch new w m s ≡ has_control_touch old w m s
+
+abbrev pub ControlsWith : ℕ → Mode → ℕ → ControlTouches → ControlTouches → Type 0
+ControlsWith worker mode serial old new = (w : ℕ) (m : Mode) (s : ℕ) → has_control_touch new w m s
+    ≡ cond (nat_eq serial s && (nat_eq worker w && mode_eq mode m)) true (has_control_touch old w m s)
+
+abbrev pub ControlsWithout : ℕ → Mode → ℕ → ControlTouches → ControlTouches → Type 0
+ControlsWithout worker mode serial old new = (w : ℕ) (m : Mode) (s : ℕ) → has_control_touch new w m s
+    ≡ cond (nat_eq serial s && (nat_eq worker w && mode_eq mode m)) false (has_control_touch old w m s)
+
+-- of all objects
+
+-- the worker whose control an object is
+abbrev pub control_of : Obj → Option ℕ
+control_of (object.Control w) = Some w
+control_of _ = None
+
+abbrev pub has_touch_by : TouchLists → Option ℕ → Obj → Mode → ℕ → Bool
+has_touch_by lists (Some w) o m s = has_control_touch lists.controls w m s
+has_touch_by lists None o m s = has_object_touch lists.objects o m s
 
 -- whether there is a touch of an object, with a mode, by the entry of a serial
 abbrev pub has_touch : TouchLists → Obj → Mode → ℕ → Bool
-has_touch lists o m s = has_in (touches_at lists o) m s
+has_touch lists o m s = has_touch_by lists (control_of o) o m s
 
 -- no touch changes; those of one entry come, or go
 abbrev pub AreSame : TouchLists → TouchLists → Type 0

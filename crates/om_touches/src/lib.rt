@@ -2,6 +2,9 @@
 #![tactic(auto)]
 
 mod blocks;
+mod by_mode;
+mod controls;
+mod objects;
 mod offsets;
 pub mod own;
 mod serials;

@@ -57,13 +57,24 @@ impl OwnEntries {
         }
     }
 
-    /// Adds an entry of a worker. When out of memory, nothing changes.
-    pub fn add(&mut self, alloc: Global, worker: u8, serial: u64) -> Result<(), AllocError>
+    /// Makes a worker known, and adds its first entry. When out of memory, nothing changes.
+    fn add_first(&mut self, alloc: Global, worker: u8, serial: u64) -> Result<(), AllocError>
         ensures added { OnOk result (WithOwn worker serial self.old self.new) }
         ensures unchanged_on_error { OnErr result (SameOwn self.old self.new) }
     {
         self.know(worker)?;
         self.add_known(alloc, worker, serial)
+    }
+
+    /// Adds an entry of a worker. When out of memory, nothing changes.
+    pub fn add(&mut self, alloc: Global, worker: u8, serial: u64) -> Result<(), AllocError>
+        ensures added { OnOk result (WithOwn worker serial self.old self.new) }
+        ensures unchanged_on_error { OnErr result (SameOwn self.old self.new) }
+    {
+        match self.workers.get_mut(&worker) {
+            Some(serials) => serials.put(alloc, serial),
+            None => self.add_first(alloc, worker, serial),
+        }
     }
 
     /// Takes an entry of a worker out, if it is there. It takes no memory.

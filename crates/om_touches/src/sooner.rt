@@ -1,4 +1,4 @@
-//! Which of two serials comes first.
+//! The lesser of two serials.
 
 ghost use Rattle.std.specs.Prelude.{◌≡◌};
 ghost use Rattle.om_touches.specs.Touches.{sooner};

@@ -1,32 +1,29 @@
-use Rattle.std.proofs.Common.{◌≡◌, true, subst, ◌∷◌, []}
-use Rattle.om_foot.specs.declared.footprint.Access.{Access}
-use Rattle.om_touches.specs.Touches.{AreWith}
-use Rattle.om_touches.specs.Lists.{known_at, is_known, set_touches, same_touches, on_ok, on_err}
+use Rattle.std.proofs.Common.{true, ◌∙◌, ap, subst}
+use Rattle.om_touches.specs.Touches.{control_of, ControlsWith}
+use Rattle.om_touches.specs.Lists.{on_ok, on_err}
+use Rattle.om_touches.specs.Controls.{lists-control, lists-object, same-controls, same-objects}
 use Rattle.om_touches.proofs.touches.TouchLists.add.Goals as goal
 
 pub returns-in-Some-clause-added : goal.returns-in-Some-clause-added
 returns-in-Some-clause-added c =
-    let es = c.args.self.now.objects.entries in
-    let k = c.object.result.now in
-    let w = c.add.new.self in
-    let old = c.in-Some.touches.now in
-    let a : Access = record { object = k; mode = c.mode.result } in
-    let is : a ≡ c.args.access.now = λ i. record { object = c.object.ensures i; mode = c.mode.ensures i } in
     on_ok c.add.result
-    (λ added. subst (λ x. AreWith (x ∷ []) c.args.serial c.args.self.now (record { objects = c.get_mut.follows.lender w })) is
-    (set_touches true es (c.get_mut.follows.lender w).entries a c.args.serial old w
-    (known_at es k old c.in-Some.ensures.value)
-    ((c.get_mut.follows.holds w).3 (is_known es k old c.in-Some.ensures.value)).0 added))
+    (λ added. lists-control true c.args.self.now c.add.new.self c.args.access.now c.in-Some.worker c.args.serial
+    (c.in-Some.ensures ∙ ap control_of (c.get.ensures ∙ c.object.ensures))
+    (subst (λ m. ControlsWith c.in-Some.worker m c.args.serial c.args.self.now.controls c.add.new.self) c.mode.ensures
+    added))
     c.add.ensures.added
 
 pub returns-in-Some-clause-unchanged_on_error : goal.returns-in-Some-clause-unchanged_on_error
 returns-in-Some-clause-unchanged_on_error c =
-    let es = c.args.self.now.objects.entries in
-    let k = c.object.result.now in
-    let w = c.add.new.self in
-    let old = c.in-Some.touches.now in
-    on_err c.add.result
-    (same_touches es (c.get_mut.follows.lender w).entries k old w
-    (known_at es k old c.in-Some.ensures.value)
-    ((c.get_mut.follows.holds w).3 (is_known es k old c.in-Some.ensures.value)).0)
-    c.add.ensures.unchanged_on_error
+    on_err c.add.result (same-controls c.args.self.now c.add.new.self) c.add.ensures.unchanged_on_error
+
+pub returns-in-None-clause-added : goal.returns-in-None-clause-added
+returns-in-None-clause-added c =
+    on_ok c.add-in-None.result
+    (lists-object true c.args.self.now c.add-in-None.new.self c.args.access.now c.args.serial
+    (c.in-None.ensures ∙ ap control_of (c.get.ensures ∙ c.object.ensures)))
+    c.add-in-None.ensures.added
+
+pub returns-in-None-clause-unchanged_on_error : goal.returns-in-None-clause-unchanged_on_error
+returns-in-None-clause-unchanged_on_error c =
+    on_err c.add-in-None.result (same-objects c.args.self.now c.add-in-None.new.self) c.add-in-None.ensures.unchanged_on_error

@@ -1,29 +1,16 @@
-use Rattle.std.proofs.Common.{◌≡◌, ◌∙◌, ap, subst, false, None, ◌∷◌, []}
-use Rattle.std.specs.Map.{lookup}
-use Rattle.om_foot.specs.declared.footprint.Access.{Access}
-use Rattle.om_foot.specs.Footprint.{obj_eq}
-use Rattle.om_touches.specs.Touches.{has_in, AreWithout}
-use Rattle.om_touches.specs.Lists.{known_at, is_known, unknown_at, set_touches, unset_unknown}
+use Rattle.std.proofs.Common.{false, ◌∙◌, ap, subst}
+use Rattle.om_touches.specs.Touches.{control_of, ControlsWithout}
+use Rattle.om_touches.specs.Controls.{lists-control, lists-object}
 use Rattle.om_touches.proofs.touches.TouchLists.remove.Goals as goal
 
 pub returns-in-Some : goal.returns-in-Some
 returns-in-Some c =
-    let es = c.args.self.now.objects.entries in
-    let k = c.object.result.now in
-    let w = c.remove.new.self in
-    let old = c.in-Some.touches.now in
-    let a : Access = record { object = k; mode = c.mode.result } in
-    let is : a ≡ c.args.access.now = λ i. record { object = c.object.ensures i; mode = c.mode.ensures i } in
-    subst (λ x. AreWithout (x ∷ []) c.args.serial c.args.self.now (record { objects = c.get_mut.follows.lender w })) is
-    (set_touches false es (c.get_mut.follows.lender w).entries a c.args.serial old w
-    (known_at es k old c.in-Some.ensures.value)
-    ((c.get_mut.follows.holds w).3 (is_known es k old c.in-Some.ensures.value)).0
-    c.remove.ensures)
+    lists-control false c.args.self.now c.remove.new.self c.args.access.now c.in-Some.worker c.args.serial
+    (c.in-Some.ensures ∙ ap control_of (c.get.ensures ∙ c.object.ensures))
+    (subst (λ m. ControlsWithout c.in-Some.worker m c.args.serial c.args.self.now.controls c.remove.new.self)
+    c.mode.ensures c.remove.ensures)
 
 pub returns-in-None : goal.returns-in-None
-returns-in-None c q m s =
-    let es = c.args.self.now.objects.entries in
-    ap (λ x. has_in (lookup (obj_eq q) x.entries) m s) c.get_mut.follows.holds-at-none
-    ∙ unset_unknown es c.args.access.now c.args.serial
-    (subst (λ o. lookup (obj_eq o) es ≡ None) c.object.ensures
-    (unknown_at es c.object.result.now c.in-None.ensures.value)) q m s
+returns-in-None c =
+    lists-object false c.args.self.now c.remove-in-None.new.self c.args.access.now c.args.serial
+    (c.in-None.ensures ∙ ap control_of (c.get.ensures ∙ c.object.ensures)) c.remove-in-None.ensures

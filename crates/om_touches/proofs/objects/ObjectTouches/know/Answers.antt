@@ -4,7 +4,7 @@ use Rattle.std.specs.Map.{lookup}
 use Rattle.om_foot.specs.Footprint.{obj_eq}
 use Rattle.om_foot.specs.Objects.{lookup-is_at}
 use Rattle.om_touches.specs.Lists.{absent_at, known_same, known_there}
-use Rattle.om_touches.proofs.touches.TouchLists.know.Goals as goal
+use Rattle.om_touches.proofs.objects.ObjectTouches.know.Goals as goal
 
 pub returns-then-contains_key-clause-known : goal.returns-then-contains_key-clause-known
 returns-then-contains_key-clause-known c = ap is_some
