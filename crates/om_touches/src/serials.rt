@@ -14,8 +14,11 @@ use std::alloc::{AllocError, Global};
 /// Contracts see which serials are in it (`has`).
 #[derive(Drop)]
 pub enum Serials {
+    /// No serial.
     None,
+    /// One serial, which takes no memory.
     One(u64),
+    /// Serials by blocks. Some may have been taken out again, or all.
     Many(Box<Blocks>),
 }
 

@@ -10,10 +10,14 @@ use Rattle.om_cells.specs.contracts.shared.Shared as shared
 use Rattle.om_cells.specs.contracts.shared_object.SharedObject as shared_object
 use Rattle.om_cells.specs.contracts.store.Store as values
 use Rattle.om_live.specs.contracts.store.Store as store
+use Rattle.om_touches.specs.contracts.blocks.Blocks as blocks
+use Rattle.om_touches.specs.contracts.by_mode.Touches as touches
+use Rattle.om_touches.specs.contracts.controls.ControlTouches as control_touches
+use Rattle.om_touches.specs.contracts.objects.ObjectTouches as object_touches
+use Rattle.om_touches.specs.contracts.offsets.Offsets as offsets
 use Rattle.om_touches.specs.contracts.own.OwnEntries as own
 use Rattle.om_touches.specs.contracts.serials.Serials as serials
 use Rattle.om_touches.specs.contracts.shared_access.SharedAccess as shared_access
-use Rattle.om_touches.specs.contracts.touches.Touches as touches
 use Rattle.om_touches.specs.contracts.touches.TouchLists as lists
 use Rattle.om_history.specs.contracts.history.History as history
 use Rattle.om_history.specs.contracts.kept.Kept as kept
@@ -53,17 +57,29 @@ shared_access_send = search (shared_object_send, sendable) depth 40
 kept_send : IsSend kept.the_row
 kept_send = search (name_send, shared_access_send, update_send, seq_send, crosses, sendable) depth 40
 
+offsets_send : IsSend offsets.the_row
+offsets_send = search sendable depth 40
+
+blocks_send : IsSend blocks.the_field.row
+blocks_send = search (offsets_send, maps, crosses, sendable) depth 40
+
 serials_send : IsSend serials.the_field.row
-serials_send = search (maps, crosses, sendable) depth 40
+serials_send = search (blocks_send, crosses, sendable) depth 40
 
 touches_send : IsSend touches.the_field.row
 touches_send = search (serials_send, sendable) depth 40
 
+control_touches_send : IsSend control_touches.the_field.row
+control_touches_send = search (touches_send, maps, crosses, sendable) depth 40
+
+object_touches_send : IsSend object_touches.the_field.row
+object_touches_send = search (shared_object_send, touches_send, maps, crosses, sendable) depth 40
+
 lists_send : IsSend lists.the_field.row
-lists_send = search (shared_object_send, touches_send, maps, crosses, sendable) depth 40
+lists_send = search (control_touches_send, object_touches_send, crosses, sendable) depth 40
 
 own_send : IsSend own.the_field.row
-own_send = search (maps, crosses, sendable) depth 40
+own_send = search (serials_send, maps, crosses, sendable) depth 40
 
 records_send : IsSend records.the_row
 records_send = search (kept_send, lists_send, own_send, maps, crosses, sendable) depth 40
