@@ -11,12 +11,12 @@ use om_parser::STACK_SIZE;
 use om_shell::{Options, ShellFault, run};
 use om_words::{Words, words_in};
 use std::alloc::{AllocError, Global};
-use std::io;
 use std::io::{Read, Write};
 use std::process::ExitCode;
 use std::rt::{Files, Runtime};
 use std::sync::Wait;
 use std::thread::{Builder, Threads};
+use std::{io, mem};
 
 // The source in a file, if one is named.
 fn source_in<R: Files>(
@@ -42,7 +42,12 @@ fn run_over<H: Threads + Wait + Sync, R: Read, W: Write>(
     requires most { options.workers ≤ 32 }
 {
     match run(rt, alloc, reader, writer, options) {
-        Ok(ended) => Outcome::Ran(ended.into_status()),
+        Ok(ended) => {
+            let status = ended.status;
+            // The process ends, and gives all memory back at once, and not entry by entry.
+            mem::forget(ended);
+            Outcome::Ran(status)
+        }
         Err(fault) => Outcome::Fault(fault),
     }
 }
