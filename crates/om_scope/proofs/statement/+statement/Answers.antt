@@ -16,7 +16,7 @@ use Rattle.om_scope.proofs.Constructs.{view_construct, view_do, view_if, view_if
 use Rattle.om_scope.proofs.Founds.{ok_anyway, ok_then}
 use Rattle.om_scope.proofs.Fronts.{bounds_refuse}
 use Rattle.om_scope.proofs.MadeParts.{parts_made, parts_whole}
-use Rattle.om_scope.proofs.Rows.{both_whole, first_refuses, second_refuses}
+use Rattle.om_rules.specs.InRow.{both_whole, first_refuses, second_refuses}
 use Rattle.om_scope.proofs.BlockPropers.{left_parts_proper, left_proper, with_depth}
 use Rattle.om_scope.specs.Items.{drop-item, length-map}
 use Rattle.om_scope.specs.Pushes.{map-push}

@@ -11,7 +11,7 @@ use Rattle.om_rules.specs.UnitRules.{item_breaches}
 use Rattle.om_rules.specs.InRow.{all_along-step, made_and, unbroken-begin, unbroken-refuse, unbroken-step}
 use Rattle.om_scope.specs.Items.{drop-item}
 use Rattle.om_scope.proofs.Propers.{item_proper}
-use Rattle.om_scope.proofs.Rows.{row_whole}
+use Rattle.om_rules.specs.InRow.{row_whole}
 use Rattle.om_scope.proofs.unit.resolve_each.Goals as goal
 
 pub resolve_item-requires : goal.resolve_item-requires

@@ -9,7 +9,7 @@ use Rattle.om_uses.proofs.Items.{drop-item}
 use Rattle.std.proofs.lemmas.List.{drop_all}
 use Rattle.om_rules.specs.InRow.{unbroken-begin}
 use Rattle.om_rules.specs.StatementResolution.{resolved_declarators}
-use Rattle.om_uses.proofs.Rows.{row_behind, row_made, row_whole}
+use Rattle.om_rules.specs.InRow.{row_behind, row_made, row_whole}
 use Rattle.om_uses.proofs.declaration.resolve_further_locals.Goals as goal
 
 pub returns-in_err-add_local-clause-checked : goal.returns-in_err-add_local-clause-checked

@@ -8,7 +8,7 @@ use Rattle.om_rules.specs.InRow.{each-step, made_and, unbroken-refuse, unbroken-
 use Rattle.om_uses.proofs.Items.{drop-item, map-push}
 use Rattle.std.proofs.lemmas.List.{drop_all}
 use Rattle.om_rules.specs.InRow.{unbroken-begin}
-use Rattle.om_uses.proofs.Rows.{row_behind, row_made, row_whole}
+use Rattle.om_rules.specs.InRow.{row_behind, row_made, row_whole}
 use Rattle.om_uses.proofs.directive.list_further_names.Goals as goal
 
 pub returns-in_err-add-clause-checked : goal.returns-in_err-add-clause-checked

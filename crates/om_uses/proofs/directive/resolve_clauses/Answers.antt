@@ -10,7 +10,7 @@ use Rattle.om_uses.proofs.Items.{drop-item}
 use Rattle.std.proofs.lemmas.List.{drop_all}
 use Rattle.om_rules.specs.InRow.{nothing_made, unbroken-begin}
 use Rattle.om_rules.specs.StatementResolution.{resolved_clauses}
-use Rattle.om_uses.proofs.Rows.{row_behind, row_made, row_whole}
+use Rattle.om_rules.specs.InRow.{row_behind, row_made, row_whole}
 use Rattle.om_uses.proofs.directive.resolve_clauses.Goals as goal
 
 pub returns-in_err-resolve_clause-clause-checked : goal.returns-in_err-resolve_clause-clause-checked

@@ -4,7 +4,7 @@ use Rattle.std.specs.List.{flat_map}
 use Rattle.om_rules.specs.DirectiveRules.{flushed_breaches}
 use Rattle.om_rules.specs.Perhaps.{each}
 use Rattle.om_rules.specs.Resolution.{variable_named}
-use Rattle.om_uses.proofs.Rows.{row_made}
+use Rattle.om_rules.specs.InRow.{row_made}
 use Rattle.om_uses.proofs.directive.resolve_further_flushed.Goals as goal
 
 pub loop-further-init : goal.loop-further-init

@@ -18,7 +18,7 @@ use Rattle.om_rules.specs.ExpressionRules.{argument_count, arguments_breaches, a
 use Rattle.om_rules.specs.ExpressionRules.{misprint_breaches, printed_breaches, target_breaches}
 use Rattle.om_rules.specs.Faults.{first_of}
 use Rattle.om_rules.specs.InRow.{first_of_left}
-use Rattle.om_uses.proofs.Rows.{both_whole, first_refuses, second_refuses}
+use Rattle.om_rules.specs.InRow.{both_whole, first_refuses, second_refuses}
 use Rattle.om_uses.proofs.Targets.{no_target, no_target_inside}
 use Rattle.om_uses.proofs.expression.+expression.Goals as goal
 

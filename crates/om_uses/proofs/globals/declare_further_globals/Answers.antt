@@ -9,7 +9,7 @@ use Rattle.std.proofs.lemmas.List.{append-nil, drop_all}
 use Rattle.om_rules.specs.InRow.{unbroken-begin}
 use Rattle.om_rules.specs.Scopes.{behind_commas}
 use Rattle.om_rules.specs.UnitResolution.{global_of}
-use Rattle.om_uses.proofs.Rows.{row_behind, row_whole}
+use Rattle.om_rules.specs.InRow.{row_behind, row_whole}
 use Rattle.om_uses.proofs.globals.declare_further_globals.Goals as goal
 
 pub returns-in_err-declare_global-clause-checked : goal.returns-in_err-declare_global-clause-checked
