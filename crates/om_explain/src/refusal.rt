@@ -19,7 +19,7 @@ pub fn refusal_words(code: FaultCode) -> &'static str
             "no such directive or clause: the word is mistyped, or left out",
         FaultCode::BadClause =>
             "this clause is wrong: not of this directive, there already, or wrong inside",
-        FaultCode::Undeclared => "this name is not declared before its use",
+        FaultCode::Undeclared => "this source does not declare this name before its use",
         FaultCode::Redeclared =>
             "this name is declared twice; take one of the two out, or rename it",
         FaultCode::Misuse => "this is used as what it is not",
