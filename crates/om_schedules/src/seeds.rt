@@ -1,6 +1,6 @@
 //! The schedules of seeds, up to the first that is bad.
 
-ghost use Rattle.std.specs.Prelude.{◌<◌, ◌≤◌};
+ghost use Rattle.std.specs.Prelude.{◌<◌, ◌≤◌, IfOk, IfSome};
 
 use crate::block::Block;
 use crate::commands::MOST_STEPS;
@@ -47,6 +47,9 @@ pub fn next_bad<P: Progress>(
 ) -> Result<Option<Schedule>, AllocError>
     requires at_least_one { 0 < ground.now.workers }
     requires at_most_32 { ground.now.workers ≤ 32 }
+    ensures lies_behind { IfOk result (λ found. IfSome found (λ schedule. behind < schedule.seed)) }
+    ensures is_a_seed { IfOk result
+        (λ found. IfSome found (λ schedule. schedule.seed ≤ ground.now.seeds)) }
 {
     let mut player = Player::new(alloc, program, ground.workers)?;
     let found = next_played(alloc, &mut player, ground, behind, progress);
@@ -61,7 +64,11 @@ fn next_played<P: Progress>(
     ground: &Ground<'_>,
     behind: u64,
     progress: &mut P,
-) -> Result<Option<Schedule>, AllocError> {
+) -> Result<Option<Schedule>, AllocError>
+    ensures lies_behind { IfOk result (λ found. IfSome found (λ schedule. behind < schedule.seed)) }
+    ensures is_a_seed { IfOk result
+        (λ found. IfSome found (λ schedule. schedule.seed ≤ ground.now.seeds)) }
+{
     'seeds: for before in behind..ground.seeds {
         let seed = before + 1;
         progress.tell(seed, ground.seeds);
