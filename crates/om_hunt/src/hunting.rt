@@ -5,7 +5,7 @@ ghost use Rattle.std.specs.Option.{option_copied};
 ghost use Rattle.om_hunt.specs.Finds.{IsFound, IsHunted};
 
 use om_schedules::{
-    Aims, Found, Ground, Hunted, Progress, Schedule, end_of, next_bad, script, wanted_of,
+    Aims, Chances, Found, Ground, Hunted, Progress, Schedule, end_of, script, wanted_of,
 };
 use om_script::{Ran, run_over};
 use om_shell::{ShellFault, program_of};
@@ -96,9 +96,10 @@ fn find_by_chance<H: Threads + Wait + Sync, P: Progress>(
         (λ found. IfSome found
         (IsFound ground.now.workers source.now ground.now.wanted.now.text.items)) }
 {
+    let mut chances = chances_over(alloc, source, ground.workers)?;
     let mut behind = 0;
     'schedules: for _ in 0..ground.seeds {
-        let Some(schedule) = next_over(alloc, source, ground, behind, progress)? else {
+        let Some(schedule) = chances.next_bad(alloc, ground, behind, progress)? else {
             return Ok(None);
         };
         behind = schedule.seed;
@@ -110,19 +111,13 @@ fn find_by_chance<H: Threads + Wait + Sync, P: Progress>(
     Ok(None)
 }
 
-// The first bad schedule behind a seed, over an accepted source.
-fn next_over<P: Progress>(
-    alloc: Global,
-    source: &[u8],
-    ground: &Ground<'_>,
-    behind: u64,
-    progress: &mut P,
-) -> Result<Option<Schedule>, ShellFault>
-    requires at_least_one { 0 < ground.now.workers }
-    requires at_most_32 { ground.now.workers ≤ 32 }
+// What tries schedules over a source that was accepted before.
+fn chances_over(alloc: Global, source: &[u8], workers: u8) -> Result<Chances, ShellFault>
+    requires at_least_one { 1 ≤ workers }
+    requires at_most_32 { workers ≤ 32 }
 {
     match program_of(alloc, source) {
-        Ok(program) => Ok(next_bad(alloc, program, ground, behind, progress)?),
+        Ok(program) => Ok(Chances::new(alloc, program, workers)?),
         Err(_) => Err(ShellFault::Memory),
     }
 }

@@ -21,4 +21,4 @@ pub use hunted::{Aims, Found, Hunted, Progress};
 pub use judge::{Badness, Wanted};
 pub use outcome::{End, end_of, wanted_of};
 pub use report::push_report;
-pub use seeds::{Ground, Schedule, next_bad};
+pub use seeds::{Chances, Ground, Schedule};

@@ -35,49 +35,55 @@ pub struct Schedule {
     pub blocks: Vec<Block>,
 }
 
-/// Tries the schedule of each seed behind this one, and answers the first that is bad, made short.
-///
-/// `progress` is told before each. Its only error is out of memory.
-pub fn next_bad<P: Progress>(
-    alloc: Global,
-    program: Program,
-    ground: &Ground<'_>,
-    behind: u64,
-    progress: &mut P,
-) -> Result<Option<Schedule>, AllocError>
-    requires at_least_one { 0 < ground.now.workers }
-    requires at_most_32 { ground.now.workers ≤ 32 }
-    ensures lies_behind { IfOk result (λ found. IfSome found (λ schedule. behind < schedule.seed)) }
-    ensures is_a_seed { IfOk result
-        (λ found. IfSome found (λ schedule. schedule.seed ≤ ground.now.seeds)) }
-{
-    let mut player = Player::new(alloc, program, ground.workers)?;
-    let found = next_played(alloc, &mut player, ground, behind, progress);
-    drop(player);
-    found
+/// What tries schedules over a program. Each play takes its steps back, so all begin at the program's start.
+pub struct Chances {
+    player: Player,
 }
 
-// The first bad schedule behind a seed, played so.
-fn next_played<P: Progress>(
-    alloc: Global,
-    player: &mut Player,
-    ground: &Ground<'_>,
-    behind: u64,
-    progress: &mut P,
-) -> Result<Option<Schedule>, AllocError>
-    ensures lies_behind { IfOk result (λ found. IfSome found (λ schedule. behind < schedule.seed)) }
-    ensures is_a_seed { IfOk result
-        (λ found. IfSome found (λ schedule. schedule.seed ≤ ground.now.seeds)) }
-{
-    'seeds: for before in behind..ground.seeds {
-        let seed = before + 1;
-        progress.tell(seed, ground.seeds);
-        match bad_blocks(alloc, player, ground, seed)? {
-            Some(blocks) => return Ok(Some(Schedule { seed, blocks })),
-            None => {}
-        }
+// By hand: crates above call this, and do not prove anew how each part is dropped.
+impl Drop for Chances {
+    fn drop(self) {
+        let Chances { player } = self;
+        drop(player);
     }
-    Ok(None)
+}
+
+impl Chances {
+    /// What tries schedules over a program, with 1 to 32 workers. Its only error is out of memory.
+    pub fn new(alloc: Global, program: Program, workers: u8) -> Result<Chances, AllocError>
+        requires at_least_one { 1 ≤ workers }
+        requires at_most_32 { workers ≤ 32 }
+    {
+        let player = Player::new(alloc, program, workers)?;
+        Ok(Chances { player })
+    }
+
+    /// Tries the schedule of each seed behind this one, and answers the first that is bad, made short.
+    ///
+    /// `progress` is told before each. Its only error is out of memory. No search comes behind an error, which
+    /// may leave steps.
+    pub fn next_bad<P: Progress>(
+        &mut self,
+        alloc: Global,
+        ground: &Ground<'_>,
+        behind: u64,
+        progress: &mut P,
+    ) -> Result<Option<Schedule>, AllocError>
+        ensures lies_behind { IfOk result
+            (λ found. IfSome found (λ schedule. behind < schedule.seed)) }
+        ensures is_a_seed { IfOk result
+            (λ found. IfSome found (λ schedule. schedule.seed ≤ ground.now.seeds)) }
+    {
+        'seeds: for before in behind..ground.seeds {
+            let seed = before + 1;
+            progress.tell(seed, ground.seeds);
+            match bad_blocks(alloc, &mut self.player, ground, seed)? {
+                Some(blocks) => return Ok(Some(Schedule { seed, blocks })),
+                None => {}
+            }
+        }
+        Ok(None)
+    }
 }
 
 // The schedule that a seed leads to, made short, where it is bad.
