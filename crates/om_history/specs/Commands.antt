@@ -35,8 +35,8 @@ pub record IsReplayed (r : Rules) (es : List Entry) : Type 0 where
   pub state : State
   pub replayed : replay r (map label_of es) ≡ Some state
 
--- after any steps, undos and rolls, by any workers in any interleaving, the state is what the remaining steps, in
--- order, give from the start
+-- after any steps, undos and rolls, by any workers in any interleaving, the entries that remain can be made in turn
+-- from the start
 abbrev pub RemainingSteps : Type 0
 RemainingSteps = (r : Rules) (cs : List Command) → IsReplayed r (run r no_history cs).entries
 

@@ -40,6 +40,7 @@ pub record IsPast (r : Rules) (past : Past) : Type 0 where
   pub replays : ReplaysTo r r.start past.records past.state
   -- so that what is true after every run is true of the entries
   pub reached : IsRun r (entries_in past)
+  -- (this follows from `reached`)
   pub few : length past.records ≤ past.made
 
 -- what a store and its records are, as a past

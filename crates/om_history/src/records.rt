@@ -30,8 +30,10 @@ pub struct UndoRecord {
     pub entry: Entry,
     /// The objects that the step touched, its worker's control first.
     pub footprint: Seq<Access>,
-    /// For each access behind the first that was updated what takes its update back; at a `Write` of
-    /// a control a `Keep`, since its trail takes that back.
+    /// In a small record, as `Records` keeps it: for each access behind the first that was updated what
+    /// takes its update back; at a `Write` of a control a `Keep`, since its trail takes that back. In
+    /// the record that it stands for (`specs/Fills`, `full`): for each access, the first included,
+    /// what takes its update back.
     pub back: Seq<Update>,
 }
 

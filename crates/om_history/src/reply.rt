@@ -19,7 +19,8 @@ pub enum StepReply {
     },
     /// It can't be made now.
     Blocked(Blocked),
-    /// The worker has nothing more to do: its program has ended, or it is at a fault.
+    /// The worker has nothing more to do: its program has ended, it is at a fault, or its instruction
+    /// lacks something (`om_task Rules.outcome_after`).
     Ended,
 }
 
