@@ -1,3 +1,4 @@
 pub mod Made
 pub mod Texts
 pub mod Moves
+pub mod Undone

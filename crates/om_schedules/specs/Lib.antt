@@ -1,3 +1,4 @@
 pub mod Schedules
 pub mod Bad
 pub mod Reports
+pub mod Entries

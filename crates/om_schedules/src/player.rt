@@ -1,6 +1,7 @@
 //! A machine that is played forwards, and wound back to its start.
 
-ghost use Rattle.std.specs.Prelude.{◌≡◌, ◌<◌, ◌≤◌, ◌+◌, ◌^◌, IfOk, OnOk};
+ghost use Rattle.std.specs.Prelude.{◌≡◌, ◌<◌, ◌≤◌, ◌+◌, ◌^◌, [], slice_index, EachIndex};
+ghost use Rattle.om_schedules.specs.Entries.{workers_of};
 
 use om_cells::{Choice, Label};
 use om_code::Program;
@@ -31,6 +32,8 @@ pub(crate) struct Player {
     // How many further steps there may be, so that serials fit.
     left: u64,
     ghost few_made: { machine.history.made + left ≤ 2 ^ 63 },
+    ghost stand: { made.items ≡ workers_of machine.history.entries },
+    ghost in_range: { EachIndex made.items (λ k. slice_index made.items k < machine.workers) },
 }
 
 impl Player {
@@ -60,8 +63,8 @@ impl Player {
         self.made.len()
     }
 
-    /// Makes a step, where it can be made.
-    #[tactic(auto, using(crate::proofs::Made::made_by_step))]
+    /// Makes a step, where it can be made and there is memory to note it.
+    #[tactic(auto, using(crate::proofs::Made::made_by_step, crate::proofs::Made::made_by_undo, crate::proofs::Undone::noted, crate::proofs::Undone::more_below))]
     pub(crate) fn attempt(&mut self, alloc: Global, label: &Label) -> Result<Attempt, AllocError> {
         if self.left == 0 || label.worker >= self.machine.workers() {
             return Ok(Attempt::Not);
@@ -70,7 +73,10 @@ impl Player {
         let reply = self.machine.step(alloc, label.worker, label.choice)?;
         match reply {
             StepReply::Done { fault, .. } => {
-                self.made.push(label.worker)?;
+                if self.made.push(label.worker).is_err() {
+                    let _ = self.machine.undo(label.worker);
+                    return Err(AllocError);
+                }
                 Ok(if fault.is_some() {
                     Attempt::Faulted
                 } else {
@@ -145,16 +151,13 @@ impl Player {
         Ok(())
     }
 
-    /// Takes all steps back.
-    #[tactic(auto, using(crate::proofs::Made::made_by_undo))]
-    pub(crate) fn rewind(&mut self) {
-        'steps: for _ in 0..self.made.len() {
-            let Some(worker) = self.made.pop() else {
-                return;
-            };
-            if worker < self.machine.workers() {
-                let _ = self.machine.undo(worker);
-            }
+    /// Takes all steps back, to the start.
+    #[tactic(auto, using(crate::proofs::Made::made_by_undo, crate::proofs::Undone::last_below, crate::proofs::Undone::none_left))]
+    pub(crate) fn rewind(&mut self)
+        ensures { self.new.machine.history.entries ≡ [] }
+    {
+        while let Some(worker) = self.made.pop() {
+            let _ = self.machine.undo(worker);
         }
     }
 }

@@ -35,7 +35,7 @@ pub struct Schedule {
     pub blocks: Vec<Block>,
 }
 
-/// What tries schedules over a program. Each play takes its steps back, so all begin at the program's start.
+/// What tries schedules over a program. Each play first takes back all steps that stand.
 pub struct Chances {
     player: Player,
 }
@@ -60,8 +60,7 @@ impl Chances {
 
     /// Tries the schedule of each seed behind this one, and answers the first that is bad, made short.
     ///
-    /// `progress` is told before each. Its only error is out of memory. No search comes behind an error, which
-    /// may leave steps.
+    /// `progress` is told before each. Its only error is out of memory.
     pub fn next_bad<P: Progress>(
         &mut self,
         alloc: Global,

@@ -15,8 +15,8 @@ pub(crate) struct Played {
     pub(crate) bad: Option<Badness>,
 }
 
-/// Plays a schedule from the start, lets `run` make so many steps behind it, and takes all back. A step that
-/// can't be made is left out, and all that stands behind a fault.
+/// Plays a schedule from the start, and lets `run` make so many steps behind it. A step that can't be made is
+/// left out, and all that stands behind a fault.
 pub(crate) fn play(
     alloc: Global,
     player: &mut Player,
@@ -24,10 +24,11 @@ pub(crate) fn play(
     blocks: &[Block],
     more: u32,
 ) -> Result<Played, AllocError> {
+    player.rewind();
     let mut made = Vec::new(alloc);
     for block in blocks {
         if !play_block(alloc, player, block, &mut made)? {
-            let bad = end(alloc, player, wanted)?;
+            let bad = wanted.judge(alloc, &player.machine)?;
             return Ok(Played { blocks: made, bad });
         }
     }
@@ -35,7 +36,7 @@ pub(crate) fn play(
     Ok(Played { blocks: made, bad })
 }
 
-/// Lets `run` make so many steps, judges what came of it, and takes all back.
+/// Lets `run` make so many steps, and judges what came of it.
 pub(crate) fn finish(
     alloc: Global,
     player: &mut Player,
@@ -43,14 +44,7 @@ pub(crate) fn finish(
     more: u32,
 ) -> Result<Option<Badness>, AllocError> {
     player.run(alloc, more)?;
-    end(alloc, player, wanted)
-}
-
-// Judges what came of the steps, and takes them back.
-fn end(alloc: Global, player: &mut Player, wanted: &Wanted) -> Result<Option<Badness>, AllocError> {
-    let bad = wanted.judge(alloc, &player.machine)?;
-    player.rewind();
-    Ok(bad)
+    wanted.judge(alloc, &player.machine)
 }
 
 // Plays a block, and notes the steps that were made. Says whether it met no fault.

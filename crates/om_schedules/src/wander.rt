@@ -14,14 +14,15 @@ struct Stroll {
     blocks: Vec<Block>,
 }
 
-/// Makes steps by chance, up to a fault or where no worker has a move, and so many at most. Answers their
-/// schedule.
+/// Makes steps by chance from the start, up to a fault or where no worker has a move, and so many at most.
+/// Answers their schedule.
 pub(crate) fn wander(
     alloc: Global,
     player: &mut Player,
     seed: u64,
     most: u64,
 ) -> Result<Vec<Block>, AllocError> {
+    player.rewind();
     let mut stroll = Stroll {
         chance: Chance::new(seed),
         blocks: Vec::new(alloc),
