@@ -98,5 +98,7 @@ fn bad_blocks(
     }
     let mut search = Search::new(ground.wanted, blocks);
     search.shorten(alloc, player)?;
+    // What the debugger makes of the schedule takes memory, too.
+    player.rewind();
     Ok(Some(search.blocks))
 }
