@@ -1,6 +1,7 @@
 //! A machine that is played forwards, and wound back to its start.
 
-ghost use Rattle.std.specs.Prelude.{◌≡◌, ◌<◌, ◌≤◌, ◌+◌, ◌^◌, [], slice_index, EachIndex};
+ghost use Rattle.std.specs.Prelude.{◌≡◌, ◌<◌, ◌≤◌, ◌+◌, ◌^◌, [], slice_index, EachIndex, IfOk};
+ghost use Rattle.om_history.specs.Runs.{no_history};
 ghost use Rattle.om_schedules.specs.Entries.{workers_of};
 
 use om_cells::{Choice, Label};
@@ -41,6 +42,8 @@ impl Player {
     pub(crate) fn new(alloc: Global, program: Program, workers: u8) -> Result<Player, AllocError>
         requires at_least_one { 1 ≤ workers }
         requires at_most_32 { workers ≤ 32 }
+        ensures { IfOk result (λ player. player.machine
+            ≡ record { program = program; workers = workers; history = no_history }) }
     {
         let machine = Machine::new(alloc, program, workers)?;
         Ok(Player {

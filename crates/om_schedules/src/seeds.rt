@@ -1,6 +1,7 @@
 //! The schedules of seeds, up to the first that is bad.
 
-ghost use Rattle.std.specs.Prelude.{◌<◌, ◌≤◌, IfOk, IfSome};
+ghost use Rattle.std.specs.Prelude.{◌≡◌, ◌<◌, ◌≤◌, IfOk, IfSome};
+ghost use Rattle.om_history.specs.Runs.{no_history};
 
 use crate::block::Block;
 use crate::commands::MOST_STEPS;
@@ -49,10 +50,13 @@ impl Drop for Chances {
 }
 
 impl Chances {
-    /// What tries schedules over a program, with 1 to 32 workers. Its only error is out of memory.
+    /// What tries schedules over a program, with 1 to 32 workers; no step was made. Its only error is out
+    /// of memory.
     pub fn new(alloc: Global, program: Program, workers: u8) -> Result<Chances, AllocError>
         requires at_least_one { 1 ≤ workers }
         requires at_most_32 { workers ≤ 32 }
+        ensures { IfOk result (λ chances. chances.player.machine
+            ≡ record { program = program; workers = workers; history = no_history }) }
     {
         let player = Player::new(alloc, program, workers)?;
         Ok(Chances { player })
