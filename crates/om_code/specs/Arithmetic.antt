@@ -70,7 +70,7 @@ abbrev pub update : AtomicOperator → Side → ℤ → ℤ → Result ℤ Fault
 update operator Left old other = operate (as_binary operator) old other
 update operator Right old other = operate (as_binary operator) other old
 
--- OpenMP 5.2, 5.5.5: two copies of a reduction are combined
+-- OpenMP 5.2, 5.5.3: two copies of a reduction are combined
 abbrev pub combine : Reduction → ℤ → ℤ → Result ℤ Fault
 combine reduction.Add a b = operate binary.Add a b
 combine reduction.Multiply a b = operate binary.Multiply a b

@@ -90,7 +90,7 @@ fn as_binary(operator: AtomicOperator) -> BinaryOperator
     }
 }
 
-/// Two copies of a reduction, combined (OpenMP 5.2, 5.5.5).
+/// Two copies of a reduction, combined (OpenMP 5.2, 5.5.3).
 ///
 /// Errors: F1 where the result is no `int`.
 pub fn combine(reduction: Reduction, a: i32, b: i32) -> Result<i32, Fault>

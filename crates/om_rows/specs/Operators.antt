@@ -80,7 +80,7 @@ abbrev pub side_of : Side → machine_sides.Side
 side_of tree_sides.Left = sides.Left
 side_of tree_sides.Right = sides.Right
 
--- OpenMP API 5.2, section 5.5.5: how a reduction combines, and what its copies begin with
+-- OpenMP API 5.2, section 5.5.3: how a reduction combines, and what its copies begin with
 abbrev pub reduction_of : ReductionOperator → Reduction
 reduction_of sums.Add = reductions.Add
 reduction_of sums.Multiply = reductions.Multiply

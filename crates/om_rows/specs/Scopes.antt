@@ -1,5 +1,5 @@
 -- In which instructions of a body a variable of the function is in scope (C17 6.2.1p4, p7; OpenMP API 5.2,
--- section 5.1), by where the code of its parts stands.
+-- section 5.3), by where the code of its parts stands.
 --
 -- A declared variable is in scope from the first instruction of its declarator to the last of its block, or
 -- of its `for`; what stands at a closing brace belongs to the block that it closes. A parameter is in scope in

@@ -299,7 +299,7 @@ fn clause_combined(
 }
 
 /// Combines the copies of reductions with their originals, in clause order (OpenMP API 5.2, section
-/// 5.5.5).
+/// 5.5.8).
 pub fn reductions(
     draft: &mut Draft,
     scope: &Scope<'_>,

@@ -11,7 +11,7 @@ use om_pragma::{ReductionOperator, ScheduleKind};
 use om_resolved::{ResolvedLoop, ResolvedSchedule, Side, UpdateOperator};
 use om_tree::BinaryOperator;
 
-/// How a reduction combines (OpenMP API 5.2, section 5.5.5).
+/// How a reduction combines (OpenMP API 5.2, section 5.5.3).
 pub(crate) fn reduction_of(operator: ReductionOperator) -> Reduction
     ensures { result ≡ reduction_of operator }
 {
@@ -23,7 +23,7 @@ pub(crate) fn reduction_of(operator: ReductionOperator) -> Reduction
     }
 }
 
-/// Pushes what the copies of a reduction begin with (OpenMP API 5.2, section 5.5.5).
+/// Pushes what the copies of a reduction begin with (OpenMP API 5.2, section 5.5.3).
 pub(crate) fn identity_of(operator: ReductionOperator) -> Instr
     ensures { result ≡ i.Constant (identity_of operator) }
 {

@@ -129,7 +129,7 @@ return_row c slots (caller ∷ callers) (Some v) = record {
       (EndFrame v ∷ []) (deaths (own_cells c slots));
 }
 
--- OpenMP 5.2, 5.5.5: a copy of a reduction is combined with its original, in one step
+-- OpenMP 5.2, 5.5.8: a copy of a reduction is combined with its original, in one step
 abbrev pub combined : ℕ → Result ℤ Fault → Row
 combined to (Ok n) = goes to 0 None (Keep ∷ Put (value.Cell (cell.Int n)) ∷ [])
 combined to (Err f) = Faults f
