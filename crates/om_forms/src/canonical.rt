@@ -1,4 +1,5 @@
-//! Canonical loops (OpenMP API 5.2, section 4.4.1).
+//! Canonical loops (OpenMP API 5.2, section 4.4.1), of the forms that are supported. That section also
+//! allows `!=`, the bound on the left of its comparison, and a step that is no constant.
 
 ghost use Rattle.std.specs.Prelude.{◌≡◌, ◌≤◌, option_map, map};
 ghost use Rattle.om_tree.specs.View.{view_declarator, view_expression, view_for_head, view_for_start, view_further, view_initializer, view_statement};
@@ -36,7 +37,7 @@ pub struct Loop<'a> {
     /// The word `for`.
     pub at: Span,
     pub start: LoopStart<'a>,
-    /// `<`, `<=`, `>` or `>=`.
+    /// `<`, `<=`, `>` or `>=`; `!=` is unsupported.
     pub comparison: BinaryOperator,
     /// The bound that its variable is compared with.
     pub to: &'a Expression,

@@ -197,7 +197,7 @@ pub struct ResolvedLoop {
     pub variable: LocalVariable,
     /// Its first value.
     pub from: ResolvedExpression,
-    /// `<`, `<=`, `>` or `>=`.
+    /// `<`, `<=`, `>` or `>=`; `!=` is unsupported.
     pub comparison: BinaryOperator,
     /// What it is compared with.
     pub to: ResolvedExpression,

@@ -93,7 +93,7 @@ identity_of sums.Multiply = pos 1
 identity_of sums.Max = negsuc 2147483647
 identity_of sums.Min = pos 2147483647
 
--- OpenMP API 5.2, section 4.4.1: the comparison of a canonical loop
+-- OpenMP API 5.2, section 4.4.1: the comparison of a canonical loop; `!=`, which it allows too, is unsupported
 abbrev pub comparison_of : BinaryOperator → Option Comparison
 comparison_of binaries.Less = Some comparisons.Less
 comparison_of binaries.LessEqual = Some comparisons.LessOrEqual

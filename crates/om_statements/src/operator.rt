@@ -57,7 +57,7 @@ pub(crate) fn side_of(side: Side) -> om_code::instruction::Side
     }
 }
 
-/// The comparison of a canonical loop (OpenMP API 5.2, section 4.4.1).
+/// The comparison of a canonical loop (OpenMP API 5.2, section 4.4.1), whose `!=` is unsupported.
 pub(crate) fn comparison_of(operator: BinaryOperator) -> Option<Comparison>
     ensures { result ≡ comparison_of operator }
 {
