@@ -31,7 +31,7 @@ pub struct PickList {
 /// The code of one body, as far as it is written.
 ///
 /// The target of each jump in it is a label, and `settle` gives the code with places in their stead.
-/// It has room for 2^32 - 1 instructions and as many labels; past that it is out of memory.
+/// It has room for 2^32 - 1 instructions and 2^32 labels; past that it is out of memory.
 #[derive(Drop)]
 pub struct Draft {
     code: Vec<Line>,

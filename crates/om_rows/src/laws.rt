@@ -31,8 +31,8 @@ pub fn rows_have_code()
     ensures statement { StatementRowsHaveCode }
 {}
 
-/// The code of a whole tree is valid where no body has more than 2^32 places or slots, and no way more than
-/// 256 operands; else only the rule on operands is broken.
+/// The code of a whole tree is valid where each body has fewer than 2^32 instructions and at most 2^32 slots, and
+/// no way has more than 256 operands. With so few instructions and slots it can break the rule on operands alone.
 ///
 /// So whoever finds such code refused has too many operands in it, or is out of memory.
 pub fn code_is_valid()
