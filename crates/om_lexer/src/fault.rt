@@ -33,7 +33,7 @@ pub enum FaultCode {
     ConstantTooLarge,
     /// S11: too many of something.
     TooMany,
-    /// S12: a loop that a loop directive does not take.
+    /// S12: a loop that `for` or `parallel for` does not take.
     LoopForm,
     /// S13: a variable that `default(none)` wants listed.
     Unlisted,

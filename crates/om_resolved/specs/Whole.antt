@@ -188,7 +188,7 @@ of_parallel = record { value = Some values.NumThreads; shared = true; copies = t
 abbrev pub of_task : Admitted
 of_task = record { value = None; shared = true; copies = true; reductions = false }
 
--- of a loop construct, and of `sections`
+-- of a worksharing-loop construct, and of `sections`
 abbrev pub of_worksharing : Admitted
 of_worksharing = record { value = None; shared = false; copies = true; reductions = true }
 

@@ -87,7 +87,7 @@ once_too around d scopes formed good =
     if_both None g h = tt
     if_both (Some cs) g h = (g.0, g.1, h)
 
--- ---- loop constructs
+-- ---- worksharing-loop constructs
 
 -- in a loop, whose variable is this one's
 known_iteration : (outer : Around) (scopes : Scopes) (found : Loop) (l : ResolvedLoopTree) → l.variable

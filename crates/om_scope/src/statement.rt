@@ -323,7 +323,7 @@ fn resolve_plain_construct(
     construct_of(alloc, setting, directive, clauses, body)
 }
 
-/// A construct that is for a loop: S12.
+/// A worksharing-loop construct, or a `parallel for`: S12.
 #[tactic(auto, using(om_rules::specs::InRow::first_of_left))]
 #[cycle(statement)]
 fn resolve_loop_construct(

@@ -210,7 +210,7 @@ fn see_loop(variables: &mut Variables, repeated: &ResolvedLoop) -> Result<(), Al
     take_expression(variables, &repeated.to)
 }
 
-/// Sees the clauses of a loop construct, its iteration variable and its bounds.
+/// Sees the clauses of a worksharing-loop construct, its iteration variable and its bounds.
 fn see_loop_head(
     variables: &mut Variables,
     clauses: &[ResolvedClause],
