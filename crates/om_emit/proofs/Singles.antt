@@ -8,8 +8,8 @@ use Rattle.om_emit.specs.Emits.{Finished, Part, site, Goes, Emits, EmitsRow}
 use Rattle.om_emit.specs.Rests.{element_rest, stepped, stepped_rest}
 use Rattle.om_emit.specs.Writing.{goes_end, goes_put, goes_part, goes_as}
 use Rattle.om_resolved.specs.declared.resolved.Variable as variables
-use Rattle.om_rows.specs.Expressions.{assigned, constant, undone}
-use Rattle.om_rows.specs.Operators.{step_of, undo_of}
+use Rattle.om_rows.specs.Expressions.{assigned, constant, stepped_back}
+use Rattle.om_rows.specs.Operators.{step_of, inverse_step_of}
 use Rattle.om_rows.specs.Rows.{end, ins, part, ◌▸◌}
 use Rattle.om_rows.specs.Slots.{place_of}
 use Rattle.om_tables.specs.Names.{Names}
@@ -37,10 +37,10 @@ goes_constant names n l c r a b d h g =
     (goes_put names n l (i.Constant c) r a b d h g)
 
 -- CONST 1, BIN
-emits_undone : (names : Names) (l : ℕ) (o : machine.BinaryOperator) (a b c : Written)
+emits_stepped_back : (names : Names) (l : ℕ) (o : machine.BinaryOperator) (a b c : Written)
     → Puts l (i.Constant (pos 1)) a b → Puts l (i.Binary o) b c
-    → EmitsRow names (λ at. undone at l o) a c
-emits_undone names l o a b c h1 h2 =
+    → EmitsRow names (λ at. stepped_back at l o) a c
+emits_stepped_back names l o a b c h1 h2 =
     let n = length a.places in
     goes_put names n l (i.Constant (pos 1)) (λ done at. ins (site names done) l (i.Binary o) ▸ end) a b c h1
     (goes_put names n l (i.Binary o) (λ done at. end) b c c h2 (goes_end n c))
@@ -103,11 +103,11 @@ emits_stepped_element names l keeps x operator o a b c d e f is h1 h2 h3 h4 h5 =
     (emits_step_element names l keeps x o a b c d e f h1 h2 h3 h4 h5)
 
 pub emits_old : (names : Names) (l : ℕ) (operator : PostfixOperator) (o : machine.BinaryOperator)
-    (a b c : Written) → o ≡ undo_of operator
+    (a b c : Written) → o ≡ inverse_step_of operator
     → Puts l (i.Constant (pos 1)) a b → Puts l (i.Binary o) b c
-    → EmitsRow names (λ at. undone at l (undo_of operator)) a c
+    → EmitsRow names (λ at. stepped_back at l (inverse_step_of operator)) a c
 emits_old names l operator o a b c is h1 h2 =
-    subst (λ z. EmitsRow names (λ at. undone at l z) a c) is (emits_undone names l o a b c h1 h2)
+    subst (λ z. EmitsRow names (λ at. stepped_back at l z) a c) is (emits_stepped_back names l o a b c h1 h2)
 
 -- ---- a part, and what stands behind it
 

@@ -7,8 +7,8 @@ use Rattle.om_resolved.specs.declared.resolved.UnaryOperator.{UnaryOperator}
 use Rattle.om_resolved.specs.declared.resolved.UnaryOperator.TheVariants as unaries
 use Rattle.om_resolved.specs.declared.resolved.Variable as variables
 use Rattle.om_resolved.specs.ResolvedTree.{ResolvedExpressionTree, ValuesTree}
-use Rattle.om_rows.specs.Expressions.{assigned, called, constant, printed, undone, value, values}
-use Rattle.om_rows.specs.Operators.{BinaryForm, Both, Either, Plain, compound_of, step_of, undo_of}
+use Rattle.om_rows.specs.Expressions.{assigned, called, constant, printed, stepped_back, value, values}
+use Rattle.om_rows.specs.Operators.{BinaryForm, Both, Either, Plain, compound_of, step_of, inverse_step_of}
 use Rattle.om_rows.specs.Rows.{Site, Row, end, ins, part, here, ◌▸◌}
 use Rattle.om_rows.specs.Slots.{place}
 use Rattle.om_tree.specs.declared.tree.AssignOperator.{AssignOperator}
@@ -71,4 +71,4 @@ stepped_rest at l keeps a operator =
     element_rest at l keeps a (Some (step_of operator)) (constant at l (pos 1))
 
 abbrev pub postfix_rest : Site → ℕ → variables.Variable → PostfixOperator → Row
-postfix_rest at l a operator = part (stepped_rest at l true a operator) ▸ undone at l (undo_of operator)
+postfix_rest at l a operator = part (stepped_rest at l true a operator) ▸ stepped_back at l (inverse_step_of operator)

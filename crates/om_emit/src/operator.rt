@@ -63,9 +63,9 @@ pub(crate) fn step_of(operator: PostfixOperator) -> BinaryOperator
     }
 }
 
-/// What makes the old value of the new one and 1.
-pub(crate) fn undo_of(operator: PostfixOperator) -> BinaryOperator
-    ensures { result ≡ rows.undo_of operator }
+/// The inverse of that step: what makes the old value of the new one and 1.
+pub(crate) fn inverse_step_of(operator: PostfixOperator) -> BinaryOperator
+    ensures { result ≡ rows.inverse_step_of operator }
 {
     match operator {
         PostfixOperator::Increment => BinaryOperator::Subtract,

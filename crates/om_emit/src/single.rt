@@ -6,15 +6,15 @@ ghost use Rattle.om_emit.specs.Drafts.{Puts};
 ghost use Rattle.om_emit.specs.Emits.{EmitsRow, EmitsValue};
 ghost use Rattle.om_emit.specs.Rests as rows;
 ghost use Rattle.om_resolved.specs.ResolvedTree as trees;
-ghost use Rattle.om_rows.specs.Expressions.{undone};
-ghost use Rattle.om_rows.specs.Operators.{undo_of};
+ghost use Rattle.om_rows.specs.Expressions.{stepped_back};
+ghost use Rattle.om_rows.specs.Operators.{inverse_step_of};
 ghost use Rattle.om_rows.specs.Rows.{Site};
 ghost use Rattle.om_rows.specs.Slots.{place_of};
 ghost use Rattle.om_tables.specs.Names.{Names};
 ghost use Rattle.om_tables.specs.Scopes.{names_of};
 
 use crate::draft::Draft;
-use crate::operator::{step_of, undo_of};
+use crate::operator::{inverse_step_of, step_of};
 use om_code::{Instr, instruction};
 use om_resolved::{UnaryOperator, Variable};
 use om_tables::Scope;
@@ -149,13 +149,13 @@ pub(crate) fn step_element(
 }
 
 /// The old value of what was stepped, from the new one on top.
-fn undo(draft: &mut Draft, line: u32, operator: PostfixOperator) -> Result<(), AllocError>
-    ensures { let undo = undo_of operator in
+fn step_back(draft: &mut Draft, line: u32, operator: PostfixOperator) -> Result<(), AllocError>
+    ensures { let back = inverse_step_of operator in
         (names : Names) → OnOk result
-        (EmitsRow names (λ at. undone at line undo) draft.old draft.new) }
+        (EmitsRow names (λ at. stepped_back at line back) draft.old draft.new) }
 {
     draft.put(line, Instr::Constant(1))?;
-    draft.put(line, Instr::Binary(undo_of(operator)))?;
+    draft.put(line, Instr::Binary(inverse_step_of(operator)))?;
     Ok(())
 }
 
@@ -176,7 +176,7 @@ pub(crate) fn postfix(
         keeps: true,
     };
     step(draft, scope, line, target)?;
-    undo(draft, line, operator)?;
+    step_back(draft, line, operator)?;
     Ok(())
 }
 
@@ -197,6 +197,6 @@ pub(crate) fn postfix_element(
         keeps: true,
     };
     step_element(draft, scope, line, target)?;
-    undo(draft, line, operator)?;
+    step_back(draft, line, operator)?;
     Ok(())
 }

@@ -18,8 +18,8 @@ use Rattle.om_resolved.specs.ResolvedTree.{ResolvedExpressionTree, Constant, Var
 use Rattle.om_resolved.specs.ResolvedTree.{TeamSize, Print, Unary, Binary, Conditional, Assign, AssignElement, Postfix}
 use Rattle.om_resolved.specs.ResolvedTree.{PostfixElement}
 use Rattle.om_rows.specs.Expressions.{constant, unary_row, binary_row, conditional_row, assigned, element_assigned}
-use Rattle.om_rows.specs.Expressions.{undone, value}
-use Rattle.om_rows.specs.Operators.{BinaryForm, Both, Either, Plain, form_of, compound_of, step_of, undo_of}
+use Rattle.om_rows.specs.Expressions.{stepped_back, value}
+use Rattle.om_rows.specs.Operators.{BinaryForm, Both, Either, Plain, form_of, compound_of, step_of, inverse_step_of}
 use Rattle.om_rows.specs.Rows.{Site, Row, end, ins, part, here, ◌▸◌}
 use Rattle.om_rows.specs.Slots.{place}
 use Rattle.om_meaning.specs.Meaning as means
@@ -282,10 +282,10 @@ module _ (raw : Raw) (body : Body) (at : Site) (same : at.code ≡ body.code) wh
       (store_element (place at a) (Cells a) n v d) (has _ b.2.1.0)
       (store_element_drops raw body.slots (place at a) (b.0 + 1) n v s d) b.2.1.1)))))
 
-  -- the 1 of a postfix operator, undone
-  undone_means : (l : ℕ) (o : machine.BinaryOperator) (a : Row) (f : World → Outcome) → Means a f
-      → Means (part a ▸ undone at l o) (λ w. means.undone o (f w))
-  undone_means l o a f ha p q s w h =
+  -- the step of a postfix operator, taken back
+  stepped_back_means : (l : ℕ) (o : machine.BinaryOperator) (a : Row) (f : World → Outcome) → Means a f
+      → Means (part a ▸ stepped_back at l o) (λ w. means.stepped_back o (f w))
+  stepped_back_means l o a f ha p q s w h =
       steps.gives_then raw body _ h.0 q s s (f w) (λ z u. result (operate o z (pos 1)) u) (ha p h.0 s w h.1)
       (λ z u. steps.leads_gives raw body _ _ q s (result (operate o z (pos 1)) u)
       (steps.step raw body h.0 l (i.Constant (pos 1)) (with_int z s) u _ (has _ h.2.0) refl)
@@ -328,11 +328,11 @@ module _ (raw : Raw) (body : Body) (at : Site) (same : at.code ≡ body.code) wh
       (λ u. value_of (layout_of raw body at.slots) j u) (λ u. value_of (layout_of raw body at.slots) e u)
       (value_means j l g.0) (value_means e l g.1) p q s w h
   value_means (Postfix x o) l g p q s w h =
-      undone_means l (undo_of o) (assigned at l true x (Some (step_of o)) (constant at l (pos 1)))
+      stepped_back_means l (inverse_step_of o) (assigned at l true x (Some (step_of o)) (constant at l (pos 1)))
       (λ u. means.assigned (place at x) (Some (step_of o)) means.one u)
       (assigned_means l x (Some (step_of o)) (constant at l (pos 1)) means.one (constant_means l (pos 1))) p q s w h
   value_means (PostfixElement a j o) l g p q s w h =
-      undone_means l (undo_of o) (element_assigned at l true a (value at l j) (Some (step_of o))
+      stepped_back_means l (inverse_step_of o) (element_assigned at l true a (value at l j) (Some (step_of o))
       (constant at l (pos 1)))
       (λ u. means.element_assigned (place at a) (Cells a) (λ t. value_of (layout_of raw body at.slots) j t)
       (Some (step_of o)) means.one u)

@@ -22,11 +22,11 @@ use Rattle.om_resolved.specs.declared.resolved.UnaryOperator.TheVariants as unar
 use Rattle.om_resolved.specs.ResolvedTree.{ResolvedExpressionTree, Constant, Variable, Element, Call, ThreadNumber}
 use Rattle.om_resolved.specs.ResolvedTree.{TeamSize, Print, Unary, Binary, Conditional, Assign, AssignElement, Postfix}
 use Rattle.om_resolved.specs.ResolvedTree.{PostfixElement}
-use Rattle.om_rows.specs.Operators.{BinaryForm, Both, Either, Plain, form_of, compound_of, step_of, undo_of}
+use Rattle.om_rows.specs.Operators.{BinaryForm, Both, Either, Plain, form_of, compound_of, step_of, inverse_step_of}
 use Rattle.om_meaning.specs.Ints.{IsInt, HoldsInt, HoldsInts, LeavesInts, HasInts}
 use Rattle.om_meaning.specs.Laws.{IntsStay}
 use Rattle.om_meaning.specs.Meaning.{is_zero, unary_value, binary_value, assigned, load_element, store_element}
-use Rattle.om_meaning.specs.Meaning.{element_assigned, undone, one, value_of}
+use Rattle.om_meaning.specs.Meaning.{element_assigned, stepped_back, one, value_of}
 use Rattle.om_meaning.specs.Worlds.{World, Layout, Outcome, Got, Faulty, with_value, result, held, with_held, found}
 use Rattle.om_meaning.specs.Worlds.{put_into, load, store, at_index}
 
@@ -202,8 +202,8 @@ element_assigned_ints at cells j (Some o) e hj he w h =
 pub one_ints : Stays one
 one_ints w h = (refl, h)
 
-undone_ints : (o : machine.BinaryOperator) (r : Outcome) → LeavesInts r → LeavesInts (undone o r)
-undone_ints o r h = with_ints_of r _ h (λ z w int h. result_ints (operate o z (pos 1)) w
+stepped_back_ints : (o : machine.BinaryOperator) (r : Outcome) → LeavesInts r → LeavesInts (stepped_back o r)
+stepped_back_ints o r h = with_ints_of r _ h (λ z w int h. result_ints (operate o z (pos 1)) w
     (operate_int o z (pos 1) refl) h)
 
 pub value_ints : (at : Layout) (e : ResolvedExpressionTree) → HasInts e → Stays (λ w. value_of at e w)
@@ -228,10 +228,12 @@ value_ints at (Assign x o e) g w h = assigned_ints (at.place x) (compound_of o) 
 value_ints at (AssignElement a j o e) g w h =
     element_assigned_ints (at.place a) (at.cells (at.place a)) (λ u. value_of at j u) (compound_of o)
     (λ u. value_of at e u) (value_ints at j g.0) (value_ints at e g.1) w h
-value_ints at (Postfix x o) g w h = undone_ints (undo_of o) _ (assigned_ints (at.place x) (Some (step_of o)) one
+value_ints at (Postfix x o) g w h =
+    stepped_back_ints (inverse_step_of o) _ (assigned_ints (at.place x) (Some (step_of o)) one
     one_ints w h)
 value_ints at (PostfixElement a j o) g w h =
-    undone_ints (undo_of o) _ (element_assigned_ints (at.place a) (at.cells (at.place a)) (λ u. value_of at j u)
+    stepped_back_ints (inverse_step_of o) _
+    (element_assigned_ints (at.place a) (at.cells (at.place a)) (λ u. value_of at j u)
     (Some (step_of o)) one (value_ints at j g) one_ints w h)
 
 pub ints_stay : IntsStay

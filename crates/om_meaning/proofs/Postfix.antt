@@ -11,10 +11,10 @@ use Rattle.om_code.specs.Arithmetic.{is_int, in_range, operate}
 use Rattle.om_code.specs.Frames.{index_in}
 use Rattle.om_tree.specs.declared.tree.PostfixOperator.{PostfixOperator}
 use Rattle.om_tree.specs.declared.tree.PostfixOperator.TheVariants as postfixes
-use Rattle.om_rows.specs.Operators.{step_of, undo_of}
+use Rattle.om_rows.specs.Operators.{step_of, inverse_step_of}
 use Rattle.om_meaning.specs.Ints.{HoldsInt, HoldsInts, LeavesInts}
 use Rattle.om_meaning.specs.Laws.{PostfixGivesOld, ElementGivesOld}
-use Rattle.om_meaning.specs.Meaning.{undone, load_element, store_element, one, value_of}
+use Rattle.om_meaning.specs.Meaning.{stepped_back, load_element, store_element, one, value_of}
 use Rattle.om_meaning.specs.Worlds.{World, Outcome, Got, Faulty, with_value, result, held, with_held, found, put_into}
 use Rattle.om_meaning.specs.Worlds.{load, store, at_index}
 use Rattle.om_meaning.proofs.Ints.{value_ints}
@@ -29,9 +29,9 @@ up_down x = omega (arith, ints)
 down_up : (x : ℤ) → (x -ℤ pos 1) +ℤ pos 1 ≡ x
 down_up x = omega (arith, ints)
 
--- the 1 is undone
+-- a step and its inverse give the old value
 undoes : (o : PostfixOperator) (old z : ℤ) → is_int old ≡ true → operate (step_of o) old (pos 1) ≡ Ok z
-    → operate (undo_of o) z (pos 1) ≡ Ok old
+    → operate (inverse_step_of o) z (pos 1) ≡ Ok old
 undoes postfixes.Increment old z int e =
     let sum : old +ℤ pos 1 ≡ z = ok_of (is_int (old +ℤ pos 1)) (old +ℤ pos 1) z e in
     let back : z -ℤ pos 1 ≡ old = ap (λ y. y -ℤ pos 1) (sym sum) ∙ up_down old in
@@ -41,30 +41,30 @@ undoes postfixes.Decrement old z int e =
     let back : z +ℤ pos 1 ≡ old = ap (λ y. y +ℤ pos 1) (sym sum) ∙ down_up old in
     ap (λ y. in_range y) back ∙ ap (λ b. if b then Ok old else Err fault.Overflow) int
 
--- behind a sum: it overflows, or is stored and undone
+-- behind a sum: it overflows, or is stored and taken back
 summed : (o : PostfixOperator) (at : Place) (k : ℕ) (old : ℤ) (w : World) (r : Result ℤ Fault) → held w at k
     ≡ cell.Int old → is_int old ≡ true
     → operate (step_of o) old (pos 1) ≡ r
-    → undone (undo_of o) (with_value (result r w) (λ z u. store at k z u))
+    → stepped_back (inverse_step_of o) (with_value (result r w) (λ z u. store at k z u))
     ≡ with_value (with_value (result r w) (λ z u. store at k z u)) (λ z u. Got old u)
 unfolding store
 summed o at k old w (Err f) there int e = refl
 summed o at k old w (Ok z) there int e =
-    ap (λ c. undone (undo_of o) (put_into c at k z w)) there
+    ap (λ c. stepped_back (inverse_step_of o) (put_into c at k z w)) there
     ∙ ap (λ (r : Result ℤ Fault). result r (with_held w at k (cell.Int z))) (undoes o old z int e)
     ∙ ap (λ c. with_value (put_into c at k z w) (λ z u. Got old u)) (sym there)
 
 -- behind the load of the old value
 loaded : (o : PostfixOperator) (at : Place) (k : ℕ) (old : ℤ) (w : World) → held w at k ≡ cell.Int old → is_int old
     ≡ true
-    → undone (undo_of o) (with_value (load at k w)
+    → stepped_back (inverse_step_of o) (with_value (load at k w)
     (λ x u. with_value (one u) (λ y t. with_value (result (operate (step_of o) x y) t) (λ z s. store at k z s))))
     ≡ with_value (with_value (load at k w)
     (λ x u. with_value (one u) (λ y t. with_value (result (operate (step_of o) x y) t)
     (λ z s. store at k z s)))) (λ z u. Got old u)
 unfolding load
 loaded o at k old w there int =
-    ap (λ c. undone (undo_of o)
+    ap (λ c. stepped_back (inverse_step_of o)
     (with_value (found c w) (λ x u. with_value (one u) (λ y t. with_value (result (operate (step_of o) x y) t)
     (λ z s. store at k z s))))) there
     ∙ summed o at k old w (operate (step_of o) old (pos 1)) there int refl
@@ -81,19 +81,20 @@ steps_on o at k w =
 
 -- whatever the cell holds
 cell_old : (o : PostfixOperator) (at : Place) (k : ℕ) (w : World) (c : Cell) → held w at k ≡ c → HoldsInt c
-    → undone (undo_of o) (steps_on o at k w) ≡ with_value (load at k w) (λ old u. with_value (steps_on o at k w)
+    → stepped_back (inverse_step_of o) (steps_on o at k w)
+    ≡ with_value (load at k w) (λ old u. with_value (steps_on o at k w)
     (λ z t. Got old t))
 unfolding load
 cell_old o at k w (cell.Int old) there int =
     loaded o at k old w there int
     ∙ ap (λ c. with_value (found c w) (λ y u. with_value (steps_on o at k w) (λ z t. Got y t))) (sym there)
 cell_old o at k w cell.Unset there int =
-    ap (λ c. undone (undo_of o)
+    ap (λ c. stepped_back (inverse_step_of o)
     (with_value (found c w) (λ x u. with_value (one u) (λ y t. with_value (result (operate (step_of o) x y) t)
     (λ z s. store at k z s))))) there
     ∙ ap (λ c. with_value (found c w) (λ y u. with_value (steps_on o at k w) (λ z t. Got y t))) (sym there)
 cell_old o at k w cell.Dead there int =
-    ap (λ c. undone (undo_of o)
+    ap (λ c. stepped_back (inverse_step_of o)
     (with_value (found c w) (λ x u. with_value (one u) (λ y t. with_value (result (operate (step_of o) x y) t)
     (λ z s. store at k z s))))) there
     ∙ ap (λ c. with_value (found c w) (λ y u. with_value (steps_on o at k w) (λ z t. Got y t))) (sym there)
@@ -109,7 +110,7 @@ by_index o at w i =
     (λ z r. at_index i r (λ m. store at m z r))))
 
 index_old : (o : PostfixOperator) (at : Place) (w : World) (i : Option ℕ) → HoldsInts w
-    → undone (undo_of o) (by_index o at w i) ≡ with_value (at_index i w (λ m. load at m w))
+    → stepped_back (inverse_step_of o) (by_index o at w i) ≡ with_value (at_index i w (λ m. load at m w))
     (λ old u. with_value (by_index o at w i) (λ z t. Got old t))
 index_old o at w None h = refl
 index_old o at w (Some k) h = cell_old o at k w (held w at k) refl (h at k)
@@ -121,7 +122,7 @@ stepped o at cells n u =
     (λ z r. store_element at cells n z r)))
 
 outcome_old : (o : PostfixOperator) (at : Place) (cells : ℕ) (r : Outcome) → LeavesInts r
-    → undone (undo_of o) (with_value r (λ n u. stepped o at cells n u))
+    → stepped_back (inverse_step_of o) (with_value r (λ n u. stepped o at cells n u))
     ≡ with_value r (λ n u. with_value (load_element at cells n u)
     (λ old s. with_value (with_value r (λ n u. stepped o at cells n u)) (λ z t. Got old t)))
 outcome_old o at cells (Got n u) h = index_old o at u (index_in cells n) h.1

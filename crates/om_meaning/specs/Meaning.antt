@@ -24,7 +24,7 @@ use Rattle.om_resolved.specs.ResolvedTree.{ResolvedDeclaratorTree, ResolvedStart
 use Rattle.om_resolved.specs.ResolvedTree.{StartDeclaration, ResolvedStatementTree, Declaration, Block, Empty}
 use Rattle.om_resolved.specs.ResolvedTree.{Expression, If, IfElse, While, Do, For, Return, Break, Continue}
 use Rattle.om_resolved.specs.ResolvedTree.{ResolvedStatementsTree, NoStatements, Statement}
-use Rattle.om_rows.specs.Operators.{BinaryForm, Both, Either, Plain, form_of, compound_of, step_of, undo_of}
+use Rattle.om_rows.specs.Operators.{BinaryForm, Both, Either, Plain, form_of, compound_of, step_of, inverse_step_of}
 use Rattle.om_meaning.specs.Worlds.{World, Layout, Outcome, Got, Faulty, with_value, result, Values, GotAll, FaultyAt}
 use Rattle.om_meaning.specs.Worlds.{after_value, with_first, load, store, at_index, clear, print}
 
@@ -75,9 +75,9 @@ element_assigned at cells j (Some operator) e w =
     with_value (j w) (λ n u. with_value (load_element at cells n u) (λ x t. with_value (e t) (λ y s.
     with_value (result (operate operator x y) s) (λ z r. store_element at cells n z r))))
 
--- what `x++` did with its 1, undone: for an int it is the old value (C17 6.5.2.4p2), as a law says
-abbrev pub undone : machine.BinaryOperator → Outcome → Outcome
-undone operator r = with_value r (λ z w. result (operate operator z (pos 1)) w)
+-- the step of `x++` is taken back from its value: for an int that is the old one (C17 6.5.2.4p2), as a law says
+abbrev pub stepped_back : machine.BinaryOperator → Outcome → Outcome
+stepped_back operator r = with_value r (λ z w. result (operate operator z (pos 1)) w)
 
 abbrev pub one : World → Outcome
 one w = Got (pos 1) w
@@ -103,9 +103,9 @@ abbrev mutual
       element_assigned (at.place a) (at.cells (at.place a)) (λ u. value_of at j u) (compound_of operator)
       (λ u. value_of at e u) w
   value_of at (Postfix x operator) w =
-      undone (undo_of operator) (assigned (at.place x) (Some (step_of operator)) one w)
+      stepped_back (inverse_step_of operator) (assigned (at.place x) (Some (step_of operator)) one w)
   value_of at (PostfixElement a j operator) w =
-      undone (undo_of operator) (element_assigned (at.place a) (at.cells (at.place a))
+      stepped_back (inverse_step_of operator) (element_assigned (at.place a) (at.cells (at.place a))
       (λ u. value_of at j u) (Some (step_of operator)) one w)
   value_of at _ w = meaningless w
 

@@ -12,7 +12,7 @@ use Rattle.om_resolved.specs.ResolvedTree.{ResolvedExpressionTree, Constant, Var
 use Rattle.om_resolved.specs.ResolvedTree.{TeamSize, Print, Unary, Binary, Conditional, Assign, AssignElement, Postfix}
 use Rattle.om_resolved.specs.ResolvedTree.{PostfixElement, ValuesTree, NoValues, Value}
 use Rattle.om_rows.specs.Bodies.{called_body}
-use Rattle.om_rows.specs.Operators.{BinaryForm, Both, Either, Plain, form_of, compound_of, step_of, undo_of}
+use Rattle.om_rows.specs.Operators.{BinaryForm, Both, Either, Plain, form_of, compound_of, step_of, inverse_step_of}
 use Rattle.om_rows.specs.Rows.{Site, Row, end, never, ins, part, here, ◌▸◌}
 use Rattle.om_rows.specs.Slots.{place}
 use Rattle.om_rows.specs.Tables.{number_in}
@@ -62,9 +62,9 @@ element_assigned at l keeps a j (Some operator) e =
     part j ▸ ins at l i.Duplicate ▸ ins at l (i.LoadElement (place at a)) ▸ part e
     ▸ ins at l (i.Binary operator) ▸ ins at l (i.StoreElement (place at a) keeps) ▸ end
 
--- what a postfix operator did with its 1, undone: its value is the old one
-abbrev pub undone : Site → ℕ → machine.BinaryOperator → Row
-undone at l operator = ins at l (i.Constant (pos 1)) ▸ ins at l (i.Binary operator) ▸ end
+-- the step of a postfix operator is taken back from its value, which is the old one
+abbrev pub stepped_back : Site → ℕ → machine.BinaryOperator → Row
+stepped_back at l operator = ins at l (i.Constant (pos 1)) ▸ ins at l (i.Binary operator) ▸ end
 
 -- values, then the call; and `printf`
 abbrev pub called : Site → ℕ → ℕ → ValuesTree → Row → Row
@@ -92,10 +92,11 @@ abbrev mutual
   value at l (AssignElement a j operator e) =
       element_assigned at l true a (value at l j) (compound_of operator) (value at l e)
   value at l (Postfix x operator) =
-      part (assigned at l true x (Some (step_of operator)) (constant at l (pos 1))) ▸ undone at l (undo_of operator)
+      part (assigned at l true x (Some (step_of operator)) (constant at l (pos 1)))
+      ▸ stepped_back at l (inverse_step_of operator)
   value at l (PostfixElement a j operator) =
       part (element_assigned at l true a (value at l j) (Some (step_of operator)) (constant at l (pos 1)))
-      ▸ undone at l (undo_of operator)
+      ▸ stepped_back at l (inverse_step_of operator)
 
   -- values, left to right
   pub values : Site → ℕ → ValuesTree → Row

@@ -60,14 +60,14 @@ compound_of assigns.Multiply = Some operators.Multiply
 compound_of assigns.Divide = Some operators.Divide
 compound_of assigns.Remainder = Some operators.Remainder
 
--- C17 6.5.2.4p2: what `x++` and `x--` do with x and 1, and what undoes it
+-- C17 6.5.2.4p2: what `x++` and `x--` do with x and 1, and the inverse of that
 abbrev pub step_of : PostfixOperator → machine.BinaryOperator
 step_of postfixes.Increment = operators.Add
 step_of postfixes.Decrement = operators.Subtract
 
-abbrev pub undo_of : PostfixOperator → machine.BinaryOperator
-undo_of postfixes.Increment = operators.Subtract
-undo_of postfixes.Decrement = operators.Add
+abbrev pub inverse_step_of : PostfixOperator → machine.BinaryOperator
+inverse_step_of postfixes.Increment = operators.Subtract
+inverse_step_of postfixes.Decrement = operators.Add
 
 -- OpenMP API 5.2, section 15.8.4: the operator of an update, and on which side of it the old value stands
 abbrev pub update_of : UpdateOperator → AtomicOperator

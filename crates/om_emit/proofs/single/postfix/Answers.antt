@@ -1,8 +1,8 @@
 use Rattle.om_emit.proofs.Singles.{emits_then}
 use Rattle.om_emit.specs.Emits.{site}
 use Rattle.om_emit.specs.Rests.{stepped}
-use Rattle.om_rows.specs.Expressions.{undone}
-use Rattle.om_rows.specs.Operators.{undo_of}
+use Rattle.om_rows.specs.Expressions.{stepped_back}
+use Rattle.om_rows.specs.Operators.{inverse_step_of}
 use Rattle.om_tables.specs.Scopes.{names_of}
 use Rattle.std.proofs.Common.{true}
 use Rattle.om_emit.proofs.single.postfix.Goals as goal
@@ -11,5 +11,6 @@ pub returns : goal.returns
 returns c =
     let names = names_of c.args.scope.now in
     emits_then (λ done at. stepped (site names done) c.args.line true c.args.variable c.args.operator)
-    (λ done at. undone (site names done) c.args.line (undo_of c.args.operator)) _ _ _ c.in_ok-step.ensures
-    (c.in_ok-undo.ensures names)
+    (λ done at. stepped_back (site names done) c.args.line (inverse_step_of c.args.operator)) _ _ _
+    c.in_ok-step.ensures
+    (c.in_ok-step_back.ensures names)
