@@ -265,14 +265,14 @@ fn both_end(
         rows.binary_rest at line Both (view_resolved_expression right.now) in
         OnOk result (EmitsRow (names_of scope.now) row draft.old draft.new) }
 {
-    let neither = draft.fresh()?;
+    let not_both = draft.fresh()?;
     let end = draft.fresh()?;
-    draft.put(line, Instr::JumpIfZero(neither))?;
+    draft.put(line, Instr::JumpIfZero(not_both))?;
     value(draft, scope, line, right)?;
-    draft.put(line, Instr::JumpIfZero(neither))?;
+    draft.put(line, Instr::JumpIfZero(not_both))?;
     draft.put(line, Instr::Constant(1))?;
     draft.put(line, Instr::Jump(end))?;
-    draft.define(neither);
+    draft.define(not_both);
     draft.put(line, Instr::Constant(0))?;
     draft.define(end);
     Ok(())

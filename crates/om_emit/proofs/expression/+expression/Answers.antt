@@ -76,19 +76,19 @@ binary_end-returns-in_ok-put-in-Plain t c =
 
 pub both_end-define-requires : goal.both_end-define-requires
 both_end-define-requires t c =
-    let l = c.in_ok-neither.neither in
+    let l = c.in_ok-not_both.not_both in
     free_put l _ _ _ _ c.in_ok-put-4.ensures (free_put l _ _ _ _ c.in_ok-put-3.ensures
     (free_put l _ _ _ _ c.in_ok-put-2.ensures
     (free_part l _ _ _ c.in_ok-value.ensures (free_put l _ _ _ _ c.in_ok-put.ensures
-    (free_fresh l _ _ _ c.in_ok-end.ensures (free_new l _ _ c.in_ok-neither.ensures))))))
+    (free_fresh l _ _ _ c.in_ok-end.ensures (free_new l _ _ c.in_ok-not_both.ensures))))))
 
 pub both_end-define-requires-2 : goal.both_end-define-requires-2
 both_end-define-requires-2 t c =
     let l = c.in_ok-end.end in
-    let next = fresh_length _ _ _ c.in_ok-neither.ensures in
+    let next = fresh_length _ _ _ c.in_ok-not_both.ensures in
     free_put l _ _ _ _ c.in_ok-put-5.ensures
-    (free_define l c.in_ok-neither.neither _ _ (λ same. omega
-    (arith, c.in_ok-neither.ensures.is, c.in_ok-end.ensures.is, next, same)) c.define.ensures
+    (free_define l c.in_ok-not_both.not_both _ _ (λ same. omega
+    (arith, c.in_ok-not_both.ensures.is, c.in_ok-end.ensures.is, next, same)) c.define.ensures
     (free_put l _ _ _ _ c.in_ok-put-4.ensures (free_put l _ _ _ _ c.in_ok-put-3.ensures
     (free_put l _ _ _ _ c.in_ok-put-2.ensures
     (free_part l _ _ _ c.in_ok-value.ensures (free_put l _ _ _ _ c.in_ok-put.ensures
@@ -97,8 +97,8 @@ both_end-define-requires-2 t c =
 pub both_end-returns : goal.both_end-returns
 both_end-returns t c =
     emits_both (names_of c.args.scope.now) c.args.line (view_resolved_expression c.args.right.now)
-    c.in_ok-neither.neither c.in_ok-end.end _ _ _ _ _ _ _ _ _ _ _
-    c.in_ok-neither.ensures c.in_ok-end.ensures c.in_ok-put.ensures c.in_ok-value.ensures c.in_ok-put-2.ensures
+    c.in_ok-not_both.not_both c.in_ok-end.end _ _ _ _ _ _ _ _ _ _ _
+    c.in_ok-not_both.ensures c.in_ok-end.ensures c.in_ok-put.ensures c.in_ok-value.ensures c.in_ok-put-2.ensures
     c.in_ok-put-3.ensures c.in_ok-put-4.ensures c.define.ensures c.in_ok-put-5.ensures c.define-2.ensures
 
 pub either_end-define-requires : goal.either_end-define-requires
