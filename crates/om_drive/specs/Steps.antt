@@ -2,7 +2,7 @@
 use Rattle.std.specs.Prelude.{ℕ, suc, Bool, true, false, cond, List, [], ◌∷◌}
 use Rattle.om_cells.specs.declared.step.Blocked.TheVariants as blocked
 use Rattle.om_history.specs.declared.reply.StepReply.TheVariants as step_reply
-use Rattle.om_journal.specs.Runs.{is_done}
+use Rattle.om_journal.specs.Runs.{is_step_made}
 use Rattle.om_book.specs.Seats.{SeatView}
 use Rattle.om_journal.specs.declared.command.Command.{Command}
 use Rattle.om_journal.specs.declared.command.Command.TheVariants as command
@@ -12,7 +12,7 @@ use Rattle.om_journal.specs.declared.reply.Reply.TheVariants as reply
 
 -- the call asked for a step, and it was made
 abbrev pub makes_step : Command → Reply → Bool
-makes_step (command.Step worker choice) x = is_done x
+makes_step (command.Step worker choice) x = is_step_made x
 makes_step _ x = false
 
 -- how many of the calls made a step

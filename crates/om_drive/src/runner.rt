@@ -139,7 +139,7 @@ impl<G: Gate + Drop, D: Debuggee + Drop> Runner<G, D> {
         let worker = self.worker;
         let reply = self.debuggee.call(rt, Command::Step { worker, choice })?;
         let came = Came {
-            made: reply.is_done(),
+            made: reply.is_step_made(),
             waits: waits_for_tasks(&reply),
         };
         drop(reply);

@@ -1,7 +1,7 @@
 -- Journals: which are legal, and the machine that they leave.
 use Rattle.std.specs.Prelude.{◌≡◌, ◌≤◌, ℕ, suc, cond, List, [], ◌∷◌, length}
 use Rattle.om_undo.specs.Machines.{MachineView}
-use Rattle.om_journal.specs.Runs.{IsReply, after, is_done}
+use Rattle.om_journal.specs.Runs.{IsReply, after, is_step_made}
 use Rattle.om_journal.specs.declared.book.JournalRecord.{JournalRecord}
 
 -- each reply is the one that a machine of one thread gives there
@@ -17,7 +17,7 @@ left_by m (r ∷ rs) = left_by (after m r.command) rs
 -- how many steps the calls made
 abbrev pub done_in : List JournalRecord → ℕ
 done_in [] = 0
-done_in (r ∷ rs) = cond (is_done r.reply) (suc (done_in rs)) (done_in rs)
+done_in (r ∷ rs) = cond (is_step_made r.reply) (suc (done_in rs)) (done_in rs)
 
 -- the machine is what its journal leaves of the machine at the start
 pub record IsSound (machine start : MachineView) (journal : List JournalRecord) : Type 0 where

@@ -58,6 +58,6 @@ abbrev pub after : MachineView → Command → MachineView
 after m c = record m { history = history_after m c }
 
 -- the reply is that of a step that was made
-abbrev pub is_done : Reply → Bool
-is_done (reply.Step (step_reply.Done serial line fault)) = true
-is_done _ = false
+abbrev pub is_step_made : Reply → Bool
+is_step_made (reply.Step (step_reply.Done serial line fault)) = true
+is_step_made _ = false

@@ -384,7 +384,7 @@ fn done_in(journal: &[JournalRecord]) -> u64
 {
     let mut made = 0;
     for answered in journal {
-        if answered.reply.is_done() {
+        if answered.reply.is_step_made() {
             made += 1;
         }
     }

@@ -1,7 +1,7 @@
 //! What the machine answers to a call.
 
 ghost use Rattle.std.specs.Prelude.{◌≡◌, IfOk};
-ghost use Rattle.om_journal.specs.Runs.{is_done};
+ghost use Rattle.om_journal.specs.Runs.{is_step_made};
 
 use crate::kept::KeptUndoReply;
 use om_cells::Val;
@@ -27,8 +27,8 @@ pub enum Reply {
 
 impl Reply {
     /// Whether it is that of a step that was made.
-    pub fn is_done(&self) -> bool
-        ensures { result ≡ is_done self.now }
+    pub fn is_step_made(&self) -> bool
+        ensures { result ≡ is_step_made self.now }
     {
         matches!(self, Reply::Step(StepReply::Done { .. }))
     }

@@ -3,7 +3,7 @@
 ghost use Rattle.std.specs.Prelude.{◌≡◌, ◌<◌, ℕ, List, None, true, false, unwrap_or, IfOk, IfSome};
 ghost use Rattle.std.specs.Option.{option_copied};
 ghost use Rattle.om_cells.specs.declared.control.Control.TheVariants as controls;
-ghost use Rattle.om_journal.specs.Runs.{is_done};
+ghost use Rattle.om_journal.specs.Runs.{is_step_made};
 ghost use Rattle.om_journal.specs.declared.reply.Reply.TheVariants as replies;
 ghost use Rattle.om_undo.specs.ReadyNames.{ready_names};
 ghost use Rattle.om_view.specs.Runs.{can_step, start_among, move_of, has_ended};
@@ -231,12 +231,12 @@ fn can_step(
     ensures { IfOk result (λ can. can ≡ can_step machine.now worker choice) }
 {
     let reply = machine.peek(alloc, worker, choice)?;
-    Ok(is_done(&reply))
+    Ok(is_step_made(&reply))
 }
 
 // Whether a step was made.
-fn is_done(reply: &StepReply) -> bool
-    ensures { result ≡ is_done (replies.Step reply.now) }
+fn is_step_made(reply: &StepReply) -> bool
+    ensures { result ≡ is_step_made (replies.Step reply.now) }
 {
     matches!(reply, StepReply::Done { .. })
 }

@@ -28,7 +28,7 @@ use Rattle.om_view.specs.declared.runs.Moved.{Moved}
 use Rattle.om_view.specs.Moves.{goes_on, steps_within, undoes_within, next_within, back_within}
 use Rattle.om_journal.specs.Books.{BookView, is_full, machine_of}
 use Rattle.om_journal.specs.Journals.{IsLegal}
-use Rattle.om_journal.specs.Runs.{after, is_done, reply_to}
+use Rattle.om_journal.specs.Runs.{after, is_step_made, reply_to}
 use Rattle.om_journal.specs.declared.book.JournalRecord.{JournalRecord}
 use Rattle.om_journal.specs.AddedRecords.{left_by-snoc}
 use Rattle.om_journal.specs.declared.command.Command.TheVariants as call
@@ -167,7 +167,7 @@ same_entries x y e = cc
 
 -- planned steps
 
-same_made : (x : StepReply) → is_made x ≡ is_done (reply.Step x)
+same_made : (x : StepReply) → is_made x ≡ is_step_made (reply.Step x)
 same_made (step_reply.Done serial line fault) = refl
 same_made (step_reply.Blocked b) = refl
 same_made step_reply.Ended = refl
@@ -254,7 +254,7 @@ is_at_point m worker = is_at_scheduling_point m.program (control_in (state_in m 
 
 not_done : (o : Outcome) (serial line : ℕ) (at : Bool) → at ≡ false → ((us : List Update) → o ≡ outcome.Updates us
     → at ≡ true)
-    → is_done (reply.Step (reply_for serial line o)) ≡ false
+    → is_step_made (reply.Step (reply_for serial line o)) ≡ false
 not_done (outcome.Updates us) serial line at elsewhere h = sym (h us refl) ∙ elsewhere
 not_done (outcome.Blocked b) serial line at elsewhere h = refl
 not_done outcome.Ended serial line at elsewhere h = refl

@@ -6,7 +6,7 @@ use Rattle.om_history.specs.declared.reply.UndoReply.{UndoReply}
 use Rattle.om_history.specs.declared.reply.UndoReply.TheVariants as undo_reply
 use Rattle.om_history.specs.Cones.{reply_to_roll}
 use Rattle.om_journal.specs.Books.{BookView, machine_of}
-use Rattle.om_journal.specs.Runs.{is_done}
+use Rattle.om_journal.specs.Runs.{is_step_made}
 use Rattle.om_journal.specs.declared.command.Command.TheVariants as call
 use Rattle.om_journal.specs.declared.reply.Reply.TheVariants as reply
 use Rattle.om_command.specs.Steps.{step_text, undo_text}
@@ -37,7 +37,7 @@ undo_said worker b = unless_full b (record {
 
 -- a worker's step is done and leaves it at a line
 abbrev pub steps_within : ℕ → ℕ → BookView → Bool
-steps_within line worker b = is_done (reply.Step (step_reply_of (machine_of b) (label_of worker Next)))
+steps_within line worker b = is_step_made (reply.Step (step_reply_of (machine_of b) (label_of worker Next)))
     && nat_eq (line_at (machine_of (with_step b (label_of worker Next))) worker) line
 
 -- a further step may follow

@@ -18,7 +18,7 @@ use Rattle.om_view.specs.declared.runs.Moved.{Moved}
 use Rattle.om_view.specs.declared.runs.Moved.TheVariants as moved
 use Rattle.om_undo.specs.ReadyNames.{ready_names}
 use Rattle.om_journal.specs.Books.{BookView, is_full, machine_of}
-use Rattle.om_journal.specs.Runs.{is_done}
+use Rattle.om_journal.specs.Runs.{is_step_made}
 use Rattle.om_journal.specs.declared.reply.Reply.TheVariants as reply
 use Rattle.om_view.specs.Calls.{label_of, step_reply_of, with_step}
 use Rattle.om_view.specs.Said.{Said}
@@ -26,7 +26,7 @@ use Rattle.om_view.specs.Stops.{stop_behind}
 
 -- a worker can make a step by a choice
 abbrev pub can_step : MachineView → ℕ → Choice → Bool
-can_step m worker choice = is_done (reply.Step (step_reply_of m (label_of worker choice)))
+can_step m worker choice = is_step_made (reply.Step (step_reply_of m (label_of worker choice)))
 
 -- the start of the first of the names with which a worker can begin
 abbrev pub start_among : MachineView → ℕ → List (List ℕ) → Option Choice

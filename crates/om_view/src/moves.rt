@@ -4,7 +4,7 @@ ghost use Rattle.std.specs.Prelude.{◌≡◌, ◌<◌, ◌++◌, ◌&&◌, nat_
 ghost use Rattle.om_view.specs.Looks.{line_at};
 ghost use Rattle.om_journal.specs.declared.reply.Reply.TheVariants as replies;
 ghost use Rattle.om_journal.specs.Books.{machine_of};
-ghost use Rattle.om_journal.specs.Runs.{is_done};
+ghost use Rattle.om_journal.specs.Runs.{is_step_made};
 ghost use Rattle.om_view.specs.Moves.{goes_on, is_undone, step_said, undo_said, next_within, next_said, back_within, back_said, roll_said};
 
 use crate::calls;
@@ -65,8 +65,8 @@ pub(crate) fn undo(
 }
 
 /// Whether a step was made.
-pub(crate) fn is_done(reply: &StepReply) -> bool
-    ensures { result ≡ is_done (replies.Step reply.now) }
+pub(crate) fn is_step_made(reply: &StepReply) -> bool
+    ensures { result ≡ is_step_made (replies.Step reply.now) }
 {
     matches!(reply, StepReply::Done { .. })
 }
@@ -90,10 +90,10 @@ fn stays(machine: &Machine, stay: Stay) -> bool
 fn steps_on(machine: &Machine, reply: &StepReply, stay: Stay, further: u32) -> bool
     requires { stay.worker < machine.now.workers }
     ensures on { result ≡ goes_on further
-        (is_done (replies.Step reply.now) && nat_eq (line_at machine.now stay.worker) stay.line) }
+        (is_step_made (replies.Step reply.now) && nat_eq (line_at machine.now stay.worker) stay.line) }
     ensures further { result ≡ true → 0 < further }
 {
-    further > 0 && is_done(reply) && stays(machine, stay)
+    further > 0 && is_step_made(reply) && stays(machine, stay)
 }
 
 // Whether a step was taken out, which left its worker at the line, and a further one may be.
