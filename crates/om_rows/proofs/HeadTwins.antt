@@ -20,8 +20,8 @@ use Rattle.om_rows.specs.Operators.{side_of, update_of}
 use Rattle.om_rows.specs.Rows.{Site, Row, given, perhaps, each, unless}
 use Rattle.om_rows.specs.Slots.{FirstCopy, slot}
 use Rattle.om_rows.specs.Statements.{jump, declared, declarator, start, test, returned, copy_start, clause_start}
-use Rattle.om_rows.specs.Statements.{starts, reduction_start, clause_reduction_start, reduction_starts, combined}
-use Rattle.om_rows.specs.Statements.{clause_combined, reductions, clause_value, load_original, barrier, worksharing_end}
+use Rattle.om_rows.specs.Statements.{starts, reduction_start, clause_reduction_start, reduction_starts, combine_copy}
+use Rattle.om_rows.specs.Statements.{combine_clause, reductions, clause_value, load_original, barrier, worksharing_end}
 use Rattle.om_rows.specs.Statements.{alone_row, filter_row, single_row, masked_row, critical_row, updated, update_row}
 use Rattle.om_rows.specs.Statements.{group_row, loop_rest, parallel_row, task_row}
 use Rattle.om_rows.proofs.Twins.{Alike, twin_end, twin_jump, twin_next, twin_within, twin_as, twin_more, twin_part}
@@ -135,21 +135,21 @@ module _ (base : Site) (code code' : List Line) (picks picks' : List (List ℕ))
   reduction_starts_twin l clauses = each_twin (clause_reduction_start c l) (clause_reduction_start d l) clauses
       (clause_reduction_start_twin l)
 
-  pub combined_twin : (l : ℕ) (kind : CopyKind) (x : variables.Variable) (copy : LocalVariable)
-      → Twin (combined c l kind x copy) (combined d l kind x copy)
-  combined_twin l copies.Private x copy p p' q q' r t = twin_end r t
-  combined_twin l copies.Firstprivate x copy p p' q q' r t = twin_end r t
-  combined_twin l (copies.Reduction o) x copy p p' q q' r t = twin_next r t twin_end
+  pub combine_copy_twin : (l : ℕ) (kind : CopyKind) (x : variables.Variable) (copy : LocalVariable)
+      → Twin (combine_copy c l kind x copy) (combine_copy d l kind x copy)
+  combine_copy_twin l copies.Private x copy p p' q q' r t = twin_end r t
+  combine_copy_twin l copies.Firstprivate x copy p p' q q' r t = twin_end r t
+  combine_copy_twin l (copies.Reduction o) x copy p p' q q' r t = twin_next r t twin_end
 
-  pub clause_combined_twin : (l : ℕ) (clause : ResolvedClauseTree) → Twin (clause_combined c l clause)
-      (clause_combined d l clause)
-  clause_combined_twin l (ClauseValue kind e) p p' q q' r t = twin_end r t
-  clause_combined_twin l (Shared x) p p' q q' r t = twin_end r t
-  clause_combined_twin l (Copied kind x copy) p p' q q' r t = combined_twin l kind x copy p p' q q' r t
+  pub combine_clause_twin : (l : ℕ) (clause : ResolvedClauseTree) → Twin (combine_clause c l clause)
+      (combine_clause d l clause)
+  combine_clause_twin l (ClauseValue kind e) p p' q q' r t = twin_end r t
+  combine_clause_twin l (Shared x) p p' q q' r t = twin_end r t
+  combine_clause_twin l (Copied kind x copy) p p' q q' r t = combine_copy_twin l kind x copy p p' q q' r t
 
   pub reductions_twin : (l : ℕ) (clauses : List ResolvedClauseTree) → Twin (reductions c l clauses)
       (reductions d l clauses)
-  reductions_twin l clauses = each_twin (clause_combined c l) (clause_combined d l) clauses (clause_combined_twin l)
+  reductions_twin l clauses = each_twin (combine_clause c l) (combine_clause d l) clauses (combine_clause_twin l)
 
   pub loads_twin : (l : ℕ) (xs : List FirstCopy) → Twin (each (load_original c l) xs) (each (load_original d l) xs)
   loads_twin l xs = each_twin (load_original c l) (load_original d l) xs (λ x p p' q q' r t. twin_next r t twin_end)

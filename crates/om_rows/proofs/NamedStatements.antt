@@ -40,7 +40,8 @@ use Rattle.om_rows.specs.Slots.{FirstCopy, clause_first, capture_first, taken_fi
 use Rattle.om_rows.specs.Slots.{by_slots, region_uses, place, slot, declarator_sights, start_sights, clause_sights}
 use Rattle.om_rows.specs.Slots.{region_clause_sights}
 use Rattle.om_rows.specs.Statements.{jump, declared, declarator, start, test, returned, copy_start, clause_start}
-use Rattle.om_rows.specs.Statements.{starts, reduction_start, reduction_starts, combined, clause_combined, reductions}
+use Rattle.om_rows.specs.Statements.{starts, reduction_start, reduction_starts, combine_copy, combine_clause}
+use Rattle.om_rows.specs.Statements.{reductions}
 use Rattle.om_rows.specs.Statements.{clause_value, given_copies, load_original, worksharing_end, alone_row, filter_row}
 use Rattle.om_rows.specs.Statements.{single_row, masked_row, lock_number, critical_row, updated, group_row, loop_rest}
 use Rattle.om_rows.specs.Statements.{parallel_row, task_row}
@@ -204,13 +205,13 @@ module _ (tree : ResolvedTree) (raw : Raw) (at : Site) (slots : List Slot) (prog
       (λ m r. reduction_starts_names l cs (slots_back (region_clause_sights (Copied kind x copy))
       (flat_map region_clause_sights cs) s) m q r)
 
-  combined_names : (l : ℕ) (kind : CopyKind) (x : variables.Variable) (copy : LocalVariable) (around : Around)
+  combine_copy_names : (l : ℕ) (kind : CopyKind) (x : variables.Variable) (copy : LocalVariable) (around : Around)
       → IsHere around
       → whole.IsWholeCopy around kind x → Slots (region_clause_sights (Copied kind x copy))
-      → Names (combined at l kind x copy)
-  combined_names l copies.Private x copy around g w s p q r = named_end r
-  combined_names l copies.Firstprivate x copy around g w s p q r = named_end r
-  combined_names l (copies.Reduction o) x copy around g w s p q r =
+      → Names (combine_copy at l kind x copy)
+  combine_copy_names l copies.Private x copy around g w s p q r = named_end r
+  combine_copy_names l copies.Firstprivate x copy around g w s p q r = named_end r
+  combine_copy_names l (copies.Reduction o) x copy around g w s p q r =
       named_ins r (
         slot_known copy (slots_back (variable_uses x) (copy.at ∷ []) s).0,
         expressions.place_there tree raw at slots program around _ x g.0 w
@@ -218,11 +219,11 @@ module _ (tree : ResolvedTree) (raw : Raw) (at : Site) (slots : List Slot) (prog
       )
       named_end
 
-  clause_combined_names : (l : ℕ) (clause : ResolvedClauseTree) (around : Around) (admitted : Admitted) → IsHere around
-      → IsWholeClause around admitted clause → Slots (region_clause_sights clause) → Names (clause_combined at l clause)
-  clause_combined_names l (ClauseValue kind e) around admitted g w s p q r = named_end r
-  clause_combined_names l (Shared x) around admitted g w s p q r = named_end r
-  clause_combined_names l (Copied kind x copy) around admitted g w s p q r = combined_names l kind x copy around g
+  combine_clause_names : (l : ℕ) (clause : ResolvedClauseTree) (around : Around) (admitted : Admitted) → IsHere around
+      → IsWholeClause around admitted clause → Slots (region_clause_sights clause) → Names (combine_clause at l clause)
+  combine_clause_names l (ClauseValue kind e) around admitted g w s p q r = named_end r
+  combine_clause_names l (Shared x) around admitted g w s p q r = named_end r
+  combine_clause_names l (Copied kind x copy) around admitted g w s p q r = combine_copy_names l kind x copy around g
       w.1 s p q r
 
   pub reductions_names : (l : ℕ) (clauses : List ResolvedClauseTree) (around : Around) (admitted : Admitted)
@@ -232,7 +233,7 @@ module _ (tree : ResolvedTree) (raw : Raw) (at : Site) (slots : List Slot) (prog
   reductions_names l [] around admitted g w s p q r = named_end r
   reductions_names l (c ∷ cs) around admitted g w s p q r =
       named_part r
-      (clause_combined_names l c around admitted g (All-head (IsWholeClause around admitted) c cs w)
+      (combine_clause_names l c around admitted g (All-head (IsWholeClause around admitted) c cs w)
       (slots_front (region_clause_sights c) (flat_map region_clause_sights cs) s) p)
       (λ m r. reductions_names l cs around admitted g (All-tail (IsWholeClause around admitted) c cs w)
       (slots_back (region_clause_sights c) (flat_map region_clause_sights cs) s) m q r)

@@ -19,8 +19,8 @@ use Rattle.om_rows.specs.Operators.{side_of, update_of}
 use Rattle.om_rows.specs.Rows.{Site, Row, given, perhaps, each}
 use Rattle.om_rows.specs.Slots.{FirstCopy}
 use Rattle.om_rows.specs.Statements.{jump, declared, declarator, start, test, returned, copy_start, clause_start}
-use Rattle.om_rows.specs.Statements.{starts, reduction_start, clause_reduction_start, reduction_starts, combined}
-use Rattle.om_rows.specs.Statements.{clause_combined, reductions, clause_value, load_original, barrier, worksharing_end}
+use Rattle.om_rows.specs.Statements.{starts, reduction_start, clause_reduction_start, reduction_starts, combine_copy}
+use Rattle.om_rows.specs.Statements.{combine_clause, reductions, clause_value, load_original, barrier, worksharing_end}
 use Rattle.om_rows.specs.Statements.{alone_row, filter_row, single_row, masked_row, critical_row, updated, update_row}
 use Rattle.om_rows.specs.Statements.{assignment_row, group_row, loop_rest, parallel_row, task_row}
 use Rattle.om_rows.proofs.Levels.{Levels, IsAt, nothing, level_end, level_out, level_next, level_either, level_jump}
@@ -132,19 +132,19 @@ module _ (at : Site) where
   reduction_starts_levels l clauses = each_levels (clause_reduction_start at l) clauses
       (clause_reduction_start_levels l)
 
-  pub combined_levels : (l : ℕ) (kind : CopyKind) (x : variables.Variable) (copy : LocalVariable)
-      → Keeps (combined at l kind x copy)
-  combined_levels l copies.Private x copy h p q r = level_end r
-  combined_levels l copies.Firstprivate x copy h p q r = level_end r
-  combined_levels l (copies.Reduction o) x copy h p q r = level_next h r refl (omega arith) (omega arith) level_end
+  pub combine_copy_levels : (l : ℕ) (kind : CopyKind) (x : variables.Variable) (copy : LocalVariable)
+      → Keeps (combine_copy at l kind x copy)
+  combine_copy_levels l copies.Private x copy h p q r = level_end r
+  combine_copy_levels l copies.Firstprivate x copy h p q r = level_end r
+  combine_copy_levels l (copies.Reduction o) x copy h p q r = level_next h r refl (omega arith) (omega arith) level_end
 
-  pub clause_combined_levels : (l : ℕ) (clause : ResolvedClauseTree) → Keeps (clause_combined at l clause)
-  clause_combined_levels l (ClauseValue kind e) h p q r = level_end r
-  clause_combined_levels l (Shared x) h p q r = level_end r
-  clause_combined_levels l (Copied kind x copy) h p q r = combined_levels l kind x copy h p q r
+  pub combine_clause_levels : (l : ℕ) (clause : ResolvedClauseTree) → Keeps (combine_clause at l clause)
+  combine_clause_levels l (ClauseValue kind e) h p q r = level_end r
+  combine_clause_levels l (Shared x) h p q r = level_end r
+  combine_clause_levels l (Copied kind x copy) h p q r = combine_copy_levels l kind x copy h p q r
 
   pub reductions_levels : (l : ℕ) (clauses : List ResolvedClauseTree) → Keeps (reductions at l clauses)
-  reductions_levels l clauses = each_levels (clause_combined at l) clauses (clause_combined_levels l)
+  reductions_levels l clauses = each_levels (combine_clause at l) clauses (combine_clause_levels l)
 
   -- loads leave one operand each
   pub loads_levels : (l : ℕ) (xs : List FirstCopy) (h p q : ℕ) → each (load_original at l) xs p q → Levels at.picks

@@ -115,18 +115,18 @@ abbrev pub reduction_starts : Site → ℕ → List ResolvedClauseTree → Row
 reduction_starts at l clauses = each (clause_reduction_start at l) clauses
 
 -- RED each, in clause order
-abbrev pub combined : Site → ℕ → CopyKind → variables.Variable → LocalVariable → Row
-combined at l copies.Private x copy = end
-combined at l copies.Firstprivate x copy = end
-combined at l (copies.Reduction o) x copy = ins at l (i.Reduce (reduction_of o) (slot at copy) (place at x)) ▸ end
+abbrev pub combine_copy : Site → ℕ → CopyKind → variables.Variable → LocalVariable → Row
+combine_copy at l copies.Private x copy = end
+combine_copy at l copies.Firstprivate x copy = end
+combine_copy at l (copies.Reduction o) x copy = ins at l (i.Reduce (reduction_of o) (slot at copy) (place at x)) ▸ end
 
-abbrev pub clause_combined : Site → ℕ → ResolvedClauseTree → Row
-clause_combined at l (ClauseValue kind e) = end
-clause_combined at l (Shared x) = end
-clause_combined at l (Copied kind x copy) = combined at l kind x copy
+abbrev pub combine_clause : Site → ℕ → ResolvedClauseTree → Row
+combine_clause at l (ClauseValue kind e) = end
+combine_clause at l (Shared x) = end
+combine_clause at l (Copied kind x copy) = combine_copy at l kind x copy
 
 abbrev pub reductions : Site → ℕ → List ResolvedClauseTree → Row
-reductions at l clauses = each (clause_combined at l) clauses
+reductions at l clauses = each (combine_clause at l) clauses
 
 -- the value of `num_threads` or `filter`
 abbrev pub clause_value : List ResolvedClauseTree → Option ResolvedExpressionTree

@@ -31,7 +31,7 @@ use Rattle.om_steps.specs.declared.row.Launch.{Launch}
 use Rattle.om_steps.specs.Begins.{first_frame}
 use Rattle.om_steps.specs.Objects.{own_cells, deaths, puts, homes_in, innermost}
 use Rattle.om_steps.specs.Rows.{first_of, rest_of, is_zero}
-use Rattle.om_steps.specs.SerialRows.{call_row, return_row, combined, reduced, reduce_row}
+use Rattle.om_steps.specs.SerialRows.{call_row, return_row, put_combined, reduced, reduce_row}
 use Rattle.om_fork.specs.Barriers.{is_open}
 use Rattle.om_fork.specs.Teams.{first_busy, member, member_controls, member_puts, size_of}
 use Rattle.om_fork.specs.Rows.{forked, team_of, named_row, sized_row, fork_row, is_misplaced_barrier, arrive_row, kept}
@@ -93,9 +93,9 @@ return_ints c slots callers None values h = tt
 return_ints c slots [] (Some v) values h = tt
 return_ints c slots (f ∷ callers) (Some v) values h = ((h, tt), put_deaths ValueHasInts (own_cells c slots) tt)
 
-combined_ints : (to : ℕ) (r : Result ℤ Fault) → IsIntResult r → RowHasInts (combined to r)
-combined_ints to (Ok v) h = ((tt, tt), (tt, (h, tt)))
-combined_ints to (Err f) h = tt
+put_combined_ints : (to : ℕ) (r : Result ℤ Fault) → IsIntResult r → RowHasInts (put_combined to r)
+put_combined_ints to (Ok v) h = ((tt, tt), (tt, (h, tt)))
+put_combined_ints to (Err f) h = tt
 
 reduced_ints : (to : ℕ) (r : Reduction) (copy original : cells.Cell) → HoldsInt copy → HoldsInt original
     → RowHasInts (reduced to r copy original)
@@ -106,7 +106,7 @@ reduced_ints to r cell.Unset (cell.Int v) h k = tt
 reduced_ints to r (cell.Int copy) cell.Dead h k = tt
 reduced_ints to r (cell.Int copy) cell.Unset h k = tt
 reduced_ints to r (cell.Int copy) (cell.Int original) h k =
-    combined_ints to (combine r original copy) (combine_int r original copy k h)
+    put_combined_ints to (combine r original copy) (combine_int r original copy k h)
 
 pub reduce_ints : (c : Context) (r : Reduction) (copy : ℕ) (p : Place) (values : List Val) → All ValueHasInts values
     → AskedHasInts (reduce_row c r copy p) values

@@ -38,7 +38,7 @@ use Rattle.om_steps.specs.declared.row.Launch.{Launch}
 use Rattle.om_steps.specs.declared.row.Row.{Row}
 use Rattle.om_steps.specs.Rows.{Asked, first_of, rest_of}
 use Rattle.om_steps.specs.Objects.{own_cells, homes_in, is_misplaced}
-use Rattle.om_steps.specs.SerialRows.{call_row, return_row, combined, reduced, reduce_row}
+use Rattle.om_steps.specs.SerialRows.{call_row, return_row, put_combined, reduced, reduce_row}
 use Rattle.om_fork.specs.Barriers.{is_open}
 use Rattle.om_steps.specs.Begins.{first_frame}
 use Rattle.om_fork.specs.Teams.{first_busy}
@@ -100,9 +100,9 @@ module _ (reason : Type 0) where
   return_only c slots [] (Some v) values n m = m refl
   return_only c slots (f ∷ callers) (Some v) values n m = tt
 
-  combined_only : (to : ℕ) (r : Result ℤ Fault) → Only reason (combined to r)
-  combined_only to (Ok x) = tt
-  combined_only to (Err f) = tt
+  put_combined_only : (to : ℕ) (r : Result ℤ Fault) → Only reason (put_combined to r)
+  put_combined_only to (Ok x) = tt
+  put_combined_only to (Err f) = tt
 
   reduced_only : (to : ℕ) (r : Reduction) (copy original : cells.Cell) → Only reason (reduced to r copy original)
   reduced_only to r cell.Dead original = tt
@@ -111,7 +111,7 @@ module _ (reason : Type 0) where
   reduced_only to r cell.Unset (cell.Int x) = tt
   reduced_only to r (cell.Int copy) cell.Dead = tt
   reduced_only to r (cell.Int copy) cell.Unset = tt
-  reduced_only to r (cell.Int copy) (cell.Int original) = combined_only to (combine r original copy)
+  reduced_only to r (cell.Int copy) (cell.Int original) = put_combined_only to (combine r original copy)
 
   pub reduce_only : (c : Context) (r : Reduction) (copy : ℕ) (p : Place) (values : List Val)
       → Only reason ((reduce_row c r copy p).row values)

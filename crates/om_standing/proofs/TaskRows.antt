@@ -47,7 +47,7 @@ use Rattle.om_steps.specs.declared.row.Launch.{Launch}
 use Rattle.om_steps.specs.Rows.{first_of, rest_of}
 use Rattle.om_steps.specs.Objects.{own_cells, deaths, puts, homes_in, innermost}
 use Rattle.om_steps.specs.SerialRows.{put_of, row_of, unsets, cells_of_slot, touch_row, serial_row, slots_in, call_row}
-use Rattle.om_steps.specs.SerialRows.{return_row, combined, reduced, reduce_row}
+use Rattle.om_steps.specs.SerialRows.{return_row, put_combined, reduced, reduce_row}
 use Rattle.om_fork.specs.Barriers.{is_open}
 use Rattle.om_steps.specs.Begins.{first_frame}
 use Rattle.om_fork.specs.Teams.{first_busy, member, member_controls, member_puts, size_of}
@@ -181,10 +181,10 @@ module _ (program : Raw) (owned : Owned) (stack : Stack) where
     put_deaths (StandsAnywhere program owned) (own_cells c slots) tt,
   )
 
-  combined_stands : (to : ℕ) (r : Result ℤ Fault) → Leads program owned stack to 0 None
-      → RowStands program owned stack (combined to r)
-  combined_stands to (Ok x) h = (h, (tt, (tt, tt)))
-  combined_stands to (Err f) h = tt
+  put_combined_stands : (to : ℕ) (r : Result ℤ Fault) → Leads program owned stack to 0 None
+      → RowStands program owned stack (put_combined to r)
+  put_combined_stands to (Ok x) h = (h, (tt, (tt, tt)))
+  put_combined_stands to (Err f) h = tt
 
   reduced_stands : (to : ℕ) (r : Reduction) (copy original : cells.Cell) → Leads program owned stack to 0 None
       → RowStands program owned stack (reduced to r copy original)
@@ -194,7 +194,7 @@ module _ (program : Raw) (owned : Owned) (stack : Stack) where
   reduced_stands to r cell.Unset (cell.Int x) h = tt
   reduced_stands to r (cell.Int copy) cell.Dead h = tt
   reduced_stands to r (cell.Int copy) cell.Unset h = tt
-  reduced_stands to r (cell.Int copy) (cell.Int original) h = combined_stands to (combine r original copy) h
+  reduced_stands to r (cell.Int copy) (cell.Int original) h = put_combined_stands to (combine r original copy) h
 
   pub reduce_stands : (c : Context) (r : Reduction) (copy : ℕ) (p : Place) (values : List Val)
       → Leads program owned stack (c.frame.next + 1) 0 None

@@ -7,7 +7,7 @@ ghost use Rattle.om_statements.specs.Scoped.{BeginsCopy, EmitsScopes, ScopesStan
 ghost use Rattle.om_statements.specs.Stretches.{EmitsRow, identity_start, original_start};
 ghost use Rattle.om_resolved.specs.ResolvedView.{view_resolved_clause, view_resolved_expression};
 ghost use Rattle.om_rows.specs.Statements as rows;
-ghost use Rattle.om_rows.specs.Statements.{clause_combined, clause_reduction_start, clause_start};
+ghost use Rattle.om_rows.specs.Statements.{clause_reduction_start, clause_start, combine_clause};
 ghost use Rattle.om_tables.specs.Names.{Names};
 ghost use Rattle.om_tables.specs.Scopes.{names_of};
 
@@ -263,7 +263,7 @@ pub fn parameters(scopes: &mut ScopeStack, variables: &[LocalVariable]) -> Resul
 }
 
 /// Combines the copy of a clause with its original, if the clause is a reduction.
-fn clause_combined(
+fn combine_clause(
     draft: &mut Draft,
     scope: &Scope<'_>,
     line: u32,
@@ -271,7 +271,7 @@ fn clause_combined(
 ) -> Result<(), AllocError>
     ensures { let tree = view_resolved_clause clause.now in
         OnOk result
-        (EmitsRow (names_of scope.now) (λ at. clause_combined at line tree) draft.old draft.new) }
+        (EmitsRow (names_of scope.now) (λ at. combine_clause at line tree) draft.old draft.new) }
 {
     let ResolvedClause::Copied {
         kind,
@@ -311,7 +311,7 @@ pub fn reductions(
         (EmitsRow (names_of scope.now) (λ at. rows.reductions at line trees) draft.old draft.new) }
 {
     for clause in clauses {
-        clause_combined(draft, scope, line, clause)?;
+        combine_clause(draft, scope, line, clause)?;
     }
     Ok(())
 }

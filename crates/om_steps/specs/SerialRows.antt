@@ -130,9 +130,9 @@ return_row c slots (caller ∷ callers) (Some v) = record {
 }
 
 -- OpenMP 5.2, 5.5.8: a copy of a reduction is combined with its original, in one step
-abbrev pub combined : ℕ → Result ℤ Fault → Row
-combined to (Ok n) = goes to 0 None (Keep ∷ Put (value.Cell (cell.Int n)) ∷ [])
-combined to (Err f) = Faults f
+abbrev pub put_combined : ℕ → Result ℤ Fault → Row
+put_combined to (Ok n) = goes to 0 None (Keep ∷ Put (value.Cell (cell.Int n)) ∷ [])
+put_combined to (Err f) = Faults f
 
 abbrev pub reduced : ℕ → Reduction → cells.Cell → cells.Cell → Row
 reduced to r cell.Dead original = Faults fault.Dead
@@ -140,7 +140,7 @@ reduced to r cell.Unset cell.Dead = Faults fault.Dead
 reduced to r cell.Unset original = Faults fault.Unset
 reduced to r (cell.Int copy) cell.Dead = Faults fault.Dead
 reduced to r (cell.Int copy) cell.Unset = Faults fault.Unset
-reduced to r (cell.Int copy) (cell.Int original) = combined to (combine r original copy)
+reduced to r (cell.Int copy) (cell.Int original) = put_combined to (combine r original copy)
 
 abbrev pub reduce_row : Context → Reduction → ℕ → Place → Asked
 reduce_row c r copy p = record {

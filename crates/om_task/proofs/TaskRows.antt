@@ -44,7 +44,7 @@ use Rattle.om_steps.specs.declared.row.Row.TheVariants.{Faults}
 use Rattle.om_steps.specs.Rows.{first_of, rest_of}
 use Rattle.om_steps.specs.Objects.{own_cells, deaths, puts, events, given_cells, innermost}
 use Rattle.om_steps.specs.SerialRows.{put_of, row_of, unsets, cells_of_slot, touch_row, serial_row, slots_in, number_row}
-use Rattle.om_steps.specs.SerialRows.{call_row, return_row, combined, reduced, reduce_row}
+use Rattle.om_steps.specs.SerialRows.{call_row, return_row, put_combined, reduced, reduce_row}
 use Rattle.om_fork.specs.Barriers.{barrier, is_open}
 use Rattle.om_fork.specs.Teams.{first_busy, member_controls, member_puts}
 use Rattle.om_fork.specs.Rows.{forked, team_row, team_of, named_row, sized_row, fork_row, begin_row, reached_row}
@@ -122,9 +122,9 @@ return_within n c slots [] (Some v) values = lacks n values
 return_within n c slots (f ∷ callers) (Some v) values = plain n _ values (own_none c 0 slots)
     (record { few = omega arith; begun = (tt, tt); gentle = deaths_gentle n (own_cells c slots) })
 
-combined_within : (n to : ℕ) (r : Result ℤ Fault) → RowWithin n (combined to r)
-combined_within n to (Ok x) = record { few = omega arith; begun = (tt, tt); gentle = (tt, ((tt, tt), tt)) }
-combined_within n to (Err f) = tt
+put_combined_within : (n to : ℕ) (r : Result ℤ Fault) → RowWithin n (put_combined to r)
+put_combined_within n to (Ok x) = record { few = omega arith; begun = (tt, tt); gentle = (tt, ((tt, tt), tt)) }
+put_combined_within n to (Err f) = tt
 
 reduced_within : (n to : ℕ) (r : Reduction) (copy original : cells.Cell) → RowWithin n (reduced to r copy original)
 reduced_within n to r cell.Dead original = tt
@@ -133,7 +133,7 @@ reduced_within n to r cell.Unset cell.Unset = tt
 reduced_within n to r cell.Unset (cell.Int x) = tt
 reduced_within n to r (cell.Int copy) cell.Dead = tt
 reduced_within n to r (cell.Int copy) cell.Unset = tt
-reduced_within n to r (cell.Int copy) (cell.Int original) = combined_within n to (combine r original copy)
+reduced_within n to r (cell.Int copy) (cell.Int original) = put_combined_within n to (combine r original copy)
 
 pub reduce_within : (n : ℕ) (c : Context) (r : Reduction) (copy : ℕ) (p : Place) (values : List Val)
     → AskedWithin n (reduce_row c r copy p) values

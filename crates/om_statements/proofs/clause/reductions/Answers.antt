@@ -7,7 +7,7 @@ loop-clause-init c = begin_each _ _ _ _ _
 
 pub loop-clause-preserved : goal.loop-clause-preserved
 loop-clause-preserved c = next_each _ _ _ _ _ _ _ _ _ _ c.loop-clause-test.true c.clause-item.is
-    c.loop-clause.invariant c.in_ok-clause_combined.ensures
+    c.loop-clause.invariant c.in_ok-combine_clause.ensures
 
 pub returns : goal.returns
 returns c = end_each _ _ _ _ _ _ _ _ (drop_all c.loop-clause.clause-index c.args.clauses.now
