@@ -3,9 +3,9 @@ use Rattle.std.proofs.Common.{◌≡◌, ◌≤◌, ℕ, List, [], ◌∷◌, Bo
 use Rattle.std.proofs.Common.{if◌then◌else◌}
 use Rattle.std.specs.Prelude.{is_some}
 use Rattle.std.proofs.lemmas.List.{length-append, length-map}
-use Rattle.om_statements.specs.Stretches.{EmitsRow, fork_row, spawn_row}
+use Rattle.om_statements.specs.Stretches.{fork_row, spawn_row}
 use Rattle.om_emit.specs.Drafts.{Written}
-use Rattle.om_emit.specs.Emits.{site}
+use Rattle.om_emit.specs.Emits.{EmitsRow, site}
 use Rattle.om_lexer.specs.declared.token.Span.{Span}
 use Rattle.om_resolved.specs.declared.resolved.Capture.{Capture}
 use Rattle.om_resolved.specs.ResolvedTree.{ResolvedClauseTree, ResolvedStatementTree, Parallel, Task}

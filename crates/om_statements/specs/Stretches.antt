@@ -8,7 +8,7 @@ use Rattle.om_statements.specs.declared.labels.LoopLabels.{LoopLabels}
 use Rattle.om_statements.specs.declared.labels.TurnLabels.{TurnLabels}
 use Rattle.om_statements.specs.declared.worksharing.Parts.{Parts}
 use Rattle.om_emit.specs.Drafts.{Written, Fresh}
-use Rattle.om_emit.specs.Emits.{Part, site, Goes, Emits}
+use Rattle.om_emit.specs.Emits.{Part, site, Goes, Emits, EmitsRow}
 use Rattle.om_pragma.specs.declared.clause.ReductionOperator.{ReductionOperator}
 use Rattle.om_resolved.specs.declared.resolved.ConstructKind.{ConstructKind}
 use Rattle.om_resolved.specs.declared.resolved.ConstructKind.TheVariants as constructs
@@ -27,10 +27,6 @@ use Rattle.om_rows.specs.Statements.{clause_value, jump}
 use Rattle.om_tables.specs.Names.{Names}
 
 -- ---- rows that name no label
-
--- a row is written, by the numbers of a scope
-abbrev pub EmitsRow : Names → (Site → Row) → Written → Written → Type 0
-EmitsRow names row = Emits (λ done at. row (site names done))
 
 -- a row is written that is the same in every scope
 abbrev pub EmitsAnywhere : (Site → Row) → Written → Written → Type 0

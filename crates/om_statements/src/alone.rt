@@ -1,7 +1,8 @@
 //! Directives that stand alone, and `atomic`.
 
 ghost use Rattle.std.specs.Prelude.{OnOk};
-ghost use Rattle.om_statements.specs.Stretches.{EmitsAnywhere, EmitsRow};
+ghost use Rattle.om_emit.specs.Emits.{EmitsRow};
+ghost use Rattle.om_statements.specs.Stretches.{EmitsAnywhere};
 ghost use Rattle.om_resolved.specs.ResolvedView.{view_resolved_statement, view_resolved_update};
 ghost use Rattle.om_rows.specs.Coded.{AssignmentHasCode, UpdateHasCode};
 ghost use Rattle.om_rows.specs.Statements.{alone_row, assignment_row, update_row};

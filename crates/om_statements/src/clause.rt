@@ -3,8 +3,9 @@
 ghost use Rattle.std.specs.Prelude.{◌≡◌, OnOk, map, option_map};
 ghost use Rattle.om_rows.specs.Scopes.{clause_scope, each_scope, parameter_scope, task_scope, team_scope};
 ghost use Rattle.om_emit.specs.Drafts.{Written};
+ghost use Rattle.om_emit.specs.Emits.{EmitsRow};
 ghost use Rattle.om_statements.specs.Scoped.{BeginsCopy, EmitsScopes, ScopesStand, team_from};
-ghost use Rattle.om_statements.specs.Stretches.{EmitsRow, identity_start, original_start};
+ghost use Rattle.om_statements.specs.Stretches.{identity_start, original_start};
 ghost use Rattle.om_resolved.specs.ResolvedView.{view_resolved_clause, view_resolved_expression};
 ghost use Rattle.om_rows.specs.Statements as rows;
 ghost use Rattle.om_rows.specs.Statements.{clause_reduction_start, clause_start, combine_clause};

@@ -1,9 +1,10 @@
 //! The begins and the ends of constructs round a statement.
 
 ghost use Rattle.std.specs.Prelude.{◌≡◌, IfOk, IfSome, None, OnOk, Some, map, slice_get};
+ghost use Rattle.om_emit.specs.Emits.{EmitsRow};
 ghost use Rattle.om_rows.specs.Scopes.{construct_head};
 ghost use Rattle.om_statements.specs.Scoped.{EmitsScopes};
-ghost use Rattle.om_statements.specs.Stretches.{Begins, EmitsRow, Ends, construct_begin, construct_end, BeginHasCode, IsNoAtomic};
+ghost use Rattle.om_statements.specs.Stretches.{Begins, Ends, construct_begin, construct_end, BeginHasCode, IsNoAtomic};
 ghost use Rattle.om_resolved.specs.ResolvedView.{view_resolved_clause};
 ghost use Rattle.om_rows.specs.Coded.{ValueHasCode};
 ghost use Rattle.om_rows.specs.Statements as rows;

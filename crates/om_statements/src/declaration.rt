@@ -1,8 +1,9 @@
 //! Declarations, tests, and what leaves a function.
 
 ghost use Rattle.std.specs.Prelude.{◌≡◌, All, IfSome, OnOk, map, option_map};
+ghost use Rattle.om_emit.specs.Emits.{EmitsRow};
 ghost use Rattle.om_statements.specs.Scoped.{EmitsScopes};
-ghost use Rattle.om_statements.specs.Stretches.{EmitsPerhapsTest, EmitsRow, EmitsTest, leaving};
+ghost use Rattle.om_statements.specs.Stretches.{EmitsPerhapsTest, EmitsTest, leaving};
 ghost use Rattle.om_resolved.specs.ResolvedView.{view_resolved_declarator, view_resolved_expression, view_resolved_start};
 ghost use Rattle.om_rows.specs.Coded.{DeclaratorHasCode, EffectHasCode, StartHasCode, ValueHasCode};
 ghost use Rattle.om_rows.specs.Expressions.{effect};

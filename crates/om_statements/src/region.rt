@@ -1,8 +1,8 @@
 //! A `parallel` and a `task`, in the body that meets them.
 
 ghost use Rattle.std.specs.Prelude.{◌≡◌, ◌≤◌, IfOk, IfSome, OnOk, length, map};
+ghost use Rattle.om_emit.specs.Emits.{EmitsRow};
 ghost use Rattle.om_statements.specs.declared.labels.JumpLabels.{JumpLabels};
-ghost use Rattle.om_statements.specs.Stretches.{EmitsRow};
 ghost use Rattle.om_resolved.specs.ResolvedTree as trees;
 ghost use Rattle.om_resolved.specs.ResolvedView.{view_resolved_clause, view_resolved_statement};
 ghost use Rattle.om_rows.specs.Bodies as rows;

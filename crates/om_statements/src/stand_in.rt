@@ -1,7 +1,8 @@
 //! What stands in the place of a `parallel` or a `task`, whose bodies stand by themselves.
 
 ghost use Rattle.std.specs.Prelude.{◌≡◌, ◌≤◌, IfOk, IfSome, OnOk, is_some, map};
-ghost use Rattle.om_statements.specs.Stretches.{EmitsRow, EmitsAnywhere, fork_row, spawn_row};
+ghost use Rattle.om_emit.specs.Emits.{EmitsRow};
+ghost use Rattle.om_statements.specs.Stretches.{EmitsAnywhere, fork_row, spawn_row};
 ghost use Rattle.om_resolved.specs.ResolvedView.{view_resolved_clause};
 ghost use Rattle.om_rows.specs.Coded.{ValueHasCode};
 ghost use Rattle.om_rows.specs.Expressions as expressions;
