@@ -12,9 +12,8 @@ use Rattle.om_resolved.specs.declared.resolved.Capture.{Capture}
 use Rattle.om_resolved.specs.ResolvedTree.{ResolvedClauseTree, ResolvedFunctionTree, ResolvedStatementTree}
 use Rattle.om_resolved.specs.ResolvedTree.{ResolvedStatementsTree}
 use Rattle.om_rows.specs.Bodies.{FunctionBody, ParallelBody, TaskBody}
-use Rattle.om_rows.specs.Code.{last_instruction}
 use Rattle.om_rows.specs.Rows.{end, ins, part}
-use Rattle.om_rows.specs.Statements.{nowhere, reduction_starts, reductions, statement, statements}
+use Rattle.om_rows.specs.Statements.{last_instruction, nowhere, reduction_starts, reductions, statement, statements}
 use Rattle.om_statements.specs.declared.labels.JumpLabels.{JumpLabels}
 use Rattle.om_statements.specs.declared.spot.Spot.{Spot}
 use Rattle.om_statements.specs.Emits.{EmitsStatement, EmitsStatements, EmitsWith}
@@ -49,8 +48,8 @@ last_two names l a b c arrive leave =
     goes_put names _ l (i.Arrive barriers.Parallel) (λ done at. ins (site names done) l i.Leave end) a b c arrive
     (goes_put names _ l i.Leave (λ done at. end) b c c leave (goes_end _ c))
 
-last_one : (names : Names) (l : ℕ) (main : Bool) (a b : Written) → Puts l (last_instruction main) a b
-    → EmitsRow names (λ at. ins at l (last_instruction main) end) a b
+last_one : (names : Names) (l : ℕ) (main : Bool) (a b : Written) → Puts l (last_instruction main false) a b
+    → EmitsRow names (λ at. ins at l (last_instruction main false) end) a b
 last_one names l true a b put = goes_put names _ l (i.Finish false) (λ done at. end) a b b put (goes_end _ b)
 last_one names l false a b put = goes_put names _ l i.ReturnNothing (λ done at. end) a b b put (goes_end _ b)
 
@@ -58,7 +57,7 @@ last_one names l false a b put = goes_put names _ l i.ReturnNothing (λ done at.
 
 pub function_emits : (names : Names) (f : ResolvedFunctionTree) (numbers : tables.Numbers) (spot : Spot)
     (items : ResolvedStatementsTree) (last : Instr) (a b c : Written)
-    → IsOutside numbers spot → items ≡ f.body → last ≡ last_instruction names.is_main
+    → IsOutside numbers spot → items ≡ f.body → last ≡ last_instruction names.is_main false
     → EmitsStatements names (numbers_of spot.numbers) items spot.jumps a b → Puts f.closing_line last b c
     → EmitsBody names (numbers_of numbers) f FunctionBody a c
 function_emits names f numbers spot items last a b c outside all ends emitted put =
@@ -66,7 +65,7 @@ function_emits names f numbers spot items last a b c outside all ends emitted pu
     let whole = subst (λ xs. EmitsStatements names (numbers_of numbers) xs no_jumps a b) all here in
     let closed = subst (λ x. Puts f.closing_line x b c) ends put in
     part_then _ (λ done at. statements (site names done) (numbers_of numbers) f.body nowhere)
-    (λ done at. ins (site names done) f.closing_line (last_instruction names.is_main) end) a b c whole
+    (λ done at. ins (site names done) f.closing_line (last_instruction names.is_main false) end) a b c whole
     (last_one names f.closing_line names.is_main b c closed)
 
 pub task_emits : (names : Names) (numbers : tables.Numbers) (spot : Spot) (first : Span)

@@ -5,7 +5,6 @@ ghost use Rattle.om_lower.specs.Emitted.{EmitsBody, EmitsRegion, EmitsRegionScop
 ghost use Rattle.om_sights.specs.Regions.{parallel_tree, statement_of, task_tree};
 ghost use Rattle.om_resolved.specs.ResolvedView.{view_resolved_function};
 ghost use Rattle.om_rows.specs.Bodies.{FunctionBody};
-ghost use Rattle.om_rows.specs.Code as codes;
 ghost use Rattle.om_rows.specs.Coded.{BodyHasCode, StatementHasCode};
 ghost use Rattle.om_rows.specs.Scopes.{body_scopes};
 ghost use Rattle.om_statements.specs.Scoped.{EmitsScopes};
@@ -18,6 +17,7 @@ use om_code::Instr;
 use om_code::instruction::Barrier;
 use om_resolved::ResolvedFunction;
 use om_statements::clause::{parameters, reduction_starts, reductions, task_copies};
+use om_statements::last_instruction;
 use om_statements::spot::Spot;
 use om_statements::statement::{inner, statements};
 use om_statements::writing::Writing;
@@ -47,22 +47,11 @@ pub(crate) fn write_function(
     parameters(&mut writing.scopes, function.parameters.as_slice())?;
     let spot = Spot::outside(numbers);
     statements(alloc, writing, scope, spot, function.body.as_slice())?;
-    let last = last_instruction(scope.is_main);
+    let last = last_instruction(scope.is_main, false);
     writing.draft.put(function.closing_line, last)?;
     let to = writing.draft.place();
     writing.scopes.end(height, to)?;
     Ok(())
-}
-
-/// The end of a function: RETN, of `main` FIN 0.
-fn last_instruction(is_main: bool) -> Instr
-    ensures { result ≡ codes.last_instruction is_main }
-{
-    if is_main {
-        Instr::Finish { has_value: false }
-    } else {
-        Instr::ReturnNothing
-    }
 }
 
 /// Writes what each thread of a team does (OpenMP API 5.2, section 10.1): its implicit task begins,

@@ -12,11 +12,11 @@ use Rattle.om_code.specs.Frames.{Frame, FrameTurn, Finished, Faulted, Stuck, fra
 use Rattle.om_resolved.specs.ResolvedTree.{ResolvedFunctionTree, ResolvedTree}
 use Rattle.om_resolved.specs.Uses.{is_main_function}
 use Rattle.om_rows.specs.Bodies.{Numbers, FunctionBody, called_body, function_variables}
-use Rattle.om_rows.specs.Code.{last_instruction, IsBodyOf, IsCodeOf, site_of}
+use Rattle.om_rows.specs.Code.{IsBodyOf, IsCodeOf, site_of}
 use Rattle.om_rows.specs.Mentions.{format_mention, formats_of, function_mentioned}
 use Rattle.om_rows.specs.Laws.{FunctionBodies, FormatsAreNumbered}
 use Rattle.om_rows.specs.Rows.{Site}
-use Rattle.om_rows.specs.Statements.{nowhere}
+use Rattle.om_rows.specs.Statements.{last_instruction, nowhere}
 use Rattle.om_meaning.specs.Laws.{layout_of, source, IsOver, Agrees, Behaves, SerialMeaning}
 use Rattle.om_meaning.specs.Meaning as flows
 use Rattle.om_meaning.specs.Meaning.{Flow, Broke, Continued, Failed, OutOfTurns, then_do, meanings}
@@ -130,7 +130,7 @@ module _ (raw : Raw) (body : Body) where
   }
 
   -- the end of a function
-  closes : (is_main : Bool) (m l : ℕ) (u : World) → steps.Has raw body m l (last_instruction is_main)
+  closes : (is_main : Bool) (m l : ℕ) (u : World) → steps.Has raw body m l (last_instruction is_main false)
       → Ends raw body (frame m [] u) (ended is_main None) u
   closes true m l u has = steps.stop raw body m l (i.Finish false) [] u u (ended true None) (frame m [] u) has refl
       refl refl

@@ -21,13 +21,13 @@ use Rattle.om_resolved.specs.ResolvedTree.{Statement, ResolvedPartsTree, NoParts
 use Rattle.om_resolved.specs.ResolvedTree.{ResolvedTree}
 use Rattle.om_rows.specs.Bodies.{Numbers, next_pick, behind, behind_all, BodyTree, BodySite, FunctionBody, ParallelBody}
 use Rattle.om_rows.specs.Bodies.{TaskBody, bodies_of}
-use Rattle.om_rows.specs.Code.{body_row, last_instruction, site_of, IsBodyOf}
+use Rattle.om_rows.specs.Code.{body_row, site_of, IsBodyOf}
 use Rattle.om_rows.specs.Expressions.{effect}
 use Rattle.om_rows.specs.Laws.{CodeIsLevel, IsLevel}
 use Rattle.om_rows.specs.Operators.{comparison_of}
 use Rattle.om_rows.specs.Rows.{Site, Row, ins, part, here, ◌▸◌}
 use Rattle.om_rows.specs.Statements.{Jumps, nowhere, in_loop, in_iteration, test, clause_value, given_copies, loop_rest}
-use Rattle.om_rows.specs.Statements.{with_place, no_place, statement, statements, parts}
+use Rattle.om_rows.specs.Statements.{last_instruction, with_place, no_place, statement, statements, parts}
 use Rattle.om_rows.proofs.Levels.{Levels, Each, HasAt, IsAt, IsFine, nothing, level_end, level_ins, level_next}
 use Rattle.om_rows.proofs.Levels.{level_either, level_jump, level_within, level_as, level_more, level_free, level_part}
 use Rattle.om_rows.proofs.Levels.{level_here, level_closed}
@@ -311,18 +311,18 @@ level_join {picks} {code} {p} {m} {q} {h} {mid} {out} a b =
     level_part {A = λ z. Levels picks code nothing nothing p z h mid} {R = λ z. Levels picks code nothing nothing z
     q mid out} (m, a, b) (λ m x. x) (λ m x. x)
 
-last_pops : (is_main : Bool) → pops (last_instruction is_main) ≡ 0
+last_pops : (is_main : Bool) → pops (last_instruction is_main false) ≡ 0
 last_pops true = refl
 last_pops false = refl
 
-last_ways : (picks : List (List ℕ)) (m : ℕ) (is_main : Bool) → successors picks m (last_instruction is_main) ≡ []
+last_ways : (picks : List (List ℕ)) (m : ℕ) (is_main : Bool) → successors picks m (last_instruction is_main false) ≡ []
 last_ways picks m true = refl
 last_ways picks m false = refl
 
 pub body_levels : (at : Site) (n : Numbers) (f : ResolvedFunctionTree) (tree : BodyTree) → body_row at n f tree 0
     (length at.code) → IsLevel at.picks at.code
 body_levels at n f FunctionBody r =
-    finished at.picks at.code r.0 f.closing_line (last_instruction at.is_main)
+    finished at.picks at.code r.0 f.closing_line (last_instruction at.is_main false)
     (level_more (statements_levels at f.body n nowhere 0 0 r.0 r.1) (λ hs k. (tt, tt)))
     r.2.0 r.2.1 (last_pops at.is_main) (last_ways at.picks r.0 at.is_main)
 body_levels at n f (ParallelBody first clauses captures s) r =

@@ -20,7 +20,7 @@ use Rattle.om_resolved.specs.ResolvedTree.{ResolvedFunctionTree, ResolvedTree}
 use Rattle.om_resolved.specs.Whole.{within, of_parallel}
 use Rattle.om_rows.specs.Bodies.{Numbers, first_numbers, called_body, BodyTree, FunctionBody, ParallelBody, TaskBody}
 use Rattle.om_rows.specs.Bodies.{BodySite, variables_of, region_variables, function_variables, bodies_of}
-use Rattle.om_rows.specs.Code.{last_instruction, given_variables, captures_of, slots_of, given_of, site_of, IsBodyOf}
+use Rattle.om_rows.specs.Code.{given_variables, captures_of, slots_of, given_of, site_of, IsBodyOf}
 use Rattle.om_rows.specs.Code.{IsCodeOf}
 use Rattle.om_rows.specs.declared.scope.VariableScope.{VariableScope}
 use Rattle.om_rows.specs.Scopes.{scope_in, slot_among}
@@ -29,7 +29,7 @@ use Rattle.om_rows.specs.Laws.{FunctionBodies, FormatsAreNumbered}
 use Rattle.om_rows.specs.Rows.{Site}
 use Rattle.om_rows.specs.Slots.{FirstCopy, parameter_sight, region_clause_sights, statement_sights, statements_sights}
 use Rattle.om_rows.specs.Slots.{slot_of, slot_with, source_of, cells_in, shares, first_copies}
-use Rattle.om_rows.specs.Statements.{nowhere, given_copies}
+use Rattle.om_rows.specs.Statements.{last_instruction, nowhere, given_copies}
 use Rattle.om_rows.proofs.Given.{cells_there, given_own, fits_round, first_unshared, IsUnshared, IsOrdered, ordered}
 use Rattle.om_rows.proofs.Given.{has_itself}
 use Rattle.om_rows.proofs.Named.{Named, named_end, named_ins, named_part, Has, has_front, has_back, table_has}
@@ -187,7 +187,7 @@ module _ (tree : ResolvedTree) (raw : Raw) (code : IsCodeOf tree raw) where
     all_named n = all_from_get (λ (line : Line). NamesKnown raw body.slots line.instruction) body.code
         (λ k line e. n.by k (omega arith) (slice_get_within body.code k line e) line e)
 
-  last_known : (slots : List Slot) (is_main : Bool) → NamesKnown raw slots (last_instruction is_main)
+  last_known : (slots : List Slot) (is_main : Bool) → NamesKnown raw slots (last_instruction is_main false)
   last_known slots true = tt
   last_known slots false = tt
 

@@ -2,7 +2,6 @@
 use Rattle.std.specs.Prelude.{◌≡◌, ℕ, List, [], Some, Bool, true, false, length, map, option_map, position}
 use Rattle.std.specs.List.{AllZip}
 use Rattle.om_code.specs.declared.instruction.Barrier.TheVariants as barriers
-use Rattle.om_code.specs.declared.instruction.Instr.{Instr}
 use Rattle.om_code.specs.declared.instruction.Instr.TheVariants as i
 use Rattle.om_code.specs.declared.raw.Body.{Body}
 use Rattle.om_code.specs.declared.raw.GlobalVariable as raws
@@ -20,19 +19,15 @@ use Rattle.om_rows.specs.Mentions.{extents_of, formats_of, locks_of, IsTextOf}
 use Rattle.om_rows.specs.Rows.{Site, Row, end, ins, part, ◌▸◌}
 use Rattle.om_rows.specs.Scopes.{body_scopes, names_with}
 use Rattle.om_rows.specs.Slots.{parameter_sight, slot_of, slot_with}
-use Rattle.om_rows.specs.Statements.{nowhere, statement, statements, reduction_starts, reductions, given_copies}
+use Rattle.om_rows.specs.Statements.{nowhere, statement, statements, last_instruction, reduction_starts, reductions}
+use Rattle.om_rows.specs.Statements.{given_copies}
 
 -- ---- bodies
-
--- the end of a function: RETN, of `main` FIN 0
-abbrev pub last_instruction : (is_main : Bool) → Instr
-last_instruction true = i.Finish false
-last_instruction false = i.ReturnNothing
 
 -- what stands in a body, from its first place to its last
 abbrev pub body_row : Site → Numbers → ResolvedFunctionTree → BodyTree → Row
 body_row at n f FunctionBody =
-    part (statements at n f.body nowhere) ▸ ins at f.closing_line (last_instruction at.is_main) ▸ end
+    part (statements at n f.body nowhere) ▸ ins at f.closing_line (last_instruction at.is_main false) ▸ end
 body_row at n f (ParallelBody first clauses captures s) =
     ins at first.line i.Begin ▸ part (reduction_starts at first.line clauses) ▸ part (statement at n s nowhere)
     ▸ part (reductions at first.line clauses) ▸ ins at first.line (i.Arrive barriers.Parallel) ▸ ins at first.line

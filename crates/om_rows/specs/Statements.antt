@@ -10,6 +10,7 @@ use Rattle.om_code.specs.declared.instruction.AtomicOperator.{AtomicOperator}
 use Rattle.om_code.specs.declared.instruction.Barrier.{Barrier}
 use Rattle.om_code.specs.declared.instruction.Barrier.TheVariants as barriers
 use Rattle.om_code.specs.declared.instruction.Comparison.{Comparison}
+use Rattle.om_code.specs.declared.instruction.Instr.{Instr}
 use Rattle.om_code.specs.declared.instruction.Instr.TheVariants as i
 use Rattle.om_code.specs.declared.instruction.Side.{Side}
 use Rattle.om_resolved.specs.declared.resolved.Capture.{Capture}
@@ -74,12 +75,16 @@ start at l (StartDeclaration ds) = each (declarator at l) ds
 abbrev pub test : Site → ℕ → ℕ → ResolvedExpressionTree → Row
 test at l f c = part (value at l c) ▸ ins at l (i.JumpIfZero f) ▸ end
 
+-- what ends the frame of a function, with a value or without: RET and RETN, in `main` FIN 1 and FIN 0
+abbrev pub last_instruction : (is_main has_value : Bool) → Instr
+last_instruction true has_value = i.Finish has_value
+last_instruction false true = i.Return
+last_instruction false false = i.ReturnNothing
+
 -- `return e;` and `return;`
 abbrev pub returned : Site → ℕ → (is_main : Bool) → Option ResolvedExpressionTree → Row
-returned at l true None = ins at l (i.Finish false) ▸ end
-returned at l true (Some e) = part (value at l e) ▸ ins at l (i.Finish true) ▸ end
-returned at l false None = ins at l i.ReturnNothing ▸ end
-returned at l false (Some e) = part (value at l e) ▸ ins at l i.Return ▸ end
+returned at l is_main None = ins at l (last_instruction is_main false) ▸ end
+returned at l is_main (Some e) = part (value at l e) ▸ ins at l (last_instruction is_main true) ▸ end
 
 -- ---- clauses
 

@@ -9,10 +9,9 @@ use Rattle.om_code.specs.declared.instruction.Instr.{Instr}
 use Rattle.om_code.specs.declared.instruction.Place.{Place}
 use Rattle.om_code.specs.declared.instruction.Side.{Side}
 use Rattle.om_code.specs.declared.instruction.Instr.TheVariants as i
-use Rattle.om_statements.specs.Stretches.{leaving}
 use Rattle.om_resolved.specs.ResolvedTree.{ResolvedExpressionTree}
 use Rattle.om_rows.specs.Expressions.{value}
-use Rattle.om_rows.specs.Statements.{returned}
+use Rattle.om_rows.specs.Statements.{last_instruction, returned}
 use Rattle.om_emit.specs.Drafts.{Written, moved, Puts}
 use Rattle.om_emit.specs.Emits.{Part, site, Goes, Emits}
 use Rattle.om_emit.specs.Writing.{goes_end, goes_put, goes_part}
@@ -108,14 +107,14 @@ all_item P f xs k x h lt e =
 
 -- ---- the ends of functions
 
-pub returned_none : (names : Names) (l : ℕ) (is_main : Bool) (x : Instr) (a b : Written) → x ≡ leaving is_main false
-    → Puts l x a b
+pub returned_none : (names : Names) (l : ℕ) (is_main : Bool) (x : Instr) (a b : Written)
+    → x ≡ last_instruction is_main false → Puts l x a b
     → Emits (λ done at. returned (site names done) l is_main None) a b
 returned_none names l true x a b e h = emits_one names l (i.Finish false) a b (subst (λ y. Puts l y a b) e h)
 returned_none names l false x a b e h = emits_one names l i.ReturnNothing a b (subst (λ y. Puts l y a b) e h)
 
 pub returned_some : (names : Names) (l : ℕ) (is_main : Bool) (x : Instr) (e : ResolvedExpressionTree)
-    (a b c : Written) → x ≡ leaving is_main true
+    (a b c : Written) → x ≡ last_instruction is_main true
     → Emits (λ done at. value (site names done) l e) a b → Puts l x b c
     → Emits (λ done at. returned (site names done) l is_main (Some e)) a c
 returned_some names l true x e a b c is v h =

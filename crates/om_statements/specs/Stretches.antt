@@ -1,7 +1,6 @@
 -- Stretches of rows: what stands before the statement of a form, and what stands behind it.
-use Rattle.std.specs.Prelude.{◌≡◌, ◌≤◌, ◌<◌, ℕ, ◌+◌, pos, List, Option, Some, None, Bool, true, false, IfSome, length}
+use Rattle.std.specs.Prelude.{◌≡◌, ◌≤◌, ◌<◌, ℕ, ◌+◌, pos, List, Option, Some, None, Bool, false, IfSome, length}
 use Rattle.std.specs.Prelude.{option_map, slice_get}
-use Rattle.om_code.specs.declared.instruction.Instr.{Instr}
 use Rattle.om_code.specs.declared.instruction.Instr.TheVariants as i
 use Rattle.om_code.specs.declared.instruction.Comparison.{Comparison}
 use Rattle.om_statements.specs.declared.labels.LoopLabels.{LoopLabels}
@@ -31,12 +30,6 @@ use Rattle.om_tables.specs.Names.{Names}
 -- a row is written that is the same in every scope
 abbrev pub EmitsAnywhere : (Site → Row) → Written → Written → Type 0
 EmitsAnywhere row old new = (names : Names) → EmitsRow names row old new
-
--- what a `return` is at the end: in `main` it ends the program
-abbrev pub leaving : (is_main has_value : Bool) → Instr
-leaving true has_value = i.Finish has_value
-leaving false true = i.Return
-leaving false false = i.ReturnNothing
 
 -- a copy of a reduction begins with the operator's identity, and a firstprivate one with its original's value
 abbrev pub identity_start : ℕ → ReductionOperator → LocalVariable → Site → Row

@@ -3,14 +3,14 @@
 ghost use Rattle.std.specs.Prelude.{◌≡◌, All, IfSome, OnOk, map, option_map};
 ghost use Rattle.om_emit.specs.Emits.{EmitsRow};
 ghost use Rattle.om_statements.specs.Scoped.{EmitsScopes};
-ghost use Rattle.om_statements.specs.Stretches.{EmitsPerhapsTest, EmitsTest, leaving};
+ghost use Rattle.om_statements.specs.Stretches.{EmitsPerhapsTest, EmitsTest};
 ghost use Rattle.om_resolved.specs.ResolvedView.{view_resolved_declarator, view_resolved_expression, view_resolved_start};
 ghost use Rattle.om_rows.specs.Coded.{DeclaratorHasCode, EffectHasCode, StartHasCode, ValueHasCode};
 ghost use Rattle.om_rows.specs.Expressions.{effect};
 ghost use Rattle.om_rows.specs.Rows.{each, perhaps};
 ghost use Rattle.om_rows.specs.Scopes.{declarator_scope, each_scope, start_scopes};
 ghost use Rattle.om_rows.specs.Statements as rows;
-ghost use Rattle.om_rows.specs.Statements.{declarator, returned};
+ghost use Rattle.om_rows.specs.Statements.{declarator, last_instruction, returned};
 ghost use Rattle.om_tables.specs.Scopes.{names_of};
 
 use crate::writing::Writing;
@@ -209,8 +209,8 @@ pub fn returned(
 }
 
 /// What ends the frame of a function, with a value or without.
-fn last_instruction(is_main: bool, has_value: bool) -> Instr
-    ensures { result ≡ leaving is_main has_value }
+pub fn last_instruction(is_main: bool, has_value: bool) -> Instr
+    ensures { result ≡ last_instruction is_main has_value }
 {
     if is_main {
         Instr::Finish { has_value }

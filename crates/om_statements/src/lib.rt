@@ -21,3 +21,5 @@ mod stand_in;
 pub mod statement;
 mod worksharing;
 pub mod writing;
+
+pub use declaration::last_instruction;
