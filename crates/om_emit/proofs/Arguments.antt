@@ -10,7 +10,7 @@ use Rattle.om_resolved.specs.ResolvedTree as trees
 use Rattle.om_resolved.specs.ResolvedView.{view_resolved_expression}
 use Rattle.om_rows.specs.Coded.{CallHasCode, ValueHasCode, ValuesHaveCode}
 use Rattle.om_rows.specs.Expressions.{value, values, value_count}
-use Rattle.om_tables.specs.Names.{Names}
+use Rattle.om_tables.specs.Numbered.{Numbered}
 
 -- the values of expressions of the program
 abbrev pub listed : List ResolvedExpression → trees.ValuesTree
@@ -37,7 +37,7 @@ with_depth size m a es k e lt is measure goes_on =
     goes_on (subst (λ x. size x ≤ most size es) (sym is) (at_most size es k e lt))
 
 -- one value more
-pub emits_next : (names : Names) (l : ℕ) (es : List ResolvedExpression) (k n : ℕ) (e : ResolvedExpression)
+pub emits_next : (names : Numbered) (l : ℕ) (es : List ResolvedExpression) (k n : ℕ) (e : ResolvedExpression)
     (a b c : Written)
     → k < length es → e ≡ get_or es k e → n ≤ length a.places
     → EmitsValue names l (view_resolved_expression e) a b

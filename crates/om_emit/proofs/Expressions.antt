@@ -23,27 +23,27 @@ use Rattle.om_rows.specs.Rows.{Site, Row, end, ins, part, ◌▸◌}
 use Rattle.om_rows.specs.Slots.{place_of}
 use Rattle.om_rows.specs.Tables.{number_in}
 use Rattle.std.specs.Str.{bytes_eq}
-use Rattle.om_tables.specs.Names.{Names}
+use Rattle.om_tables.specs.Numbered.{Numbered}
 use Rattle.om_tree.specs.declared.tree.AssignOperator.{AssignOperator}
 use Rattle.om_tree.specs.declared.tree.BinaryOperator.{BinaryOperator}
 use Rattle.om_tree.specs.declared.tree.PostfixOperator.{PostfixOperator}
 
 -- ---- a part, and one instruction
 
-pub emits_put : (names : Names) (row : Site → Row) (l : ℕ) (x : Instr) (a b c : Written) → EmitsRow names row a b
+pub emits_put : (names : Numbered) (row : Site → Row) (l : ℕ) (x : Instr) (a b c : Written) → EmitsRow names row a b
     → Puts l x b c
     → Emits (λ done at. part (row (site names done)) ▸ ins (site names done) l (moved at x) ▸ end) a c
 emits_put names row l x a b c e h =
     emits_then (λ done at. row (site names done)) (λ done at. ins (site names done) l (moved at x)
     ▸ end) a b c e (emits_one names l x b c h)
 
-pub emits_element : (names : Names) (l : ℕ) (x : variables.Variable) (j : ResolvedExpressionTree) (a b c : Written)
+pub emits_element : (names : Numbered) (l : ℕ) (x : variables.Variable) (j : ResolvedExpressionTree) (a b c : Written)
     → EmitsValue names l j a b → Puts l (i.LoadElement (place_of names.slots x)) b c
     → EmitsValue names l (Element x j) a c
 emits_element names l x j a b c e h =
     emits_put names (λ at. value at l j) l (i.LoadElement (place_of names.slots x)) a b c e h
 
-pub emits_call : (names : Names) (l function : ℕ) (es : ValuesTree) (body count : ℕ) (a b c : Written)
+pub emits_call : (names : Numbered) (l function : ℕ) (es : ValuesTree) (body count : ℕ) (a b c : Written)
     → body ≡ called_body names.functions function → count ≡ value_count es
     → EmitsValues names l es a b → Puts l (i.Call body count) b c → EmitsRow names (λ at. call at l function es) a c
 emits_call names l function es body count a b c is counts e h =
@@ -53,15 +53,15 @@ emits_call names l function es body count a b c is counts e h =
     ▸ end) a c) counts
     (emits_put names (λ at. values at l es) l (i.Call body count) a b c e h))
 
-pub emits_used_call : (names : Names) (l function : ℕ) (es : ValuesTree) (a b c : Written)
+pub emits_used_call : (names : Numbered) (l function : ℕ) (es : ValuesTree) (a b c : Written)
     → EmitsRow names (λ at. call at l function es) a b → Puts l i.Use b c → EmitsValue names l (Call function es) a c
 emits_used_call names l function es a b c e h = emits_put names (λ at. call at l function es) l i.Use a b c e h
 
-pub emits_dropped_call : (names : Names) (l function : ℕ) (es : ValuesTree) (a b c : Written)
+pub emits_dropped_call : (names : Numbered) (l function : ℕ) (es : ValuesTree) (a b c : Written)
     → EmitsRow names (λ at. call at l function es) a b → Puts l i.Pop b c → EmitsEffect names l (Call function es) a c
 emits_dropped_call names l function es a b c e h = emits_put names (λ at. call at l function es) l i.Pop a b c e h
 
-pub emits_print : (names : Names) (l : ℕ) (format : List ℕ) (es : ValuesTree) (text count : ℕ) (a b c : Written)
+pub emits_print : (names : Numbered) (l : ℕ) (format : List ℕ) (es : ValuesTree) (text count : ℕ) (a b c : Written)
     → text ≡ number_in (bytes_eq format) names.formats → count ≡ value_count es
     → EmitsValues names l es a b → Puts l (i.Print text count) b c → EmitsRow names (λ at. print at l format es) a c
 emits_print names l format es text count a b c is counts e h =
@@ -71,11 +71,11 @@ emits_print names l format es text count a b c is counts e h =
     ▸ end) a c) counts
     (emits_put names (λ at. values at l es) l (i.Print text count) a b c e h))
 
-pub emits_popped : (names : Names) (l : ℕ) (e : ResolvedExpressionTree) (a b c : Written)
+pub emits_popped : (names : Numbered) (l : ℕ) (e : ResolvedExpressionTree) (a b c : Written)
     → EmitsValue names l e a b → Puts l i.Pop b c → EmitsRow names (λ at. popped at l e) a c
 emits_popped names l e a b c h k = emits_put names (λ at. value at l e) l i.Pop a b c h k
 
-pub emits_right : (names : Names) (l : ℕ) (o : machine.BinaryOperator) (y : ResolvedExpressionTree) (a b c : Written)
+pub emits_right : (names : Numbered) (l : ℕ) (o : machine.BinaryOperator) (y : ResolvedExpressionTree) (a b c : Written)
     → EmitsValue names l y a b → Puts l (i.Binary o) b c → EmitsRow names (λ at. binary_rest at l (Plain o) y) a c
 emits_right names l o y a b c e h = emits_put names (λ at. value at l y) l (i.Binary o) a b c e h
 
@@ -87,7 +87,7 @@ unary_is at l unaries.Plus e p q r = subst (λ z. e p z) r.2 r.1
 unary_is at l unaries.Negate e p q r = r
 unary_is at l unaries.Not e p q r = r
 
-pub emits_unary : (names : Names) (l : ℕ) (operator : UnaryOperator) (e : ResolvedExpressionTree) (a b c : Written)
+pub emits_unary : (names : Numbered) (l : ℕ) (operator : UnaryOperator) (e : ResolvedExpressionTree) (a b c : Written)
     → EmitsValue names l e a b → EmitsRow names (λ at. unary_rest at l operator) b c
     → EmitsValue names l (Unary operator e) a c
 emits_unary names l operator e a b c h k =
@@ -102,7 +102,7 @@ binary_is at l Both x y p q r = (r.2.0, r.2.1, (r.0, r.1, r.2.2))
 binary_is at l Either x y p q r = (r.2.0, r.2.1, r.2.2, (r.0, r.1, r.2.3))
 binary_is at l (Plain o) x y p q r = r
 
-pub emits_binary : (names : Names) (l : ℕ) (operator : BinaryOperator) (x y : ResolvedExpressionTree)
+pub emits_binary : (names : Numbered) (l : ℕ) (operator : BinaryOperator) (x y : ResolvedExpressionTree)
     (a b c : Written)
     → EmitsValue names l x a b → EmitsRow names (λ at. binary_rest at l (form_of operator) y) b c
     → EmitsValue names l (Binary x operator y) a c
@@ -114,7 +114,7 @@ emits_binary names l operator x y a b c e h =
     (form_of operator) y) a b c e h)
 
 -- the form of the operator as it was looked up
-pub rest_is : (names : Names) (l : ℕ) (form other : BinaryForm) (y : ResolvedExpressionTree) (a c : Written)
+pub rest_is : (names : Numbered) (l : ℕ) (form other : BinaryForm) (y : ResolvedExpressionTree) (a c : Written)
     → form ≡ other → EmitsRow names (λ at. binary_rest at l form y) a c
     → EmitsRow names (λ at. binary_rest at l other y) a c
 rest_is names l form other y a c is e = subst (λ z. EmitsRow names (λ at. binary_rest at l z y) a c) is e
@@ -126,7 +126,7 @@ element_is at l keeps x j None e p q r = r
 element_is at l keeps x j (Some o) e p q r = r
 
 -- under any use of the value
-pub emits_element_assigned : (names : Names) (l : ℕ) (keeps : Bool) (x : variables.Variable)
+pub emits_element_assigned : (names : Numbered) (l : ℕ) (keeps : Bool) (x : variables.Variable)
     (j : ResolvedExpressionTree) (o : Option machine.BinaryOperator)
     (e : Site → Row) (a b c : Written)
     → EmitsValue names l j a b → EmitsRow names (λ at. element_rest at l keeps x o (e at)) b c
@@ -139,7 +139,7 @@ emits_element_assigned names l keeps x j o e a b c h k =
     (emits_then (λ done at. value (site names done) l j) (λ done at. element_rest (site names done) l keeps x o (e
     (site names done))) a b c h k)
 
-pub emits_postfix_element : (names : Names) (l : ℕ) (x : variables.Variable) (j : ResolvedExpressionTree)
+pub emits_postfix_element : (names : Numbered) (l : ℕ) (x : variables.Variable) (j : ResolvedExpressionTree)
     (operator : PostfixOperator) (a b c : Written)
     → EmitsValue names l j a b → EmitsRow names (λ at. postfix_rest at l x operator) b c
     → EmitsValue names l (PostfixElement x j operator) a c
@@ -151,7 +151,7 @@ emits_postfix_element names l x j operator a b c h k =
 
 -- ---- assignments
 
-pub emits_set : (names : Names) (l : ℕ) (keeps : Bool) (x : variables.Variable) (operator : AssignOperator)
+pub emits_set : (names : Numbered) (l : ℕ) (keeps : Bool) (x : variables.Variable) (operator : AssignOperator)
     (e : ResolvedExpressionTree) (a b c : Written)
     → None ≡ compound_of operator → EmitsValue names l e a b → Puts l (i.Store (place_of names.slots x) keeps) b c
     → EmitsRow names (λ at. assignment at l keeps x operator e) a c
@@ -159,7 +159,7 @@ emits_set names l keeps x operator e a b c is h k =
     subst (λ z. EmitsRow names (λ at. assigned at l keeps x z (value at l e)) a c) is
     (emits_put names (λ at. value at l e) l (i.Store (place_of names.slots x) keeps) a b c h k)
 
-pub emits_compound : (names : Names) (l : ℕ) (keeps : Bool) (x : variables.Variable) (operator : AssignOperator)
+pub emits_compound : (names : Numbered) (l : ℕ) (keeps : Bool) (x : variables.Variable) (operator : AssignOperator)
     (o : machine.BinaryOperator)
     (e : ResolvedExpressionTree) (a b c d f : Written)
     → Some o ≡ compound_of operator → Puts l (i.Load (place_of names.slots x)) a b → EmitsValue names l e b c
@@ -179,7 +179,7 @@ emits_compound names l keeps x operator o e a b c d f is h1 h2 h3 h4 =
     (goes_put names n l (i.Binary o) r4 c d f h3
     (goes_put names n l (i.Store at_x keeps) (λ done at. end) d f f h4 (goes_end n f)))))
 
-pub emits_set_element : (names : Names) (l : ℕ) (keeps : Bool) (x : variables.Variable) (operator : AssignOperator)
+pub emits_set_element : (names : Numbered) (l : ℕ) (keeps : Bool) (x : variables.Variable) (operator : AssignOperator)
     (e : ResolvedExpressionTree)
     (a b c : Written)
     → None ≡ compound_of operator → EmitsValue names l e a b
@@ -189,7 +189,7 @@ emits_set_element names l keeps x operator e a b c is h k =
     subst (λ z. EmitsRow names (λ at. element_rest at l keeps x z (value at l e)) a c) is
     (emits_put names (λ at. value at l e) l (i.StoreElement (place_of names.slots x) keeps) a b c h k)
 
-pub emits_compound_element : (names : Names) (l : ℕ) (keeps : Bool) (x : variables.Variable)
+pub emits_compound_element : (names : Numbered) (l : ℕ) (keeps : Bool) (x : variables.Variable)
     (operator : AssignOperator) (o : machine.BinaryOperator)
     (e : ResolvedExpressionTree) (a b c d f g : Written)
     → Some o ≡ compound_of operator → Puts l i.Duplicate a b → Puts l (i.LoadElement (place_of names.slots x)) b c
@@ -214,22 +214,22 @@ emits_compound_element names l keeps x operator o e a b c d f g is h1 h2 h3 h4 h
 
 -- ---- another name for the tree
 
-pub value_is : (names : Names) (l : ℕ) (x y : ResolvedExpressionTree) (a c : Written) → x ≡ y
+pub value_is : (names : Numbered) (l : ℕ) (x y : ResolvedExpressionTree) (a c : Written) → x ≡ y
     → EmitsValue names l x a c → EmitsValue names l y a c
 value_is names l x y a c is e = subst (λ z. EmitsValue names l z a c) is e
 
-pub effect_is : (names : Names) (l : ℕ) (x y : ResolvedExpressionTree) (a c : Written) → x ≡ y
+pub effect_is : (names : Numbered) (l : ℕ) (x y : ResolvedExpressionTree) (a c : Written) → x ≡ y
     → EmitsEffect names l x a c → EmitsEffect names l y a c
 effect_is names l x y a c is e = subst (λ z. EmitsEffect names l z a c) is e
 
 -- under the target as it was made
-pub target_is : (names : Names) (l : ℕ) (e : ResolvedExpressionTree) (t u : Target) (a c : Written)
+pub target_is : (names : Numbered) (l : ℕ) (e : ResolvedExpressionTree) (t u : Target) (a c : Written)
     → t ≡ u → EmitsRow names (λ at. assignment_rest at l t.keeps t.variable t.operator e) a c
     → EmitsRow names (λ at. assignment_rest at l u.keeps u.variable u.operator e) a c
 target_is names l e t u a c is h =
     subst (λ z. EmitsRow names (λ at. assignment_rest at l z.keeps z.variable z.operator e) a c) is h
 
-pub stepped_is : (names : Names) (l : ℕ) (t u : Stepped) (a c : Written)
+pub stepped_is : (names : Numbered) (l : ℕ) (t u : Stepped) (a c : Written)
     → t ≡ u → EmitsRow names (λ at. stepped_rest at l t.keeps t.variable t.operator) a c
     → EmitsRow names (λ at. stepped_rest at l u.keeps u.variable u.operator) a c
 stepped_is names l t u a c is h =

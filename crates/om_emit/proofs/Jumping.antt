@@ -10,10 +10,10 @@ use Rattle.om_resolved.specs.ResolvedTree.{ResolvedExpressionTree, Conditional}
 use Rattle.om_rows.specs.Expressions.{value}
 use Rattle.om_rows.specs.Operators.{Both, Either}
 use Rattle.om_rows.specs.Rows.{end, ins, part, here, ◌▸◌}
-use Rattle.om_tables.specs.Names.{Names}
+use Rattle.om_tables.specs.Numbered.{Numbered}
 
 -- behind the left operand of `a && b`
-pub emits_both : (names : Names) (l : ℕ) (y : ResolvedExpressionTree) (f e : ℕ)
+pub emits_both : (names : Numbered) (l : ℕ) (y : ResolvedExpressionTree) (f e : ℕ)
     (s0 s1 s2 s3 s4 s5 s6 s7 s8 s9 s10 : Written)
     → Fresh f s0 s1 → Fresh e s1 s2 → Puts l (i.JumpIfZero f) s2 s3 → EmitsValue names l y s3 s4
     → Puts l (i.JumpIfZero f) s4 s5 → Puts l (i.Constant (pos 1)) s5 s6 → Puts l (i.Jump e) s6 s7
@@ -47,7 +47,7 @@ emits_both names l y f e s0 s1 s2 s3 s4 s5 s6 s7 s8 s9 s10
     (goes_end n s10)))))))))))
 
 -- behind the left operand of `a || b`
-pub emits_either : (names : Names) (l : ℕ) (y : ResolvedExpressionTree) (k f e : ℕ)
+pub emits_either : (names : Numbered) (l : ℕ) (y : ResolvedExpressionTree) (k f e : ℕ)
     (s0 s1 s2 s3 s4 s5 s6 s7 s8 s9 s10 s11 s12 s13 s14 : Written)
     → Fresh k s0 s1 → Fresh f s1 s2 → Fresh e s2 s3 → Puts l (i.JumpIfZero k) s3 s4
     → Puts l (i.Constant (pos 1)) s4 s5 → Puts l (i.Jump e) s5 s6 → Defines k s6 s7
@@ -93,7 +93,7 @@ emits_either names l y k f e s0 s1 s2 s3 s4 s5 s6 s7 s8 s9 s10 s11 s12 s13 s14
     (goes_end n s14)))))))))))))))
 
 -- `c ? a : b`
-pub emits_conditional : (names : Names) (l : ℕ) (x y z : ResolvedExpressionTree) (f e : ℕ)
+pub emits_conditional : (names : Numbered) (l : ℕ) (x y z : ResolvedExpressionTree) (f e : ℕ)
     (s0 s1 s2 s3 s4 s5 s6 s7 s8 s9 : Written)
     → Fresh f s0 s1 → Fresh e s1 s2 → EmitsValue names l x s2 s3 → Puts l (i.JumpIfZero f) s3 s4
     → EmitsValue names l y s4 s5 → Puts l (i.Jump e) s5 s6 → Defines f s6 s7 → EmitsValue names l z s7 s8

@@ -12,23 +12,23 @@ use Rattle.om_rows.specs.Expressions.{assigned, constant, stepped_back}
 use Rattle.om_rows.specs.Operators.{step_of, inverse_step_of}
 use Rattle.om_rows.specs.Rows.{end, ins, part, ◌▸◌}
 use Rattle.om_rows.specs.Slots.{place_of}
-use Rattle.om_tables.specs.Names.{Names}
+use Rattle.om_tables.specs.Numbered.{Numbered}
 use Rattle.om_tree.specs.declared.tree.PostfixOperator.{PostfixOperator}
 
 -- one instruction
-pub emits_one : (names : Names) (l : ℕ) (x : Instr) (a b : Written) → Puts l x a b
+pub emits_one : (names : Numbered) (l : ℕ) (x : Instr) (a b : Written) → Puts l x a b
     → Emits (λ done at. ins (site names done) l (moved at x) ▸ end) a b
 emits_one names l x a b h = goes_put names (length a.places) l x (λ done at. end) a b b h (goes_end
     (length a.places) b)
 
 -- the number as it was read
-pub emits_constant : (names : Names) (l : ℕ) (c read : ℤ) (a b : Written) → read ≡ c → Puts l (i.Constant read) a b
+pub emits_constant : (names : Numbered) (l : ℕ) (c read : ℤ) (a b : Written) → read ≡ c → Puts l (i.Constant read) a b
     → EmitsRow names (λ at. constant at l c) a b
 emits_constant names l c read a b is h =
     subst (λ z. EmitsRow names (λ at. constant at l z) a b) is (emits_one names l (i.Constant read) a b h)
 
 -- one instruction, which is a part
-goes_constant : (names : Names) (n l : ℕ) (c : ℤ) (r : Part) (a b d : Written) → Puts l (i.Constant c) a b
+goes_constant : (names : Numbered) (n l : ℕ) (c : ℤ) (r : Part) (a b d : Written) → Puts l (i.Constant c) a b
     → Goes n r b d
     → Goes n (λ done at. part (constant (site names done) l c) ▸ r done at) a d
 goes_constant names n l c r a b d h g =
@@ -37,7 +37,7 @@ goes_constant names n l c r a b d h g =
     (goes_put names n l (i.Constant c) r a b d h g)
 
 -- CONST 1, BIN
-emits_stepped_back : (names : Names) (l : ℕ) (o : machine.BinaryOperator) (a b c : Written)
+emits_stepped_back : (names : Numbered) (l : ℕ) (o : machine.BinaryOperator) (a b c : Written)
     → Puts l (i.Constant (pos 1)) a b → Puts l (i.Binary o) b c
     → EmitsRow names (λ at. stepped_back at l o) a c
 emits_stepped_back names l o a b c h1 h2 =
@@ -46,7 +46,7 @@ emits_stepped_back names l o a b c h1 h2 =
     (goes_put names n l (i.Binary o) (λ done at. end) b c c h2 (goes_end n c))
 
 -- LOAD, CONST 1, BIN, STORE
-emits_step : (names : Names) (l : ℕ) (keeps : Bool) (x : variables.Variable) (o : machine.BinaryOperator)
+emits_step : (names : Numbered) (l : ℕ) (keeps : Bool) (x : variables.Variable) (o : machine.BinaryOperator)
     (a b c d e : Written)
     → Puts l (i.Load (place_of names.slots x)) a b → Puts l (i.Constant (pos 1)) b c → Puts l (i.Binary o) c d
     → Puts l (i.Store (place_of names.slots x) keeps) d e
@@ -63,7 +63,7 @@ emits_step names l keeps x o a b c d e h1 h2 h3 h4 =
     (goes_put names n l (i.Store at_x keeps) (λ done at. end) d e e h4 (goes_end n e))))
 
 -- DUP, LOADX, CONST 1, BIN, STOREX
-emits_step_element : (names : Names) (l : ℕ) (keeps : Bool) (x : variables.Variable) (o : machine.BinaryOperator)
+emits_step_element : (names : Numbered) (l : ℕ) (keeps : Bool) (x : variables.Variable) (o : machine.BinaryOperator)
     (a b c d e f : Written)
     → Puts l i.Duplicate a b → Puts l (i.LoadElement (place_of names.slots x)) b c → Puts l (i.Constant (pos 1)) c d
     → Puts l (i.Binary o) d e → Puts l (i.StoreElement (place_of names.slots x) keeps) e f
@@ -82,7 +82,7 @@ emits_step_element names l keeps x o a b c d e f h1 h2 h3 h4 h5 =
     (goes_put names n l (i.StoreElement at_x keeps) (λ done at. end) e f f h5 (goes_end n f)))))
 
 -- the operator as it was looked up
-pub emits_stepped : (names : Names) (l : ℕ) (keeps : Bool) (x : variables.Variable) (operator : PostfixOperator)
+pub emits_stepped : (names : Numbered) (l : ℕ) (keeps : Bool) (x : variables.Variable) (operator : PostfixOperator)
     (o : machine.BinaryOperator)
     (a b c d e : Written) → o ≡ step_of operator
     → Puts l (i.Load (place_of names.slots x)) a b → Puts l (i.Constant (pos 1)) b c → Puts l (i.Binary o) c d
@@ -92,7 +92,7 @@ emits_stepped names l keeps x operator o a b c d e is h1 h2 h3 h4 =
     subst (λ z. EmitsRow names (λ at. assigned at l keeps x (Some z) (constant at l (pos 1))) a e) is
     (emits_step names l keeps x o a b c d e h1 h2 h3 h4)
 
-pub emits_stepped_element : (names : Names) (l : ℕ) (keeps : Bool) (x : variables.Variable)
+pub emits_stepped_element : (names : Numbered) (l : ℕ) (keeps : Bool) (x : variables.Variable)
     (operator : PostfixOperator) (o : machine.BinaryOperator)
     (a b c d e f : Written) → o ≡ step_of operator
     → Puts l i.Duplicate a b → Puts l (i.LoadElement (place_of names.slots x)) b c → Puts l (i.Constant (pos 1)) c d
@@ -102,7 +102,7 @@ emits_stepped_element names l keeps x operator o a b c d e f is h1 h2 h3 h4 h5 =
     subst (λ z. EmitsRow names (λ at. element_rest at l keeps x (Some z) (constant at l (pos 1))) a f) is
     (emits_step_element names l keeps x o a b c d e f h1 h2 h3 h4 h5)
 
-pub emits_old : (names : Names) (l : ℕ) (operator : PostfixOperator) (o : machine.BinaryOperator)
+pub emits_old : (names : Numbered) (l : ℕ) (operator : PostfixOperator) (o : machine.BinaryOperator)
     (a b c : Written) → o ≡ inverse_step_of operator
     → Puts l (i.Constant (pos 1)) a b → Puts l (i.Binary o) b c
     → EmitsRow names (λ at. stepped_back at l (inverse_step_of operator)) a c

@@ -5,7 +5,7 @@ use Rattle.om_code.specs.declared.raw.Line.{Line}
 use Rattle.om_resolved.specs.ResolvedTree.{ResolvedExpressionTree, ValuesTree}
 use Rattle.om_rows.specs.Expressions.{value, values, effect}
 use Rattle.om_rows.specs.Rows.{Site, Row}
-use Rattle.om_tables.specs.Names.{Names, site_with}
+use Rattle.om_tables.specs.Numbered.{Numbered, site_with}
 use Rattle.om_emit.specs.declared.draft.Pick.{Pick}
 use Rattle.om_emit.specs.Drafts.{Labels, Written, settled}
 
@@ -17,7 +17,7 @@ pub record Finished : Type 0 where
   pub picks : List (List ℕ)
 
 -- where code stands in the end
-abbrev pub site : Names → Finished → Site
+abbrev pub site : Numbered → Finished → Site
 site names done = site_with names done.code done.picks
 
 -- a row, by what is finished and where the labels stand
@@ -64,16 +64,16 @@ abbrev pub Emits : Part → Written → Written → Type 0
 Emits r old new = Goes (length old.places) r old new
 
 -- a row that names no label from before it
-abbrev pub EmitsRow : Names → (Site → Row) → Written → Written → Type 0
+abbrev pub EmitsRow : Numbered → (Site → Row) → Written → Written → Type 0
 EmitsRow names row = Emits (λ done at. row (site names done))
 
 -- ---- expressions
 
-abbrev pub EmitsValue : Names → ℕ → ResolvedExpressionTree → Written → Written → Type 0
+abbrev pub EmitsValue : Numbered → ℕ → ResolvedExpressionTree → Written → Written → Type 0
 EmitsValue names l e = EmitsRow names (λ at. value at l e)
 
-abbrev pub EmitsValues : Names → ℕ → ValuesTree → Written → Written → Type 0
+abbrev pub EmitsValues : Numbered → ℕ → ValuesTree → Written → Written → Type 0
 EmitsValues names l es = EmitsRow names (λ at. values at l es)
 
-abbrev pub EmitsEffect : Names → ℕ → ResolvedExpressionTree → Written → Written → Type 0
+abbrev pub EmitsEffect : Numbered → ℕ → ResolvedExpressionTree → Written → Written → Type 0
 EmitsEffect names l e = EmitsRow names (λ at. effect at l e)

@@ -8,7 +8,7 @@ use Rattle.om_code.specs.declared.instruction.Instr.{Instr}
 use Rattle.om_emit.specs.Drafts.{Labels, Written, moved, Puts, Fresh, Defines}
 use Rattle.om_emit.specs.declared.draft.Pick.{Pick}
 use Rattle.om_emit.specs.Emits.{Finished, Part, site, Fits, Grows, Keeps, Goes, Emits}
-use Rattle.om_tables.specs.Names.{Names}
+use Rattle.om_tables.specs.Numbered.{Numbered}
 use Rattle.om_rows.specs.Rows.{end, ins, part, here}
 
 -- ---- lists
@@ -134,7 +134,7 @@ keeps_put n l x a b h = record {
 }
 
 -- an instruction
-pub goes_put : (names : Names) (n l : ℕ) (x : Instr) (r : Part) (a b c : Written) → Puts l x a b
+pub goes_put : (names : Numbered) (n l : ℕ) (x : Instr) (r : Part) (a b c : Written) → Puts l x a b
     → Goes n r b c
     → Goes n (λ done at. ins (site names done) l (moved at x) (r done at)) a c
 goes_put names n l x r a b c h g = record {

@@ -8,7 +8,7 @@ ghost use Rattle.om_resolved.specs.ResolvedView.{view_resolved_expression};
 ghost use Rattle.om_rows.specs.Coded.{CallHasCode, ValueHasCode, ValuesHaveCode};
 ghost use Rattle.om_rows.specs.Operators.{Both, Either, form_of};
 ghost use Rattle.om_rows.specs.Rows.{Site};
-ghost use Rattle.om_tables.specs.Scopes.{names_of};
+ghost use Rattle.om_tables.specs.BodyTables.{numbered_by};
 
 use crate::draft::Draft;
 use crate::operator::{Form, compound_of, form_of};
@@ -17,7 +17,7 @@ use crate::single::{
 };
 use om_code::Instr;
 use om_resolved::{ResolvedExpression, UnaryOperator, Variable};
-use om_tables::Scope;
+use om_tables::BodyTables;
 use om_tree::AssignOperator;
 use std::alloc::AllocError;
 
@@ -36,35 +36,35 @@ pub(crate) struct Target {
 #[cycle(expression)]
 pub fn value(
     draft: &mut Draft,
-    scope: &Scope<'_>,
+    tables: &BodyTables<'_>,
     line: u32,
     e: &ResolvedExpression,
 ) -> Result<(), AllocError>
     requires coded { ValueHasCode (view_resolved_expression e.now) }
     ensures { let tree = view_resolved_expression e.now in
-        OnOk result (EmitsValue (names_of scope.now) line tree draft.old draft.new) }
+        OnOk result (EmitsValue (numbered_by tables.now) line tree draft.old draft.new) }
 {
     match e {
         ResolvedExpression::Constant(number) => draft.put(line, Instr::Constant(*number)),
-        ResolvedExpression::Variable(variable) => load(draft, scope, line, *variable),
-        ResolvedExpression::Element { array, index } => element(draft, scope, line, *array, index),
+        ResolvedExpression::Variable(variable) => load(draft, tables, line, *variable),
+        ResolvedExpression::Element { array, index } => element(draft, tables, line, *array, index),
         ResolvedExpression::Call {
             function,
             values: arguments,
-        } => { used_call(draft, scope, line, *function, arguments.as_slice()) }
+        } => { used_call(draft, tables, line, *function, arguments.as_slice()) }
         ResolvedExpression::ThreadNumber => draft.put(line, Instr::ThreadNumber),
         ResolvedExpression::TeamSize => draft.put(line, Instr::TeamSize),
         ResolvedExpression::Print { .. } => unreachable!(),
         ResolvedExpression::Unary { operator, operand } => {
-            unary(draft, scope, line, *operator, operand)
+            unary(draft, tables, line, *operator, operand)
         }
         ResolvedExpression::Binary {
             left,
             operator,
             right,
         } => {
-            value(draft, scope, line, left)?;
-            binary_end(draft, scope, line, *operator, right)?;
+            value(draft, tables, line, left)?;
+            binary_end(draft, tables, line, *operator, right)?;
             Ok(())
         }
         ResolvedExpression::Conditional {
@@ -74,12 +74,12 @@ pub fn value(
         } => {
             let otherwise = draft.fresh()?;
             let end = draft.fresh()?;
-            value(draft, scope, line, condition)?;
+            value(draft, tables, line, condition)?;
             draft.put(line, Instr::JumpIfZero(otherwise))?;
-            value(draft, scope, line, then)?;
+            value(draft, tables, line, then)?;
             draft.put(line, Instr::Jump(end))?;
             draft.define(otherwise);
-            value(draft, scope, line, other)?;
+            value(draft, tables, line, other)?;
             draft.define(end);
             Ok(())
         }
@@ -87,27 +87,27 @@ pub fn value(
             variable,
             operator,
             value: e,
-        } => { assign(draft, scope, line, kept(*variable, *operator), e) }
+        } => { assign(draft, tables, line, kept(*variable, *operator), e) }
         ResolvedExpression::AssignElement {
             array,
             index,
             operator,
             value: e,
         } => {
-            value(draft, scope, line, index)?;
-            assign_element(draft, scope, line, kept(*array, *operator), e)?;
+            value(draft, tables, line, index)?;
+            assign_element(draft, tables, line, kept(*array, *operator), e)?;
             Ok(())
         }
         ResolvedExpression::Postfix { variable, operator } => {
-            postfix(draft, scope, line, *variable, *operator)
+            postfix(draft, tables, line, *variable, *operator)
         }
         ResolvedExpression::PostfixElement {
             array,
             index,
             operator,
         } => {
-            value(draft, scope, line, index)?;
-            postfix_element(draft, scope, line, *array, *operator)?;
+            value(draft, tables, line, index)?;
+            postfix_element(draft, tables, line, *array, *operator)?;
             Ok(())
         }
     }
@@ -128,16 +128,16 @@ fn kept(variable: Variable, operator: AssignOperator) -> Target
 #[cycle(expression)]
 pub fn values(
     draft: &mut Draft,
-    scope: &Scope<'_>,
+    tables: &BodyTables<'_>,
     line: u32,
     es: &[ResolvedExpression],
 ) -> Result<(), AllocError>
     requires { ValuesHaveCode (trees.values (map view_resolved_expression es.now)) }
     ensures { let tree = trees.values (map view_resolved_expression es.now) in
-        OnOk result (EmitsValues (names_of scope.now) line tree draft.old draft.new) }
+        OnOk result (EmitsValues (numbered_by tables.now) line tree draft.old draft.new) }
 {
     for e in es {
-        value(draft, scope, line, e)?;
+        value(draft, tables, line, e)?;
     }
     Ok(())
 }
@@ -146,17 +146,17 @@ pub fn values(
 #[cycle(expression)]
 fn element(
     draft: &mut Draft,
-    scope: &Scope<'_>,
+    tables: &BodyTables<'_>,
     line: u32,
     array: Variable,
     index: &ResolvedExpression,
 ) -> Result<(), AllocError>
     requires { ValueHasCode (view_resolved_expression index.now) }
     ensures { let tree = trees.Element array (view_resolved_expression index.now) in
-        OnOk result (EmitsValue (names_of scope.now) line tree draft.old draft.new) }
+        OnOk result (EmitsValue (numbered_by tables.now) line tree draft.old draft.new) }
 {
-    value(draft, scope, line, index)?;
-    load_element(draft, scope, line, array)?;
+    value(draft, tables, line, index)?;
+    load_element(draft, tables, line, array)?;
     Ok(())
 }
 
@@ -172,7 +172,7 @@ pub(crate) fn count_of(arguments: &[ResolvedExpression]) -> u16
 #[cycle(expression)]
 pub(crate) fn call(
     draft: &mut Draft,
-    scope: &Scope<'_>,
+    tables: &BodyTables<'_>,
     line: u32,
     function: usize,
     arguments: &[ResolvedExpression],
@@ -180,11 +180,11 @@ pub(crate) fn call(
     requires { CallHasCode (trees.values (map view_resolved_expression arguments.now)) }
     ensures { let tree = trees.values (map view_resolved_expression arguments.now) in
         let row = λ (at : Site). rows.call at line function tree in
-        OnOk result (EmitsRow (names_of scope.now) row draft.old draft.new) }
+        OnOk result (EmitsRow (numbered_by tables.now) row draft.old draft.new) }
 {
-    let body = scope.called_body(function);
+    let body = tables.called_body(function);
     let count = count_of(arguments);
-    values(draft, scope, line, arguments)?;
+    values(draft, tables, line, arguments)?;
     let values = count;
     draft.put(line, Instr::Call { body, values })?;
     Ok(())
@@ -194,7 +194,7 @@ pub(crate) fn call(
 #[cycle(expression)]
 fn used_call(
     draft: &mut Draft,
-    scope: &Scope<'_>,
+    tables: &BodyTables<'_>,
     line: u32,
     function: usize,
     arguments: &[ResolvedExpression],
@@ -202,9 +202,9 @@ fn used_call(
     requires { CallHasCode (trees.values (map view_resolved_expression arguments.now)) }
     ensures { let tree = trees.Call function
         (trees.values (map view_resolved_expression arguments.now)) in
-        OnOk result (EmitsValue (names_of scope.now) line tree draft.old draft.new) }
+        OnOk result (EmitsValue (numbered_by tables.now) line tree draft.old draft.new) }
 {
-    call(draft, scope, line, function, arguments)?;
+    call(draft, tables, line, function, arguments)?;
     draft.put(line, Instr::Use)?;
     Ok(())
 }
@@ -213,16 +213,16 @@ fn used_call(
 #[cycle(expression)]
 fn unary(
     draft: &mut Draft,
-    scope: &Scope<'_>,
+    tables: &BodyTables<'_>,
     line: u32,
     operator: UnaryOperator,
     operand: &ResolvedExpression,
 ) -> Result<(), AllocError>
     requires { ValueHasCode (view_resolved_expression operand.now) }
     ensures { let tree = trees.Unary operator (view_resolved_expression operand.now) in
-        OnOk result (EmitsValue (names_of scope.now) line tree draft.old draft.new) }
+        OnOk result (EmitsValue (numbered_by tables.now) line tree draft.old draft.new) }
 {
-    value(draft, scope, line, operand)?;
+    value(draft, tables, line, operand)?;
     unary_end(draft, line, operator)?;
     Ok(())
 }
@@ -231,7 +231,7 @@ fn unary(
 #[cycle(expression)]
 fn binary_end(
     draft: &mut Draft,
-    scope: &Scope<'_>,
+    tables: &BodyTables<'_>,
     line: u32,
     operator: om_tree::BinaryOperator,
     right: &ResolvedExpression,
@@ -239,13 +239,13 @@ fn binary_end(
     requires { ValueHasCode (view_resolved_expression right.now) }
     ensures { let tree = view_resolved_expression right.now in
         let row = λ (at : Site). rows.binary_rest at line (form_of operator) tree in
-        OnOk result (EmitsRow (names_of scope.now) row draft.old draft.new) }
+        OnOk result (EmitsRow (numbered_by tables.now) row draft.old draft.new) }
 {
     match form_of(operator) {
-        Form::Both => both_end(draft, scope, line, right),
-        Form::Either => either_end(draft, scope, line, right),
+        Form::Both => both_end(draft, tables, line, right),
+        Form::Either => either_end(draft, tables, line, right),
         Form::Plain(operator) => {
-            value(draft, scope, line, right)?;
+            value(draft, tables, line, right)?;
             draft.put(line, Instr::Binary(operator))?;
             Ok(())
         }
@@ -256,19 +256,19 @@ fn binary_end(
 #[cycle(expression)]
 fn both_end(
     draft: &mut Draft,
-    scope: &Scope<'_>,
+    tables: &BodyTables<'_>,
     line: u32,
     right: &ResolvedExpression,
 ) -> Result<(), AllocError>
     requires { ValueHasCode (view_resolved_expression right.now) }
     ensures { let row = λ (at : Site).
         rows.binary_rest at line Both (view_resolved_expression right.now) in
-        OnOk result (EmitsRow (names_of scope.now) row draft.old draft.new) }
+        OnOk result (EmitsRow (numbered_by tables.now) row draft.old draft.new) }
 {
     let not_both = draft.fresh()?;
     let end = draft.fresh()?;
     draft.put(line, Instr::JumpIfZero(not_both))?;
-    value(draft, scope, line, right)?;
+    value(draft, tables, line, right)?;
     draft.put(line, Instr::JumpIfZero(not_both))?;
     draft.put(line, Instr::Constant(1))?;
     draft.put(line, Instr::Jump(end))?;
@@ -282,14 +282,14 @@ fn both_end(
 #[cycle(expression)]
 fn either_end(
     draft: &mut Draft,
-    scope: &Scope<'_>,
+    tables: &BodyTables<'_>,
     line: u32,
     right: &ResolvedExpression,
 ) -> Result<(), AllocError>
     requires { ValueHasCode (view_resolved_expression right.now) }
     ensures { let row = λ (at : Site).
         rows.binary_rest at line Either (view_resolved_expression right.now) in
-        OnOk result (EmitsRow (names_of scope.now) row draft.old draft.new) }
+        OnOk result (EmitsRow (numbered_by tables.now) row draft.old draft.new) }
 {
     let next = draft.fresh()?;
     let neither = draft.fresh()?;
@@ -298,7 +298,7 @@ fn either_end(
     draft.put(line, Instr::Constant(1))?;
     draft.put(line, Instr::Jump(end))?;
     draft.define(next);
-    value(draft, scope, line, right)?;
+    value(draft, tables, line, right)?;
     draft.put(line, Instr::JumpIfZero(neither))?;
     draft.put(line, Instr::Constant(1))?;
     draft.put(line, Instr::Jump(end))?;
@@ -312,7 +312,7 @@ fn either_end(
 #[cycle(expression)]
 pub(crate) fn assign(
     draft: &mut Draft,
-    scope: &Scope<'_>,
+    tables: &BodyTables<'_>,
     line: u32,
     target: Target,
     e: &ResolvedExpression,
@@ -321,19 +321,19 @@ pub(crate) fn assign(
     ensures { let tree = view_resolved_expression e.now in
         let row = λ (at : Site). rows.assignment at line target.keeps target.variable
         target.operator tree in
-        OnOk result (EmitsRow (names_of scope.now) row draft.old draft.new) }
+        OnOk result (EmitsRow (numbered_by tables.now) row draft.old draft.new) }
 {
     match compound_of(target.operator) {
         None => {
-            value(draft, scope, line, e)?;
-            store(draft, scope, line, target.variable, target.keeps)?;
+            value(draft, tables, line, e)?;
+            store(draft, tables, line, target.variable, target.keeps)?;
             Ok(())
         }
         Some(operator) => {
-            load(draft, scope, line, target.variable)?;
-            value(draft, scope, line, e)?;
+            load(draft, tables, line, target.variable)?;
+            value(draft, tables, line, e)?;
             draft.put(line, Instr::Binary(operator))?;
-            store(draft, scope, line, target.variable, target.keeps)?;
+            store(draft, tables, line, target.variable, target.keeps)?;
             Ok(())
         }
     }
@@ -343,7 +343,7 @@ pub(crate) fn assign(
 #[cycle(expression)]
 pub(crate) fn assign_element(
     draft: &mut Draft,
-    scope: &Scope<'_>,
+    tables: &BodyTables<'_>,
     line: u32,
     target: Target,
     e: &ResolvedExpression,
@@ -353,20 +353,20 @@ pub(crate) fn assign_element(
         let row =
         λ (at : Site). rows.assignment_rest at line target.keeps target.variable target.operator
         tree in
-        OnOk result (EmitsRow (names_of scope.now) row draft.old draft.new) }
+        OnOk result (EmitsRow (numbered_by tables.now) row draft.old draft.new) }
 {
     match compound_of(target.operator) {
         None => {
-            value(draft, scope, line, e)?;
-            store_element(draft, scope, line, target.variable, target.keeps)?;
+            value(draft, tables, line, e)?;
+            store_element(draft, tables, line, target.variable, target.keeps)?;
             Ok(())
         }
         Some(operator) => {
             draft.put(line, Instr::Duplicate)?;
-            load_element(draft, scope, line, target.variable)?;
-            value(draft, scope, line, e)?;
+            load_element(draft, tables, line, target.variable)?;
+            value(draft, tables, line, e)?;
             draft.put(line, Instr::Binary(operator))?;
-            store_element(draft, scope, line, target.variable, target.keeps)?;
+            store_element(draft, tables, line, target.variable, target.keeps)?;
             Ok(())
         }
     }

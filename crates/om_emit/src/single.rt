@@ -10,14 +10,14 @@ ghost use Rattle.om_rows.specs.Expressions.{stepped_back};
 ghost use Rattle.om_rows.specs.Operators.{inverse_step_of};
 ghost use Rattle.om_rows.specs.Rows.{Site};
 ghost use Rattle.om_rows.specs.Slots.{place_of};
-ghost use Rattle.om_tables.specs.Names.{Names};
-ghost use Rattle.om_tables.specs.Scopes.{names_of};
+ghost use Rattle.om_tables.specs.BodyTables.{numbered_by};
+ghost use Rattle.om_tables.specs.Numbered.{Numbered};
 
 use crate::draft::Draft;
 use crate::operator::{inverse_step_of, step_of};
 use om_code::{Instr, instruction};
 use om_resolved::{UnaryOperator, Variable};
-use om_tables::Scope;
+use om_tables::BodyTables;
 use om_tree::PostfixOperator;
 use std::alloc::AllocError;
 
@@ -33,58 +33,58 @@ pub(crate) struct Stepped {
 /// Loads a variable. Its only error is out of memory.
 pub fn load(
     draft: &mut Draft,
-    scope: &Scope<'_>,
+    tables: &BodyTables<'_>,
     line: u32,
     variable: Variable,
 ) -> Result<(), AllocError>
-    ensures { let place = place_of (names_of scope.now).slots variable in
+    ensures { let place = place_of (numbered_by tables.now).slots variable in
         OnOk result (Puts line (i.Load place) draft.old draft.new) }
 {
-    let place = scope.place(variable);
+    let place = tables.place(variable);
     draft.put(line, Instr::Load(place))
 }
 
 /// Loads the element of an array whose index is on top.
 pub(crate) fn load_element(
     draft: &mut Draft,
-    scope: &Scope<'_>,
+    tables: &BodyTables<'_>,
     line: u32,
     array: Variable,
 ) -> Result<(), AllocError>
-    ensures { let place = place_of (names_of scope.now).slots array in
+    ensures { let place = place_of (numbered_by tables.now).slots array in
         OnOk result (Puts line (i.LoadElement place) draft.old draft.new) }
 {
-    let place = scope.place(array);
+    let place = tables.place(array);
     draft.put(line, Instr::LoadElement(place))
 }
 
 /// Stores the value on top in a variable; `keeps` says whether it is left. Its only error is out of memory.
 pub fn store(
     draft: &mut Draft,
-    scope: &Scope<'_>,
+    tables: &BodyTables<'_>,
     line: u32,
     variable: Variable,
     keeps: bool,
 ) -> Result<(), AllocError>
-    ensures { let place = place_of (names_of scope.now).slots variable in
+    ensures { let place = place_of (numbered_by tables.now).slots variable in
         OnOk result (Puts line (i.Store place keeps) draft.old draft.new) }
 {
-    let place = scope.place(variable);
+    let place = tables.place(variable);
     draft.put(line, Instr::Store { place, keeps })
 }
 
 /// Stores the value on top in the element whose index lies below it; `keeps` says whether it is left.
 pub(crate) fn store_element(
     draft: &mut Draft,
-    scope: &Scope<'_>,
+    tables: &BodyTables<'_>,
     line: u32,
     array: Variable,
     keeps: bool,
 ) -> Result<(), AllocError>
-    ensures { let place = place_of (names_of scope.now).slots array in
+    ensures { let place = place_of (numbered_by tables.now).slots array in
         OnOk result (Puts line (i.StoreElement place keeps) draft.old draft.new) }
 {
-    let place = scope.place(array);
+    let place = tables.place(array);
     draft.put(line, Instr::StoreElement { place, keeps })
 }
 
@@ -94,7 +94,7 @@ pub(crate) fn unary_end(
     line: u32,
     operator: UnaryOperator,
 ) -> Result<(), AllocError>
-    ensures { (names : Names)
+    ensures { (names : Numbered)
         → OnOk result
         (EmitsRow names (λ at. rows.unary_rest at line operator) draft.old draft.new) }
 {
@@ -114,44 +114,44 @@ pub(crate) fn unary_end(
 /// `x++` or `x--`, as `x += 1` or `x -= 1` (C17 6.5.2.4).
 pub(crate) fn step(
     draft: &mut Draft,
-    scope: &Scope<'_>,
+    tables: &BodyTables<'_>,
     line: u32,
     target: Stepped,
 ) -> Result<(), AllocError>
     ensures { let row = λ (at : Site).
         rows.stepped at line target.keeps target.variable target.operator in
-        OnOk result (EmitsRow (names_of scope.now) row draft.old draft.new) }
+        OnOk result (EmitsRow (numbered_by tables.now) row draft.old draft.new) }
 {
-    load(draft, scope, line, target.variable)?;
+    load(draft, tables, line, target.variable)?;
     draft.put(line, Instr::Constant(1))?;
     draft.put(line, Instr::Binary(step_of(target.operator)))?;
-    store(draft, scope, line, target.variable, target.keeps)?;
+    store(draft, tables, line, target.variable, target.keeps)?;
     Ok(())
 }
 
 /// `a[j]++` or `a[j]--`, as `a[j] += 1` or `a[j] -= 1`, behind the index.
 pub(crate) fn step_element(
     draft: &mut Draft,
-    scope: &Scope<'_>,
+    tables: &BodyTables<'_>,
     line: u32,
     target: Stepped,
 ) -> Result<(), AllocError>
     ensures { let row =
         λ (at : Site). rows.stepped_rest at line target.keeps target.variable target.operator in
-        OnOk result (EmitsRow (names_of scope.now) row draft.old draft.new) }
+        OnOk result (EmitsRow (numbered_by tables.now) row draft.old draft.new) }
 {
     draft.put(line, Instr::Duplicate)?;
-    load_element(draft, scope, line, target.variable)?;
+    load_element(draft, tables, line, target.variable)?;
     draft.put(line, Instr::Constant(1))?;
     draft.put(line, Instr::Binary(step_of(target.operator)))?;
-    store_element(draft, scope, line, target.variable, target.keeps)?;
+    store_element(draft, tables, line, target.variable, target.keeps)?;
     Ok(())
 }
 
 /// The old value of what was stepped, from the new one on top.
 fn step_back(draft: &mut Draft, line: u32, operator: PostfixOperator) -> Result<(), AllocError>
     ensures { let back = inverse_step_of operator in
-        (names : Names) → OnOk result
+        (names : Numbered) → OnOk result
         (EmitsRow names (λ at. stepped_back at line back) draft.old draft.new) }
 {
     draft.put(line, Instr::Constant(1))?;
@@ -162,20 +162,20 @@ fn step_back(draft: &mut Draft, line: u32, operator: PostfixOperator) -> Result<
 /// `x++` or `x--`, whose value is the old one.
 pub(crate) fn postfix(
     draft: &mut Draft,
-    scope: &Scope<'_>,
+    tables: &BodyTables<'_>,
     line: u32,
     variable: Variable,
     operator: PostfixOperator,
 ) -> Result<(), AllocError>
     ensures { let tree = trees.Postfix variable operator in
-        OnOk result (EmitsValue (names_of scope.now) line tree draft.old draft.new) }
+        OnOk result (EmitsValue (numbered_by tables.now) line tree draft.old draft.new) }
 {
     let target = Stepped {
         variable,
         operator,
         keeps: true,
     };
-    step(draft, scope, line, target)?;
+    step(draft, tables, line, target)?;
     step_back(draft, line, operator)?;
     Ok(())
 }
@@ -183,20 +183,20 @@ pub(crate) fn postfix(
 /// `a[j]++` or `a[j]--` behind the index; its value is the old one.
 pub(crate) fn postfix_element(
     draft: &mut Draft,
-    scope: &Scope<'_>,
+    tables: &BodyTables<'_>,
     line: u32,
     array: Variable,
     operator: PostfixOperator,
 ) -> Result<(), AllocError>
     ensures { let row = λ (at : Site). rows.postfix_rest at line array operator in
-        OnOk result (EmitsRow (names_of scope.now) row draft.old draft.new) }
+        OnOk result (EmitsRow (numbered_by tables.now) row draft.old draft.new) }
 {
     let target = Stepped {
         variable: array,
         operator,
         keeps: true,
     };
-    step_element(draft, scope, line, target)?;
+    step_element(draft, tables, line, target)?;
     step_back(draft, line, operator)?;
     Ok(())
 }

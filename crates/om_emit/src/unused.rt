@@ -7,14 +7,14 @@ ghost use Rattle.om_resolved.specs.ResolvedTree as trees;
 ghost use Rattle.om_resolved.specs.ResolvedView.{view_resolved_expression};
 ghost use Rattle.om_rows.specs.Coded.{CallHasCode, EffectHasCode, ValueHasCode};
 ghost use Rattle.om_rows.specs.Rows.{Site};
-ghost use Rattle.om_tables.specs.Scopes.{names_of};
+ghost use Rattle.om_tables.specs.BodyTables.{numbered_by};
 
 use crate::draft::Draft;
 use crate::expression::{Target, assign, assign_element, call, count_of, value, values};
 use crate::single::{Stepped, step, step_element};
 use om_code::Instr;
 use om_resolved::{ResolvedExpression, Variable};
-use om_tables::Scope;
+use om_tables::BodyTables;
 use om_tree::{AssignOperator, PostfixOperator};
 use std::alloc::AllocError;
 
@@ -23,62 +23,62 @@ use std::alloc::AllocError;
 /// Its only error is out of memory.
 pub fn effect(
     draft: &mut Draft,
-    scope: &Scope<'_>,
+    tables: &BodyTables<'_>,
     line: u32,
     e: &ResolvedExpression,
 ) -> Result<(), AllocError>
     requires { EffectHasCode (view_resolved_expression e.now) }
     ensures { let tree = view_resolved_expression e.now in
-        OnOk result (EmitsEffect (names_of scope.now) line tree draft.old draft.new) }
+        OnOk result (EmitsEffect (numbered_by tables.now) line tree draft.old draft.new) }
 {
     match e {
         ResolvedExpression::Assign {
             variable,
             operator,
             value: e,
-        } => { assign(draft, scope, line, dropped(*variable, *operator), e) }
+        } => { assign(draft, tables, line, dropped(*variable, *operator), e) }
         ResolvedExpression::AssignElement {
             array,
             index,
             operator,
             value: e,
         } => {
-            value(draft, scope, line, index)?;
-            assign_element(draft, scope, line, dropped(*array, *operator), e)?;
+            value(draft, tables, line, index)?;
+            assign_element(draft, tables, line, dropped(*array, *operator), e)?;
             Ok(())
         }
         ResolvedExpression::Postfix { variable, operator } => {
-            step(draft, scope, line, stepped(*variable, *operator))
+            step(draft, tables, line, stepped(*variable, *operator))
         }
         ResolvedExpression::PostfixElement {
             array,
             index,
             operator,
         } => {
-            value(draft, scope, line, index)?;
-            step_element(draft, scope, line, stepped(*array, *operator))?;
+            value(draft, tables, line, index)?;
+            step_element(draft, tables, line, stepped(*array, *operator))?;
             Ok(())
         }
         ResolvedExpression::Print {
             format,
             values: arguments,
-        } => { print(draft, scope, line, format.as_slice(), arguments.as_slice()) }
+        } => { print(draft, tables, line, format.as_slice(), arguments.as_slice()) }
         ResolvedExpression::Call {
             function,
             values: arguments,
         } => {
-            call(draft, scope, line, *function, arguments.as_slice())?;
+            call(draft, tables, line, *function, arguments.as_slice())?;
             draft.put(line, Instr::Pop)?;
             Ok(())
         }
-        ResolvedExpression::Constant(_) => popped(draft, scope, line, e),
-        ResolvedExpression::Variable(_) => popped(draft, scope, line, e),
-        ResolvedExpression::Element { .. } => popped(draft, scope, line, e),
-        ResolvedExpression::ThreadNumber => popped(draft, scope, line, e),
-        ResolvedExpression::TeamSize => popped(draft, scope, line, e),
-        ResolvedExpression::Unary { .. } => popped(draft, scope, line, e),
-        ResolvedExpression::Binary { .. } => popped(draft, scope, line, e),
-        ResolvedExpression::Conditional { .. } => popped(draft, scope, line, e),
+        ResolvedExpression::Constant(_) => popped(draft, tables, line, e),
+        ResolvedExpression::Variable(_) => popped(draft, tables, line, e),
+        ResolvedExpression::Element { .. } => popped(draft, tables, line, e),
+        ResolvedExpression::ThreadNumber => popped(draft, tables, line, e),
+        ResolvedExpression::TeamSize => popped(draft, tables, line, e),
+        ResolvedExpression::Unary { .. } => popped(draft, tables, line, e),
+        ResolvedExpression::Binary { .. } => popped(draft, tables, line, e),
+        ResolvedExpression::Conditional { .. } => popped(draft, tables, line, e),
     }
 }
 
@@ -107,15 +107,15 @@ fn stepped(variable: Variable, operator: PostfixOperator) -> Stepped
 /// Writes an expression that leaves its value, and takes it off.
 fn popped(
     draft: &mut Draft,
-    scope: &Scope<'_>,
+    tables: &BodyTables<'_>,
     line: u32,
     e: &ResolvedExpression,
 ) -> Result<(), AllocError>
     requires { ValueHasCode (view_resolved_expression e.now) }
     ensures { let row = λ (at : Site). rows.popped at line (view_resolved_expression e.now) in
-        OnOk result (EmitsRow (names_of scope.now) row draft.old draft.new) }
+        OnOk result (EmitsRow (numbered_by tables.now) row draft.old draft.new) }
 {
-    value(draft, scope, line, e)?;
+    value(draft, tables, line, e)?;
     draft.put(line, Instr::Pop)?;
     Ok(())
 }
@@ -123,7 +123,7 @@ fn popped(
 /// Writes the values of a `printf`, and what prints them by its format (C17 7.21.6.3).
 fn print(
     draft: &mut Draft,
-    scope: &Scope<'_>,
+    tables: &BodyTables<'_>,
     line: u32,
     format: &[u8],
     arguments: &[ResolvedExpression],
@@ -131,11 +131,11 @@ fn print(
     requires { CallHasCode (trees.values (map view_resolved_expression arguments.now)) }
     ensures { let tree = trees.values (map view_resolved_expression arguments.now) in
         let row = λ (at : Site). rows.print at line format.now tree in
-        OnOk result (EmitsRow (names_of scope.now) row draft.old draft.new) }
+        OnOk result (EmitsRow (numbered_by tables.now) row draft.old draft.new) }
 {
-    let text = scope.format_number(format);
+    let text = tables.format_number(format);
     let count = count_of(arguments);
-    values(draft, scope, line, arguments)?;
+    values(draft, tables, line, arguments)?;
     let values = count;
     draft.put(line, Instr::Print { text, values })?;
     Ok(())

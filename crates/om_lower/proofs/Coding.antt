@@ -32,34 +32,34 @@ use Rattle.om_rows.specs.Code.{captures_of, given_of, slots_of}
 use Rattle.om_rows.specs.Scopes.{names_with}
 use Rattle.om_rows.specs.Mentions.{extents_of}
 use Rattle.om_rows.specs.Slots.{Extent, cells_in, slot_with}
-use Rattle.om_tables.specs.Names.{Names, names_in}
+use Rattle.om_tables.specs.Numbered.{Numbered, numbered_in}
 
 -- the code stands, wherever its lists stand in the program
-pub code_at : (tree : ResolvedTree) (b : BodySite) (names : Names) (variables : List ℕ) (main : Bool)
+pub code_at : (tree : ResolvedTree) (b : BodySite) (names : Numbered) (variables : List ℕ) (main : Bool)
     (made : Emitted)
-    → names ≡ names_in tree variables main → main ≡ is_main_function b.function
+    → names ≡ numbered_in tree variables main → main ≡ is_main_function b.function
     → variables ≡ variables_of b
     → HasRow names b.numbers b.function b.tree made
     → (picks : List (List ℕ)) → ListsStand made.lists.items picks → IsCodeAt tree picks b made.code
 code_at tree b names variables main made same_names same_main same_variables row =
     let first = subst (λ x. HasRow x b.numbers b.function b.tree made) same_names row in
     let second = subst (λ x.
-    HasRow (names_in tree variables x) b.numbers b.function b.tree made) same_main first in
-    subst (λ x. HasRow (names_in tree x (is_main_function b.function)) b.numbers b.function
+    HasRow (numbered_in tree variables x) b.numbers b.function b.tree made) same_main first in
+    subst (λ x. HasRow (numbered_in tree x (is_main_function b.function)) b.numbers b.function
     b.tree made) same_variables second
 
 -- and so do its scopes
-pub scopes_at : (tree : ResolvedTree) (b : BodySite) (names : Names) (variables : List ℕ) (main : Bool)
+pub scopes_at : (tree : ResolvedTree) (b : BodySite) (names : Numbered) (variables : List ℕ) (main : Bool)
     (made : Emitted)
-    → names ≡ names_in tree variables main → main ≡ is_main_function b.function
+    → names ≡ numbered_in tree variables main → main ≡ is_main_function b.function
     → variables ≡ variables_of b
     → HasScopesRow names b.function b.tree made
     → (picks : List (List ℕ)) → ListsStand made.lists.items picks
     → AreScopesAt tree picks b made.code made.scopes.items
 scopes_at tree b names variables main made same_names same_main same_variables row =
     let first = subst (λ x. HasScopesRow x b.function b.tree made) same_names row in
-    let second = subst (λ x. HasScopesRow (names_in tree variables x) b.function b.tree made) same_main first in
-    subst (λ x. HasScopesRow (names_in tree x (is_main_function b.function)) b.function b.tree made)
+    let second = subst (λ x. HasScopesRow (numbered_in tree variables x) b.function b.tree made) same_main first in
+    subst (λ x. HasScopesRow (numbered_in tree x (is_main_function b.function)) b.function b.tree made)
     same_variables second
 
 -- code that is too long

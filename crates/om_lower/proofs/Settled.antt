@@ -18,7 +18,7 @@ use Rattle.om_rows.specs.Scopes.{Found, body_scopes}
 use Rattle.om_statements.specs.declared.writing.ScopeStack.{ScopeStack}
 use Rattle.om_statements.specs.Emits.{pick_number}
 use Rattle.om_statements.specs.Scoped.{ScopesStand}
-use Rattle.om_tables.specs.Names.{Names, site_with}
+use Rattle.om_tables.specs.Numbered.{Numbered, site_with}
 
 get_map : {A B : Type 0} → (f : A → B) (xs : List A) (k : ℕ) (x : A) → slice_get xs k ≡ Some x
     → slice_get (map f xs) k ≡ Some (f x)
@@ -45,7 +45,7 @@ settled_fits d picks stand = record {
       d.picks k x e));
 }
 
-stands_in : (names : Names) (n : Numbers) (f : ResolvedFunctionTree) (tree : BodyTree) (final : Written)
+stands_in : (names : Numbered) (n : Numbers) (f : ResolvedFunctionTree) (tree : BodyTree) (final : Written)
     (picks : List (List ℕ)) → EmitsBody names n f tree nothing final → ListsStand (settled_lists final) picks
     → body_row (site_with names (settled_code final) picks) n f tree 0 (length (settled_code final))
 stands_in names n f tree final picks emitted stand =
@@ -55,7 +55,7 @@ stands_in names n f tree final picks emitted stand =
     (sym (length-map final.code (settled (place_in final.places)))) row
 
 -- what is written of a body from nothing is its row, in its own code
-pub row_stands : (names : Names) (n : Numbers) (f : ResolvedFunctionTree) (tree : BodyTree)
+pub row_stands : (names : Numbered) (n : Numbers) (f : ResolvedFunctionTree) (tree : BodyTree)
     (start final : Written) (made : Emitted) → start ≡ nothing → made.code ≡ settled_code final
     → made.lists.items ≡ settled_lists final → EmitsBody names n f tree start final → HasRow names n f tree made
 row_stands names n f tree start final made first same lists emitted picks stand =
@@ -69,7 +69,7 @@ numbers_same at [] = refl
 numbers_same at (x ∷ xs) = ap (λ z. x.number ∷ z) (numbers_same at xs)
 
 -- its lists are those of the `sections` in it
-pub lists_are : (names : Names) (n : Numbers) (f : ResolvedFunctionTree) (tree : BodyTree)
+pub lists_are : (names : Numbered) (n : Numbers) (f : ResolvedFunctionTree) (tree : BodyTree)
     (start final : Written) (made : Emitted) → start ≡ nothing
     → made.lists.items ≡ settled_lists final → EmitsBody names n f tree start final → HasLists n f tree made
 lists_are names n f tree start final made first lists emitted =
@@ -86,7 +86,7 @@ all_over at f (TaskBody first clauses captures s) p q found r =
     λ i. record { opened = (ap (λ (x : Found). x.opened) r.2) i; closed = found.closed }
 
 -- what begins and ends in a body that is written from nothing are its scopes, in its own code
-pub scopes_stand : (names : Names) (f : ResolvedFunctionTree) (tree : BodyTree) (start final : Written)
+pub scopes_stand : (names : Numbered) (f : ResolvedFunctionTree) (tree : BodyTree) (start final : Written)
     (x y : ScopeStack) (made : Emitted) → start ≡ nothing → x.closed.items ≡ [] → made.code ≡ settled_code final
     → made.lists.items ≡ settled_lists final → made.scopes.items ≡ y.closed.items
     → ScopesStand names (λ at. body_scopes at f tree) start x final y → HasScopesRow names f tree made

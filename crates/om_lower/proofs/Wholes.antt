@@ -25,7 +25,7 @@ use Rattle.om_statements.specs.Going.{before_with, goes_then, with_as, with_behi
 use Rattle.om_statements.specs.Scoped.{EndsScopes, ScopesStand}
 use Rattle.om_statements.specs.Scoping.{stand_after, stand_before, stand_block, stand_both, writes_as, writes_put}
 use Rattle.om_tables.specs.declared.numbers.Numbers as tables
-use Rattle.om_tables.specs.Names.{Names}
+use Rattle.om_tables.specs.Numbered.{Numbered}
 use Rattle.om_tables.specs.Numbering.{numbers_of}
 
 -- outside of loops
@@ -41,21 +41,21 @@ part_then : (xs : List ℕ) (r s : Part) (a b c : Written) → EmitsWith xs r a 
     → EmitsWith xs (λ done at. part (r done at) (s done at)) a c
 part_then xs r s a b c e g = with_behind _ _ _ xs r s a b c (omega arith) e.more e g
 
-last_two : (names : Names) (l : ℕ) (a b c : Written) → Puts l (i.Arrive barriers.Parallel) a b
+last_two : (names : Numbered) (l : ℕ) (a b c : Written) → Puts l (i.Arrive barriers.Parallel) a b
     → Puts l i.Leave b c
     → EmitsRow names (λ at. ins at l (i.Arrive barriers.Parallel) (ins at l i.Leave end)) a c
 last_two names l a b c arrive leave =
     goes_put names _ l (i.Arrive barriers.Parallel) (λ done at. ins (site names done) l i.Leave end) a b c arrive
     (goes_put names _ l i.Leave (λ done at. end) b c c leave (goes_end _ c))
 
-last_one : (names : Names) (l : ℕ) (main : Bool) (a b : Written) → Puts l (last_instruction main false) a b
+last_one : (names : Numbered) (l : ℕ) (main : Bool) (a b : Written) → Puts l (last_instruction main false) a b
     → EmitsRow names (λ at. ins at l (last_instruction main false) end) a b
 last_one names l true a b put = goes_put names _ l (i.Finish false) (λ done at. end) a b b put (goes_end _ b)
 last_one names l false a b put = goes_put names _ l i.ReturnNothing (λ done at. end) a b b put (goes_end _ b)
 
 -- ---- bodies
 
-pub function_emits : (names : Names) (f : ResolvedFunctionTree) (numbers : tables.Numbers) (spot : Spot)
+pub function_emits : (names : Numbered) (f : ResolvedFunctionTree) (numbers : tables.Numbers) (spot : Spot)
     (items : ResolvedStatementsTree) (last : Instr) (a b c : Written)
     → IsOutside numbers spot → items ≡ f.body → last ≡ last_instruction names.is_main false
     → EmitsStatements names (numbers_of spot.numbers) items spot.jumps a b → Puts f.closing_line last b c
@@ -68,7 +68,7 @@ function_emits names f numbers spot items last a b c outside all ends emitted pu
     (λ done at. ins (site names done) f.closing_line (last_instruction names.is_main false) end) a b c whole
     (last_one names f.closing_line names.is_main b c closed)
 
-pub task_emits : (names : Names) (numbers : tables.Numbers) (spot : Spot) (first : Span)
+pub task_emits : (names : Numbered) (numbers : tables.Numbers) (spot : Spot) (first : Span)
     (clauses : List ResolvedClauseTree) (captures : List Capture) (s : ResolvedStatementTree)
     (a b c : Written) → IsOutside numbers spot
     → EmitsStatement names (numbers_of spot.numbers) s spot.jumps a b → Puts first.line i.TaskEnd b c
@@ -79,7 +79,7 @@ task_emits names numbers spot first clauses captures s a b c outside emitted put
     (subst (λ x. EmitsStatement names (numbers_of x.numbers) s x.jumps a b) outside emitted)
     (goes_put names _ first.line i.TaskEnd (λ done at. end) b c c put (goes_end _ c))
 
-pub parallel_emits : (names : Names) (numbers : tables.Numbers) (spot : Spot) (first : Span)
+pub parallel_emits : (names : Numbered) (numbers : tables.Numbers) (spot : Spot) (first : Span)
     (clauses : List ResolvedClauseTree) (captures : List Capture) (s : ResolvedStatementTree)
     (a b c d e g h : Written) → IsOutside numbers spot → Puts first.line i.Begin a b
     → EmitsRow names (λ at. reduction_starts at first.line clauses) b c
@@ -119,7 +119,7 @@ parallel_emits names numbers spot first clauses captures s a b c d e g h outside
 
 -- ---- scopes
 
-pub function_scopes : (names : Names) (f : ResolvedFunctionTree) (items : ResolvedStatementsTree) (last : Instr)
+pub function_scopes : (names : Numbered) (f : ResolvedFunctionTree) (items : ResolvedStatementsTree) (last : Instr)
     (xs : List LocalVariable) (height to : ℕ) (a b c : Written) (x y z w : ScopeStack) → items ≡ f.body
     → xs ≡ f.parameters → height ≡ length x.opened.items → to ≡ length c.code
     → ScopesStand names (λ at. each_scope parameter_scope xs) a x a y
@@ -136,7 +136,7 @@ function_scopes names f items last xs height to a b c x y z w all parameters hig
     (subst (λ k. ScopesStand names (λ at. all_scopes at k) a y b z) all inside)
     (writes_put names f.closing_line last b c put))) ends
 
-pub task_scopes : (names : Names) (first : Span) (clauses : List ResolvedClauseTree) (captures : List Capture)
+pub task_scopes : (names : Numbered) (first : Span) (clauses : List ResolvedClauseTree) (captures : List Capture)
     (s : ResolvedStatementTree) (height to : ℕ) (last : Instr) (a b c : Written) (x y z w : ScopeStack)
     → height ≡ length x.opened.items → to ≡ length c.code
     → ScopesStand names (λ at. each_scope task_scope clauses) a x a y
@@ -151,7 +151,7 @@ task_scopes names first clauses captures s height to last a b c x y z w high her
     (stand_before names (λ at. block (scopes at s)) (λ at. instructions 1) a y b z c inside
     (writes_put names first.line last b c put))) ends
 
-pub parallel_scopes : (names : Names) (first : Span) (clauses : List ResolvedClauseTree) (captures : List Capture)
+pub parallel_scopes : (names : Numbered) (first : Span) (clauses : List ResolvedClauseTree) (captures : List Capture)
     (s : ResolvedStatementTree) (height to : ℕ) (u v t : Instr) (a b c d e g h : Written) (x y z w : ScopeStack)
     → height ≡ length x.opened.items → to ≡ length h.code → Puts first.line u a b
     → ScopesStand names (λ at. each_scope (team_scope at first.line) clauses) b x c y

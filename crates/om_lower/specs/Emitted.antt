@@ -11,16 +11,16 @@ use Rattle.om_rows.specs.Scopes.{body_scopes}
 use Rattle.om_statements.specs.declared.writing.Writing.{Writing}
 use Rattle.om_statements.specs.Emits.{EmitsWith}
 use Rattle.om_statements.specs.Scoped.{EmitsScopes}
-use Rattle.om_tables.specs.Names.{Names, site_with}
+use Rattle.om_tables.specs.Numbered.{Numbered, site_with}
 use Rattle.om_tables.specs.Picks.{body_picks}
 
 -- the row of a body stands in its code, wherever its lists of PICK stand in the program
-abbrev pub HasRow : Names → Numbers → ResolvedFunctionTree → BodyTree → Emitted → Type 0
+abbrev pub HasRow : Numbered → Numbers → ResolvedFunctionTree → BodyTree → Emitted → Type 0
 HasRow names n f tree made = (picks : List (List ℕ)) → ListsStand made.lists.items picks
     → body_row (site_with names made.code picks) n f tree 0 (length made.code)
 
 -- and so do its scopes
-abbrev pub HasScopesRow : Names → ResolvedFunctionTree → BodyTree → Emitted → Type 0
+abbrev pub HasScopesRow : Numbered → ResolvedFunctionTree → BodyTree → Emitted → Type 0
 HasScopesRow names f tree made = (picks : List (List ℕ)) → ListsStand made.lists.items picks
     → body_scopes (site_with names made.code picks) f tree 0 (length made.code)
     (record { opened = []; closed = made.scopes.items })
@@ -30,12 +30,12 @@ abbrev pub HasLists : Numbers → ResolvedFunctionTree → BodyTree → Emitted 
 HasLists n f tree made = map number_of made.lists.items ≡ body_picks n f tree
 
 -- all of a body is written, with the lists of the `sections` in it
-abbrev pub EmitsBody : Names → Numbers → ResolvedFunctionTree → BodyTree → Written → Written → Type 0
+abbrev pub EmitsBody : Numbered → Numbers → ResolvedFunctionTree → BodyTree → Written → Written → Type 0
 EmitsBody names n f tree = EmitsWith (body_picks n f tree) (λ done at. body_row (site names done) n f tree)
 
 -- the same of a region, in whichever function it stands
-abbrev pub EmitsRegion : Names → Numbers → BodyTree → Written → Written → Type 0
+abbrev pub EmitsRegion : Numbered → Numbers → BodyTree → Written → Written → Type 0
 EmitsRegion names n tree old new = (f : ResolvedFunctionTree) → EmitsBody names n f tree old new
 
-abbrev pub EmitsRegionScopes : Names → BodyTree → Writing → Writing → Type 0
+abbrev pub EmitsRegionScopes : Numbered → BodyTree → Writing → Writing → Type 0
 EmitsRegionScopes names tree old new = (f : ResolvedFunctionTree) → EmitsScopes names (λ at. body_scopes at f tree) old new

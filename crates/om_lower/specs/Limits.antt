@@ -14,7 +14,7 @@ use Rattle.om_rows.specs.Bodies.{variables_of}
 use Rattle.om_rows.specs.Code.{body_row, slots_of}
 use Rattle.om_rows.specs.declared.scope.VariableScope.{VariableScope}
 use Rattle.om_rows.specs.Scopes.{body_scopes}
-use Rattle.om_tables.specs.Names.{names_in, site_with}
+use Rattle.om_tables.specs.Numbered.{numbered_in, site_with}
 
 -- the cells that a frame has of its own for a slot
 abbrev pub cells_at : Source → (cells : ℕ) → ℕ
@@ -30,14 +30,14 @@ frame_cells slots = sum (map own_cells slots)
 -- this is the code of a body, in a program with these lists of PICK
 abbrev pub IsCodeAt : ResolvedTree → (picks : List (List ℕ)) → BodySite → List Line → Type 0
 IsCodeAt tree picks b code =
-    body_row (site_with (names_in tree (variables_of b) (is_main_function b.function)) code picks) b.numbers
+    body_row (site_with (numbered_in tree (variables_of b) (is_main_function b.function)) code picks) b.numbers
     b.function b.tree 0 (length code)
 
 -- these are the scopes in it, all of which end with it
 abbrev pub AreScopesAt : ResolvedTree → (picks : List (List ℕ)) → BodySite → List Line → List VariableScope → Type 0
 AreScopesAt tree picks b code scopes =
-    body_scopes (site_with (names_in tree (variables_of b) (is_main_function b.function)) code picks) b.function b.tree
-    0 (length code) (record { opened = []; closed = scopes })
+    body_scopes (site_with (numbered_in tree (variables_of b) (is_main_function b.function)) code picks) b.function
+    b.tree 0 (length code) (record { opened = []; closed = scopes })
 
 abbrev pub HasFewSlots : BodySite → Type 0
 HasFewSlots b = length (variables_of b) ≤ 256

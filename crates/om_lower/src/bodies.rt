@@ -26,7 +26,9 @@ use om_emit::draft::PickList;
 use om_resolved::Capture;
 use om_seq::Seq;
 use om_sights::{BodyPart, Site, function_variables, region_variables};
-use om_tables::{Extents, Region, Scope, Variables, copy_slots, given_copies, parameter_slots};
+use om_tables::{
+    BodyTables, Extents, Region, Variables, copy_slots, given_copies, parameter_slots,
+};
 use std::alloc::{AllocError, Global};
 
 /// Adds the variables of these bodies behind those of other ones; false where a body has more than 256 slots.
@@ -325,14 +327,14 @@ fn code_in(
         IfOk result (λ code. FitsCode tree (seen_body seen.now) code) }
 {
     let is_main = is_main(seen.site.function);
-    let scope = Scope::new(
+    let body_tables = BodyTables::new(
         whole.resolved,
         whole.tables,
         known.slots,
         seen.variables,
         is_main,
     );
-    let emitted = emitted_in(whole.alloc, &scope, seen.site)?;
+    let emitted = emitted_in(whole.alloc, &body_tables, seen.site)?;
     if emitted.code.len() > INSTRUCTION_LIMIT {
         return Ok(None);
     }

@@ -6,35 +6,35 @@ ghost use Rattle.om_sights.specs.Sites.{body_in};
 ghost use Rattle.om_rows.specs.Coded.{BodyHasCode};
 ghost use Rattle.om_rows.specs.Scopes.{body_scopes};
 ghost use Rattle.om_statements.specs.Scoped.{EmitsScopes};
+ghost use Rattle.om_tables.specs.BodyTables.{numbered_by};
 ghost use Rattle.om_tables.specs.Ends.{HasBodyEnds};
-ghost use Rattle.om_tables.specs.Scopes.{names_of};
 ghost use Rattle.om_tables.specs.Tables.{known_in};
 
 use crate::emitted::{Emitted, settled};
 use crate::whole::{write_function, write_parallel, write_task};
 use om_sights::{BodyPart, Site};
 use om_statements::writing::Writing;
-use om_tables::Scope;
+use om_tables::BodyTables;
 use std::alloc::{AllocError, Global};
 
 /// The code of a body, of whatever length. Its only error is out of memory.
 pub(crate) fn emitted_in(
     alloc: Global,
-    scope: &Scope<'_>,
+    tables: &BodyTables<'_>,
     site: &Site<'_>,
 ) -> Result<Emitted, AllocError>
     requires code { BodyHasCode (body_in [] site.now).function (body_in [] site.now).tree }
     requires regions { let b = body_in [] site.now in
-        HasBodyEnds (known_in scope.now) b.numbers b.function b.tree }
+        HasBodyEnds (known_in tables.now) b.numbers b.function b.tree }
     ensures row { let b = body_in [] site.now in
-        IfOk result (HasRow (names_of scope.now) b.numbers b.function b.tree) }
+        IfOk result (HasRow (numbered_by tables.now) b.numbers b.function b.tree) }
     ensures lists { let b = body_in [] site.now in
         IfOk result (HasLists b.numbers b.function b.tree) }
     ensures scopes { let b = body_in [] site.now in
-        IfOk result (HasScopesRow (names_of scope.now) b.function b.tree) }
+        IfOk result (HasScopesRow (numbered_by tables.now) b.function b.tree) }
 {
     let mut writing = Writing::new(alloc);
-    write_body(alloc, &mut writing, scope, site)?;
+    write_body(alloc, &mut writing, tables, site)?;
     let made = settled(alloc, writing)?;
     Ok(made)
 }
@@ -43,27 +43,27 @@ pub(crate) fn emitted_in(
 fn write_body(
     alloc: Global,
     writing: &mut Writing,
-    scope: &Scope<'_>,
+    tables: &BodyTables<'_>,
     site: &Site<'_>,
 ) -> Result<(), AllocError>
     requires code { BodyHasCode (body_in [] site.now).function (body_in [] site.now).tree }
     requires regions { let b = body_in [] site.now in
-        HasBodyEnds (known_in scope.now) b.numbers b.function b.tree }
+        HasBodyEnds (known_in tables.now) b.numbers b.function b.tree }
     ensures code { let b = body_in [] site.now in
-        OnOk result (EmitsBody (names_of scope.now) b.numbers b.function b.tree writing.old.draft
+        OnOk result (EmitsBody (numbered_by tables.now) b.numbers b.function b.tree writing.old.draft
         writing.new.draft) }
     ensures scopes { let b = body_in [] site.now in
-        OnOk result (EmitsScopes (names_of scope.now) (λ at. body_scopes at b.function b.tree)
+        OnOk result (EmitsScopes (numbered_by tables.now) (λ at. body_scopes at b.function b.tree)
         writing.old writing.new) }
 {
     match &site.part {
-        BodyPart::Function => write_function(alloc, writing, scope, site.numbers, site.function),
+        BodyPart::Function => write_function(alloc, writing, tables, site.numbers, site.function),
         BodyPart::Parallel(region) => {
-            write_parallel(alloc, writing, scope, site.numbers, region)?;
+            write_parallel(alloc, writing, tables, site.numbers, region)?;
             Ok(())
         }
         BodyPart::Task(region) => {
-            write_task(alloc, writing, scope, site.numbers, region)?;
+            write_task(alloc, writing, tables, site.numbers, region)?;
             Ok(())
         }
     }

@@ -24,7 +24,7 @@ use om_lexer::SourceFault;
 use om_resolved::{GlobalVariable, Resolved, ResolvedFunction};
 use om_rows::laws::code_is_valid;
 use om_seq::Seq;
-use om_tables::{Scope, Texts, Variables};
+use om_tables::{BodyTables, Texts, Variables};
 use std::alloc::{AllocError, Global};
 
 /// The program of a tree, whose functions have these bodies.
@@ -179,8 +179,8 @@ fn main_body(whole: &Whole<'_>) -> u32
 {
     let main = main_of(whole.resolved);
     let variables = Variables::new(whole.alloc);
-    let scope = Scope::new(whole.resolved, whole.tables, &[], &variables, true);
-    scope.called_body(main)
+    let body_tables = BodyTables::new(whole.resolved, whole.tables, &[], &variables, true);
+    body_tables.called_body(main)
 }
 
 #[tactic(auto, using(crate::proofs::Searches::position_none, crate::proofs::Searches::position_map))]

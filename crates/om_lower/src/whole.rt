@@ -8,9 +8,9 @@ ghost use Rattle.om_rows.specs.Bodies.{FunctionBody};
 ghost use Rattle.om_rows.specs.Coded.{BodyHasCode, StatementHasCode};
 ghost use Rattle.om_rows.specs.Scopes.{body_scopes};
 ghost use Rattle.om_statements.specs.Scoped.{EmitsScopes};
+ghost use Rattle.om_tables.specs.BodyTables.{numbered_by};
 ghost use Rattle.om_tables.specs.Ends.{HasBodyEnds, HasEnds};
 ghost use Rattle.om_tables.specs.Numbering.{numbers_of};
-ghost use Rattle.om_tables.specs.Scopes.{names_of};
 ghost use Rattle.om_tables.specs.Tables.{known_in};
 
 use om_code::Instr;
@@ -21,33 +21,33 @@ use om_statements::last_instruction;
 use om_statements::spot::Spot;
 use om_statements::statement::{inner, statements};
 use om_statements::writing::Writing;
-use om_tables::{Numbers, Region, Scope};
+use om_tables::{BodyTables, Numbers, Region};
 use std::alloc::{AllocError, Global};
 
 /// Writes the statements of a function, and its end.
 pub(crate) fn write_function(
     alloc: Global,
     writing: &mut Writing,
-    scope: &Scope<'_>,
+    tables: &BodyTables<'_>,
     numbers: Numbers,
     function: &ResolvedFunction,
 ) -> Result<(), AllocError>
     requires code { BodyHasCode (view_resolved_function function.now) FunctionBody }
-    requires ends { HasBodyEnds (known_in scope.now) (numbers_of numbers)
+    requires ends { HasBodyEnds (known_in tables.now) (numbers_of numbers)
         (view_resolved_function function.now) FunctionBody }
     ensures code { let seen = view_resolved_function function.now in
-        let names = names_of scope.now in
+        let names = numbered_by tables.now in
         OnOk result (EmitsBody names (numbers_of numbers) seen FunctionBody writing.old.draft
         writing.new.draft) }
     ensures scopes { let seen = view_resolved_function function.now in
-        OnOk result (EmitsScopes (names_of scope.now) (λ at. body_scopes at seen FunctionBody)
+        OnOk result (EmitsScopes (numbered_by tables.now) (λ at. body_scopes at seen FunctionBody)
         writing.old writing.new) }
 {
     let height = writing.scopes.height();
     parameters(&mut writing.scopes, function.parameters.as_slice())?;
     let spot = Spot::outside(numbers);
-    statements(alloc, writing, scope, spot, function.body.as_slice())?;
-    let last = last_instruction(scope.is_main, false);
+    statements(alloc, writing, tables, spot, function.body.as_slice())?;
+    let last = last_instruction(tables.is_main, false);
     writing.draft.put(function.closing_line, last)?;
     let to = writing.draft.place();
     writing.scopes.end(height, to)?;
@@ -59,27 +59,27 @@ pub(crate) fn write_function(
 pub(crate) fn write_parallel(
     alloc: Global,
     writing: &mut Writing,
-    scope: &Scope<'_>,
+    tables: &BodyTables<'_>,
     numbers: Numbers,
     region: &Region<'_>,
 ) -> Result<(), AllocError>
     requires code { StatementHasCode false false (statement_of region.now) }
-    requires ends { HasEnds (known_in scope.now) (numbers_of numbers)
+    requires ends { HasEnds (known_in tables.now) (numbers_of numbers)
         (statement_of region.now) }
     ensures code { let tree = parallel_tree region.now in
-        let names = names_of scope.now in
+        let names = numbered_by tables.now in
         OnOk result
         (EmitsRegion names (numbers_of numbers) tree writing.old.draft writing.new.draft) }
     ensures scopes { let tree = parallel_tree region.now in
-        OnOk result (EmitsRegionScopes (names_of scope.now) tree writing.old writing.new) }
+        OnOk result (EmitsRegionScopes (numbered_by tables.now) tree writing.old writing.new) }
 {
     let line = region.at.line;
     let height = writing.scopes.height();
     writing.draft.put(line, Instr::Begin)?;
-    reduction_starts(writing, scope, line, region.clauses)?;
+    reduction_starts(writing, tables, line, region.clauses)?;
     let spot = Spot::outside(numbers);
-    inner(alloc, writing, scope, spot, region.statement)?;
-    reductions(&mut writing.draft, scope, line, region.clauses)?;
+    inner(alloc, writing, tables, spot, region.statement)?;
+    reductions(&mut writing.draft, tables, line, region.clauses)?;
     writing.draft.put(line, Instr::Arrive(Barrier::Parallel))?;
     writing.draft.put(line, Instr::Leave)?;
     let to = writing.draft.place();
@@ -91,24 +91,24 @@ pub(crate) fn write_parallel(
 pub(crate) fn write_task(
     alloc: Global,
     writing: &mut Writing,
-    scope: &Scope<'_>,
+    tables: &BodyTables<'_>,
     numbers: Numbers,
     region: &Region<'_>,
 ) -> Result<(), AllocError>
     requires code { StatementHasCode false false (statement_of region.now) }
-    requires ends { HasEnds (known_in scope.now) (numbers_of numbers)
+    requires ends { HasEnds (known_in tables.now) (numbers_of numbers)
         (statement_of region.now) }
     ensures code { let tree = task_tree region.now in
-        let names = names_of scope.now in
+        let names = numbered_by tables.now in
         OnOk result
         (EmitsRegion names (numbers_of numbers) tree writing.old.draft writing.new.draft) }
     ensures scopes { let tree = task_tree region.now in
-        OnOk result (EmitsRegionScopes (names_of scope.now) tree writing.old writing.new) }
+        OnOk result (EmitsRegionScopes (numbered_by tables.now) tree writing.old writing.new) }
 {
     let height = writing.scopes.height();
     task_copies(&mut writing.scopes, region.clauses)?;
     let spot = Spot::outside(numbers);
-    inner(alloc, writing, scope, spot, region.statement)?;
+    inner(alloc, writing, tables, spot, region.statement)?;
     writing.draft.put(region.at.line, Instr::TaskEnd)?;
     let to = writing.draft.place();
     writing.scopes.end(height, to)?;

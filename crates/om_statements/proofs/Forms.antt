@@ -23,17 +23,17 @@ use Rattle.om_rows.specs.Statements.{statement, construct_row, loop_rest, in_ite
 use Rattle.om_statements.specs.declared.labels.JumpLabels.{JumpLabels}
 use Rattle.om_statements.specs.Emits.{jumps_at, EmitsStatement}
 use Rattle.om_statements.specs.Going.{before_with, goes_place, goes_then, then_with, with_as, with_behind}
+use Rattle.om_tables.specs.Numbered.{Numbered}
 use Rattle.om_tables.specs.Picks.{own_picks}
-use Rattle.om_tables.specs.Names.{Names}
 
 -- the code of a statement
-abbrev Written_as : Names → Numbers → ResolvedStatementTree → JumpLabels → Part
+abbrev Written_as : Numbered → Numbers → ResolvedStatementTree → JumpLabels → Part
 Written_as names n s jumps done at = statement (site names done) n s (jumps_at at jumps)
 
 abbrev loop_jumps : (over next : ℕ) → JumpLabels
 loop_jumps over next = record { over = Some over; next = Some next }
 
-pub emits_if : (names : Names) (n : Numbers) (first : Span) (c : ResolvedExpressionTree) (s : ResolvedStatementTree)
+pub emits_if : (names : Numbered) (n : Numbers) (first : Span) (c : ResolvedExpressionTree) (s : ResolvedStatementTree)
     (jumps : JumpLabels) (label : ℕ) (a b d e : Written)
     → Begins label (test_at names first.line label c) a b → EmitsStatement names n s jumps b d → Defines label d e
     → EmitsStatement names n (If first c s) jumps a e
@@ -62,7 +62,7 @@ emits_if names n first c s jumps label a b d e g h j =
     k : ℕ
     k = length a.places
 
-pub emits_if_else : (names : Names) (n : Numbers) (first : Span) (c : ResolvedExpressionTree)
+pub emits_if_else : (names : Numbered) (n : Numbers) (first : Span) (c : ResolvedExpressionTree)
     (s t : ResolvedStatementTree) (jumps : JumpLabels) (head label : ℕ) (a b d e f g : Written)
     → Begins head (test_at names first.line head c) a b → EmitsStatement names n s jumps b d → Opens head label
     (else_begin names first.line head label) d e
@@ -112,7 +112,7 @@ emits_if_else names n first c s t jumps head label a b d e f g h1 h2 h3 h4 h5 =
     k : ℕ
     k = length a.places
 
-pub emits_while : (names : Names) (n : Numbers) (first : Span) (c : ResolvedExpressionTree)
+pub emits_while : (names : Numbered) (n : Numbers) (first : Span) (c : ResolvedExpressionTree)
     (s : ResolvedStatementTree) (jumps : JumpLabels) (labels : LoopLabels) (a b d e : Written)
     → Begins labels.over (while_begin names first.line c labels) a b → EmitsStatement names n s
     (loop_jumps labels.over labels.again) b d
@@ -148,7 +148,7 @@ emits_while names n first c s jumps labels a b d e h1 h2 h3 =
     k : ℕ
     k = length a.places
 
-pub emits_do : (names : Names) (n : Numbers) (first : Span) (c : ResolvedExpressionTree) (s : ResolvedStatementTree)
+pub emits_do : (names : Numbered) (n : Numbers) (first : Span) (c : ResolvedExpressionTree) (s : ResolvedStatementTree)
     (jumps : JumpLabels) (labels : TurnLabels) (a b d e : Written)
     → BeginsTurn labels (do_begin labels) a b → EmitsStatement names n s (loop_jumps labels.over labels.next) b d
     → Goes labels.next (do_end names first.line labels c) d e
@@ -189,7 +189,7 @@ emits_do names n first c s jumps labels a b d e h1 h2 h3 =
     k : ℕ
     k = length a.places
 
-pub emits_for : (names : Names) (n : Numbers) (first : Span) (begin : ResolvedStartTree)
+pub emits_for : (names : Numbered) (n : Numbers) (first : Span) (begin : ResolvedStartTree)
     (c step : Option ResolvedExpressionTree) (s : ResolvedStatementTree) (jumps : JumpLabels)
     → (labels : TurnLabels) (a b d e : Written)
     → BeginsTurn labels (for_begin names first.line begin c labels) a b → EmitsStatement names n s
@@ -211,7 +211,7 @@ emits_for names n first begin c step s jumps labels a b d e h1 h2 h3 =
 
 -- ---- worksharing loops
 
-loop_named : (names : Names) (l : ℕ) (clauses : List ResolvedClauseTree) (nowait : Bool) (loop : ResolvedLoopTree)
+loop_named : (names : Numbered) (l : ℕ) (clauses : List ResolvedClauseTree) (nowait : Bool) (loop : ResolvedLoopTree)
     (labels : LoopLabels) (body : ℕ → Row) (done : Finished) (at : Labels)
     → (comparison : Option Comparison) (chunk p m m2 m3 q : ℕ)
     → given comparison (λ x. worksharing_rest names l clauses loop labels chunk x done at) p m
@@ -265,7 +265,7 @@ loop_named names l clauses nowait loop labels body done at (Some comparison) chu
       ),
     )
 
-pub emits_loop : (names : Names) (n : Numbers) (first : Span) (clauses : List ResolvedClauseTree) (nowait : Bool)
+pub emits_loop : (names : Numbered) (n : Numbers) (first : Span) (clauses : List ResolvedClauseTree) (nowait : Bool)
     (loop : ResolvedLoopTree) (s : ResolvedStatementTree) (jumps : JumpLabels)
     → (labels : LoopLabels) (a b d e f : Written)
     → Begins labels.over (worksharing_begin names first.line clauses loop labels) a b → EmitsStatement names n s
@@ -290,7 +290,7 @@ emits_loop names n first clauses nowait loop s jumps labels a b d e f h1 h2 h3 h
 
 -- ---- constructs
 
-construct_named : (names : Names) (l : ℕ) (kind : ConstructKind) (clauses : List ResolvedClauseTree)
+construct_named : (names : Numbered) (l : ℕ) (kind : ConstructKind) (clauses : List ResolvedClauseTree)
     (s : ResolvedStatementTree) (body : Row) (label : ℕ) (done : Finished) (at : Labels)
     → (p m m2 q : ℕ) → construct_begin names l kind clauses label done at p m → body m m2 → construct_end names l
     kind label done at m2 q
@@ -305,7 +305,7 @@ construct_named names l constructs.Atomic clauses s body label done at p m m2 q 
 construct_named names l constructs.Taskgroup clauses s body label done at p m m2 q x y z =
     (x.0, (m2, subst (λ k. body k m2) (sym x.1) y, z))
 
-pub emits_construct : (names : Names) (n : Numbers) (first : Span) (kind : ConstructKind)
+pub emits_construct : (names : Numbered) (n : Numbers) (first : Span) (kind : ConstructKind)
     (clauses : List ResolvedClauseTree) (s : ResolvedStatementTree) (jumps : JumpLabels) (label : ℕ) (a b d e : Written)
     → Begins label (construct_begin names first.line kind clauses label) a b → EmitsStatement names n s
     (record { over = None; next = None }) b d
@@ -326,20 +326,21 @@ emits_construct names n first kind clauses s jumps label a b d e h1 h2 h3 =
 
 -- ---- the same clauses
 
-pub loop_clauses_are : (names : Names) (l : ℕ) (loop : ResolvedLoopTree) (labels : LoopLabels)
+pub loop_clauses_are : (names : Numbered) (l : ℕ) (loop : ResolvedLoopTree) (labels : LoopLabels)
     (xs ys : List ResolvedClause) (a b : Written) → xs ≡ ys
     → Begins labels.over (worksharing_begin names l (map view_resolved_clause xs) loop labels) a b
     → Begins labels.over (worksharing_begin names l (map view_resolved_clause ys) loop labels) a b
 loop_clauses_are names l loop labels xs ys a b e h = subst
     (λ z. Begins labels.over (worksharing_begin names l (map view_resolved_clause z) loop labels) a b) e h
 
-pub close_clauses_are : (names : Names) (l : ℕ) (nowait : Bool) (xs ys : List ResolvedClause) (a b : Written) → xs ≡ ys
+pub close_clauses_are : (names : Numbered) (l : ℕ) (nowait : Bool) (xs ys : List ResolvedClause) (a b : Written)
+    → xs ≡ ys
     → Emits (λ done at. close_row l (map view_resolved_clause xs) nowait (site names done)) a b
     → Emits (λ done at. close_row l (map view_resolved_clause ys) nowait (site names done)) a b
 close_clauses_are names l nowait xs ys a b e h = subst
     (λ z. Emits (λ done at. close_row l (map view_resolved_clause z) nowait (site names done)) a b) e h
 
-pub construct_clauses_are : (names : Names) (l : ℕ) (kind : ConstructKind) (label : ℕ) (xs ys : List ResolvedClause)
+pub construct_clauses_are : (names : Numbered) (l : ℕ) (kind : ConstructKind) (label : ℕ) (xs ys : List ResolvedClause)
     (a b : Written) → xs ≡ ys
     → Begins label (construct_begin names l kind (map view_resolved_clause xs) label) a b
     → Begins label (construct_begin names l kind (map view_resolved_clause ys) label) a b

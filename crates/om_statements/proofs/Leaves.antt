@@ -16,13 +16,13 @@ use Rattle.om_emit.specs.Drafts.{Written, moved, Puts}
 use Rattle.om_emit.specs.Emits.{Part, site, Goes, Emits}
 use Rattle.om_emit.specs.Writing.{goes_end, goes_put, goes_part}
 use Rattle.om_rows.specs.Rows.{Site, Row, end, ins, part, each}
-use Rattle.om_tables.specs.Names.{Names}
+use Rattle.om_tables.specs.Numbered.{Numbered}
 
-pub emits_one : (names : Names) (l : ℕ) (x : Instr) (a b : Written) → Puts l x a b
+pub emits_one : (names : Numbered) (l : ℕ) (x : Instr) (a b : Written) → Puts l x a b
     → Emits (λ done at. ins (site names done) l (moved at x) end) a b
 emits_one names l x a b h = goes_put names _ l x (λ done at. end) a b b h (goes_end _ b)
 
-pub emits_two : (names : Names) (l : ℕ) (x y : Instr) (a b c : Written) → Puts l x a b → Puts l y b c
+pub emits_two : (names : Numbered) (l : ℕ) (x y : Instr) (a b c : Written) → Puts l x a b → Puts l y b c
     → Emits (λ done at. ins (site names done) l (moved at x) (ins (site names done) l (moved at y) end)) a c
 emits_two names l x y a b c h j =
     goes_put names _ l x (λ done at. ins (site names done) l (moved at y) end) a b c h
@@ -39,12 +39,12 @@ pub emits_then : (r s : Part) (a b c : Written) → Emits r a b → Emits s b c
     → Emits (λ done at. part (r done at) (s done at)) a c
 emits_then r s a b c e g = goes_part _ r s a b c (omega arith) e (goes_less _ _ s b c e.keeps.more g)
 
-pub emits_then_one : (names : Names) (l : ℕ) (x : Instr) (r : Part) (a b c : Written) → Emits r a b → Puts l x b c
+pub emits_then_one : (names : Numbered) (l : ℕ) (x : Instr) (r : Part) (a b c : Written) → Emits r a b → Puts l x b c
     → Emits (λ done at. part (r done at) (ins (site names done) l (moved at x) end)) a c
 emits_then_one names l x r a b c e h = emits_then r (λ done at. ins (site names done) l (moved at x) end) a b c e
     (emits_one names l x b c h)
 
-pub emits_put_then : (names : Names) (l : ℕ) (x : Instr) (r : Part) (a b c : Written) → Puts l x a b → Emits r b c
+pub emits_put_then : (names : Numbered) (l : ℕ) (x : Instr) (r : Part) (a b c : Written) → Puts l x a b → Emits r b c
     → Emits (λ done at. ins (site names done) l (moved at x) (r done at)) a c
 emits_put_then names l x r a b c h e = goes_put names _ l x r a b c h
     (goes_less _ _ r b c (omega (arith, ap length h.places)) e)
@@ -52,18 +52,18 @@ emits_put_then names l x r a b c h e = goes_put names _ l x r a b c h
 -- ---- lists
 
 -- whoever writes what is left has written all
-unfoldable pub GoesOn : {A B : Type 0} → (n : ℕ) → (names : Names) → (row : Site → B → Row) → (view : A → B)
+unfoldable pub GoesOn : {A B : Type 0} → (n : ℕ) → (names : Numbered) → (row : Site → B → Row) → (view : A → B)
     → (all left : List A) → (first now : Written) → Type 0
 GoesOn n names row view all left first now = (n ≤ length now.places) × ((c : Written)
     → Goes n (λ done at. each (row (site names done)) (map view left)) now c
     → Goes n (λ done at. each (row (site names done)) (map view all)) first c)
 
-pub begin_each : {A B : Type 0} → (names : Names) (row : Site → B → Row) (view : A → B) (all : List A) (a : Written)
+pub begin_each : {A B : Type 0} → (names : Numbered) (row : Site → B → Row) (view : A → B) (all : List A) (a : Written)
     → GoesOn (length a.places) names row view all all a a
 unfolding GoesOn
 begin_each names row view all a = (omega arith, λ c g. g)
 
-pub next_each : {A B : Type 0} → (n : ℕ) (names : Names) (row : Site → B → Row) (view : A → B) (all : List A)
+pub next_each : {A B : Type 0} → (n : ℕ) (names : Numbered) (row : Site → B → Row) (view : A → B) (all : List A)
     (k : ℕ) (x : A) (first a b : Written)
     → k < length all → x ≡ get_or all k x → GoesOn n names row view all (drop k all) first a
     → Emits (λ done at. row (site names done) (view x)) a b → GoesOn n names row view all (drop (k + 1) all) first b
@@ -79,7 +79,7 @@ next_each n names row view all k x first a b lt is g e = (
     here : drop k all ≡ x ∷ drop (k + 1) all
     here = drop-cons all k x lt ∙ ap (λ y. y ∷ drop (suc k) all) (sym is) ∙ ap (λ j. x ∷ drop j all) (sym (add-one k))
 
-pub end_each : {A B : Type 0} → (n : ℕ) (names : Names) (row : Site → B → Row) (view : A → B) (all left : List A)
+pub end_each : {A B : Type 0} → (n : ℕ) (names : Numbered) (row : Site → B → Row) (view : A → B) (all left : List A)
     (first a : Written)
     → left ≡ [] → GoesOn n names row view all left first a
     → Goes n (λ done at. each (row (site names done)) (map view all)) first a
@@ -107,13 +107,13 @@ all_item P f xs k x h lt e =
 
 -- ---- the ends of functions
 
-pub returned_none : (names : Names) (l : ℕ) (is_main : Bool) (x : Instr) (a b : Written)
+pub returned_none : (names : Numbered) (l : ℕ) (is_main : Bool) (x : Instr) (a b : Written)
     → x ≡ last_instruction is_main false → Puts l x a b
     → Emits (λ done at. returned (site names done) l is_main None) a b
 returned_none names l true x a b e h = emits_one names l (i.Finish false) a b (subst (λ y. Puts l y a b) e h)
 returned_none names l false x a b e h = emits_one names l i.ReturnNothing a b (subst (λ y. Puts l y a b) e h)
 
-pub returned_some : (names : Names) (l : ℕ) (is_main : Bool) (x : Instr) (e : ResolvedExpressionTree)
+pub returned_some : (names : Numbered) (l : ℕ) (is_main : Bool) (x : Instr) (e : ResolvedExpressionTree)
     (a b c : Written) → x ≡ last_instruction is_main true
     → Emits (λ done at. value (site names done) l e) a b → Puts l x b c
     → Emits (λ done at. returned (site names done) l is_main (Some e)) a c

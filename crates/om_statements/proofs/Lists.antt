@@ -20,11 +20,11 @@ use Rattle.om_rows.specs.Statements.{statement, statements}
 use Rattle.om_statements.specs.declared.labels.JumpLabels.{JumpLabels}
 use Rattle.om_statements.specs.Emits.{jumps_at, EmitsStatement, GoesWith}
 use Rattle.om_statements.specs.Going.{then_with, with_none}
+use Rattle.om_tables.specs.Numbered.{Numbered}
 use Rattle.om_tables.specs.Picks.{own_picks, all_own_picks}
-use Rattle.om_tables.specs.Names.{Names}
 
 -- whoever writes what is left, with the numbers there, has written all
-unfoldable pub Onward : (k : ℕ) → Names → JumpLabels → (first now : Numbers) → (all left : ResolvedStatementsTree)
+unfoldable pub Onward : (k : ℕ) → Numbered → JumpLabels → (first now : Numbers) → (all left : ResolvedStatementsTree)
     → (begun so_far : Written) → Type 0
 Onward k names jumps first now all left begun so_far = (k ≤ length so_far.places) × ((c : Written)
     → GoesWith k (all_own_picks now left) (λ done at. statements (site names done) now left (jumps_at at jumps))
@@ -32,12 +32,12 @@ Onward k names jumps first now all left begun so_far = (k ≤ length so_far.plac
     → GoesWith k (all_own_picks first all) (λ done at. statements (site names done) first all (jumps_at at jumps))
     begun c)
 
-pub onward_begin : (names : Names) (jumps : JumpLabels) (n : Numbers) (all : ResolvedStatementsTree) (a : Written)
+pub onward_begin : (names : Numbered) (jumps : JumpLabels) (n : Numbers) (all : ResolvedStatementsTree) (a : Written)
     → Onward (length a.places) names jumps n n all all a a
 unfolding Onward
 onward_begin names jumps n all a = (omega arith, λ c g. g)
 
-pub onward_next : (k : ℕ) (names : Names) (jumps : JumpLabels) (first now after : Numbers)
+pub onward_next : (k : ℕ) (names : Numbered) (jumps : JumpLabels) (first now after : Numbers)
     (all rest : ResolvedStatementsTree) (s : ResolvedStatementTree) (begun a b : Written)
     → after ≡ behind now s → Onward k names jumps first now all (Statement s rest) begun a → EmitsStatement names
     now s jumps a b
@@ -53,7 +53,7 @@ onward_next k names jumps first now after all rest s begun a b is g e = (
       (jumps_at at jumps)) b c) is h)),
 )
 
-pub onward_end : (k : ℕ) (names : Names) (jumps : JumpLabels) (first now : Numbers) (all : ResolvedStatementsTree)
+pub onward_end : (k : ℕ) (names : Numbered) (jumps : JumpLabels) (first now : Numbers) (all : ResolvedStatementsTree)
     (begun a : Written)
     → Onward k names jumps first now all NoStatements begun a → GoesWith k (all_own_picks first all)
     (λ done at. statements (site names done) first all (jumps_at at jumps)) begun a
@@ -70,7 +70,7 @@ left_item items k x lt is =
     (drop-cons items k x lt ∙ ap (λ y. y ∷ drop (suc k) items) (sym is) ∙ ap (λ j. x ∷ drop j items) (sym (add-one k)))
 
 -- what is left has code, its numbers lead to those behind all, and whoever writes it has written all
-pub left_next : (breaks continues : Bool) (k : ℕ) (names : Names) (jumps : JumpLabels) (first now after : Numbers)
+pub left_next : (breaks continues : Bool) (k : ℕ) (names : Numbered) (jumps : JumpLabels) (first now after : Numbers)
     (all left rest : ResolvedStatementsTree) (s : ResolvedStatementTree) (begun a b : Written)
     → left ≡ Statement s rest → after ≡ behind now s → EmitsStatement names now s jumps a b
     → StatementsHaveCode breaks continues left → behind_all now left ≡ behind_all first all → Onward k names jumps
@@ -88,7 +88,7 @@ left_next breaks continues k names jumps first now after all left rest s begun a
           (subst (λ z. Onward k names jumps first now all z begun a) here onward) e,
     )
 
-pub onward_done : (k : ℕ) (names : Names) (jumps : JumpLabels) (first now : Numbers)
+pub onward_done : (k : ℕ) (names : Numbered) (jumps : JumpLabels) (first now : Numbers)
     (all left : ResolvedStatementsTree) (begun a : Written)
     → left ≡ NoStatements → Onward k names jumps first now all left begun a → GoesWith k (all_own_picks first all)
     (λ done at. statements (site names done) first all (jumps_at at jumps)) begun a
@@ -96,19 +96,19 @@ onward_done k names jumps first now all left begun a none g =
     onward_end k names jumps first now all begun a (subst (λ z. Onward k names jumps first now all z begun a) none g)
 
 -- the same spot
-pub spot_is : (names : Names) (s : ResolvedStatementTree) (x y : Spot) (a b : Written) → x ≡ y
+pub spot_is : (names : Numbered) (s : ResolvedStatementTree) (x y : Spot) (a b : Written) → x ≡ y
     → EmitsStatement names (numbers_of x.numbers) s x.jumps a b → EmitsStatement names (numbers_of y.numbers) s
     y.jumps a b
 spot_is names s x y a b e h = subst (λ z. EmitsStatement names (numbers_of z.numbers) s z.jumps a b) e h
 
 -- the same statement
-pub statement_is : (names : Names) (n : Numbers) (x y : ResolvedStatementTree) (jumps : JumpLabels) (a b : Written)
+pub statement_is : (names : Numbered) (n : Numbers) (x y : ResolvedStatementTree) (jumps : JumpLabels) (a b : Written)
     → x ≡ y
     → EmitsStatement names n x jumps a b → EmitsStatement names n y jumps a b
 statement_is names n x y jumps a b e h = subst (λ z. EmitsStatement names n z jumps a b) e h
 
 -- the same numbers
-pub numbers_are : (names : Names) (n m : Numbers) (s : ResolvedStatementTree) (jumps : JumpLabels) (a b : Written)
+pub numbers_are : (names : Numbered) (n m : Numbers) (s : ResolvedStatementTree) (jumps : JumpLabels) (a b : Written)
     → n ≡ m
     → EmitsStatement names n s jumps a b → EmitsStatement names m s jumps a b
 numbers_are names n m s jumps a b e h = subst (λ z. EmitsStatement names z s jumps a b) e h

@@ -21,7 +21,7 @@ use Rattle.om_rows.specs.Operators.{comparison_of, form_with}
 use Rattle.om_rows.specs.Rows.{end, ins, part, here, ◌▸◌}
 use Rattle.om_rows.specs.Slots.{slot}
 use Rattle.om_rows.specs.Statements.{starts}
-use Rattle.om_tables.specs.Names.{Names}
+use Rattle.om_tables.specs.Numbered.{Numbered}
 
 -- ---- labels that are still free
 
@@ -80,7 +80,7 @@ begins label r a b c h e =
       free = free_emits label r b c (fresh_free label a b h) e;
     }
 
-pub begins_else : (names : Names) (l head label : ℕ) (a b c d : Written) → IsFree head a → Fresh label a b
+pub begins_else : (names : Numbered) (l head label : ℕ) (a b c d : Written) → IsFree head a → Fresh label a b
     → Puts l (i.Jump label) b c → Defines head c d
     → Opens head label (else_begin names l head label) a d
 begins_else names l head label a b c d f h p e =
@@ -95,7 +95,7 @@ begins_else names l head label a b c d f h p e =
           (λ q. omega (arith, len, w, q)) e;
     }
 
-pub ends_loop : (names : Names) (l : ℕ) (labels : LoopLabels) (a b c : Written) → Puts l (i.Jump labels.again) a b
+pub ends_loop : (names : Numbered) (l : ℕ) (labels : LoopLabels) (a b c : Written) → Puts l (i.Jump labels.again) a b
     → Defines labels.over b c
     → Goes labels.over (loop_end names l labels) a c
 ends_loop names l labels a b c p e =
@@ -127,13 +127,14 @@ ends_here label r a b c f h e =
     let l = define_length label a b h in
     goes_here label label r a b c (omega arith) h (goes_less label _ r b c (omega (arith, l, w)) e)
 
-pub ends_put_here : (names : Names) (l : ℕ) (x : Instr) (label : ℕ) (a b c : Written) → Puts l x a b → Defines label b c
+pub ends_put_here : (names : Numbered) (l : ℕ) (x : Instr) (label : ℕ) (a b c : Written)
+    → Puts l x a b → Defines label b c
     → Goes label (λ done at. ins (site names done) l (moved at x) ▸ here (at label) ▸ end) a c
 ends_put_here names l x label a b c p h =
     goes_put names label l x (λ done at. here (at label) ▸ end) a b c p (goes_here label label (λ done at. end) b c
     c (omega arith) h (goes_end label c))
 
-pub ends_put : (names : Names) (l : ℕ) (x : Instr) (label : ℕ) (a b : Written) → IsFree label a → Puts l x a b
+pub ends_put : (names : Numbered) (l : ℕ) (x : Instr) (label : ℕ) (a b : Written) → IsFree label a → Puts l x a b
     → Goes label (λ done at. ins (site names done) l (moved at x) ▸ end) a b
 ends_put names l x label a b f p = goes_put names label l x (λ done at. end) a b b p (goes_end label b)
 
@@ -259,7 +260,7 @@ ends_turn next over r s a b c d f apart h e g =
 
 -- ---- worksharing
 
-pub begins_sections : (names : Names) (l : ℕ) (clauses : List ResolvedClauseTree) (sections : Parts)
+pub begins_sections : (names : Numbered) (l : ℕ) (clauses : List ResolvedClauseTree) (sections : Parts)
     (labels : LoopLabels) (a b c d e f g h : Written)
     → Fresh labels.again a b → Fresh labels.over b c → Emits (λ done at. starts (site names done) l clauses) c d
     → Puts l (i.Sections sections.count) d e
@@ -291,7 +292,7 @@ begins_sections names l clauses sections labels a b c d e f g h s1 s2 s3 s4 s5 s
           (λ q. omega (arith, q, s1.is, s2.is, l1)) s5) s6) s7;
     }
 
-pub begins_worksharing : (names : Names) (l : ℕ) (clauses : List ResolvedClauseTree) (loop : ResolvedLoopTree)
+pub begins_worksharing : (names : Numbered) (l : ℕ) (clauses : List ResolvedClauseTree) (loop : ResolvedLoopTree)
     (comparison : Comparison) (slot_number chunk : ℕ) (labels : LoopLabels)
     → (a b c d e f g h j k : Written)
     → comparison_of loop.comparison ≡ Some comparison → ((done : Finished) → slot (site names done) loop.variable

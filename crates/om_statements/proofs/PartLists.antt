@@ -25,7 +25,7 @@ use Rattle.om_statements.specs.Emits.{EmitsStatements}
 use Rattle.om_statements.specs.Parts.{AreFree, EmitsParts, GoesParts, OpensParts, part_head, part_labels}
 use Rattle.om_statements.specs.Going.{before_with, free_with, free_within, goes_place, then_with, with_as, with_none}
 use Rattle.om_tables.specs.declared.numbers.Numbers as tables
-use Rattle.om_tables.specs.Names.{Names}
+use Rattle.om_tables.specs.Numbered.{Numbered}
 use Rattle.om_tables.specs.Numbering.{numbers_of}
 use Rattle.om_tables.specs.Picks.{all_own_picks, parts_own_picks}
 
@@ -33,7 +33,7 @@ abbrev no_jumps : JumpLabels
 no_jumps = record { over = None; next = None }
 
 -- a part and what comes behind it
-part_then : (names : Names) (n : Numbers) (spot : PartsSpot) (items : ResolvedStatementsTree)
+part_then : (names : Numbered) (n : Numbers) (spot : PartsSpot) (items : ResolvedStatementsTree)
     (rest : ResolvedPartsTree) (k label : ℕ) (a b c d e : Written)
     → k ≤ label → slice_get a.places label ≡ Some None → Defines label a b → EmitsStatements names n items no_jumps
     b c → Puts spot.line (i.Jump spot.again) c d
@@ -66,19 +66,19 @@ part_then names n spot items rest k label a b c d e le free h1 h2 h3 h4 =
     placed = goes_place label a b h1
 
 -- whoever writes the parts that are left has written all
-unfoldable pub OnwardParts : Names → PartsSpot → (first now : Numbers) → (all left : ResolvedPartsTree)
+unfoldable pub OnwardParts : Numbered → PartsSpot → (first now : Numbers) → (all left : ResolvedPartsTree)
     → (label : ℕ) → (begun so_far : Written) → Type 0
 OnwardParts names spot first now all left label begun so_far = (c : Written)
     → GoesParts spot.first names now left spot label so_far c → GoesParts spot.first names first all spot spot.first
     begun c
 
-pub onward_parts_begin : (names : Names) (spot : PartsSpot) (n : Numbers) (all : ResolvedPartsTree) (label : ℕ)
+pub onward_parts_begin : (names : Numbered) (spot : PartsSpot) (n : Numbers) (all : ResolvedPartsTree) (label : ℕ)
     (a : Written)
     → label ≡ spot.first → OnwardParts names spot n n all all label a a
 unfolding OnwardParts
 onward_parts_begin names spot n all label a is c g = subst (λ l. GoesParts spot.first names n all spot l a c) is g
 
-onward_parts_next : (names : Names) (spot : PartsSpot) (first now after : Numbers) (all rest : ResolvedPartsTree)
+onward_parts_next : (names : Numbered) (spot : PartsSpot) (first now after : Numbers) (all rest : ResolvedPartsTree)
     (items : ResolvedStatementsTree) (label next : ℕ) (begun a b c d : Written)
     → after ≡ behind_all now items → next ≡ label + 1 → spot.first ≤ label → slice_get a.places label ≡ Some None
     → OnwardParts names spot first now all (Part items rest) label begun a
@@ -90,7 +90,7 @@ onward_parts_next names spot first now after all rest items label next begun a b
     (subst (λ l. GoesParts spot.first names (behind_all now items) rest spot l d e) one
     (subst (λ m. GoesParts spot.first names m rest spot next d e) is h4)))
 
-onward_parts_end : (names : Names) (spot : PartsSpot) (first now : Numbers) (all : ResolvedPartsTree) (label : ℕ)
+onward_parts_end : (names : Numbered) (spot : PartsSpot) (first now : Numbers) (all : ResolvedPartsTree) (label : ℕ)
     (begun a : Written)
     → OnwardParts names spot first now all NoParts label begun a → EmitsParts names first all spot begun a
 unfolding OnwardParts
@@ -127,7 +127,7 @@ free_first first left label d is some free =
     ap (λ l. slice_get d.places l) (let e : label ≡ first + 0 = omega (arith, is) in e) ∙ free 0 some
 
 -- they stay free while a part is written
-free_next : (names : Names) (n : Numbers) (items : ResolvedStatementsTree) (spot : PartsSpot)
+free_next : (names : Numbered) (n : Numbers) (items : ResolvedStatementsTree) (spot : PartsSpot)
     (first left label next : ℕ) (a b c d : Written)
     → label ≡ first → next ≡ first + 1 → AreFree first (suc left) a
     → Defines label a b → EmitsStatements names n items no_jumps b c → Puts spot.line (i.Jump spot.again) c d
@@ -142,7 +142,7 @@ free_next names n items spot first left label next a b c d is one free h1 h2 h3 
 
 -- what is left has code, its numbers lead to those behind all, its labels are free, and whoever writes it has
 -- written all
-pub parts_next : (names : Names) (spot : PartsSpot) (first now after : Numbers) (all left rest : ResolvedPartsTree)
+pub parts_next : (names : Numbered) (spot : PartsSpot) (first now after : Numbers) (all left rest : ResolvedPartsTree)
     (items : ResolvedStatementsTree)
     → (label next count : ℕ) (begun a b c d : Written)
     → left ≡ Part items rest → after ≡ behind_all now items → next ≡ label + 1 → spot.first ≤ label → Defines label a b
@@ -164,7 +164,7 @@ parts_next names spot first now after all left rest items label next count begun
           (subst (λ z. OnwardParts names spot first now all z label begun a) here onward) h1 h2 h3,
     )
 
-pub onward_parts_done : (names : Names) (spot : PartsSpot) (first now : Numbers) (all left : ResolvedPartsTree)
+pub onward_parts_done : (names : Numbered) (spot : PartsSpot) (first now : Numbers) (all left : ResolvedPartsTree)
     (label : ℕ) (begun a : Written)
     → left ≡ NoParts → OnwardParts names spot first now all left label begun a → EmitsParts names first all spot begun a
 onward_parts_done names spot first now all left label begun a none g =
@@ -174,7 +174,7 @@ onward_parts_done names spot first now all left label begun a none g =
 -- ---- the same lists
 
 -- the same spot and the same statements
-pub items_are : (names : Names) (x y : Spot) (xs ys : List ResolvedStatement) (a b : Written) → x ≡ y → xs ≡ ys
+pub items_are : (names : Numbered) (x y : Spot) (xs ys : List ResolvedStatement) (a b : Written) → x ≡ y → xs ≡ ys
     → EmitsStatements names (numbers_of x.numbers) (trees.statements (map view_resolved_statement xs)) x.jumps a b
     → EmitsStatements names (numbers_of y.numbers) (trees.statements (map view_resolved_statement ys)) y.jumps a b
 items_are names x y xs ys a b e f h =
@@ -184,14 +184,15 @@ items_are names x y xs ys a b e f h =
     z.jumps a b) e h)
 
 -- the same parts
-pub parts_are : (names : Names) (n : Numbers) (spot : PartsSpot) (ps qs : List ResolvedPart) (a b : Written) → ps ≡ qs
+pub parts_are : (names : Numbered) (n : Numbers) (spot : PartsSpot) (ps qs : List ResolvedPart) (a b : Written)
+    → ps ≡ qs
     → EmitsParts names n (trees.parts (map view_resolved_part ps)) spot a b → EmitsParts names n
     (trees.parts (map view_resolved_part qs)) spot a b
 parts_are names n spot ps qs a b e h = subst (λ z. EmitsParts names n (trees.parts (map view_resolved_part z)) spot
     a b) e h
 
 -- the same clauses and the same parts
-pub opens_are : (names : Names) (l : ℕ) (numbers : tables.Numbers) (spot : PartsSpot) (xs ys : List ResolvedClause)
+pub opens_are : (names : Numbered) (l : ℕ) (numbers : tables.Numbers) (spot : PartsSpot) (xs ys : List ResolvedClause)
     (ps qs : List ResolvedPart) (a b : Written)
     → xs ≡ ys → ps ≡ qs → OpensParts names (part_head l numbers (map view_resolved_clause xs) (length ps)) spot a b
     → OpensParts names (part_head l numbers (map view_resolved_clause ys) (length qs)) spot a b

@@ -20,7 +20,7 @@ use Rattle.om_statements.specs.Emits.{EmitsStatement}
 use Rattle.om_statements.specs.Going.{goes_then, with_none}
 use Rattle.om_tables.specs.declared.copies.FirstCopy.{FirstCopy}
 use Rattle.om_tables.specs.Copies.{first_copies_of, first_copy}
-use Rattle.om_tables.specs.Names.{Names}
+use Rattle.om_tables.specs.Numbered.{Numbered}
 
 -- how many copies were loaded
 pub counted : (copies : List FirstCopy) (given : List rows.FirstCopy) (values : ℕ) → first_copies_of copies ≡ given
@@ -51,12 +51,12 @@ pub count_few : (slots : List ℕ) (copies : List rows.FirstCopy) (count : ℕ) 
 count_few slots copies count few is = let le = given_few slots copies in omega (arith, few, is, le)
 
 -- and that they are those of the region
-pub given_loaded : (names : Names) (l : ℕ) (loaded given : List rows.FirstCopy) (a b : Written) → loaded ≡ given
+pub given_loaded : (names : Numbered) (l : ℕ) (loaded given : List rows.FirstCopy) (a b : Written) → loaded ≡ given
     → EmitsRow names (λ at. each (load_original at l) loaded) a b
     → EmitsRow names (λ at. each (load_original at l) given) a b
 given_loaded names l loaded given a b is h = subst (λ z. EmitsRow names (λ at. each (load_original at l) z) a b) is h
 
-pub emits_task : (names : Names) (n : Numbers) (first : Span) (clauses : List ResolvedClauseTree)
+pub emits_task : (names : Numbered) (n : Numbers) (first : Span) (clauses : List ResolvedClauseTree)
     (captures : List Capture) (s : ResolvedStatementTree) (jumps : JumpLabels)
     → (values : ℕ) (a b c : Written)
     → values ≡ length (given_copies clauses captures s)
@@ -70,7 +70,7 @@ emits_task names n first clauses captures s jumps values a b c count h1 h2 =
     (λ done at. spawn_row first.line n.bodies (length (given_copies clauses captures s)) (site names done)) a b c
     (omega arith) h1.keeps.more h1 e2)
 
-pub emits_parallel : (names : Names) (n : Numbers) (first : Span) (clauses : List ResolvedClauseTree)
+pub emits_parallel : (names : Numbered) (n : Numbers) (first : Span) (clauses : List ResolvedClauseTree)
     (captures : List Capture) (s : ResolvedStatementTree) (jumps : JumpLabels)
     → (sized : Bool) (values : ℕ) (a b c d : Written)
     → values ≡ length (given_copies clauses captures s) → sized ≡ is_some (clause_value clauses)

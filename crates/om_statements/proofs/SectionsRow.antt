@@ -26,7 +26,7 @@ use Rattle.om_statements.specs.Parts.{AreFree, EmitsParts, GoesParts, OpensParts
 use Rattle.om_statements.specs.Parts.{part_labels}
 use Rattle.om_statements.specs.Going.{free_within, goes_place, goes_then, then_with, with_as, with_behind}
 use Rattle.om_tables.specs.declared.numbers.Numbers as tables
-use Rattle.om_tables.specs.Names.{Names}
+use Rattle.om_tables.specs.Numbered.{Numbered}
 use Rattle.om_tables.specs.Numbering.{numbers_of}
 use Rattle.om_tables.specs.Picks.{parts_own_picks}
 
@@ -78,7 +78,7 @@ part_free number first count a b h k lt =
     ∙ get_behind a.places (unplaced count) k
     ∙ unplaced_at count k lt
 
-pub opens_parts : (names : Names) (head : PartHead) (labels : LoopLabels) (spot : PartsSpot) (a b c : Written)
+pub opens_parts : (names : Numbered) (head : PartHead) (labels : LoopLabels) (spot : PartsSpot) (a b c : Written)
     → spot.again ≡ labels.again → spot.over ≡ labels.over → spot.line ≡ head.line → numbers_of spot.numbers
     ≡ next_pick head.numbers
     → Begins labels.over (sections_begin names head.line head.clauses
@@ -131,7 +131,7 @@ opens_parts names head labels spot a b c again over line numbers g h = record {
 
 -- ---- the whole
 
-pub emits_sections : (names : Names) (n : Numbers) (first : Span) (clauses : List ResolvedClauseTree)
+pub emits_sections : (names : Numbered) (n : Numbers) (first : Span) (clauses : List ResolvedClauseTree)
     (nowait : Bool) (all : ResolvedPartsTree) (jumps : JumpLabels) (count : ℕ)
     → (spot : PartsSpot) (a b c d e : Written)
     → labels_from spot.first count ≡ part_labels spot.first all

@@ -7,7 +7,7 @@ use Rattle.om_resolved.specs.ResolvedTree.{ResolvedStatementTree, ResolvedStatem
 use Rattle.om_rows.specs.Bodies.{Numbers}
 use Rattle.om_rows.specs.Statements.{Jumps, statement, statements}
 use Rattle.om_statements.specs.declared.labels.JumpLabels.{JumpLabels}
-use Rattle.om_tables.specs.Names.{Names}
+use Rattle.om_tables.specs.Numbered.{Numbered}
 use Rattle.om_tables.specs.Picks.{own_picks, all_own_picks}
 
 -- where `break` and `continue` go, by the places of their labels
@@ -36,10 +36,10 @@ EmitsWith numbers r old new = GoesWith (length old.places) numbers r old new
 
 -- ---- statements, with the lists of their own `sections`
 
-abbrev pub EmitsStatement : Names → Numbers → ResolvedStatementTree → JumpLabels → Written → Written → Type 0
+abbrev pub EmitsStatement : Numbered → Numbers → ResolvedStatementTree → JumpLabels → Written → Written → Type 0
 EmitsStatement names n s jumps =
     EmitsWith (own_picks n s) (λ done at. statement (site names done) n s (jumps_at at jumps))
 
-abbrev pub EmitsStatements : Names → Numbers → ResolvedStatementsTree → JumpLabels → Written → Written → Type 0
+abbrev pub EmitsStatements : Numbered → Numbers → ResolvedStatementsTree → JumpLabels → Written → Written → Type 0
 EmitsStatements names n items jumps =
     EmitsWith (all_own_picks n items) (λ done at. statements (site names done) n items (jumps_at at jumps))

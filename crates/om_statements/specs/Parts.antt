@@ -10,7 +10,7 @@ use Rattle.om_rows.specs.Statements.{parts}
 use Rattle.om_statements.specs.declared.sections.PartsSpot.{PartsSpot}
 use Rattle.om_statements.specs.Emits.{GoesWith}
 use Rattle.om_tables.specs.declared.numbers.Numbers as tables
-use Rattle.om_tables.specs.Names.{Names}
+use Rattle.om_tables.specs.Numbered.{Numbered}
 use Rattle.om_tables.specs.Numbering.{numbers_of}
 use Rattle.om_tables.specs.Picks.{parts_own_picks}
 
@@ -28,7 +28,7 @@ part_head line numbers clauses count =
     record { line = line; numbers = numbers_of numbers; clauses = clauses; count = count }
 
 -- its list of PICK stands in the program, and its begin in the code
-abbrev pub head_row : Names → PartHead → PartsSpot → emits.Part
+abbrev pub head_row : Numbered → PartHead → PartsSpot → emits.Part
 head_row names head spot done at = λ p q.
     (slice_get done.picks head.numbers.picks ≡ Some (map at (labels_from spot.first head.count)))
     × sections_begin names head.line head.clauses (record { number = head.numbers.picks; count = head.count })
@@ -39,7 +39,7 @@ abbrev pub AreFree : (first count : ℕ) → Written → Type 0
 AreFree first count d = (k : ℕ) → k < count → slice_get d.places (first + k) ≡ Some None
 
 -- the begin is written, and the labels of the parts and the one behind them are still to be placed
-pub record OpensParts (names : Names) (head : PartHead) (spot : PartsSpot) (old new : Written) : Type 0 where
+pub record OpensParts (names : Numbered) (head : PartHead) (spot : PartsSpot) (old new : Written) : Type 0 where
   pub goes : GoesWith (length old.places) (head.numbers.picks ∷ []) (head_row names head spot) old new
   pub line : spot.line ≡ head.line
   pub numbers : numbers_of spot.numbers ≡ next_pick head.numbers
@@ -57,11 +57,11 @@ part_labels first NoParts = []
 part_labels first (Part items rest) = first ∷ part_labels (first + 1) rest
 
 -- parts are written from the label of the first one on
-abbrev pub GoesParts : (lowest : ℕ) → Names → Numbers → ResolvedPartsTree → PartsSpot → (first : ℕ) → Written
+abbrev pub GoesParts : (lowest : ℕ) → Numbered → Numbers → ResolvedPartsTree → PartsSpot → (first : ℕ) → Written
     → Written → Type 0
 GoesParts lowest names n all spot first =
     GoesWith lowest (parts_own_picks n all)
     (λ done at. parts (site names done) n spot.line (at spot.again) all (map at (part_labels first all)))
 
-abbrev pub EmitsParts : Names → Numbers → ResolvedPartsTree → PartsSpot → Written → Written → Type 0
+abbrev pub EmitsParts : Numbered → Numbers → ResolvedPartsTree → PartsSpot → Written → Written → Type 0
 EmitsParts names n all spot = GoesParts spot.first names n all spot spot.first

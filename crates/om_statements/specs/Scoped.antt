@@ -10,7 +10,7 @@ use Rattle.om_rows.specs.Rows.{Site}
 use Rattle.om_rows.specs.Scopes.{Found, Scoping, closed_at, opened_with}
 use Rattle.om_statements.specs.declared.writing.ScopeStack.{ScopeStack}
 use Rattle.om_statements.specs.declared.writing.Writing.{Writing}
-use Rattle.om_tables.specs.Names.{Names}
+use Rattle.om_tables.specs.Numbered.{Numbered}
 
 -- a scope begins at this place
 pub record BeginsScope (from : ℕ) (length : Option ℕ) (variable : LocalVariable) (old new : ScopeStack)
@@ -41,7 +41,7 @@ pub record EndsLast (to : ℕ) (old new : ScopeStack) : Type 0 where
 
 -- scopes begin and end in code that is written: whatever finished program agrees with it, they are those of
 -- this row
-pub record ScopesStand (names : Names) (row : Site → Scoping) (a : Written) (x : ScopeStack) (b : Written)
+pub record ScopesStand (names : Numbered) (row : Site → Scoping) (a : Written) (x : ScopeStack) (b : Written)
     (y : ScopeStack) : Type 0 where
   pub found : Found
   pub opened : y.opened.items ≡ x.opened.items ++ found.opened
@@ -50,5 +50,5 @@ pub record ScopesStand (names : Names) (row : Site → Scoping) (a : Written) (x
   pub stands : (done : Finished) (at : Labels) → Fits done at (length a.code) b
       → row (site names done) (length a.code) (length b.code) found
 
-abbrev pub EmitsScopes : Names → (Site → Scoping) → Writing → Writing → Type 0
+abbrev pub EmitsScopes : Numbered → (Site → Scoping) → Writing → Writing → Type 0
 EmitsScopes names row old new = ScopesStand names row old.draft old.scopes new.draft new.scopes

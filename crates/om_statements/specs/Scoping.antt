@@ -15,7 +15,7 @@ use Rattle.om_rows.specs.Scopes.{before, both, each_scope, opens_at, opens, bloc
 use Rattle.om_statements.specs.declared.writing.ScopeStack.{ScopeStack}
 use Rattle.om_statements.specs.Going.{writes_then}
 use Rattle.om_statements.specs.Scoped.{BeginsScope, EndsScopes, ScopesStand}
-use Rattle.om_tables.specs.Names.{Names}
+use Rattle.om_tables.specs.Numbered.{Numbered}
 
 -- ---- code
 
@@ -34,7 +34,7 @@ writes_here label a b h =
     (goes_here 0 label (λ done at. end) a b b (omega arith) h (goes_end 0 b)).writes
 
 -- an instruction is
-pub writes_put : (names : Names) (l : ℕ) (x : Instr) (a b : Written) → Puts l x a b
+pub writes_put : (names : Numbered) (l : ℕ) (x : Instr) (a b : Written) → Puts l x a b
     → Writes (λ done at. instructions 1) a b
 writes_put names l x a b h =
     writes_as (λ done at. ins (site names done) l (moved at x) end) (λ done at. instructions 1) a b
@@ -52,7 +52,7 @@ writes_before r a b c w g =
 
 -- ---- scopes
 
-module _ (names : Names) where
+module _ (names : Numbered) where
   abbrev Stand : (Site → Scoping) → Written → ScopeStack → Written → ScopeStack → Type 0
   Stand row a x b y = ScopesStand names row a x b y
 

@@ -23,13 +23,13 @@ use Rattle.om_rows.specs.Rows.{Site, Row, end, never, ins, part, here, ◌▸◌
 use Rattle.om_rows.specs.Slots.{place, slot}
 use Rattle.om_rows.specs.Statements.{test, start, starts, filter_row, lock_number, reductions, worksharing_end}
 use Rattle.om_rows.specs.Statements.{clause_value, jump}
-use Rattle.om_tables.specs.Names.{Names}
+use Rattle.om_tables.specs.Numbered.{Numbered}
 
 -- ---- rows that name no label
 
--- a row is written that is the same in every scope
+-- a row is written that is the same in every body
 abbrev pub EmitsAnywhere : (Site → Row) → Written → Written → Type 0
-EmitsAnywhere row old new = (names : Names) → EmitsRow names row old new
+EmitsAnywhere row old new = (names : Numbered) → EmitsRow names row old new
 
 -- a copy of a reduction begins with the operator's identity, and a firstprivate one with its original's value
 abbrev pub identity_start : ℕ → ReductionOperator → LocalVariable → Site → Row
@@ -87,30 +87,31 @@ pub record FreshTurn (labels : TurnLabels) (old new : Written) : Type 0 where
   pub over : Fresh labels.over third new
 
 -- c, JZ E
-abbrev pub test_at : Names → ℕ → (otherwise : ℕ) → ResolvedExpressionTree → Part
+abbrev pub test_at : Numbered → ℕ → (otherwise : ℕ) → ResolvedExpressionTree → Part
 test_at names l otherwise c done at = test (site names done) l (at otherwise) c
 
-abbrev pub EmitsTest : Names → ℕ → (otherwise : ℕ) → ResolvedExpressionTree → Written → Written → Type 0
+abbrev pub EmitsTest : Numbered → ℕ → (otherwise : ℕ) → ResolvedExpressionTree → Written → Written → Type 0
 EmitsTest names l otherwise c = Emits (test_at names l otherwise c)
 
-abbrev pub EmitsPerhapsTest : Names → ℕ → (otherwise : ℕ) → Option ResolvedExpressionTree → Written → Written → Type 0
+abbrev pub EmitsPerhapsTest : Numbered → ℕ → (otherwise : ℕ) → Option ResolvedExpressionTree → Written → Written
+    → Type 0
 EmitsPerhapsTest names l otherwise c = Emits (λ done at. perhaps (test (site names done) l (at otherwise)) c)
 
 -- `break` and `continue`: JMP to a label that is there
 abbrev pub EmitsJump : ℕ → Option ℕ → Written → Written → Type 0
-EmitsJump l label old new = (names : Names)
+EmitsJump l label old new = (names : Numbered)
     → Emits (λ done at. given (option_map at label) (jump (site names done) l)) old new
 
 -- JMP E, L:
-abbrev pub else_begin : Names → ℕ → (head behind : ℕ) → Part
+abbrev pub else_begin : Numbered → ℕ → (head behind : ℕ) → Part
 else_begin names l head behind done at = ins (site names done) l (i.Jump (at behind)) ▸ here (at head) ▸ end
 
 -- L: c, JZ E
-abbrev pub while_begin : Names → ℕ → ResolvedExpressionTree → LoopLabels → Part
+abbrev pub while_begin : Numbered → ℕ → ResolvedExpressionTree → LoopLabels → Part
 while_begin names l c labels done at = here (at labels.again) ▸ test (site names done) l (at labels.over) c
 
 -- JMP L, E:
-abbrev pub loop_end : Names → ℕ → LoopLabels → Part
+abbrev pub loop_end : Numbered → ℕ → LoopLabels → Part
 loop_end names l labels done at = ins (site names done) l (i.Jump (at labels.again)) ▸ here (at labels.over) ▸ end
 
 abbrev pub loop_labels : TurnLabels → LoopLabels
@@ -121,25 +122,25 @@ abbrev pub do_begin : TurnLabels → Part
 do_begin labels done at = here (at labels.again) ▸ end
 
 -- C: c, JZ E, JMP L, E:
-abbrev pub do_end : Names → ℕ → TurnLabels → ResolvedExpressionTree → Part
+abbrev pub do_end : Numbered → ℕ → TurnLabels → ResolvedExpressionTree → Part
 do_end names l labels c done at =
     here (at labels.next) ▸ part (test (site names done) l (at labels.over) c) ▸ loop_end names l
     (loop_labels labels) done at
 
 -- i, L: c, JZ E
-abbrev pub for_begin : Names → ℕ → ResolvedStartTree → Option ResolvedExpressionTree → TurnLabels → Part
+abbrev pub for_begin : Numbered → ℕ → ResolvedStartTree → Option ResolvedExpressionTree → TurnLabels → Part
 for_begin names l begin c labels done at =
     part (start (site names done) l begin) ▸ here (at labels.again) ▸ perhaps
     (test (site names done) l (at labels.over)) c
 
 -- C: p, JMP L, E:
-abbrev pub for_end : Names → ℕ → TurnLabels → Option ResolvedExpressionTree → Part
+abbrev pub for_end : Numbered → ℕ → TurnLabels → Option ResolvedExpressionTree → Part
 for_end names l labels step done at =
     here (at labels.next) ▸ part (perhaps (effect (site names done) l) step) ▸ loop_end names l (loop_labels labels)
     done at
 
 -- bounds and starts, LOOP, G: GRAB E, I: ITER i G
-abbrev pub worksharing_rest : Names → ℕ → List ResolvedClauseTree → ResolvedLoopTree → LoopLabels → (chunk : ℕ)
+abbrev pub worksharing_rest : Numbered → ℕ → List ResolvedClauseTree → ResolvedLoopTree → LoopLabels → (chunk : ℕ)
     → Comparison → Part
 worksharing_rest names l clauses loop labels chunk comparison done at =
     part (bounds_row l clauses loop (site names done)) ▸ ins (site names done) l (i.Loop (form_with loop comparison))
@@ -147,20 +148,20 @@ worksharing_rest names l clauses loop labels chunk comparison done at =
     ▸ here (at labels.again) ▸ ins (site names done) l (i.Iterate (slot (site names done) loop.variable) (at chunk))
     ▸ end
 
-abbrev pub worksharing_begin : Names → ℕ → List ResolvedClauseTree → ResolvedLoopTree → LoopLabels → Part
+abbrev pub worksharing_begin : Numbered → ℕ → List ResolvedClauseTree → ResolvedLoopTree → LoopLabels → Part
 worksharing_begin names l clauses loop labels done at = λ p q. (chunk : ℕ) ×
     given (comparison_of loop.comparison) (λ comparison. worksharing_rest names l clauses loop labels chunk
     comparison done at) p q
 
 -- starts, SECT n, G: GRAB E, PICK
-abbrev pub sections_begin : Names → ℕ → List ResolvedClauseTree → Parts → LoopLabels → Part
+abbrev pub sections_begin : Numbered → ℕ → List ResolvedClauseTree → Parts → LoopLabels → Part
 sections_begin names l clauses sections labels done at =
     part (starts (site names done) l clauses) ▸ ins (site names done) l (i.Sections sections.count)
     ▸ here (at labels.again) ▸ ins (site names done) l (i.Grab (at labels.over)) ▸ ins (site names done) l
     (i.Pick sections.number) ▸ end
 
 -- what stands before the statement of a construct that is no `atomic`
-abbrev pub construct_begin : Names → ℕ → ConstructKind → List ResolvedClauseTree → (label : ℕ) → Part
+abbrev pub construct_begin : Numbered → ℕ → ConstructKind → List ResolvedClauseTree → (label : ℕ) → Part
 construct_begin names l (constructs.Single nowait) clauses label done at =
     ins (site names done) l (i.Single (at label)) ▸ starts (site names done) l clauses
 construct_begin names l constructs.Masked clauses label done at =
@@ -172,7 +173,7 @@ construct_begin names l constructs.Atomic clauses label done at = never
 construct_begin names l constructs.Taskgroup clauses label done at = ins (site names done) l i.GroupBegin ▸ end
 
 -- what stands behind it
-abbrev pub construct_end : Names → ℕ → ConstructKind → (label : ℕ) → Part
+abbrev pub construct_end : Numbered → ℕ → ConstructKind → (label : ℕ) → Part
 construct_end names l (constructs.Single nowait) label done at = here (at label) ▸ worksharing_end (site names done)
     l nowait
 construct_end names l constructs.Masked label done at = ins (site names done) l i.EndMasked ▸ here (at label) ▸ end

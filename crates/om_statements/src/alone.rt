@@ -6,7 +6,7 @@ ghost use Rattle.om_statements.specs.Stretches.{EmitsAnywhere};
 ghost use Rattle.om_resolved.specs.ResolvedView.{view_resolved_statement, view_resolved_update};
 ghost use Rattle.om_rows.specs.Coded.{AssignmentHasCode, UpdateHasCode};
 ghost use Rattle.om_rows.specs.Statements.{alone_row, assignment_row, update_row};
-ghost use Rattle.om_tables.specs.Scopes.{names_of};
+ghost use Rattle.om_tables.specs.BodyTables.{numbered_by};
 
 use crate::barrier::barrier;
 use crate::operator::{side_of, update_of};
@@ -15,7 +15,7 @@ use om_code::instruction::Barrier;
 use om_emit::draft::Draft;
 use om_emit::{effect, value};
 use om_resolved::{ResolvedStatement, ResolvedUpdate, StandAlone};
-use om_tables::Scope;
+use om_tables::BodyTables;
 use std::alloc::AllocError;
 
 /// Writes a directive that stands alone.
@@ -47,21 +47,21 @@ pub fn stand_alone(draft: &mut Draft, line: u32, directive: &StandAlone) -> Resu
 /// Writes an `atomic` that updates (OpenMP API 5.2, section 15.8.4).
 pub fn update(
     draft: &mut Draft,
-    scope: &Scope<'_>,
+    tables: &BodyTables<'_>,
     line: u32,
     update: &ResolvedUpdate,
 ) -> Result<(), AllocError>
     requires { UpdateHasCode (view_resolved_update update.now) }
     ensures { let tree = view_resolved_update update.now in
         OnOk result
-        (EmitsRow (names_of scope.now) (λ at. update_row at line tree) draft.old draft.new) }
+        (EmitsRow (numbered_by tables.now) (λ at. update_row at line tree) draft.old draft.new) }
 {
     let operator = update_of(update.operator);
     let side = side_of(update.side);
-    let place = scope.place(update.variable);
+    let place = tables.place(update.variable);
     match &update.index {
         None => {
-            value(draft, scope, line, &update.operand)?;
+            value(draft, tables, line, &update.operand)?;
             draft.put(
                 line,
                 Instr::Atomic {
@@ -73,8 +73,8 @@ pub fn update(
             Ok(())
         }
         Some(index) => {
-            value(draft, scope, line, index)?;
-            value(draft, scope, line, &update.operand)?;
+            value(draft, tables, line, index)?;
+            value(draft, tables, line, &update.operand)?;
             draft.put(
                 line,
                 Instr::AtomicElement {
@@ -91,14 +91,14 @@ pub fn update(
 /// Writes the assignment of an `atomic` that reads or writes, on the directive's line.
 pub fn assignment(
     draft: &mut Draft,
-    scope: &Scope<'_>,
+    tables: &BodyTables<'_>,
     line: u32,
     statement: &ResolvedStatement,
 ) -> Result<(), AllocError>
     requires { AssignmentHasCode (view_resolved_statement statement.now) }
     ensures { let tree = view_resolved_statement statement.now in
         OnOk result
-        (EmitsRow (names_of scope.now) (λ at. assignment_row at line tree) draft.old draft.new) }
+        (EmitsRow (numbered_by tables.now) (λ at. assignment_row at line tree) draft.old draft.new) }
 {
     let ResolvedStatement::Expression {
         value: expression,
@@ -107,5 +107,5 @@ pub fn assignment(
     else {
         unreachable!()
     };
-    effect(draft, scope, line, expression)
+    effect(draft, tables, line, expression)
 }

@@ -4,30 +4,30 @@ ghost use Rattle.std.specs.Prelude.{◌≡◌, IfOk, None, Some, slice_get};
 ghost use Rattle.om_statements.specs.Stretches.{Begins, Opens, else_begin, test_at};
 ghost use Rattle.om_resolved.specs.ResolvedView.{view_resolved_expression};
 ghost use Rattle.om_rows.specs.Coded.{ValueHasCode};
-ghost use Rattle.om_tables.specs.Names.{Names};
-ghost use Rattle.om_tables.specs.Scopes.{names_of};
+ghost use Rattle.om_tables.specs.BodyTables.{numbered_by};
+ghost use Rattle.om_tables.specs.Numbered.{Numbered};
 
 use crate::declaration::test;
 use om_code::Instr;
 use om_emit::draft::Draft;
 use om_resolved::ResolvedExpression;
-use om_tables::Scope;
+use om_tables::BodyTables;
 use std::alloc::AllocError;
 
 /// Writes the head of an `if` (C17 6.8.4.1). The label is to be placed behind what it guards.
 pub fn begin_if(
     draft: &mut Draft,
-    scope: &Scope<'_>,
+    tables: &BodyTables<'_>,
     line: u32,
     condition: &ResolvedExpression,
 ) -> Result<u32, AllocError>
     requires { ValueHasCode (view_resolved_expression condition.now) }
-    ensures { let names = names_of scope.now in
+    ensures { let names = numbered_by tables.now in
         let tree = view_resolved_expression condition.now in
         IfOk result (λ label. Begins label (test_at names line label tree) draft.old draft.new) }
 {
     let label = draft.fresh()?;
-    test(draft, scope, line, condition, label)?;
+    test(draft, tables, line, condition, label)?;
     Ok(label)
 }
 
@@ -35,7 +35,7 @@ pub fn begin_if(
 /// second, which begins at the head's label. The new label is to be placed behind the second.
 pub fn begin_else(draft: &mut Draft, line: u32, head: u32) -> Result<u32, AllocError>
     requires { slice_get draft.old.places head ≡ Some None }
-    ensures { IfOk result (λ label. (names : Names) →
+    ensures { IfOk result (λ label. (names : Numbered) →
         Opens head label (else_begin names line head label) draft.old draft.new) }
 {
     let label = draft.fresh()?;

@@ -9,8 +9,8 @@ ghost use Rattle.om_statements.specs.Stretches.{identity_start, original_start};
 ghost use Rattle.om_resolved.specs.ResolvedView.{view_resolved_clause, view_resolved_expression};
 ghost use Rattle.om_rows.specs.Statements as rows;
 ghost use Rattle.om_rows.specs.Statements.{clause_reduction_start, clause_start, combine_clause};
-ghost use Rattle.om_tables.specs.Names.{Names};
-ghost use Rattle.om_tables.specs.Scopes.{names_of};
+ghost use Rattle.om_tables.specs.BodyTables.{numbered_by};
+ghost use Rattle.om_tables.specs.Numbered.{Numbered};
 
 use crate::operator::{identity_of, reduction_of};
 use crate::writing::{ScopeStack, Writing};
@@ -19,7 +19,7 @@ use om_emit::draft::Draft;
 use om_emit::{load, store};
 use om_pragma::ReductionOperator;
 use om_resolved::{CopyKind, LocalVariable, ResolvedClause, ResolvedExpression, Variable};
-use om_tables::Scope;
+use om_tables::BodyTables;
 use std::alloc::AllocError;
 
 /// The value of `num_threads` or `filter`, where there is one.
@@ -38,46 +38,46 @@ pub fn clause_value(clauses: &[ResolvedClause]) -> Option<&ResolvedExpression>
 /// Gives the copy of a reduction the value that it begins with.
 fn set_identity(
     draft: &mut Draft,
-    scope: &Scope<'_>,
+    tables: &BodyTables<'_>,
     line: u32,
     operator: ReductionOperator,
     copy: &LocalVariable,
 ) -> Result<(), AllocError>
     ensures { let begin = identity_start line operator copy.now in
-        OnOk result (EmitsRow (names_of scope.now) begin draft.old draft.new) }
+        OnOk result (EmitsRow (numbered_by tables.now) begin draft.old draft.new) }
 {
     let identity = identity_of(operator);
     draft.put(line, identity)?;
-    store(draft, scope, line, Variable::Local(copy.at), false)?;
+    store(draft, tables, line, Variable::Local(copy.at), false)?;
     Ok(())
 }
 
 /// Gives a copy the value of its original.
 fn set_original(
     draft: &mut Draft,
-    scope: &Scope<'_>,
+    tables: &BodyTables<'_>,
     line: u32,
     original: Variable,
     copy: &LocalVariable,
 ) -> Result<(), AllocError>
     ensures { let begin = original_start line original copy.now in
-        OnOk result (EmitsRow (names_of scope.now) begin draft.old draft.new) }
+        OnOk result (EmitsRow (numbered_by tables.now) begin draft.old draft.new) }
 {
-    load(draft, scope, line, original)?;
-    store(draft, scope, line, Variable::Local(copy.at), false)?;
+    load(draft, tables, line, original)?;
+    store(draft, tables, line, Variable::Local(copy.at), false)?;
     Ok(())
 }
 
 /// Writes what the copy of a clause of a worksharing construct begins with (OpenMP API 5.2, section 5.4).
 fn begin_copy(
     draft: &mut Draft,
-    scope: &Scope<'_>,
+    tables: &BodyTables<'_>,
     line: u32,
     clause: &ResolvedClause,
 ) -> Result<(), AllocError>
     ensures { let tree = view_resolved_clause clause.now in
         OnOk result
-        (EmitsRow (names_of scope.now) (λ at. clause_start at line tree) draft.old draft.new) }
+        (EmitsRow (numbered_by tables.now) (λ at. clause_start at line tree) draft.old draft.new) }
 {
     let ResolvedClause::Copied {
         kind,
@@ -89,15 +89,15 @@ fn begin_copy(
     };
     match kind {
         CopyKind::Private => {
-            draft.put(line, Instr::Clear(scope.slot(copy)))?;
+            draft.put(line, Instr::Clear(tables.slot(copy)))?;
             Ok(())
         }
         CopyKind::Firstprivate => {
-            set_original(draft, scope, line, *original, copy)?;
+            set_original(draft, tables, line, *original, copy)?;
             Ok(())
         }
         CopyKind::Reduction(operator) => {
-            set_identity(draft, scope, line, *operator, copy)?;
+            set_identity(draft, tables, line, *operator, copy)?;
             Ok(())
         }
     }
@@ -123,40 +123,40 @@ fn begin_scope(
 /// scope.
 fn clause_start(
     writing: &mut Writing,
-    scope: &Scope<'_>,
+    tables: &BodyTables<'_>,
     line: u32,
     clause: &ResolvedClause,
 ) -> Result<(), AllocError>
     ensures code { let tree = view_resolved_clause clause.now in
-        OnOk result (EmitsRow (names_of scope.now) (λ at. clause_start at line tree)
+        OnOk result (EmitsRow (numbered_by tables.now) (λ at. clause_start at line tree)
         writing.old.draft writing.new.draft) }
     ensures scopes { let tree = view_resolved_clause clause.now in
-        OnOk result (EmitsScopes (names_of scope.now) (λ at. clause_scope at line tree)
+        OnOk result (EmitsScopes (numbered_by tables.now) (λ at. clause_scope at line tree)
         writing.old writing.new) }
 {
     let from = writing.draft.place();
     begin_scope(&mut writing.scopes, from, clause)?;
-    begin_copy(&mut writing.draft, scope, line, clause)?;
+    begin_copy(&mut writing.draft, tables, line, clause)?;
     Ok(())
 }
 
 /// Writes what the copies of a worksharing construct begin with, in clause order.
 pub fn starts(
     writing: &mut Writing,
-    scope: &Scope<'_>,
+    tables: &BodyTables<'_>,
     line: u32,
     clauses: &[ResolvedClause],
 ) -> Result<(), AllocError>
     ensures code { let trees = map view_resolved_clause clauses.now in
-        OnOk result (EmitsRow (names_of scope.now) (λ at. rows.starts at line trees)
+        OnOk result (EmitsRow (numbered_by tables.now) (λ at. rows.starts at line trees)
         writing.old.draft writing.new.draft) }
     ensures scopes { let trees = map view_resolved_clause clauses.now in
         OnOk result
-        (EmitsScopes (names_of scope.now) (λ at. each_scope (clause_scope at line) trees)
+        (EmitsScopes (numbered_by tables.now) (λ at. each_scope (clause_scope at line) trees)
         writing.old writing.new) }
 {
     for clause in clauses {
-        clause_start(writing, scope, line, clause)?;
+        clause_start(writing, tables, line, clause)?;
     }
     Ok(())
 }
@@ -165,13 +165,13 @@ pub fn starts(
 /// firstprivate ones their values, and the others are new with their frame.
 fn begin_reduction(
     draft: &mut Draft,
-    scope: &Scope<'_>,
+    tables: &BodyTables<'_>,
     line: u32,
     clause: &ResolvedClause,
 ) -> Result<(), AllocError>
     ensures { let tree = view_resolved_clause clause.now in
         OnOk result
-        (EmitsRow (names_of scope.now) (λ at. clause_reduction_start at line tree) draft.old
+        (EmitsRow (numbered_by tables.now) (λ at. clause_reduction_start at line tree) draft.old
         draft.new) }
 {
     let ResolvedClause::Copied { kind, copy, .. } = clause else {
@@ -180,7 +180,7 @@ fn begin_reduction(
     let CopyKind::Reduction(operator) = kind else {
         return Ok(());
     };
-    set_identity(draft, scope, line, *operator, copy)?;
+    set_identity(draft, tables, line, *operator, copy)?;
     Ok(())
 }
 
@@ -201,40 +201,40 @@ fn team_from(place: u32, clause: &ResolvedClause) -> u32
 /// Writes what the copy of a clause of a `parallel` begins with in its body, where it is in scope.
 fn clause_reduction_start(
     writing: &mut Writing,
-    scope: &Scope<'_>,
+    tables: &BodyTables<'_>,
     line: u32,
     clause: &ResolvedClause,
 ) -> Result<(), AllocError>
     ensures code { let tree = view_resolved_clause clause.now in
-        OnOk result (EmitsRow (names_of scope.now) (λ at. clause_reduction_start at line tree)
+        OnOk result (EmitsRow (numbered_by tables.now) (λ at. clause_reduction_start at line tree)
         writing.old.draft writing.new.draft) }
     ensures scopes { let tree = view_resolved_clause clause.now in
-        OnOk result (EmitsScopes (names_of scope.now) (λ at. team_scope at line tree)
+        OnOk result (EmitsScopes (numbered_by tables.now) (λ at. team_scope at line tree)
         writing.old writing.new) }
 {
     let from = team_from(writing.draft.place(), clause);
     begin_scope(&mut writing.scopes, from, clause)?;
-    begin_reduction(&mut writing.draft, scope, line, clause)?;
+    begin_reduction(&mut writing.draft, tables, line, clause)?;
     Ok(())
 }
 
 /// Writes what the copies of a `parallel` begin with in its body, in clause order.
 pub fn reduction_starts(
     writing: &mut Writing,
-    scope: &Scope<'_>,
+    tables: &BodyTables<'_>,
     line: u32,
     clauses: &[ResolvedClause],
 ) -> Result<(), AllocError>
     ensures code { let trees = map view_resolved_clause clauses.now in
-        OnOk result (EmitsRow (names_of scope.now) (λ at. rows.reduction_starts at line trees)
+        OnOk result (EmitsRow (numbered_by tables.now) (λ at. rows.reduction_starts at line trees)
         writing.old.draft writing.new.draft) }
     ensures scopes { let trees = map view_resolved_clause clauses.now in
         OnOk result
-        (EmitsScopes (names_of scope.now) (λ at. each_scope (team_scope at line) trees)
+        (EmitsScopes (numbered_by tables.now) (λ at. each_scope (team_scope at line) trees)
         writing.old writing.new) }
 {
     for clause in clauses {
-        clause_reduction_start(writing, scope, line, clause)?;
+        clause_reduction_start(writing, tables, line, clause)?;
     }
     Ok(())
 }
@@ -242,7 +242,7 @@ pub fn reduction_starts(
 /// Begins the scopes of the copies of a `task`, in its body.
 pub fn task_copies(scopes: &mut ScopeStack, clauses: &[ResolvedClause]) -> Result<(), AllocError>
     ensures { let trees = map view_resolved_clause clauses.now in
-        OnOk result ((names : Names) (d : Written)
+        OnOk result ((names : Numbered) (d : Written)
         → ScopesStand names (λ at. each_scope task_scope trees) d scopes.old d scopes.new) }
 {
     for clause in clauses {
@@ -253,7 +253,7 @@ pub fn task_copies(scopes: &mut ScopeStack, clauses: &[ResolvedClause]) -> Resul
 
 /// Begins the scopes of parameters, in the body of their function.
 pub fn parameters(scopes: &mut ScopeStack, variables: &[LocalVariable]) -> Result<(), AllocError>
-    ensures { OnOk result ((names : Names) (d : Written)
+    ensures { OnOk result ((names : Numbered) (d : Written)
         → ScopesStand names (λ at. each_scope parameter_scope variables.now) d scopes.old d
         scopes.new) }
 {
@@ -266,13 +266,13 @@ pub fn parameters(scopes: &mut ScopeStack, variables: &[LocalVariable]) -> Resul
 /// Combines the copy of a clause with its original, if the clause is a reduction.
 fn combine_clause(
     draft: &mut Draft,
-    scope: &Scope<'_>,
+    tables: &BodyTables<'_>,
     line: u32,
     clause: &ResolvedClause,
 ) -> Result<(), AllocError>
     ensures { let tree = view_resolved_clause clause.now in
         OnOk result
-        (EmitsRow (names_of scope.now) (λ at. combine_clause at line tree) draft.old draft.new) }
+        (EmitsRow (numbered_by tables.now) (λ at. combine_clause at line tree) draft.old draft.new) }
 {
     let ResolvedClause::Copied {
         kind,
@@ -286,8 +286,8 @@ fn combine_clause(
         return Ok(());
     };
     let reduction = reduction_of(*operator);
-    let place = scope.place(*original);
-    let copy = scope.slot(copy);
+    let place = tables.place(*original);
+    let copy = tables.slot(copy);
     draft.put(
         line,
         Instr::Reduce {
@@ -303,16 +303,16 @@ fn combine_clause(
 /// 5.5.8).
 pub fn reductions(
     draft: &mut Draft,
-    scope: &Scope<'_>,
+    tables: &BodyTables<'_>,
     line: u32,
     clauses: &[ResolvedClause],
 ) -> Result<(), AllocError>
     ensures { let trees = map view_resolved_clause clauses.now in
         OnOk result
-        (EmitsRow (names_of scope.now) (λ at. rows.reductions at line trees) draft.old draft.new) }
+        (EmitsRow (numbered_by tables.now) (λ at. rows.reductions at line trees) draft.old draft.new) }
 {
     for clause in clauses {
-        combine_clause(draft, scope, line, clause)?;
+        combine_clause(draft, tables, line, clause)?;
     }
     Ok(())
 }

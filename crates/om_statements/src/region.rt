@@ -10,14 +10,14 @@ ghost use Rattle.om_rows.specs.Coded.{ValueHasCode};
 ghost use Rattle.om_rows.specs.Rows.{each};
 ghost use Rattle.om_rows.specs.Statements.{clause_value, given_copies, load_original};
 ghost use Rattle.om_statements.specs.Emits.{EmitsStatement};
-ghost use Rattle.om_tables.specs.Numbering.{numbers_of};
-ghost use Rattle.om_tables.specs.Scopes.{names_of};
-ghost use Rattle.om_tables.specs.Tables.{known_in};
+ghost use Rattle.om_tables.specs.BodyTables.{numbered_by};
 ghost use Rattle.om_tables.specs.Ends.{IsKnown};
+ghost use Rattle.om_tables.specs.Numbering.{numbers_of};
+ghost use Rattle.om_tables.specs.Tables.{known_in};
 
 use crate::stand_in::{fork, load_originals, spawn, team_size};
 use om_emit::draft::Draft;
-use om_tables::{Numbers, Region, Scope, Variables, given_copies};
+use om_tables::{BodyTables, Numbers, Region, Variables, given_copies};
 use std::alloc::{AllocError, Global};
 
 /// Writes what stands in the place of a `parallel`, and gives the numbers behind it. Its body gets
@@ -25,14 +25,14 @@ use std::alloc::{AllocError, Global};
 pub(crate) fn parallel(
     alloc: Global,
     draft: &mut Draft,
-    scope: &Scope<'_>,
+    tables: &BodyTables<'_>,
     numbers: Numbers,
     region: &Region<'_>,
 ) -> Result<Numbers, AllocError>
     requires code { IfSome (clause_value (map view_resolved_clause region.now.clauses.now))
         ValueHasCode }
     requires known { let body = view_resolved_statement region.now.statement.now in
-        IsKnown (known_in scope.now) numbers.bodies
+        IsKnown (known_in tables.now) numbers.bodies
         (rows.behind (rows.next_body (numbers_of numbers)) body)
         (rows.region_variables (map view_resolved_clause region.now.clauses.now) body) }
     ensures behind { let body = view_resolved_statement region.now.statement.now in
@@ -42,14 +42,14 @@ pub(crate) fn parallel(
         (map view_resolved_clause region.now.clauses.now) region.now.captures.now
         (view_resolved_statement region.now.statement.now) in
         OnOk result ((jumps : JumpLabels)
-        → EmitsStatement (names_of scope.now) (numbers_of numbers) tree jumps draft.old draft.new) }
+        → EmitsStatement (numbered_by tables.now) (numbers_of numbers) tree jumps draft.old draft.new) }
 {
     let line = region.at.line;
-    let sized = team_size(draft, scope, line, region.clauses)?;
-    let variables = scope.region_variables(numbers.bodies);
-    let count = load_given(alloc, draft, scope, region, variables)?;
+    let sized = team_size(draft, tables, line, region.clauses)?;
+    let variables = tables.region_variables(numbers.bodies);
+    let count = load_given(alloc, draft, tables, region, variables)?;
     fork(draft, line, numbers.bodies, sized, count)?;
-    Ok(scope.behind_region(numbers.bodies))
+    Ok(tables.behind_region(numbers.bodies))
 }
 
 /// Writes what stands in the place of a `task`, and gives the numbers behind it. Its body gets the
@@ -57,12 +57,12 @@ pub(crate) fn parallel(
 pub(crate) fn task(
     alloc: Global,
     draft: &mut Draft,
-    scope: &Scope<'_>,
+    tables: &BodyTables<'_>,
     numbers: Numbers,
     region: &Region<'_>,
 ) -> Result<Numbers, AllocError>
     requires known { let body = view_resolved_statement region.now.statement.now in
-        IsKnown (known_in scope.now) numbers.bodies
+        IsKnown (known_in tables.now) numbers.bodies
         (rows.behind (rows.next_body (numbers_of numbers)) body)
         (rows.region_variables (map view_resolved_clause region.now.clauses.now) body) }
     ensures behind { let body = view_resolved_statement region.now.statement.now in
@@ -72,12 +72,12 @@ pub(crate) fn task(
         (map view_resolved_clause region.now.clauses.now) region.now.captures.now
         (view_resolved_statement region.now.statement.now) in
         OnOk result ((jumps : JumpLabels)
-        → EmitsStatement (names_of scope.now) (numbers_of numbers) tree jumps draft.old draft.new) }
+        → EmitsStatement (numbered_by tables.now) (numbers_of numbers) tree jumps draft.old draft.new) }
 {
-    let variables = scope.region_variables(numbers.bodies);
-    let count = load_given(alloc, draft, scope, region, variables)?;
+    let variables = tables.region_variables(numbers.bodies);
+    let count = load_given(alloc, draft, tables, region, variables)?;
     spawn(draft, region.at.line, numbers.bodies, count)?;
-    Ok(scope.behind_region(numbers.bodies))
+    Ok(tables.behind_region(numbers.bodies))
 }
 
 /// Loads the originals of the firstprivate copies of a region whose body has these variables, and says how
@@ -85,7 +85,7 @@ pub(crate) fn task(
 fn load_given(
     alloc: Global,
     draft: &mut Draft,
-    scope: &Scope<'_>,
+    tables: &BodyTables<'_>,
     region: &Region<'_>,
     variables: &Variables,
 ) -> Result<usize, AllocError>
@@ -101,10 +101,10 @@ fn load_given(
         let body = view_resolved_statement region.now.statement.now in
         let given = given_copies trees region.now.captures.now body in
         OnOk result
-        (EmitsRow (names_of scope.now) (λ at. each (load_original at region.now.at.line) given)
+        (EmitsRow (numbered_by tables.now) (λ at. each (load_original at region.now.at.line) given)
         draft.old draft.new) }
 {
     let copies = given_copies(alloc, region.clauses, region.captures, variables)?;
-    load_originals(draft, scope, region.at.line, copies.as_slice())?;
+    load_originals(draft, tables, region.at.line, copies.as_slice())?;
     Ok(copies.len())
 }

@@ -5,12 +5,12 @@ ghost use Rattle.om_resolved.specs.ResolvedView.{view_resolved_clause};
 ghost use Rattle.om_rows.specs.Scopes.{sections_head};
 ghost use Rattle.om_statements.specs.Scoped.{EmitsScopes};
 ghost use Rattle.om_statements.specs.Parts.{OpensParts, part_head};
-ghost use Rattle.om_tables.specs.Scopes.{names_of};
+ghost use Rattle.om_tables.specs.BodyTables.{numbered_by};
 
 use crate::worksharing::{Parts, begin_sections};
 use crate::writing::Writing;
 use om_resolved::{ResolvedClause, ResolvedPart};
-use om_tables::{Numbers, Scope};
+use om_tables::{BodyTables, Numbers};
 use std::alloc::{AllocError, Global};
 
 /// A `sections`, where it stands: the numbers of the next body and of its own list of PICK.
@@ -40,23 +40,23 @@ pub struct PartsSpot {
 pub fn begin_parts(
     alloc: Global,
     writing: &mut Writing,
-    scope: &Scope<'_>,
+    tables: &BodyTables<'_>,
     head: &SectionsHead<'_>,
     parts: &[ResolvedPart],
 ) -> Result<PartsSpot, AllocError>
     requires { length parts.now ≤ 256 }
     ensures code { let begin = part_head head.now.line head.now.numbers
         (map view_resolved_clause head.now.clauses.now) (length parts.now) in
-        IfOk result (λ spot. OpensParts (names_of scope.now) begin spot writing.old.draft
+        IfOk result (λ spot. OpensParts (numbered_by tables.now) begin spot writing.old.draft
         writing.new.draft) }
     ensures scopes { let trees = map view_resolved_clause head.now.clauses.now in
-        OnOk result (EmitsScopes (names_of scope.now) (λ at. sections_head at head.now.line trees)
+        OnOk result (EmitsScopes (numbered_by tables.now) (λ at. sections_head at head.now.line trees)
         writing.old writing.new) }
 {
     let count = parts.len() as u32;
     let number = head.numbers.picks;
     let list = Parts { number, count };
-    let labels = begin_sections(writing, scope, head.line, head.clauses, list)?;
+    let labels = begin_sections(writing, tables, head.line, head.clauses, list)?;
     let first = writing.draft.fresh_list(alloc, number, count)?;
     let numbers = head.numbers.next_pick()?;
     Ok(PartsSpot {

@@ -9,22 +9,22 @@ ghost use Rattle.om_rows.specs.Expressions as expressions;
 ghost use Rattle.om_rows.specs.Rows.{each, perhaps};
 ghost use Rattle.om_rows.specs.Statements as rows;
 ghost use Rattle.om_rows.specs.Statements.{load_original};
+ghost use Rattle.om_tables.specs.BodyTables.{numbered_by};
 ghost use Rattle.om_tables.specs.Copies.{first_copies_of, first_copy};
-ghost use Rattle.om_tables.specs.Scopes.{names_of};
 
 use crate::clause::clause_value;
 use om_code::Instr;
 use om_emit::draft::Draft;
 use om_emit::value;
 use om_resolved::ResolvedClause;
-use om_tables::{FirstCopy, Scope};
+use om_tables::{BodyTables, FirstCopy};
 use std::alloc::AllocError;
 
 /// Writes the size that a `parallel` asks for, if one of its clauses does (OpenMP API 5.2, section
 /// 10.1.2), and says whether one does.
 pub fn team_size(
     draft: &mut Draft,
-    scope: &Scope<'_>,
+    tables: &BodyTables<'_>,
     line: u32,
     clauses: &[ResolvedClause],
 ) -> Result<bool, AllocError>
@@ -33,13 +33,13 @@ pub fn team_size(
         (λ sized. sized ≡ is_some (rows.clause_value (map view_resolved_clause clauses.now))) }
     ensures emitted { let tree = rows.clause_value (map view_resolved_clause clauses.now) in
         OnOk result
-        (EmitsRow (names_of scope.now) (λ at. perhaps (expressions.value at line) tree) draft.old
+        (EmitsRow (numbered_by tables.now) (λ at. perhaps (expressions.value at line) tree) draft.old
         draft.new) }
 {
     match clause_value(clauses) {
         None => Ok(false),
         Some(size) => {
-            value(draft, scope, line, size)?;
+            value(draft, tables, line, size)?;
             Ok(true)
         }
     }
@@ -48,28 +48,33 @@ pub fn team_size(
 /// Loads the originals of the firstprivate copies of a region, by the slots of the copies.
 pub fn load_originals(
     draft: &mut Draft,
-    scope: &Scope<'_>,
+    tables: &BodyTables<'_>,
     line: u32,
     copies: &[FirstCopy],
 ) -> Result<(), AllocError>
     ensures { let given = first_copies_of copies.now in
         OnOk result
-        (EmitsRow (names_of scope.now) (λ at. each (load_original at line) given) draft.old
+        (EmitsRow (numbered_by tables.now) (λ at. each (load_original at line) given) draft.old
         draft.new) }
 {
     for copy in copies {
-        load(draft, scope, line, copy)?;
+        load(draft, tables, line, copy)?;
     }
     Ok(())
 }
 
 /// Loads the original of a firstprivate copy.
-fn load(draft: &mut Draft, scope: &Scope<'_>, line: u32, copy: &FirstCopy) -> Result<(), AllocError>
+fn load(
+    draft: &mut Draft,
+    tables: &BodyTables<'_>,
+    line: u32,
+    copy: &FirstCopy,
+) -> Result<(), AllocError>
     ensures { let given = first_copy copy.now in
         OnOk result
-        (EmitsRow (names_of scope.now) (λ at. load_original at line given) draft.old draft.new) }
+        (EmitsRow (numbered_by tables.now) (λ at. load_original at line given) draft.old draft.new) }
 {
-    draft.put(line, Instr::Load(scope.place(copy.original)))?;
+    draft.put(line, Instr::Load(tables.place(copy.original)))?;
     Ok(())
 }
 

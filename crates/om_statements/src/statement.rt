@@ -9,9 +9,9 @@ ghost use Rattle.om_rows.specs.Scopes.{all_scopes, block, part_scopes, scopes};
 ghost use Rattle.om_statements.specs.Scoped.{EmitsScopes};
 ghost use Rattle.om_statements.specs.Emits.{EmitsStatement, EmitsStatements};
 ghost use Rattle.om_statements.specs.Parts.{AreFree, EmitsParts};
+ghost use Rattle.om_tables.specs.BodyTables.{numbered_by};
 ghost use Rattle.om_tables.specs.Ends.{HasAllEnds, HasEnds, HasPartsEnds};
 ghost use Rattle.om_tables.specs.Numbering.{numbers_of};
-ghost use Rattle.om_tables.specs.Scopes.{names_of};
 ghost use Rattle.om_tables.specs.Tables.{known_in};
 
 use crate::alone::{assignment, stand_alone, update};
@@ -28,34 +28,34 @@ use crate::writing::Writing;
 use om_code::Instr;
 use om_emit::effect;
 use om_resolved::{ConstructKind, ResolvedHead, ResolvedPart, ResolvedStatement};
-use om_tables::{Numbers, Region, Scope};
+use om_tables::{BodyTables, Numbers, Region};
 use std::alloc::{AllocError, Global};
 
 /// Writes the code of a statement, and gives the numbers behind it.
 ///
-/// Its only error is out of memory. What is in it has code, and the scope knows the regions in it.
+/// Its only error is out of memory. What is in it has code, and the tables have the regions in it.
 #[cycle(statement)]
 pub fn statement(
     alloc: Global,
     writing: &mut Writing,
-    scope: &Scope<'_>,
+    tables: &BodyTables<'_>,
     spot: Spot,
     tree: &ResolvedStatement,
 ) -> Result<Numbers, AllocError>
     requires code { StatementHasCode (is_some spot.jumps.over) (is_some spot.jumps.next)
         (view_resolved_statement tree.now) }
-    requires ends { HasEnds (known_in scope.now) (numbers_of spot.numbers)
+    requires ends { HasEnds (known_in tables.now) (numbers_of spot.numbers)
         (view_resolved_statement tree.now) }
     ensures behind { IfOk result
         (λ after. numbers_of after ≡
         rows.behind (numbers_of spot.numbers) (view_resolved_statement tree.now)) }
     ensures emitted { let seen = view_resolved_statement tree.now in
         OnOk result
-        (EmitsStatement (names_of scope.now) (numbers_of spot.numbers) seen spot.jumps
+        (EmitsStatement (numbered_by tables.now) (numbers_of spot.numbers) seen spot.jumps
         writing.old.draft writing.new.draft) }
     ensures scopes { let seen = view_resolved_statement tree.now in
         OnOk result
-        (EmitsScopes (names_of scope.now) (λ at. scopes at seen) writing.old writing.new) }
+        (EmitsScopes (numbered_by tables.now) (λ at. scopes at seen) writing.old writing.new) }
 {
     let numbers = spot.numbers;
     match tree {
@@ -63,12 +63,12 @@ pub fn statement(
             at,
             declarators: declared,
         } => {
-            declarators(writing, scope, at.line, declared.as_slice())?;
+            declarators(writing, tables, at.line, declared.as_slice())?;
             Ok(numbers)
         }
         ResolvedStatement::Block { items, .. } => {
             let height = writing.scopes.height();
-            let after = statements(alloc, writing, scope, spot, items.as_slice())?;
+            let after = statements(alloc, writing, tables, spot, items.as_slice())?;
             let to = writing.draft.place();
             writing.scopes.end(height, to)?;
             Ok(after)
@@ -78,7 +78,7 @@ pub fn statement(
             at,
             value: expression,
         } => {
-            effect(&mut writing.draft, scope, at.line, expression)?;
+            effect(&mut writing.draft, tables, at.line, expression)?;
             Ok(numbers)
         }
         ResolvedStatement::If {
@@ -86,8 +86,8 @@ pub fn statement(
             condition,
             then,
         } => {
-            let end = begin_if(&mut writing.draft, scope, at.line, condition)?;
-            let after = inner(alloc, writing, scope, spot, then)?;
+            let end = begin_if(&mut writing.draft, tables, at.line, condition)?;
+            let after = inner(alloc, writing, tables, spot, then)?;
             writing.draft.define(end);
             Ok(after)
         }
@@ -97,10 +97,10 @@ pub fn statement(
             then,
             other,
         } => {
-            let head = begin_if(&mut writing.draft, scope, at.line, condition)?;
-            let between = inner(alloc, writing, scope, spot, then)?;
+            let head = begin_if(&mut writing.draft, tables, at.line, condition)?;
+            let between = inner(alloc, writing, tables, spot, then)?;
             let end = begin_else(&mut writing.draft, at.line, head)?;
-            let after = inner(alloc, writing, scope, spot.behind(between), other)?;
+            let after = inner(alloc, writing, tables, spot.behind(between), other)?;
             writing.draft.define(end);
             Ok(after)
         }
@@ -109,9 +109,9 @@ pub fn statement(
             condition,
             body,
         } => {
-            let labels = begin_while(&mut writing.draft, scope, at.line, condition)?;
+            let labels = begin_while(&mut writing.draft, tables, at.line, condition)?;
             let inside = Spot::in_loop(numbers, labels.over, labels.again);
-            let after = inner(alloc, writing, scope, inside, body)?;
+            let after = inner(alloc, writing, tables, inside, body)?;
             end_loop(&mut writing.draft, at.line, labels)?;
             Ok(after)
         }
@@ -122,23 +122,23 @@ pub fn statement(
         } => {
             let labels = begin_do(&mut writing.draft)?;
             let inside = Spot::in_loop(numbers, labels.over, labels.next);
-            let after = inner(alloc, writing, scope, inside, body)?;
-            end_do(&mut writing.draft, scope, at.line, labels, condition)?;
+            let after = inner(alloc, writing, tables, inside, body)?;
+            end_do(&mut writing.draft, tables, at.line, labels, condition)?;
             Ok(after)
         }
         ResolvedStatement::For { at, head, body } => {
             let head: &ResolvedHead = head;
             let height = writing.scopes.height();
-            let labels = begin_for(writing, scope, at.line, &head.start, &head.condition)?;
+            let labels = begin_for(writing, tables, at.line, &head.start, &head.condition)?;
             let inside = Spot::in_loop(numbers, labels.over, labels.next);
-            let after = inner(alloc, writing, scope, inside, body)?;
-            end_for(&mut writing.draft, scope, at.line, labels, &head.step)?;
+            let after = inner(alloc, writing, tables, inside, body)?;
+            end_for(&mut writing.draft, tables, at.line, labels, &head.step)?;
             let to = writing.draft.place();
             writing.scopes.end(height, to)?;
             Ok(after)
         }
         ResolvedStatement::Return { at, value: answer } => {
-            returned(&mut writing.draft, scope, at.line, answer)?;
+            returned(&mut writing.draft, tables, at.line, answer)?;
             Ok(numbers)
         }
         ResolvedStatement::Break(at) => {
@@ -161,7 +161,7 @@ pub fn statement(
                 captures: captures.as_slice(),
                 statement: body,
             };
-            let after = parallel(alloc, &mut writing.draft, scope, numbers, &region)?;
+            let after = parallel(alloc, &mut writing.draft, tables, numbers, &region)?;
             Ok(after)
         }
         ResolvedStatement::Task {
@@ -176,7 +176,7 @@ pub fn statement(
                 captures: captures.as_slice(),
                 statement: body,
             };
-            let after = task(alloc, &mut writing.draft, scope, numbers, &region)?;
+            let after = task(alloc, &mut writing.draft, tables, numbers, &region)?;
             Ok(after)
         }
         ResolvedStatement::Loop {
@@ -187,13 +187,13 @@ pub fn statement(
             body,
         } => {
             let height = writing.scopes.height();
-            let labels = begin_worksharing(writing, scope, at.line, clauses.as_slice(), repeated)?;
+            let labels = begin_worksharing(writing, tables, at.line, clauses.as_slice(), repeated)?;
             let inside = Spot::in_iteration(numbers, labels.again);
-            let after = inner(alloc, writing, scope, inside, body)?;
+            let after = inner(alloc, writing, tables, inside, body)?;
             end_loop(&mut writing.draft, at.line, labels)?;
             end_worksharing(
                 &mut writing.draft,
-                scope,
+                tables,
                 at.line,
                 clauses.as_slice(),
                 *nowait,
@@ -214,12 +214,12 @@ pub fn statement(
                 clauses: clauses.as_slice(),
             };
             let height = writing.scopes.height();
-            let inside = begin_parts(alloc, writing, scope, &head, sections.as_slice())?;
-            let after = parts(alloc, writing, scope, inside, sections.as_slice())?;
+            let inside = begin_parts(alloc, writing, tables, &head, sections.as_slice())?;
+            let after = parts(alloc, writing, tables, inside, sections.as_slice())?;
             writing.draft.define(inside.over);
             end_worksharing(
                 &mut writing.draft,
-                scope,
+                tables,
                 at.line,
                 clauses.as_slice(),
                 *nowait,
@@ -235,14 +235,14 @@ pub fn statement(
             body,
         } => {
             if let ConstructKind::Atomic = kind {
-                assignment(&mut writing.draft, scope, at.line, body)?;
+                assignment(&mut writing.draft, tables, at.line, body)?;
                 return Ok(numbers);
             }
             let height = writing.scopes.height();
-            let label = begin_construct(writing, scope, at.line, kind, clauses.as_slice())?;
+            let label = begin_construct(writing, tables, at.line, kind, clauses.as_slice())?;
             let inside = Spot::outside(numbers);
-            let after = inner(alloc, writing, scope, inside, body)?;
-            end_construct(&mut writing.draft, scope, at.line, kind, label)?;
+            let after = inner(alloc, writing, tables, inside, body)?;
+            end_construct(&mut writing.draft, tables, at.line, kind, label)?;
             let to = writing.draft.place();
             writing.scopes.end(height, to)?;
             Ok(after)
@@ -251,7 +251,7 @@ pub fn statement(
             at,
             update: updated,
         } => {
-            update(&mut writing.draft, scope, at.line, updated)?;
+            update(&mut writing.draft, tables, at.line, updated)?;
             Ok(numbers)
         }
         ResolvedStatement::StandAlone { at, directive } => {
@@ -267,27 +267,27 @@ pub fn statement(
 pub fn inner(
     alloc: Global,
     writing: &mut Writing,
-    scope: &Scope<'_>,
+    tables: &BodyTables<'_>,
     spot: Spot,
     tree: &ResolvedStatement,
 ) -> Result<Numbers, AllocError>
     requires code { StatementHasCode (is_some spot.jumps.over) (is_some spot.jumps.next)
         (view_resolved_statement tree.now) }
-    requires ends { HasEnds (known_in scope.now) (numbers_of spot.numbers)
+    requires ends { HasEnds (known_in tables.now) (numbers_of spot.numbers)
         (view_resolved_statement tree.now) }
     ensures behind { IfOk result
         (λ after. numbers_of after ≡
         rows.behind (numbers_of spot.numbers) (view_resolved_statement tree.now)) }
     ensures emitted { let seen = view_resolved_statement tree.now in
         OnOk result
-        (EmitsStatement (names_of scope.now) (numbers_of spot.numbers) seen spot.jumps
+        (EmitsStatement (numbered_by tables.now) (numbers_of spot.numbers) seen spot.jumps
         writing.old.draft writing.new.draft) }
     ensures scopes { let seen = view_resolved_statement tree.now in
         OnOk result
-        (EmitsScopes (names_of scope.now) (λ at. block (scopes at seen)) writing.old writing.new) }
+        (EmitsScopes (numbered_by tables.now) (λ at. block (scopes at seen)) writing.old writing.new) }
 {
     let height = writing.scopes.height();
-    let after = statement(alloc, writing, scope, spot, tree)?;
+    let after = statement(alloc, writing, tables, spot, tree)?;
     let to = writing.draft.place();
     writing.scopes.end(height, to)?;
     Ok(after)
@@ -298,28 +298,28 @@ pub fn inner(
 pub fn statements(
     alloc: Global,
     writing: &mut Writing,
-    scope: &Scope<'_>,
+    tables: &BodyTables<'_>,
     spot: Spot,
     items: &[ResolvedStatement],
 ) -> Result<Numbers, AllocError>
     requires code { StatementsHaveCode (is_some spot.jumps.over) (is_some spot.jumps.next)
         (trees.statements (map view_resolved_statement items.now)) }
-    requires ends { HasAllEnds (known_in scope.now) (numbers_of spot.numbers)
+    requires ends { HasAllEnds (known_in tables.now) (numbers_of spot.numbers)
         (trees.statements (map view_resolved_statement items.now)) }
     ensures behind { let all = trees.statements (map view_resolved_statement items.now) in
         IfOk result (λ after. numbers_of after ≡ rows.behind_all (numbers_of spot.numbers) all) }
     ensures emitted { let all = trees.statements (map view_resolved_statement items.now) in
         OnOk result
-        (EmitsStatements (names_of scope.now) (numbers_of spot.numbers) all spot.jumps
+        (EmitsStatements (numbered_by tables.now) (numbers_of spot.numbers) all spot.jumps
         writing.old.draft writing.new.draft) }
     ensures scopes { let all = trees.statements (map view_resolved_statement items.now) in
         OnOk result
-        (EmitsScopes (names_of scope.now) (λ at. all_scopes at all) writing.old writing.new) }
+        (EmitsScopes (numbered_by tables.now) (λ at. all_scopes at all) writing.old writing.new) }
 {
     let mut numbers = spot.numbers;
     for item in items {
         let here = spot.behind(numbers);
-        let after = statement(alloc, writing, scope, here, item)?;
+        let after = statement(alloc, writing, tables, here, item)?;
         numbers = after;
     }
     Ok(numbers)
@@ -331,12 +331,12 @@ pub fn statements(
 pub fn parts(
     alloc: Global,
     writing: &mut Writing,
-    scope: &Scope<'_>,
+    tables: &BodyTables<'_>,
     spot: PartsSpot,
     sections: &[ResolvedPart],
 ) -> Result<Numbers, AllocError>
     requires code { PartsHaveCode (trees.parts (map view_resolved_part sections.now)) }
-    requires ends { HasPartsEnds (known_in scope.now) (numbers_of spot.numbers)
+    requires ends { HasPartsEnds (known_in tables.now) (numbers_of spot.numbers)
         (trees.parts (map view_resolved_part sections.now)) }
     requires free { AreFree spot.first (length sections.now) writing.old.draft }
     requires fit { spot.first + length sections.now ≤ 2 ^ 32 }
@@ -344,18 +344,18 @@ pub fn parts(
         IfOk result (λ after. numbers_of after ≡ rows.behind_parts (numbers_of spot.numbers) all) }
     ensures emitted { let all = trees.parts (map view_resolved_part sections.now) in
         OnOk result
-        (EmitsParts (names_of scope.now) (numbers_of spot.numbers) all spot writing.old.draft
+        (EmitsParts (numbered_by tables.now) (numbers_of spot.numbers) all spot writing.old.draft
         writing.new.draft) }
     ensures scopes { let all = trees.parts (map view_resolved_part sections.now) in
         OnOk result
-        (EmitsScopes (names_of scope.now) (λ at. part_scopes at all) writing.old writing.new) }
+        (EmitsScopes (numbered_by tables.now) (λ at. part_scopes at all) writing.old writing.new) }
 {
     let mut numbers = spot.numbers;
     for (index, section) in sections.iter().enumerate() {
         writing.draft.define(spot.first + index as u32);
         let inside = Spot::outside(numbers);
         let height = writing.scopes.height();
-        let after = statements(alloc, writing, scope, inside, section.items.as_slice())?;
+        let after = statements(alloc, writing, tables, inside, section.items.as_slice())?;
         let to = writing.draft.place();
         writing.scopes.end(height, to)?;
         writing.draft.put(spot.line, Instr::Jump(spot.again))?;

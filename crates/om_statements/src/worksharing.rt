@@ -7,7 +7,7 @@ ghost use Rattle.om_statements.specs.Scoped.{EmitsScopes};
 ghost use Rattle.om_statements.specs.Stretches.{Begins, bounds_row, close_row, sections_begin, worksharing_begin};
 ghost use Rattle.om_resolved.specs.ResolvedView.{view_resolved_clause, view_resolved_loop};
 ghost use Rattle.om_rows.specs.Coded.{LoopHasCode};
-ghost use Rattle.om_tables.specs.Scopes.{names_of};
+ghost use Rattle.om_tables.specs.BodyTables.{numbered_by};
 
 use crate::barrier::worksharing_end;
 use crate::clause::{reductions, starts};
@@ -18,7 +18,7 @@ use om_code::Instr;
 use om_emit::draft::Draft;
 use om_emit::value;
 use om_resolved::{ResolvedClause, ResolvedLoop};
-use om_tables::Scope;
+use om_tables::BodyTables;
 use std::alloc::AllocError;
 
 /// The list of a PICK, and how many parts it has.
@@ -33,7 +33,7 @@ pub struct Parts {
 /// Writes the bounds of a loop, on the line of its `for`, and what its copies begin with.
 fn bounds(
     writing: &mut Writing,
-    scope: &Scope<'_>,
+    tables: &BodyTables<'_>,
     line: u32,
     clauses: &[ResolvedClause],
     repeated: &ResolvedLoop,
@@ -41,15 +41,15 @@ fn bounds(
     requires { LoopHasCode (view_resolved_loop repeated.now) }
     ensures code { let row = bounds_row line (map view_resolved_clause clauses.now)
         (view_resolved_loop repeated.now) in
-        OnOk result (EmitsRow (names_of scope.now) row writing.old.draft writing.new.draft) }
+        OnOk result (EmitsRow (numbered_by tables.now) row writing.old.draft writing.new.draft) }
     ensures scopes { let trees = map view_resolved_clause clauses.now in
         let loop = view_resolved_loop repeated.now in
-        OnOk result (EmitsScopes (names_of scope.now) (λ at. bounds_scopes at line trees loop)
+        OnOk result (EmitsScopes (numbered_by tables.now) (λ at. bounds_scopes at line trees loop)
         writing.old writing.new) }
 {
-    value(&mut writing.draft, scope, repeated.at.line, &repeated.from)?;
-    value(&mut writing.draft, scope, repeated.at.line, &repeated.to)?;
-    starts(writing, scope, line, clauses)?;
+    value(&mut writing.draft, tables, repeated.at.line, &repeated.from)?;
+    value(&mut writing.draft, tables, repeated.at.line, &repeated.to)?;
+    starts(writing, tables, line, clauses)?;
     Ok(())
 }
 
@@ -57,20 +57,20 @@ fn bounds(
 /// taken, and each iteration puts its value into the loop's variable, which is in scope from there on.
 pub fn begin_worksharing(
     writing: &mut Writing,
-    scope: &Scope<'_>,
+    tables: &BodyTables<'_>,
     line: u32,
     clauses: &[ResolvedClause],
     repeated: &ResolvedLoop,
 ) -> Result<LoopLabels, AllocError>
     requires { LoopHasCode (view_resolved_loop repeated.now) }
     ensures code { let trees = map view_resolved_clause clauses.now in
-        let begin = worksharing_begin (names_of scope.now) line trees
+        let begin = worksharing_begin (numbered_by tables.now) line trees
         (view_resolved_loop repeated.now) in
         IfOk result
         (λ labels. Begins labels.over (begin labels) writing.old.draft writing.new.draft) }
     ensures scopes { let trees = map view_resolved_clause clauses.now in
         let loop = view_resolved_loop repeated.now in
-        OnOk result (EmitsScopes (names_of scope.now) (λ at. loop_head at line trees loop)
+        OnOk result (EmitsScopes (numbered_by tables.now) (λ at. loop_head at line trees loop)
         writing.old writing.new) }
 {
     let Some(comparison) = comparison_of(repeated.comparison) else {
@@ -79,7 +79,7 @@ pub fn begin_worksharing(
     let chunk = writing.draft.fresh()?;
     let again = writing.draft.fresh()?;
     let over = writing.draft.fresh()?;
-    bounds(writing, scope, line, clauses, repeated)?;
+    bounds(writing, tables, line, clauses, repeated)?;
     let from = writing.draft.place();
     writing.scopes.begin(from, None, &repeated.variable)?;
     let draft = &mut writing.draft;
@@ -87,7 +87,7 @@ pub fn begin_worksharing(
     draft.define(chunk);
     draft.put(line, Instr::Grab(over))?;
     draft.define(again);
-    let slot = scope.slot(&repeated.variable);
+    let slot = tables.slot(&repeated.variable);
     draft.put(
         line,
         Instr::Iterate {
@@ -102,22 +102,22 @@ pub fn begin_worksharing(
 /// gone to.
 pub fn begin_sections(
     writing: &mut Writing,
-    scope: &Scope<'_>,
+    tables: &BodyTables<'_>,
     line: u32,
     clauses: &[ResolvedClause],
     parts: Parts,
 ) -> Result<LoopLabels, AllocError>
-    ensures code { let begin = sections_begin (names_of scope.now) line
+    ensures code { let begin = sections_begin (numbered_by tables.now) line
         (map view_resolved_clause clauses.now) parts in
         IfOk result
         (λ labels. Begins labels.over (begin labels) writing.old.draft writing.new.draft) }
     ensures scopes { let trees = map view_resolved_clause clauses.now in
-        OnOk result (EmitsScopes (names_of scope.now) (λ at. sections_head at line trees)
+        OnOk result (EmitsScopes (numbered_by tables.now) (λ at. sections_head at line trees)
         writing.old writing.new) }
 {
     let again = writing.draft.fresh()?;
     let over = writing.draft.fresh()?;
-    starts(writing, scope, line, clauses)?;
+    starts(writing, tables, line, clauses)?;
     let draft = &mut writing.draft;
     draft.put(line, Instr::Sections(parts.count))?;
     draft.define(again);
@@ -130,16 +130,16 @@ pub fn begin_sections(
 /// are combined, and all threads wait for each other, unless it is `nowait`.
 pub fn end_worksharing(
     draft: &mut Draft,
-    scope: &Scope<'_>,
+    tables: &BodyTables<'_>,
     line: u32,
     clauses: &[ResolvedClause],
     nowait: bool,
 ) -> Result<(), AllocError>
     ensures { let trees = map view_resolved_clause clauses.now in
         OnOk result
-        (EmitsRow (names_of scope.now) (close_row line trees nowait) draft.old draft.new) }
+        (EmitsRow (numbered_by tables.now) (close_row line trees nowait) draft.old draft.new) }
 {
-    reductions(draft, scope, line, clauses)?;
+    reductions(draft, tables, line, clauses)?;
     worksharing_end(draft, line, nowait)?;
     Ok(())
 }

@@ -1,5 +1,5 @@
-pub mod Names
-pub mod Scopes
+pub mod Numbered
+pub mod BodyTables
 pub mod Numbering
 pub mod Ends
 pub mod Copies

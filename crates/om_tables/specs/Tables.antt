@@ -5,7 +5,7 @@ use Rattle.om_resolved.specs.ResolvedTree.{ResolvedFunctionTree, ResolvedTree}
 use Rattle.om_rows.specs.Bodies.{Numbers, behind_functions, first_numbers}
 use Rattle.om_rows.specs.Mentions.{extents_of, formats_of, locks_of}
 use Rattle.om_rows.specs.Slots.{Extent, cells_in}
-use Rattle.om_tables.specs.declared.scope.Scope.{Scope}
+use Rattle.om_tables.specs.declared.body.BodyTables.{BodyTables}
 use Rattle.om_tables.specs.declared.tables.Tables.{Tables}
 use Rattle.om_tables.specs.Ends.{KnownBodies, ends_from}
 use Rattle.om_tables.specs.Numbering.{function_numbers, numbers_of}
@@ -34,5 +34,5 @@ pub record IsTablesOf (tree : ResolvedTree) (tables : Tables) : Type 0 where
 abbrev pub known_of : Tables → (slots : List (List ℕ)) → KnownBodies
 known_of tables slots = record { ends = ends_in tables; slots = slots }
 
-abbrev pub known_in : Scope → KnownBodies
-known_in scope = known_of scope.tables.now scope.known.now
+abbrev pub known_in : BodyTables → KnownBodies
+known_in tables = known_of tables.program.now tables.known.now

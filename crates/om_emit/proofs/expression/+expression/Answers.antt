@@ -17,18 +17,18 @@ use Rattle.om_resolved.specs.ResolvedView.{view_resolved_expression}
 use Rattle.om_rows.specs.Expressions.{value}
 use Rattle.om_rows.specs.Operators.{Both, Either, Plain, form_of, compound_of}
 use Rattle.om_rows.specs.Slots.{place_of}
-use Rattle.om_tables.specs.Scopes.{names_of}
+use Rattle.om_tables.specs.BodyTables.{numbered_by}
 use Rattle.om_emit.proofs.expression.+expression.Goals as goal
 
 pub element-returns : goal.element-returns
 element-returns t c =
-    emits_element (names_of c.args.scope.now) c.args.line c.args.array
+    emits_element (numbered_by c.args.tables.now) c.args.line c.args.array
     (view_resolved_expression c.args.index.now) _ _ _
     c.in_ok-value.ensures c.in_ok-load_element.ensures
 
 pub call-returns : goal.call-returns
 call-returns t c =
-    emits_call (names_of c.args.scope.now) c.args.line c.args.function
+    emits_call (numbered_by c.args.tables.now) c.args.line c.args.function
     (listed c.args.arguments.now) c.called_body-body.result c.count_of-count.result _ _ _
     c.called_body-body.ensures (c.count_of-count.ensures
     ∙ counted c.args.arguments.now) c.in_ok-values.ensures c.in_ok-put.ensures
@@ -38,21 +38,21 @@ call-count_of-count-requires t c = few c.args.arguments.now c.requires
 
 pub used_call-returns : goal.used_call-returns
 used_call-returns t c =
-    emits_used_call (names_of c.args.scope.now) c.args.line c.args.function
+    emits_used_call (numbered_by c.args.tables.now) c.args.line c.args.function
     (listed c.args.arguments.now) _ _ _ c.in_ok-call.ensures c.in_ok-put.ensures
 
 pub unary-returns : goal.unary-returns
 unary-returns t c =
-    emits_unary (names_of c.args.scope.now) c.args.line c.args.operator
+    emits_unary (numbered_by c.args.tables.now) c.args.line c.args.operator
     (view_resolved_expression c.args.operand.now) _ _ _
-    c.in_ok-value.ensures (c.in_ok-unary_end.ensures (names_of c.args.scope.now))
+    c.in_ok-value.ensures (c.in_ok-unary_end.ensures (numbered_by c.args.tables.now))
 
 -- ---- operators between two operands
 
 pub binary_end-returns-in-Both : goal.binary_end-returns-in-Both
 binary_end-returns-in-Both t c =
     on_ok_weaker c.both_end.result
-    (rest_is (names_of c.args.scope.now) c.args.line Both (form_of c.args.operator)
+    (rest_is (numbered_by c.args.tables.now) c.args.line Both (form_of c.args.operator)
     (view_resolved_expression c.args.right.now) _ _
     (ap form (sym c.in-Both.is) ∙ c.form_of.ensures))
     c.both_end.ensures
@@ -60,17 +60,17 @@ binary_end-returns-in-Both t c =
 pub binary_end-returns-in-Either : goal.binary_end-returns-in-Either
 binary_end-returns-in-Either t c =
     on_ok_weaker c.either_end.result
-    (rest_is (names_of c.args.scope.now) c.args.line Either (form_of c.args.operator)
+    (rest_is (numbered_by c.args.tables.now) c.args.line Either (form_of c.args.operator)
     (view_resolved_expression c.args.right.now) _ _
     (ap form (sym c.in-Either.is) ∙ c.form_of.ensures))
     c.either_end.ensures
 
 pub binary_end-returns-in_ok-put-in-Plain : goal.binary_end-returns-in_ok-put-in-Plain
 binary_end-returns-in_ok-put-in-Plain t c =
-    rest_is (names_of c.args.scope.now) c.args.line (Plain c.in-Plain.operator) (form_of c.args.operator)
+    rest_is (numbered_by c.args.tables.now) c.args.line (Plain c.in-Plain.operator) (form_of c.args.operator)
     (view_resolved_expression c.args.right.now) _ _
     (ap form (sym c.in-Plain.is) ∙ c.form_of.ensures)
-    (emits_right (names_of c.args.scope.now) c.args.line c.in-Plain.operator
+    (emits_right (numbered_by c.args.tables.now) c.args.line c.in-Plain.operator
     (view_resolved_expression c.args.right.now) _ _ _
     c.in_ok-value-in-Plain.ensures c.in_ok-put-in-Plain.ensures)
 
@@ -96,7 +96,7 @@ both_end-define-requires-2 t c =
 
 pub both_end-returns : goal.both_end-returns
 both_end-returns t c =
-    emits_both (names_of c.args.scope.now) c.args.line (view_resolved_expression c.args.right.now)
+    emits_both (numbered_by c.args.tables.now) c.args.line (view_resolved_expression c.args.right.now)
     c.in_ok-not_both.not_both c.in_ok-end.end _ _ _ _ _ _ _ _ _ _ _
     c.in_ok-not_both.ensures c.in_ok-end.ensures c.in_ok-put.ensures c.in_ok-value.ensures c.in_ok-put-2.ensures
     c.in_ok-put-3.ensures c.in_ok-put-4.ensures c.define.ensures c.in_ok-put-5.ensures c.define-2.ensures
@@ -141,7 +141,7 @@ either_end-define-requires-3 t c =
 
 pub either_end-returns : goal.either_end-returns
 either_end-returns t c =
-    emits_either (names_of c.args.scope.now) c.args.line (view_resolved_expression c.args.right.now)
+    emits_either (numbered_by c.args.tables.now) c.args.line (view_resolved_expression c.args.right.now)
     c.in_ok-next.next c.in_ok-neither.neither c.in_ok-end.end _ _ _ _ _ _ _ _ _ _ _ _ _ _ _
     c.in_ok-next.ensures c.in_ok-neither.ensures c.in_ok-end.ensures c.in_ok-put.ensures c.in_ok-put-2.ensures
     c.in_ok-put-3.ensures c.define.ensures c.in_ok-value.ensures c.in_ok-put-4.ensures c.in_ok-put-5.ensures
@@ -152,14 +152,14 @@ either_end-returns t c =
 
 pub assign-returns-in_ok-store-in-None : goal.assign-returns-in_ok-store-in-None
 assign-returns-in_ok-store-in-None t c =
-    emits_set (names_of c.args.scope.now) c.args.line c.args.target.keeps c.args.target.variable
+    emits_set (numbered_by c.args.tables.now) c.args.line c.args.target.keeps c.args.target.variable
     c.args.target.operator
     (view_resolved_expression c.args.e.now) _ _ _ (sym c.in-None.is
     ∙ c.compound_of.ensures) c.in_ok-value-in-None.ensures c.in_ok-store-in-None.ensures
 
 pub assign-returns-in_ok-store-in-Some : goal.assign-returns-in_ok-store-in-Some
 assign-returns-in_ok-store-in-Some t c =
-    emits_compound (names_of c.args.scope.now) c.args.line c.args.target.keeps c.args.target.variable
+    emits_compound (numbered_by c.args.tables.now) c.args.line c.args.target.keeps c.args.target.variable
     c.args.target.operator _
     (view_resolved_expression c.args.e.now) _ _ _ _ _ (sym c.in-Some.is
     ∙ c.compound_of.ensures) c.in_ok-load-in-Some.ensures
@@ -167,14 +167,14 @@ assign-returns-in_ok-store-in-Some t c =
 
 pub assign_element-returns-in_ok-store_element-in-None : goal.assign_element-returns-in_ok-store_element-in-None
 assign_element-returns-in_ok-store_element-in-None t c =
-    emits_set_element (names_of c.args.scope.now) c.args.line c.args.target.keeps c.args.target.variable
+    emits_set_element (numbered_by c.args.tables.now) c.args.line c.args.target.keeps c.args.target.variable
     c.args.target.operator
     (view_resolved_expression c.args.e.now) _ _ _ (sym c.in-None.is
     ∙ c.compound_of.ensures) c.in_ok-value-in-None.ensures c.in_ok-store_element-in-None.ensures
 
 pub assign_element-returns-in_ok-store_element-in-Some : goal.assign_element-returns-in_ok-store_element-in-Some
 assign_element-returns-in_ok-store_element-in-Some t c =
-    emits_compound_element (names_of c.args.scope.now) c.args.line c.args.target.keeps c.args.target.variable
+    emits_compound_element (numbered_by c.args.tables.now) c.args.line c.args.target.keeps c.args.target.variable
     c.args.target.operator _
     (view_resolved_expression c.args.e.now) _ _ _ _ _ _ (sym c.in-Some.is
     ∙ c.compound_of.ensures) c.in_ok-put-in-Some.ensures
@@ -202,7 +202,7 @@ values-loop-e-preserved t c = (
 
 pub value-returns-in-Constant : goal.value-returns-in-Constant
 value-returns-in-Constant t c =
-    let names = names_of c.args.scope.now in
+    let names = numbered_by c.args.tables.now in
     let is = ap view_resolved_expression c.in-Constant.is ∙ view_constant c.in-Constant.number in
     on_ok_weaker c.put.result
     (λ h. value_is names c.args.line (trees.Constant c.in-Constant.number)
@@ -212,7 +212,7 @@ value-returns-in-Constant t c =
 
 pub value-returns-in-Variable : goal.value-returns-in-Variable
 value-returns-in-Variable t c =
-    let names = names_of c.args.scope.now in
+    let names = numbered_by c.args.tables.now in
     let is = ap view_resolved_expression c.in-Variable.is ∙ view_variable c.in-Variable.variable in
     on_ok_weaker c.load.result
     (λ h. value_is names c.args.line (trees.Variable c.in-Variable.variable)
@@ -222,7 +222,7 @@ value-returns-in-Variable t c =
 
 pub value-returns-in-ThreadNumber : goal.value-returns-in-ThreadNumber
 value-returns-in-ThreadNumber t c =
-    let names = names_of c.args.scope.now in
+    let names = numbered_by c.args.tables.now in
     let is = ap view_resolved_expression c.in-ThreadNumber.is ∙ view_thread_number in
     on_ok_weaker c.put-in-ThreadNumber.result
     (λ h. value_is names c.args.line trees.ThreadNumber (view_resolved_expression c.args.e.now) _ _ (sym is)
@@ -231,7 +231,7 @@ value-returns-in-ThreadNumber t c =
 
 pub value-returns-in-TeamSize : goal.value-returns-in-TeamSize
 value-returns-in-TeamSize t c =
-    let names = names_of c.args.scope.now in
+    let names = numbered_by c.args.tables.now in
     let is = ap view_resolved_expression c.in-TeamSize.is ∙ view_team_size in
     on_ok_weaker c.put-in-TeamSize.result
     (λ h. value_is names c.args.line trees.TeamSize (view_resolved_expression c.args.e.now) _ _ (sym is)
@@ -240,7 +240,7 @@ value-returns-in-TeamSize t c =
 
 pub value-returns-in-Call : goal.value-returns-in-Call
 value-returns-in-Call t c =
-    let names = names_of c.args.scope.now in
+    let names = numbered_by c.args.tables.now in
     let is = ap view_resolved_expression c.in-Call.is ∙ view_call c.in-Call.function c.in-Call.arguments in
     let same = ap (λ es. trees.Call c.in-Call.function (listed es)) c.as_slice.ensures.value in
     on_ok_weaker c.used_call.result
@@ -250,7 +250,7 @@ value-returns-in-Call t c =
 
 pub value-returns-in_ok-binary_end-in-Binary : goal.value-returns-in_ok-binary_end-in-Binary
 value-returns-in_ok-binary_end-in-Binary t c =
-    let names = names_of c.args.scope.now in
+    let names = numbered_by c.args.tables.now in
     let left = c.deref-in-Binary.result.now in
     let right = c.deref-in-Binary-2.result.now in
     let is = ap view_resolved_expression c.in-Binary.is
@@ -294,7 +294,7 @@ value-define-requires-in-Conditional t c =
 
 pub value-returns-in_ok-value-in-Conditional-3 : goal.value-returns-in_ok-value-in-Conditional-3
 value-returns-in_ok-value-in-Conditional-3 t c =
-    let names = names_of c.args.scope.now in
+    let names = numbered_by c.args.tables.now in
     let a = c.deref-in-Conditional.result.now in
     let b = c.deref-in-Conditional-2.result.now in
     let d = c.deref-in-Conditional-3.result.now in
@@ -323,7 +323,7 @@ value-returns-in_ok-value-in-Conditional-3 t c =
 
 pub value-returns-in_ok-assign_element-in-AssignElement : goal.value-returns-in_ok-assign_element-in-AssignElement
 value-returns-in_ok-assign_element-in-AssignElement t c =
-    let names = names_of c.args.scope.now in
+    let names = numbered_by c.args.tables.now in
     let j = c.deref-in-AssignElement.result.now in
     let e = c.deref-in-AssignElement-2.result.now in
     let x = c.in-AssignElement.array in
@@ -351,7 +351,7 @@ value-returns-in_ok-assign_element-in-AssignElement t c =
 
 pub value-returns-in_ok-postfix_element-in-PostfixElement : goal.value-returns-in_ok-postfix_element-in-PostfixElement
 value-returns-in_ok-postfix_element-in-PostfixElement t c =
-    let names = names_of c.args.scope.now in
+    let names = numbered_by c.args.tables.now in
     let j = c.deref-in-PostfixElement.result.now in
     let x = c.in-PostfixElement.array in
     let o = c.in-PostfixElement.operator in

@@ -1,10 +1,10 @@
 use Rattle.om_emit.proofs.Singles.{emits_stepped_element}
-use Rattle.om_tables.specs.Scopes.{names_of}
+use Rattle.om_tables.specs.BodyTables.{numbered_by}
 use Rattle.om_emit.proofs.single.step_element.Goals as goal
 
 pub returns : goal.returns
 returns c =
-    emits_stepped_element (names_of c.args.scope.now) c.args.line c.args.target.keeps c.args.target.variable
+    emits_stepped_element (numbered_by c.args.tables.now) c.args.line c.args.target.keeps c.args.target.variable
     c.args.target.operator _ _ _ _ _ _ _
     c.step_of.ensures c.in_ok-put.ensures c.in_ok-load_element.ensures c.in_ok-put-2.ensures c.in_ok-put-3.ensures
     c.in_ok-store_element.ensures

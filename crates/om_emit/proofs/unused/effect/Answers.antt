@@ -7,12 +7,12 @@ use Rattle.om_resolved.specs.ResolvedTree as trees
 use Rattle.om_resolved.specs.ResolvedView.{view_resolved_expression}
 use Rattle.om_rows.specs.Expressions.{constant, value}
 use Rattle.om_rows.specs.Operators.{compound_of, step_of}
-use Rattle.om_tables.specs.Scopes.{names_of}
+use Rattle.om_tables.specs.BodyTables.{numbered_by}
 use Rattle.om_emit.proofs.unused.effect.Goals as goal
 
 pub returns-in_ok-assign_element-in-AssignElement : goal.returns-in_ok-assign_element-in-AssignElement
 returns-in_ok-assign_element-in-AssignElement c =
-    let names = names_of c.args.scope.now in
+    let names = numbered_by c.args.tables.now in
     let j = c.deref-in-AssignElement.result.now in
     let e = c.deref-in-AssignElement-2.result.now in
     let x = c.in-AssignElement.array in
@@ -40,7 +40,7 @@ returns-in_ok-assign_element-in-AssignElement c =
 
 pub returns-in_ok-step_element-in-PostfixElement : goal.returns-in_ok-step_element-in-PostfixElement
 returns-in_ok-step_element-in-PostfixElement c =
-    let names = names_of c.args.scope.now in
+    let names = numbered_by c.args.tables.now in
     let j = c.deref-in-PostfixElement.result.now in
     let x = c.in-PostfixElement.array in
     let o = c.in-PostfixElement.operator in
@@ -62,7 +62,7 @@ returns-in_ok-step_element-in-PostfixElement c =
 
 pub returns-in_ok-put-in-Call : goal.returns-in_ok-put-in-Call
 returns-in_ok-put-in-Call c =
-    let names = names_of c.args.scope.now in
+    let names = numbered_by c.args.tables.now in
     let is = ap view_resolved_expression c.in-Call.is ∙ view_call c.in-Call.function c.in-Call.arguments in
     let same = ap (λ es. trees.Call c.in-Call.function (listed es)) c.as_slice-in-Call.ensures.value in
     effect_is names c.args.line (trees.Call c.in-Call.function (listed c.as_slice-in-Call.result.now))
@@ -72,7 +72,7 @@ returns-in_ok-put-in-Call c =
 
 pub returns-in-Print : goal.returns-in-Print
 returns-in-Print c =
-    let names = names_of c.args.scope.now in
+    let names = numbered_by c.args.tables.now in
     let is = ap view_resolved_expression c.in-Print.is ∙ view_print c.in-Print.format c.in-Print.arguments in
     let same =
     ap (λ f. trees.Print f (listed c.as_slice-in-Print.result.now)) c.as_slice.ensures

@@ -1,9 +1,9 @@
 use Rattle.om_emit.proofs.Expressions.{emits_popped}
 use Rattle.om_resolved.specs.ResolvedView.{view_resolved_expression}
-use Rattle.om_tables.specs.Scopes.{names_of}
+use Rattle.om_tables.specs.BodyTables.{numbered_by}
 use Rattle.om_emit.proofs.unused.popped.Goals as goal
 
 pub returns : goal.returns
 returns c =
-    emits_popped (names_of c.args.scope.now) c.args.line
+    emits_popped (numbered_by c.args.tables.now) c.args.line
     (view_resolved_expression c.args.e.now) _ _ _ c.in_ok-value.ensures c.in_ok-put.ensures

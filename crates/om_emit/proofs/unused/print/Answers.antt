@@ -1,12 +1,12 @@
 use Rattle.std.proofs.Common.{◌∙◌}
 use Rattle.om_emit.proofs.Arguments.{listed, counted, few}
 use Rattle.om_emit.proofs.Expressions.{emits_print}
-use Rattle.om_tables.specs.Scopes.{names_of}
+use Rattle.om_tables.specs.BodyTables.{numbered_by}
 use Rattle.om_emit.proofs.unused.print.Goals as goal
 
 pub returns : goal.returns
 returns c =
-    emits_print (names_of c.args.scope.now) c.args.line c.args.format.now
+    emits_print (numbered_by c.args.tables.now) c.args.line c.args.format.now
     (listed c.args.arguments.now) c.format_number-text.result c.count_of-count.result _ _ _
     c.format_number-text.ensures (c.count_of-count.ensures
     ∙ counted c.args.arguments.now) c.in_ok-values.ensures c.in_ok-put.ensures

@@ -4,40 +4,40 @@ use Rattle.om_lower.specs.Emitted.{EmitsBody}
 use Rattle.om_sights.specs.Sites.{body_in, part_tree}
 use Rattle.om_rows.specs.Scopes.{body_scopes}
 use Rattle.om_statements.specs.Scoped.{EmitsScopes}
-use Rattle.om_tables.specs.Scopes.{names_of}
+use Rattle.om_tables.specs.BodyTables.{numbered_by}
 use Rattle.om_lower.proofs.body.write_body.Goals as goal
 
 pub returns-in-Function-clause-scopes : goal.returns-in-Function-clause-scopes
 returns-in-Function-clause-scopes c =
     let b = body_in [] c.args.site.now in
-    subst (λ part. OnOk c.write_function.result (EmitsScopes (names_of c.args.scope.now)
+    subst (λ part. OnOk c.write_function.result (EmitsScopes (numbered_by c.args.tables.now)
     (λ at. body_scopes at b.function (part_tree part)) c.args.writing.now c.write_function.new.writing))
     (sym c.in-Function.is) c.write_function.ensures.scopes
 
 pub returns-in_ok-write_parallel-in-Parallel-clause-code : goal.returns-in_ok-write_parallel-in-Parallel-clause-code
 returns-in_ok-write_parallel-in-Parallel-clause-code c =
     let b = body_in [] c.args.site.now in
-    subst (λ part. EmitsBody (names_of c.args.scope.now) b.numbers b.function (part_tree part)
+    subst (λ part. EmitsBody (numbered_by c.args.tables.now) b.numbers b.function (part_tree part)
     c.args.writing.now.draft c.write_parallel.new.writing.draft)
     (sym c.in-Parallel.is) (c.in_ok-write_parallel-in-Parallel.ensures.code b.function)
 
 pub returns-in_ok-write_parallel-in-Parallel-clause-scopes : goal.returns-in_ok-write_parallel-in-Parallel-clause-scopes
 returns-in_ok-write_parallel-in-Parallel-clause-scopes c =
     let b = body_in [] c.args.site.now in
-    subst (λ part. EmitsScopes (names_of c.args.scope.now) (λ at. body_scopes at b.function (part_tree part))
+    subst (λ part. EmitsScopes (numbered_by c.args.tables.now) (λ at. body_scopes at b.function (part_tree part))
     c.args.writing.now c.write_parallel.new.writing)
     (sym c.in-Parallel.is) (c.in_ok-write_parallel-in-Parallel.ensures.scopes b.function)
 
 pub returns-in_ok-write_task-in-Task-clause-code : goal.returns-in_ok-write_task-in-Task-clause-code
 returns-in_ok-write_task-in-Task-clause-code c =
     let b = body_in [] c.args.site.now in
-    subst (λ part. EmitsBody (names_of c.args.scope.now) b.numbers b.function (part_tree part)
+    subst (λ part. EmitsBody (numbered_by c.args.tables.now) b.numbers b.function (part_tree part)
     c.args.writing.now.draft c.write_task.new.writing.draft)
     (sym c.in-Task.is) (c.in_ok-write_task-in-Task.ensures.code b.function)
 
 pub returns-in_ok-write_task-in-Task-clause-scopes : goal.returns-in_ok-write_task-in-Task-clause-scopes
 returns-in_ok-write_task-in-Task-clause-scopes c =
     let b = body_in [] c.args.site.now in
-    subst (λ part. EmitsScopes (names_of c.args.scope.now) (λ at. body_scopes at b.function (part_tree part))
+    subst (λ part. EmitsScopes (numbered_by c.args.tables.now) (λ at. body_scopes at b.function (part_tree part))
     c.args.writing.now c.write_task.new.writing)
     (sym c.in-Task.is) (c.in_ok-write_task-in-Task.ensures.scopes b.function)

@@ -3,10 +3,10 @@ use Rattle.om_emit.specs.Drafts.{Written}
 use Rattle.om_resolved.specs.ResolvedView.{view_resolved_clause}
 use Rattle.om_rows.specs.Scopes.{each_scope, task_scope}
 use Rattle.om_statements.specs.Scoping.{ScopesOn}
-use Rattle.om_tables.specs.Names.{Names}
+use Rattle.om_tables.specs.Numbered.{Numbered}
 use Rattle.om_statements.proofs.clause.task_copies.Given as goal
 
 abbrev pub invariant-loop-clause : goal.invariant-loop-clause
-invariant-loop-clause l = (names : Names) (d : Written)
+invariant-loop-clause l = (names : Numbered) (d : Written)
     → ScopesOn names (λ at. each_scope task_scope (map view_resolved_clause l.clauses))
     (λ at. each_scope task_scope (map view_resolved_clause (drop l.clause-index l.clauses))) d l.fn.scopes d l.scopes

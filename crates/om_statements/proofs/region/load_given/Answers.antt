@@ -1,8 +1,8 @@
 use Rattle.std.proofs.Common.{ap, arith, map, ◌∙◌}
 use Rattle.om_resolved.specs.ResolvedView.{view_resolved_clause}
 use Rattle.om_rows.specs.Slots.{by_slots, first_copies}
+use Rattle.om_tables.specs.BodyTables.{numbered_by}
 use Rattle.om_tables.specs.Copies.{first_copies_of}
-use Rattle.om_tables.specs.Scopes.{names_of}
 use Rattle.om_statements.proofs.Regions.{count_few, counted, given_loaded}
 use Rattle.om_statements.proofs.region.load_given.Goals as goal
 
@@ -24,7 +24,7 @@ returns-clause-count c =
 
 pub returns-clause-emitted : goal.returns-clause-emitted
 returns-clause-emitted c =
-    given_loaded (names_of c.args.scope.now) c.args.region.now.at.line _ _ _ _
+    given_loaded (numbered_by c.args.tables.now) c.args.region.now.at.line _ _ _ _
     (ap first_copies_of c.as_slice.ensures.value ∙ c.in_ok-copies.ensures
     ∙ ap (λ slots. by_slots slots (first_copies (map view_resolved_clause c.args.region.now.clauses.now)
     c.args.region.now.captures.now)) c.requires.variables) c.in_ok-load_originals.ensures

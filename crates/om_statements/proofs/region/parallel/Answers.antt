@@ -1,14 +1,14 @@
 use Rattle.std.specs.Prelude.{map}
 use Rattle.om_resolved.specs.ResolvedView.{view_resolved_clause, view_resolved_statement}
+use Rattle.om_tables.specs.BodyTables.{numbered_by}
 use Rattle.om_tables.specs.Numbering.{numbers_of}
-use Rattle.om_tables.specs.Scopes.{names_of}
 use Rattle.om_statements.proofs.Regions.{emits_parallel}
 use Rattle.om_statements.proofs.region.parallel.Goals as goal
 
 pub returns-clause-emitted : goal.returns-clause-emitted
 returns-clause-emitted c = λ jumps.
-    emits_parallel (names_of c.args.scope.now) (numbers_of c.args.numbers) c.args.region.now.at
+    emits_parallel (numbered_by c.args.tables.now) (numbers_of c.args.numbers) c.args.region.now.at
     (map view_resolved_clause c.args.region.now.clauses.now) c.args.region.now.captures.now
     (view_resolved_statement c.args.region.now.statement.now) jumps _ _ _ _ _ _ c.in_ok-count.ensures.count
     c.in_ok-sized.ensures.sized c.in_ok-sized.ensures.emitted c.in_ok-count.ensures.emitted
-    (c.in_ok-fork.ensures (names_of c.args.scope.now))
+    (c.in_ok-fork.ensures (numbered_by c.args.tables.now))

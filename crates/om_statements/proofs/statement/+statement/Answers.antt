@@ -13,9 +13,9 @@ use Rattle.om_resolved.specs.ResolvedView.{view_resolved_clause, view_resolved_d
 use Rattle.om_resolved.specs.ResolvedView.{view_resolved_loop, view_resolved_part, view_resolved_start}
 use Rattle.om_resolved.specs.ResolvedView.{view_resolved_statement, view_resolved_update}
 use Rattle.om_rows.specs.Bodies as rows
+use Rattle.om_tables.specs.BodyTables.{numbered_by}
+use Rattle.om_tables.specs.Numbered.{Numbered}
 use Rattle.om_tables.specs.Numbering.{numbers_of}
-use Rattle.om_tables.specs.Names.{Names}
-use Rattle.om_tables.specs.Scopes.{names_of}
 use Rattle.om_statements.specs.Going.{free_with, with_none}
 use Rattle.om_statements.proofs.Lists.{left_item, left_next, no_atomic, numbers_are, onward_begin, onward_done, spot_is}
 use Rattle.om_statements.proofs.Lists.{statement_is}
@@ -49,7 +49,7 @@ use Rattle.om_statements.proofs.statement.+statement.Goals as goal
 
 pub statement-define-requires-in-IfElse : goal.statement-define-requires-in-IfElse
 statement-define-requires-in-IfElse t c =
-    free_with _ _ _ _ _ (c.in_ok-end-in-IfElse.ensures (names_of c.args.scope.now)).free
+    free_with _ _ _ _ _ (c.in_ok-end-in-IfElse.ensures (numbered_by c.args.tables.now)).free
     c.in_ok-after-in-IfElse.ensures.emitted
 
 pub statement-end_loop-requires : goal.statement-end_loop-requires
@@ -91,14 +91,14 @@ statement-returns-in_ok-after-in-If t c =
     record {
       behind = c.in_ok-after-in-If.ensures.behind
           ∙ ap (λ z. rows.behind (numbers_of c.args.spot.numbers) z) seen;
-      emitted = statement_is (names_of c.args.scope.now) (numbers_of c.args.spot.numbers) _ _ c.args.spot.jumps _ _
+      emitted = statement_is (numbered_by c.args.tables.now) (numbers_of c.args.spot.numbers) _ _ c.args.spot.jumps _ _
           seen
-          (emits_if (names_of c.args.scope.now) (numbers_of c.args.spot.numbers) c.in-If.at
+          (emits_if (numbered_by c.args.tables.now) (numbers_of c.args.spot.numbers) c.in-If.at
           (view_resolved_expression c.in-If.condition) (view_resolved_statement c.deref.result.now) c.args.spot.jumps
           c.in_ok-end-in-If.end _ _ _ _
           c.in_ok-end-in-If.ensures c.in_ok-after-in-If.ensures.emitted c.define.ensures);
-      scopes = scopes_are (names_of c.args.scope.now) _ _ _ _ _ _ seen
-          (if_scopes (names_of c.args.scope.now) c.in-If.at (view_resolved_expression c.in-If.condition)
+      scopes = scopes_are (numbered_by c.args.tables.now) _ _ _ _ _ _ seen
+          (if_scopes (numbered_by c.args.tables.now) c.in-If.at (view_resolved_expression c.in-If.condition)
           (view_resolved_statement c.deref.result.now) c.in_ok-end-in-If.end _ _ _ _ _ _ c.in_ok-end-in-If.ensures
           c.in_ok-after-in-If.ensures.scopes c.define.ensures);
     }
@@ -118,25 +118,25 @@ statement-returns-in_ok-after-in-IfElse t c =
           ∙ ap (λ n. rows.behind n (view_resolved_statement c.deref-in-IfElse-2.result.now))
           c.in_ok-between-in-IfElse.ensures.behind
           ∙ ap (λ z. rows.behind (numbers_of c.args.spot.numbers) z) seen;
-      emitted = statement_is (names_of c.args.scope.now) (numbers_of c.args.spot.numbers) _ _ c.args.spot.jumps _ _
+      emitted = statement_is (numbered_by c.args.tables.now) (numbers_of c.args.spot.numbers) _ _ c.args.spot.jumps _ _
           seen
-          (emits_if_else (names_of c.args.scope.now) (numbers_of c.args.spot.numbers) c.in-IfElse.at
+          (emits_if_else (numbered_by c.args.tables.now) (numbers_of c.args.spot.numbers) c.in-IfElse.at
           (view_resolved_expression c.in-IfElse.condition) (view_resolved_statement c.deref-in-IfElse.result.now)
           (view_resolved_statement c.deref-in-IfElse-2.result.now) c.args.spot.jumps c.in_ok-head-in-IfElse.head
           c.in_ok-end-in-IfElse.end _ _ _ _ _ _
           c.in_ok-head-in-IfElse.ensures c.in_ok-between-in-IfElse.ensures.emitted
-          (c.in_ok-end-in-IfElse.ensures (names_of c.args.scope.now))
-          (numbers_are (names_of c.args.scope.now) _ _ (view_resolved_statement c.deref-in-IfElse-2.result.now)
-          c.args.spot.jumps _ _ c.in_ok-between-in-IfElse.ensures.behind (spot_is (names_of c.args.scope.now)
+          (c.in_ok-end-in-IfElse.ensures (numbered_by c.args.tables.now))
+          (numbers_are (numbered_by c.args.tables.now) _ _ (view_resolved_statement c.deref-in-IfElse-2.result.now)
+          c.args.spot.jumps _ _ c.in_ok-between-in-IfElse.ensures.behind (spot_is (numbered_by c.args.tables.now)
           (view_resolved_statement c.deref-in-IfElse-2.result.now) _ _ _ _ c.behind.ensures
           c.in_ok-after-in-IfElse.ensures.emitted))
           c.define-in-IfElse.ensures);
-      scopes = scopes_are (names_of c.args.scope.now) _ _ _ _ _ _ seen
-          (if_else_scopes (names_of c.args.scope.now) c.in-IfElse.at (view_resolved_expression c.in-IfElse.condition)
+      scopes = scopes_are (numbered_by c.args.tables.now) _ _ _ _ _ _ seen
+          (if_else_scopes (numbered_by c.args.tables.now) c.in-IfElse.at (view_resolved_expression c.in-IfElse.condition)
           (view_resolved_statement c.deref-in-IfElse.result.now)
           (view_resolved_statement c.deref-in-IfElse-2.result.now) c.in_ok-head-in-IfElse.head
           c.in_ok-end-in-IfElse.end _ _ _ _ _ _ _ _ _ c.in_ok-head-in-IfElse.ensures
-          c.in_ok-between-in-IfElse.ensures.scopes (c.in_ok-end-in-IfElse.ensures (names_of c.args.scope.now))
+          c.in_ok-between-in-IfElse.ensures.scopes (c.in_ok-end-in-IfElse.ensures (numbered_by c.args.tables.now))
           c.in_ok-after-in-IfElse.ensures.scopes c.define-in-IfElse.ensures);
     }
 
@@ -151,19 +151,19 @@ statement-returns-in_ok-end_loop-in-While t c =
           ∙ ap (λ x. rows.behind (numbers_of x.numbers) (view_resolved_statement c.deref-in-While.result.now))
           c.in_loop-inside.ensures
           ∙ ap (λ z. rows.behind (numbers_of c.args.spot.numbers) z) seen;
-      emitted = statement_is (names_of c.args.scope.now) (numbers_of c.args.spot.numbers) _ _ c.args.spot.jumps _ _
+      emitted = statement_is (numbered_by c.args.tables.now) (numbers_of c.args.spot.numbers) _ _ c.args.spot.jumps _ _
           seen
-          (emits_while (names_of c.args.scope.now) (numbers_of c.args.spot.numbers) c.in-While.at
+          (emits_while (numbered_by c.args.tables.now) (numbers_of c.args.spot.numbers) c.in-While.at
           (view_resolved_expression c.in-While.condition) (view_resolved_statement c.deref-in-While.result.now)
           c.args.spot.jumps c.in_ok-labels-in-While.labels _ _ _ _
-          c.in_ok-labels-in-While.ensures (spot_is (names_of c.args.scope.now)
+          c.in_ok-labels-in-While.ensures (spot_is (numbered_by c.args.tables.now)
           (view_resolved_statement c.deref-in-While.result.now) _ _ _ _ c.in_loop-inside.ensures
-          c.in_ok-after-in-While.ensures.emitted) (c.in_ok-end_loop-in-While.ensures (names_of c.args.scope.now)));
-      scopes = scopes_are (names_of c.args.scope.now) _ _ _ _ _ _ seen
-          (while_scopes (names_of c.args.scope.now) c.in-While.at (view_resolved_expression c.in-While.condition)
+          c.in_ok-after-in-While.ensures.emitted) (c.in_ok-end_loop-in-While.ensures (numbered_by c.args.tables.now)));
+      scopes = scopes_are (numbered_by c.args.tables.now) _ _ _ _ _ _ seen
+          (while_scopes (numbered_by c.args.tables.now) c.in-While.at (view_resolved_expression c.in-While.condition)
           (view_resolved_statement c.deref-in-While.result.now) c.in_ok-labels-in-While.labels _ _ _ _ _ _
           c.in_ok-labels-in-While.ensures c.in_ok-after-in-While.ensures.scopes
-          (c.in_ok-end_loop-in-While.ensures (names_of c.args.scope.now)));
+          (c.in_ok-end_loop-in-While.ensures (numbered_by c.args.tables.now)));
     }
 
 pub statement-returns-in_ok-end_do-in-Do : goal.statement-returns-in_ok-end_do-in-Do
@@ -176,16 +176,16 @@ statement-returns-in_ok-end_do-in-Do t c =
           ∙ ap (λ x. rows.behind (numbers_of x.numbers) (view_resolved_statement c.deref-in-Do.result.now))
           c.in_loop-inside-in-Do.ensures
           ∙ ap (λ z. rows.behind (numbers_of c.args.spot.numbers) z) seen;
-      emitted = statement_is (names_of c.args.scope.now) (numbers_of c.args.spot.numbers) _ _ c.args.spot.jumps _ _
+      emitted = statement_is (numbered_by c.args.tables.now) (numbers_of c.args.spot.numbers) _ _ c.args.spot.jumps _ _
           seen
-          (emits_do (names_of c.args.scope.now) (numbers_of c.args.spot.numbers) c.in-Do.at
+          (emits_do (numbered_by c.args.tables.now) (numbers_of c.args.spot.numbers) c.in-Do.at
           (view_resolved_expression c.in-Do.condition) (view_resolved_statement c.deref-in-Do.result.now)
           c.args.spot.jumps c.in_ok-labels-in-Do.labels _ _ _ _
-          c.in_ok-labels-in-Do.ensures (spot_is (names_of c.args.scope.now)
+          c.in_ok-labels-in-Do.ensures (spot_is (numbered_by c.args.tables.now)
           (view_resolved_statement c.deref-in-Do.result.now) _ _ _ _ c.in_loop-inside-in-Do.ensures
           c.in_ok-after-in-Do.ensures.emitted) c.in_ok-end_do-in-Do.ensures);
-      scopes = scopes_are (names_of c.args.scope.now) _ _ _ _ _ _ seen
-          (do_scopes (names_of c.args.scope.now) c.in-Do.at (view_resolved_expression c.in-Do.condition)
+      scopes = scopes_are (numbered_by c.args.tables.now) _ _ _ _ _ _ seen
+          (do_scopes (numbered_by c.args.tables.now) c.in-Do.at (view_resolved_expression c.in-Do.condition)
           (view_resolved_statement c.deref-in-Do.result.now) c.in_ok-labels-in-Do.labels _ _ _ _ _ _
           c.in_ok-labels-in-Do.ensures c.in_ok-after-in-Do.ensures.scopes c.in_ok-end_do-in-Do.ensures);
     }
@@ -205,19 +205,19 @@ statement-returns-in_ok-end-in-For t c =
           ∙ ap (λ x. rows.behind (numbers_of x.numbers) (view_resolved_statement c.deref-in-For.result.now))
           c.in_loop-inside-in-For.ensures
           ∙ ap (λ z. rows.behind (numbers_of c.args.spot.numbers) z) seen;
-      emitted = statement_is (names_of c.args.scope.now) (numbers_of c.args.spot.numbers) _ _ c.args.spot.jumps _ _
+      emitted = statement_is (numbered_by c.args.tables.now) (numbers_of c.args.spot.numbers) _ _ c.args.spot.jumps _ _
           seen
-          (emits_for (names_of c.args.scope.now) (numbers_of c.args.spot.numbers) c.in-For.at
+          (emits_for (numbered_by c.args.tables.now) (numbers_of c.args.spot.numbers) c.in-For.at
           (view_resolved_start c.deref-head.result.now.start) (option_map view_resolved_expression
           c.deref-head.result.now.condition)
           (option_map view_resolved_expression c.deref-head.result.now.step) (view_resolved_statement
           c.deref-in-For.result.now)
           c.args.spot.jumps c.in_ok-labels-in-For.labels _ _ _ _
-          c.in_ok-labels-in-For.ensures.code (spot_is (names_of c.args.scope.now)
+          c.in_ok-labels-in-For.ensures.code (spot_is (numbered_by c.args.tables.now)
           (view_resolved_statement c.deref-in-For.result.now) _ _ _ _ c.in_loop-inside-in-For.ensures
           c.in_ok-after-in-For.ensures.emitted) c.in_ok-end_for-in-For.ensures);
-      scopes = scopes_are (names_of c.args.scope.now) _ _ _ _ _ _ seen
-          (for_scopes (names_of c.args.scope.now) c.in-For.at
+      scopes = scopes_are (numbered_by c.args.tables.now) _ _ _ _ _ _ seen
+          (for_scopes (numbered_by c.args.tables.now) c.in-For.at
           (view_resolved_start c.deref-head.result.now.start) (option_map view_resolved_expression
           c.deref-head.result.now.condition)
           (option_map view_resolved_expression c.deref-head.result.now.step) (view_resolved_statement
@@ -230,24 +230,24 @@ statement-returns-in_ok-end-in-For t c =
 pub statement-returns-in_ok-leave_loop-in-Break-clause-emitted :
     goal.statement-returns-in_ok-leave_loop-in-Break-clause-emitted
 statement-returns-in_ok-leave_loop-in-Break-clause-emitted t c =
-    statement_is (names_of c.args.scope.now) (numbers_of c.args.spot.numbers) _ _ c.args.spot.jumps _ _
+    statement_is (numbered_by c.args.tables.now) (numbers_of c.args.spot.numbers) _ _ c.args.spot.jumps _ _
     (sym (ap view_resolved_statement c.in-Break.is ∙ view_break c.in-Break.at))
-    (with_none _ _ _ _ (c.in_ok-leave_loop-in-Break.ensures (names_of c.args.scope.now)))
+    (with_none _ _ _ _ (c.in_ok-leave_loop-in-Break.ensures (numbered_by c.args.tables.now)))
 
 pub statement-returns-in_ok-go_on-in-Continue-clause-emitted :
     goal.statement-returns-in_ok-go_on-in-Continue-clause-emitted
 statement-returns-in_ok-go_on-in-Continue-clause-emitted t c =
-    statement_is (names_of c.args.scope.now) (numbers_of c.args.spot.numbers) _ _ c.args.spot.jumps _ _
+    statement_is (numbered_by c.args.tables.now) (numbers_of c.args.spot.numbers) _ _ c.args.spot.jumps _ _
     (sym (ap view_resolved_statement c.in-Continue.is ∙ view_continue c.in-Continue.at))
-    (with_none _ _ _ _ (c.in_ok-go_on-in-Continue.ensures (names_of c.args.scope.now)))
+    (with_none _ _ _ _ (c.in_ok-go_on-in-Continue.ensures (numbered_by c.args.tables.now)))
 
 pub statement-returns-in_ok-stand_alone-in-StandAlone-clause-emitted :
     goal.statement-returns-in_ok-stand_alone-in-StandAlone-clause-emitted
 statement-returns-in_ok-stand_alone-in-StandAlone-clause-emitted t c =
-    statement_is (names_of c.args.scope.now) (numbers_of c.args.spot.numbers) _ _ c.args.spot.jumps _ _
+    statement_is (numbered_by c.args.tables.now) (numbers_of c.args.spot.numbers) _ _ c.args.spot.jumps _ _
     (sym (ap view_resolved_statement c.in-StandAlone.is ∙ view_stand_alone c.in-StandAlone.at
     c.in-StandAlone.directive))
-    (with_none _ _ _ _ (c.in_ok-stand_alone-in-StandAlone.ensures (names_of c.args.scope.now)))
+    (with_none _ _ _ _ (c.in_ok-stand_alone-in-StandAlone.ensures (numbered_by c.args.tables.now)))
 
 pub statement-returns-in_ok-end-in-Loop : goal.statement-returns-in_ok-end-in-Loop
 statement-returns-in_ok-end-in-Loop t c =
@@ -262,29 +262,29 @@ statement-returns-in_ok-end-in-Loop t c =
           ∙ ap (λ x. rows.behind (numbers_of x.numbers) (view_resolved_statement c.deref-in-Loop-2.result.now))
           c.in_iteration-inside.ensures
           ∙ ap (λ z. rows.behind (numbers_of c.args.spot.numbers) z) seen;
-      emitted = statement_is (names_of c.args.scope.now) (numbers_of c.args.spot.numbers) _ _ c.args.spot.jumps _ _
+      emitted = statement_is (numbered_by c.args.tables.now) (numbers_of c.args.spot.numbers) _ _ c.args.spot.jumps _ _
           seen
-          (emits_loop (names_of c.args.scope.now) (numbers_of c.args.spot.numbers) c.in-Loop.at
+          (emits_loop (numbered_by c.args.tables.now) (numbers_of c.args.spot.numbers) c.in-Loop.at
           (map view_resolved_clause c.in-Loop.clauses.items) c.in-Loop.nowait (view_resolved_loop
           c.deref-in-Loop.result.now)
           (view_resolved_statement c.deref-in-Loop-2.result.now) c.args.spot.jumps c.in_ok-labels-in-Loop.labels _ _
           _ _ _
-          (loop_clauses_are (names_of c.args.scope.now) c.in-Loop.at.line (view_resolved_loop
+          (loop_clauses_are (numbered_by c.args.tables.now) c.in-Loop.at.line (view_resolved_loop
           c.deref-in-Loop.result.now)
           c.in_ok-labels-in-Loop.labels _ _ _ _ c.as_slice-in-Loop.ensures.value c.in_ok-labels-in-Loop.ensures.code)
-          (spot_is (names_of c.args.scope.now) (view_resolved_statement c.deref-in-Loop-2.result.now) _ _ _ _
+          (spot_is (numbered_by c.args.tables.now) (view_resolved_statement c.deref-in-Loop-2.result.now) _ _ _ _
           c.in_iteration-inside.ensures c.in_ok-after-in-Loop.ensures.emitted)
-          (c.in_ok-end_loop-in-Loop.ensures (names_of c.args.scope.now))
-          (close_clauses_are (names_of c.args.scope.now) c.in-Loop.at.line c.in-Loop.nowait _ _ _ _
+          (c.in_ok-end_loop-in-Loop.ensures (numbered_by c.args.tables.now))
+          (close_clauses_are (numbered_by c.args.tables.now) c.in-Loop.at.line c.in-Loop.nowait _ _ _ _
           c.as_slice-in-Loop-2.ensures.value c.in_ok-end_worksharing-in-Loop.ensures));
-      scopes = scopes_are (names_of c.args.scope.now) _ _ _ _ _ _ seen
-          (loop_scopes (names_of c.args.scope.now) c.in-Loop.at (map view_resolved_clause c.in-Loop.clauses.items) c.in-Loop.nowait
+      scopes = scopes_are (numbered_by c.args.tables.now) _ _ _ _ _ _ seen
+          (loop_scopes (numbered_by c.args.tables.now) c.in-Loop.at (map view_resolved_clause c.in-Loop.clauses.items) c.in-Loop.nowait
           (view_resolved_loop c.deref-in-Loop.result.now) (view_resolved_statement c.deref-in-Loop-2.result.now)
           c.in_ok-labels-in-Loop.labels _ _ _ _ _ _ _ _ _ _ _ c.height-height-in-Loop.ensures c.place-to-in-Loop.ensures
-          (loop_scopes_clauses (names_of c.args.scope.now) c.in-Loop.at.line (view_resolved_loop c.deref-in-Loop.result.now) _ _ _ _ _ _
+          (loop_scopes_clauses (numbered_by c.args.tables.now) c.in-Loop.at.line (view_resolved_loop c.deref-in-Loop.result.now) _ _ _ _ _ _
           c.as_slice-in-Loop.ensures.value c.in_ok-labels-in-Loop.ensures.scopes) c.in_ok-after-in-Loop.ensures.scopes
-          (c.in_ok-end_loop-in-Loop.ensures (names_of c.args.scope.now))
-          (close_clauses_are (names_of c.args.scope.now) c.in-Loop.at.line c.in-Loop.nowait _ _ _ _
+          (c.in_ok-end_loop-in-Loop.ensures (numbered_by c.args.tables.now))
+          (close_clauses_are (numbered_by c.args.tables.now) c.in-Loop.at.line c.in-Loop.nowait _ _ _ _
           c.as_slice-in-Loop-2.ensures.value c.in_ok-end_worksharing-in-Loop.ensures) c.in_ok-end-in-Loop.ensures);
     }
 
@@ -298,25 +298,25 @@ statement-returns-in_ok-end-in-Construct t c =
       behind = c.in_ok-after-in-Construct.ensures.behind
           ∙ ap (λ x. rows.behind (numbers_of x.numbers) (view_resolved_statement c.deref-in-Construct.result.now))
           c.outside-inside.ensures ∙ ap (λ z. rows.behind (numbers_of c.args.spot.numbers) z) seen;
-      emitted = statement_is (names_of c.args.scope.now) (numbers_of c.args.spot.numbers) _ _ c.args.spot.jumps _ _
+      emitted = statement_is (numbered_by c.args.tables.now) (numbers_of c.args.spot.numbers) _ _ c.args.spot.jumps _ _
           seen
-          (emits_construct (names_of c.args.scope.now) (numbers_of c.args.spot.numbers) c.in-Construct.at
+          (emits_construct (numbered_by c.args.tables.now) (numbers_of c.args.spot.numbers) c.in-Construct.at
           c.in-Construct.kind (map view_resolved_clause c.in-Construct.clauses.items)
           (view_resolved_statement c.deref-in-Construct.result.now) c.args.spot.jumps
           c.in_ok-label-in-Construct.label _ _ _ _
-          (construct_clauses_are (names_of c.args.scope.now) c.in-Construct.at.line c.in-Construct.kind
+          (construct_clauses_are (numbered_by c.args.tables.now) c.in-Construct.at.line c.in-Construct.kind
           c.in_ok-label-in-Construct.label _ _ _ _ c.as_slice-in-Construct.ensures.value
           c.in_ok-label-in-Construct.ensures.code)
-          (spot_is (names_of c.args.scope.now) (view_resolved_statement c.deref-in-Construct.result.now) _ _ _ _
+          (spot_is (numbered_by c.args.tables.now) (view_resolved_statement c.deref-in-Construct.result.now) _ _ _ _
           c.outside-inside.ensures c.in_ok-after-in-Construct.ensures.emitted)
           c.in_ok-end_construct-in-Construct.ensures);
-      scopes = scopes_are (names_of c.args.scope.now) _ _ _ _ _ _ seen
-          (construct_stands (names_of c.args.scope.now) c.in-Construct.at c.in-Construct.kind
+      scopes = scopes_are (numbered_by c.args.tables.now) _ _ _ _ _ _ seen
+          (construct_stands (numbered_by c.args.tables.now) c.in-Construct.at c.in-Construct.kind
           (map view_resolved_clause c.in-Construct.clauses.items)
           (view_resolved_statement c.deref-in-Construct.result.now) c.in_ok-label-in-Construct.label _ _ _ _ _ _ _ _ _ _
           (no_atomic c.in-Construct.kind c.in_default.not-Atomic) c.height-height-in-Construct.ensures
           c.place-to-in-Construct.ensures
-          (construct_scopes_clauses (names_of c.args.scope.now) c.in-Construct.at.line c.in-Construct.kind _ _ _ _ _ _
+          (construct_scopes_clauses (numbered_by c.args.tables.now) c.in-Construct.at.line c.in-Construct.kind _ _ _ _ _ _
           c.as_slice-in-Construct.ensures.value c.in_ok-label-in-Construct.ensures.scopes)
           c.in_ok-after-in-Construct.ensures.scopes c.in_ok-end_construct-in-Construct.ensures
           c.in_ok-end-in-Construct.ensures);
@@ -324,7 +324,7 @@ statement-returns-in_ok-end-in-Construct t c =
 
 pub statements-loop-item-init : goal.statements-loop-item-init
 statements-loop-item-init t c =
-    (c.requires.code, refl, onward_begin _ _ _ _ _, c.requires.ends, scopes_begin (names_of c.args.scope.now) _ _ _)
+    (c.requires.code, refl, onward_begin _ _ _ _ _, c.requires.ends, scopes_begin (numbered_by c.args.tables.now) _ _ _)
 
 pub statements-statement-requires : goal.statements-statement-requires
 statements-statement-requires t c =
@@ -345,27 +345,27 @@ statements-loop-item-preserved t c =
     let after = c.in_ok-after.ensures.behind
     ∙ ap (λ x. rows.behind (numbers_of x.numbers) (view_resolved_statement c.item-item.result))
     c.behind-here.ensures in
-    let next = left_next _ _ _ (names_of c.args.scope.now) c.args.spot.jumps _ _ _ _ _ _ _ _ _ _ here after
-    (spot_is (names_of c.args.scope.now) _ _ _ _ _ c.behind-here.ensures c.in_ok-after.ensures.emitted)
+    let next = left_next _ _ _ (numbered_by c.args.tables.now) c.args.spot.jumps _ _ _ _ _ _ _ _ _ _ here after
+    (spot_is (numbered_by c.args.tables.now) _ _ _ _ _ c.behind-here.ensures c.in_ok-after.ensures.emitted)
     c.loop-item.invariant.0 c.loop-item.invariant.1 c.loop-item.invariant.2 in (
       next.0,
       next.1,
       next.2,
       ends_next _ _ _ _ _ _ here after c.loop-item.invariant.3,
-      all_scopes_next (names_of c.args.scope.now) _ _ _ _ _ _ _ _ _ _ here c.loop-item.invariant.4
+      all_scopes_next (numbered_by c.args.tables.now) _ _ _ _ _ _ _ _ _ _ here c.loop-item.invariant.4
           c.in_ok-after.ensures.scopes,
     )
 
 pub statements-returns-clause-emitted : goal.statements-returns-clause-emitted
 statements-returns-clause-emitted t c =
-    onward_done _ (names_of c.args.scope.now) c.args.spot.jumps _ _ _ _ _ _
+    onward_done _ (numbered_by c.args.tables.now) c.args.spot.jumps _ _ _ _ _ _
     (ap (λ xs. trees.statements (map view_resolved_statement xs))
     (drop_all c.loop-item.item-index c.args.items.now c.loop-item-test.false)) c.loop-item.invariant.2
 
 pub statement-returns-in_ok-after-in-Parallel-clause-emitted :
     goal.statement-returns-in_ok-after-in-Parallel-clause-emitted
 statement-returns-in_ok-after-in-Parallel-clause-emitted t c =
-    statement_is (names_of c.args.scope.now) (numbers_of c.args.spot.numbers) _ _ c.args.spot.jumps _ _
+    statement_is (numbered_by c.args.tables.now) (numbers_of c.args.spot.numbers) _ _ c.args.spot.jumps _ _
     (ap (λ x. trees.Parallel c.in-Parallel.at (map view_resolved_clause x) c.as_slice-in-Parallel-2.result.now
     (view_resolved_statement c.deref-in-Parallel.result.now)) c.as_slice-in-Parallel.ensures.value
     ∙ ap (λ x. trees.Parallel c.in-Parallel.at (map view_resolved_clause c.in-Parallel.clauses.items) x
@@ -378,7 +378,7 @@ statement-returns-in_ok-after-in-Parallel-clause-emitted t c =
 
 pub statement-returns-in_ok-after-in-Task-clause-emitted : goal.statement-returns-in_ok-after-in-Task-clause-emitted
 statement-returns-in_ok-after-in-Task-clause-emitted t c =
-    statement_is (names_of c.args.scope.now) (numbers_of c.args.spot.numbers) _ _ c.args.spot.jumps _ _
+    statement_is (numbered_by c.args.tables.now) (numbers_of c.args.spot.numbers) _ _ c.args.spot.jumps _ _
     (ap (λ x. trees.Task c.in-Task.at (map view_resolved_clause x) c.as_slice-in-Task-2.result.now
     (view_resolved_statement c.deref-in-Task.result.now)) c.as_slice-in-Task.ensures.value
     ∙ ap (λ x. trees.Task c.in-Task.at (map view_resolved_clause c.in-Task.clauses.items) x
@@ -395,10 +395,10 @@ parts-loop-index-init t c =
       c.requires.code,
       refl,
       free_start c.args.spot.first (length c.args.sections.now) c.args.writing.now.draft c.requires.free,
-      onward_parts_begin (names_of c.args.scope.now) c.args.spot (numbers_of c.args.spot.numbers) all
+      onward_parts_begin (numbered_by c.args.tables.now) c.args.spot (numbers_of c.args.spot.numbers) all
           (c.args.spot.first + 0) c.args.writing.now.draft (omega arith),
       c.requires.ends,
-      scopes_begin (names_of c.args.scope.now) _ _ _,
+      scopes_begin (numbered_by c.args.tables.now) _ _ _,
     )
 
 pub parts-define-requires : goal.parts-define-requires
@@ -425,7 +425,7 @@ parts-statements-requires t c =
     )
 
 -- the same statements
-item_scopes_are : (names : Names) (xs ys : List ResolvedStatement) (a : Written) (x : ScopeStack) (b : Written)
+item_scopes_are : (names : Numbered) (xs ys : List ResolvedStatement) (a : Written) (x : ScopeStack) (b : Written)
     (y : ScopeStack) → xs ≡ ys
     → ScopesStand names (λ at. all_scopes at (trees.statements (map view_resolved_statement xs))) a x b y
     → ScopesStand names (λ at. all_scopes at (trees.statements (map view_resolved_statement ys))) a x b y
@@ -448,11 +448,11 @@ parts-loop-index-preserved t c =
     (trees.statements (map view_resolved_statement c.as_slice.result.now))) c.outside-inside.ensures
     ∙ ap (λ xs. rows.behind_all (numbers_of c.loop-index.numbers)
     (trees.statements (map view_resolved_statement xs))) c.as_slice.ensures.value in
-    let written = parts_next (names_of c.args.scope.now) c.args.spot (numbers_of c.args.spot.numbers)
+    let written = parts_next (numbered_by c.args.tables.now) c.args.spot (numbers_of c.args.spot.numbers)
     (numbers_of c.loop-index.numbers) (numbers_of c.in_ok-after.after) _ _ _ seen
     label next (length (drop (c.loop-index.index + 1) c.args.sections.now)) _ _ _ _ _ here after
     (omega arith) (omega arith) c.define.ensures
-    (items_are (names_of c.args.scope.now) _ _ _ items _ _ c.outside-inside.ensures c.as_slice.ensures.value
+    (items_are (numbered_by c.args.tables.now) _ _ _ items _ _ c.outside-inside.ensures c.as_slice.ensures.value
     c.in_ok-after.ensures.emitted)
     c.in_ok-put.ensures c.loop-index.invariant.0 c.loop-index.invariant.1
     (subst (λ n. AreFree label n c.loop-index.writing.draft) left c.loop-index.invariant.2) c.loop-index.invariant.3 in (
@@ -461,16 +461,16 @@ parts-loop-index-preserved t c =
       written.2,
       written.3,
       parts_ends_next _ _ _ _ _ seen here after c.loop-index.invariant.4,
-      part_scopes_next (names_of c.args.scope.now) _ _ _ _ _ _ _ _ _ _ here c.loop-index.invariant.5
-          (part_stands (names_of c.args.scope.now) c.args.spot.line _ _ seen _ _ _ _ _ _ _ _ _ c.height-height.ensures
+      part_scopes_next (numbered_by c.args.tables.now) _ _ _ _ _ _ _ _ _ _ here c.loop-index.invariant.5
+          (part_stands (numbered_by c.args.tables.now) c.args.spot.line _ _ seen _ _ _ _ _ _ _ _ _ c.height-height.ensures
           c.place-to.ensures c.define.ensures
-          (item_scopes_are (names_of c.args.scope.now) _ _ _ _ _ _ c.as_slice.ensures.value
+          (item_scopes_are (numbered_by c.args.tables.now) _ _ _ _ _ _ c.as_slice.ensures.value
           c.in_ok-after.ensures.scopes) c.in_ok-end.ensures c.in_ok-put.ensures),
     )
 
 pub parts-returns-clause-emitted : goal.parts-returns-clause-emitted
 parts-returns-clause-emitted t c =
-    onward_parts_done (names_of c.args.scope.now) c.args.spot (numbers_of c.args.spot.numbers)
+    onward_parts_done (numbered_by c.args.tables.now) c.args.spot (numbers_of c.args.spot.numbers)
     (numbers_of c.loop-index.numbers) _ _ _ _ _
     (ap (λ xs. trees.parts (map view_resolved_part xs)) (drop_all c.loop-index.index c.args.sections.now
     c.loop-index-test.false)) c.loop-index.invariant.3
@@ -492,18 +492,18 @@ statement-returns-in_ok-end-in-Sections-clause-emitted t c =
     let parts = c.in-Sections.sections.items in
     let inside = c.in_ok-inside-in-Sections.inside in
     let all = trees.parts (map view_resolved_part parts) in
-    statement_is (names_of c.args.scope.now) (numbers_of c.args.spot.numbers) _ _ c.args.spot.jumps _ _
+    statement_is (numbered_by c.args.tables.now) (numbers_of c.args.spot.numbers) _ _ c.args.spot.jumps _ _
     (sym (ap view_resolved_statement c.in-Sections.is ∙ view_sections c.in-Sections.at c.in-Sections.clauses
     c.in-Sections.nowait c.in-Sections.sections))
-    (emits_sections (names_of c.args.scope.now) (numbers_of c.args.spot.numbers) c.in-Sections.at
+    (emits_sections (numbered_by c.args.tables.now) (numbers_of c.args.spot.numbers) c.in-Sections.at
     (map view_resolved_clause c.in-Sections.clauses.items) c.in-Sections.nowait all c.args.spot.jumps (length parts)
     inside _ _ _ _ _ (labels_are inside.first parts)
-    (opens_are (names_of c.args.scope.now) c.in-Sections.at.line c.args.spot.numbers inside _ _ _ _ _ _
+    (opens_are (numbered_by c.args.tables.now) c.in-Sections.at.line c.args.spot.numbers inside _ _ _ _ _ _
     c.as_slice-in-Sections.ensures.value c.as_slice-in-Sections-2.ensures.value c.in_ok-inside-in-Sections.ensures.code)
-    (parts_are (names_of c.args.scope.now) (numbers_of inside.numbers) inside _ _ _ _
+    (parts_are (numbered_by c.args.tables.now) (numbers_of inside.numbers) inside _ _ _ _
     c.as_slice-in-Sections-3.ensures.value c.in_ok-after-in-Sections.ensures.emitted)
     c.define-in-Sections.ensures
-    (close_clauses_are (names_of c.args.scope.now) c.in-Sections.at.line c.in-Sections.nowait _ _ _ _
+    (close_clauses_are (numbered_by c.args.tables.now) c.in-Sections.at.line c.in-Sections.nowait _ _ _ _
     c.as_slice-in-Sections-4.ensures.value c.in_ok-end_worksharing-in-Sections.ensures))
 
 pub statement-statements-requires : goal.statement-statements-requires
@@ -590,29 +590,29 @@ statement-task-requires t c =
 
 pub statement-returns-in_ok-leave_loop-in-Break-clause-scopes : goal.statement-returns-in_ok-leave_loop-in-Break-clause-scopes
 statement-returns-in_ok-leave_loop-in-Break-clause-scopes t c =
-    scopes_are (names_of c.args.scope.now) _ _ _ _ _ _ (sym (ap view_resolved_statement c.in-Break.is ∙ view_break c.in-Break.at))
-    (alone (names_of c.args.scope.now) (numbers_of c.args.spot.numbers)
+    scopes_are (numbered_by c.args.tables.now) _ _ _ _ _ _ (sym (ap view_resolved_statement c.in-Break.is ∙ view_break c.in-Break.at))
+    (alone (numbered_by c.args.tables.now) (numbers_of c.args.spot.numbers)
     (trees.Break c.in-Break.at)
-    c.args.spot.jumps _ _ _ (c.in_ok-leave_loop-in-Break.ensures (names_of c.args.scope.now)).writes)
+    c.args.spot.jumps _ _ _ (c.in_ok-leave_loop-in-Break.ensures (numbered_by c.args.tables.now)).writes)
 
 pub statement-returns-in_ok-go_on-in-Continue-clause-scopes : goal.statement-returns-in_ok-go_on-in-Continue-clause-scopes
 statement-returns-in_ok-go_on-in-Continue-clause-scopes t c =
-    scopes_are (names_of c.args.scope.now) _ _ _ _ _ _ (sym (ap view_resolved_statement c.in-Continue.is ∙ view_continue c.in-Continue.at))
-    (alone (names_of c.args.scope.now) (numbers_of c.args.spot.numbers)
+    scopes_are (numbered_by c.args.tables.now) _ _ _ _ _ _ (sym (ap view_resolved_statement c.in-Continue.is ∙ view_continue c.in-Continue.at))
+    (alone (numbered_by c.args.tables.now) (numbers_of c.args.spot.numbers)
     (trees.Continue c.in-Continue.at)
-    c.args.spot.jumps _ _ _ (c.in_ok-go_on-in-Continue.ensures (names_of c.args.scope.now)).writes)
+    c.args.spot.jumps _ _ _ (c.in_ok-go_on-in-Continue.ensures (numbered_by c.args.tables.now)).writes)
 
 pub statement-returns-in_ok-stand_alone-in-StandAlone-clause-scopes : goal.statement-returns-in_ok-stand_alone-in-StandAlone-clause-scopes
 statement-returns-in_ok-stand_alone-in-StandAlone-clause-scopes t c =
-    scopes_are (names_of c.args.scope.now) _ _ _ _ _ _ (sym (ap view_resolved_statement c.in-StandAlone.is ∙ view_stand_alone c.in-StandAlone.at
+    scopes_are (numbered_by c.args.tables.now) _ _ _ _ _ _ (sym (ap view_resolved_statement c.in-StandAlone.is ∙ view_stand_alone c.in-StandAlone.at
     c.in-StandAlone.directive))
-    (alone (names_of c.args.scope.now) (numbers_of c.args.spot.numbers)
+    (alone (numbered_by c.args.tables.now) (numbers_of c.args.spot.numbers)
     (trees.StandAlone c.in-StandAlone.at c.in-StandAlone.directive)
-    c.args.spot.jumps _ _ _ (c.in_ok-stand_alone-in-StandAlone.ensures (names_of c.args.scope.now)).writes)
+    c.args.spot.jumps _ _ _ (c.in_ok-stand_alone-in-StandAlone.ensures (numbered_by c.args.tables.now)).writes)
 
 pub statement-returns-in_ok-after-in-Parallel-clause-scopes : goal.statement-returns-in_ok-after-in-Parallel-clause-scopes
 statement-returns-in_ok-after-in-Parallel-clause-scopes t c =
-    scopes_are (names_of c.args.scope.now) _ _ _ _ _ _ (ap (λ x. trees.Parallel c.in-Parallel.at (map view_resolved_clause x) c.as_slice-in-Parallel-2.result.now
+    scopes_are (numbered_by c.args.tables.now) _ _ _ _ _ _ (ap (λ x. trees.Parallel c.in-Parallel.at (map view_resolved_clause x) c.as_slice-in-Parallel-2.result.now
     (view_resolved_statement c.deref-in-Parallel.result.now)) c.as_slice-in-Parallel.ensures.value
     ∙ ap (λ x. trees.Parallel c.in-Parallel.at (map view_resolved_clause c.in-Parallel.clauses.items) x
     (view_resolved_statement c.deref-in-Parallel.result.now)) c.as_slice-in-Parallel-2.ensures
@@ -620,14 +620,14 @@ statement-returns-in_ok-after-in-Parallel-clause-scopes t c =
     c.in-Parallel.captures (view_resolved_statement z)) c.deref-in-Parallel.ensures
     ∙ sym (ap view_resolved_statement c.in-Parallel.is ∙ view_parallel c.in-Parallel.at c.in-Parallel.clauses
     c.in-Parallel.captures c.in-Parallel.body))
-    (alone (names_of c.args.scope.now) (numbers_of c.args.spot.numbers)
+    (alone (numbered_by c.args.tables.now) (numbers_of c.args.spot.numbers)
     (trees.Parallel c.in-Parallel.at (map view_resolved_clause c.as_slice-in-Parallel.result.now) c.as_slice-in-Parallel-2.result.now
     (view_resolved_statement c.deref-in-Parallel.result.now))
     c.args.spot.jumps _ _ _ (c.in_ok-after-in-Parallel.ensures.emitted c.args.spot.jumps).writes)
 
 pub statement-returns-in_ok-after-in-Task-clause-scopes : goal.statement-returns-in_ok-after-in-Task-clause-scopes
 statement-returns-in_ok-after-in-Task-clause-scopes t c =
-    scopes_are (names_of c.args.scope.now) _ _ _ _ _ _ (ap (λ x. trees.Task c.in-Task.at (map view_resolved_clause x) c.as_slice-in-Task-2.result.now
+    scopes_are (numbered_by c.args.tables.now) _ _ _ _ _ _ (ap (λ x. trees.Task c.in-Task.at (map view_resolved_clause x) c.as_slice-in-Task-2.result.now
     (view_resolved_statement c.deref-in-Task.result.now)) c.as_slice-in-Task.ensures.value
     ∙ ap (λ x. trees.Task c.in-Task.at (map view_resolved_clause c.in-Task.clauses.items) x
     (view_resolved_statement c.deref-in-Task.result.now)) c.as_slice-in-Task-2.ensures
@@ -635,7 +635,7 @@ statement-returns-in_ok-after-in-Task-clause-scopes t c =
     (view_resolved_statement z)) c.deref-in-Task.ensures
     ∙ sym (ap view_resolved_statement c.in-Task.is ∙ view_task c.in-Task.at c.in-Task.clauses c.in-Task.captures
     c.in-Task.body))
-    (alone (names_of c.args.scope.now) (numbers_of c.args.spot.numbers)
+    (alone (numbered_by c.args.tables.now) (numbers_of c.args.spot.numbers)
     (trees.Task c.in-Task.at (map view_resolved_clause c.as_slice-in-Task.result.now) c.as_slice-in-Task-2.result.now
     (view_resolved_statement c.deref-in-Task.result.now))
     c.args.spot.jumps _ _ _ (c.in_ok-after-in-Task.ensures.emitted c.args.spot.jumps).writes)
@@ -643,16 +643,16 @@ statement-returns-in_ok-after-in-Task-clause-scopes t c =
 pub statement-returns-in_ok-end-in-Sections-clause-scopes : goal.statement-returns-in_ok-end-in-Sections-clause-scopes
 statement-returns-in_ok-end-in-Sections-clause-scopes t c =
     let all = trees.parts (map view_resolved_part c.in-Sections.sections.items) in
-    scopes_are (names_of c.args.scope.now) _ _ _ _ _ _
+    scopes_are (numbered_by c.args.tables.now) _ _ _ _ _ _
     (sym (ap view_resolved_statement c.in-Sections.is ∙ view_sections c.in-Sections.at c.in-Sections.clauses
     c.in-Sections.nowait c.in-Sections.sections))
-    (sections_scopes (names_of c.args.scope.now) c.in-Sections.at (map view_resolved_clause c.in-Sections.clauses.items) c.in-Sections.nowait all
+    (sections_scopes (numbered_by c.args.tables.now) c.in-Sections.at (map view_resolved_clause c.in-Sections.clauses.items) c.in-Sections.nowait all
     _ _ _ _ _ _ _ _ _ _ _ _ c.height-height-in-Sections.ensures c.place-to-in-Sections.ensures
-    (sections_scopes_clauses (names_of c.args.scope.now) c.in-Sections.at.line _ _ _ _ _ _ c.as_slice-in-Sections.ensures.value
+    (sections_scopes_clauses (numbered_by c.args.tables.now) c.in-Sections.at.line _ _ _ _ _ _ c.as_slice-in-Sections.ensures.value
     c.in_ok-inside-in-Sections.ensures.scopes)
-    (part_scopes_are (names_of c.args.scope.now) _ _ _ _ _ _ c.as_slice-in-Sections-3.ensures.value c.in_ok-after-in-Sections.ensures.scopes)
+    (part_scopes_are (numbered_by c.args.tables.now) _ _ _ _ _ _ c.as_slice-in-Sections-3.ensures.value c.in_ok-after-in-Sections.ensures.scopes)
     c.define-in-Sections.ensures
-    (close_clauses_are (names_of c.args.scope.now) c.in-Sections.at.line c.in-Sections.nowait _ _ _ _
+    (close_clauses_are (numbered_by c.args.tables.now) c.in-Sections.at.line c.in-Sections.nowait _ _ _ _
     c.as_slice-in-Sections-4.ensures.value c.in_ok-end_worksharing-in-Sections.ensures) c.in_ok-end-in-Sections.ensures)
 
 pub inner-statement-requires : goal.inner-statement-requires
@@ -660,33 +660,33 @@ inner-statement-requires t c = (omega (arith, c.decreases), (c.requires.code, c.
 
 pub inner-returns-clause-scopes : goal.inner-returns-clause-scopes
 inner-returns-clause-scopes t c =
-    stand_block (names_of c.args.scope.now) (λ at. scopes at (view_resolved_statement c.args.tree.now)) _ _ _ _ _ _ _ c.height-height.ensures
+    stand_block (numbered_by c.args.tables.now) (λ at. scopes at (view_resolved_statement c.args.tree.now)) _ _ _ _ _ _ _ c.height-height.ensures
     c.place-to.ensures c.in_ok-after.ensures.scopes c.in_ok-end.ensures
 
 pub statements-returns-clause-scopes : goal.statements-returns-clause-scopes
 statements-returns-clause-scopes t c =
-    all_scopes_done (names_of c.args.scope.now) _ _ _ _ _ _ (ap (λ xs. trees.statements (map view_resolved_statement xs))
+    all_scopes_done (numbered_by c.args.tables.now) _ _ _ _ _ _ (ap (λ xs. trees.statements (map view_resolved_statement xs))
     (drop_all c.loop-item.item-index c.args.items.now c.loop-item-test.false)) c.loop-item.invariant.4
 
 pub parts-returns-clause-scopes : goal.parts-returns-clause-scopes
 parts-returns-clause-scopes t c =
-    part_scopes_done (names_of c.args.scope.now) _ _ _ _ _ _ (ap (λ xs. trees.parts (map view_resolved_part xs))
+    part_scopes_done (numbered_by c.args.tables.now) _ _ _ _ _ _ (ap (λ xs. trees.parts (map view_resolved_part xs))
     (drop_all c.loop-index.index c.args.sections.now c.loop-index-test.false)) c.loop-index.invariant.5
 
 pub statement-returns-in_ok-end-in-Block-clause-scopes : goal.statement-returns-in_ok-end-in-Block-clause-scopes
 statement-returns-in_ok-end-in-Block-clause-scopes t c =
     let items = trees.statements (map view_resolved_statement c.as_slice-in-Block.result.now) in
-    scopes_are (names_of c.args.scope.now) _ _ _ _ _ _
+    scopes_are (numbered_by c.args.tables.now) _ _ _ _ _ _
     (ap (λ xs. trees.Block c.in-Block.at (trees.statements (map view_resolved_statement xs)))
     c.as_slice-in-Block.ensures.value
     ∙ sym (ap view_resolved_statement c.in-Block.is ∙ view_block c.in-Block.at c.in-Block.items))
-    (stand_block (names_of c.args.scope.now) (λ at. all_scopes at items) _ _ _ _ _ _ _ c.height-height.ensures
+    (stand_block (numbered_by c.args.tables.now) (λ at. all_scopes at items) _ _ _ _ _ _ _ c.height-height.ensures
     c.place-to.ensures c.in_ok-after-in-Block.ensures.scopes c.in_ok-end-in-Block.ensures)
 
 pub statement-returns-in_ok-declarators-in-Declaration-clause-scopes :
     goal.statement-returns-in_ok-declarators-in-Declaration-clause-scopes
 statement-returns-in_ok-declarators-in-Declaration-clause-scopes t c =
-    scopes_are (names_of c.args.scope.now) _ _ _ _ _ _
+    scopes_are (numbered_by c.args.tables.now) _ _ _ _ _ _
     (ap (λ xs. trees.Declaration c.in-Declaration.at (map view_resolved_declarator xs)) c.as_slice.ensures.value
     ∙ sym (ap view_resolved_statement c.in-Declaration.is
     ∙ view_declaration c.in-Declaration.at c.in-Declaration.declared))
@@ -695,34 +695,34 @@ statement-returns-in_ok-declarators-in-Declaration-clause-scopes t c =
 pub statement-returns-in_ok-effect-in-Expression-clause-scopes :
     goal.statement-returns-in_ok-effect-in-Expression-clause-scopes
 statement-returns-in_ok-effect-in-Expression-clause-scopes t c =
-    scopes_are (names_of c.args.scope.now) _ _ _ _ _ _
+    scopes_are (numbered_by c.args.tables.now) _ _ _ _ _ _
     (sym (ap view_resolved_statement c.in-Expression.is
     ∙ view_expression c.in-Expression.at c.in-Expression.expression))
-    (alone (names_of c.args.scope.now) (numbers_of c.args.spot.numbers)
+    (alone (numbered_by c.args.tables.now) (numbers_of c.args.spot.numbers)
     (trees.Expression c.in-Expression.at (view_resolved_expression c.in-Expression.expression)) c.args.spot.jumps _ _ _
     c.in_ok-effect-in-Expression.ensures.writes)
 
 pub statement-returns-in_ok-returned-in-Return-clause-scopes :
     goal.statement-returns-in_ok-returned-in-Return-clause-scopes
 statement-returns-in_ok-returned-in-Return-clause-scopes t c =
-    scopes_are (names_of c.args.scope.now) _ _ _ _ _ _
+    scopes_are (numbered_by c.args.tables.now) _ _ _ _ _ _
     (sym (ap view_resolved_statement c.in-Return.is ∙ view_return c.in-Return.at c.in-Return.answer))
-    (alone (names_of c.args.scope.now) (numbers_of c.args.spot.numbers)
+    (alone (numbered_by c.args.tables.now) (numbers_of c.args.spot.numbers)
     (trees.Return c.in-Return.at (option_map view_resolved_expression c.in-Return.answer)) c.args.spot.jumps _ _ _
     c.in_ok-returned-in-Return.ensures.writes)
 
 pub statement-returns-in_ok-update-in-Update-clause-scopes :
     goal.statement-returns-in_ok-update-in-Update-clause-scopes
 statement-returns-in_ok-update-in-Update-clause-scopes t c =
-    scopes_are (names_of c.args.scope.now) _ _ _ _ _ _
+    scopes_are (numbered_by c.args.tables.now) _ _ _ _ _ _
     (ap (λ z. trees.Update c.in-Update.at (view_resolved_update z)) c.deref-in-Update.ensures
     ∙ sym (ap view_resolved_statement c.in-Update.is ∙ view_update c.in-Update.at c.in-Update.updated))
-    (alone (names_of c.args.scope.now) (numbers_of c.args.spot.numbers)
+    (alone (numbered_by c.args.tables.now) (numbers_of c.args.spot.numbers)
     (trees.Update c.in-Update.at (view_resolved_update c.deref-in-Update.result.now)) c.args.spot.jumps _ _ _
     c.in_ok-update-in-Update.ensures.writes)
 
 -- nothing is written, so no scope begins or ends
-empty_stands : (names : Names) (n : rows.Numbers) (jumps : JumpLabels) (tree : ResolvedStatement) (first : Span)
+empty_stands : (names : Numbered) (n : rows.Numbers) (jumps : JumpLabels) (tree : ResolvedStatement) (first : Span)
     (draft : Written) (x : ScopeStack) → tree ≡ v.Empty first
     → ScopesStand names (λ at. scopes at (view_resolved_statement tree)) draft x draft x
 empty_stands names n jumps tree first draft x is =
@@ -731,20 +731,20 @@ empty_stands names n jumps tree first draft x is =
 
 pub statement-returns-in-Empty-clause-scopes : goal.statement-returns-in-Empty-clause-scopes
 statement-returns-in-Empty-clause-scopes t c =
-    empty_stands (names_of c.args.scope.now) (numbers_of c.args.spot.numbers) c.args.spot.jumps _ _
+    empty_stands (numbered_by c.args.tables.now) (numbers_of c.args.spot.numbers) c.args.spot.jumps _ _
     c.args.writing.now.draft c.args.writing.now.scopes c.in-Empty.is
 
 pub statement-returns-in-Atomic-clause-scopes : goal.statement-returns-in-Atomic-clause-scopes
 statement-returns-in-Atomic-clause-scopes t c =
     let clauses = map view_resolved_clause c.in-Construct.clauses.items in
     let s = view_resolved_statement c.deref-in-Atomic.result.now in
-    scopes_are (names_of c.args.scope.now) _ _ _ _ _ _
+    scopes_are (numbered_by c.args.tables.now) _ _ _ _ _ _
     (ap (λ k. trees.Construct c.in-Construct.at k clauses s) (sym c.in-Atomic.is)
     ∙ ap (λ z. trees.Construct c.in-Construct.at c.in-Construct.kind clauses (view_resolved_statement z))
     c.deref-in-Atomic.ensures
     ∙ sym (ap view_resolved_statement c.in-Construct.is ∙ view_construct c.in-Construct.at c.in-Construct.kind
     c.in-Construct.clauses c.in-Construct.body))
-    (stand_plain (names_of c.args.scope.now) (λ at. assignment_row at c.in-Construct.at.line s) _ _ _
+    (stand_plain (numbered_by c.args.tables.now) (λ at. assignment_row at c.in-Construct.at.line s) _ _ _
     c.in_ok-assignment-in-Construct.ensures.writes)
 
 pub statement-returns-in-Atomic-clause-behind : goal.statement-returns-in-Atomic-clause-behind

@@ -4,9 +4,9 @@ use Rattle.om_resolved.specs.ResolvedTree as trees
 use Rattle.om_resolved.specs.ResolvedView.{view_resolved_part, view_resolved_statement}
 use Rattle.om_rows.specs.Bodies as rows
 use Rattle.om_rows.specs.Coded.{PartsHaveCode, StatementsHaveCode}
+use Rattle.om_tables.specs.BodyTables.{numbered_by}
 use Rattle.om_tables.specs.Ends.{HasAllEnds, HasPartsEnds}
 use Rattle.om_tables.specs.Numbering.{numbers_of}
-use Rattle.om_tables.specs.Scopes.{names_of}
 use Rattle.om_tables.specs.Tables.{known_in}
 use Rattle.om_rows.specs.Scopes.{all_scopes, part_scopes}
 use Rattle.om_statements.specs.Parts.{AreFree}
@@ -22,10 +22,10 @@ invariant-statements-loop-item l =
     let left = trees.statements (map view_resolved_statement (drop l.item-index l.items)) in
     StatementsHaveCode (is_some l.spot.jumps.over) (is_some l.spot.jumps.next) left
     × (rows.behind_all (numbers_of l.numbers) left ≡ rows.behind_all (numbers_of l.spot.numbers) all)
-    × Onward (length l.fn.writing.draft.places) (names_of l.scope) l.spot.jumps (numbers_of l.spot.numbers)
+    × Onward (length l.fn.writing.draft.places) (numbered_by l.tables) l.spot.jumps (numbers_of l.spot.numbers)
     (numbers_of l.numbers) all left l.fn.writing.draft l.writing.draft
-    × HasAllEnds (known_in l.scope) (numbers_of l.numbers) left
-    × ScopesOn (names_of l.scope) (λ at. all_scopes at all) (λ at. all_scopes at left) l.fn.writing.draft
+    × HasAllEnds (known_in l.tables) (numbers_of l.numbers) left
+    × ScopesOn (numbered_by l.tables) (λ at. all_scopes at all) (λ at. all_scopes at left) l.fn.writing.draft
     l.fn.writing.scopes l.writing.draft l.writing.scopes
 
 -- the same of the parts of a `sections`, whose labels are free
@@ -36,8 +36,8 @@ invariant-parts-loop-index l =
     PartsHaveCode left
     × (rows.behind_parts (numbers_of l.numbers) left ≡ rows.behind_parts (numbers_of l.spot.numbers) all)
     × AreFree (l.spot.first + l.index) (length (drop l.index l.sections)) l.writing.draft
-    × OnwardParts (names_of l.scope) l.spot (numbers_of l.spot.numbers) (numbers_of l.numbers) all left
+    × OnwardParts (numbered_by l.tables) l.spot (numbers_of l.spot.numbers) (numbers_of l.numbers) all left
     (l.spot.first + l.index) l.fn.writing.draft l.writing.draft
-    × HasPartsEnds (known_in l.scope) (numbers_of l.numbers) left
-    × ScopesOn (names_of l.scope) (λ at. part_scopes at all) (λ at. part_scopes at left) l.fn.writing.draft
+    × HasPartsEnds (known_in l.tables) (numbers_of l.numbers) left
+    × ScopesOn (numbered_by l.tables) (λ at. part_scopes at all) (λ at. part_scopes at left) l.fn.writing.draft
     l.fn.writing.scopes l.writing.draft l.writing.scopes

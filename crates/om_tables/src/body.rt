@@ -16,20 +16,21 @@ use om_seq::Seq;
 ///
 /// A body has at most 256 slots, and the numbers of all tables are of 32 bits.
 #[derive(Drop)]
-pub struct Scope<'a> {
+pub struct BodyTables<'a> {
     pub functions: &'a [ResolvedFunction],
-    pub tables: &'a Tables,
+    /// The tables of the program.
+    pub program: &'a Tables,
     /// The variables of the first bodies of the program by their numbers, those of its function among them.
     pub known: &'a [Variables],
     pub variables: &'a Variables,
     /// Whether the body stands in `main`.
     pub is_main: bool,
     ghost few: { length variables.now ≤ 256 },
-    ghost numbered: { tables.now.bodies.items ≡ function_numbers rows.first_numbers (map view_resolved_function functions.now) },
-    ghost behind: { tables.now.behind.bodies ≡ (rows.behind_functions rows.first_numbers (map view_resolved_function functions.now)).bodies },
+    ghost numbered: { program.now.bodies.items ≡ function_numbers rows.first_numbers (map view_resolved_function functions.now) },
+    ghost behind: { program.now.behind.bodies ≡ (rows.behind_functions rows.first_numbers (map view_resolved_function functions.now)).bodies },
 }
 
-impl<'a> Scope<'a> {
+impl<'a> BodyTables<'a> {
     ghost use Rattle.std.specs.Prelude.{◌≡◌, ◌≤◌, ◌<◌, Some, length, slice_get};
     ghost use Rattle.std.specs.Str.{bytes_eq};
     ghost use Rattle.om_resolved.specs.ResolvedView.{view_resolved};
@@ -37,28 +38,28 @@ impl<'a> Scope<'a> {
     ghost use Rattle.om_rows.specs.Mentions.{lock_name};
     ghost use Rattle.om_rows.specs.Slots.{place_of, slot_of};
     ghost use Rattle.om_rows.specs.Tables.{number_in};
-    ghost use Rattle.om_tables.specs.Names.{names_in};
-    ghost use Rattle.om_tables.specs.Scopes.{names_of};
+    ghost use Rattle.om_tables.specs.BodyTables.{numbered_by};
+    ghost use Rattle.om_tables.specs.Numbered.{numbered_in};
     ghost use Rattle.om_tables.specs.Numbering.{numbers_of};
     ghost use Rattle.om_tables.specs.Tables.{IsTablesOf, known_in, known_of};
 
-    /// That of a body of `main`, or of another function, with at most 256 variables.
+    /// Those of a body of `main`, or of another function, with at most 256 variables.
     pub fn new(
         resolved: &'a Resolved,
         tables: &'a Tables,
         known: &'a [Variables],
         variables: &'a Variables,
         is_main: bool,
-    ) -> Scope<'a>
+    ) -> BodyTables<'a>
         requires few { length variables.now ≤ 256 }
         requires tables { IsTablesOf (view_resolved resolved.now) tables.now }
-        ensures names { names_of result
-            ≡ names_in (view_resolved resolved.now) variables.now is_main }
+        ensures names { numbered_by result
+            ≡ numbered_in (view_resolved resolved.now) variables.now is_main }
         ensures known { known_in result ≡ known_of tables.now known.now }
     {
-        Scope {
+        BodyTables {
             functions: resolved.functions.as_slice(),
-            tables,
+            program: tables,
             known,
             variables,
             is_main,
@@ -67,7 +68,7 @@ impl<'a> Scope<'a> {
 
     /// A variable, as instructions name it.
     pub fn place(&self, variable: Variable) -> Place
-        ensures { result ≡ place_of (names_of self.now).slots variable }
+        ensures { result ≡ place_of (numbered_by self.now).slots variable }
     {
         match variable {
             Variable::Global(number) => Place::Global(number),
@@ -77,7 +78,7 @@ impl<'a> Scope<'a> {
 
     /// The slot of a declared variable or a copy.
     pub fn slot(&self, variable: &LocalVariable) -> u32
-        ensures { result ≡ slot_of (names_of self.now).slots variable.now.at }
+        ensures { result ≡ slot_of (numbered_by self.now).slots variable.now.at }
     {
         self.slot_of(variable.at)
     }
@@ -85,34 +86,34 @@ impl<'a> Scope<'a> {
     /// The slot of the variable that is declared, or copied, at this byte; of one that is not there,
     /// the number behind all slots.
     pub fn slot_of(&self, variable: u32) -> u32
-        ensures { result ≡ slot_of (names_of self.now).slots variable }
+        ensures { result ≡ slot_of (numbered_by self.now).slots variable }
     {
         self.variables.slot_of(variable) as u32
     }
 
     /// The number of a format; of one that is not there, the number behind all of them.
     pub fn format_number(&self, format: &[u8]) -> u32
-        ensures { result ≡ number_in (bytes_eq format.now) (names_of self.now).formats }
+        ensures { result ≡ number_in (bytes_eq format.now) (numbered_by self.now).formats }
     {
-        self.tables.formats.number_of(format)
+        self.program.formats.number_of(format)
     }
 
     /// The number of the lock of a critical region; the unnamed one has no bytes.
     pub fn lock_number(&self, name: &Option<Seq<u8>>) -> u32
-        ensures { result ≡ number_in (bytes_eq (lock_name name.now)) (names_of self.now).locks }
+        ensures { result ≡ number_in (bytes_eq (lock_name name.now)) (numbered_by self.now).locks }
     {
         match name {
-            None => self.tables.locks.number_of(&[]),
-            Some(name) => self.tables.locks.number_of(name.as_slice()),
+            None => self.program.locks.number_of(&[]),
+            Some(name) => self.program.locks.number_of(name.as_slice()),
         }
     }
 
     /// The number of the body of a function; behind all functions, the number behind all bodies.
     pub fn called_body(&self, function: usize) -> u32
-        ensures { result ≡ rows.called_body (names_of self.now).functions function }
+        ensures { result ≡ rows.called_body (numbered_by self.now).functions function }
     {
-        let number = number_at(self.tables.bodies.as_slice(), function);
-        number.unwrap_or(self.tables.behind.bodies)
+        let number = number_at(self.program.bodies.as_slice(), function);
+        number.unwrap_or(self.program.behind.bodies)
     }
 
     /// The numbers behind the region whose body gets this number.
@@ -120,7 +121,7 @@ impl<'a> Scope<'a> {
         requires { body < length (known_in self.now).ends }
         ensures { slice_get (known_in self.now).ends body ≡ Some (numbers_of result) }
     {
-        self.tables.ends[body as usize]
+        self.program.ends[body as usize]
     }
 
     /// The variables of the region whose body gets this number.
@@ -133,7 +134,7 @@ impl<'a> Scope<'a> {
 
     /// Whether the body stands in `main`.
     pub fn is_main(&self) -> bool
-        ensures { result ≡ (names_of self.now).is_main }
+        ensures { result ≡ (numbered_by self.now).is_main }
     {
         self.is_main
     }

@@ -5,7 +5,7 @@ use Rattle.om_resolved.specs.ResolvedTree.{ResolvedFunctionTree, ResolvedTree}
 use Rattle.om_rows.specs.Mentions.{formats_of, locks_of}
 use Rattle.om_rows.specs.Rows.{Site}
 
-pub record Names : Type 0 where
+pub record Numbered : Type 0 where
   -- the variables of its function that the body has, by their slots
   pub slots : List ℕ
   -- the functions of the program, by their numbers
@@ -17,7 +17,7 @@ pub record Names : Type 0 where
   pub is_main : Bool
 
 -- with its code, and the lists of PICK of the program
-abbrev pub site_with : Names → List Line → (picks : List (List ℕ)) → Site
+abbrev pub site_with : Numbered → List Line → (picks : List (List ℕ)) → Site
 site_with names code picks = record {
   code = code;
   slots = names.slots;
@@ -29,8 +29,8 @@ site_with names code picks = record {
 }
 
 -- those of a body of a tree that has these variables
-abbrev pub names_in : ResolvedTree → (slots : List ℕ) → (is_main : Bool) → Names
-names_in tree slots is_main = record {
+abbrev pub numbered_in : ResolvedTree → (slots : List ℕ) → (is_main : Bool) → Numbered
+numbered_in tree slots is_main = record {
   slots = slots;
   functions = tree.functions;
   formats = formats_of tree;
