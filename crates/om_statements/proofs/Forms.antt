@@ -3,7 +3,7 @@ use Rattle.std.proofs.Common.{◌≡◌, ℕ, List, Option, Some, None, Bool, ma
 use Rattle.om_code.specs.declared.instruction.Comparison.{Comparison}
 use Rattle.om_statements.specs.declared.labels.LoopLabels.{LoopLabels}
 use Rattle.om_statements.specs.declared.labels.TurnLabels.{TurnLabels}
-use Rattle.om_statements.specs.Stretches.{Opens, Begins, BeginsTurn, close_row, construct_begin, construct_end}
+use Rattle.om_statements.specs.Stretches.{Opens, Begins, BeginsTurn, construct_begin, construct_end}
 use Rattle.om_statements.specs.Stretches.{do_begin, do_end, else_begin, for_begin, for_end, loop_end, test_at}
 use Rattle.om_statements.specs.Stretches.{while_begin, worksharing_begin, worksharing_rest}
 use Rattle.om_emit.specs.Drafts.{Labels, Written, Defines}
@@ -19,6 +19,7 @@ use Rattle.om_resolved.specs.ResolvedTree.{Construct}
 use Rattle.om_rows.specs.Bodies.{Numbers, behind}
 use Rattle.om_rows.specs.Operators.{comparison_of}
 use Rattle.om_rows.specs.Rows.{Row, end, part, here, given}
+use Rattle.om_rows.specs.Scopes.{closes}
 use Rattle.om_rows.specs.Statements.{statement, construct_row, loop_rest, in_iteration}
 use Rattle.om_statements.specs.declared.labels.JumpLabels.{JumpLabels}
 use Rattle.om_statements.specs.Emits.{jumps_at, EmitsStatement}
@@ -216,7 +217,7 @@ loop_named : (names : Numbered) (l : ℕ) (clauses : List ResolvedClauseTree) (n
     → (comparison : Option Comparison) (chunk p m m2 m3 q : ℕ)
     → given comparison (λ x. worksharing_rest names l clauses loop labels chunk x done at) p m
     → body (at labels.again) m m2
-    → loop_end names l labels done at m2 m3 → close_row l clauses nowait (site names done) m3 q
+    → loop_end names l labels done at m2 m3 → closes (site names done) l clauses nowait m3 q
     → given comparison (loop_rest (site names done) l clauses nowait loop body) p q
 loop_named names l clauses nowait loop labels body done at None chunk p m m2 m3 q w s y z = absurd w
 loop_named names l clauses nowait loop labels body done at (Some comparison) chunk p m m2 m3 q w s y z =
@@ -251,7 +252,7 @@ loop_named names l clauses nowait loop labels body done at (Some comparison) chu
                           y.0,
                           (
                             y.1.0,
-                            subst (λ k. close_row l clauses nowait (site names done) k q) (sym y.1.1) z,
+                            subst (λ k. closes (site names done) l clauses nowait k q) (sym y.1.1) z,
                           ),
                         ),
                       ),
@@ -271,12 +272,12 @@ pub emits_loop : (names : Numbered) (n : Numbers) (first : Span) (clauses : List
     → Begins labels.over (worksharing_begin names first.line clauses loop labels) a b → EmitsStatement names n s
     (record { over = None; next = Some labels.again }) b d
     → Goes labels.over (loop_end names first.line labels) d e
-    → Emits (λ done at. close_row first.line clauses nowait (site names done)) e f
+    → Emits (λ done at. closes (site names done) first.line clauses nowait) e f
     → EmitsStatement names n (Loop first clauses nowait loop s) jumps a f
 emits_loop names n first clauses nowait loop s jumps labels a b d e f h1 h2 h3 h4 =
     with_as k _ (λ done at. part (worksharing_begin names first.line clauses loop labels done at)
     (part (Written_as names n s (record { over = None; next = Some labels.again }) done at)
-    (part (loop_end names first.line labels done at) (close_row first.line clauses nowait (site names done))))) _ a f
+    (part (loop_end names first.line labels done at) (closes (site names done) first.line clauses nowait)))) _ a f
     (λ done at p q r. loop_named names first.line clauses nowait loop labels (λ next. statement (site names done) n
     s (in_iteration next)) done at
     (comparison_of loop.comparison) r.1.0 p r.0 r.2.0 r.2.2.0 q r.1.1 r.2.1 r.2.2.1 r.2.2.2)
@@ -335,10 +336,10 @@ loop_clauses_are names l loop labels xs ys a b e h = subst
 
 pub close_clauses_are : (names : Numbered) (l : ℕ) (nowait : Bool) (xs ys : List ResolvedClause) (a b : Written)
     → xs ≡ ys
-    → Emits (λ done at. close_row l (map view_resolved_clause xs) nowait (site names done)) a b
-    → Emits (λ done at. close_row l (map view_resolved_clause ys) nowait (site names done)) a b
+    → Emits (λ done at. closes (site names done) l (map view_resolved_clause xs) nowait) a b
+    → Emits (λ done at. closes (site names done) l (map view_resolved_clause ys) nowait) a b
 close_clauses_are names l nowait xs ys a b e h = subst
-    (λ z. Emits (λ done at. close_row l (map view_resolved_clause z) nowait (site names done)) a b) e h
+    (λ z. Emits (λ done at. closes (site names done) l (map view_resolved_clause z) nowait) a b) e h
 
 pub construct_clauses_are : (names : Numbered) (l : ℕ) (kind : ConstructKind) (label : ℕ) (xs ys : List ResolvedClause)
     (a b : Written) → xs ≡ ys

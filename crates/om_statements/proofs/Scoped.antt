@@ -39,7 +39,7 @@ use Rattle.om_statements.specs.Scoped.{BeginsCopy, BeginsScope, EndsScopes, Scop
 use Rattle.om_statements.specs.Scoping.{stand_after, stand_ahead, stand_before, stand_behind, stand_block}
 use Rattle.om_statements.specs.Scoping.{stand_both, stand_opens, stand_opens_at, stand_plain, writes_as, writes_behind}
 use Rattle.om_statements.specs.Scoping.{ScopesOn, scopes_end, scopes_next, writes_fresh, writes_here, writes_put}
-use Rattle.om_statements.specs.Stretches.{Begins, BeginsTurn, FreshTurn, Opens, close_row, construct_end, do_begin, do_end}
+use Rattle.om_statements.specs.Stretches.{Begins, BeginsTurn, FreshTurn, Opens, construct_end, do_begin, do_end}
 use Rattle.om_statements.specs.Stretches.{else_begin, for_end, IsNoAtomic, loop_end, test_at, while_begin}
 use Rattle.om_tables.specs.Numbered.{Numbered}
 
@@ -302,7 +302,7 @@ module _ (names : Numbered) where
       → height ≡ length x.opened.items → to ≡ length f.code
       → Stand (λ at. loop_head at first.line clauses loop) a x b y → Stand (inner s) b y d z
       → Goes labels.over (loop_end names first.line labels) d e
-      → Emits (λ done at. close_row first.line clauses nowait (site names done)) e f
+      → Emits (λ done at. closes (site names done) first.line clauses nowait) e f
       → (height ≤ length z.opened.items → EndsScopes height to z w)
       → Stand (λ at. scopes at (Loop first clauses nowait loop s)) a x f w
   loop_scopes first clauses nowait loop s labels height to a b d e f x y z w high here head h over closed ends =
@@ -318,7 +318,7 @@ module _ (names : Numbered) where
       (sections : ResolvedPartsTree) (label height to : ℕ) (a b d e f : Written) (x y z w : ScopeStack)
       → height ≡ length x.opened.items → to ≡ length f.code
       → Stand (λ at. sections_head at first.line clauses) a x b y → Stand (λ at. part_scopes at sections) b y d z
-      → Defines label d e → Emits (λ done at. close_row first.line clauses nowait (site names done)) e f
+      → Defines label d e → Emits (λ done at. closes (site names done) first.line clauses nowait) e f
       → (height ≤ length z.opened.items → EndsScopes height to z w)
       → Stand (λ at. scopes at (Sections first clauses nowait sections)) a x f w
   sections_scopes first clauses nowait sections label height to a b d e f x y z w high here head h defined closed ends =

@@ -6,7 +6,7 @@ use Rattle.std.proofs.lemmas.List.{length-map, map-append}
 use Rattle.std.proofs.lemmas.Option.{slice_get_within}
 use Rattle.om_code.specs.declared.instruction.Instr.TheVariants as i
 use Rattle.om_statements.specs.declared.labels.LoopLabels.{LoopLabels}
-use Rattle.om_statements.specs.Stretches.{Begins, close_row, sections_begin}
+use Rattle.om_statements.specs.Stretches.{Begins, sections_begin}
 use Rattle.om_emit.specs.declared.draft.Pick.{Pick}
 use Rattle.om_emit.specs.Drafts.{Labels, Written, Defines, FreshList, labels_from, unplaced}
 use Rattle.om_emit.specs.Emits.{Finished, Grows, Goes, site, Emits}
@@ -18,6 +18,7 @@ use Rattle.om_resolved.specs.ResolvedTree.{ResolvedClauseTree, ResolvedPartsTree
 use Rattle.om_resolved.specs.ResolvedView.{view_resolved_part}
 use Rattle.om_rows.specs.Bodies.{Numbers, next_pick}
 use Rattle.om_rows.specs.Rows.{end, here, part}
+use Rattle.om_rows.specs.Scopes.{closes}
 use Rattle.om_rows.specs.Statements.{parts}
 use Rattle.om_statements.specs.declared.sections.PartsSpot.{PartsSpot}
 use Rattle.om_statements.specs.declared.labels.JumpLabels.{JumpLabels}
@@ -137,11 +138,11 @@ pub emits_sections : (names : Numbered) (n : Numbers) (first : Span) (clauses : 
     → labels_from spot.first count ≡ part_labels spot.first all
     → OpensParts names (record { line = first.line; numbers = n; clauses = clauses; count = count }) spot a b
     → EmitsParts names (numbers_of spot.numbers) all spot b c → Defines spot.over c d
-    → Emits (λ done at. close_row first.line clauses nowait (site names done)) d e
+    → Emits (λ done at. closes (site names done) first.line clauses nowait) d e
     → EmitsStatement names n (Sections first clauses nowait all) jumps a e
 emits_sections names n first clauses nowait all jumps count spot a b c d e labels h1 h2 h3 h4 =
     with_as k _ (λ done at. part (head_row names head spot done at) (part (written done at)
-    (part (here (at spot.over) end) (close_row first.line clauses nowait (site names done))))) _ a e
+    (part (here (at spot.over) end) (closes (site names done) first.line clauses nowait)))) _ a e
     (λ done at p q r.
     let b = r.1.1 in
     let y = r.2.2 in (
@@ -166,7 +167,7 @@ emits_sections names n first clauses nowait all jumps count spot a b c d e label
                   subst (λ z. written done at z r.2.0) (sym b.2.1.1.1.1) r.2.1,
                   (
                     y.1.0,
-                    subst (λ z. close_row first.line clauses nowait (site names done) z q) (sym y.1.1) y.2,
+                    subst (λ z. closes (site names done) first.line clauses nowait z q) (sym y.1.1) y.2,
                   ),
                 ),
               ),

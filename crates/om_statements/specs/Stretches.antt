@@ -21,7 +21,7 @@ use Rattle.om_rows.specs.Expressions.{value, effect}
 use Rattle.om_rows.specs.Operators.{comparison_of, form_with, identity_of}
 use Rattle.om_rows.specs.Rows.{Site, Row, end, never, ins, part, here, ◌▸◌, given, perhaps}
 use Rattle.om_rows.specs.Slots.{place, slot}
-use Rattle.om_rows.specs.Statements.{test, start, starts, filter_row, lock_number, reductions, worksharing_end}
+use Rattle.om_rows.specs.Statements.{test, start, starts, filter_row, lock_number, worksharing_end}
 use Rattle.om_rows.specs.Statements.{clause_value, jump}
 use Rattle.om_tables.specs.Numbered.{Numbered}
 
@@ -44,10 +44,6 @@ original_start l original copy at =
 abbrev pub bounds_row : ℕ → List ResolvedClauseTree → ResolvedLoopTree → Site → Row
 bounds_row l clauses loop at = part (value at loop.at.line loop.from) ▸ part (value at loop.at.line loop.to) ▸
     starts at l clauses
-
--- what stands behind a worksharing loop, or the parts of `sections`
-abbrev pub close_row : ℕ → List ResolvedClauseTree → (nowait : Bool) → Site → Row
-close_row l clauses nowait at = part (reductions at l clauses) ▸ worksharing_end at l nowait
 
 -- FORK and SPAWN
 abbrev pub fork_row : ℕ → ℕ → Bool → ℕ → Site → Row

@@ -2,9 +2,9 @@
 
 ghost use Rattle.std.specs.Prelude.{IfOk, OnOk, map};
 ghost use Rattle.om_emit.specs.Emits.{EmitsRow};
-ghost use Rattle.om_rows.specs.Scopes.{bounds_scopes, loop_head, sections_head};
+ghost use Rattle.om_rows.specs.Scopes.{bounds_scopes, closes, loop_head, sections_head};
 ghost use Rattle.om_statements.specs.Scoped.{EmitsScopes};
-ghost use Rattle.om_statements.specs.Stretches.{Begins, bounds_row, close_row, sections_begin, worksharing_begin};
+ghost use Rattle.om_statements.specs.Stretches.{Begins, bounds_row, sections_begin, worksharing_begin};
 ghost use Rattle.om_resolved.specs.ResolvedView.{view_resolved_clause, view_resolved_loop};
 ghost use Rattle.om_rows.specs.Coded.{LoopHasCode};
 ghost use Rattle.om_tables.specs.BodyTables.{numbered_by};
@@ -137,7 +137,7 @@ pub fn end_worksharing(
 ) -> Result<(), AllocError>
     ensures { let trees = map view_resolved_clause clauses.now in
         OnOk result
-        (EmitsRow (numbered_by tables.now) (close_row line trees nowait) draft.old draft.new) }
+        (EmitsRow (numbered_by tables.now) (λ at. closes at line trees nowait) draft.old draft.new) }
 {
     reductions(draft, tables, line, clauses)?;
     worksharing_end(draft, line, nowait)?;
