@@ -18,10 +18,10 @@ use Rattle.om_rows.specs.Bodies.{BodyTree, FunctionBody, ParallelBody, TaskBody}
 use Rattle.om_rows.specs.Expressions.{value, effect}
 use Rattle.om_rows.specs.Rows.{Site, Row, end, ins, part, perhaps}
 use Rattle.om_rows.specs.Scopes.{Found, ◌then◌, ending, Scoping, plain, after, before, both, each_scope, opens_at, opens}
-use Rattle.om_rows.specs.Scopes.{block, instructions, tested, closes, declarator_scope, start_scopes, clause_scope}
+use Rattle.om_rows.specs.Scopes.{block, instructions, tested, declarator_scope, start_scopes, clause_scope}
 use Rattle.om_rows.specs.Scopes.{team_scope, task_scope, parameter_scope, bounds_scopes, loop_head, sections_head}
 use Rattle.om_rows.specs.Scopes.{for_head, scopes, all_scopes, part_scopes, body_scopes}
-use Rattle.om_rows.specs.Statements.{assignment_row, clause_value, given_copies}
+use Rattle.om_rows.specs.Statements.{assignment_row, clause_value, closes, given_copies}
 use Rattle.om_rows.proofs.ExpressionTwins as expressions
 use Rattle.om_rows.proofs.ExpressionTwins.{with_code}
 use Rattle.om_rows.proofs.HeadTwins as heads

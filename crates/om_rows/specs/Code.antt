@@ -1,5 +1,5 @@
 -- The code of a resolved tree: its tables, and each of its bodies, which is what the row of its part of the tree says.
-use Rattle.std.specs.Prelude.{◌≡◌, ℕ, List, [], Some, Bool, true, false, length, map, option_map, position}
+use Rattle.std.specs.Prelude.{◌≡◌, ℕ, List, [], Some, false, length, map, option_map, position}
 use Rattle.std.specs.List.{AllZip}
 use Rattle.om_code.specs.declared.instruction.Barrier.TheVariants as barriers
 use Rattle.om_code.specs.declared.instruction.Instr.TheVariants as i

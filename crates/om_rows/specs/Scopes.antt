@@ -34,8 +34,8 @@ use Rattle.om_rows.specs.declared.scope.VariableScope.{VariableScope}
 use Rattle.om_rows.specs.Bodies.{Numbers, BodyTree, FunctionBody, ParallelBody, TaskBody}
 use Rattle.om_rows.specs.Expressions.{value, effect}
 use Rattle.om_rows.specs.Rows.{Site, Row, end, never, part, ◌▸◌, perhaps}
-use Rattle.om_rows.specs.Statements.{Jumps, declarator, start, test, copy_start, reductions, clause_value}
-use Rattle.om_rows.specs.Statements.{worksharing_end, filter_row, assignment_row, statement}
+use Rattle.om_rows.specs.Statements.{Jumps, declarator, test, copy_start, reductions, clause_value}
+use Rattle.om_rows.specs.Statements.{worksharing_end, closes, filter_row, assignment_row, statement}
 
 -- what a part of the tree gives: variables whose scopes go on behind it, and those whose scopes end in it, the
 -- innermost first
@@ -122,10 +122,6 @@ tested at l c p q = (f : ℕ) × test at l f c p q
 -- the code of a statement, wherever it stands
 abbrev pub stands : Site → ResolvedStatementTree → Row
 stands at s p q = (n : Numbers) × (jumps : Jumps) × statement at n s jumps p q
-
--- what stands behind a worksharing loop, or the parts of `sections`
-abbrev pub closes : Site → ℕ → List ResolvedClauseTree → (nowait : Bool) → Row
-closes at l clauses nowait = part (reductions at l clauses) ▸ worksharing_end at l nowait
 
 -- ---- variables
 

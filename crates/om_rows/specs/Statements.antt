@@ -157,6 +157,10 @@ barrier at l kind = ins at l (i.Arrive kind) ▸ ins at l (i.Depart kind) ▸ en
 abbrev pub worksharing_end : Site → ℕ → (nowait : Bool) → Row
 worksharing_end at l nowait = ins at l i.EndWorksharing ▸ unless nowait (barrier at l barriers.Worksharing)
 
+-- what stands behind a worksharing loop, or the parts of `sections`: RED each, and that end
+abbrev pub closes : Site → ℕ → List ResolvedClauseTree → (nowait : Bool) → Row
+closes at l clauses nowait = part (reductions at l clauses) ▸ worksharing_end at l nowait
+
 -- ---- directives that stand alone
 
 abbrev pub alone_row : Site → ℕ → alone.StandAlone → Row
@@ -223,7 +227,7 @@ loop_rest at l clauses nowait loop body comparison = λ p q. (chunk next over : 
     ▸ ins at l (i.Loop (form_with loop comparison))
     ▸ here chunk ▸ ins at l (i.Grab over)
     ▸ here next ▸ ins at l (i.Iterate (slot at loop.variable) chunk) ▸ part (body next) ▸ ins at l (i.Jump next)
-    ▸ here over ▸ part (reductions at l clauses) ▸ worksharing_end at l nowait) p q
+    ▸ here over ▸ closes at l clauses nowait) p q
 
 -- a canonical loop compares by `<`, `<=`, `>` or `>=`
 abbrev pub loop_row : Site → ℕ → List ResolvedClauseTree → (nowait : Bool) → ResolvedLoopTree → (ℕ → Row) → Row
@@ -235,7 +239,7 @@ sections_row at l pick clauses nowait parts = λ p q. (places : List ℕ) × (gr
     (slice_get at.picks pick ≡ Some places) ×
     (part (starts at l clauses) ▸ ins at l (i.Sections (length places))
     ▸ here grab ▸ ins at l (i.Grab over) ▸ ins at l (i.Pick pick) ▸ part (parts places grab)
-    ▸ here over ▸ part (reductions at l clauses) ▸ worksharing_end at l nowait) p q
+    ▸ here over ▸ closes at l clauses nowait) p q
 
 -- ---- regions, whose bodies stand by themselves
 

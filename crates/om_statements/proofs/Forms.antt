@@ -19,8 +19,7 @@ use Rattle.om_resolved.specs.ResolvedTree.{Construct}
 use Rattle.om_rows.specs.Bodies.{Numbers, behind}
 use Rattle.om_rows.specs.Operators.{comparison_of}
 use Rattle.om_rows.specs.Rows.{Row, end, part, here, given}
-use Rattle.om_rows.specs.Scopes.{closes}
-use Rattle.om_rows.specs.Statements.{statement, construct_row, loop_rest, in_iteration}
+use Rattle.om_rows.specs.Statements.{closes, statement, construct_row, loop_rest, in_iteration}
 use Rattle.om_statements.specs.declared.labels.JumpLabels.{JumpLabels}
 use Rattle.om_statements.specs.Emits.{jumps_at, EmitsStatement}
 use Rattle.om_statements.specs.Going.{before_with, goes_place, goes_then, then_with, with_as, with_behind}

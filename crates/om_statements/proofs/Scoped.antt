@@ -25,10 +25,11 @@ use Rattle.om_rows.specs.Expressions.{value, effect}
 use Rattle.om_rows.specs.Rows.{Site, Row, end, part, ◌▸◌, perhaps}
 use Rattle.om_rows.specs.Scopes as rows
 use Rattle.om_rows.specs.Scopes.{Scoping, plain, after, before, both, each_scope, block, opens, instructions, tested}
-use Rattle.om_rows.specs.Scopes.{stands, closes, clause_scope, team_scope, task_scope, start_scopes, construct_head}
+use Rattle.om_rows.specs.Scopes.{stands, clause_scope, team_scope, task_scope, start_scopes, construct_head}
 use Rattle.om_rows.specs.Scopes.{construct_scopes, bounds_scopes, loop_head, sections_head, for_head, scopes, all_scopes}
 use Rattle.om_rows.specs.Scopes.{part_scopes}
-use Rattle.om_rows.specs.Statements.{clause_start, clause_reduction_start, clause_value, filter_row, statement, test}
+use Rattle.om_rows.specs.Statements.{clause_start, clause_reduction_start, clause_value, closes, filter_row, statement}
+use Rattle.om_rows.specs.Statements.{test}
 use Rattle.om_statements.specs.declared.labels.JumpLabels.{JumpLabels}
 use Rattle.om_statements.specs.declared.labels.LoopLabels.{LoopLabels}
 use Rattle.om_statements.specs.declared.labels.TurnLabels.{TurnLabels}

@@ -18,8 +18,7 @@ use Rattle.om_resolved.specs.ResolvedTree.{ResolvedClauseTree, ResolvedPartsTree
 use Rattle.om_resolved.specs.ResolvedView.{view_resolved_part}
 use Rattle.om_rows.specs.Bodies.{Numbers, next_pick}
 use Rattle.om_rows.specs.Rows.{end, here, part}
-use Rattle.om_rows.specs.Scopes.{closes}
-use Rattle.om_rows.specs.Statements.{parts}
+use Rattle.om_rows.specs.Statements.{closes, parts}
 use Rattle.om_statements.specs.declared.sections.PartsSpot.{PartsSpot}
 use Rattle.om_statements.specs.declared.labels.JumpLabels.{JumpLabels}
 use Rattle.om_statements.specs.Emits.{EmitsStatement, GoesWith, pick_number}

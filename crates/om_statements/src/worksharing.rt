@@ -2,11 +2,12 @@
 
 ghost use Rattle.std.specs.Prelude.{IfOk, OnOk, map};
 ghost use Rattle.om_emit.specs.Emits.{EmitsRow};
-ghost use Rattle.om_rows.specs.Scopes.{bounds_scopes, closes, loop_head, sections_head};
+ghost use Rattle.om_rows.specs.Scopes.{bounds_scopes, loop_head, sections_head};
 ghost use Rattle.om_statements.specs.Scoped.{EmitsScopes};
 ghost use Rattle.om_statements.specs.Stretches.{Begins, bounds_row, sections_begin, worksharing_begin};
 ghost use Rattle.om_resolved.specs.ResolvedView.{view_resolved_clause, view_resolved_loop};
 ghost use Rattle.om_rows.specs.Coded.{LoopHasCode};
+ghost use Rattle.om_rows.specs.Statements.{closes};
 ghost use Rattle.om_tables.specs.BodyTables.{numbered_by};
 
 use crate::barrier::worksharing_end;
