@@ -15,7 +15,7 @@
 --     after (tested at l c) (before (block (scopes at s)) (instructions 1))
 --
 -- is `while (c) s`: the code of s, which is a block of its own, stands between c, JZ and a JMP.
-use Rattle.std.specs.Prelude.{◌≡◌, ℕ, ◌+◌, List, [], ◌∷◌, ◌++◌, Option, None, map, nat_eq, position, reverse, Bool}
+use Rattle.std.specs.Prelude.{◌≡◌, ℕ, ◌+◌, List, [], ◌∷◌, ◌++◌, Option, None, map, nat_eq, position, reverse}
 use Rattle.om_code.specs.declared.raw.Names.{Names}
 use Rattle.om_code.specs.declared.raw.Scope.{Scope}
 use Rattle.om_resolved.specs.declared.resolved.ConstructKind.{ConstructKind}
