@@ -1,10 +1,8 @@
 -- The last serial of blocks.
 use Rattle.std.proofs.Common.{◌≡◌, refl, sym, ◌∙◌, ap, subst, Bool, true, false, ◌&&◌, nat_lt, ℕ, ◌+◌, ◌*◌, ◌/◌, ◌%◌, ◌^◌, ◌<◌, ◌≤◌, Option, None, Some, arith}
 use Rattle.std.specs.Prelude.{IsSome}
-use Rattle.std.specs.Ordering.{nat_cmp}
-use Rattle.std.specs.BTreeMap.{BTreeMap, get}
 use Rattle.om_touches.specs.Offsets.{has_offset}
-use Rattle.om_touches.specs.Blocks.{is_offset, in_older}
+use Rattle.om_touches.specs.Blocks.{Numbered, block_of, is_offset, in_older}
 use Rattle.om_touches.specs.Touches.{IsGreatest}
 
 both : (a b : Bool) → (a && b) ≡ true → (a ≡ true) × (b ≡ true)
@@ -12,9 +10,9 @@ both true true h = (refl, refl)
 both true false h = cc
 both false b h = cc
 
-module _ (m : BTreeMap ℕ ℕ) (n x k : ℕ) (few : n < 2 ^ 58) (within : k < 64) (there : get nat_cmp m n ≡ Some x)
+module _ (m : Numbered) (n x k : ℕ) (few : n < 2 ^ 58) (within : k < 64) (there : block_of m n ≡ Some x)
     (last : IsGreatest (has_offset x) (Some k))
-    (latest : (q : ℕ) → q < 2 ^ 58 → IsSome (get nat_cmp m q) → q ≤ n) where
+    (latest : (q : ℕ) → q < 2 ^ 58 → IsSome (block_of m q) → q ≤ n) where
   block : (n * 64 + k) / 64 ≡ n
   block = omega arith
 
@@ -26,21 +24,21 @@ module _ (m : BTreeMap ℕ ℕ) (n x k : ℕ) (few : n < 2 ^ 58) (within : k < 6
 
   is_in : in_older m (n * 64 + k) ≡ true
   is_in =
-      ap (λ q. nat_lt q (2 ^ 58) && is_offset (get nat_cmp m q) ((n * 64 + k) % 64)) block
-      ∙ ap (λ j. nat_lt n (2 ^ 58) && is_offset (get nat_cmp m n) j) offset
+      ap (λ q. nat_lt q (2 ^ 58) && is_offset (block_of m q) ((n * 64 + k) % 64)) block
+      ∙ ap (λ j. nat_lt n (2 ^ 58) && is_offset (block_of m n) j) offset
       ∙ ap (λ o. nat_lt n (2 ^ 58) && is_offset o k) there
       ∙ ap (λ b. b && has_offset x k) is_few ∙ last.0
 
   bound : (s : ℕ) → in_older m s ≡ true → s ≤ n * 64 + k
-  bound s h = at (get nat_cmp m (s / 64)) refl
+  bound s h = at (block_of m (s / 64)) refl
     where
-      parts : (nat_lt (s / 64) (2 ^ 58) ≡ true) × (is_offset (get nat_cmp m (s / 64)) (s % 64) ≡ true)
+      parts : (nat_lt (s / 64) (2 ^ 58) ≡ true) × (is_offset (block_of m (s / 64)) (s % 64) ≡ true)
       parts = both _ _ h
 
       is_below : s / 64 < 2 ^ 58
       is_below = grind (arith, parts.0)
 
-      at : (o : Option ℕ) → get nat_cmp m (s / 64) ≡ o → s ≤ n * 64 + k
+      at : (o : Option ℕ) → block_of m (s / 64) ≡ o → s ≤ n * 64 + k
       at None e = let none : false ≡ true = sym (ap (λ o. is_offset o (s % 64)) e) ∙ parts.1 in cc
       at (Some y) e = decide (nat_lt (s / 64) n) refl
         where
@@ -51,7 +49,7 @@ module _ (m : BTreeMap ℕ ℕ) (n x k : ℕ) (few : n < 2 ^ 58) (within : k < 6
           decide true lt = let less : s / 64 < n = grind (arith, lt) in omega (arith, within, less)
           decide false lt =
               let same : s / 64 ≡ n = grind (arith, lt, below) in
-              let one : Some y ≡ Some x = sym e ∙ ap (get nat_cmp m) same ∙ there in
+              let one : Some y ≡ Some x = sym e ∙ ap (block_of m) same ∙ there in
               let is : y ≡ x = cc in
               let low : s % 64 ≤ k = last.1 (s % 64) (ap (λ z. has_offset z (s % 64)) (sym is)
               ∙ ap (λ o. is_offset o (s % 64)) (sym e) ∙ parts.1) in

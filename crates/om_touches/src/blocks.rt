@@ -1,17 +1,16 @@
 //! Sets of serials, by blocks of 64 serials that follow each other.
 
 ghost use Rattle.std.specs.Prelude.{◌≡◌, ℕ, ◌<◌, ◌+◌, ◌*◌, ◌/◌, ◌%◌, ◌^◌, cond, nat_eq, nat_lt, ◌&&◌, true, false, None, Some, is_some, OnOk, OnErr};
-ghost use Rattle.std.specs.Ordering.{nat_cmp};
-ghost use Rattle.std.specs.BTreeMap.{get};
 ghost use Rattle.om_touches.specs.Offsets.{has_offset};
-ghost use Rattle.om_touches.specs.Blocks.{in_older, in_newest, has_in};
-ghost use Rattle.om_touches.specs.Touches.{sooner, later, IsFirst, IsGreatest};
+ghost use Rattle.om_touches.specs.Blocks.{block_of, is_offset, in_older, in_newest, has_in, AreBefore};
+ghost use Rattle.om_touches.specs.Touches.{sooner, IsFirst, IsGreatest};
 
 use crate::offsets::Offsets;
 use crate::sooner::sooner;
 use std::alloc::{AllocError, Global};
 use std::cmp::Ordering;
 use std::collections::BTreeMap;
+use std::marker::Model;
 use std::ops::Bound;
 
 /// How many serials a block has.
@@ -26,7 +25,7 @@ const BLOCKS: u64 = 1 << 58;
 /// Contracts see which serials are among them (`has_in`).
 #[derive(Drop)]
 pub struct Blocks {
-    /// The blocks that came before, by number.
+    /// The blocks before the newest one, by number.
     older: BTreeMap<u64, Offsets>,
     /// The number of the newest block.
     number: u64,
@@ -34,13 +33,26 @@ pub struct Blocks {
     newest: Option<Offsets>,
 }
 
+impl Model for Blocks {
+    ghost use Rattle.std.specs.Prelude.{◌<◌, ◌^◌};
+    ghost use Rattle.om_touches.specs.Blocks.{BlocksView, AreBefore};
+
+    ghost Value = { BlocksView };
+
+    ghost view = { λ b. record { older = b.older.entries; number = b.number; newest = b.newest } };
+
+    ghost invariant = { λ b. (b.number < 2 ^ 58) × AreBefore b.number b.older.entries };
+}
+
 /// Adds a serial to a block that is not there.
 fn begin(older: &mut BTreeMap<u64, Offsets>, serial: u64) -> Result<(), AllocError>
-    requires { get nat_cmp older.old (serial / 64) ≡ None }
+    requires { block_of older.old.entries (serial / 64) ≡ None }
     ensures added { OnOk result
-        ((s : ℕ) → in_older older.new s ≡ cond (nat_eq serial s) true (in_older older.old s)) }
+        ((s : ℕ) → in_older older.new.entries s ≡ cond (nat_eq serial s) true (in_older older.old.entries s)) }
+    ensures others { (q : ℕ) → nat_eq (serial / 64) q ≡ false
+        → block_of older.new.entries q ≡ block_of older.old.entries q }
     ensures unchanged_on_error { OnErr result
-        ((s : ℕ) → in_older older.new s ≡ in_older older.old s) }
+        ((s : ℕ) → in_older older.new.entries s ≡ in_older older.old.entries s) }
 {
     drop(older.insert(serial / IN_BLOCK, Offsets::of(serial % IN_BLOCK))?);
     Ok(())
@@ -49,9 +61,11 @@ fn begin(older: &mut BTreeMap<u64, Offsets>, serial: u64) -> Result<(), AllocErr
 /// Adds a serial. When out of memory, nothing changes.
 fn put_older(older: &mut BTreeMap<u64, Offsets>, serial: u64) -> Result<(), AllocError>
     ensures added { OnOk result
-        ((s : ℕ) → in_older older.new s ≡ cond (nat_eq serial s) true (in_older older.old s)) }
+        ((s : ℕ) → in_older older.new.entries s ≡ cond (nat_eq serial s) true (in_older older.old.entries s)) }
+    ensures others { (q : ℕ) → nat_eq (serial / 64) q ≡ false
+        → block_of older.new.entries q ≡ block_of older.old.entries q }
     ensures unchanged_on_error { OnErr result
-        ((s : ℕ) → in_older older.new s ≡ in_older older.old s) }
+        ((s : ℕ) → in_older older.new.entries s ≡ in_older older.old.entries s) }
 {
     match older.get_mut(&(serial / IN_BLOCK)) {
         Some(offsets) => {
@@ -64,9 +78,9 @@ fn put_older(older: &mut BTreeMap<u64, Offsets>, serial: u64) -> Result<(), Allo
 
 /// Puts other offsets in the place of those of a block that is there.
 fn replace(older: &mut BTreeMap<u64, Offsets>, number: u64, offsets: Offsets)
-    requires { is_some (get nat_cmp older.old number) ≡ true }
-    ensures { (q : ℕ) → get nat_cmp older.new q
-        ≡ cond (nat_eq number q) (Some offsets) (get nat_cmp older.old q) }
+    requires { is_some (block_of older.old.entries number) ≡ true }
+    ensures { (q : ℕ) → block_of older.new.entries q
+        ≡ cond (nat_eq number q) (Some offsets) (block_of older.old.entries q) }
 {
     match older.get_mut(&number) {
         Some(place) => *place = offsets,
@@ -76,8 +90,10 @@ fn replace(older: &mut BTreeMap<u64, Offsets>, number: u64, offsets: Offsets)
 
 /// Takes a serial out, if it is there. It takes no memory.
 fn take_older(older: &mut BTreeMap<u64, Offsets>, serial: u64)
-    ensures { (s : ℕ) → in_older older.new s
-        ≡ cond (nat_eq serial s) false (in_older older.old s) }
+    ensures taken { (s : ℕ) → in_older older.new.entries s
+        ≡ cond (nat_eq serial s) false (in_older older.old.entries s) }
+    ensures no_more { (q : ℕ) → block_of older.old.entries q ≡ None
+        → block_of older.new.entries q ≡ None }
 {
     let number = serial / IN_BLOCK;
     let others = match older.get(&number) {
@@ -92,7 +108,7 @@ fn take_older(older: &mut BTreeMap<u64, Offsets>, serial: u64)
 
 /// The first serial of the blocks behind one.
 fn first_behind(older: &BTreeMap<u64, Offsets>, number: u64) -> Option<u64>
-    ensures { IsFirst (λ s. nat_lt number (s / 64) && in_older older.now s) (number * 64 + 63) result }
+    ensures { IsFirst (λ s. nat_lt number (s / 64) && in_older older.now.entries s) (number * 64 + 63) result }
 {
     match older
         .range((Bound::Excluded(number), Bound::Unbounded))
@@ -128,7 +144,7 @@ fn first_within(offsets: &Offsets, serial: u64) -> Option<u64>
 
 /// The first serial after another one.
 fn first_older(older: &BTreeMap<u64, Offsets>, serial: u64) -> Option<u64>
-    ensures { IsFirst (in_older older.now) serial result }
+    ensures { IsFirst (in_older older.now.entries) serial result }
 {
     let number = serial / IN_BLOCK;
     let within = match older.get(&number) {
@@ -143,7 +159,7 @@ fn first_older(older: &BTreeMap<u64, Offsets>, serial: u64) -> Option<u64>
 
 /// The last serial.
 fn last_older(older: &BTreeMap<u64, Offsets>) -> Option<u64>
-    ensures { IsGreatest (in_older older.now) result }
+    ensures { IsGreatest (in_older older.now.entries) result }
 {
     match older
         .range((Bound::Unbounded, Bound::Excluded(BLOCKS)))
@@ -154,16 +170,43 @@ fn last_older(older: &BTreeMap<u64, Offsets>) -> Option<u64>
     }
 }
 
-/// The greater of two serials, where there are any.
-fn later(first: Option<u64>, other: Option<u64>) -> Option<u64>
-    ensures { result ≡ later first other }
+/// Puts the newest block with the others. When out of memory, nothing changes.
+fn retire(
+    older: &mut BTreeMap<u64, Offsets>,
+    number: u64,
+    newest: &mut Option<Offsets>,
+) -> Result<(), AllocError>
+    requires { AreBefore number older.old.entries }
+    ensures retired { OnOk result ((s : ℕ) → in_older older.new.entries s
+        ≡ cond (in_newest number newest.old s) true (in_older older.old.entries s)) }
+    ensures before { OnOk result (AreBefore (number + 1) older.new.entries) }
+    ensures unchanged_on_error { OnErr result
+        ((q : ℕ) → block_of older.new.entries q ≡ block_of older.old.entries q) }
+    ensures same_newest_on_error { OnErr result (newest.new ≡ newest.old) }
 {
-    match (first, other) {
-        (Some(a), Some(b)) => Some(a.max(b)),
-        (Some(a), None) => Some(a),
-        (None, Some(b)) => Some(b),
-        (None, None) => None,
+    let Some(offsets) = newest.take() else {
+        return Ok(());
+    };
+    match older.insert(number, offsets) {
+        Ok(_) => Ok(()),
+        Err(refused) => {
+            let (_, offsets) = refused.value;
+            *newest = Some(offsets);
+            Err(AllocError)
+        }
     }
+}
+
+/// Takes a serial out of its block, if it is there.
+fn take_newest(newest: &mut Option<Offsets>, serial: u64)
+    ensures { (k : ℕ) → k < 64 → is_offset newest.new k
+        ≡ cond (nat_eq (serial % 64) k) false (is_offset newest.old k) }
+{
+    let others = match newest {
+        Some(offsets) => offsets.without(serial % IN_BLOCK),
+        None => None,
+    };
+    *newest = others;
 }
 
 impl Blocks {
@@ -189,34 +232,15 @@ impl Blocks {
         }
     }
 
-    /// Puts the newest block with the others. When out of memory, nothing changes.
-    fn retire(&mut self) -> Result<(), AllocError>
-        requires { get nat_cmp self.old.older self.old.number ≡ None }
-        ensures same { (s : ℕ) → has_in self.new s ≡ has_in self.old s }
-        ensures empty { OnOk result (self.new.newest ≡ None) }
-    {
-        let Some(offsets) = self.newest.take() else {
-            return Ok(());
-        };
-        match self.older.insert(self.number, offsets) {
-            Ok(_) => Ok(()),
-            Err(refused) => {
-                let (_, offsets) = refused.value;
-                self.newest = Some(offsets);
-                Err(AllocError)
-            }
-        }
-    }
-
     /// Begins a new block with a serial. When out of memory, nothing changes.
     fn begin(&mut self, serial: u64) -> Result<(), AllocError>
-        requires { get nat_cmp self.old.older self.old.number ≡ None }
+        requires { self.old.number < serial / 64 }
         ensures added { OnOk result
             ((s : ℕ) → has_in self.new s ≡ cond (nat_eq serial s) true (has_in self.old s)) }
         ensures unchanged_on_error { OnErr result
             ((s : ℕ) → has_in self.new s ≡ has_in self.old s) }
     {
-        self.retire()?;
+        retire(&mut self.older, self.number, &mut self.newest)?;
         self.number = serial / IN_BLOCK;
         self.newest = Some(Offsets::of(serial % IN_BLOCK));
         Ok(())
@@ -229,40 +253,25 @@ impl Blocks {
         ensures unchanged_on_error { OnErr result
             ((s : ℕ) → has_in self.new s ≡ has_in self.old s) }
     {
-        let number = serial / IN_BLOCK;
-        if number == self.number {
-            self.put_newest(serial);
-            return Ok(());
+        match (serial / IN_BLOCK).cmp(&self.number) {
+            Ordering::Less => put_older(&mut self.older, serial),
+            Ordering::Equal => {
+                self.put_newest(serial);
+                Ok(())
+            }
+            Ordering::Greater => self.begin(serial),
         }
-        if number < self.number || self.older.contains_key(&self.number) {
-            return put_older(&mut self.older, serial);
-        }
-        self.begin(serial)
-    }
-
-    /// Takes a serial out of the newest block, if it is there.
-    fn take_newest(&mut self, serial: u64)
-        ensures number { self.new.number ≡ self.old.number }
-        ensures older { self.new.older ≡ self.old.older }
-        ensures newest { (s : ℕ) → in_newest self.new.number self.new.newest s
-            ≡ cond (nat_eq serial s) false (in_newest self.old.number self.old.newest s) }
-    {
-        if serial / IN_BLOCK != self.number {
-            return;
-        }
-        let others = match &self.newest {
-            Some(offsets) => offsets.without(serial % IN_BLOCK),
-            None => None,
-        };
-        self.newest = others;
     }
 
     /// Takes a serial out, if it is there. It takes no memory.
     pub(crate) fn take(&mut self, serial: u64)
         ensures { (s : ℕ) → has_in self.new s ≡ cond (nat_eq serial s) false (has_in self.old s) }
     {
-        self.take_newest(serial);
-        take_older(&mut self.older, serial);
+        if serial / IN_BLOCK == self.number {
+            take_newest(&mut self.newest, serial);
+        } else {
+            take_older(&mut self.older, serial);
+        }
     }
 
     /// The first serial of the newest block after another one.
@@ -279,21 +288,24 @@ impl Blocks {
         }
     }
 
-    /// The first serial after another one.
+    /// The first serial after another one. The older blocks are asked only where it lies before the
+    /// newest one.
     pub(crate) fn first_after(&self, serial: u64) -> Option<u64>
         ensures { IsFirst (has_in self.now) serial result }
     {
-        sooner(self.first_newest(serial), first_older(&self.older, serial))
+        if serial / IN_BLOCK >= self.number {
+            return self.first_newest(serial);
+        }
+        sooner(first_older(&self.older, serial), self.first_newest(serial))
     }
 
     /// The last serial.
     pub(crate) fn last(&self) -> Option<u64>
         ensures { IsGreatest (has_in self.now) result }
     {
-        let newest = match &self.newest {
+        match &self.newest {
             Some(offsets) => serial_at(self.number, offsets.last()),
-            None => None,
-        };
-        later(newest, last_older(&self.older))
+            None => last_older(&self.older),
+        }
     }
 }

@@ -18,6 +18,6 @@ returns-in-Some c =
     let few : n < 288230376151711744 = grind (arith, entry.0.1) in
     let is_few : nat_lt n 288230376151711744 ≡ true = grind (arith, few) in
     let found : c.serial_at.result ≡ Some (n * 64 + k) = c.serial_at.ensures ∙ ap (λ b. cond b (Some (n * 64 + k)) None) is_few in
-    subst (IsGreatest (in_older c.args.older.now)) (sym found)
-    (last-block c.args.older.now n x k few c.last.ensures.at entry.1 c.last.ensures.last
+    subst (IsGreatest (in_older c.args.older.now.entries)) (sym found)
+    (last-block c.args.older.now.entries n x k few c.last.ensures.at entry.1 c.last.ensures.last
     (λ q below there. ge_from_not_lt n q (at.4 (n, x) c.next_back.new.self steps q (tt, sym (nat_cmp_is q 288230376151711744 Less below)) there)))
