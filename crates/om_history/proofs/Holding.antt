@@ -32,7 +32,7 @@ use Rattle.om_history.specs.Laws.{updates_of}
 use Rattle.om_history.specs.Runs.{label_of, entry_for, fault_of}
 use Rattle.om_history.specs.declared.records.UndoRecord.{UndoRecord}
 use Rattle.om_history.specs.declared.history.History.{History}
-use Rattle.om_history.specs.Records.{transitions_of, HasRoom, kept_reply, is_done, IsLastOf}
+use Rattle.om_history.specs.Records.{transitions_of, HasRoom, kept_reply, is_undone, IsLastOf}
 use Rattle.om_history.specs.Shapes.{IsShaped, AreShaped}
 use Rattle.om_history.specs.Fills.{filled, popped_all, marked_back, full, before, full_all, small_record, noted_all}
 use Rattle.om_history.specs.Fills.{AreMarked, CanTakeBack, control_at}
@@ -209,7 +209,7 @@ at_index P ks i k at all = subst P (get_or_from_slice_get ks i k k at)
     (All-get_or P ks i k (slice_get_within ks i k at) all)
 
 pub can_leave : (r : Rules) (store : Store) (ks : List UndoRecord) (n i : ℕ) (k : UndoRecord) → IsKept r store ks n
-    → slice_get ks i ≡ Some k → is_done (kept_reply ks i) ≡ true → CanLeave store k
+    → slice_get ks i ≡ Some k → is_undone (kept_reply ks i) ≡ true → CanLeave store k
 can_leave r store ks n i k kept at done =
     let ps : Pasts = pasts_of store in
     let p : Past = past_of store (full_all ps ks) n in
@@ -241,14 +241,14 @@ pub has_last : (w : ℕ) (ps : Pasts) (ks : List UndoRecord) (i : ℕ) (k : Undo
 has_last w ps ks i k last = record { made = _; is_last = last_full w ps ks i k last }
 
 module _ (r : Rules) (old new : Store) (ks rest : List UndoRecord) (n i w : ℕ) (k : UndoRecord)
-    (last : IsLastOf w ks i k) (done : is_done (kept_reply ks i) ≡ true)
+    (last : IsLastOf w ks i k) (done : is_undone (kept_reply ks i) ≡ true)
     (state : state_of new ≡ taken_back k.footprint (full (pasts_of old) k).back (state_of old))
     (pasts : pasts_of new ≡ before (pasts_of old) k) (left : rest ≡ remove ks i) where
   x : RemovedAt (pasts_of old) ks i k
   x = removed ks i (pasts_of old) k last.at (none_later ks i k last.at done)
 
-  pub done_in : is_done (kept_reply (full_all (pasts_of old) ks) i) ≡ true
-  done_in = ap is_done (full_kept_reply (pasts_of old) ks i) ∙ done
+  pub done_in : is_undone (kept_reply (full_all (pasts_of old) ks) i) ≡ true
+  done_in = ap is_undone (full_kept_reply (pasts_of old) ks i) ∙ done
 
   pub taken_from : TakenFrom (past_of old (full_all (pasts_of old) ks) n) i
       (past_of new (full_all (pasts_of new) rest) n)

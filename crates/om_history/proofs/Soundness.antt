@@ -22,7 +22,7 @@ use Rattle.om_history.specs.declared.reply.UndoReply.{UndoReply}
 use Rattle.om_history.specs.declared.reply.UndoReply.TheVariants.{Undone}
 use Rattle.om_history.specs.declared.records.UndoRecord.{UndoRecord}
 use Rattle.om_history.specs.Records.{entries_of, IsRight, first_kept_conflict, reply_before, kept_reply}
-use Rattle.om_history.specs.Records.{is_done, IsLastOf}
+use Rattle.om_history.specs.Records.{is_undone, IsLastOf}
 use Rattle.om_history.specs.Commands.{IsRun, ToStep, ToUndo}
 use Rattle.om_history.specs.Bounds.{AreSteady, AreSmall, FitsAll, FitsBack}
 use Rattle.om_history.specs.Pasts.{Past, entries_in, IsPast, past_of}
@@ -147,11 +147,11 @@ fits_out r p i k is few at =
     here) (small r p is)
 
 pub none_later : (ks : List UndoRecord) (i : ℕ) (k : UndoRecord) → slice_get ks i ≡ Some k
-    → is_done (kept_reply ks i) ≡ true → NoneConflicts k.footprint (drop (suc i) ks)
+    → is_undone (kept_reply ks i) ≡ true → NoneConflicts k.footprint (drop (suc i) ks)
 none_later ks i k at h =
     none_conflicts k.footprint (drop (suc i) ks) k.entry.serial k.entry.line
-    (subst (λ n. is_done (reply_before (Some k) (drop n ks)) ≡ true) (add-one i)
-    (subst (λ o. is_done (reply_before o (drop (i + 1) ks)) ≡ true) at h))
+    (subst (λ n. is_undone (reply_before (Some k) (drop n ks)) ≡ true) (add-one i)
+    (subst (λ o. is_undone (reply_before o (drop (i + 1) ks)) ≡ true) at h))
 
 kept_reply-is : (ks : List UndoRecord) (i : ℕ) (k : UndoRecord) → slice_get ks i ≡ Some k
     → kept_reply ks i ≡ first_kept_conflict k.footprint (drop (suc i) ks) (Undone k.entry.serial k.entry.line)
@@ -168,7 +168,7 @@ reply_to_undo-is r p i w k is last =
 
 -- what an undo leaves that is done, one that is refused, and one of a worker that has no entry
 after_undo-done : (r : Rules) (p : Past) (i w : ℕ) (k : UndoRecord) → IsPast r p → IsLastOf w p.records i k
-    → is_done (kept_reply p.records i) ≡ true → after_undo r (entries_in p) w ≡ history_of (remove p.records i) p.made
+    → is_undone (kept_reply p.records i) ≡ true → after_undo r (entries_in p) w ≡ history_of (remove p.records i) p.made
 after_undo-done r p i w k is last done =
     let h : History = entries_in p in
     ap (λ o. history_without h o (reply_to_undo r h w)) (last_place-at w p.records i k last)
@@ -180,7 +180,7 @@ after_undo-done r p i w k is last done =
     })
 
 after_undo-refused : (r : Rules) (p : Past) (i w : ℕ) (k : UndoRecord) → IsPast r p → IsLastOf w p.records i k
-    → is_done (kept_reply p.records i) ≡ false → after_undo r (entries_in p) w ≡ entries_in p
+    → is_undone (kept_reply p.records i) ≡ false → after_undo r (entries_in p) w ≡ entries_in p
 after_undo-refused r p i w k is last refused =
     let h : History = entries_in p in
     ap (λ o. history_without h o (reply_to_undo r h w)) (last_place-at w p.records i k last)
@@ -200,7 +200,7 @@ past_without p i k = record {
 }
 
 past-removed : (r : Rules) (p : Past) (i w : ℕ) (k : UndoRecord) → IsPast r p → IsLastOf w p.records i k
-    → is_done (kept_reply p.records i) ≡ true → IsPast r (past_without p i k)
+    → is_undone (kept_reply p.records i) ≡ true → IsPast r (past_without p i k)
 past-removed r p i w k is last done =
     let parts : Split r r.start (take i p.records) k (drop (suc i) p.records) p.state = split_at r p i k is last.at in
     record {
@@ -227,7 +227,7 @@ taken-is p next i k at x =
     λ j. record { state = sym state j; records = sym x.records j; made = sym x.made j }
 
 pub past_taken : (r : Rules) (p next : Past) (i w : ℕ) → IsPast r p → HasLast w p.records i
-    → is_done (kept_reply p.records i) ≡ true → TakenFrom p i next → IsPast r next
+    → is_undone (kept_reply p.records i) ≡ true → TakenFrom p i next → IsPast r next
 past_taken r p next i w is x done taken = subst (IsPast r) (taken-is p next i x.made x.is_last.at taken)
     (past-removed r p i w x.made is x.is_last done)
 
@@ -236,12 +236,12 @@ pub undo_replies : (r : Rules) (p : Past) (i w : ℕ) (reply : UndoReply) → Is
 undo_replies r p i w reply is x replied = replied ∙ sym (reply_to_undo-is r p i w x.made is x.is_last)
 
 pub undo_done : (r : Rules) (p next : Past) (i w : ℕ) → IsPast r p → HasLast w p.records i
-    → is_done (kept_reply p.records i) ≡ true → TakenFrom p i next → entries_in next ≡ after_undo r (entries_in p) w
+    → is_undone (kept_reply p.records i) ≡ true → TakenFrom p i next → entries_in next ≡ after_undo r (entries_in p) w
 undo_done r p next i w is x done taken = ap entries_in (sym (taken-is p next i x.made x.is_last.at taken))
     ∙ sym (after_undo-done r p i w x.made is x.is_last done)
 
 pub undo_refused : (r : Rules) (p : Past) (i w : ℕ) → IsPast r p → HasLast w p.records i
-    → is_done (kept_reply p.records i) ≡ false → entries_in p ≡ after_undo r (entries_in p) w
+    → is_undone (kept_reply p.records i) ≡ false → entries_in p ≡ after_undo r (entries_in p) w
 undo_refused r p i w is x refused = sym (after_undo-refused r p i w x.made is x.is_last refused)
 
 pub undo_of_none : (r : Rules) (p : Past) (w : ℕ) → last_place w (entries_of p.records) ≡ None

@@ -19,32 +19,32 @@ use Rattle.om_history.specs.Runs.{first_conflict, reply_at, reply_to_undo, histo
 use Rattle.om_history.specs.declared.reply.UndoReply.{UndoReply}
 use Rattle.om_history.specs.declared.reply.UndoReply.TheVariants.{Undone, Conflict, Nothing}
 use Rattle.om_history.specs.declared.records.UndoRecord.{UndoRecord}
-use Rattle.om_history.specs.Records.{entries_of, ReplaysTo, first_kept_conflict, is_done}
+use Rattle.om_history.specs.Records.{entries_of, ReplaysTo, first_kept_conflict, is_undone}
 use Rattle.om_history.proofs.Logs.{ReplaysTo-now, NoneConflicts, Split, ReplaysTo-removed, first_kept_conflict-is}
 use Rattle.om_history.proofs.Places.{NoneOwn, last_place-none_own}
 
 abbrev pub history_of : List UndoRecord → ℕ → History
 history_of ks made = record { entries = entries_of ks; made = made }
 
-pub history_without-done : (h : History) (p : Place) (reply : UndoReply) → is_done reply ≡ true
+pub history_without-done : (h : History) (p : Place) (reply : UndoReply) → is_undone reply ≡ true
     → history_without h (Some p) reply ≡ record { entries = p.earlier ++ p.later; made = h.made }
 history_without-done h p (Undone serial line) e = refl
 history_without-done h p Nothing e = cc
 history_without-done h p (Conflict serial worker q) e = cc
 
-pub history_without-refused : (h : History) (p : Place) (reply : UndoReply) → is_done reply ≡ false
+pub history_without-refused : (h : History) (p : Place) (reply : UndoReply) → is_undone reply ≡ false
     → history_without h (Some p) reply ≡ h
 history_without-refused h p (Undone serial line) e = cc
 history_without-refused h p Nothing e = refl
 history_without-refused h p (Conflict serial worker q) e = refl
 
-hit_none : (e : Entry) (o : Option Obj) (reply : UndoReply) → is_done (conflict_or e o reply) ≡ true
-    → (o ≡ None) × (is_done reply ≡ true)
+hit_none : (e : Entry) (o : Option Obj) (reply : UndoReply) → is_undone (conflict_or e o reply) ≡ true
+    → (o ≡ None) × (is_undone reply ≡ true)
 hit_none e None reply h = (refl, h)
 hit_none e (Some q) reply h = cc
 
 pub none_conflicts : (footprint : List Access) (later : List UndoRecord) (serial line : ℕ)
-    → is_done (first_kept_conflict footprint later (Undone serial line)) ≡ true → NoneConflicts footprint later
+    → is_undone (first_kept_conflict footprint later (Undone serial line)) ≡ true → NoneConflicts footprint later
 none_conflicts footprint [] serial line h = tt
 none_conflicts footprint (x ∷ xs) serial line h =
     let none = hit_none x.entry (conflict_of footprint x.footprint)
@@ -210,7 +210,7 @@ UndoneOr r ks made w = (after_undo r (history_of ks made) w ≡ history_of ks ma
 by_done : (r : Rules) (before : List UndoRecord) (k : UndoRecord) (later : List UndoRecord) (made : ℕ) (now : State)
     (w : ℕ) (b : Bool) → ReplaysTo r r.start (before ++ k ∷ later) now → k.entry.worker ≡ w
     → NoneOwn w (entries_of later)
-    → is_done (first_kept_conflict k.footprint later (Undone k.entry.serial k.entry.line)) ≡ b
+    → is_undone (first_kept_conflict k.footprint later (Undone k.entry.serial k.entry.line)) ≡ b
     → UndoneOr r (before ++ k ∷ later) made w
 by_done r before k later made now w true h own none done =
     let apart : NoneConflicts k.footprint later = none_conflicts k.footprint later k.entry.serial k.entry.line done in
@@ -247,7 +247,7 @@ by_last r ks made now w h (inl none) =
 by_last r ks made now w h (inr x) =
     subst (λ xs. UndoneOr r xs made w) (sym x.split)
     (by_done r x.before x.last x.later made now w
-    (is_done (first_kept_conflict x.last.footprint x.later (Undone x.last.entry.serial x.last.entry.line)))
+    (is_undone (first_kept_conflict x.last.footprint x.later (Undone x.last.entry.serial x.last.entry.line)))
     (subst (λ xs. ReplaysTo r r.start xs now) x.split h) x.own x.none refl)
 
 pub undone_or : (r : Rules) (ks : List UndoRecord) (made : ℕ) (now : State) (w : ℕ) → ReplaysTo r r.start ks now

@@ -69,10 +69,10 @@ reply_before (Some k) later = first_kept_conflict k.footprint later (Undone k.en
 abbrev pub kept_reply : List UndoRecord → ℕ → UndoReply
 kept_reply ks i = reply_before (slice_get ks i) (drop (i + 1) ks)
 
-abbrev pub is_done : UndoReply → Bool
-is_done (Undone serial line) = true
-is_done (Conflict serial worker q) = false
-is_done Nothing = false
+abbrev pub is_undone : UndoReply → Bool
+is_undone (Undone serial line) = true
+is_undone (Conflict serial worker q) = false
+is_undone Nothing = false
 
 -- the record at an index is the worker's last
 pub record IsLastOf (w : ℕ) (ks : List UndoRecord) (i : ℕ) (k : UndoRecord) : Type 0 where

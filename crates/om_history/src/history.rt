@@ -12,7 +12,7 @@ ghost use Rattle.om_history.specs.Shapes.{IsShaped};
 ghost use Rattle.om_history.specs.Runs.{reply_to_undo, after_undo};
 ghost use Rattle.om_history.specs.Cones.{taken_by_roll, reply_to_roll, after_roll};
 ghost use Rattle.om_history.specs.Commands.{IsGone};
-ghost use Rattle.om_history.specs.Records.{is_done};
+ghost use Rattle.om_history.specs.Records.{is_undone};
 ghost use Rattle.om_history.specs.Pasts.{past_in, history_in, IsHeld, IsPlanned, step_for, IsReplay, AreNumbered, Replies, RepliesToStep, Becomes, TakesStep, TakesOut, TakesItsCone, Stays};
 
 use crate::records::Records;
@@ -62,7 +62,7 @@ fn fault_by(store: &Store, worker: u8, edits: &[Edit]) -> Option<Fault>
 
 /// Whether an undo was done.
 fn is_undone(reply: &UndoReply) -> bool
-    ensures { result ≡ is_done reply.now }
+    ensures { result ≡ is_undone reply.now }
 {
     matches!(reply, UndoReply::Undone { .. })
 }

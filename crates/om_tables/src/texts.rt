@@ -61,7 +61,7 @@ impl Texts {
         number.unwrap_or(self.texts.len()) as u32
     }
 
-    /// Gives a text the next number, unless it has one. There is no memory for 2^32 - 1 of them.
+    /// Gives a text the next number, unless it has one. There is no memory for 2^32 of them.
     pub fn note(&mut self, alloc: Global, text: &[u8]) -> Result<(), AllocError>
         ensures { OnOk result (self.new ≡ with_sight bytes_eq self.old text.now) }
     {

@@ -4,7 +4,7 @@ use Rattle.std.specs.Prelude.{remove}
 use Rattle.om_live.specs.Stores.{pasts_of}
 use Rattle.om_history.specs.declared.records.UndoRecord.{UndoRecord}
 use Rattle.om_history.specs.Fills.{full_all}
-use Rattle.om_history.specs.Records.{kept_reply, is_done, LastHasSerial}
+use Rattle.om_history.specs.Records.{kept_reply, is_undone, LastHasSerial}
 use Rattle.om_history.specs.Runs.{reply_at}
 use Rattle.om_history.specs.Pasts.{past_of, past_in}
 use Rattle.om_history.proofs.Places.{last_place-none}
@@ -16,7 +16,7 @@ use Rattle.om_history.proofs.history.History.undo.Goals as goal
 pub take_out-requires-clause-can : goal.take_out-requires-clause-can
 take_out-requires-clause-can c = λ i k at is.
     can_leave c.requires.0 c.args.self.now.store c.args.self.now.records c.args.self.now.made i k c.requires.1 at
-    (sym (ap is_done (c.reply_to-reply.ensures i k at is)) ∙ sym c.is_undone.ensures ∙ c.if-is_undone.true)
+    (sym (ap is_undone (c.reply_to-reply.ensures i k at is)) ∙ sym c.is_undone.ensures ∙ c.if-is_undone.true)
 
 pub take_out-requires-clause-there : goal.take_out-requires-clause-there
 take_out-requires-clause-there c =
@@ -37,8 +37,8 @@ returns-then-is_undone-clause-after c = λ r held.
     let ks : List UndoRecord = c.args.self.now.records in
     let rest : List UndoRecord = c.take_out.new.records in
     let x : LastHasSerial c.args.worker ks c.in-Some.serial = c.in-Some.ensures.found in
-    let done : is_done (kept_reply ks x.i) ≡ true =
-    sym (ap is_done (c.reply_to-reply.ensures x.i x.made x.is_last.at x.serial_is)) ∙ sym c.is_undone.ensures
+    let done : is_undone (kept_reply ks x.i) ≡ true =
+    sym (ap is_undone (c.reply_to-reply.ensures x.i x.made x.is_last.at x.serial_is)) ∙ sym c.is_undone.ensures
     ∙ c.if-is_undone.true in
     let state = c.take_out.ensures.state x.i x.made x.is_last.at x.serial_is in
     let pasts = c.take_out.ensures.pasts x.i x.made x.is_last.at x.serial_is in
@@ -70,8 +70,8 @@ returns-else-is_undone-clause-after c = λ r held.
     let x : LastHasSerial c.args.worker ks c.in-Some.serial = c.in-Some.ensures.found in (
       undo_refused r (past_in c.args.self.now) x.i c.args.worker held.past
           (has_last c.args.worker (pasts_of c.args.self.now.store) ks x.i x.made x.is_last)
-          (ap is_done (full_kept_reply (pasts_of c.args.self.now.store) ks x.i)
-          ∙ sym (ap is_done (c.reply_to-reply.ensures x.i x.made x.is_last.at x.serial_is))
+          (ap is_undone (full_kept_reply (pasts_of c.args.self.now.store) ks x.i)
+          ∙ sym (ap is_undone (c.reply_to-reply.ensures x.i x.made x.is_last.at x.serial_is))
           ∙ sym c.is_undone.ensures ∙ c.if-is_undone.false),
       held,
     )
