@@ -2,20 +2,20 @@
 use Rattle.std.proofs.Common.{◌≡◌, refl, sym, ◌∙◌, ap, subst, Bool, true, false, cond, ℕ, zero, suc, ◌<◌, ◌≤◌, arith}
 use Rattle.std.proofs.Common.{Some, List, [], ◌∷◌, ◌++◌}
 use Rattle.std.specs.Prelude.{slice_get, remove}
-use Rattle.std.specs.Ordering.{nat_cmp, is_eq, match_ordering}
+use Rattle.std.specs.Ordering.{nat_cmp, is_eq}
 use Rattle.std.specs.Cmp.{nat_cmp_is}
 use Rattle.std.specs.declared.cmp.Ordering.TheVariants.{Equal, Greater}
-use Rattle.std.specs.BTreeMap.{is_at, insert_entry}
+use Rattle.std.specs.BTreeMap.{is_at}
 use Rattle.std.specs.Map.{lookup, remove_entry, values_of}
 use Rattle.om_history.specs.declared.records.UndoRecord.{UndoRecord}
 use Rattle.om_history.specs.Records.{AreBelow, AreAbove}
 use Rattle.om_history.specs.Touches.{AreBySerial}
 use Rattle.om_history.proofs.Touched.{Rising, rising_at}
 
-at_same : (s q : ℕ) → q ≡ s → is_at (nat_cmp s) q ≡ true
+pub at_same : (s q : ℕ) → q ≡ s → is_at (nat_cmp s) q ≡ true
 at_same s q e = ap is_eq (sym (nat_cmp_is s q Equal (sym e)))
 
-at_other : (s q : ℕ) → q < s → is_at (nat_cmp s) q ≡ false
+pub at_other : (s q : ℕ) → q < s → is_at (nat_cmp s) q ≡ false
 at_other s q lt = ap is_eq (sym (nat_cmp_is s q Greater lt))
 
 pub rising : (low : ℕ) (es : List (ℕ × UndoRecord)) → AreBySerial low es → Rising low (values_of es)
@@ -89,18 +89,6 @@ stands low (e ∷ es) s k h found = go (is_at (nat_cmp s) e.0) refl found (λ f.
         record { i = suc rest.i; at = rest.at; serial_is = rest.serial_is }
 
 -- a record whose serial is above the others goes behind them
-
-past : (s q : ℕ) → q < s → nat_cmp s q ≡ Greater
-past s q lt = sym (nat_cmp_is s q Greater lt)
-
-pub inserted : (low : ℕ) (es : List (ℕ × UndoRecord)) (s : ℕ) (k : UndoRecord) → AreBySerial low es
-    → AreBelow s (values_of es) → insert_entry nat_cmp es s k ≡ es ++ (s, k) ∷ []
-inserted low [] s k h below = refl
-inserted low (e ∷ es) s k h below =
-    ap (λ o. match_ordering o ((s, k) ∷ e ∷ es) ((e.0, k) ∷ es) (e ∷ insert_entry nat_cmp es s k))
-    (past s e.0 (subst (λ n. n < s) (sym h.1) below.0))
-    ∙ ap (λ xs. e ∷ xs) (inserted e.0 es s k h.2 below.1)
-
 pub values-push : (es : List (ℕ × UndoRecord)) (s : ℕ) (k : UndoRecord)
     → values_of (es ++ (s, k) ∷ []) ≡ values_of es ++ k ∷ []
 values-push [] s k = refl

@@ -3,7 +3,7 @@ use Rattle.std.proofs.Common.{◌≡◌, refl, sym, ◌∙◌, ap, subst, false,
 use Rattle.std.proofs.Common.{None, Some, List, [], ◌∷◌, ◌++◌, IfSome, cond, nat_eq, ◌&&◌}
 use Rattle.std.specs.Prelude.{slice_get, remove, IsSome}
 use Rattle.std.specs.Ordering.{nat_cmp}
-use Rattle.std.specs.BTreeMap.{is_at, insert_entry}
+use Rattle.std.specs.BTreeMap.{is_at}
 use Rattle.std.specs.Map.{lookup, remove_entry, values_of}
 use Rattle.om_foot.specs.declared.object.Obj.{Obj}
 use Rattle.om_foot.specs.declared.footprint.Mode.{Mode}
@@ -21,7 +21,7 @@ use Rattle.om_history.specs.Touches.{touched, AreBySerial, AreListsOf}
 use Rattle.om_touches.specs.Touches.{AreWithout, is_own, SameOwn, WithOwn, WithoutOwn}
 use Rattle.om_history.specs.Touches.{AreOwnOf, IsIndexed}
 use Rattle.om_history.proofs.Touched.{touched-below, touched-remove}
-use Rattle.om_history.proofs.BySerial.{rising, IsFound, is_found, Stands, stands, inserted, values-push, by_serial-push}
+use Rattle.om_history.proofs.BySerial.{rising, IsFound, is_found, Stands, stands, values-push, by_serial-push}
 use Rattle.om_history.proofs.Members.{lists-push}
 use Rattle.om_history.proofs.OwnEntries.{own-push, own-remove}
 use Rattle.om_history.proofs.Replies.{footprint_of, found_behind, reply_none, reply_some}
@@ -48,23 +48,17 @@ indexed_same es lists more own more_own h same same_own = record {
 pub indexed_with : (es : List (ℕ × UndoRecord)) (k : UndoRecord) (lists more : TouchLists) (own more_own : OwnEntries)
     → IsIndexed es lists own → 0 < k.entry.serial → AreBelow k.entry.serial (values_of es)
     → AreWith k.footprint k.entry.serial lists more → WithOwn k.entry.worker k.entry.serial own more_own
-    → IsIndexed (insert_entry nat_cmp es k.entry.serial k) more more_own
+    → IsIndexed (es ++ (k.entry.serial, k) ∷ []) more more_own
 indexed_with es k lists more own more_own h some below added added_own =
     let values : values_of (es ++ (k.entry.serial, k) ∷ []) ≡ values_of es ++ k ∷ [] =
     values-push es k.entry.serial k in
-    subst (λ fs. IsIndexed fs more more_own) (sym (inserted 0 es k.entry.serial k h.by_serial below))
-    (record {
+    record {
       by_serial = by_serial-push 0 es k.entry.serial k h.by_serial some refl below;
       touches = subst (λ ks. AreListsOf footprint_of ks more) (sym values)
           (lists-push footprint_of (values_of es) k lists more h.touches added);
       own_entries = subst (λ ks. AreOwnOf ks more_own) (sym values)
           (own-push (values_of es) k own more_own h.own_entries added_own);
-    })
-
-pub values_with : (es : List (ℕ × UndoRecord)) (k : UndoRecord) → AreBySerial 0 es
-    → AreBelow k.entry.serial (values_of es)
-    → values_of (insert_entry nat_cmp es k.entry.serial k) ≡ values_of es ++ k ∷ []
-values_with es k h below = ap values_of (inserted 0 es k.entry.serial k h below) ∙ values-push es k.entry.serial k
+    }
 
 lists-remove : (f : UndoRecord → List Access) (ks : List UndoRecord) (i : ℕ) (k : UndoRecord) (old new : TouchLists)
     → AreListsOf f ks old → AreWithout (f k) k.entry.serial old new

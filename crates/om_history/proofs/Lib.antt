@@ -23,6 +23,7 @@ pub mod Exactly
 pub mod Changes
 pub mod Touched
 pub mod BySerial
+pub mod Rows
 pub mod OwnEntries
 pub mod Replies
 pub mod Members

@@ -11,3 +11,4 @@ pub mod Undos
 pub mod Bounds
 pub mod Pasts
 pub mod Touches
+pub mod Rows

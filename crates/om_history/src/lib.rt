@@ -2,6 +2,7 @@
 //! on.
 #![tactic(auto)]
 
+mod by_serial;
 pub mod history;
 mod kept;
 pub mod laws;

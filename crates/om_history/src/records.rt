@@ -1,9 +1,9 @@
 //! Undo records: the history's entries, each with its footprint and what takes it back.
 
 ghost use Rattle.std.specs.Prelude.{◌≡◌, ◌≢◌, ℕ, List, ◌<◌, ◌∷◌, ◌++◌, [], Some, IfOk, OnOk, OnErr, IfErr, IsSome, IfSome, IfNone, All, map, reverse, slice_get, remove, false, true};
-ghost use Rattle.std.specs.Map.{values_of};
+ghost use Rattle.std.specs.Map.{lookup, values_of};
 ghost use Rattle.std.specs.Ordering.{nat_cmp};
-ghost use Rattle.std.specs.BTreeMap.{get};
+ghost use Rattle.std.specs.BTreeMap.{is_at};
 ghost use Rattle.om_foot.specs.declared.object.Obj.{Obj};
 ghost use Rattle.om_foot.specs.declared.footprint.Mode.{Mode};
 ghost use Rattle.om_foot.specs.Footprint.{conflicts_with_any, conflict_of};
@@ -14,6 +14,7 @@ ghost use Rattle.om_history.specs.Records.{entries_of, transition_of, transition
 ghost use Rattle.om_history.specs.declared.records.UndoRecord.{UndoRecord};
 ghost use Rattle.om_history.specs.Touches.{AreBySerial, AreListsOf, IsIndexed};
 
+use crate::by_serial::BySerial;
 use crate::kept::Kept;
 use crate::reply::{Taken, UndoReply};
 use om_cells::{Entry, Update};
@@ -21,7 +22,6 @@ use om_foot::{Access, Obj, is_in_conflict};
 use om_seq::Seq;
 use om_touches::{OwnEntries, SharedAccess, TouchLists};
 use std::alloc::{AllocError, Global};
-use std::collections::BTreeMap;
 use std::marker::Model;
 
 /// An entry, with its footprint and what takes its updates back.
@@ -42,7 +42,7 @@ pub struct UndoRecord {
 ///
 /// Contracts see the records, in the order of their serials, which rise.
 pub struct Records {
-    kept: BTreeMap<u64, Kept>,
+    kept: BySerial,
     lists: TouchLists,
     own: OwnEntries,
 }
@@ -65,9 +65,9 @@ impl Model for Records {
 
     ghost Value = { List UndoRecord };
 
-    ghost view = { λ r. values_of r.kept.entries };
+    ghost view = { λ r. values_of r.kept };
 
-    ghost invariant = { λ r. IsIndexed r.kept.entries r.lists r.own };
+    ghost invariant = { λ r. IsIndexed r.kept r.lists r.own };
 }
 
 /// Adds the touches of an entry to both lists. When out of memory, no touch changes.
@@ -108,30 +108,28 @@ fn forget(lists: &mut TouchLists, own: &mut OwnEntries, made: &Kept)
 /// Adds a record whose serial is above all others, and its touches. When out of memory, nothing
 /// changes, and the record comes back.
 fn enter(
-    kept: &mut BTreeMap<u64, Kept>,
+    kept: &mut BySerial,
     lists: &mut TouchLists,
     own: &mut OwnEntries,
     alloc: Global,
     made: Kept,
 ) -> Result<(), Kept>
-    requires indexed { IsIndexed kept.old.entries lists.old own.old }
+    requires indexed { IsIndexed kept.old lists.old own.old }
     requires some { 0 < made.entry.serial }
-    requires latest { AreBelow made.entry.serial (values_of kept.old.entries) }
-    ensures indexed { IsIndexed kept.new.entries lists.new own.new }
+    requires latest { AreBelow made.entry.serial (values_of kept.old) }
+    ensures indexed { IsIndexed kept.new lists.new own.new }
     ensures entered { OnOk result
-        (values_of kept.new.entries ≡ values_of kept.old.entries ++ made ∷ []) }
-    ensures unchanged_on_error { OnErr result (kept.new.entries ≡ kept.old.entries) }
+        (values_of kept.new ≡ values_of kept.old ++ made ∷ []) }
+    ensures unchanged_on_error { OnErr result (kept.new ≡ kept.old) }
     ensures returned { IfErr result (λ k. k ≡ made) }
 {
     match note(lists, own, alloc, &made) {
         Ok(()) => {}
         Err(_) => return Err(made),
     }
-    let serial = made.serial();
-    match kept.insert(serial, made) {
-        Ok(_) => Ok(()),
-        Err(refused) => {
-            let (_, made) = refused.value;
+    match kept.push(made) {
+        Ok(()) => Ok(()),
+        Err(made) => {
             forget(lists, own, &made);
             Err(made)
         }
@@ -141,20 +139,20 @@ fn enter(
 /// Takes the record with a serial out, and its touches. It takes no memory, and moves no other
 /// record.
 fn leave(
-    kept: &mut BTreeMap<u64, Kept>,
+    kept: &mut BySerial,
     lists: &mut TouchLists,
     own: &mut OwnEntries,
     serial: u64,
 ) -> Option<Kept>
-    requires { IsIndexed kept.old.entries lists.old own.old }
-    ensures indexed { IsIndexed kept.new.entries lists.new own.new }
-    ensures left { (i : ℕ) (k : UndoRecord) → slice_get (values_of kept.old.entries) i ≡ Some k
+    requires { IsIndexed kept.old lists.old own.old }
+    ensures indexed { IsIndexed kept.new lists.new own.new }
+    ensures left { (i : ℕ) (k : UndoRecord) → slice_get (values_of kept.old) i ≡ Some k
         → k.entry.serial ≡ serial
-        → values_of kept.new.entries ≡ remove (values_of kept.old.entries) i }
-    ensures returned { (i : ℕ) (k : UndoRecord) → slice_get (values_of kept.old.entries) i ≡ Some k
+        → values_of kept.new ≡ remove (values_of kept.old) i }
+    ensures returned { (i : ℕ) (k : UndoRecord) → slice_get (values_of kept.old) i ≡ Some k
         → k.entry.serial ≡ serial → result ≡ Some k }
 {
-    match kept.remove(&serial) {
+    match kept.take(serial) {
         Some(made) => {
             forget(lists, own, &made);
             Some(made)
@@ -205,31 +203,26 @@ fn refusal(undone: &Kept, made: &Kept, otherwise: UndoReply) -> UndoReply
 
 /// The reply that names the record with a serial where it conflicts with another one, else the
 /// other reply.
-fn refusal_by(
-    kept: &BTreeMap<u64, Kept>,
-    undone: &Kept,
-    first: u64,
-    otherwise: UndoReply,
-) -> UndoReply
-    requires { IsSome (get nat_cmp kept.now first) }
-    ensures { IfSome (get nat_cmp kept.now first)
+fn refusal_by(kept: &BySerial, undone: &Kept, first: u64, otherwise: UndoReply) -> UndoReply
+    requires { IsSome (lookup (is_at (nat_cmp first)) kept.now) }
+    ensures { IfSome (lookup (is_at (nat_cmp first)) kept.now)
         (λ made. result ≡ conflict_or made.entry
         (conflict_of undone.now.footprint made.footprint) otherwise) }
 {
-    match kept.get(&first) {
+    match kept.get(first) {
         Some(made) => refusal(undone, made, otherwise),
         None => unreachable!(),
     }
 }
 
 /// What an undo of the entry with a serial answers.
-fn reply_at(kept: &BTreeMap<u64, Kept>, lists: &TouchLists, serial: u64) -> UndoReply
-    requires by_serial { AreBySerial 0 kept.now.entries }
-    requires lists { AreListsOf (λ k. k.footprint) (values_of kept.now.entries) lists.now }
-    ensures { (i : ℕ) (k : UndoRecord) → slice_get (values_of kept.now.entries) i ≡ Some k
-        → k.entry.serial ≡ serial → result ≡ kept_reply (values_of kept.now.entries) i }
+fn reply_at(kept: &BySerial, lists: &TouchLists, serial: u64) -> UndoReply
+    requires by_serial { AreBySerial 0 kept.now }
+    requires lists { AreListsOf (λ k. k.footprint) (values_of kept.now) lists.now }
+    ensures { (i : ℕ) (k : UndoRecord) → slice_get (values_of kept.now) i ≡ Some k
+        → k.entry.serial ≡ serial → result ≡ kept_reply (values_of kept.now) i }
 {
-    match kept.get(&serial) {
+    match kept.get(serial) {
         Some(undone) => {
             let otherwise = UndoReply::Undone {
                 serial,
@@ -275,14 +268,17 @@ fn name(made: &Kept) -> Taken
 /// What names the members of the cone of the entry with a serial, in their order: a later entry is
 /// one where it conflicts with the touches of the members so far. There is none where no entry has
 /// that serial.
-fn members(alloc: Global, kept: &BTreeMap<u64, Kept>, serial: u64) -> Result<Vec<Taken>, AllocError>
-    requires { AreBySerial 0 kept.now.entries }
+fn members(alloc: Global, kept: &BySerial, serial: u64) -> Result<Vec<Taken>, AllocError>
+    requires { AreBySerial 0 kept.now }
     ensures { IfOk result
-        (λ v. v.items ≡ map taken_of (cone serial (transitions_of (values_of kept.now.entries)))) }
+        (λ v. v.items ≡ map taken_of (cone serial (transitions_of (values_of kept.now)))) }
 {
     let mut members = TouchLists::new(alloc);
     let mut names = Vec::new(alloc);
-    for candidate in kept.values() {
+    for row in kept.rows() {
+        let Some(candidate) = &row.kept else {
+            continue;
+        };
         if is_member(&members, candidate, serial) {
             members.add_each(alloc, candidate.footprint(), candidate.serial())?;
             names.push(name(candidate))?;
@@ -292,11 +288,14 @@ fn members(alloc: Global, kept: &BTreeMap<u64, Kept>, serial: u64) -> Result<Vec
 }
 
 /// The entries of records, in their order.
-fn entries(alloc: Global, kept: &BTreeMap<u64, Kept>) -> Result<Vec<Entry>, AllocError>
-    ensures { IfOk result (λ v. v.items ≡ entries_of (values_of kept.now.entries)) }
+fn entries(alloc: Global, kept: &BySerial) -> Result<Vec<Entry>, AllocError>
+    ensures { IfOk result (λ v. v.items ≡ entries_of (values_of kept.now)) }
 {
-    let mut entries = Vec::with_capacity(alloc, kept.len())?;
-    for made in kept.values() {
+    let mut entries = Vec::with_capacity(alloc, kept.rows().len())?;
+    for row in kept.rows() {
+        let Some(made) = &row.kept else {
+            continue;
+        };
         let choice = made.choice();
         entries.push(Entry {
             serial: made.serial(),
@@ -314,7 +313,7 @@ impl Records {
         ensures { result ≡ [] }
     {
         Records {
-            kept: BTreeMap::new(alloc),
+            kept: BySerial::new(alloc),
             lists: TouchLists::new(alloc),
             own: OwnEntries::new(alloc),
         }

@@ -1,5 +1,5 @@
 -- The touches of objects, kept by object and mode, and each worker's own entries.
-use Rattle.std.specs.Prelude.{◌≡◌, Bool, true, false, cond, nat_eq, ◌&&◌, ℕ, ◌<◌, ◌≤◌, min, max, is_some, Option, None, Some, List, []}
+use Rattle.std.specs.Prelude.{◌≡◌, Bool, true, false, cond, nat_eq, ◌&&◌, ℕ, ◌<◌, ◌≤◌, min, is_some, Option, None, Some, List, []}
 use Rattle.std.specs.Prelude.{◌∷◌}
 use Rattle.std.specs.Map.{lookup}
 use Rattle.std.specs.Ordering.{nat_cmp}
@@ -129,11 +129,6 @@ abbrev pub sooner : Option ℕ → Option ℕ → Option ℕ
 sooner None y = y
 sooner (Some a) None = Some a
 sooner (Some a) (Some b) = Some (min a b)
-
-abbrev pub later : Option ℕ → Option ℕ → Option ℕ
-later None y = y
-later (Some a) None = Some a
-later (Some a) (Some b) = Some (max a b)
 
 -- the least number above another one that passes a test, if one does
 abbrev pub IsFirst : (ℕ → Bool) → ℕ → Option ℕ → Type 0

@@ -1,6 +1,4 @@
 use Rattle.std.proofs.Common.{◌∙◌, sym, ap, subst}
-use Rattle.std.specs.Ordering.{nat_cmp}
-use Rattle.std.specs.BTreeMap.{insert_entry}
 use Rattle.std.specs.Map.{values_of}
 use Rattle.om_history.specs.declared.records.UndoRecord.{UndoRecord}
 use Rattle.om_touches.specs.Touches.{AreWithout, WithoutOwn}
@@ -8,36 +6,39 @@ use Rattle.om_history.specs.Touches.{IsIndexed}
 use Rattle.om_touches.specs.Lists.{added_out}
 use Rattle.om_history.proofs.OwnEntries.{own-added_out}
 use Rattle.om_history.proofs.Replies.{footprint_of}
-use Rattle.om_history.proofs.Indexed.{fresh, indexed_same, indexed_with, values_with}
+use Rattle.om_history.proofs.BySerial.{values-push}
+use Rattle.om_history.proofs.Indexed.{fresh, indexed_same, indexed_with}
+use Rattle.om_history.proofs.Rows.{above_all}
 use Rattle.om_history.proofs.records.enter.Goals as goal
 
 pub note-requires : goal.note-requires
-note-requires c = fresh footprint_of (values_of c.args.kept.now.entries) c.args.lists.now
+note-requires c = fresh footprint_of (values_of c.args.kept.now) c.args.lists.now
     c.args.made.entry.serial c.requires.indexed.touches c.requires.latest
 
+pub push-requires-clause-latest : goal.push-requires-clause-latest
+push-requires-clause-latest c = above_all 0 c.args.made.entry.serial c.args.kept.now c.requires.indexed.by_serial c.requires.latest
+
 pub returns-in-Err-clause-indexed : goal.returns-in-Err-clause-indexed
-returns-in-Err-clause-indexed c = indexed_same c.args.kept.now.entries c.args.lists.now c.note.new.lists
+returns-in-Err-clause-indexed c = indexed_same c.args.kept.now c.args.lists.now c.note.new.lists
     c.args.own.now c.note.new.own c.requires.indexed c.in-Err.ensures.same_lists_on_error
     c.in-Err.ensures.same_own_on_error
 
-pub returns-in-Ok-insert-clause-indexed : goal.returns-in-Ok-insert-clause-indexed
-returns-in-Ok-insert-clause-indexed c = subst (λ es. IsIndexed es c.note.new.lists c.note.new.own)
-    (sym (c.in-Ok-insert.ensures.entries
-    ∙ ap (λ n. insert_entry nat_cmp c.args.kept.now.entries n c.args.made) c.serial-serial.ensures))
-    (indexed_with c.args.kept.now.entries c.args.made c.args.lists.now c.note.new.lists c.args.own.now
+pub returns-in-Ok-push-clause-indexed : goal.returns-in-Ok-push-clause-indexed
+returns-in-Ok-push-clause-indexed c = subst (λ es. IsIndexed es c.note.new.lists c.note.new.own)
+    (sym c.in-Ok-push.ensures.pushed)
+    (indexed_with c.args.kept.now c.args.made c.args.lists.now c.note.new.lists c.args.own.now
     c.note.new.own c.requires.indexed c.requires.some c.requires.latest c.in-Ok.ensures.lists c.in-Ok.ensures.own)
 
-pub returns-in-Ok-insert-clause-entered : goal.returns-in-Ok-insert-clause-entered
-returns-in-Ok-insert-clause-entered c = ap values_of (c.in-Ok-insert.ensures.entries
-    ∙ ap (λ n. insert_entry nat_cmp c.args.kept.now.entries n c.args.made) c.serial-serial.ensures)
-    ∙ values_with c.args.kept.now.entries c.args.made c.requires.indexed.by_serial c.requires.latest
+pub returns-in-Ok-push-clause-entered : goal.returns-in-Ok-push-clause-entered
+returns-in-Ok-push-clause-entered c = ap values_of c.in-Ok-push.ensures.pushed
+    ∙ values-push c.args.kept.now c.args.made.entry.serial c.args.made
 
-pub returns-clause-indexed : goal.returns-clause-indexed
-returns-clause-indexed c =
-    let es = c.args.kept.now.entries in
+pub returns-in-Err-push-clause-indexed : goal.returns-in-Err-push-clause-indexed
+returns-in-Err-push-clause-indexed c =
+    let es = c.args.kept.now in
     let made : UndoRecord = c.args.made in
-    let same = ap (λ p. p.1) c.in-Err-insert.ensures.value_returned in
-    subst (λ fs. IsIndexed fs c.forget.new.lists c.forget.new.own) (sym c.in-Err-insert.ensures.err)
+    let same = c.in-Err-push.ensures.returned in
+    subst (λ fs. IsIndexed fs c.forget.new.lists c.forget.new.own) (sym c.in-Err-push.ensures.unchanged_on_error)
     (indexed_same es c.args.lists.now c.forget.new.lists c.args.own.now c.forget.new.own c.requires.indexed
     (added_out made.footprint made.entry.serial c.args.lists.now c.note.new.lists c.forget.new.lists
     (fresh footprint_of (values_of es) c.args.lists.now made.entry.serial c.requires.indexed.touches

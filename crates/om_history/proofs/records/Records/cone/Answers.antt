@@ -8,4 +8,4 @@ use Rattle.om_history.proofs.records.Records.cone.Goals as goal
 
 pub returns : goal.returns
 returns c = rw (← c.self.view_is) (c.reverse.ensures.items ∙ ap reverse c.in_ok-names.ensures
-    ∙ reverse-map (cone c.args.serial (transitions_of (values_of c.self.inside.kept.entries))))
+    ∙ reverse-map (cone c.args.serial (transitions_of (values_of c.self.inside.kept))))

@@ -4,11 +4,11 @@ use Rattle.om_history.proofs.Replies.{last_if, none_if}
 use Rattle.om_history.proofs.records.Records.last.Goals as goal
 
 pub returns-clause-found : goal.returns-clause-found
-returns-clause-found c = rw (← c.self.view_is) (last_if (values_of c.self.inside.kept.entries) c.self.inside.own
-    c.args.worker c.last.result (rising 0 c.self.inside.kept.entries c.self.invariant.by_serial)
+returns-clause-found c = rw (← c.self.view_is) (last_if (values_of c.self.inside.kept) c.self.inside.own
+    c.args.worker c.last.result (rising 0 c.self.inside.kept c.self.invariant.by_serial)
     c.self.invariant.own_entries c.last.ensures)
 
 pub returns-clause-none : goal.returns-clause-none
-returns-clause-none c = rw (← c.self.view_is) (none_if (values_of c.self.inside.kept.entries) c.self.inside.own
-    c.args.worker c.last.result (rising 0 c.self.inside.kept.entries c.self.invariant.by_serial)
+returns-clause-none c = rw (← c.self.view_is) (none_if (values_of c.self.inside.kept) c.self.inside.own
+    c.args.worker c.last.result (rising 0 c.self.inside.kept c.self.invariant.by_serial)
     c.self.invariant.own_entries c.last.ensures)

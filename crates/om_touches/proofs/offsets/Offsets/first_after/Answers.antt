@@ -1,4 +1,4 @@
-use Rattle.std.proofs.Common.{◌≡◌, sym, subst, arith, ◌+◌, ◌<◌, ◌/◌, ◌^◌, None, Some}
+use Rattle.std.proofs.Common.{sym, subst, ◌+◌, ◌<◌, None, Some}
 use Rattle.om_touches.specs.Offsets.{has_offset}
 use Rattle.om_touches.specs.Touches.{IsFirst}
 use Rattle.om_touches.proofs.OffsetLemmas.{later-none, later-first, later-within, above_zero}

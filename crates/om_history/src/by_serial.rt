@@ -1,0 +1,152 @@
+//! Kept records by serial.
+
+ghost use Rattle.std.specs.Prelude.{◌≡◌, ℕ, ◌<◌, ◌∷◌, ◌++◌, [], Some, None, IfSome, IfNone, OnOk, OnErr, IfErr, slice_get};
+ghost use Rattle.std.specs.Ordering.{nat_cmp};
+ghost use Rattle.std.specs.BTreeMap.{is_at};
+ghost use Rattle.std.specs.Map.{lookup, remove_entry};
+ghost use Rattle.om_history.specs.Rows.{entries_in, AreRising, LastStands, IsAboveAll};
+ghost use Rattle.om_history.specs.declared.by_serial.Row.{Row};
+
+use crate::kept::Kept;
+use std::alloc::{AllocError, Global};
+use std::marker::Model;
+
+/// The place of a serial. It stays where its record is taken out, so that no other one moves.
+#[derive(Drop)]
+pub(crate) struct Row {
+    serial: u64,
+    pub kept: Option<Kept>,
+}
+
+/// Kept records by serial: most that come are behind all others, and are found by a binary search.
+///
+/// Contracts see each record with its serial; the serials rise.
+#[derive(Drop)]
+pub(crate) struct BySerial {
+    rows: Vec<Row>,
+}
+
+impl Model for BySerial {
+    ghost use Rattle.std.specs.Prelude.{ℕ, List};
+    ghost use Rattle.om_history.specs.declared.records.UndoRecord.{UndoRecord};
+    ghost use Rattle.om_history.specs.Rows.{entries_in, AreRising};
+
+    ghost Value = { List (ℕ × UndoRecord) };
+
+    ghost view = { λ b. entries_in b.rows.items };
+
+    ghost invariant = { λ b. AreRising 0 b.rows.items };
+}
+
+/// The place of a serial among rows, if it has one.
+fn place(rows: &[Row], serial: u64) -> Option<usize>
+    requires { AreRising 0 rows.now }
+    ensures found { IfSome result
+        (λ i. (r : Row) × (slice_get rows.now i ≡ Some r) × (r.serial ≡ serial)) }
+    ensures none { IfNone result (lookup (is_at (nat_cmp serial)) (entries_in rows.now) ≡ None) }
+{
+    let place = rows.partition_point(|row| row.serial < serial);
+    match rows.get(place) {
+        Some(row) if row.serial == serial => Some(place),
+        _ => None,
+    }
+}
+
+/// Takes out the rows without a record behind the last one that has it. It takes no memory.
+fn drop_gone(rows: &mut Vec<Row>)
+    requires { AreRising 0 rows.old.items }
+    ensures same { entries_in rows.new.items ≡ entries_in rows.old.items }
+    ensures rising { AreRising 0 rows.new.items }
+    ensures last { LastStands rows.new.items }
+{
+    while let Some(row) = rows.last() {
+        if row.kept.is_some() {
+            return;
+        }
+        drop(rows.pop());
+    }
+}
+
+/// Makes room for one more row. Where there is none, all rows without a record go, and then at least
+/// half of the room is free: so the time of this is a constant for each row that comes. When out of
+/// memory, the records are the same.
+fn make_room(rows: &mut Vec<Row>) -> Result<(), AllocError>
+    requires rising { AreRising 0 rows.old.items }
+    requires last { LastStands rows.old.items }
+    ensures same { entries_in rows.new.items ≡ entries_in rows.old.items }
+    ensures rising { AreRising 0 rows.new.items }
+    ensures last { LastStands rows.new.items }
+{
+    if rows.len() < rows.capacity() {
+        return Ok(());
+    }
+    rows.retain(|row| row.kept.is_some());
+    rows.reserve(rows.len().max(1))
+}
+
+impl BySerial {
+    /// No records. It takes no memory.
+    pub(crate) fn new(alloc: Global) -> BySerial
+        ensures { result ≡ [] }
+    {
+        BySerial {
+            rows: Vec::new(alloc),
+        }
+    }
+
+    /// The rows of the records, in the order of their serials.
+    pub(crate) fn rows(&self) -> &[Row]
+        ensures { entries_in result.now ≡ self.now }
+    {
+        self.rows.as_slice()
+    }
+
+    /// The record with a serial.
+    pub(crate) fn get(&self, serial: u64) -> Option<&Kept>
+        ensures found { IfSome result (λ k. lookup (is_at (nat_cmp serial)) self.now ≡ Some k.now) }
+        ensures none { IfNone result (lookup (is_at (nat_cmp serial)) self.now ≡ None) }
+    {
+        match place(self.rows.as_slice(), serial) {
+            Some(i) => self.rows[i].kept.as_ref(),
+            None => None,
+        }
+    }
+
+    /// Adds a record behind all others. When out of memory, no record changes, and this one comes
+    /// back.
+    pub(crate) fn push(&mut self, made: Kept) -> Result<(), Kept>
+        requires some { 0 < made.entry.serial }
+        requires latest { IsAboveAll made.entry.serial self.old }
+        ensures pushed { OnOk result (self.new ≡ self.old ++ (made.entry.serial, made) ∷ []) }
+        ensures unchanged_on_error { OnErr result (self.new ≡ self.old) }
+        ensures returned { IfErr result (λ k. k ≡ made) }
+    {
+        drop_gone(&mut self.rows);
+        if make_room(&mut self.rows).is_err() {
+            return Err(made);
+        }
+        let row = Row {
+            serial: made.serial(),
+            kept: Some(made),
+        };
+        match self.rows.push(row) {
+            Ok(()) => Ok(()),
+            Err(refused) => match refused.value.kept {
+                Some(made) => Err(made),
+                None => unreachable!(),
+            },
+        }
+    }
+
+    /// Takes the record with a serial out. It takes no memory, and moves no other record.
+    pub(crate) fn take(&mut self, serial: u64) -> Option<Kept>
+        ensures taken { self.new ≡ remove_entry (is_at (nat_cmp serial)) self.old }
+        ensures found { IfSome result (λ k. lookup (is_at (nat_cmp serial)) self.old ≡ Some k) }
+        ensures none { IfNone result (lookup (is_at (nat_cmp serial)) self.old ≡ None) }
+    {
+        match place(self.rows.as_slice(), serial) {
+            Some(i) => self.rows[i].kept.take(),
+            None => None,
+        }
+    }
+}
