@@ -1,2 +1,4 @@
 pub mod Counting
 pub mod Pigeons
+pub mod Backed
+pub mod Distinct

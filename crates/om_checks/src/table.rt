@@ -2,7 +2,7 @@
 
 ghost use Rattle.std.specs.Prelude.{◌≡◌, ◌≢◌, length, vec_len};
 ghost use Rattle.std.specs.List.{AllPairs};
-ghost use Rattle.om_orders.specs.Rounds.{in_rounds};
+ghost use Rattle.om_book.specs.Rounds.{in_rounds};
 
 use crate::book_of_two::BookOfTwo;
 use om_book::{Blank, Closed, Session, Sitting};

@@ -3,9 +3,9 @@ use Rattle.std.specs.Prelude.{◌≡◌, ◌<◌, ◌+◌, ℕ, List, [], ◌∷
 use Rattle.std.specs.Prelude.{Result, Ok, Err, OnErr}
 use Rattle.std.proofs.Common.{sym, ◌∙◌, ap, arith, add-one, drop, get_or, drop-cons, append_assoc, append-nil}
 use Rattle.std.proofs.lemmas.List.{take-append-drop, take_all, map-append}
-use Rattle.om_orders.specs.declared.order.Answer.{Answer}
-use Rattle.om_orders.specs.Rounds.{answer_number, listed, round_at, Part, Begins}
-use Rattle.om_orders.specs.declared.order.Order.{Order}
+use Rattle.om_book.specs.declared.order.Answer.{Answer}
+use Rattle.om_book.specs.Rounds.{answer_number, listed, round_at, Part, Begins}
+use Rattle.om_book.specs.declared.order.Order.{Order}
 
 pub round_next : {V : Type 0} (items : V → List Order) (k : ℕ) (vs : List V) (i : ℕ) (v : V) → i < length vs → v
     ≡ get_or vs i v

@@ -1,12 +1,12 @@
 //! Workers in threads of their own, asked round by round.
 
 ghost use Rattle.std.specs.Prelude.{◌≡◌, ◌≤◌, ◌+◌, ◌++◌, [], IfOk, IfErr, None, Some, length, vec_len, vec_capacity, map};
-ghost use Rattle.om_orders.specs.Rounds.{answer_number, in_rounds, Begins};
+ghost use Rattle.om_book.specs.Rounds.{answer_number, in_rounds, Begins};
 
 use crate::rounds::{ask_all, push_within};
 use crate::worker::{Debuggee, Gate, Worker};
 use crossbeam_channel::{Receiver, Sender, bounded};
-use om_orders::{Answer, Fault, Order};
+use om_book::{Answer, Fault, Order};
 use std::alloc::Global;
 use std::snapshot::Snapshot;
 use std::sync::Wait;

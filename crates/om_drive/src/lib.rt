@@ -14,7 +14,7 @@ mod worker;
 pub use driving::{DrivenOver, drive_over};
 pub use free_run::{Count, Errand, run_freely};
 pub use freely::{Freed, free};
-pub use om_orders::{Answer, Fault, KeptAnswers, Order, Rows, keep_backed, numbers_differ};
+pub use om_book::{Answer, Fault, KeptAnswers, Order, Rows, keep_backed, numbers_differ};
 pub use rounds::{Gathered, gather};
 pub use seats::{Driven, drive};
 pub use worker::{Debuggee, Gate, Worker};

@@ -1,10 +1,10 @@
 //! Rounds: in each, every list that still has an order gets its next one asked and answered.
 
 ghost use Rattle.std.specs.Prelude.{◌≡◌, ℕ, ◌<◌, ◌≤◌, ◌+◌, ◌++◌, ◌∷◌, [], IfOk, OnOk, OnErr, None, length, vec_len, vec_capacity, map, take};
-ghost use Rattle.om_orders.specs.Rounds.{answer_number, listed, round_at, in_rounds, Begins};
+ghost use Rattle.om_book.specs.Rounds.{answer_number, listed, round_at, in_rounds, Begins};
 
 use crossbeam_channel::{Receiver, SendError, Sender};
-use om_orders::{Answer, Fault, Order, most_rounds, order_at};
+use om_book::{Answer, Fault, Order, most_rounds, order_at};
 use std::alloc::{AllocError, Global};
 use std::sync::Wait;
 

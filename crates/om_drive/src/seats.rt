@@ -3,14 +3,13 @@
 ghost use Rattle.std.specs.Prelude.{◌≡◌, ◌≢◌, [], None, Some, All, IfOk, length, vec_len, map};
 ghost use Rattle.std.specs.List.{AllPairs};
 ghost use Rattle.om_book.specs.Standing.{number_of};
-ghost use Rattle.om_orders.specs.Rounds.{answer_number, in_rounds};
-ghost use Rattle.om_orders.specs.Backing.{AreKept, in_turns, IsOfOne, Keeps};
+ghost use Rattle.om_book.specs.Rounds.{answer_number, in_rounds};
+ghost use Rattle.om_book.specs.Backing.{AreKept, in_turns, IsOfOne, Keeps};
 
 use crate::driving::{DrivenOver, drive_over};
 use crate::sitter::{sit_down, stand_up};
 use crate::worker::Gate;
-use om_book::{Seat, Session, Sitting};
-use om_orders::{Answer, Fault, KeptAnswers, Order, Rows, keep_backed};
+use om_book::{Answer, Fault, KeptAnswers, Order, Rows, Seat, Session, Sitting, keep_backed};
 use std::alloc::{AllocError, Global};
 use std::sync::Wait;
 use std::thread::Threads;
@@ -33,7 +32,7 @@ pub struct Driven<L: Sitting> {
 /// come. Each answer with a reply has its receipt: its seat was told the order of its number, and
 /// has the receipt of the order's command with that reply, at the answer's place. An answer without
 /// its receipt is left out, and that one alone (V1).
-#[tactic(auto, using(om_orders::specs::KeptAnswers::none_kept, om_orders::specs::KeptAnswers::none_backed))]
+#[tactic(auto, using(om_book::specs::KeptAnswers::none_kept, om_book::specs::KeptAnswers::none_backed))]
 pub fn drive<L: Sitting + Send + Sync, G: Gate + Drop + Send, R: Threads + Wait + Sync>(
     session: &Session<L>,
     rt: &R,
@@ -103,7 +102,7 @@ struct Came {
 
 /// Compares the answers with the receipts. An answer without its receipt is left out, which is a
 /// fault.
-#[tactic(auto, using(om_orders::specs::KeptAnswers::kept_backed))]
+#[tactic(auto, using(om_book::specs::KeptAnswers::kept_backed))]
 fn compared<L: Sitting>(
     seats: Vec<Seat<L>>,
     orders: &[Vec<Order>],

@@ -6,8 +6,7 @@ ghost use Rattle.om_book.specs.declared.receipt.Receipt.{Receipt};
 ghost use Rattle.om_drive.specs.Calls.{Place, last_place_in};
 
 use crossbeam_channel::{Receiver, Sender};
-use om_book::{CallError, Command, Reply};
-use om_orders::{Answer, Order};
+use om_book::{Answer, CallError, Command, Order, Reply};
 use std::sync::Wait;
 
 /// What is driven: a session with a seat, or a fake.

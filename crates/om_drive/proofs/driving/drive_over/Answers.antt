@@ -1,5 +1,5 @@
 use Rattle.std.proofs.Common.{rules, ◌≡◌, []}
-use Rattle.om_orders.specs.Rounds.{in_rounds}
+use Rattle.om_book.specs.Rounds.{in_rounds}
 use Rattle.om_drive.proofs.Rounding.{begins_none}
 use Rattle.om_drive.proofs.driving.drive_over.Goals as goal
 

@@ -1,6 +1,6 @@
 use Rattle.std.proofs.Common.{rules, refl, ◌≡◌, ℕ, ◌+◌, ◌-◌, ◌++◌, List, map, subst}
-use Rattle.om_orders.specs.Rounds.{answer_number, in_rounds, rounds, round_at, Part, Begins}
-use Rattle.om_orders.specs.KeptAnswers.{rounds_next}
+use Rattle.om_book.specs.Rounds.{answer_number, in_rounds, rounds, round_at, Part, Begins}
+use Rattle.om_book.specs.KeptAnswers.{rounds_next}
 use Rattle.om_drive.proofs.Rounding.{part_more, part_begins, begins_same, on_err}
 use Rattle.om_drive.proofs.rounds.ask_all.Goals as goal
 

@@ -1,5 +1,5 @@
 use Rattle.std.proofs.Common.{map, ◌-◌}
-use Rattle.om_orders.specs.Rounds.{answer_number, rounds, in_rounds, Part}
+use Rattle.om_book.specs.Rounds.{answer_number, rounds, in_rounds, Part}
 use Rattle.om_drive.proofs.rounds.ask_all.Given as goal
 
 abbrev pub invariant-loop-round : goal.invariant-loop-round

@@ -1,5 +1,5 @@
 use Rattle.std.proofs.Common.{◌≡◌, ◌++◌, vec_len, drop}
-use Rattle.om_orders.specs.Rounds.{round_at}
+use Rattle.om_book.specs.Rounds.{round_at}
 use Rattle.om_drive.proofs.rounds.awaited_in.Given as goal
 
 abbrev pub invariant-loop-i : goal.invariant-loop-i

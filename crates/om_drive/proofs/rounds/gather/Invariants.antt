@@ -1,5 +1,5 @@
 use Rattle.std.proofs.Common.{◌≡◌, vec_len, map, take}
-use Rattle.om_orders.specs.Rounds.{answer_number}
+use Rattle.om_book.specs.Rounds.{answer_number}
 use Rattle.om_drive.proofs.rounds.gather.Given as goal
 
 abbrev pub invariant-loop-i : goal.invariant-loop-i

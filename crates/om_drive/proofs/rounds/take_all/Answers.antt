@@ -1,5 +1,5 @@
 use Rattle.std.proofs.Common.{◌∙◌, ◌++◌, ap, map, take, vec_len}
-use Rattle.om_orders.specs.Rounds.{answer_number}
+use Rattle.om_book.specs.Rounds.{answer_number}
 use Rattle.om_drive.proofs.Rounding.{begins_same_yet, gathered_some}
 use Rattle.om_drive.proofs.rounds.take_all.Goals as goal
 

@@ -1,5 +1,5 @@
 use Rattle.std.proofs.Common.{List, ℕ, OnErr, map, subst}
-use Rattle.om_orders.specs.Rounds.{answer_number, round_at, Begins}
+use Rattle.om_book.specs.Rounds.{answer_number, round_at, Begins}
 use Rattle.om_drive.proofs.Rounding.{begins_none}
 use Rattle.om_drive.proofs.rounds.take_round.Goals as goal
 

@@ -1,7 +1,7 @@
 use Rattle.std.proofs.Common.{List, subst}
 use Rattle.om_book.specs.Seats.{SeatView}
-use Rattle.om_orders.specs.Backing.{in_turns, Keeps}
-use Rattle.om_orders.specs.KeptAnswers.{kept_backed}
+use Rattle.om_book.specs.Backing.{in_turns, Keeps}
+use Rattle.om_book.specs.KeptAnswers.{kept_backed}
 use Rattle.om_drive.proofs.seats.compared.Goals as goal
 
 pub returns-clause-backed : goal.returns-clause-backed

@@ -1,5 +1,5 @@
 use Rattle.std.proofs.Common.{rules, ◌≡◌, map, List, ℕ}
-use Rattle.om_orders.specs.Rounds.{answer_number, in_rounds}
+use Rattle.om_book.specs.Rounds.{answer_number, in_rounds}
 use Rattle.om_drive.proofs.Rounding.{begins_same_yet}
 use Rattle.om_drive.proofs.driving.Ring.ask.Goals.{then-is_none, else-is_none}
 use Rattle.om_drive.proofs.driving.Ring.ask.Goals as goal

@@ -1,0 +1,70 @@
+//! The numbers of orders, round by round.
+
+ghost use Rattle.std.specs.Prelude.{◌≡◌, ◌≢◌, ◌↔◌, ◌++◌, IsTrue, IfOk, OnOk};
+ghost use Rattle.std.specs.List.{AllPairs};
+ghost use Rattle.std.specs.Ordering.{nat_cmp};
+ghost use Rattle.std.specs.BTreeSet.{IsFromIterResult};
+ghost use Rattle.om_book.specs.Rounds.{listed, round_at, in_rounds};
+
+use crate::order::Order;
+use crate::rounds::{most_rounds, order_at};
+use std::alloc::{AllocError, Global};
+use std::collections::BTreeSet;
+
+/// Whether no two orders have one number. Its only error is out of memory.
+pub fn numbers_differ(alloc: Global, orders: &[Vec<Order>]) -> Result<bool, AllocError>
+    ensures { IfOk result (λ differ. IsTrue differ
+        ↔ AllPairs (λ n m. n ≢ m) (in_rounds (λ o. o.items) orders.now)) }
+{
+    let numbers = numbers_in(alloc, orders)?;
+    are_distinct(alloc, numbers.as_slice())
+}
+
+/// The numbers of all orders, round by round.
+fn numbers_in(alloc: Global, orders: &[Vec<Order>]) -> Result<Vec<u64>, AllocError>
+    ensures { IfOk result (λ numbers. numbers.items ≡ in_rounds (λ o. o.items) orders.now) }
+{
+    let mut numbers = Vec::new(alloc);
+    let most = most_rounds(orders);
+    for round in 0..most {
+        add_round(&mut numbers, orders, round)?;
+    }
+    Ok(numbers)
+}
+
+/// Adds the numbers of a round.
+fn add_round(numbers: &mut Vec<u64>, orders: &[Vec<Order>], round: usize) -> Result<(), AllocError>
+    ensures { OnOk result (numbers.new.items
+        ≡ numbers.old.items ++ round_at (λ o. o.items) round orders.now) }
+{
+    for i in 0..orders.len() {
+        add_number(numbers, order_at(&orders[i], round))?;
+    }
+    Ok(())
+}
+
+/// Adds the number of an order, where there is one.
+fn add_number(numbers: &mut Vec<u64>, order: Option<Order>) -> Result<(), AllocError>
+    ensures { OnOk result (numbers.new.items ≡ numbers.old.items ++ listed order) }
+{
+    if let Some(order) = order {
+        numbers.push(order.number)?;
+    }
+    Ok(())
+}
+
+/// Whether no two of these numbers are the same: then a set of them has as many.
+#[tactic(auto, using(crate::proofs::Distinct::as_many_differ))]
+fn are_distinct(alloc: Global, numbers: &[u64]) -> Result<bool, AllocError>
+    ensures { IfOk result (λ differ. IsTrue differ ↔ AllPairs (λ n m. n ≢ m) numbers.now) }
+{
+    let different = set_of(alloc, numbers)?;
+    Ok(different.len() == numbers.len())
+}
+
+/// The set of these numbers.
+fn set_of(alloc: Global, numbers: &[u64]) -> Result<BTreeSet<u64>, AllocError>
+    ensures { IfOk result (IsFromIterResult nat_cmp numbers.now) }
+{
+    numbers.iter().copied().collect(alloc)
+}

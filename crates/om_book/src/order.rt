@@ -1,0 +1,36 @@
+//! Orders, their answers, and what breaks a drive off.
+
+ghost use Rattle.std.specs.Prelude.{◌↔◌, IsSome, IsOk};
+
+use om_journal::{CallError, Command, Reply};
+
+/// A call that a worker is told to make.
+#[derive(Clone, Copy)]
+pub struct Order {
+    pub number: u64,
+    pub command: Command,
+}
+
+/// What came of an order.
+#[derive(Drop)]
+pub struct Answer {
+    /// The number of its order.
+    pub number: u64,
+    pub reply: Result<Reply, CallError>,
+    /// Whether the gate said no to the end.
+    pub late: bool,
+    /// The place of its record in the journal; none exactly where the reply is an error.
+    pub place: Option<u64>,
+    pub ghost placed: { IsSome place ↔ IsOk reply },
+}
+
+/// What breaks a drive off.
+#[derive(Clone, Copy)]
+pub enum Fault {
+    /// V1: an answer of a strange number, or one for which its seat has no receipt.
+    Strange,
+    /// V2: a channel was closed.
+    Closed,
+    /// V3: there was no memory, or no thread.
+    Memory,
+}

@@ -1,2 +1,0 @@
-pub mod Backed
-pub mod Distinct

@@ -1,7 +1,0 @@
-use Rattle.std.proofs.Common.{◌≡◌, max, drop}
-use Rattle.om_orders.specs.Rounds.{longest}
-use Rattle.om_orders.proofs.rounds.most_rounds.Given as goal
-
-abbrev pub invariant-loop-list : goal.invariant-loop-list
-invariant-loop-list l = max l.most (longest (λ o. o.items) (drop l.list-index l.orders)) ≡ longest (λ o. o.items)
-    l.orders
