@@ -3,8 +3,7 @@
 ghost use Rattle.std.specs.Prelude.{◌≡◌, ◌≤◌, ◌↔◌, IsTrue, length};
 ghost use Rattle.om_book.specs.Standing.{Stands, Counts};
 
-use om_journal::{Command, JournalRecord, KeptCommand, Reply};
-use om_same::Same;
+use om_journal::{Command, JournalRecord, KeptCommand, Reply, Same};
 use std::mem::size_of;
 
 /// A call of a seat that was answered.

@@ -1,3 +1,4 @@
+pub mod Lists
 pub mod Growing
 pub mod Rolls
 pub mod Undos

@@ -3,8 +3,8 @@
 ghost use Rattle.std.specs.Prelude.{◌↔◌, IsTrue};
 ghost use Rattle.om_journal.specs.Runs.{IsInRange};
 
+use crate::same::Same;
 use om_foot::Obj;
-use om_same::Same;
 use om_task::Choice;
 
 /// What is asked about the state where the machine stands.

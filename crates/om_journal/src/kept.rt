@@ -4,8 +4,8 @@ ghost use Rattle.std.specs.Prelude.{◌≡◌, IfOk, OnErr, true};
 ghost use Rattle.om_journal.specs.Kept.{command_in, object_in, undo_reply_in, is_conflict};
 
 use crate::command::{Command, Query};
+use crate::same::Same;
 use om_foot::{Name, Obj};
-use om_same::Same;
 use om_task::Choice;
 use om_undo::UndoReply;
 use std::alloc::{AllocError, Global};

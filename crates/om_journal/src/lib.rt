@@ -1,13 +1,24 @@
-//! The book of a machine: the journal of its calls, beside the machine that they leave.
+//! The layer of books: the journal of a machine's calls, and whether two values of the machine are the same.
+//!
+//! A book has its journal beside the machine that its calls leave.
 #![tactic(auto)]
 
 mod book;
+mod code;
 mod command;
+mod control;
+mod event;
+mod foot;
 mod kept;
+mod machine_reply;
 mod replies;
 mod reply;
+mod same;
+mod step;
+mod value;
 
 pub use book::{Book, CallError, JournalRecord, MAX_RECORDS};
 pub use command::{Command, Query};
 pub use kept::{KeptCommand, KeptUndoReply};
 pub use reply::Reply;
+pub use same::{Same, same_items};

@@ -4,9 +4,9 @@ ghost use Rattle.std.specs.Prelude.{◌≡◌, IfOk};
 ghost use Rattle.om_journal.specs.Runs.{is_step_made};
 
 use crate::kept::KeptUndoReply;
+use crate::same::Same;
 use om_cells::Val;
 use om_foot::Name;
-use om_same::Same;
 use om_seq::Seq;
 use om_undo::{Entry, RollReply, StepReply};
 use std::alloc::{AllocError, Global};
