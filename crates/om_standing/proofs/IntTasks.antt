@@ -36,12 +36,12 @@ use Rattle.om_fork.specs.Barriers.{is_open}
 use Rattle.om_fork.specs.Teams.{first_busy, member, member_controls, member_puts, size_of}
 use Rattle.om_fork.specs.Rows.{forked, team_of, named_row, sized_row, fork_row, is_misplaced_barrier, arrive_row, kept}
 use Rattle.om_fork.specs.Rows.{departed, depart_row, left, leave_row, value_of, finished, finished_row, finish_row}
-use Rattle.om_spawn.specs.declared.start.Starting.{Starting}
-use Rattle.om_spawn.specs.declared.task.Making.{Making}
-use Rattle.om_spawn.specs.Tasks.{born, group_of, innermost_group}
-use Rattle.om_spawn.specs.Rows.{made_row, given_row as values_row, spawn_row, ended_row, end_row_of, task_end_row}
-use Rattle.om_spawn.specs.Rows.{waited, wait_end_row, opened_row, group_begin_row, closed, closed_row, group_end_row}
-use Rattle.om_spawn.specs.Rows.{ready_for, started, started_row, start_row}
+use Rattle.om_task.specs.declared.task_start.Starting.{Starting}
+use Rattle.om_task.specs.declared.task.Making.{Making}
+use Rattle.om_task.specs.Tasks.{born, group_of, innermost_group}
+use Rattle.om_task.specs.Rows.{made_row, given_row as values_row, spawn_row, ended_row, end_row_of, task_end_row}
+use Rattle.om_task.specs.Rows.{waited, wait_end_row, opened_row, group_begin_row, closed, closed_row, group_end_row}
+use Rattle.om_task.specs.Rows.{ready_for, started, started_row, start_row}
 use Rattle.om_standing.specs.Ints.{IsInt, AreFew, IsIntOperand, HoldsInt, FrameHasInts, ConstructHasInts}
 use Rattle.om_standing.specs.Ints.{IsSmall, ContextHasInts, ValueHasInts}
 use Rattle.om_standing.proofs.IntEdits.{UpdatesHaveInts, RowHasInts, AskedHasInts, if_asked}

@@ -28,7 +28,7 @@ use Rattle.om_steps.specs.declared.row.Row.TheVariants as row
 use Rattle.om_steps.specs.Objects.{innermost}
 use Rattle.om_share.specs.Rows.{share_in}
 use Rattle.om_fork.specs.Rows.{value_of}
-use Rattle.om_spawn.specs.Tasks.{innermost_group}
+use Rattle.om_task.specs.Tasks.{innermost_group}
 use Rattle.om_task.specs.Rules.{rules_of, choice_row, leaving, admits_all, further_in, row_in, outcome_after}
 use Rattle.om_team.specs.Sites.{site}
 use Rattle.om_team.specs.Sites.{Site, context, operands, next, slots, line, launch, body_of, lock_of, targets_of}

@@ -51,14 +51,14 @@ use Rattle.om_share.specs.Rows.{chunk_row, grab_row, value_row, int_of, iteratio
 use Rattle.om_share.specs.Rows.{is_section, is_loop, is_member, is_masked, is_critical, is_right_form, pick_row}
 use Rattle.om_share.specs.Rows.{chosen_row, single_row, end_worksharing_row, filtered_row, masked_row, end_masked_row}
 use Rattle.om_share.specs.Rows.{lock_row, enter_critical_row, leave_critical_row}
-use Rattle.om_spawn.specs.declared.start.Starting.{Starting}
-use Rattle.om_spawn.specs.declared.task.Making.{Making}
+use Rattle.om_task.specs.declared.task_start.Starting.{Starting}
+use Rattle.om_task.specs.declared.task.Making.{Making}
 use Rattle.om_steps.specs.Rows.{is_zero}
-use Rattle.om_spawn.specs.Tasks.{born}
-use Rattle.om_spawn.specs.Rows.{made_row, given_row, spawn_row, ended_row, end_row_of, task_end_row, waited}
-use Rattle.om_spawn.specs.Rows.{wait_end_row, opened_row, group_begin_row, closed, closed_row}
+use Rattle.om_task.specs.Tasks.{born}
+use Rattle.om_task.specs.Rows.{made_row, given_row, spawn_row, ended_row, end_row_of, task_end_row, waited}
+use Rattle.om_task.specs.Rows.{wait_end_row, opened_row, group_begin_row, closed, closed_row}
 use Rattle.om_fork.specs.Rows.{finished, finished_row}
-use Rattle.om_spawn.specs.Rows.{ready_for, started, started_row, start_row}
+use Rattle.om_task.specs.Rows.{ready_for, started, started_row, start_row}
 use Rattle.om_standing.specs.Ints.{ShareHasInts}
 use Rattle.om_standing.specs.Reasons.{is_in_loop, HasNoSection, is_worksharing}
 use Rattle.om_standing.specs.Standing.{IsMember, HasParent}

@@ -53,15 +53,15 @@ use Rattle.om_steps.specs.Begins.{first_frame}
 use Rattle.om_fork.specs.Teams.{first_busy, member, member_controls, member_puts, size_of}
 use Rattle.om_fork.specs.Rows.{forked, team_of, named_row, sized_row, fork_row, begin_row, is_misplaced_barrier}
 use Rattle.om_fork.specs.Rows.{arrive_row, kept, departed, depart_row, left, leave_row}
-use Rattle.om_spawn.specs.declared.start.Starting.{Starting}
-use Rattle.om_spawn.specs.declared.task.Making.{Making}
+use Rattle.om_task.specs.declared.task_start.Starting.{Starting}
+use Rattle.om_task.specs.declared.task.Making.{Making}
 use Rattle.om_steps.specs.Rows.{is_zero}
-use Rattle.om_spawn.specs.Tasks.{born, group_of, innermost_group, ready_of}
-use Rattle.om_spawn.specs.Rows.{made_row, given_row, spawn_row, ended_row, end_row_of, task_end_row, wait_begin_row}
-use Rattle.om_spawn.specs.Rows.{waited, wait_end_row, opened_row, group_begin_row, closed, closed_row, group_end_row}
+use Rattle.om_task.specs.Tasks.{born, group_of, innermost_group, ready_of}
+use Rattle.om_task.specs.Rows.{made_row, given_row, spawn_row, ended_row, end_row_of, task_end_row, wait_begin_row}
+use Rattle.om_task.specs.Rows.{waited, wait_end_row, opened_row, group_begin_row, closed, closed_row, group_end_row}
 use Rattle.om_fork.specs.Rows.{value_of, finished, finished_row, finish_row}
-use Rattle.om_spawn.specs.Rows.{ready_for, started, started_row}
-use Rattle.om_spawn.specs.Rows.{start_row}
+use Rattle.om_task.specs.Rows.{ready_for, started, started_row}
+use Rattle.om_task.specs.Rows.{start_row}
 use Rattle.om_standing.specs.Standing.{Owned, IsStandingFrame, IsStandingContext, IsStandingControl, IsStandingTask}
 use Rattle.om_standing.specs.Standing.{IsStandingValue, IsStanding, IsMember, HasParent, IsNotReady}
 use Rattle.om_standing.proofs.Bounds.{AllPutStanding, RowStands, RowMakes, AskedStands, Leads, changed_stands}

@@ -17,7 +17,7 @@ use Rattle.om_cells.specs.State.{State, value_after, state_after, updated}
 use Rattle.om_cells.specs.Values.{value_plus, value_with}
 use Rattle.om_steps.specs.Objects.{deaths}
 use Rattle.om_steps.specs.SerialRows.{unsets}
-use Rattle.om_spawn.specs.Tasks.{additions}
+use Rattle.om_task.specs.Tasks.{additions}
 
 -- of each count, of any output and of any records
 pub record IsOfAll (P : Val → Type 0) : Type 0 where

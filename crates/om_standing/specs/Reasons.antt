@@ -14,7 +14,7 @@ use Rattle.om_cells.specs.declared.control.Share.{Share}
 use Rattle.om_cells.specs.declared.control.Stack.{Stack}
 use Rattle.om_steps.specs.Objects.{innermost}
 use Rattle.om_share.specs.Rows.{share_in, is_loop, is_section, is_right_form, is_masked, is_critical}
-use Rattle.om_spawn.specs.Tasks.{innermost_group}
+use Rattle.om_task.specs.Tasks.{innermost_group}
 use Rattle.om_team.specs.Sites.{targets_of}
 
 -- one of so many operands on top is what a call gave whose function returned no value

@@ -22,7 +22,7 @@ use Rattle.om_steps.specs.Rows.{Asked, decided}
 use Rattle.om_steps.specs.Objects.{object_of, slot_cells, given_cells, own_slot, own_from, own_cells, home_at, events}
 use Rattle.om_fork.specs.Barriers.{arrivals, barrier}
 use Rattle.om_fork.specs.Teams.{member_cells}
-use Rattle.om_spawn.specs.Tasks.{counts}
+use Rattle.om_task.specs.Tasks.{counts}
 use Rattle.om_task.specs.Shapes.{is_trailed, IsControl, IsShapedAt, AreShaped}
 
 -- the updates of a row are shaped along its names

@@ -30,12 +30,12 @@ use Rattle.om_steps.specs.Objects.{own_cells, innermost}
 use Rattle.om_steps.specs.SerialRows.{touch_row, serial_row, slots_in, number_row, call_row, return_row, reduce_row}
 use Rattle.om_fork.specs.Rows.{begin_row, reached_row, is_misplaced_barrier, arrive_row, depart_row, left_row, leave_row}
 use Rattle.om_fork.specs.Rows.{value_of, finished_row, finish_row}
-use Rattle.om_spawn.specs.declared.start.Starting.{Starting}
-use Rattle.om_spawn.specs.declared.task.Making.{Making}
-use Rattle.om_spawn.specs.Tasks.{born, group_of, innermost_group}
-use Rattle.om_spawn.specs.Rows.{made_row, given_row, spawn_row, ended_row, end_row_of, task_end_row, wait_begin_row}
-use Rattle.om_spawn.specs.Rows.{wait_end_row, task_yield_row, opened_row, group_begin_row, closed_row, group_end_row}
-use Rattle.om_spawn.specs.Rows.{started_row, start_row}
+use Rattle.om_task.specs.declared.task_start.Starting.{Starting}
+use Rattle.om_task.specs.declared.task.Making.{Making}
+use Rattle.om_task.specs.Tasks.{born, group_of, innermost_group}
+use Rattle.om_task.specs.Rows.{made_row, given_row, spawn_row, ended_row, end_row_of, task_end_row, wait_begin_row}
+use Rattle.om_task.specs.Rows.{wait_end_row, task_yield_row, opened_row, group_begin_row, closed_row, group_end_row}
+use Rattle.om_task.specs.Rows.{started_row, start_row}
 use Rattle.om_task.proofs.NoControls.{AskedShaped, none_append, object_none, slot_none, given_none, own_none}
 use Rattle.om_task.proofs.NoControls.{barrier_none, counts_none, plain, by_control, if_asked}
 

@@ -17,7 +17,7 @@ use Rattle.om_cells.specs.declared.value.Val.{Val}
 use Rattle.om_cells.specs.Rules.{step_at}
 use Rattle.om_cells.specs.State.{values_read}
 use Rattle.om_cells.specs.Values.{control_in}
-use Rattle.om_spawn.specs.Rows.{started_row}
+use Rattle.om_task.specs.Rows.{started_row}
 use Rattle.om_task.specs.Laws.{StartsAtSchedulingPoints}
 use Rattle.om_task.specs.Rules.{further_in, is_at_scheduling_point, leaving, outcome_after, row_in}
 

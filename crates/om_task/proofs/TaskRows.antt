@@ -49,15 +49,15 @@ use Rattle.om_fork.specs.Barriers.{barrier, is_open}
 use Rattle.om_fork.specs.Teams.{first_busy, member_controls, member_puts}
 use Rattle.om_fork.specs.Rows.{forked, team_row, team_of, named_row, sized_row, fork_row, begin_row, reached_row}
 use Rattle.om_fork.specs.Rows.{is_misplaced_barrier, arrive_row, kept, departed, depart_row, left, left_row, leave_row}
-use Rattle.om_spawn.specs.declared.start.Starting.{Starting}
-use Rattle.om_spawn.specs.declared.task.Making.{Making}
+use Rattle.om_task.specs.declared.task_start.Starting.{Starting}
+use Rattle.om_task.specs.declared.task.Making.{Making}
 use Rattle.om_steps.specs.Rows.{is_zero}
-use Rattle.om_spawn.specs.Tasks.{born, group_of, innermost_group, counts, additions, task_context}
-use Rattle.om_spawn.specs.Rows.{made_row, given_row, spawn_row, ended_row, end_row_of, task_end_row, wait_begin_row}
-use Rattle.om_spawn.specs.Rows.{waited, wait_end_row, task_yield_row, opened_row, group_begin_row, closed, closed_row}
-use Rattle.om_spawn.specs.Rows.{group_end_row, ready_for, started}
+use Rattle.om_task.specs.Tasks.{born, group_of, innermost_group, counts, additions, task_context}
+use Rattle.om_task.specs.Rows.{made_row, given_row, spawn_row, ended_row, end_row_of, task_end_row, wait_begin_row}
+use Rattle.om_task.specs.Rows.{waited, wait_end_row, task_yield_row, opened_row, group_begin_row, closed, closed_row}
+use Rattle.om_task.specs.Rows.{group_end_row, ready_for, started}
 use Rattle.om_fork.specs.Rows.{value_of, finished, finished_row, finish_row}
-use Rattle.om_spawn.specs.Rows.{started_row, start_row}
+use Rattle.om_task.specs.Rows.{started_row, start_row}
 use Rattle.om_team.specs.Counters.{IsWithin, TaskWithin, ValueWithin}
 use Rattle.om_task.specs.Steps.{AddOnce}
 use Rattle.om_task.proofs.Bounds.{AreGentle, RowWithin, AskedWithin, ValuesWithin}

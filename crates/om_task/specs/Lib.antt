@@ -1,3 +1,5 @@
+pub mod Tasks
+pub mod Rows
 pub mod Table
 pub mod Rules
 pub mod Steps

@@ -40,7 +40,7 @@ use Rattle.om_steps.specs.declared.row.Row.{Row}
 use Rattle.om_steps.specs.declared.row.Row.TheVariants as row
 use Rattle.om_steps.specs.Rows.{Asked, decided}
 use Rattle.om_steps.specs.Objects.{homes_for}
-use Rattle.om_spawn.specs.Rows.{start_row}
+use Rattle.om_task.specs.Rows.{start_row}
 use Rattle.om_steps.specs.Begins.{first_frame, new_context}
 use Rattle.om_team.specs.Sites.{Site, site, body_of}
 use Rattle.om_task.specs.Table.{row_of}

@@ -17,12 +17,12 @@ ghost use Rattle.om_task.specs.Rules.{asked, next_row, is_at_scheduling_point, o
 use crate::admit::{admits, instruction, leaving};
 use crate::planned::Plan;
 use crate::table::answer;
+use crate::task_start::{Starting, start};
 use om_cells::{Blocked, Change, Choice, Edit, Label};
 use om_code::Program;
 use om_foot::Access;
 use om_live::{Control, Stack, Store};
 use om_seq::Seq;
-use om_spawn::start::{Starting, start};
 use om_steps::{Answer, Row};
 use om_team::Worker;
 use om_team::answers::{Planning, footprint};

@@ -8,10 +8,10 @@ ghost use Rattle.om_team.specs.Ready.{IsReady};
 ghost use Rattle.om_team.specs.Sites.{site};
 ghost use Rattle.om_task.specs.Table.{task_row, row_of};
 
+use crate::task::{Making, spawn, task_end, task_yield};
+use crate::wait::{group_begin, group_end, wait_begin, wait_end};
 use om_code::{Instr, Program};
 use om_live::{Context, Stack, Store};
-use om_spawn::task::{Making, spawn, task_end, task_yield};
-use om_spawn::wait::{group_begin, group_end, wait_begin, wait_end};
 use om_steps::{Answer, Row};
 use om_team::table::{Doing, is_of_tasks, launch, slots};
 use std::alloc::{AllocError, Global};

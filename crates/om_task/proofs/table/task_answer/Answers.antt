@@ -4,7 +4,7 @@ use Rattle.om_live.specs.Plain.{plain_context, plain_stack}
 use Rattle.om_live.specs.Stores.{state_of}
 use Rattle.om_live.specs.declared.control.Context.{Context}
 use Rattle.om_live.specs.declared.control.Frame.{Frame}
-use Rattle.om_spawn.specs.Rows.{spawn_row, wait_begin_row, task_yield_row}
+use Rattle.om_task.specs.Rows.{spawn_row, wait_begin_row, task_yield_row}
 use Rattle.om_team.specs.Sites.{site}
 use Rattle.om_team.specs.AtStates.{at_state, to_same}
 use Rattle.om_team.specs.Running.{next_is}

@@ -4,7 +4,7 @@ ghost use Rattle.std.specs.Prelude.{◌≡◌, ◌++◌, ◌∷◌, [], OnOk};
 ghost use Rattle.om_foot.specs.declared.object.Obj.TheVariants as obj;
 ghost use Rattle.om_live.specs.Plain.{plain_context};
 ghost use Rattle.om_steps.specs.Objects.{add};
-ghost use Rattle.om_spawn.specs.Tasks.{group_count, counts, additions};
+ghost use Rattle.om_task.specs.Tasks.{group_count, counts, additions};
 
 use om_cells::Update;
 use om_foot::{Access, Mode, Name, Obj};

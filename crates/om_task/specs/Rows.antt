@@ -35,9 +35,9 @@ use Rattle.om_steps.specs.declared.row.Row.{Row}
 use Rattle.om_steps.specs.declared.row.Row.TheVariants.{Goes, Faults, Blocked, Lacks}
 use Rattle.om_steps.specs.Rows.{Asked, decided, goes, first_of, is_zero}
 use Rattle.om_steps.specs.Objects.{read, write, events, event, given_cells, own_cells, puts, deaths, innermost}
-use Rattle.om_spawn.specs.declared.task.Making.{Making}
-use Rattle.om_spawn.specs.declared.start.Starting.{Starting}
-use Rattle.om_spawn.specs.Tasks.{born, group_of, innermost_group, counts, additions, ready_of, task_context}
+use Rattle.om_task.specs.declared.task.Making.{Making}
+use Rattle.om_task.specs.declared.task_start.Starting.{Starting}
+use Rattle.om_task.specs.Tasks.{born, group_of, innermost_group, counts, additions, ready_of, task_context}
 
 -- OpenMP 5.2, 12.5: a task of this name is made, with its firstprivate values
 abbrev pub made_names : ℕ → Body → Context → List ℕ → List Access

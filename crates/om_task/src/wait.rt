@@ -8,8 +8,8 @@ ghost use Rattle.om_live.specs.Plain.{plain_context};
 ghost use Rattle.om_live.specs.Stores.{state_of};
 ghost use Rattle.om_steps.specs.Rows.{answered};
 ghost use Rattle.om_steps.specs.Objects.{innermost};
-ghost use Rattle.om_spawn.specs.Tasks.{born, innermost_group};
-ghost use Rattle.om_spawn.specs.Rows.{sync_event, wait_begin_row, waited, wait_end_row, group_begin_row, closed, group_end_row};
+ghost use Rattle.om_task.specs.Tasks.{born, innermost_group};
+ghost use Rattle.om_task.specs.Rows.{sync_event, wait_begin_row, waited, wait_end_row, group_begin_row, closed, group_end_row};
 
 use om_cells::{Blocked, Construct, Edit, Shared, Update};
 use om_code::frame::Fault;

@@ -6,8 +6,8 @@ ghost use Rattle.om_live.specs.Plain.{plain_context};
 ghost use Rattle.om_live.specs.Stores.{state_of};
 ghost use Rattle.om_cells.specs.Values.{task_in};
 ghost use Rattle.om_steps.specs.Rows.{answered};
-ghost use Rattle.om_spawn.specs.Tasks.{task_context};
-ghost use Rattle.om_spawn.specs.Rows.{begun_updates, ready_for, start_row};
+ghost use Rattle.om_task.specs.Tasks.{task_context};
+ghost use Rattle.om_task.specs.Rows.{begun_updates, ready_for, start_row};
 
 use om_cells::{Blocked, Context as PlainContext, Edit, Kind, Ready, Shared, Task, Update, Val};
 use om_events::{Record, TaskStatus};

@@ -12,7 +12,7 @@ use Rattle.om_cells.specs.declared.step.Update.TheVariants.{Add}
 use Rattle.om_cells.specs.declared.value.Ready.{Ready}
 use Rattle.om_steps.specs.Objects.{add, homes_in, group_name, group_in}
 use Rattle.om_steps.specs.Begins.{first_frame, new_context}
-use Rattle.om_spawn.specs.declared.task.Making.{Making}
+use Rattle.om_task.specs.declared.task.Making.{Making}
 
 -- the name of what is born next of a context's task, unless it has more than 64 numbers
 abbrev pub born : Context → Option (List ℕ)

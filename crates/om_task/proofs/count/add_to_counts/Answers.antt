@@ -1,7 +1,7 @@
 use Rattle.std.specs.Int.{w128}
 use Rattle.std.proofs.lemmas.Int.{to_z-of_z}
-use Rattle.om_spawn.proofs.Counts.{all_added}
-use Rattle.om_spawn.proofs.count.add_to_counts.Goals as goal
+use Rattle.om_task.proofs.Counts.{all_added}
+use Rattle.om_task.proofs.count.add_to_counts.Goals as goal
 
 pub returns-in-Some : goal.returns-in-Some
 returns-in-Some c =

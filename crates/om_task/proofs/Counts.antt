@@ -3,7 +3,7 @@ use Rattle.std.proofs.Common.{◌≡◌, sym, ◌∙◌, ap, ℕ, ℤ, List, [],
 use Rattle.std.specs.Prelude.{Result, Ok, Err, OnOk}
 use Rattle.om_cells.specs.declared.step.Update.{Update}
 use Rattle.om_cells.specs.declared.step.Update.TheVariants.{Add}
-use Rattle.om_spawn.specs.Tasks.{additions}
+use Rattle.om_task.specs.Tasks.{additions}
 
 three : (us a b new : List Update) (u : Update) → a ≡ us ++ u ∷ [] → b ≡ a ++ u ∷ [] → new ≡ b ++ u ∷ [] → new ≡ us
     ++ u ∷ u ∷ u ∷ []

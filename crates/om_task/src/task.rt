@@ -7,8 +7,8 @@ ghost use Rattle.om_cells.specs.declared.value.Task.TheVariants as task;
 ghost use Rattle.om_cells.specs.declared.value.Val.TheVariants as value;
 ghost use Rattle.om_live.specs.Plain.{plain_context, plain_held, plain_stack};
 ghost use Rattle.om_steps.specs.Rows.{answered};
-ghost use Rattle.om_spawn.specs.Tasks.{born, ready_of};
-ghost use Rattle.om_spawn.specs.Rows.{made_names, values_given, made_row, spawn_row, ended_names, ended_updates, task_end_row, task_yield_row};
+ghost use Rattle.om_task.specs.Tasks.{born, ready_of};
+ghost use Rattle.om_task.specs.Rows.{made_names, values_given, made_row, spawn_row, ended_names, ended_updates, task_end_row, task_yield_row};
 
 use crate::count::{add_to_counts, name_counts};
 use om_cells::{Edit, Kind, Ready, Shared, Task, Update, Val};

@@ -1,2 +1,0 @@
-pub mod Tasks
-pub mod Rows
