@@ -18,3 +18,10 @@ mod Operands
 mod Reasons
 mod RowReasons
 mod Lacking
+mod Showing
+mod Turns
+mod Instructions
+mod Ends
+mod Table
+mod Following
+mod AlonePrograms

@@ -1,5 +1,6 @@
-//! A running worker of valid code never lacks what its next instruction needs.
+//! Laws of runs: a worker of valid code never lacks what it needs, and one alone does what its source means.
 #![tactic(auto)]
 
+pub mod alone;
 pub mod laws;
 pub mod programs;

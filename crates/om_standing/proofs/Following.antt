@@ -24,10 +24,10 @@ use Rattle.om_task.specs.Rules.{rules_of, further_in, outcome_of, next_row}
 use Rattle.om_team.specs.Sites.{site}
 use Rattle.om_meaning.specs.Running.{on_from, run, world_of}
 use Rattle.om_meaning.specs.Worlds.{World}
-use Rattle.om_alone.specs.Alone.{Shows, Keeps, OwnsCells, next_of, stack_at}
-use Rattle.om_alone.specs.Laws.{CanFinish, Leads, LeadsSoon, Follows, FramesFollow}
-use Rattle.om_alone.proofs.Turns.{Leaves, To, behind_asked}
-use Rattle.om_alone.proofs.Table.{instruction_leaves}
+use Rattle.om_standing.specs.Alone.{Shows, Keeps, OwnsCells, next_of, stack_at}
+use Rattle.om_standing.specs.AloneLaws.{CanFinish, Leads, LeadsSoon, Follows, FramesFollow}
+use Rattle.om_standing.proofs.Turns.{Leaves, To, behind_asked}
+use Rattle.om_standing.proofs.Table.{instruction_leaves}
 
 -- what holds of every element holds of one that is found
 pub of_all : {X : Type 0} (P : X → Type 0) (xs : List X) (k : ℕ) (x : X) → All P xs → slice_get xs k ≡ Some x → P x

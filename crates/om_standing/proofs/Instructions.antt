@@ -23,7 +23,7 @@ use Rattle.om_code.specs.Arithmetic.{operate, operate_on_one, update}
 use Rattle.om_code.specs.Frames.{Act, act, decided, reads, writes, on_operand, on_int, on_ints, at_index, int_at, goes}
 use Rattle.om_code.specs.Frames.{gives, put, loaded, stored, updated, cells_in, index_in, left_by, kept, used, jump_if}
 use Rattle.om_code.specs.Validity.{IsKnownPlace}
-use Rattle.om_alone.proofs.Turns.{IsOnward, IsStill, IsInside, Fits}
+use Rattle.om_standing.proofs.Turns.{IsOnward, IsStill, IsInside, Fits}
 
 gives_still : (takes : ℕ) (r : Result ℤ Fault) → IsStill (gives takes r)
 gives_still takes (Ok v) = tt

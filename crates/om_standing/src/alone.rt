@@ -1,6 +1,6 @@
 //! Laws of a worker that steps alone.
 
-ghost use Rattle.om_alone.specs.Laws.{FramesFollow, FunctionsRun, ProgramsRun, ProgramsStart};
+ghost use Rattle.om_standing.specs.AloneLaws.{FramesFollow, FunctionsRun, ProgramsRun, ProgramsStart};
 
 use om_meaning::laws::serial_meaning;
 

@@ -17,10 +17,10 @@ use Rattle.om_team.specs.Sites.{site}
 use Rattle.om_task.specs.Table.{row_of}
 use Rattle.om_steps.specs.SerialRows.{act_row}
 use Rattle.om_meaning.specs.Running.{world_of}
-use Rattle.om_alone.specs.Alone.{Shows, Keeps, OwnsCells}
-use Rattle.om_alone.proofs.Turns.{Fits, Leaves, here, behind_asked, act_leaves, clear_leaves, print_leaves}
-use Rattle.om_alone.proofs.Instructions as fits
-use Rattle.om_alone.proofs.Ends as ends
+use Rattle.om_standing.specs.Alone.{Shows, Keeps, OwnsCells}
+use Rattle.om_standing.proofs.Turns.{Fits, Leaves, here, behind_asked, act_leaves, clear_leaves, print_leaves}
+use Rattle.om_standing.proofs.Instructions as fits
+use Rattle.om_standing.proofs.Ends as ends
 
 module _ (program : Raw) (workers worker : ℕ) (stack : Stack) (before s : State) (f : Frame)
     (shows : Shows program worker stack.top (Running (here program worker stack before s f)) (world_of f) s)

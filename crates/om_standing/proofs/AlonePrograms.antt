@@ -39,10 +39,10 @@ use Rattle.om_meaning.specs.Meaning as flows
 use Rattle.om_meaning.specs.Meaning.{Flow, Failed, OutOfTurns}
 use Rattle.om_meaning.specs.Running.{ended, frame, run, world_of}
 use Rattle.om_meaning.specs.Worlds.{World}
-use Rattle.om_alone.specs.Alone.{Shows, OwnsCells, dead, next_of, stack_at, stepped}
-use Rattle.om_alone.specs.Laws.{CanFinish, MayEnd, Leads, LeadsSoon, Follows, Does, Runs, FunctionsRun, ProgramsStart}
-use Rattle.om_alone.specs.Laws.{ProgramsRun, alone, control_behind, world_behind, first_stack, first_world}
-use Rattle.om_alone.proofs.Following.{of_all, follow}
+use Rattle.om_standing.specs.Alone.{Shows, OwnsCells, dead, next_of, stack_at, stepped}
+use Rattle.om_standing.specs.AloneLaws.{CanFinish, MayEnd, Leads, LeadsSoon, Follows, Does, Runs, FunctionsRun, ProgramsStart}
+use Rattle.om_standing.specs.AloneLaws.{ProgramsRun, alone, control_behind, world_behind, first_stack, first_world}
+use Rattle.om_standing.proofs.Following.{of_all, follow}
 
 -- ---- a function
 

@@ -37,10 +37,10 @@ use Rattle.om_steps.specs.SerialRows.{return_row}
 use Rattle.om_fork.specs.Rows.{finished_row, finished}
 use Rattle.om_steps.specs.Rows.{is_zero}
 use Rattle.om_meaning.specs.Running.{world_of}
-use Rattle.om_alone.specs.Alone.{Shows, Keeps, OwnsCells, dead, next_of}
-use Rattle.om_alone.proofs.Showing.{each, events_put, keeps_on, beside_events, beside_cell, cells_from, all_written}
-use Rattle.om_alone.proofs.Showing.{slot_elsewhere, slot_there, stays}
-use Rattle.om_alone.proofs.Turns.{Leaves, To, here, behind, behind_asked, to_control}
+use Rattle.om_standing.specs.Alone.{Shows, Keeps, OwnsCells, dead, next_of}
+use Rattle.om_standing.proofs.Showing.{each, events_put, keeps_on, beside_events, beside_cell, cells_from, all_written}
+use Rattle.om_standing.proofs.Showing.{slot_elsewhere, slot_there, stays}
+use Rattle.om_standing.proofs.Turns.{Leaves, To, here, behind, behind_asked, to_control}
 
 same_both : (b : Bool) (v : Val) → cond b v v ≡ v
 same_both true v = refl

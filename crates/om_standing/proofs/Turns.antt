@@ -38,10 +38,10 @@ use Rattle.om_steps.specs.SerialRows.{row_of, touch_row, unsets}
 use Rattle.om_task.specs.Rules.{outcome_after}
 use Rattle.om_meaning.specs.Running.{world_of}
 use Rattle.om_meaning.specs.Worlds.{World, with_held}
-use Rattle.om_alone.specs.Alone.{Shows, Keeps, OwnsCells, dead, next_of, stack_at}
-use Rattle.om_alone.specs.Laws.{CanFinish, IsCalled}
-use Rattle.om_alone.proofs.Showing.{control_put, output_put, cell_put, keeps_cell, keeps_on, keeps_slot, slot_cleared}
-use Rattle.om_alone.proofs.Showing.{beside_control, beside_output, cells_from, own_object}
+use Rattle.om_standing.specs.Alone.{Shows, Keeps, OwnsCells, dead, next_of, stack_at}
+use Rattle.om_standing.specs.AloneLaws.{CanFinish, IsCalled}
+use Rattle.om_standing.proofs.Showing.{control_put, output_put, cell_put, keeps_cell, keeps_on, keeps_slot, slot_cleared}
+use Rattle.om_standing.proofs.Showing.{beside_control, beside_output, cells_from, own_object}
 
 -- turns that stay in their frame, and those of them that put nothing
 abbrev pub IsOnward : Turn → Type 0

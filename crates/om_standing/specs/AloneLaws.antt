@@ -33,7 +33,7 @@ use Rattle.om_meaning.specs.Meaning.{Flow, Failed, OutOfTurns}
 use Rattle.om_meaning.specs.Running.{run, world_of}
 use Rattle.om_meaning.specs.Serial.{AreSerialStatements}
 use Rattle.om_meaning.specs.Worlds.{World}
-use Rattle.om_alone.specs.Alone.{Shows, Keeps, OwnsCells, dead, next_of, stack_at, stepped}
+use Rattle.om_standing.specs.Alone.{Shows, Keeps, OwnsCells, dead, next_of, stack_at, stepped}
 
 -- the initial task may end: no task of its team is unfinished
 pub record CanFinish (c : Context) (s : State) : Type 0 where
