@@ -25,3 +25,5 @@ pub mod WholeLaws
 pub mod Behind
 pub mod TreePlaces
 pub mod PlaceLaws
+pub mod LoopViews
+pub mod UpdateViews

@@ -14,7 +14,6 @@ ghost use Rattle.om_rules.specs.Outcomes.{Finds};
 ghost use Rattle.om_rules.specs.StatementResolution.{atomic_of, clause_schedule, construct_of, critical_name, has_default, has_nowait, loop_construct_of, parallel_of, schedule_in, schedule_of, sections_construct_of, task_of, with_update};
 ghost use Rattle.om_rules.specs.Updates.{update_of};
 
-use om_forms::update_of;
 use om_lexer::{SourceFault, Span};
 use om_names::{is_parallel, traits_of};
 use om_pragma::{
@@ -24,6 +23,7 @@ use om_resolved::{
     Capture, ConstructKind, ResolvedClause, ResolvedLoop, ResolvedPart, ResolvedSchedule,
     ResolvedStatement, Side, TaskSharing, captures_of_parallel, captures_of_task,
 };
+use om_rules::update_of;
 use om_seq::Seq;
 use om_tree::{Expression, Name};
 use om_uses::copy_of;

@@ -3,7 +3,7 @@
 ghost use Rattle.std.specs.Prelude.{◌≡◌, ◌++◌, [], OnOk, IfOk, Some, map};
 ghost use Rattle.om_tree.specs.View.{view_directive};
 ghost use Rattle.om_resolved.specs.ResolvedView.{view_resolved_clause, view_resolved_loop};
-ghost use Rattle.om_forms.specs.LoopViews.{view_loop};
+ghost use Rattle.om_rules.specs.LoopViews.{view_loop};
 ghost use Rattle.om_rules.specs.Checks.{Checks};
 ghost use Rattle.om_rules.specs.DirectiveRules.{directive_breaches, in_construct, in_kind, traits_of};
 ghost use Rattle.om_rules.specs.Outcomes.{Finds};
@@ -12,12 +12,11 @@ ghost use Rattle.om_rules.specs.StatementRules.{found_breaches, round_bounds};
 ghost use Rattle.om_scope.specs.Parts.{round_listed};
 
 use crate::assembly::schedule_of;
-use om_forms::Loop;
 use om_lexer::SourceFault;
 use om_names::{Listed, Symbols, is_parallel, traits_of};
 use om_pragma::Directive;
 use om_resolved::{ResolvedClause, ResolvedLoop};
-use om_rules::{Flow, RegionKind};
+use om_rules::{Flow, Loop, RegionKind};
 use om_tree::Expression;
 use om_uses::{resolve_directive, resolve_loop};
 use std::alloc::{AllocError, Global};

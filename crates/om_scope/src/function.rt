@@ -16,11 +16,10 @@ ghost use Rattle.om_rules.specs.StatementRules.{redeclared_breaches};
 ghost use Rattle.om_resolved.specs.declared.resolved.Shape.TheVariants.{Scalar};
 
 use crate::statement::resolve_statements;
-use om_forms::head_first;
 use om_lexer::{FaultCode, SourceFault, Span};
 use om_names::Symbols;
 use om_resolved::{LocalVariable, ResolvedFunction, ResolvedStatement, Shape};
-use om_rules::{FUNCTION_LIMIT, Flow, Meaning, PARAMETER_LIMIT, Signature};
+use om_rules::{FUNCTION_LIMIT, Flow, Meaning, PARAMETER_LIMIT, Signature, head_first};
 use om_seq::Seq;
 use om_tree::{Function, FunctionHead, Name, Parameter, Parameters, ResultType};
 use om_uses::{check_new, copy_of, local_of, refuse_if};

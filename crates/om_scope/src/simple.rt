@@ -13,12 +13,11 @@ ghost use Rattle.om_rules.specs.StatementResolution.{resolved_alone, resolved_pe
 ghost use Rattle.om_rules.specs.StatementRules.{jump_breaches, locals_breaches, return_breaches, section_breaches, stand_alone_breaches};
 ghost use Rattle.om_scope.specs.Parts.{resolved_declaration, resolved_effect, resolved_return};
 
-use om_forms::expression_first;
 use om_lexer::{FaultCode, SourceFault, Span};
 use om_names::Symbols;
 use om_pragma::{Directive, DirectiveName};
 use om_resolved::{ResolvedExpression, ResolvedStatement, StandAlone};
-use om_rules::{Flow, SECTION_LIMIT};
+use om_rules::{Flow, SECTION_LIMIT, expression_first};
 use om_tree::{Declaration, Expression};
 use om_uses::{
     boxed_expression, misplaced, refuse_if, resolve_directive, resolve_flush, resolve_locals,

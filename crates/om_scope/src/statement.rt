@@ -7,7 +7,7 @@ ghost use Rattle.om_tree.specs.Tree.{Construct, parts, statements};
 ghost use Rattle.om_tree.specs.View.{view_directive, view_for_head, view_part, view_statement};
 ghost use Rattle.om_resolved.specs.ResolvedTree as resolved;
 ghost use Rattle.om_resolved.specs.ResolvedView.{view_resolved_part, view_resolved_statement};
-ghost use Rattle.om_forms.specs.LoopViews.{view_loop};
+ghost use Rattle.om_rules.specs.LoopViews.{view_loop};
 ghost use Rattle.om_rules.specs.Checks.{Checks};
 ghost use Rattle.om_rules.specs.DirectiveRules.{traits_of};
 ghost use Rattle.om_rules.specs.Loops.{loop_in};
@@ -24,12 +24,11 @@ use crate::simple::{
     check_jump, check_section, resolve_declaration, resolve_effect, resolve_return,
     resolve_stand_alone,
 };
-use om_forms::{Loop, loop_in, statement_side, statement_start};
 use om_lexer::SourceFault;
 use om_names::{Symbols, constructing, traits_of};
 use om_pragma::Directive;
 use om_resolved::{ResolvedPart, ResolvedStatement};
-use om_rules::Flow;
+use om_rules::{Flow, Loop, loop_in, statement_side, statement_start};
 use om_tree::{Expression, ForHead, Part, Statement};
 use om_uses::{add, boxed, boxed_expression, enter_loop, loop_fault};
 use std::alloc::Global;

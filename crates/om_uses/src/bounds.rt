@@ -3,7 +3,7 @@
 ghost use Rattle.std.specs.Prelude.{◌≡◌, ◌++◌, OnOk};
 ghost use Rattle.om_rules.specs.Checks.{Checks, ChecksExactly};
 ghost use Rattle.om_rules.specs.Outcomes.{Finds};
-ghost use Rattle.om_forms.specs.LoopViews.{view_loop};
+ghost use Rattle.om_rules.specs.LoopViews.{view_loop};
 ghost use Rattle.om_rules.specs.Resolution.{resolved_expression};
 ghost use Rattle.om_resolved.specs.ResolvedView.{view_resolved_expression, view_resolved_loop};
 ghost use Rattle.om_rules.specs.StatementResolution.{bounds_scopes, resolved_loop};
@@ -11,10 +11,10 @@ ghost use Rattle.om_rules.specs.StatementRules.{found_breaches, values_breaches,
 
 use crate::declaration::local_of;
 use crate::expression::boxed_expression;
-use om_forms::Loop;
 use om_lexer::{FaultCode, SourceFault};
 use om_names::{Symbols, check_declared, is_scalar, refuse_if};
 use om_resolved::{ResolvedExpression, ResolvedLoop, ResolvedSchedule, Shape};
+use om_rules::Loop;
 use om_tree::Name;
 use std::alloc::{AllocError, Global};
 

@@ -10,10 +10,10 @@ ghost use Rattle.om_rules.specs.ExpressionRules.{argument_count, is_print, mispr
 ghost use Rattle.om_rules.specs.Resolution.{call_of, format_in, text_in};
 ghost use Rattle.om_uses.specs.Views.{view_argument};
 
-use om_forms::is_format;
 use om_lexer::{FaultCode, SourceFault, Span};
 use om_names::refuse_if;
 use om_resolved::ResolvedExpression;
+use om_rules::is_format;
 use om_seq::Seq;
 use om_tree::{Expression, Name};
 use std::alloc::Global;

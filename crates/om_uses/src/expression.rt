@@ -17,11 +17,10 @@ use crate::call::{argument_count, call_of, resolve_format};
 use crate::fault::refuse_among;
 use crate::kept::{add, boxed};
 use crate::target::{Target, assigned, is_target, misplaced, stepped};
-use om_forms::expression_start;
 use om_lexer::{FaultCode, SourceFault, Span};
 use om_names::{Symbols, is_printf, misuse, resolve_array, resolve_callee, resolve_scalar};
 use om_resolved::{ResolvedExpression, UnaryOperator, Variable};
-use om_rules::PRINTED_LIMIT;
+use om_rules::{PRINTED_LIMIT, expression_start};
 use om_tree::{AssignOperator, Expression, Name, Number, PrefixOperator};
 use std::alloc::Global;
 

@@ -9,10 +9,10 @@ ghost use Rattle.om_rules.specs.Faults.{first_of};
 ghost use Rattle.om_rules.specs.Resolution.{assigned, stepped};
 ghost use Rattle.om_uses.specs.TargetViews.{view_target};
 
-use om_forms::expression_start;
 use om_lexer::SourceFault;
 use om_names::{Symbols, check_declared, misuse};
 use om_resolved::{ResolvedExpression, Variable};
+use om_rules::expression_start;
 use om_tree::{AssignOperator, Expression, PostfixOperator};
 
 /// The refusal of an expression that can't stand where it does: S9 at its first token, or S7 of a name

@@ -3,7 +3,7 @@ use Rattle.std.proofs.Common.{arith, rules}
 use Rattle.std.proofs.lemmas.List.{drop_all}
 use Rattle.std.proofs.lemmas.Result.{err_from_is_err_and}
 use Rattle.om_tree.specs.View.{view_directive, view_for_start, view_part, view_statement}
-use Rattle.om_forms.specs.LoopViews.{view_loop}
+use Rattle.om_rules.specs.LoopViews.{view_loop}
 use Rattle.om_rules.specs.Loops.{loop_in}
 use Rattle.om_resolved.specs.ResolvedView.{view_resolved_part, view_resolved_statement}
 use Rattle.om_rules.specs.ProperConstructs.{construct_there, parts_proper, proper_inside}

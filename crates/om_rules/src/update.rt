@@ -3,7 +3,7 @@
 ghost use Rattle.std.specs.Prelude.{◌≡◌, option_map};
 ghost use Rattle.om_resolved.specs.ResolvedView.{view_resolved_expression, view_resolved_statement, view_resolved_update};
 ghost use Rattle.om_rules.specs.Updates.{binary_operator, expression_side, expression_update, operation, other_operand, statement_side, step_operation, step_operator, update_of, updated, value_operation, value_side};
-ghost use Rattle.om_forms.specs.UpdateViews.{view_operation};
+ghost use Rattle.om_rules.specs.UpdateViews.{view_operation};
 ghost use Rattle.om_tree.specs.View.{view_expression, view_statement};
 
 use om_lexer::Span;

@@ -1,7 +1,7 @@
 use Rattle.std.proofs.Common.{◌≡◌, drop, fold}
 use Rattle.om_rules.specs.Formats.{after_character}
 use Rattle.om_rules.specs.declared.reading.Reading.TheVariants as readings
-use Rattle.om_forms.proofs.print.takes_values.Given as goal
+use Rattle.om_rules.proofs.print.takes_values.Given as goal
 
 -- reading what is left gives what reading all gives
 abbrev pub invariant-loop-character : goal.invariant-loop-character

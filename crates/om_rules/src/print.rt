@@ -4,7 +4,7 @@ ghost use Rattle.std.specs.Prelude.{◌≡◌, fold};
 ghost use Rattle.om_tree.specs.View.{view_expression};
 ghost use Rattle.om_rules.specs.Formats.{after_character, is_format, is_whole, takes_values, with_value};
 
-use om_rules::Reading;
+use crate::reading::Reading;
 use om_tree::Expression;
 
 /// Behind `%d`, where so many values are left.

@@ -4,10 +4,10 @@
 ghost use Rattle.std.specs.Prelude.{◌≡◌, ◌≤◌, option_map, map};
 ghost use Rattle.om_tree.specs.View.{view_declarator, view_expression, view_for_head, view_for_start, view_further, view_initializer, view_statement};
 ghost use Rattle.om_rules.specs.Loops as loops;
-ghost use Rattle.om_forms.specs.LoopViews.{view_bound, view_loop, view_start};
+ghost use Rattle.om_rules.specs.LoopViews.{view_bound, view_loop, view_start};
 
+use crate::direction::{Direction, Step};
 use om_lexer::Span;
-use om_rules::{Direction, Step};
 use om_tree::{
     ArrayLength, AssignOperator, BinaryOperator, Declarator, Expression, ForHead, ForStart,
     Initializer, Name, PostfixOperator, PrefixOperator, Statement,

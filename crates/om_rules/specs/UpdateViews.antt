@@ -1,6 +1,6 @@
 -- What is done to the target of an update, as trees.
 use Rattle.om_resolved.specs.ResolvedView.{view_resolved_expression}
-use Rattle.om_forms.specs.declared.update.Operation as operations
+use Rattle.om_rules.specs.declared.update.Operation as operations
 use Rattle.om_rules.specs.Updates.{Operation}
 
 abbrev pub view_operation : operations.Operation → Operation

@@ -1,8 +1,8 @@
 -- Parts of a loop as trees.
 use Rattle.om_tree.specs.View.{view_expression}
-use Rattle.om_forms.specs.declared.canonical.Bound as bounds
-use Rattle.om_forms.specs.declared.canonical.Loop as found
-use Rattle.om_forms.specs.declared.canonical.LoopStart as starts
+use Rattle.om_rules.specs.declared.canonical.Bound as bounds
+use Rattle.om_rules.specs.declared.canonical.Loop as found
+use Rattle.om_rules.specs.declared.canonical.LoopStart as starts
 use Rattle.om_rules.specs.Loops.{LoopStart, Bound, Loop}
 
 abbrev pub view_start : starts.LoopStart → LoopStart

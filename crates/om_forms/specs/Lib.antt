@@ -1,2 +1,0 @@
-pub mod LoopViews
-pub mod UpdateViews
