@@ -1,15 +1,16 @@
-//! The program: its files, its thread and its exit status.
+//! The program: its words, its files, its thread and its exit status.
 #![tactic(auto)]
 
 ghost use Rattle.std.specs.Prelude.{◌<◌, ◌≤◌};
 
 #[cfg(test)]
 mod tests;
+mod words;
 
+use crate::words::{Words, words_in};
 use om_outcome::{Outcome, read_file, status, words_of};
 use om_parser::STACK_SIZE;
 use om_shell::{Options, ShellFault, run};
-use om_words::{Words, words_in};
 use std::alloc::{AllocError, Global};
 use std::io::{Read, Write};
 use std::process::ExitCode;

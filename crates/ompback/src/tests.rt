@@ -1,9 +1,9 @@
 //! The exit status of each way to end, and what words ask for.
 
+use crate::words::words_in;
 use crate::{outcome_for, run_over};
 use om_outcome::{Outcome, status};
 use om_shell::{Options, ShellFault};
-use om_words::words_in;
 use std::alloc::{AllocError, Global};
 use std::io;
 use std::io::{ErrorKind, Read, Write};

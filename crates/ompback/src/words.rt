@@ -1,6 +1,6 @@
 //! The words of the command line.
 ghost use Rattle.std.specs.Prelude.{◌<◌, ◌≤◌, IfOk};
-ghost use Rattle.om_words.specs.Workers.{GivesWorkers};
+ghost use Rattle.ompback.specs.Workers.{GivesWorkers};
 
 use clap::{Arg, ArgAction, ArgMatches, Command, Error};
 use std::alloc::Global;

@@ -6,9 +6,9 @@ use Rattle.clap.specs.Built.{IsPlainArg}
 use Rattle.clap.specs.Words.{found_of, one_text, without_minus}
 use Rattle.clap.specs.declared.builder.command.Command.TheViews.{out-Command}
 use Rattle.clap.specs.declared.builder.value_parser.ValueParser.TheVariants as vp
-use Rattle.om_words.specs.Workers.{GivesWorkers}
-use Rattle.om_words.proofs.Defaults.{IsGiven, first_of_two_read}
-use Rattle.om_words.proofs.words.matches_in.Goals as goal
+use Rattle.ompback.specs.Workers.{GivesWorkers}
+use Rattle.ompback.proofs.Defaults.{IsGiven, first_of_two_read}
+use Rattle.ompback.proofs.words.matches_in.Goals as goal
 
 pub returns : goal.returns
 returns c =

@@ -1,6 +1,0 @@
-//! The words of the command line.
-#![tactic(auto)]
-
-mod words;
-
-pub use words::{Words, words_in};
