@@ -14,7 +14,7 @@ use Rattle.om_draw.specs.declared.outcome.Page as outcome
 use Rattle.om_draw.specs.Marks.{boxes_text}
 use Rattle.om_draw.specs.Strokes.{arrows_text}
 use Rattle.om_draw.specs.Pages.{Leaves, IsDrawing, IsShown, IsPage}
-use Rattle.om_outcome.specs.Files.{ReadsAll}
+use Rattle.om_shell.specs.Files.{ReadsAll}
 
 -- the picture of a machine's steps, and the page with it
 pub drawing_of : (m seen : MachineView) (program : Raw) (steps ts : List Traced) (boxes : List StepBox)

@@ -10,3 +10,5 @@ pub mod Script
 pub mod Ends
 pub mod Serving
 pub mod Laws
+pub mod Outcomes
+pub mod Files

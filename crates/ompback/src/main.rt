@@ -8,9 +8,8 @@ mod tests;
 mod words;
 
 use crate::words::{Words, words_in};
-use om_outcome::{Outcome, read_file, status, words_of};
 use om_parser::STACK_SIZE;
-use om_shell::{Options, ShellFault, run};
+use om_shell::{Options, Outcome, ShellFault, read_file, run, status, words_of};
 use std::alloc::{AllocError, Global};
 use std::io::{Read, Write};
 use std::process::ExitCode;

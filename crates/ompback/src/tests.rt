@@ -2,8 +2,7 @@
 
 use crate::words::words_in;
 use crate::{outcome_for, run_over};
-use om_outcome::{Outcome, status};
-use om_shell::{Options, ShellFault};
+use om_shell::{Options, Outcome, ShellFault, status};
 use std::alloc::{AllocError, Global};
 use std::io;
 use std::io::{ErrorKind, Read, Write};

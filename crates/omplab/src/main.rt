@@ -9,9 +9,8 @@ mod subcommands;
 mod tests;
 
 use crate::subcommands::{Host, Search, check, draw, explain, hunt, keep};
-use om_outcome::{Outcome, read_file, status, words_of};
 use om_parser::STACK_SIZE;
-use om_shell::{Options, ShellFault};
+use om_shell::{Options, Outcome, ShellFault, read_file, status, words_of};
 use om_subcommands::{Asked, Words, words_in};
 use std::alloc::{AllocError, Global};
 use std::io;

@@ -1,8 +1,8 @@
 //! How the program ends.
 ghost use Rattle.std.specs.Prelude.{◌≡◌};
-ghost use Rattle.om_outcome.specs.Outcomes.{status_of};
+ghost use Rattle.om_shell.specs.Outcomes.{status_of};
 
-use om_shell::ShellFault;
+use crate::fault::ShellFault;
 
 /// How the program ends.
 #[derive(Clone, Copy)]

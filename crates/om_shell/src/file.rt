@@ -1,8 +1,8 @@
 //! A file, read whole.
 ghost use Rattle.std.specs.Prelude.{IfOk};
-ghost use Rattle.om_outcome.specs.Files.{ReadsAll};
+ghost use Rattle.om_shell.specs.Files.{ReadsAll};
 
-use om_shell::ShellFault;
+use crate::fault::ShellFault;
 use std::alloc::Global;
 use std::io::{ErrorKind, Read};
 use std::rt::Files;
