@@ -20,3 +20,14 @@ pub mod Placed
 pub mod Given
 pub mod KnownBodies
 pub mod Valid
+pub mod Acting
+pub mod Stepping
+pub mod Expressions
+pub mod Printing
+pub mod Flows
+pub mod Statements
+pub mod Behaving
+pub mod Postfix
+pub mod Spoken
+pub mod Ints
+pub mod FlowInts

@@ -11,3 +11,9 @@ pub mod Scopes
 pub mod Code
 pub mod Laws
 pub mod Coded
+pub mod Worlds
+pub mod Meaning
+pub mod Serial
+pub mod Ints
+pub mod Running
+pub mod MeaningLaws

@@ -33,12 +33,12 @@ use Rattle.std.proofs.lemmas.Option.{get_or_from_slice_get}
 use Rattle.om_task.specs.Rules.{rules_of, further_in, outcome_of, first_context, start_of}
 use Rattle.om_resolved.specs.Uses.{is_main_function}
 use Rattle.om_rows.specs.Bodies.{called_body, function_variables}
-use Rattle.om_meaning.specs.Laws.{Agrees, Behaves, SerialMeaning, layout_of, IsOver}
-use Rattle.om_meaning.specs.Laws as meanings
-use Rattle.om_meaning.specs.Meaning as flows
-use Rattle.om_meaning.specs.Meaning.{Flow, Failed, OutOfTurns}
-use Rattle.om_meaning.specs.Running.{ended, frame, run, world_of}
-use Rattle.om_meaning.specs.Worlds.{World}
+use Rattle.om_rows.specs.MeaningLaws.{Agrees, Behaves, SerialMeaning, layout_of, IsOver}
+use Rattle.om_rows.specs.MeaningLaws as meanings
+use Rattle.om_rows.specs.Meaning as flows
+use Rattle.om_rows.specs.Meaning.{Flow, Failed, OutOfTurns}
+use Rattle.om_rows.specs.Running.{ended, frame, run, world_of}
+use Rattle.om_rows.specs.Worlds.{World}
 use Rattle.om_standing.specs.Alone.{Shows, OwnsCells, dead, next_of, stack_at, stepped}
 use Rattle.om_standing.specs.AloneLaws.{CanFinish, MayEnd, Leads, LeadsSoon, Follows, Does, Runs, FunctionsRun, ProgramsStart}
 use Rattle.om_standing.specs.AloneLaws.{ProgramsRun, alone, control_behind, world_behind, first_stack, first_world}

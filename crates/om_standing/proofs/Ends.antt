@@ -36,7 +36,7 @@ use Rattle.om_steps.specs.Objects.{read, events, event, own_slot, own_from, own_
 use Rattle.om_steps.specs.SerialRows.{return_row}
 use Rattle.om_fork.specs.Rows.{finished_row, finished}
 use Rattle.om_steps.specs.Rows.{is_zero}
-use Rattle.om_meaning.specs.Running.{world_of}
+use Rattle.om_rows.specs.Running.{world_of}
 use Rattle.om_standing.specs.Alone.{Shows, Keeps, OwnsCells, dead, next_of}
 use Rattle.om_standing.proofs.Showing.{each, events_put, keeps_on, beside_events, beside_cell, cells_from, all_written}
 use Rattle.om_standing.proofs.Showing.{slot_elsewhere, slot_there, stays}

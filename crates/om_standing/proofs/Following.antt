@@ -22,8 +22,8 @@ use Rattle.om_cells.specs.State.{State, values_read}
 use Rattle.om_cells.specs.Values.{control_in, count_in}
 use Rattle.om_task.specs.Rules.{rules_of, further_in, outcome_of, next_row}
 use Rattle.om_team.specs.Sites.{site}
-use Rattle.om_meaning.specs.Running.{on_from, run, world_of}
-use Rattle.om_meaning.specs.Worlds.{World}
+use Rattle.om_rows.specs.Running.{on_from, run, world_of}
+use Rattle.om_rows.specs.Worlds.{World}
 use Rattle.om_standing.specs.Alone.{Shows, Keeps, OwnsCells, next_of, stack_at}
 use Rattle.om_standing.specs.AloneLaws.{CanFinish, Leads, LeadsSoon, Follows, FramesFollow}
 use Rattle.om_standing.proofs.Turns.{Leaves, To, behind_asked}

@@ -33,7 +33,7 @@ use Rattle.om_cells.specs.State.{State, state_after, updated, value_after}
 use Rattle.om_cells.specs.Values.{value_with}
 use Rattle.om_steps.specs.Objects.{write, slot_cells}
 use Rattle.om_steps.specs.SerialRows.{unsets}
-use Rattle.om_meaning.specs.Worlds.{World, with_held}
+use Rattle.om_rows.specs.Worlds.{World, with_held}
 use Rattle.om_standing.specs.Alone.{Shows, Keeps, IsApart, next_of}
 
 eq_flip : (m n : ℕ) → nat_eq m n ≡ nat_eq n m

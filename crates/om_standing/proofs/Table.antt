@@ -16,7 +16,7 @@ use Rattle.om_cells.specs.State.{State}
 use Rattle.om_team.specs.Sites.{site}
 use Rattle.om_task.specs.Table.{row_of}
 use Rattle.om_steps.specs.SerialRows.{act_row}
-use Rattle.om_meaning.specs.Running.{world_of}
+use Rattle.om_rows.specs.Running.{world_of}
 use Rattle.om_standing.specs.Alone.{Shows, Keeps, OwnsCells}
 use Rattle.om_standing.proofs.Turns.{Fits, Leaves, here, behind_asked, act_leaves, clear_leaves, print_leaves}
 use Rattle.om_standing.proofs.Instructions as fits

@@ -36,8 +36,8 @@ use Rattle.om_steps.specs.Rows.{Asked}
 use Rattle.om_steps.specs.Objects.{read, write, object_of, slot_cells}
 use Rattle.om_steps.specs.SerialRows.{row_of, touch_row, unsets}
 use Rattle.om_task.specs.Rules.{outcome_after}
-use Rattle.om_meaning.specs.Running.{world_of}
-use Rattle.om_meaning.specs.Worlds.{World, with_held}
+use Rattle.om_rows.specs.Running.{world_of}
+use Rattle.om_rows.specs.Worlds.{World, with_held}
 use Rattle.om_standing.specs.Alone.{Shows, Keeps, OwnsCells, dead, next_of, stack_at}
 use Rattle.om_standing.specs.AloneLaws.{CanFinish, IsCalled}
 use Rattle.om_standing.proofs.Showing.{control_put, output_put, cell_put, keeps_cell, keeps_on, keeps_slot, slot_cleared}

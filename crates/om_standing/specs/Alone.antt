@@ -21,7 +21,7 @@ use Rattle.om_cells.specs.Rules.{replay_from}
 use Rattle.om_cells.specs.State.{State}
 use Rattle.om_steps.specs.Objects.{home_at}
 use Rattle.om_task.specs.Rules.{rules_of}
-use Rattle.om_meaning.specs.Worlds.{World}
+use Rattle.om_rows.specs.Worlds.{World}
 
 -- ---- steps
 

@@ -27,12 +27,12 @@ use Rattle.om_resolved.specs.ResolvedTree.{ResolvedFunctionTree, ResolvedTree}
 use Rattle.om_resolved.specs.Uses.{is_main_function}
 use Rattle.om_rows.specs.Bodies.{called_body, function_variables}
 use Rattle.om_rows.specs.Code.{IsCodeOf}
-use Rattle.om_meaning.specs.Laws.{layout_of, source}
-use Rattle.om_meaning.specs.Meaning as flows
-use Rattle.om_meaning.specs.Meaning.{Flow, Failed, OutOfTurns}
-use Rattle.om_meaning.specs.Running.{run, world_of}
-use Rattle.om_meaning.specs.Serial.{AreSerialStatements}
-use Rattle.om_meaning.specs.Worlds.{World}
+use Rattle.om_rows.specs.MeaningLaws.{layout_of, source}
+use Rattle.om_rows.specs.Meaning as flows
+use Rattle.om_rows.specs.Meaning.{Flow, Failed, OutOfTurns}
+use Rattle.om_rows.specs.Running.{run, world_of}
+use Rattle.om_rows.specs.Serial.{AreSerialStatements}
+use Rattle.om_rows.specs.Worlds.{World}
 use Rattle.om_standing.specs.Alone.{Shows, Keeps, OwnsCells, dead, next_of, stack_at, stepped}
 
 -- the initial task may end: no task of its team is unfinished

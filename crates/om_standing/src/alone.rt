@@ -2,7 +2,7 @@
 
 ghost use Rattle.om_standing.specs.AloneLaws.{FramesFollow, FunctionsRun, ProgramsRun, ProgramsStart};
 
-use om_meaning::laws::serial_meaning;
+use om_rows::meaning::serial_meaning;
 
 /// A state that shows a frame of the frame machine goes, by the rules of the machine, where that frame goes.
 ///

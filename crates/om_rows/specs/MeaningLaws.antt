@@ -20,13 +20,13 @@ use Rattle.om_rows.specs.Mentions.{IsTextOf, format_mention, mentioned}
 use Rattle.om_rows.specs.Rows.{Site}
 use Rattle.om_rows.specs.Slots.{place_of}
 use Rattle.om_rows.specs.Statements.{Jumps, statement}
-use Rattle.om_meaning.specs.Ints.{HasInts, HoldsInts, LeavesInts, StatementHasInts, FlowLeavesInts}
-use Rattle.om_meaning.specs.Meaning as flows
-use Rattle.om_meaning.specs.Meaning.{Flow, Failed, OutOfTurns, then_do, value_of, effect_of, load_element, meaning}
-use Rattle.om_meaning.specs.Meaning.{meanings}
-use Rattle.om_meaning.specs.Running.{frame, world_of, run, ended, Ends, Gives, Does}
-use Rattle.om_meaning.specs.Serial.{IsSerial, IsSerialStatement, AreSerialStatements}
-use Rattle.om_meaning.specs.Worlds.{World, Layout, Got, with_value, load}
+use Rattle.om_rows.specs.Ints.{HasInts, HoldsInts, LeavesInts, StatementHasInts, FlowLeavesInts}
+use Rattle.om_rows.specs.Meaning as flows
+use Rattle.om_rows.specs.Meaning.{Flow, Failed, OutOfTurns, then_do, value_of, effect_of, load_element, meaning}
+use Rattle.om_rows.specs.Meaning.{meanings}
+use Rattle.om_rows.specs.Running.{frame, world_of, run, ended, Ends, Gives, Does}
+use Rattle.om_rows.specs.Serial.{IsSerial, IsSerialStatement, AreSerialStatements}
+use Rattle.om_rows.specs.Worlds.{World, Layout, Got, with_value, load}
 
 -- where a body has these variables, by their slots, and how many cells its tables give them
 abbrev pub layout_of : Raw → Body → (variables : List ℕ) → Layout

@@ -23,12 +23,12 @@ use Rattle.om_resolved.specs.ResolvedTree.{ResolvedExpressionTree, Constant, Var
 use Rattle.om_resolved.specs.ResolvedTree.{TeamSize, Print, Unary, Binary, Conditional, Assign, AssignElement, Postfix}
 use Rattle.om_resolved.specs.ResolvedTree.{PostfixElement}
 use Rattle.om_rows.specs.Operators.{BinaryForm, Both, Either, Plain, form_of, compound_of, step_of, inverse_step_of}
-use Rattle.om_meaning.specs.Ints.{IsInt, HoldsInt, HoldsInts, LeavesInts, HasInts}
-use Rattle.om_meaning.specs.Laws.{IntsStay}
-use Rattle.om_meaning.specs.Meaning.{is_zero, unary_value, binary_value, assigned, load_element, store_element}
-use Rattle.om_meaning.specs.Meaning.{element_assigned, stepped_back, one, value_of}
-use Rattle.om_meaning.specs.Worlds.{World, Layout, Outcome, Got, Faulty, with_value, result, held, with_held, found}
-use Rattle.om_meaning.specs.Worlds.{put_into, load, store, at_index}
+use Rattle.om_rows.specs.Ints.{IsInt, HoldsInt, HoldsInts, LeavesInts, HasInts}
+use Rattle.om_rows.specs.MeaningLaws.{IntsStay}
+use Rattle.om_rows.specs.Meaning.{is_zero, unary_value, binary_value, assigned, load_element, store_element}
+use Rattle.om_rows.specs.Meaning.{element_assigned, stepped_back, one, value_of}
+use Rattle.om_rows.specs.Worlds.{World, Layout, Outcome, Got, Faulty, with_value, result, held, with_held, found}
+use Rattle.om_rows.specs.Worlds.{put_into, load, store, at_index}
 
 -- ---- operators
 

@@ -22,16 +22,16 @@ use Rattle.om_rows.specs.Expressions.{stepped_back, value}
 use Rattle.om_rows.specs.Operators.{BinaryForm, Both, Either, Plain, form_of, compound_of, step_of, inverse_step_of}
 use Rattle.om_rows.specs.Rows.{Site, Row, end, ins, part, here, ◌▸◌}
 use Rattle.om_rows.specs.Slots.{place}
-use Rattle.om_meaning.specs.Meaning as means
-use Rattle.om_meaning.specs.Meaning.{is_zero, truth_of, unary_value, binary_value, load_element, store_element}
-use Rattle.om_meaning.specs.Meaning.{value_of}
-use Rattle.om_meaning.specs.Running.{frame, with_int, Leads, Gives, Drops}
-use Rattle.om_meaning.specs.Serial.{IsSerial}
-use Rattle.om_meaning.specs.Worlds.{World, Outcome, Got, Faulty, with_value, result, load, store}
-use Rattle.om_meaning.specs.Laws.{layout_of}
-use Rattle.om_meaning.proofs.Acting.{unary_acts, binary_acts, load_acts, load_element_acts, store_keeps, store_drops}
-use Rattle.om_meaning.proofs.Acting.{store_element_keeps, store_element_drops}
-use Rattle.om_meaning.proofs.Stepping as steps
+use Rattle.om_rows.specs.Meaning as means
+use Rattle.om_rows.specs.Meaning.{is_zero, truth_of, unary_value, binary_value, load_element, store_element}
+use Rattle.om_rows.specs.Meaning.{value_of}
+use Rattle.om_rows.specs.Running.{frame, with_int, Leads, Gives, Drops}
+use Rattle.om_rows.specs.Serial.{IsSerial}
+use Rattle.om_rows.specs.Worlds.{World, Outcome, Got, Faulty, with_value, result, load, store}
+use Rattle.om_rows.specs.MeaningLaws.{layout_of}
+use Rattle.om_rows.proofs.Acting.{unary_acts, binary_acts, load_acts, load_element_acts, store_keeps, store_drops}
+use Rattle.om_rows.proofs.Acting.{store_element_keeps, store_element_drops}
+use Rattle.om_rows.proofs.Stepping as steps
 
 module _ (raw : Raw) (body : Body) (at : Site) (same : at.code ≡ body.code) where
   -- the code of a row has this outcome on any operands

@@ -1,5 +1,5 @@
-use Rattle.om_meaning.proofs.Postfix.{postfix_gives_old, element_gives_old}
-use Rattle.om_meaning.proofs.laws.postfix_gives_old.Goals as goal
+use Rattle.om_rows.proofs.Postfix.{postfix_gives_old, element_gives_old}
+use Rattle.om_rows.proofs.meaning.postfix_gives_old.Goals as goal
 
 pub returns-clause-variable : goal.returns-clause-variable
 returns-clause-variable c = postfix_gives_old

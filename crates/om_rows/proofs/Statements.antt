@@ -30,21 +30,21 @@ use Rattle.om_rows.specs.Slots.{place, slot}
 use Rattle.om_rows.specs.Statements.{Jumps, in_loop, jump, declared, declarator, start, test, returned, statement}
 use Rattle.om_rows.specs.Statements.{statements}
 use Rattle.om_rows.specs.Tables.{number_in}
-use Rattle.om_meaning.specs.Meaning as flows
-use Rattle.om_meaning.specs.Meaning.{is_zero, value_of, values_of, effect_of, Flow, flow_value, then_do, after_turn}
-use Rattle.om_meaning.specs.Meaning.{turns, turns_first, tested, tested_if_any, effect_flow, effect_if_any}
-use Rattle.om_meaning.specs.Meaning.{all_declared, begun, meaning, meanings}
-use Rattle.om_meaning.specs.Running.{frame, with_int, ended, Leads, Comes, Ends, Gives, Drops, JumpsTo, Does}
-use Rattle.om_meaning.specs.Serial.{IsSerial, AreSerial}
-use Rattle.om_meaning.specs.Laws.{layout_of}
-use Rattle.om_meaning.specs.Worlds.{World, Layout, Outcome, Got, Faulty, Values, GotAll, FaultyAt, after_value}
-use Rattle.om_meaning.specs.Worlds.{with_first, store, clear, print}
-use Rattle.om_meaning.proofs.Acting.{store_drops, clear_acts}
-use Rattle.om_meaning.proofs.Expressions as expressions
-use Rattle.om_meaning.proofs.Flows as runs
-use Rattle.om_meaning.proofs.Printing.{with_ints, prints}
-use Rattle.om_meaning.proofs.Spoken.{IsSpokenEffect, IsSpokenStart, IsSpokenStatement, AreSpoken}
-use Rattle.om_meaning.proofs.Stepping as steps
+use Rattle.om_rows.specs.Meaning as flows
+use Rattle.om_rows.specs.Meaning.{is_zero, value_of, values_of, effect_of, Flow, flow_value, then_do, after_turn}
+use Rattle.om_rows.specs.Meaning.{turns, turns_first, tested, tested_if_any, effect_flow, effect_if_any}
+use Rattle.om_rows.specs.Meaning.{all_declared, begun, meaning, meanings}
+use Rattle.om_rows.specs.Running.{frame, with_int, ended, Leads, Comes, Ends, Gives, Drops, JumpsTo, Does}
+use Rattle.om_rows.specs.Serial.{IsSerial, AreSerial}
+use Rattle.om_rows.specs.MeaningLaws.{layout_of}
+use Rattle.om_rows.specs.Worlds.{World, Layout, Outcome, Got, Faulty, Values, GotAll, FaultyAt, after_value}
+use Rattle.om_rows.specs.Worlds.{with_first, store, clear, print}
+use Rattle.om_rows.proofs.Acting.{store_drops, clear_acts}
+use Rattle.om_rows.proofs.Expressions as expressions
+use Rattle.om_rows.proofs.Flows as runs
+use Rattle.om_rows.proofs.Printing.{with_ints, prints}
+use Rattle.om_rows.proofs.Spoken.{IsSpokenEffect, IsSpokenStart, IsSpokenStatement, AreSpoken}
+use Rattle.om_rows.proofs.Stepping as steps
 
 module _ (raw : Raw) (body : Body) (at : Site) (same : at.code ≡ body.code) (texts : AllZip IsTextOf at.formats
     raw.texts) where

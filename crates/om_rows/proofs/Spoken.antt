@@ -13,8 +13,8 @@ use Rattle.om_resolved.specs.ResolvedTree.{Task, Loop, Sections, Construct, Upda
 use Rattle.om_resolved.specs.ResolvedTree.{NoStatements, Statement}
 use Rattle.om_rows.specs.Mentions.{expression_formats, values_formats, format_mention, perhaps_mentioned}
 use Rattle.om_rows.specs.Mentions.{start_mentioned, mentioned, all_mentioned}
-use Rattle.om_meaning.specs.Serial.{IsSerial, AreSerial, IsSerialEffect, IsSerialStart, IsSerialStatement}
-use Rattle.om_meaning.specs.Serial.{AreSerialStatements}
+use Rattle.om_rows.specs.Serial.{IsSerial, AreSerial, IsSerialEffect, IsSerialStart, IsSerialStatement}
+use Rattle.om_rows.specs.Serial.{AreSerialStatements}
 
 -- an expression whose value nothing uses
 abbrev pub IsSpokenEffect : List (List ℕ) → ResolvedExpressionTree → Type 0

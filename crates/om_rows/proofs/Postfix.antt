@@ -12,12 +12,12 @@ use Rattle.om_code.specs.Frames.{index_in}
 use Rattle.om_tree.specs.declared.tree.PostfixOperator.{PostfixOperator}
 use Rattle.om_tree.specs.declared.tree.PostfixOperator.TheVariants as postfixes
 use Rattle.om_rows.specs.Operators.{step_of, inverse_step_of}
-use Rattle.om_meaning.specs.Ints.{HoldsInt, HoldsInts, LeavesInts}
-use Rattle.om_meaning.specs.Laws.{PostfixGivesOld, ElementGivesOld}
-use Rattle.om_meaning.specs.Meaning.{stepped_back, load_element, store_element, one, value_of}
-use Rattle.om_meaning.specs.Worlds.{World, Outcome, Got, Faulty, with_value, result, held, with_held, found, put_into}
-use Rattle.om_meaning.specs.Worlds.{load, store, at_index}
-use Rattle.om_meaning.proofs.Ints.{value_ints}
+use Rattle.om_rows.specs.Ints.{HoldsInt, HoldsInts, LeavesInts}
+use Rattle.om_rows.specs.MeaningLaws.{PostfixGivesOld, ElementGivesOld}
+use Rattle.om_rows.specs.Meaning.{stepped_back, load_element, store_element, one, value_of}
+use Rattle.om_rows.specs.Worlds.{World, Outcome, Got, Faulty, with_value, result, held, with_held, found, put_into}
+use Rattle.om_rows.specs.Worlds.{load, store, at_index}
+use Rattle.om_rows.proofs.Ints.{value_ints}
 
 ok_of : (b : Bool) (x z : ℤ) → (if b then Ok x else Err fault.Overflow) ≡ Ok z → x ≡ z
 ok_of true x z e = cc e

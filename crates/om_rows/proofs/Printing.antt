@@ -21,9 +21,9 @@ use Rattle.om_code.specs.Printing.{printed, ints, ints_on}
 use Rattle.om_resolved.specs.Formats.{Piece, Bytes, Value, pieces_of}
 use Rattle.om_rows.specs.Mentions.{IsTextOf, text_piece}
 use Rattle.om_rows.specs.Tables.{number_in}
-use Rattle.om_meaning.specs.Running.{frame, with_int}
-use Rattle.om_meaning.specs.Worlds.{World, written, text_of, print}
-use Rattle.om_meaning.proofs.Acting.{turn_on}
+use Rattle.om_rows.specs.Running.{frame, with_int}
+use Rattle.om_rows.specs.Worlds.{World, written, text_of, print}
+use Rattle.om_rows.proofs.Acting.{turn_on}
 
 -- ---- bytes
 

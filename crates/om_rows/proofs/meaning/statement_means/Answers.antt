@@ -1,6 +1,6 @@
-use Rattle.om_meaning.proofs.Spoken.{spoken}
-use Rattle.om_meaning.proofs.Statements.{statement_runs}
-use Rattle.om_meaning.proofs.laws.statement_means.Goals as goal
+use Rattle.om_rows.proofs.Spoken.{spoken}
+use Rattle.om_rows.proofs.Statements.{statement_runs}
+use Rattle.om_rows.proofs.meaning.statement_means.Goals as goal
 
 pub returns : goal.returns
 returns c =

@@ -17,14 +17,14 @@ use Rattle.om_rows.specs.Mentions.{format_mention, formats_of, function_mentione
 use Rattle.om_rows.specs.Laws.{FunctionBodies, FormatsAreNumbered}
 use Rattle.om_rows.specs.Rows.{Site}
 use Rattle.om_rows.specs.Statements.{last_instruction, nowhere}
-use Rattle.om_meaning.specs.Laws.{layout_of, source, IsOver, Agrees, Behaves, SerialMeaning}
-use Rattle.om_meaning.specs.Meaning as flows
-use Rattle.om_meaning.specs.Meaning.{Flow, Broke, Continued, Failed, OutOfTurns, then_do, meanings}
-use Rattle.om_meaning.specs.Running.{frame, on_from, run, ended, Comes, Ends, Does}
-use Rattle.om_meaning.specs.Worlds.{World}
-use Rattle.om_meaning.proofs.Spoken.{AreSpoken, Found, front, back, all_spoken}
-use Rattle.om_meaning.proofs.Statements as statements
-use Rattle.om_meaning.proofs.Stepping as steps
+use Rattle.om_rows.specs.MeaningLaws.{layout_of, source, IsOver, Agrees, Behaves, SerialMeaning}
+use Rattle.om_rows.specs.Meaning as flows
+use Rattle.om_rows.specs.Meaning.{Flow, Broke, Continued, Failed, OutOfTurns, then_do, meanings}
+use Rattle.om_rows.specs.Running.{frame, on_from, run, ended, Comes, Ends, Does}
+use Rattle.om_rows.specs.Worlds.{World}
+use Rattle.om_rows.proofs.Spoken.{AreSpoken, Found, front, back, all_spoken}
+use Rattle.om_rows.proofs.Statements as statements
+use Rattle.om_rows.proofs.Stepping as steps
 
 ended_over : (is_main : Bool) (v : Option ℤ) (f : Frame) → IsOver (ended is_main v f)
 ended_over true None f = tt

@@ -6,9 +6,9 @@ use Rattle.om_code.specs.declared.raw.Body.{Body}
 use Rattle.om_code.specs.declared.raw.Raw.{Raw}
 use Rattle.om_code.specs.Frames as frames
 use Rattle.om_code.specs.Frames.{Frame, FrameTurn, Finished, Faulted, Stuck, frame_turn}
-use Rattle.om_meaning.specs.Meaning as flows
-use Rattle.om_meaning.specs.Meaning.{Flow, Broke, Continued, Failed, OutOfTurns}
-use Rattle.om_meaning.specs.Worlds.{World, Outcome, Got, Faulty}
+use Rattle.om_rows.specs.Meaning as flows
+use Rattle.om_rows.specs.Meaning.{Flow, Broke, Continued, Failed, OutOfTurns}
+use Rattle.om_rows.specs.Worlds.{World, Outcome, Got, Faulty}
 use Rattle.om_rows.specs.Statements.{Jumps}
 
 -- the frame at this place, with these operands, in this world; and the world of a frame

@@ -8,12 +8,12 @@ use Rattle.om_code.specs.declared.raw.Body.{Body}
 use Rattle.om_code.specs.declared.raw.Raw.{Raw}
 use Rattle.om_code.specs.Frames.{Frame, FrameTurn}
 use Rattle.om_rows.specs.Statements.{Jumps, in_loop}
-use Rattle.om_meaning.specs.Meaning as flows
-use Rattle.om_meaning.specs.Meaning.{is_zero, Flow, Broke, Continued, Failed, OutOfTurns, flow_value, then_do}
-use Rattle.om_meaning.specs.Meaning.{after_turn, turns, turns_first, tested}
-use Rattle.om_meaning.specs.Running.{frame, with_int, Leads, Comes, Ends, Gives, Drops, JumpsTo, Does}
-use Rattle.om_meaning.specs.Worlds.{World, Outcome, Got, Faulty}
-use Rattle.om_meaning.proofs.Stepping as steps
+use Rattle.om_rows.specs.Meaning as flows
+use Rattle.om_rows.specs.Meaning.{is_zero, Flow, Broke, Continued, Failed, OutOfTurns, flow_value, then_do}
+use Rattle.om_rows.specs.Meaning.{after_turn, turns, turns_first, tested}
+use Rattle.om_rows.specs.Running.{frame, with_int, Leads, Comes, Ends, Gives, Drops, JumpsTo, Does}
+use Rattle.om_rows.specs.Worlds.{World, Outcome, Got, Faulty}
+use Rattle.om_rows.proofs.Stepping as steps
 
 module _ (raw : Raw) (body : Body) (is_main : Bool) where
   abbrev pub Run : ℕ → Frame → ℕ → Jumps → List Operand → Flow → Type 0

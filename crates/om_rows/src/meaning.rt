@@ -1,8 +1,8 @@
 //! Laws of the serial meaning.
 
-ghost use Rattle.om_meaning.specs.Laws.{ElementGivesOld, IntsStay, IntsStayBehind, PostfixGivesOld, SerialMeaning, StatementMeans, ValueMeans};
+ghost use Rattle.om_rows.specs.MeaningLaws.{ElementGivesOld, IntsStay, IntsStayBehind, PostfixGivesOld, SerialMeaning, StatementMeans, ValueMeans};
 
-use om_rows::laws::{formats_are_numbered, function_bodies};
+use crate::laws::{formats_are_numbered, function_bodies};
 
 /// The code of an expression gives its value, in the world that the expression leaves, or meets its fault.
 pub fn value_means()

@@ -18,10 +18,10 @@ use Rattle.om_code.specs.Arithmetic.{operate, operate_on_one}
 use Rattle.om_code.specs.Frames as frames
 use Rattle.om_code.specs.Frames.{FrameTurn, Faulted, act, acted, turned, decided, gives, loaded, stored, kept, reads}
 use Rattle.om_code.specs.Frames.{writes, cells_in, index_in}
-use Rattle.om_meaning.specs.Meaning.{load_element, store_element}
-use Rattle.om_meaning.specs.Running.{frame, with_int}
-use Rattle.om_meaning.specs.Worlds.{World, Outcome, Got, Faulty, with_held, result, load, store, found, put_into}
-use Rattle.om_meaning.specs.Worlds.{at_index, clear}
+use Rattle.om_rows.specs.Meaning.{load_element, store_element}
+use Rattle.om_rows.specs.Running.{frame, with_int}
+use Rattle.om_rows.specs.Worlds.{World, Outcome, Got, Faulty, with_held, result, load, store, found, put_into}
+use Rattle.om_rows.specs.Worlds.{at_index, clear}
 
 -- a turn that pushes a value, or faults
 abbrev pub Pushed : FrameTurn → ℕ → List Operand → Outcome → Type 0

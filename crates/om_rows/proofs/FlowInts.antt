@@ -15,16 +15,16 @@ use Rattle.om_resolved.specs.ResolvedTree.{While, Do, For, Return, Break, Contin
 use Rattle.om_resolved.specs.ResolvedTree.{Construct, Update, StandAlone, ResolvedStatementsTree, NoStatements}
 use Rattle.om_resolved.specs.ResolvedTree.{Statement}
 use Rattle.om_rows.specs.Operators.{step_of}
-use Rattle.om_meaning.specs.Ints.{IsInt, HoldsInt, HoldsInts, LeavesInts, HasInts, AllHaveInts, EffectHasInts}
-use Rattle.om_meaning.specs.Ints.{DeclaratorHasInts, StartHasInts, StatementHasInts, StatementsHaveInts, FlowLeavesInts}
-use Rattle.om_meaning.specs.Laws.{IntsStayBehind}
-use Rattle.om_meaning.specs.Meaning.{is_zero, one, value_of, values_of, effect_of, printed, Flow, Onward, Broke}
-use Rattle.om_meaning.specs.Meaning.{Continued, Returned, Failed, OutOfTurns, flow_value, then_do, after_turn, turns}
-use Rattle.om_meaning.specs.Meaning.{turns_first, tested, tested_if_any, effect_flow, effect_if_any, slot_number}
-use Rattle.om_meaning.specs.Meaning.{declared, all_declared, begun, returned, meaning, meanings}
-use Rattle.om_meaning.specs.Worlds.{World, Layout, Outcome, Got, Faulty, Values, GotAll, FaultyAt, after_value}
-use Rattle.om_meaning.specs.Worlds.{with_first, store, clear, print}
-use Rattle.om_meaning.proofs.Ints.{Stays, value_ints, store_ints, assigned_ints, element_assigned_ints, one_ints}
+use Rattle.om_rows.specs.Ints.{IsInt, HoldsInt, HoldsInts, LeavesInts, HasInts, AllHaveInts, EffectHasInts}
+use Rattle.om_rows.specs.Ints.{DeclaratorHasInts, StartHasInts, StatementHasInts, StatementsHaveInts, FlowLeavesInts}
+use Rattle.om_rows.specs.MeaningLaws.{IntsStayBehind}
+use Rattle.om_rows.specs.Meaning.{is_zero, one, value_of, values_of, effect_of, printed, Flow, Onward, Broke}
+use Rattle.om_rows.specs.Meaning.{Continued, Returned, Failed, OutOfTurns, flow_value, then_do, after_turn, turns}
+use Rattle.om_rows.specs.Meaning.{turns_first, tested, tested_if_any, effect_flow, effect_if_any, slot_number}
+use Rattle.om_rows.specs.Meaning.{declared, all_declared, begun, returned, meaning, meanings}
+use Rattle.om_rows.specs.Worlds.{World, Layout, Outcome, Got, Faulty, Values, GotAll, FaultyAt, after_value}
+use Rattle.om_rows.specs.Worlds.{with_first, store, clear, print}
+use Rattle.om_rows.proofs.Ints.{Stays, value_ints, store_ints, assigned_ints, element_assigned_ints, one_ints}
 
 -- from a world of ints it leaves ints
 abbrev Keeps : (World → Flow) → Type 0

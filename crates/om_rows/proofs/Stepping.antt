@@ -9,10 +9,10 @@ use Rattle.om_code.specs.declared.raw.Body.{Body}
 use Rattle.om_code.specs.declared.raw.Raw.{Raw}
 use Rattle.om_code.specs.Frames as frames
 use Rattle.om_code.specs.Frames.{Frame, FrameTurn, Faulted, frame_turn, turn_at, acted, act}
-use Rattle.om_meaning.specs.Meaning.{is_zero}
-use Rattle.om_meaning.specs.Running.{frame, world_of, on_from, run, with_int, Leads, Ends, Gives, Drops}
-use Rattle.om_meaning.specs.Worlds.{World, Outcome, Got, Faulty, with_value}
-use Rattle.om_meaning.proofs.Acting.{Pushed, Dropped, turn_on}
+use Rattle.om_rows.specs.Meaning.{is_zero}
+use Rattle.om_rows.specs.Running.{frame, world_of, on_from, run, with_int, Leads, Ends, Gives, Drops}
+use Rattle.om_rows.specs.Worlds.{World, Outcome, Got, Faulty, with_value}
+use Rattle.om_rows.proofs.Acting.{Pushed, Dropped, turn_on}
 
 module _ (raw : Raw) (body : Body) where
   -- ---- one turn

@@ -10,8 +10,8 @@ use Rattle.om_resolved.specs.ResolvedTree.{ResolvedDeclaratorTree, ResolvedStart
 use Rattle.om_resolved.specs.ResolvedTree.{StartDeclaration, ResolvedStatementTree, Declaration, Block, Expression, If}
 use Rattle.om_resolved.specs.ResolvedTree.{IfElse, While, Do, For, Return, ResolvedStatementsTree, NoStatements}
 use Rattle.om_resolved.specs.ResolvedTree.{Statement}
-use Rattle.om_meaning.specs.Meaning.{Flow, Onward, Broke, Continued, Returned, Failed, OutOfTurns}
-use Rattle.om_meaning.specs.Worlds.{World, Outcome, Got, Faulty, held}
+use Rattle.om_rows.specs.Meaning.{Flow, Onward, Broke, Continued, Returned, Failed, OutOfTurns}
+use Rattle.om_rows.specs.Worlds.{World, Outcome, Got, Faulty, held}
 
 abbrev pub IsInt : ℤ → Type 0
 IsInt v = is_int v ≡ true

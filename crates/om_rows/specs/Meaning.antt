@@ -25,8 +25,8 @@ use Rattle.om_resolved.specs.ResolvedTree.{StartDeclaration, ResolvedStatementTr
 use Rattle.om_resolved.specs.ResolvedTree.{Expression, If, IfElse, While, Do, For, Return, Break, Continue}
 use Rattle.om_resolved.specs.ResolvedTree.{ResolvedStatementsTree, NoStatements, Statement}
 use Rattle.om_rows.specs.Operators.{BinaryForm, Both, Either, Plain, form_of, compound_of, step_of, inverse_step_of}
-use Rattle.om_meaning.specs.Worlds.{World, Layout, Outcome, Got, Faulty, with_value, result, Values, GotAll, FaultyAt}
-use Rattle.om_meaning.specs.Worlds.{after_value, with_first, load, store, at_index, clear, print}
+use Rattle.om_rows.specs.Worlds.{World, Layout, Outcome, Got, Faulty, with_value, result, Values, GotAll, FaultyAt}
+use Rattle.om_rows.specs.Worlds.{after_value, with_first, load, store, at_index, clear, print}
 
 abbrev pub is_zero : ℤ → Bool
 is_zero v = int_eq v (pos 0)
