@@ -2,6 +2,7 @@
 use Rattle.std.proofs.Common.{◌≡◌, refl, sym, ◌∙◌, ap, subst, Bool, true, false, cond, ℕ, zero, suc, ◌<◌, ◌≤◌, nat_lt, arith}
 use Rattle.std.proofs.Common.{Option, None, Some, List, [], ◌∷◌, ◌++◌, length, get_or, append-nil, Bor}
 use Rattle.std.specs.Prelude.{slice_get, slice_set, is_some, IsSome, IfSome, IfNone}
+use Rattle.std.specs.Bool.{then_some}
 use Rattle.std.specs.Option.{option_copied, option_to_list}
 use Rattle.std.specs.List.{filter}
 use Rattle.std.specs.List.Sorted.{IsPartitionPoint, IsPartitionedBy}
@@ -318,3 +319,16 @@ pub entries-one : (rows rest : List Row) (r : Row) (k : UndoRecord) → rows ≡
     → values_of (entries_in rows) ≡ k ∷ values_of (entries_in rest)
 entries-one rows rest r k is some =
     ap (λ rs. values_of (entries_in rs)) is ∙ ap (λ o. values_of (with_entry r.serial o (entries_in rest))) some
+
+-- what is so is so where nothing is answered
+pub if_none : {A : Type 0} (o : Option A) (P : Type 0) → P → IfNone o P
+if_none None P h = h
+if_none (Some a) P h = tt
+
+pub chosen : (b : Bool) (i : ℕ) (P : ℕ → Type 0) → (b ≡ true → P i) → IfSome (then_some b i) P
+chosen true i P h = h refl
+chosen false i P h = tt
+
+pub unchosen : (b : Bool) (i : ℕ) (P : Type 0) → (b ≡ false → P) → IfNone (then_some b i) P
+unchosen true i P h = tt
+unchosen false i P h = h refl

@@ -46,10 +46,8 @@ fn place(rows: &[Row], serial: u64) -> Option<usize>
     ensures none { IfNone result (lookup (is_at (nat_cmp serial)) (entries_in rows.now) ≡ None) }
 {
     let place = rows.partition_point(|row| row.serial < serial);
-    match rows.get(place) {
-        Some(row) if row.serial == serial => Some(place),
-        _ => None,
-    }
+    let row = rows.get(place)?;
+    (row.serial == serial).then_some(place)
 }
 
 /// Takes out the rows without a record behind the last one that has it. It takes no memory.
@@ -106,10 +104,8 @@ impl BySerial {
         ensures found { IfSome result (λ k. lookup (is_at (nat_cmp serial)) self.now ≡ Some k.now) }
         ensures none { IfNone result (lookup (is_at (nat_cmp serial)) self.now ≡ None) }
     {
-        match place(self.rows.as_slice(), serial) {
-            Some(i) => self.rows[i].kept.as_ref(),
-            None => None,
-        }
+        let at = place(self.rows.as_slice(), serial)?;
+        self.rows[at].kept.as_ref()
     }
 
     /// Adds a record behind all others. When out of memory, no record changes, and this one comes
@@ -144,9 +140,7 @@ impl BySerial {
         ensures found { IfSome result (λ k. lookup (is_at (nat_cmp serial)) self.old ≡ Some k) }
         ensures none { IfNone result (lookup (is_at (nat_cmp serial)) self.old ≡ None) }
     {
-        match place(self.rows.as_slice(), serial) {
-            Some(i) => self.rows[i].kept.take(),
-            None => None,
-        }
+        let at = place(self.rows.as_slice(), serial)?;
+        self.rows[at].kept.take()
     }
 }

@@ -12,17 +12,17 @@ use Rattle.om_history.proofs.by_serial.BySerial.get.Goals as goal
 found : (c : goal.After-as_ref) → lookup (is_at (nat_cmp c.args.serial)) c.args.self.now ≡ option_copied c.as_ref.result
 found c =
     let rows = c.self.inside.rows.items in
-    let i = c.in-Some.i in
-    let r : Row = c.in-Some.ensures.found.0 in
+    let i = c.in_ok-at.at in
+    let r : Row = c.in_ok-at.ensures.found.0 in
     let there : slice_get rows i ≡ Some r =
-    subst (λ xs. slice_get xs i ≡ Some r) c.as_slice.ensures.value c.in-Some.ensures.found.1 in
+    subst (λ xs. slice_get xs i ≡ Some r) c.as_slice.ensures.value c.in_ok-at.ensures.found.1 in
     ap (lookup (is_at (nat_cmp c.args.serial))) (sym c.self.view_is)
-    ∙ found-at 0 c.args.serial rows i r c.self.invariant there c.in-Some.ensures.found.2
+    ∙ found-at 0 c.args.serial rows i r c.self.invariant there c.in_ok-at.ensures.found.2
     ∙ sym (ap (λ (y : Row). y.kept) (c.index.ensures ∙ get_or_from_slice_get rows i r c.index.result.now there))
     ∙ sym c.as_ref.ensures.value
 
-pub returns-in-Some-clause-found : goal.returns-in-Some-clause-found
-returns-in-Some-clause-found c = told-lent _ c.as_ref.result (found c)
+pub returns-clause-found : goal.returns-clause-found
+returns-clause-found c = told-lent _ c.as_ref.result (found c)
 
-pub returns-in-Some-clause-none : goal.returns-in-Some-clause-none
-returns-in-Some-clause-none c = untold-lent _ c.as_ref.result (found c)
+pub returns-clause-none : goal.returns-clause-none
+returns-clause-none c = untold-lent _ c.as_ref.result (found c)

@@ -1,48 +1,52 @@
-use Rattle.std.proofs.Common.{◌≡◌, sym, ◌∙◌, ap, subst, Some}
+use Rattle.std.proofs.Common.{◌≡◌, ◌<◌, sym, ◌∙◌, ap, subst, Some}
 use Rattle.std.specs.Prelude.{slice_get}
 use Rattle.std.specs.Ordering.{nat_cmp}
 use Rattle.std.specs.BTreeMap.{is_at}
 use Rattle.std.specs.Map.{lookup, remove_entry}
-use Rattle.std.proofs.lemmas.Option.{get_or_from_slice_get}
+use Rattle.std.proofs.lemmas.Option.{get_or_from_slice_get, slice_get_within}
 use Rattle.om_history.specs.declared.by_serial.Row.{Row}
 use Rattle.om_history.specs.Rows.{entries_in}
 use Rattle.om_history.proofs.Rows.{found-at, taken-at, rising-set, remove_missing, told, untold}
 use Rattle.om_history.proofs.by_serial.BySerial.take.Goals as goal
 
-there : (c : goal.After-self-1) → slice_get c.self.inside.rows.items c.in-Some.i ≡ Some c.in-Some.ensures.found.0
-there c = subst (λ xs. slice_get xs c.in-Some.i ≡ Some c.in-Some.ensures.found.0) c.as_slice.ensures.value
-    c.in-Some.ensures.found.1
+there : (c : goal.After-self-1) → slice_get c.self.inside.rows.items c.in_ok-at.at ≡ Some c.in_ok-at.ensures.found.0
+there c = subst (λ xs. slice_get xs c.in_ok-at.at ≡ Some c.in_ok-at.ensures.found.0) c.as_slice.ensures.value
+    c.in_ok-at.ensures.found.1
 
-row_is : (c : goal.After-self-1) → c.index_mut.result.now ≡ c.in-Some.ensures.found.0
+row_is : (c : goal.After-self-1) → c.index_mut.result.now ≡ c.in_ok-at.ensures.found.0
 row_is c = c.index_mut.ensures.value
-    ∙ get_or_from_slice_get c.self.inside.rows.items c.in-Some.i c.in-Some.ensures.found.0 c.index_mut.result.now (there c)
+    ∙ get_or_from_slice_get c.self.inside.rows.items c.in_ok-at.at c.in_ok-at.ensures.found.0 c.index_mut.result.now (there c)
 
 found : (c : goal.After-self-1) → lookup (is_at (nat_cmp c.args.serial)) c.args.self.now ≡ c.take.result
 found c =
     ap (lookup (is_at (nat_cmp c.args.serial))) (sym c.self.view_is)
-    ∙ found-at 0 c.args.serial c.self.inside.rows.items c.in-Some.i c.in-Some.ensures.found.0 c.self.invariant (there c)
-    c.in-Some.ensures.found.2
+    ∙ found-at 0 c.args.serial c.self.inside.rows.items c.in_ok-at.at c.in_ok-at.ensures.found.0 c.self.invariant (there c)
+    c.in_ok-at.ensures.found.2
     ∙ sym (ap (λ (y : Row). y.kept) (row_is c)) ∙ sym c.take.ensures.value
 
 pub invariant_of-self : goal.invariant_of-self
-invariant_of-self c = rising-set 0 c.self.inside.rows.items c.in-Some.i c.in-Some.ensures.found.0
+invariant_of-self c = rising-set 0 c.self.inside.rows.items c.in_ok-at.at c.in_ok-at.ensures.found.0
     (record { serial = c.index_mut.result.now.serial; kept = c.take.new.self }) c.self.invariant (there c)
     (ap (λ (y : Row). y.serial) (row_is c))
 
-pub returns-in-Some-clause-taken : goal.returns-in-Some-clause-taken
-returns-in-Some-clause-taken c =
-    taken-at 0 c.args.serial c.self.inside.rows.items c.in-Some.i c.in-Some.ensures.found.0
+pub returns-clause-taken : goal.returns-clause-taken
+returns-clause-taken c =
+    taken-at 0 c.args.serial c.self.inside.rows.items c.in_ok-at.at c.in_ok-at.ensures.found.0
     (record { serial = c.index_mut.result.now.serial; kept = c.take.new.self }) c.self.invariant (there c)
-    c.in-Some.ensures.found.2 c.take.ensures.after
+    c.in_ok-at.ensures.found.2 c.take.ensures.after
     ∙ ap (remove_entry (is_at (nat_cmp c.args.serial))) c.self.view_is
 
-pub returns-in-Some-clause-found : goal.returns-in-Some-clause-found
-returns-in-Some-clause-found c = told _ c.take.result (found c)
+pub returns-clause-found : goal.returns-clause-found
+returns-clause-found c = told _ c.take.result (found c)
 
-pub returns-in-Some-clause-none : goal.returns-in-Some-clause-none
-returns-in-Some-clause-none c = untold _ c.take.result (found c)
+pub returns-clause-none : goal.returns-clause-none
+returns-clause-none c = untold _ c.take.result (found c)
 
-pub returns-in-None-clause-taken : goal.returns-in-None-clause-taken
-returns-in-None-clause-taken c = sym (remove_missing (is_at (nat_cmp c.args.serial)) c.args.self.now
+pub returns-in_err-at-clause-taken : goal.returns-in_err-at-clause-taken
+returns-in_err-at-clause-taken c = sym (remove_missing (is_at (nat_cmp c.args.serial)) c.args.self.now
     (ap (lookup (is_at (nat_cmp c.args.serial))) (sym c.self.view_is ∙ sym (ap entries_in c.as_slice.ensures.value))
-    ∙ c.in-None.ensures.none))
+    ∙ c.in_err-at.ensures.none))
+
+pub index_mut-requires : goal.index_mut-requires
+index_mut-requires c = subst (λ n. c.in_ok-at.at < n) c.as_slice.ensures.len
+    (slice_get_within c.as_slice.result.now c.in_ok-at.at c.in_ok-at.ensures.found.0 c.in_ok-at.ensures.found.1)
