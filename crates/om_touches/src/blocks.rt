@@ -1,6 +1,6 @@
 //! Sets of serials, by blocks of 64 serials that follow each other.
 
-ghost use Rattle.std.specs.Prelude.{◌≡◌, ℕ, ◌<◌, ◌+◌, ◌*◌, ◌/◌, ◌%◌, ◌^◌, cond, nat_eq, nat_lt, ◌&&◌, true, false, None, Some, is_some, OnOk, OnErr};
+ghost use Rattle.std.specs.Prelude.{◌≡◌, ℕ, ◌<◌, ◌+◌, ◌*◌, ◌/◌, ◌%◌, ◌^◌, cond, nat_eq, nat_lt, ◌&&◌, true, false, None, Some, is_some, OnOk, OnErr, IfSome, IfNone};
 ghost use Rattle.om_touches.specs.Offsets.{has_offset};
 ghost use Rattle.om_touches.specs.Blocks.{block_of, is_offset, in_older, in_newest, has_in, AreBefore};
 ghost use Rattle.om_touches.specs.Touches.{sooner, IsFirst, IsGreatest};
@@ -197,6 +197,18 @@ fn retire(
     }
 }
 
+/// Takes the last block out, if there is one. It takes no memory.
+fn take_last(older: &mut BTreeMap<u64, Offsets>) -> Option<(u64, Offsets)>
+    ensures was { IfSome result (λ block. block_of older.old.entries block.0 ≡ Some block.1) }
+    ensures taken { IfSome result (λ block. (q : ℕ) → block_of older.new.entries q
+        ≡ cond (nat_eq block.0 q) None (block_of older.old.entries q)) }
+    ensures last { IfSome result (λ block. AreBefore block.0 older.new.entries) }
+    ensures none { IfNone result
+        ((q : ℕ) → block_of older.new.entries q ≡ block_of older.old.entries q) }
+{
+    older.pop_last()
+}
+
 /// Takes a serial out of its block, if it is there.
 fn take_newest(newest: &mut Option<Offsets>, serial: u64)
     ensures { (k : ℕ) → k < 64 → is_offset newest.new k
@@ -263,12 +275,26 @@ impl Blocks {
         }
     }
 
+    /// Has the block before the newest one become the newest, where that is empty. It takes no memory.
+    fn refill(&mut self)
+        ensures { (s : ℕ) → has_in self.new s ≡ has_in self.old s }
+    {
+        if self.newest.is_some() {
+            return;
+        }
+        if let Some((number, offsets)) = take_last(&mut self.older) {
+            self.number = number;
+            self.newest = Some(offsets);
+        }
+    }
+
     /// Takes a serial out, if it is there. It takes no memory.
     pub(crate) fn take(&mut self, serial: u64)
         ensures { (s : ℕ) → has_in self.new s ≡ cond (nat_eq serial s) false (has_in self.old s) }
     {
         if serial / IN_BLOCK == self.number {
             take_newest(&mut self.newest, serial);
+            self.refill();
         } else {
             take_older(&mut self.older, serial);
         }
