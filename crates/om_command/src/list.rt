@@ -7,7 +7,8 @@ use crate::number::push_numbered;
 use crate::object::push_named;
 use crate::step::{push_entry, push_undone};
 use om_cells::Entry;
-use om_foot::{Name, Record, text_of};
+use om_events::{Record, text_of};
+use om_foot::Name;
 use om_history::{RollReply, Taken};
 use std::alloc::AllocError;
 

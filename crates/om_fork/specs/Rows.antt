@@ -9,12 +9,12 @@ use Rattle.om_code.specs.declared.instruction.Barrier.TheVariants as barrier_kin
 use Rattle.om_code.specs.declared.raw.Body.{Body}
 use Rattle.om_code.specs.declared.raw.Slot.{Slot}
 use Rattle.om_code.specs.Frames.{int_at}
-use Rattle.om_foot.specs.declared.event.Record.TheVariants as event_record
-use Rattle.om_foot.specs.declared.kind.Endpoint.TheVariants as endpoint
-use Rattle.om_foot.specs.declared.kind.Sync as syncs
-use Rattle.om_foot.specs.declared.kind.Sync.TheVariants as sync
-use Rattle.om_foot.specs.declared.kind.TaskFlag.TheVariants as flag
-use Rattle.om_foot.specs.declared.event.Record.{Record}
+use Rattle.om_events.specs.declared.event.Record.TheVariants as event_record
+use Rattle.om_events.specs.declared.kind.Endpoint.TheVariants as endpoint
+use Rattle.om_events.specs.declared.kind.Sync as syncs
+use Rattle.om_events.specs.declared.kind.Sync.TheVariants as sync
+use Rattle.om_events.specs.declared.kind.TaskFlag.TheVariants as flag
+use Rattle.om_events.specs.declared.event.Record.{Record}
 use Rattle.om_cells.specs.declared.control.Frame.{Frame}
 use Rattle.om_cells.specs.declared.control.Team.{Team}
 use Rattle.om_cells.specs.declared.control.Context.{Context}

@@ -8,7 +8,8 @@ ghost use Rattle.om_fork.specs.Rows.{value_of, finished, finish_row};
 
 use om_cells::{Blocked, Edit, Kind, Update};
 use om_code::serial::int_at;
-use om_foot::{Endpoint, Mode, Name, Obj, Record, TaskFlag};
+use om_events::{Endpoint, Record, TaskFlag};
+use om_foot::{Mode, Name, Obj};
 use om_live::{Context, Store};
 use om_seq::Seq;
 use om_steps::counts::is_zero;

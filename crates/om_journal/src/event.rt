@@ -1,8 +1,8 @@
 //! Whether two event records are the same.
 
 use crate::same::Same;
-use om_foot::Record;
-use om_foot::kind::{Endpoint, Sync, TaskFlag, TaskStatus, Thread, Work};
+use om_events::Record;
+use om_events::kind::{Endpoint, Sync, TaskFlag, TaskStatus, Thread, Work};
 
 impl Same for Endpoint {
     fn is_same(&self, other: &Endpoint) -> bool {

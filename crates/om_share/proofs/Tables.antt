@@ -8,7 +8,7 @@ use Rattle.om_cells.specs.declared.control.Construct.{Construct}
 use Rattle.om_cells.specs.declared.control.Construct.TheVariants as construct
 use Rattle.om_cells.specs.declared.control.Context.{Context}
 use Rattle.om_cells.specs.declared.control.Share.{Share}
-use Rattle.om_foot.specs.declared.kind.Work.{Work}
+use Rattle.om_events.specs.declared.kind.Work.{Work}
 use Rattle.om_cells.specs.State.{State}
 use Rattle.om_steps.specs.declared.row.Answer.{Answer}
 use Rattle.om_steps.specs.Rows.{Asked, answered}

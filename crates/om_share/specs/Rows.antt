@@ -10,11 +10,11 @@ use Rattle.om_code.specs.declared.instruction.Schedule.{Schedule}
 use Rattle.om_code.specs.declared.instruction.Schedule.TheVariants as schedule
 use Rattle.om_code.specs.declared.instruction.Place.TheVariants.{Slot}
 use Rattle.om_code.specs.Arithmetic.{is_int}
-use Rattle.om_foot.specs.declared.event.Record.{Record}
-use Rattle.om_foot.specs.declared.event.Record.TheVariants as event_record
-use Rattle.om_foot.specs.declared.kind.Endpoint.TheVariants as endpoint
-use Rattle.om_foot.specs.declared.kind.Work as works
-use Rattle.om_foot.specs.declared.kind.Work.TheVariants as work
+use Rattle.om_events.specs.declared.event.Record.{Record}
+use Rattle.om_events.specs.declared.event.Record.TheVariants as event_record
+use Rattle.om_events.specs.declared.kind.Endpoint.TheVariants as endpoint
+use Rattle.om_events.specs.declared.kind.Work as works
+use Rattle.om_events.specs.declared.kind.Work.TheVariants as work
 use Rattle.om_cells.specs.declared.control.Context.{Context}
 use Rattle.om_cells.specs.declared.control.Construct.{Construct}
 use Rattle.om_cells.specs.declared.control.Construct.TheVariants as construct

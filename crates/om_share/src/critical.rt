@@ -10,7 +10,8 @@ ghost use Rattle.om_share.specs.Rows.{ask_critical_row, lock_row, enter_critical
 
 use crate::parts::opened;
 use om_cells::{Blocked, Construct, Edit, Update, Val};
-use om_foot::{Mode, Obj, Record};
+use om_events::Record;
+use om_foot::{Mode, Obj};
 use om_live::{Context, Store};
 use om_seq::Seq;
 use om_steps::names::innermost;

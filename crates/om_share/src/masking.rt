@@ -10,7 +10,7 @@ ghost use Rattle.om_share.specs.Rows.{filtered_row, masked_row, is_masked, end_m
 
 use crate::parts::{Branch, jump, opened};
 use om_cells::{Construct, Edit};
-use om_foot::{Endpoint, Record};
+use om_events::{Endpoint, Record};
 use om_live::Context;
 use om_steps::names::innermost;
 use om_steps::parts::{go_and, own_events, recorded};

@@ -6,7 +6,7 @@ ghost use Rattle.om_steps.specs.Rows.{goes};
 ghost use Rattle.om_share.specs.Rows.{edits, begun, share_of, share_in};
 
 use om_cells::{Construct, Edit, Share, Shared};
-use om_foot::{Endpoint, Record, Work};
+use om_events::{Endpoint, Record, Work};
 use om_live::Context;
 use om_seq::Seq;
 use om_steps::Row;

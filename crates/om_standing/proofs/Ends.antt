@@ -17,10 +17,10 @@ use Rattle.om_code.specs.declared.serial.Turn.TheVariants.{Returns, Finishes}
 use Rattle.om_code.specs.Frames as frames
 use Rattle.om_code.specs.Frames.{Frame, acted, on_int, decided, cells_in}
 use Rattle.om_code.specs.Places.{slots_of}
-use Rattle.om_foot.specs.declared.event.Record.{Record}
-use Rattle.om_foot.specs.declared.event.Record.TheVariants as event_record
-use Rattle.om_foot.specs.declared.kind.Endpoint.TheVariants as endpoint
-use Rattle.om_foot.specs.declared.kind.TaskFlag.TheVariants as flag
+use Rattle.om_events.specs.declared.event.Record.{Record}
+use Rattle.om_events.specs.declared.event.Record.TheVariants as event_record
+use Rattle.om_events.specs.declared.kind.Endpoint.TheVariants as endpoint
+use Rattle.om_events.specs.declared.kind.TaskFlag.TheVariants as flag
 use Rattle.om_cells.specs.declared.control.Context.{Context}
 use Rattle.om_cells.specs.declared.control.Control.{Control}
 use Rattle.om_cells.specs.declared.control.Control.TheVariants.{Running, Ended}

@@ -6,7 +6,7 @@ use Rattle.om_foot.specs.declared.object.Obj.{Obj}
 use Rattle.om_foot.specs.declared.footprint.Access.{Access}
 use Rattle.om_foot.specs.declared.footprint.Mode.{Mode}
 use Rattle.om_foot.specs.declared.footprint.Mode.TheVariants as mode
-use Rattle.om_foot.specs.declared.event.Record.{Record}
+use Rattle.om_events.specs.declared.event.Record.{Record}
 use Rattle.om_cells.specs.declared.step.Tail.{Tail}
 use Rattle.om_cells.specs.declared.step.Tail.TheVariants as tail
 use Rattle.om_cells.specs.declared.step.Update.{Update}

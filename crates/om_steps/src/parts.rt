@@ -7,7 +7,8 @@ use crate::names::name_events;
 use crate::updates::put_event;
 use crate::{Answer, Row};
 use om_cells::{Edit, Update};
-use om_foot::{Access, Mode, Obj, Record};
+use om_events::Record;
+use om_foot::{Access, Mode, Obj};
 use om_seq::Seq;
 use std::alloc::{AllocError, Global};
 

@@ -6,7 +6,8 @@ ghost use Rattle.om_cells.specs.declared.value.Val.TheVariants as value;
 
 use om_cells::{Tail, Update, Val};
 use om_code::frame::Cell;
-use om_foot::{Access, Record};
+use om_events::Record;
+use om_foot::Access;
 use om_seq::Seq;
 use std::alloc::{AllocError, Global};
 

@@ -6,9 +6,9 @@ use Rattle.std.specs.Prelude.{if◌then◌else◌, slice_get, nat_lt}
 use Rattle.om_code.specs.declared.raw.GlobalVariable.{GlobalVariable}
 use Rattle.om_code.specs.declared.raw.Raw.{Raw}
 use Rattle.om_code.specs.declared.frame.Cell.TheVariants as cell
-use Rattle.om_foot.specs.declared.event.Record.{Record}
-use Rattle.om_foot.specs.declared.event.Record.TheVariants as event_record
-use Rattle.om_foot.specs.declared.kind.Thread.TheVariants as thread
+use Rattle.om_events.specs.declared.event.Record.{Record}
+use Rattle.om_events.specs.declared.event.Record.TheVariants as event_record
+use Rattle.om_events.specs.declared.kind.Thread.TheVariants as thread
 use Rattle.om_foot.specs.declared.object.Obj.{Obj}
 use Rattle.om_foot.specs.declared.object.Obj.TheVariants as obj
 use Rattle.om_cells.specs.declared.control.Control.{Control}

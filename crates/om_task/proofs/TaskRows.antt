@@ -25,7 +25,7 @@ use Rattle.om_code.specs.declared.serial.Turn.TheVariants as turn
 use Rattle.om_code.specs.Arithmetic.{combine}
 use Rattle.om_code.specs.Frames.{act}
 use Rattle.om_code.specs.Printing.{ints_on}
-use Rattle.om_foot.specs.declared.kind.TaskStatus as statuses
+use Rattle.om_events.specs.declared.kind.TaskStatus as statuses
 use Rattle.om_cells.specs.declared.control.Context.{Context}
 use Rattle.om_cells.specs.declared.control.Frame.{Frame}
 use Rattle.om_cells.specs.declared.control.Kind.{Kind}

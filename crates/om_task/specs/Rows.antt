@@ -9,14 +9,14 @@ use Rattle.om_code.specs.declared.frame.Fault.TheVariants as fault
 use Rattle.om_code.specs.declared.raw.Body.{Body}
 use Rattle.om_code.specs.declared.raw.Slot.{Slot}
 use Rattle.om_code.specs.Printing.{ints_on}
-use Rattle.om_foot.specs.declared.event.Record.{Record}
-use Rattle.om_foot.specs.declared.event.Record.TheVariants as event_record
-use Rattle.om_foot.specs.declared.kind.Endpoint as endpoints
-use Rattle.om_foot.specs.declared.kind.Endpoint.TheVariants as endpoint
-use Rattle.om_foot.specs.declared.kind.Sync as syncs
-use Rattle.om_foot.specs.declared.kind.Sync.TheVariants as sync
-use Rattle.om_foot.specs.declared.kind.TaskStatus as statuses
-use Rattle.om_foot.specs.declared.kind.TaskStatus.TheVariants as status
+use Rattle.om_events.specs.declared.event.Record.{Record}
+use Rattle.om_events.specs.declared.event.Record.TheVariants as event_record
+use Rattle.om_events.specs.declared.kind.Endpoint as endpoints
+use Rattle.om_events.specs.declared.kind.Endpoint.TheVariants as endpoint
+use Rattle.om_events.specs.declared.kind.Sync as syncs
+use Rattle.om_events.specs.declared.kind.Sync.TheVariants as sync
+use Rattle.om_events.specs.declared.kind.TaskStatus as statuses
+use Rattle.om_events.specs.declared.kind.TaskStatus.TheVariants as status
 use Rattle.om_cells.specs.declared.control.Context.{Context}
 use Rattle.om_cells.specs.declared.control.Construct.TheVariants as construct
 use Rattle.om_cells.specs.declared.control.Kind.{Kind}

@@ -10,13 +10,13 @@ use Rattle.om_code.specs.declared.raw.GlobalVariable.{GlobalVariable}
 use Rattle.om_code.specs.declared.raw.Raw.{Raw}
 use Rattle.om_code.specs.declared.frame.Cell.TheVariants as cell
 use Rattle.om_code.specs.Places.{instruction_at, line_at}
-use Rattle.om_foot.specs.declared.event.Record.{Record}
-use Rattle.om_foot.specs.declared.event.Record.TheVariants as event_record
-use Rattle.om_foot.specs.declared.kind.Endpoint.TheVariants as endpoint
-use Rattle.om_foot.specs.declared.kind.Thread.TheVariants as thread
-use Rattle.om_foot.specs.declared.kind.TaskFlag.TheVariants as flag
-use Rattle.om_foot.specs.declared.kind.TaskStatus as statuses
-use Rattle.om_foot.specs.declared.kind.TaskStatus.TheVariants as status
+use Rattle.om_events.specs.declared.event.Record.{Record}
+use Rattle.om_events.specs.declared.event.Record.TheVariants as event_record
+use Rattle.om_events.specs.declared.kind.Endpoint.TheVariants as endpoint
+use Rattle.om_events.specs.declared.kind.Thread.TheVariants as thread
+use Rattle.om_events.specs.declared.kind.TaskFlag.TheVariants as flag
+use Rattle.om_events.specs.declared.kind.TaskStatus as statuses
+use Rattle.om_events.specs.declared.kind.TaskStatus.TheVariants as status
 use Rattle.om_cells.specs.declared.control.Context.{Context}
 use Rattle.om_cells.specs.declared.control.Stack.{Stack}
 use Rattle.om_cells.specs.declared.control.Kind.TheVariants as kind

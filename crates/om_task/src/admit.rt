@@ -7,7 +7,8 @@ ghost use Rattle.om_live.specs.Plain.{plain_context, plain_held, plain_stack};
 ghost use Rattle.om_task.specs.Rules.{leaving, departs, admits_on, admits_all};
 
 use om_code::{Instr, Program};
-use om_foot::{Name, TaskStatus, is_descendant};
+use om_events::TaskStatus;
+use om_foot::{Name, is_descendant};
 use om_live::{Context, Stack, Tape};
 
 /// The instruction at which a context stands.

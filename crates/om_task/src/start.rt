@@ -2,8 +2,8 @@
 
 ghost use Rattle.std.specs.Prelude.{◌≡◌, ◌≤◌, IfOk, [], ◌∷◌, None};
 ghost use Rattle.om_code.specs.declared.frame.Cell.TheVariants as cells;
-ghost use Rattle.om_foot.specs.declared.kind.Thread.TheVariants as thread;
-ghost use Rattle.om_foot.specs.declared.event.Record.TheVariants as event_record;
+ghost use Rattle.om_events.specs.declared.kind.Thread.TheVariants as thread;
+ghost use Rattle.om_events.specs.declared.event.Record.TheVariants as event_record;
 ghost use Rattle.om_cells.specs.declared.value.Val.TheVariants as value;
 ghost use Rattle.om_live.specs.Stores.{state_of};
 ghost use Rattle.om_steps.specs.Begins.{new_context};
@@ -14,7 +14,8 @@ use om_cells::{Context, Control, Frame, Kind, Shared, SharedPile, Stack, Team, V
 use om_code::frame::Cell;
 use om_code::raw::GlobalVariable;
 use om_code::{Body, Program};
-use om_foot::{Endpoint, Name, Obj, Record, TaskFlag, Thread};
+use om_events::{Endpoint, Record, TaskFlag, Thread};
+use om_foot::{Name, Obj};
 use om_live::Store;
 use om_seq::Seq;
 use om_steps::begin::{first_frame, in_no_group, new_context};

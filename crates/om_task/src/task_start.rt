@@ -10,7 +10,8 @@ ghost use Rattle.om_task.specs.Tasks.{task_context};
 ghost use Rattle.om_task.specs.Rows.{begun_updates, ready_for, start_row};
 
 use om_cells::{Blocked, Context as PlainContext, Edit, Kind, Ready, Shared, Task, Update, Val};
-use om_foot::{Mode, Name, Obj, Record, TaskStatus};
+use om_events::{Record, TaskStatus};
+use om_foot::{Mode, Name, Obj};
 use om_live::{Context, Store};
 use om_seq::Seq;
 use om_steps::begin::{Standing, first_frame, new_context};

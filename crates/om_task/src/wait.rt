@@ -1,8 +1,8 @@
 //! The rows that wait for tasks.
 
 ghost use Rattle.std.specs.Prelude.{◌≡◌, ◌∷◌, [], ◌+◌, ◌<◌, ◌^◌, IfOk};
-ghost use Rattle.om_foot.specs.declared.kind.Endpoint.TheVariants as endpoint;
-ghost use Rattle.om_foot.specs.declared.kind.Sync.TheVariants as sync;
+ghost use Rattle.om_events.specs.declared.kind.Endpoint.TheVariants as endpoint;
+ghost use Rattle.om_events.specs.declared.kind.Sync.TheVariants as sync;
 ghost use Rattle.om_cells.specs.State.{State};
 ghost use Rattle.om_live.specs.Plain.{plain_context};
 ghost use Rattle.om_live.specs.Stores.{state_of};
@@ -13,7 +13,8 @@ ghost use Rattle.om_task.specs.Rows.{sync_event, wait_begin_row, waited, wait_en
 
 use om_cells::{Blocked, Construct, Edit, Shared, Update};
 use om_code::frame::Fault;
-use om_foot::{Endpoint, Mode, Name, Obj, Record, Sync};
+use om_events::{Endpoint, Record, Sync};
+use om_foot::{Mode, Name, Obj};
 use om_live::{Context, Store};
 use om_seq::Seq;
 use om_steps::counts::is_zero;

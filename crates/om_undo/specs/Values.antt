@@ -3,7 +3,7 @@ use denote.Param.Send.{IsSend, IsSync, sendable}
 use Rattle.std.specs.contracts.option.Option as option
 use Rattle.om_seq.specs.contracts.Seq as seq
 use Rattle.om_foot.specs.contracts.name.Name as name
-use Rattle.om_foot.specs.contracts.event.Record as event
+use Rattle.om_events.specs.contracts.event.Record as event
 use Rattle.om_cells.specs.contracts.control.Construct as construct
 use Rattle.om_cells.specs.contracts.control.Context as context
 use Rattle.om_cells.specs.contracts.control.Control as control

@@ -1,11 +1,11 @@
 //! The words of a record's text.
 
 ghost use Rattle.std.specs.Prelude.{◌≡◌, ◌++◌, codes, length, map, take, OnOk, OnErr};
-ghost use Rattle.om_foot.specs.Records.{spaced, lock_text};
-ghost use Rattle.om_foot.specs.Words.{word_text};
+ghost use Rattle.om_events.specs.Records.{spaced, lock_text};
+ghost use Rattle.om_events.specs.Words.{word_text};
 
-use crate::name::Name;
 use itoa::Buffer;
+use om_foot::Name;
 use std::alloc::AllocError;
 
 // A word of a record's text, behind the number and the name of its callback.

@@ -4,9 +4,9 @@ use Rattle.std.proofs.Common.{arith, append_assoc, append-nil, length-append, ta
 use Rattle.std.specs.Prelude.{Result, Ok, Err, OnErr}
 use Rattle.std.proofs.lemmas.List.{take-take}
 use Rattle.std.proofs.Math.Seq.{take-append_seam}
-use Rattle.om_foot.specs.declared.words.Word.{Word}
-use Rattle.om_foot.specs.Records.{spaced}
-use Rattle.om_foot.specs.Words.{word_text}
+use Rattle.om_events.specs.declared.words.Word.{Word}
+use Rattle.om_events.specs.Records.{spaced}
+use Rattle.om_events.specs.Words.{word_text}
 
 -- the text of words, each behind a space
 abbrev pub text : List Word → List ℕ

@@ -1,7 +1,7 @@
 //! The values that a record's kind, endpoint and status can have (OpenMP 5.2, 19.4.4).
 
 ghost use Rattle.std.specs.Prelude.{◌≡◌};
-ghost use Rattle.om_foot.specs.Numbers.{endpoint_number, thread_number, status_number, work_number, sync_number, flag_number};
+ghost use Rattle.om_events.specs.Numbers.{endpoint_number, thread_number, status_number, work_number, sync_number, flag_number};
 
 /// Which end of a region a record stands for (`ompt_scope_endpoint_t`).
 #[derive(Clone, Copy, PartialEq, Eq)]

@@ -3,7 +3,7 @@
 ghost use Rattle.std.specs.Prelude.{◌≡◌, IfOk};
 
 use crate::kind::{Endpoint, Sync, TaskFlag, TaskStatus, Thread, Work};
-use crate::name::Name;
+use om_foot::Name;
 use om_seq::Seq;
 use std::alloc::{AllocError, Global};
 

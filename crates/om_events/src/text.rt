@@ -1,14 +1,14 @@
 //! The texts of event records.
 
 ghost use Rattle.std.specs.Prelude.{◌≡◌, ◌++◌, IsTrue, [], ◌∷◌, OnOk, OnErr};
-ghost use Rattle.om_foot.specs.declared.event.Record.TheVariants as kind;
-ghost use Rattle.om_foot.specs.Records.{record_text, spaced, lock_text};
-ghost use Rattle.om_foot.specs.Words.{has_endpoint};
+ghost use Rattle.om_events.specs.declared.event.Record.TheVariants as kind;
+ghost use Rattle.om_events.specs.Records.{record_text, spaced, lock_text};
+ghost use Rattle.om_events.specs.Words.{has_endpoint};
 
 use crate::event::Record;
 use crate::kind::{Endpoint, Sync, TaskFlag, TaskStatus, Thread, Work};
-use crate::name::Name;
 use crate::words::{Word, push_words};
+use om_foot::Name;
 use om_seq::Seq;
 use std::alloc::AllocError;
 

@@ -1,4 +1,4 @@
-use Rattle.om_foot.proofs.text.push_implicit.Goals as goal
+use Rattle.om_events.proofs.text.push_implicit.Goals as goal
 
 pub returns-clause-appended : goal.returns-clause-appended
 returns-clause-appended c =

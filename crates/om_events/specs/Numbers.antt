@@ -1,17 +1,17 @@
 -- The numbers that OMPT gives to the values of its enumerations (OpenMP 5.2, 19.4.4).
 use Rattle.std.specs.Prelude.{ℕ}
-use Rattle.om_foot.specs.declared.kind.Endpoint.{Endpoint}
-use Rattle.om_foot.specs.declared.kind.Endpoint.TheVariants as endpoint
-use Rattle.om_foot.specs.declared.kind.Thread.{Thread}
-use Rattle.om_foot.specs.declared.kind.Thread.TheVariants as thread
-use Rattle.om_foot.specs.declared.kind.TaskStatus.{TaskStatus}
-use Rattle.om_foot.specs.declared.kind.TaskStatus.TheVariants as status
-use Rattle.om_foot.specs.declared.kind.Work.{Work}
-use Rattle.om_foot.specs.declared.kind.Work.TheVariants as work
-use Rattle.om_foot.specs.declared.kind.Sync.{Sync}
-use Rattle.om_foot.specs.declared.kind.Sync.TheVariants as sync
-use Rattle.om_foot.specs.declared.kind.TaskFlag.{TaskFlag}
-use Rattle.om_foot.specs.declared.kind.TaskFlag.TheVariants as flag
+use Rattle.om_events.specs.declared.kind.Endpoint.{Endpoint}
+use Rattle.om_events.specs.declared.kind.Endpoint.TheVariants as endpoint
+use Rattle.om_events.specs.declared.kind.Thread.{Thread}
+use Rattle.om_events.specs.declared.kind.Thread.TheVariants as thread
+use Rattle.om_events.specs.declared.kind.TaskStatus.{TaskStatus}
+use Rattle.om_events.specs.declared.kind.TaskStatus.TheVariants as status
+use Rattle.om_events.specs.declared.kind.Work.{Work}
+use Rattle.om_events.specs.declared.kind.Work.TheVariants as work
+use Rattle.om_events.specs.declared.kind.Sync.{Sync}
+use Rattle.om_events.specs.declared.kind.Sync.TheVariants as sync
+use Rattle.om_events.specs.declared.kind.TaskFlag.{TaskFlag}
+use Rattle.om_events.specs.declared.kind.TaskFlag.TheVariants as flag
 
 -- ompt_scope_endpoint_t
 abbrev pub endpoint_number : Endpoint → ℕ

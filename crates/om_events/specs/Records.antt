@@ -1,12 +1,12 @@
 -- The texts of event records.
 use Rattle.std.specs.Prelude.{ℕ, List, [], ◌∷◌, ◌++◌, codes, decimal}
 use Rattle.om_foot.specs.Names.{name_text}
-use Rattle.om_foot.specs.declared.event.Record.{Record}
-use Rattle.om_foot.specs.declared.event.Record.TheVariants as event
-use Rattle.om_foot.specs.declared.kind.Endpoint.{Endpoint}
-use Rattle.om_foot.specs.declared.kind.TaskFlag.TheVariants as flag
-use Rattle.om_foot.specs.Numbers.{endpoint_number, thread_number, status_number, work_number, sync_number}
-use Rattle.om_foot.specs.Numbers.{flag_number}
+use Rattle.om_events.specs.declared.event.Record.{Record}
+use Rattle.om_events.specs.declared.event.Record.TheVariants as event
+use Rattle.om_events.specs.declared.kind.Endpoint.{Endpoint}
+use Rattle.om_events.specs.declared.kind.TaskFlag.TheVariants as flag
+use Rattle.om_events.specs.Numbers.{endpoint_number, thread_number, status_number, work_number, sync_number}
+use Rattle.om_events.specs.Numbers.{flag_number}
 
 -- words, each behind a space
 abbrev pub spaced : List (List ℕ) → List ℕ

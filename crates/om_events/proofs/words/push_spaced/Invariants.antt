@@ -1,7 +1,7 @@
 use Rattle.std.proofs.Common.{◌≡◌, ◌++◌, map, take}
-use Rattle.om_foot.specs.Records.{spaced}
-use Rattle.om_foot.specs.Words.{word_text}
-use Rattle.om_foot.proofs.words.push_spaced.Given as goal
+use Rattle.om_events.specs.Records.{spaced}
+use Rattle.om_events.specs.Words.{word_text}
+use Rattle.om_events.proofs.words.push_spaced.Given as goal
 
 -- the words so far are appended
 abbrev pub invariant-loop-word : goal.invariant-loop-word

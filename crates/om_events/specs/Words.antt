@@ -1,11 +1,11 @@
 -- The words of a record's text, as the code has them.
 use Rattle.std.specs.Prelude.{Bool, true, false, ℕ, List, decimal}
 use Rattle.om_foot.specs.Names.{name_text}
-use Rattle.om_foot.specs.declared.event.Record.{Record}
-use Rattle.om_foot.specs.declared.event.Record.TheVariants as event
-use Rattle.om_foot.specs.declared.words.Word.{Word}
-use Rattle.om_foot.specs.declared.words.Word.TheVariants as word
-use Rattle.om_foot.specs.Records.{lock_text}
+use Rattle.om_events.specs.declared.event.Record.{Record}
+use Rattle.om_events.specs.declared.event.Record.TheVariants as event
+use Rattle.om_events.specs.declared.words.Word.{Word}
+use Rattle.om_events.specs.declared.words.Word.TheVariants as word
+use Rattle.om_events.specs.Records.{lock_text}
 
 abbrev pub word_text : Word → List ℕ
 word_text (word.Number number) = decimal number

@@ -1,5 +1,5 @@
-use Rattle.om_foot.proofs.WordLemmas.{front_of, next_word, on_error}
-use Rattle.om_foot.proofs.words.push_spaced.Goals as goal
+use Rattle.om_events.proofs.WordLemmas.{front_of, next_word, on_error}
+use Rattle.om_events.proofs.words.push_spaced.Goals as goal
 
 pub returns-in_err-push_spaced_one-clause-front_stays :
     goal.returns-in_err-push_spaced_one-clause-front_stays
