@@ -10,7 +10,7 @@ use Rattle.om_resolved.specs.ResolvedTree as trees
 use Rattle.om_resolved.specs.ResolvedView.{view_resolved_expression}
 use Rattle.om_rows.specs.Coded.{CallHasCode, ValueHasCode, ValuesHaveCode}
 use Rattle.om_rows.specs.Expressions.{value, values, value_count}
-use Rattle.om_tables.specs.Numbered.{Numbered}
+use Rattle.om_rows.specs.Numbered.{Numbered}
 
 -- the values of expressions of the program
 abbrev pub listed : List ResolvedExpression → trees.ValuesTree

@@ -23,7 +23,7 @@ use Rattle.om_rows.specs.Rows.{Site, Row, end, ins, part, ◌▸◌}
 use Rattle.om_rows.specs.Slots.{place_of}
 use Rattle.om_rows.specs.Tables.{number_in}
 use Rattle.std.specs.Str.{bytes_eq}
-use Rattle.om_tables.specs.Numbered.{Numbered}
+use Rattle.om_rows.specs.Numbered.{Numbered}
 use Rattle.om_tree.specs.declared.tree.AssignOperator.{AssignOperator}
 use Rattle.om_tree.specs.declared.tree.BinaryOperator.{BinaryOperator}
 use Rattle.om_tree.specs.declared.tree.PostfixOperator.{PostfixOperator}

@@ -10,7 +10,7 @@ use Rattle.om_resolved.specs.ResolvedTree.{ResolvedExpressionTree, Conditional}
 use Rattle.om_rows.specs.Expressions.{value}
 use Rattle.om_rows.specs.Operators.{Both, Either}
 use Rattle.om_rows.specs.Rows.{end, ins, part, here, ◌▸◌}
-use Rattle.om_tables.specs.Numbered.{Numbered}
+use Rattle.om_rows.specs.Numbered.{Numbered}
 
 -- behind the left operand of `a && b`
 pub emits_both : (names : Numbered) (l : ℕ) (y : ResolvedExpressionTree) (f e : ℕ)

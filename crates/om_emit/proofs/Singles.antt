@@ -12,7 +12,7 @@ use Rattle.om_rows.specs.Expressions.{assigned, constant, stepped_back}
 use Rattle.om_rows.specs.Operators.{step_of, inverse_step_of}
 use Rattle.om_rows.specs.Rows.{end, ins, part, ◌▸◌}
 use Rattle.om_rows.specs.Slots.{place_of}
-use Rattle.om_tables.specs.Numbered.{Numbered}
+use Rattle.om_rows.specs.Numbered.{Numbered}
 use Rattle.om_tree.specs.declared.tree.PostfixOperator.{PostfixOperator}
 
 -- one instruction

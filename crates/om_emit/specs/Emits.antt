@@ -5,7 +5,7 @@ use Rattle.om_code.specs.declared.raw.Line.{Line}
 use Rattle.om_resolved.specs.ResolvedTree.{ResolvedExpressionTree, ValuesTree}
 use Rattle.om_rows.specs.Expressions.{value, values, effect}
 use Rattle.om_rows.specs.Rows.{Site, Row}
-use Rattle.om_tables.specs.Numbered.{Numbered, site_with}
+use Rattle.om_rows.specs.Numbered.{Numbered, site_with}
 use Rattle.om_emit.specs.declared.draft.Pick.{Pick}
 use Rattle.om_emit.specs.Drafts.{Labels, Written, settled}
 

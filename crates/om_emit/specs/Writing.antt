@@ -8,7 +8,7 @@ use Rattle.om_code.specs.declared.instruction.Instr.{Instr}
 use Rattle.om_emit.specs.Drafts.{Labels, Written, moved, Puts, Fresh, Defines}
 use Rattle.om_emit.specs.declared.draft.Pick.{Pick}
 use Rattle.om_emit.specs.Emits.{Finished, Part, site, Fits, Grows, Keeps, Goes, Emits}
-use Rattle.om_tables.specs.Numbered.{Numbered}
+use Rattle.om_rows.specs.Numbered.{Numbered}
 use Rattle.om_rows.specs.Rows.{end, ins, part, here}
 
 -- ---- lists

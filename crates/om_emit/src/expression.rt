@@ -8,7 +8,7 @@ ghost use Rattle.om_resolved.specs.ResolvedView.{view_resolved_expression};
 ghost use Rattle.om_rows.specs.Coded.{CallHasCode, ValueHasCode, ValuesHaveCode};
 ghost use Rattle.om_rows.specs.Operators.{Both, Either, form_of};
 ghost use Rattle.om_rows.specs.Rows.{Site};
-ghost use Rattle.om_tables.specs.BodyTables.{numbered_by};
+ghost use Rattle.om_rows.specs.BodyTables.{numbered_by};
 
 use crate::draft::Draft;
 use crate::operator::{Form, compound_of, form_of};
@@ -17,7 +17,7 @@ use crate::single::{
 };
 use om_code::Instr;
 use om_resolved::{ResolvedExpression, UnaryOperator, Variable};
-use om_tables::BodyTables;
+use om_rows::BodyTables;
 use om_tree::AssignOperator;
 use std::alloc::AllocError;
 

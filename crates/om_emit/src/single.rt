@@ -10,14 +10,14 @@ ghost use Rattle.om_rows.specs.Expressions.{stepped_back};
 ghost use Rattle.om_rows.specs.Operators.{inverse_step_of};
 ghost use Rattle.om_rows.specs.Rows.{Site};
 ghost use Rattle.om_rows.specs.Slots.{place_of};
-ghost use Rattle.om_tables.specs.BodyTables.{numbered_by};
-ghost use Rattle.om_tables.specs.Numbered.{Numbered};
+ghost use Rattle.om_rows.specs.BodyTables.{numbered_by};
+ghost use Rattle.om_rows.specs.Numbered.{Numbered};
 
 use crate::draft::Draft;
 use crate::operator::{inverse_step_of, step_of};
 use om_code::{Instr, instruction};
 use om_resolved::{UnaryOperator, Variable};
-use om_tables::BodyTables;
+use om_rows::BodyTables;
 use om_tree::PostfixOperator;
 use std::alloc::AllocError;
 

@@ -7,14 +7,14 @@ ghost use Rattle.om_resolved.specs.ResolvedTree as trees;
 ghost use Rattle.om_resolved.specs.ResolvedView.{view_resolved_expression};
 ghost use Rattle.om_rows.specs.Coded.{CallHasCode, EffectHasCode, ValueHasCode};
 ghost use Rattle.om_rows.specs.Rows.{Site};
-ghost use Rattle.om_tables.specs.BodyTables.{numbered_by};
+ghost use Rattle.om_rows.specs.BodyTables.{numbered_by};
 
 use crate::draft::Draft;
 use crate::expression::{Target, assign, assign_element, call, count_of, value, values};
 use crate::single::{Stepped, step, step_element};
 use om_code::Instr;
 use om_resolved::{ResolvedExpression, Variable};
-use om_tables::BodyTables;
+use om_rows::BodyTables;
 use om_tree::{AssignOperator, PostfixOperator};
 use std::alloc::AllocError;
 

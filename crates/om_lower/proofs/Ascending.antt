@@ -11,7 +11,7 @@ use Rattle.om_resolved.specs.ResolvedTree.{Construct, Update, StandAlone, Resolv
 use Rattle.om_resolved.specs.ResolvedTree.{Statement, ResolvedPartsTree, NoParts, Part, ResolvedFunctionTree}
 use Rattle.om_rows.specs.Bodies.{BodyTree, FunctionBody, Numbers, ParallelBody, TaskBody, behind, behind_all}
 use Rattle.om_rows.specs.Bodies.{behind_parts, next_body, next_pick}
-use Rattle.om_tables.specs.Picks.{all_own_picks, body_picks, own_picks, parts_own_picks}
+use Rattle.om_rows.specs.Picks.{all_own_picks, body_picks, own_picks, parts_own_picks}
 
 -- numbers from a on, each above the one before it, and all below b
 abbrev pub Ascends : ℕ → List ℕ → ℕ → Type 0

@@ -32,7 +32,7 @@ use Rattle.om_rows.specs.Code.{captures_of, given_of, slots_of}
 use Rattle.om_rows.specs.Scopes.{names_with}
 use Rattle.om_rows.specs.Mentions.{extents_of}
 use Rattle.om_rows.specs.Slots.{Extent, cells_in, slot_with}
-use Rattle.om_tables.specs.Numbered.{Numbered, numbered_in}
+use Rattle.om_rows.specs.Numbered.{Numbered, numbered_in}
 
 -- the code stands, wherever its lists stand in the program
 pub code_at : (tree : ResolvedTree) (b : BodySite) (names : Numbered) (variables : List ℕ) (main : Bool)

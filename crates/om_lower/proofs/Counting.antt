@@ -10,7 +10,7 @@ use Rattle.om_rows.specs.Bodies.{Numbers, next_body, next_pick, behind, behind_a
 use Rattle.om_rows.specs.Bodies.{behind_functions, first_numbers, BodySite, ParallelBody, TaskBody, FunctionBody}
 use Rattle.om_rows.specs.Bodies.{region_variables, function_variables, regions, all_regions, parts_regions}
 use Rattle.om_rows.specs.Bodies.{function_bodies, bodies_from}
-use Rattle.om_tables.specs.Picks.{own_picks, all_own_picks, parts_own_picks}
+use Rattle.om_rows.specs.Picks.{own_picks, all_own_picks, parts_own_picks}
 use Rattle.om_lower.specs.Once.{count, below, site_picks, PicksOfFunctions}
 
 pub count-append : (k : ℕ) (xs ys : List ℕ) → count k (xs ++ ys) ≡ count k xs + count k ys

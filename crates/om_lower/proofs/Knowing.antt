@@ -19,10 +19,10 @@ use Rattle.om_rows.specs.Bodies.{region_variables, regions, variables_of}
 use Rattle.om_rows.specs.Slots.{Extent}
 use Rattle.om_rows.specs.Positions.{StandsAt, all_regions_long, function_long, get_back, get_front, regions_long}
 use Rattle.om_rows.specs.Positions.{stands_back, stands_front, stands_head, stands_whole}
-use Rattle.om_tables.specs.declared.numbers.Numbers as tables
-use Rattle.om_tables.specs.Ends.{HasAllEnds, HasEnds, HasPartsEnds, IsKnown, KnownBodies, all_region_ends, ends_from}
-use Rattle.om_tables.specs.Ends.{function_ends, parts_region_ends, region_ends}
-use Rattle.om_tables.specs.Tables.{AreCellsOf}
+use Rattle.om_rows.specs.declared.numbers.Numbers as tables
+use Rattle.om_rows.specs.Ends.{HasAllEnds, HasEnds, HasPartsEnds, IsKnown, KnownBodies, all_region_ends, ends_from}
+use Rattle.om_rows.specs.Ends.{function_ends, parts_region_ends, region_ends}
+use Rattle.om_rows.specs.ProgramTables.{AreCellsOf}
 
 -- ---- the numbers behind bodies
 

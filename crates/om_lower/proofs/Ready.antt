@@ -11,9 +11,9 @@ use Rattle.om_resolved.specs.ResolvedTree.{ResolvedFunctionTree}
 use Rattle.om_rows.specs.Bodies.{BodySite, Numbers, function_bodies, variables_of}
 use Rattle.om_rows.specs.Coded.{BodyHasCode}
 use Rattle.om_rows.specs.Slots.{Extent}
-use Rattle.om_tables.specs.Ends.{KnownBodies}
-use Rattle.om_tables.specs.declared.tables.Tables.{Tables}
-use Rattle.om_tables.specs.Tables.{AreCellsOf, ends_in, known_of}
+use Rattle.om_rows.specs.Ends.{KnownBodies}
+use Rattle.om_rows.specs.declared.tables.Tables.{Tables}
+use Rattle.om_rows.specs.ProgramTables.{AreCellsOf, ends_in, known_of}
 
 -- a body has code
 abbrev HasCode : BodySite → Type 0

@@ -18,7 +18,7 @@ use Rattle.om_rows.specs.Scopes.{Found, body_scopes}
 use Rattle.om_statements.specs.declared.writing.ScopeStack.{ScopeStack}
 use Rattle.om_statements.specs.Emits.{pick_number}
 use Rattle.om_statements.specs.Scoped.{ScopesStand}
-use Rattle.om_tables.specs.Numbered.{Numbered, site_with}
+use Rattle.om_rows.specs.Numbered.{Numbered, site_with}
 
 get_map : {A B : Type 0} → (f : A → B) (xs : List A) (k : ℕ) (x : A) → slice_get xs k ≡ Some x
     → slice_get (map f xs) k ≡ Some (f x)

@@ -24,9 +24,9 @@ use Rattle.om_statements.specs.declared.writing.ScopeStack.{ScopeStack}
 use Rattle.om_statements.specs.Going.{before_with, goes_then, with_as, with_behind, writes_then}
 use Rattle.om_statements.specs.Scoped.{EndsScopes, ScopesStand}
 use Rattle.om_statements.specs.Scoping.{stand_after, stand_before, stand_block, stand_both, writes_as, writes_put}
-use Rattle.om_tables.specs.declared.numbers.Numbers as tables
-use Rattle.om_tables.specs.Numbered.{Numbered}
-use Rattle.om_tables.specs.Numbering.{numbers_of}
+use Rattle.om_rows.specs.declared.numbers.Numbers as tables
+use Rattle.om_rows.specs.Numbered.{Numbered}
+use Rattle.om_rows.specs.Numbering.{numbers_of}
 
 -- outside of loops
 abbrev no_jumps : JumpLabels

@@ -11,8 +11,8 @@ use Rattle.om_rows.specs.Scopes.{body_scopes}
 use Rattle.om_statements.specs.declared.writing.Writing.{Writing}
 use Rattle.om_statements.specs.Emits.{EmitsWith}
 use Rattle.om_statements.specs.Scoped.{EmitsScopes}
-use Rattle.om_tables.specs.Numbered.{Numbered, site_with}
-use Rattle.om_tables.specs.Picks.{body_picks}
+use Rattle.om_rows.specs.Numbered.{Numbered, site_with}
+use Rattle.om_rows.specs.Picks.{body_picks}
 
 -- the row of a body stands in its code, wherever its lists of PICK stand in the program
 abbrev pub HasRow : Numbered → Numbers → ResolvedFunctionTree → BodyTree → Emitted → Type 0

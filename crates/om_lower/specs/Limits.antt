@@ -14,7 +14,7 @@ use Rattle.om_rows.specs.Bodies.{variables_of}
 use Rattle.om_rows.specs.Code.{body_row, slots_of}
 use Rattle.om_rows.specs.declared.scope.VariableScope.{VariableScope}
 use Rattle.om_rows.specs.Scopes.{body_scopes}
-use Rattle.om_tables.specs.Numbered.{numbered_in, site_with}
+use Rattle.om_rows.specs.Numbered.{numbered_in, site_with}
 
 -- the cells that a frame has of its own for a slot
 abbrev pub cells_at : Source → (cells : ℕ) → ℕ

@@ -24,10 +24,10 @@ use Rattle.om_rows.specs.Coded.{BodyHasCode}
 use Rattle.om_rows.specs.Scopes.{names_with}
 use Rattle.om_rows.specs.Positions.{StandsAt}
 use Rattle.om_resolved.specs.ResolvedView.{view_resolved_function}
-use Rattle.om_tables.specs.declared.tables.Tables.{Tables}
-use Rattle.om_tables.specs.Ends.{function_ends}
-use Rattle.om_tables.specs.Numbering.{numbers_of}
-use Rattle.om_tables.specs.Tables.{AreCellsOf, ends_in}
+use Rattle.om_rows.specs.declared.tables.Tables.{Tables}
+use Rattle.om_rows.specs.Ends.{function_ends}
+use Rattle.om_rows.specs.Numbering.{numbers_of}
+use Rattle.om_rows.specs.ProgramTables.{AreCellsOf, ends_in}
 
 -- what names mean in a body, by its scopes, in every program that has these lists of PICK
 pub record AreNames (tree : ResolvedTree) (lists : List PickList) (b : BodySite) (code : List Line) (names : Names)

@@ -3,7 +3,7 @@ use Rattle.std.specs.Prelude.{◌≡◌, ◌+◌, ℕ, List, [], ◌∷◌, if�
 use Rattle.std.specs.List.{flat_map}
 use Rattle.om_resolved.specs.ResolvedTree.{ResolvedFunctionTree}
 use Rattle.om_rows.specs.Bodies.{BodySite, behind_functions, bodies_from, first_numbers}
-use Rattle.om_tables.specs.Picks.{body_picks}
+use Rattle.om_rows.specs.Picks.{body_picks}
 
 -- how often a number stands among others
 abbrev pub count : ℕ → List ℕ → ℕ

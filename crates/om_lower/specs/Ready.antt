@@ -8,9 +8,9 @@ use Rattle.om_rows.specs.Coded.{BodyHasCode}
 use Rattle.om_rows.specs.Mentions.{extents_of}
 use Rattle.om_rows.specs.Slots.{Extent, cells_in}
 use Rattle.om_sights.specs.Sites.{body_in}
-use Rattle.om_tables.specs.Ends.{HasBodyEnds, KnownBodies}
-use Rattle.om_tables.specs.declared.tables.Tables.{Tables}
-use Rattle.om_tables.specs.Tables.{known_of}
+use Rattle.om_rows.specs.Ends.{HasBodyEnds, KnownBodies}
+use Rattle.om_rows.specs.declared.tables.Tables.{Tables}
+use Rattle.om_rows.specs.ProgramTables.{known_of}
 
 -- a body, once its variables are known and those of the body round it
 abbrev pub seen_body : SeenBody → BodySite

@@ -12,8 +12,8 @@ ghost use Rattle.om_rows.specs.Code.{captures_of, given_of, slots_of};
 ghost use Rattle.om_rows.specs.Coded.{BodyHasCode};
 ghost use Rattle.om_rows.specs.Slots.{slot_of};
 ghost use Rattle.om_rows.specs.Statements.{given_copies};
-ghost use Rattle.om_tables.specs.Ends.{HasBodyEnds};
-ghost use Rattle.om_tables.specs.Tables.{IsTablesOf};
+ghost use Rattle.om_rows.specs.Ends.{HasBodyEnds};
+ghost use Rattle.om_rows.specs.ProgramTables.{IsTablesOf};
 
 use crate::body::emitted_in;
 use crate::emitted::Emitted;
@@ -24,11 +24,9 @@ use om_code::Body;
 use om_code::raw::Slot;
 use om_emit::draft::PickList;
 use om_resolved::Capture;
+use om_rows::{BodyTables, Extents, Region, Variables, copy_slots, given_copies, parameter_slots};
 use om_seq::Seq;
 use om_sights::{BodyPart, Site, function_variables, region_variables};
-use om_tables::{
-    BodyTables, Extents, Region, Variables, copy_slots, given_copies, parameter_slots,
-};
 use std::alloc::{AllocError, Global};
 
 /// Adds the variables of these bodies behind those of other ones; false where a body has more than 256 slots.

@@ -6,15 +6,15 @@ ghost use Rattle.om_sights.specs.Sites.{body_in};
 ghost use Rattle.om_rows.specs.Coded.{BodyHasCode};
 ghost use Rattle.om_rows.specs.Scopes.{body_scopes};
 ghost use Rattle.om_statements.specs.Scoped.{EmitsScopes};
-ghost use Rattle.om_tables.specs.BodyTables.{numbered_by};
-ghost use Rattle.om_tables.specs.Ends.{HasBodyEnds};
-ghost use Rattle.om_tables.specs.Tables.{known_in};
+ghost use Rattle.om_rows.specs.BodyTables.{numbered_by};
+ghost use Rattle.om_rows.specs.Ends.{HasBodyEnds};
+ghost use Rattle.om_rows.specs.ProgramTables.{known_in};
 
 use crate::emitted::{Emitted, settled};
 use crate::whole::{write_function, write_parallel, write_task};
+use om_rows::BodyTables;
 use om_sights::{BodyPart, Site};
 use om_statements::writing::Writing;
-use om_tables::BodyTables;
 use std::alloc::{AllocError, Global};
 
 /// The code of a body, of whatever length. Its only error is out of memory.

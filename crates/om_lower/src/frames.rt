@@ -7,8 +7,8 @@ ghost use Rattle.om_rows.specs.Slots.{slot_with};
 
 use om_code::raw::{Slot, Source};
 use om_resolved::Capture;
+use om_rows::{Extents, Variables, slots_with};
 use om_seq::Seq;
-use om_tables::{Extents, Variables, slots_with};
 use std::alloc::{AllocError, Global};
 
 /// How many slots a body may have.

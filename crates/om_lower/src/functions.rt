@@ -8,16 +8,16 @@ ghost use Rattle.om_resolved.specs.ResolvedView.{view_resolved, view_resolved_fu
 ghost use Rattle.om_resolved.specs.Uses.{is_main_function};
 ghost use Rattle.om_rows.specs.Bodies.{function_bodies};
 ghost use Rattle.om_rows.specs.Coded.{TreeHasCode};
-ghost use Rattle.om_tables.specs.Numbering.{numbers_of};
-ghost use Rattle.om_tables.specs.Tables.{IsTablesOf, ends_in, known_of};
+ghost use Rattle.om_rows.specs.Numbering.{numbers_of};
+ghost use Rattle.om_rows.specs.ProgramTables.{IsTablesOf, ends_in, known_of};
 
 use crate::bodies::{Bodies, Known, add_slots, lower_bodies};
 use om_code::Body;
 use om_emit::draft::PickList;
 use om_resolved::{Resolved, ResolvedFunction};
+use om_rows::{Extents, Numbers, Tables, Variables};
 use om_seq::Seq;
 use om_sights::{Site, sites_of};
-use om_tables::{Extents, Numbers, Tables, Variables};
 use std::alloc::{AllocError, Global};
 
 /// How many instructions a body may have.

@@ -11,7 +11,7 @@ ghost use Rattle.om_resolved.specs.ResolvedView.{view_resolved, view_resolved_fu
 ghost use Rattle.om_resolved.specs.Whole.{IsWholeTree};
 ghost use Rattle.om_rows.specs.Code.{IsCodeOf};
 ghost use Rattle.om_rows.specs.Coded.{TreeHasCode};
-ghost use Rattle.om_tables.specs.Tables.{IsTablesOf};
+ghost use Rattle.om_rows.specs.ProgramTables.{IsTablesOf};
 
 use crate::functions::{Lowered, Placed, Whole, lower_functions};
 use crate::heights::first_high;

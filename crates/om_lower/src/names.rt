@@ -4,9 +4,8 @@ ghost use Rattle.std.specs.Prelude.{◌≡◌, ◌≤◌, ◌<◌, IfOk, IfSome,
 ghost use Rattle.om_rows.specs.Scopes.{names_with, scope_in, slot_among};
 
 use om_code::raw::{Names, Scope};
-use om_rows::VariableScope;
+use om_rows::{VariableScope, Variables};
 use om_seq::Seq;
-use om_tables::Variables;
 use std::alloc::{AllocError, Global};
 
 /// What names mean in a body with these scopes and variables, in a body with those: by their slots.

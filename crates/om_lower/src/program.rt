@@ -14,7 +14,7 @@ ghost use Rattle.om_rows.specs.Bodies.{called_body};
 ghost use Rattle.om_rows.specs.Code.{IsCodeOf, global_of};
 ghost use Rattle.om_rows.specs.Coded.{TreeHasCode};
 ghost use Rattle.om_rows.specs.Mentions.{IsTextOf};
-ghost use Rattle.om_tables.specs.Tables.{IsTablesOf};
+ghost use Rattle.om_rows.specs.ProgramTables.{IsTablesOf};
 
 use crate::functions::{Placed, Whole, is_main};
 use crate::texts::text_of;
@@ -23,8 +23,8 @@ use om_code::{Body, Program, Raw};
 use om_lexer::SourceFault;
 use om_resolved::{GlobalVariable, Resolved, ResolvedFunction};
 use om_rows::laws::code_is_valid;
+use om_rows::{BodyTables, Texts, Variables};
 use om_seq::Seq;
-use om_tables::{BodyTables, Texts, Variables};
 use std::alloc::{AllocError, Global};
 
 /// The program of a tree, whose functions have these bodies.

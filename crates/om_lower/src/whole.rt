@@ -8,20 +8,20 @@ ghost use Rattle.om_rows.specs.Bodies.{FunctionBody};
 ghost use Rattle.om_rows.specs.Coded.{BodyHasCode, StatementHasCode};
 ghost use Rattle.om_rows.specs.Scopes.{body_scopes};
 ghost use Rattle.om_statements.specs.Scoped.{EmitsScopes};
-ghost use Rattle.om_tables.specs.BodyTables.{numbered_by};
-ghost use Rattle.om_tables.specs.Ends.{HasBodyEnds, HasEnds};
-ghost use Rattle.om_tables.specs.Numbering.{numbers_of};
-ghost use Rattle.om_tables.specs.Tables.{known_in};
+ghost use Rattle.om_rows.specs.BodyTables.{numbered_by};
+ghost use Rattle.om_rows.specs.Ends.{HasBodyEnds, HasEnds};
+ghost use Rattle.om_rows.specs.Numbering.{numbers_of};
+ghost use Rattle.om_rows.specs.ProgramTables.{known_in};
 
 use om_code::Instr;
 use om_code::instruction::Barrier;
 use om_resolved::ResolvedFunction;
+use om_rows::{BodyTables, Numbers, Region};
 use om_statements::clause::{parameters, reduction_starts, reductions, task_copies};
 use om_statements::last_instruction;
 use om_statements::spot::Spot;
 use om_statements::statement::{inner, statements};
 use om_statements::writing::Writing;
-use om_tables::{BodyTables, Numbers, Region};
 use std::alloc::{AllocError, Global};
 
 /// Writes the statements of a function, and its end.

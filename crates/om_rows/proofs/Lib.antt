@@ -31,3 +31,6 @@ pub mod Postfix
 pub mod Spoken
 pub mod Ints
 pub mod FlowInts
+pub mod Places
+pub mod Cells
+pub mod Called

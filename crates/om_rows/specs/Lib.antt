@@ -17,3 +17,11 @@ pub mod Serial
 pub mod Ints
 pub mod Running
 pub mod MeaningLaws
+pub mod Numbered
+pub mod BodyTables
+pub mod Numbering
+pub mod Ends
+pub mod Copies
+pub mod Extents
+pub mod ProgramTables
+pub mod Picks

@@ -1,8 +1,28 @@
 //! The code of a resolved tree as a relation, what serial code means, and what holds of it whoever made it.
+//!
+//! The tables by which code names variables, bodies, formats and locks are here too.
 #![tactic(auto)]
 
+mod body;
+mod copies;
+mod extents;
 pub mod laws;
 pub mod meaning;
+mod numbers;
+mod region;
 mod scope;
+mod slots;
+mod tables;
+mod texts;
+mod variables;
 
+pub use body::BodyTables;
+pub use copies::{FirstCopy, given_copies};
+pub use extents::Extents;
+pub use numbers::Numbers;
+pub use region::Region;
 pub use scope::VariableScope;
+pub use slots::{copy_slots, parameter_slots, slots_with};
+pub use tables::Tables;
+pub use texts::Texts;
+pub use variables::Variables;

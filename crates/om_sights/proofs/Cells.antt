@@ -5,7 +5,7 @@ use Rattle.std.proofs.lemmas.List.{append-nil, append_assoc}
 use Rattle.std.proofs.lemmas.Bool.{eqb-true}
 use Rattle.std.specs.List.{list_any}
 use Rattle.om_rows.specs.Slots.{Extent, cells_in}
-use Rattle.om_tables.specs.Extents.{is_extent_of, measured}
+use Rattle.om_rows.specs.Extents.{is_extent_of, measured}
 
 eq-comm : (a b : ℕ) → nat_eq a b ≡ nat_eq b a
 eq-comm a b = grind arith

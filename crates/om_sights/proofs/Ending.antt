@@ -4,8 +4,8 @@ use Rattle.std.specs.Prelude.{set}
 use Rattle.std.proofs.Math.Seq.{set-append_seam}
 use Rattle.std.proofs.lemmas.List.{append_assoc, length-append, length-map, map-append}
 use Rattle.om_rows.specs.Bodies.{Numbers}
-use Rattle.om_tables.specs.declared.numbers.Numbers as tables
-use Rattle.om_tables.specs.Numbering.{numbers_of}
+use Rattle.om_rows.specs.declared.numbers.Numbers as tables
+use Rattle.om_rows.specs.Numbering.{numbers_of}
 
 map_set : (xs : List tables.Numbers) (i : ℕ) (x : tables.Numbers)
     → map numbers_of (set xs i x) ≡ set (map numbers_of xs) i (numbers_of x)

@@ -5,10 +5,10 @@ use Rattle.std.specs.List.{AllZip}
 use Rattle.om_resolved.specs.ResolvedTree.{ResolvedFunctionTree}
 use Rattle.om_rows.specs.Mentions.{Mention, extent_mention, format_mention, lock_mention}
 use Rattle.om_sights.specs.declared.mentions.Mentions.{Mentions}
-use Rattle.om_tables.specs.Extents.{measured}
+use Rattle.om_rows.specs.Extents.{measured}
 use Rattle.om_rows.specs.Slots.{Extent}
 use Rattle.om_sights.specs.Noted.{AddsCells, noted}
-use Rattle.om_tables.specs.Tables.{AreCellsOf}
+use Rattle.om_rows.specs.ProgramTables.{AreCellsOf}
 
 abbrev pub AreLeft : (left all : (A : Type 0) → Mention A → List A) → (now first : Mentions) → Type 0
 AreLeft left all now first =

@@ -11,7 +11,7 @@ use Rattle.om_sights.specs.Sites.{IsRound, KeepsRound, bodies_in, body_in, body_
 use Rattle.om_sights.specs.Sites.{round_behind, round_with, variables_at}
 use Rattle.om_resolved.specs.ResolvedView.{view_resolved_function}
 use Rattle.om_rows.specs.Bodies.{BodySite, Numbers}
-use Rattle.om_tables.specs.Numbering.{numbers_of}
+use Rattle.om_rows.specs.Numbering.{numbers_of}
 
 -- ---- lists
 

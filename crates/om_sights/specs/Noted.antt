@@ -6,8 +6,8 @@ use Rattle.om_rows.specs.Mentions.{Mention, extent_mention, format_mention, lock
 use Rattle.om_rows.specs.Slots.{Extent}
 use Rattle.om_rows.specs.Tables.{with_sight}
 use Rattle.om_sights.specs.declared.mentions.Mentions.{Mentions}
-use Rattle.om_tables.specs.Extents.{measured}
-use Rattle.om_tables.specs.Tables.{AreCellsOf}
+use Rattle.om_rows.specs.Extents.{measured}
+use Rattle.om_rows.specs.ProgramTables.{AreCellsOf}
 
 -- the texts of a program behind further sights
 abbrev pub noted : List (List ℕ) → (sights : List (List ℕ)) → List (List ℕ)

@@ -7,7 +7,7 @@ use Rattle.om_sights.specs.declared.sites.Site.{Site}
 use Rattle.om_resolved.specs.ResolvedTree.{ResolvedFunctionTree}
 use Rattle.om_resolved.specs.ResolvedView.{view_resolved_function}
 use Rattle.om_rows.specs.Bodies.{BodySite, BodyTree, FunctionBody, variables_in}
-use Rattle.om_tables.specs.Numbering.{numbers_of}
+use Rattle.om_rows.specs.Numbering.{numbers_of}
 
 abbrev pub part_tree : BodyPart → BodyTree
 part_tree parts.Function = FunctionBody

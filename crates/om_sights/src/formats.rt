@@ -7,7 +7,7 @@ ghost use Rattle.om_rows.specs.Mentions.{expression_formats, values_formats};
 ghost use Rattle.om_sights.specs.Noted.{noted};
 
 use om_resolved::ResolvedExpression;
-use om_tables::Texts;
+use om_rows::Texts;
 use std::alloc::{AllocError, Global};
 
 /// Notes the formats of an expression, in the order of the text.

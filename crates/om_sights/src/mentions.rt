@@ -8,16 +8,16 @@ ghost use Rattle.om_resolved.specs.ResolvedView.{view_resolved_clause, view_reso
 ghost use Rattle.om_rows.specs.Mentions.{all_mentioned, clause_mentioned, declarator_mentioned, loop_mentioned, mentioned, parts_mentioned, perhaps_mentioned, start_mentioned, update_mentioned};
 ghost use Rattle.om_rows.specs.Bodies as bodies;
 ghost use Rattle.om_rows.specs.Slots.{cells_of_length};
-ghost use Rattle.om_tables.specs.Ends.{all_region_ends, body_ends, parts_region_ends, region_ends};
+ghost use Rattle.om_rows.specs.Ends.{all_region_ends, body_ends, parts_region_ends, region_ends};
 ghost use Rattle.om_sights.specs.Noted.{AreNoted};
-ghost use Rattle.om_tables.specs.Numbering.{numbers_of};
+ghost use Rattle.om_rows.specs.Numbering.{numbers_of};
 
 use crate::formats::note_expression;
 use om_resolved::{
     ConstructKind, ResolvedClause, ResolvedDeclarator, ResolvedExpression, ResolvedHead,
     ResolvedLoop, ResolvedPart, ResolvedStart, ResolvedStatement, ResolvedUpdate,
 };
-use om_tables::{Extents, Numbers, Texts};
+use om_rows::{Extents, Numbers, Texts};
 use std::alloc::{AllocError, Global};
 
 /// What functions mention, in the order of the text.

@@ -16,7 +16,7 @@ use om_resolved::{
     CopyKind, LocalVariable, ResolvedClause, ResolvedDeclarator, ResolvedFunction, ResolvedHead,
     ResolvedLoop, ResolvedPart, ResolvedStart, ResolvedStatement, Variable,
 };
-use om_tables::Variables;
+use om_rows::Variables;
 use std::alloc::{AllocError, Global};
 
 /// The variables of a function's own body, by their slots: parameters first.

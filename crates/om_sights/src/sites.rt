@@ -5,10 +5,10 @@ ghost use Rattle.om_sights.specs.Sites.{IsRound, KeepsRound, bodies_in, part_tre
 ghost use Rattle.om_resolved.specs.ResolvedTree as trees;
 ghost use Rattle.om_resolved.specs.ResolvedView.{view_resolved_function, view_resolved_part, view_resolved_statement};
 ghost use Rattle.om_rows.specs.Bodies as bodies;
-ghost use Rattle.om_tables.specs.Numbering.{numbers_of};
+ghost use Rattle.om_rows.specs.Numbering.{numbers_of};
 
 use om_resolved::{ResolvedFunction, ResolvedPart, ResolvedStatement};
-use om_tables::{Numbers, Region};
+use om_rows::{Numbers, Region};
 use std::alloc::{AllocError, Global};
 
 /// What a body is the code of: the whole of its function, or a region.

@@ -5,14 +5,14 @@ ghost use Rattle.std.specs.List.{AllZip, flat_map};
 ghost use Rattle.om_resolved.specs.ResolvedView.{view_resolved, view_resolved_function};
 ghost use Rattle.om_rows.specs.Bodies as bodies;
 ghost use Rattle.om_rows.specs.Mentions.{format_mention, function_mentioned, lock_mention};
-ghost use Rattle.om_tables.specs.Ends.{ends_from, function_ends};
+ghost use Rattle.om_rows.specs.Ends.{ends_from, function_ends};
 ghost use Rattle.om_sights.specs.Noted.{AddsCells, AreNoted, noted};
-ghost use Rattle.om_tables.specs.Numbering.{function_numbers, numbers_of};
-ghost use Rattle.om_tables.specs.Tables.{AreCellsOf, IsTablesOf};
+ghost use Rattle.om_rows.specs.Numbering.{function_numbers, numbers_of};
+ghost use Rattle.om_rows.specs.ProgramTables.{AreCellsOf, IsTablesOf};
 
 use crate::mentions::{Mentions, note_statements, put_end};
 use om_resolved::{Resolved, ResolvedFunction};
-use om_tables::{Extents, Numbers, Tables};
+use om_rows::{Extents, Numbers, Tables};
 use std::alloc::{AllocError, Global};
 
 /// What functions have each, and the numbers behind each body of theirs.

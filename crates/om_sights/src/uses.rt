@@ -11,7 +11,7 @@ ghost use Rattle.om_sights.specs.Sighted.{sighted};
 use om_resolved::{
     Capture, CopyKind, ResolvedClause, ResolvedExpression, ResolvedUpdate, StandAlone, Variable,
 };
-use om_tables::Variables;
+use om_rows::Variables;
 use std::alloc::AllocError;
 
 /// Notes what an expression uses.

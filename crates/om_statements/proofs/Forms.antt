@@ -23,8 +23,8 @@ use Rattle.om_rows.specs.Statements.{closes, statement, construct_row, loop_rest
 use Rattle.om_statements.specs.declared.labels.JumpLabels.{JumpLabels}
 use Rattle.om_statements.specs.Emits.{jumps_at, EmitsStatement}
 use Rattle.om_statements.specs.Going.{before_with, goes_place, goes_then, then_with, with_as, with_behind}
-use Rattle.om_tables.specs.Numbered.{Numbered}
-use Rattle.om_tables.specs.Picks.{own_picks}
+use Rattle.om_rows.specs.Numbered.{Numbered}
+use Rattle.om_rows.specs.Picks.{own_picks}
 
 -- the code of a statement
 abbrev Written_as : Numbered → Numbers → ResolvedStatementTree → JumpLabels → Part

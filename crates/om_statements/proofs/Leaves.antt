@@ -16,7 +16,7 @@ use Rattle.om_emit.specs.Drafts.{Written, moved, Puts}
 use Rattle.om_emit.specs.Emits.{Part, site, Goes, Emits}
 use Rattle.om_emit.specs.Writing.{goes_end, goes_put, goes_part}
 use Rattle.om_rows.specs.Rows.{Site, Row, end, ins, part, each}
-use Rattle.om_tables.specs.Numbered.{Numbered}
+use Rattle.om_rows.specs.Numbered.{Numbered}
 
 pub emits_one : (names : Numbered) (l : ℕ) (x : Instr) (a b : Written) → Puts l x a b
     → Emits (λ done at. ins (site names done) l (moved at x) end) a b

@@ -14,14 +14,14 @@ use Rattle.om_resolved.specs.declared.resolved.ConstructKind.TheVariants as cons
 use Rattle.om_rows.specs.Bodies.{Numbers, behind, behind_all}
 use Rattle.om_rows.specs.Coded.{StatementsHaveCode}
 use Rattle.om_statements.specs.declared.spot.Spot.{Spot}
-use Rattle.om_tables.specs.Numbering.{numbers_of}
+use Rattle.om_rows.specs.Numbering.{numbers_of}
 use Rattle.om_rows.specs.Rows.{end}
 use Rattle.om_rows.specs.Statements.{statement, statements}
 use Rattle.om_statements.specs.declared.labels.JumpLabels.{JumpLabels}
 use Rattle.om_statements.specs.Emits.{jumps_at, EmitsStatement, GoesWith}
 use Rattle.om_statements.specs.Going.{then_with, with_none}
-use Rattle.om_tables.specs.Numbered.{Numbered}
-use Rattle.om_tables.specs.Picks.{own_picks, all_own_picks}
+use Rattle.om_rows.specs.Numbered.{Numbered}
+use Rattle.om_rows.specs.Picks.{own_picks, all_own_picks}
 
 -- whoever writes what is left, with the numbers there, has written all
 unfoldable pub Onward : (k : ℕ) → Numbered → JumpLabels → (first now : Numbers) → (all left : ResolvedStatementsTree)

@@ -21,7 +21,7 @@ use Rattle.om_rows.specs.Operators.{comparison_of, form_with}
 use Rattle.om_rows.specs.Rows.{end, ins, part, here, ◌▸◌}
 use Rattle.om_rows.specs.Slots.{slot}
 use Rattle.om_rows.specs.Statements.{starts}
-use Rattle.om_tables.specs.Numbered.{Numbered}
+use Rattle.om_rows.specs.Numbered.{Numbered}
 
 -- ---- labels that are still free
 

@@ -24,10 +24,10 @@ use Rattle.om_statements.specs.declared.spot.Spot.{Spot}
 use Rattle.om_statements.specs.Emits.{EmitsStatements}
 use Rattle.om_statements.specs.Parts.{AreFree, EmitsParts, GoesParts, OpensParts, part_head, part_labels}
 use Rattle.om_statements.specs.Going.{before_with, free_with, free_within, goes_place, then_with, with_as, with_none}
-use Rattle.om_tables.specs.declared.numbers.Numbers as tables
-use Rattle.om_tables.specs.Numbered.{Numbered}
-use Rattle.om_tables.specs.Numbering.{numbers_of}
-use Rattle.om_tables.specs.Picks.{all_own_picks, parts_own_picks}
+use Rattle.om_rows.specs.declared.numbers.Numbers as tables
+use Rattle.om_rows.specs.Numbered.{Numbered}
+use Rattle.om_rows.specs.Numbering.{numbers_of}
+use Rattle.om_rows.specs.Picks.{all_own_picks, parts_own_picks}
 
 abbrev no_jumps : JumpLabels
 no_jumps = record { over = None; next = None }

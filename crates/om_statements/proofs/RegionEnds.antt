@@ -7,8 +7,8 @@ use Rattle.om_resolved.specs.ResolvedTree.{ResolvedPartsTree, ResolvedStatementT
 use Rattle.om_resolved.specs.ResolvedView.{view_resolved_clause, view_resolved_part, view_resolved_statement}
 use Rattle.om_rows.specs.Bodies.{Numbers, behind, behind_all, next_body, next_pick, region_variables}
 use Rattle.om_statements.specs.declared.spot.Spot.{Spot}
-use Rattle.om_tables.specs.Ends.{HasAllEnds, HasEnds, HasPartsEnds, IsKnown, KnownBodies}
-use Rattle.om_tables.specs.Numbering.{numbers_of}
+use Rattle.om_rows.specs.Ends.{HasAllEnds, HasEnds, HasPartsEnds, IsKnown, KnownBodies}
+use Rattle.om_rows.specs.Numbering.{numbers_of}
 use Rattle.om_statements.proofs.Views.{view_construct, view_do, view_for, view_if, view_if_else, view_loop}
 use Rattle.om_statements.proofs.Views.{view_parallel, view_sections, view_task, view_while}
 

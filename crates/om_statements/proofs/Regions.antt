@@ -18,9 +18,9 @@ use Rattle.om_rows.specs.Statements.{clause_value, given_copies, load_original}
 use Rattle.om_statements.specs.declared.labels.JumpLabels.{JumpLabels}
 use Rattle.om_statements.specs.Emits.{EmitsStatement}
 use Rattle.om_statements.specs.Going.{goes_then, with_none}
-use Rattle.om_tables.specs.declared.copies.FirstCopy.{FirstCopy}
-use Rattle.om_tables.specs.Copies.{first_copies_of, first_copy}
-use Rattle.om_tables.specs.Numbered.{Numbered}
+use Rattle.om_rows.specs.declared.copies.FirstCopy.{FirstCopy}
+use Rattle.om_rows.specs.Copies.{first_copies_of, first_copy}
+use Rattle.om_rows.specs.Numbered.{Numbered}
 
 -- how many copies were loaded
 pub counted : (copies : List FirstCopy) (given : List rows.FirstCopy) (values : ℕ) → first_copies_of copies ≡ given

@@ -42,7 +42,7 @@ use Rattle.om_statements.specs.Scoping.{stand_both, stand_opens, stand_opens_at,
 use Rattle.om_statements.specs.Scoping.{ScopesOn, scopes_end, scopes_next, writes_fresh, writes_here, writes_put}
 use Rattle.om_statements.specs.Stretches.{Begins, BeginsTurn, FreshTurn, Opens, construct_end, do_begin, do_end}
 use Rattle.om_statements.specs.Stretches.{else_begin, for_end, IsNoAtomic, loop_end, test_at, while_begin}
-use Rattle.om_tables.specs.Numbered.{Numbered}
+use Rattle.om_rows.specs.Numbered.{Numbered}
 
 -- the list of a PICK, and the labels of its parts
 pub writes_list : (number first count : ℕ) (a b : Written) → FreshList number first count a b

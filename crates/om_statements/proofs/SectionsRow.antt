@@ -25,10 +25,10 @@ use Rattle.om_statements.specs.Emits.{EmitsStatement, GoesWith, pick_number}
 use Rattle.om_statements.specs.Parts.{AreFree, EmitsParts, GoesParts, OpensParts, PartHead, head_row}
 use Rattle.om_statements.specs.Parts.{part_labels}
 use Rattle.om_statements.specs.Going.{free_within, goes_place, goes_then, then_with, with_as, with_behind}
-use Rattle.om_tables.specs.declared.numbers.Numbers as tables
-use Rattle.om_tables.specs.Numbered.{Numbered}
-use Rattle.om_tables.specs.Numbering.{numbers_of}
-use Rattle.om_tables.specs.Picks.{parts_own_picks}
+use Rattle.om_rows.specs.declared.numbers.Numbers as tables
+use Rattle.om_rows.specs.Numbered.{Numbered}
+use Rattle.om_rows.specs.Numbering.{numbers_of}
+use Rattle.om_rows.specs.Picks.{parts_own_picks}
 
 -- ---- labels
 

@@ -16,9 +16,9 @@ use Rattle.om_resolved.specs.ResolvedTree as trees
 use Rattle.om_resolved.specs.ResolvedView.{view_resolved_part, view_resolved_statement}
 use Rattle.om_rows.specs.Bodies.{Numbers, behind, next_pick}
 use Rattle.om_rows.specs.Coded.{PartsHaveCode, StatementHasCode, StatementsHaveCode}
-use Rattle.om_tables.specs.declared.numbers.Numbers as tables
-use Rattle.om_tables.specs.Ends.{HasAllEnds, HasEnds, HasPartsEnds, KnownBodies}
-use Rattle.om_tables.specs.Numbering.{numbers_of}
+use Rattle.om_rows.specs.declared.numbers.Numbers as tables
+use Rattle.om_rows.specs.Ends.{HasAllEnds, HasEnds, HasPartsEnds, KnownBodies}
+use Rattle.om_rows.specs.Numbering.{numbers_of}
 use Rattle.om_statements.proofs.Inside.{code_at, construct_code, construct_inside, do_code, do_inside, else_inside, sections_code}
 use Rattle.om_statements.proofs.Inside.{for_code, for_inside, if_code, if_else_code, if_inside, loop_code, loop_inside}
 use Rattle.om_statements.proofs.Inside.{then_inside, while_code, while_inside}

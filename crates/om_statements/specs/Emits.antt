@@ -7,8 +7,8 @@ use Rattle.om_resolved.specs.ResolvedTree.{ResolvedStatementTree, ResolvedStatem
 use Rattle.om_rows.specs.Bodies.{Numbers}
 use Rattle.om_rows.specs.Statements.{Jumps, statement, statements}
 use Rattle.om_statements.specs.declared.labels.JumpLabels.{JumpLabels}
-use Rattle.om_tables.specs.Numbered.{Numbered}
-use Rattle.om_tables.specs.Picks.{own_picks, all_own_picks}
+use Rattle.om_rows.specs.Numbered.{Numbered}
+use Rattle.om_rows.specs.Picks.{own_picks, all_own_picks}
 
 -- where `break` and `continue` go, by the places of their labels
 abbrev pub jumps_at : Labels → JumpLabels → Jumps

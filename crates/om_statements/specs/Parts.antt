@@ -9,10 +9,10 @@ use Rattle.om_rows.specs.Bodies.{Numbers, next_pick}
 use Rattle.om_rows.specs.Statements.{parts}
 use Rattle.om_statements.specs.declared.sections.PartsSpot.{PartsSpot}
 use Rattle.om_statements.specs.Emits.{GoesWith}
-use Rattle.om_tables.specs.declared.numbers.Numbers as tables
-use Rattle.om_tables.specs.Numbered.{Numbered}
-use Rattle.om_tables.specs.Numbering.{numbers_of}
-use Rattle.om_tables.specs.Picks.{parts_own_picks}
+use Rattle.om_rows.specs.declared.numbers.Numbers as tables
+use Rattle.om_rows.specs.Numbered.{Numbered}
+use Rattle.om_rows.specs.Numbering.{numbers_of}
+use Rattle.om_rows.specs.Picks.{parts_own_picks}
 
 -- ---- the begin
 

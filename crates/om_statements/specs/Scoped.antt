@@ -10,7 +10,7 @@ use Rattle.om_rows.specs.Rows.{Site}
 use Rattle.om_rows.specs.Scopes.{Found, Scoping, closed_at, opened_with}
 use Rattle.om_statements.specs.declared.writing.ScopeStack.{ScopeStack}
 use Rattle.om_statements.specs.declared.writing.Writing.{Writing}
-use Rattle.om_tables.specs.Numbered.{Numbered}
+use Rattle.om_rows.specs.Numbered.{Numbered}
 
 -- a scope begins at this place
 pub record BeginsScope (from : ℕ) (length : Option ℕ) (variable : LocalVariable) (old new : ScopeStack)

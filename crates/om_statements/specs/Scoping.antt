@@ -15,7 +15,7 @@ use Rattle.om_rows.specs.Scopes.{before, both, each_scope, opens_at, opens, bloc
 use Rattle.om_statements.specs.declared.writing.ScopeStack.{ScopeStack}
 use Rattle.om_statements.specs.Going.{writes_then}
 use Rattle.om_statements.specs.Scoped.{BeginsScope, EndsScopes, ScopesStand}
-use Rattle.om_tables.specs.Numbered.{Numbered}
+use Rattle.om_rows.specs.Numbered.{Numbered}
 
 -- ---- code
 

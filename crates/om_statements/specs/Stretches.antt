@@ -23,7 +23,7 @@ use Rattle.om_rows.specs.Rows.{Site, Row, end, never, ins, part, here, ◌▸◌
 use Rattle.om_rows.specs.Slots.{place, slot}
 use Rattle.om_rows.specs.Statements.{test, start, starts, filter_row, lock_number, worksharing_end}
 use Rattle.om_rows.specs.Statements.{clause_value, jump}
-use Rattle.om_tables.specs.Numbered.{Numbered}
+use Rattle.om_rows.specs.Numbered.{Numbered}
 
 -- ---- rows that name no label
 

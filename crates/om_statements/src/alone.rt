@@ -6,7 +6,7 @@ ghost use Rattle.om_statements.specs.Stretches.{EmitsAnywhere};
 ghost use Rattle.om_resolved.specs.ResolvedView.{view_resolved_statement, view_resolved_update};
 ghost use Rattle.om_rows.specs.Coded.{AssignmentHasCode, UpdateHasCode};
 ghost use Rattle.om_rows.specs.Statements.{alone_row, assignment_row, update_row};
-ghost use Rattle.om_tables.specs.BodyTables.{numbered_by};
+ghost use Rattle.om_rows.specs.BodyTables.{numbered_by};
 
 use crate::barrier::barrier;
 use crate::operator::{side_of, update_of};
@@ -15,7 +15,7 @@ use om_code::instruction::Barrier;
 use om_emit::draft::Draft;
 use om_emit::{effect, value};
 use om_resolved::{ResolvedStatement, ResolvedUpdate, StandAlone};
-use om_tables::BodyTables;
+use om_rows::BodyTables;
 use std::alloc::AllocError;
 
 /// Writes a directive that stands alone.

@@ -4,14 +4,14 @@ ghost use Rattle.std.specs.Prelude.{◌≡◌, IfOk, None, Some, slice_get};
 ghost use Rattle.om_statements.specs.Stretches.{Begins, Opens, else_begin, test_at};
 ghost use Rattle.om_resolved.specs.ResolvedView.{view_resolved_expression};
 ghost use Rattle.om_rows.specs.Coded.{ValueHasCode};
-ghost use Rattle.om_tables.specs.BodyTables.{numbered_by};
-ghost use Rattle.om_tables.specs.Numbered.{Numbered};
+ghost use Rattle.om_rows.specs.BodyTables.{numbered_by};
+ghost use Rattle.om_rows.specs.Numbered.{Numbered};
 
 use crate::declaration::test;
 use om_code::Instr;
 use om_emit::draft::Draft;
 use om_resolved::ResolvedExpression;
-use om_tables::BodyTables;
+use om_rows::BodyTables;
 use std::alloc::AllocError;
 
 /// Writes the head of an `if` (C17 6.8.4.1). The label is to be placed behind what it guards.

@@ -9,8 +9,8 @@ ghost use Rattle.om_statements.specs.Stretches.{identity_start, original_start};
 ghost use Rattle.om_resolved.specs.ResolvedView.{view_resolved_clause, view_resolved_expression};
 ghost use Rattle.om_rows.specs.Statements as rows;
 ghost use Rattle.om_rows.specs.Statements.{clause_reduction_start, clause_start, combine_clause};
-ghost use Rattle.om_tables.specs.BodyTables.{numbered_by};
-ghost use Rattle.om_tables.specs.Numbered.{Numbered};
+ghost use Rattle.om_rows.specs.BodyTables.{numbered_by};
+ghost use Rattle.om_rows.specs.Numbered.{Numbered};
 
 use crate::operator::{identity_of, reduction_of};
 use crate::writing::{ScopeStack, Writing};
@@ -19,7 +19,7 @@ use om_emit::draft::Draft;
 use om_emit::{load, store};
 use om_pragma::ReductionOperator;
 use om_resolved::{CopyKind, LocalVariable, ResolvedClause, ResolvedExpression, Variable};
-use om_tables::BodyTables;
+use om_rows::BodyTables;
 use std::alloc::AllocError;
 
 /// The value of `num_threads` or `filter`, where there is one.

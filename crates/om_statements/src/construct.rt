@@ -9,7 +9,7 @@ ghost use Rattle.om_resolved.specs.ResolvedView.{view_resolved_clause};
 ghost use Rattle.om_rows.specs.Coded.{ValueHasCode};
 ghost use Rattle.om_rows.specs.Statements as rows;
 ghost use Rattle.om_rows.specs.Statements.{filter_row};
-ghost use Rattle.om_tables.specs.BodyTables.{numbered_by};
+ghost use Rattle.om_rows.specs.BodyTables.{numbered_by};
 
 use crate::barrier::worksharing_end;
 use crate::clause::{clause_value, starts};
@@ -18,7 +18,7 @@ use om_code::Instr;
 use om_emit::draft::Draft;
 use om_emit::value;
 use om_resolved::{ConstructKind, ResolvedClause};
-use om_tables::BodyTables;
+use om_rows::BodyTables;
 use std::alloc::AllocError;
 
 /// Writes the thread number that a `masked` asks for: 0 where no clause says another (OpenMP API 5.2,

@@ -11,14 +11,14 @@ ghost use Rattle.om_rows.specs.Rows.{each, perhaps};
 ghost use Rattle.om_rows.specs.Scopes.{declarator_scope, each_scope, start_scopes};
 ghost use Rattle.om_rows.specs.Statements as rows;
 ghost use Rattle.om_rows.specs.Statements.{declarator, last_instruction, returned};
-ghost use Rattle.om_tables.specs.BodyTables.{numbered_by};
+ghost use Rattle.om_rows.specs.BodyTables.{numbered_by};
 
 use crate::writing::Writing;
 use om_code::Instr;
 use om_emit::draft::Draft;
 use om_emit::{effect, store, value};
 use om_resolved::{ResolvedDeclarator, ResolvedExpression, ResolvedStart, Variable};
-use om_tables::BodyTables;
+use om_rows::BodyTables;
 use std::alloc::AllocError;
 
 /// Writes the code of a declared name: it is made unset, or gets its initializer (C17 6.7.9).

@@ -10,14 +10,14 @@ ghost use Rattle.om_rows.specs.Coded.{ValueHasCode};
 ghost use Rattle.om_rows.specs.Rows.{each};
 ghost use Rattle.om_rows.specs.Statements.{clause_value, given_copies, load_original};
 ghost use Rattle.om_statements.specs.Emits.{EmitsStatement};
-ghost use Rattle.om_tables.specs.BodyTables.{numbered_by};
-ghost use Rattle.om_tables.specs.Ends.{IsKnown};
-ghost use Rattle.om_tables.specs.Numbering.{numbers_of};
-ghost use Rattle.om_tables.specs.Tables.{known_in};
+ghost use Rattle.om_rows.specs.BodyTables.{numbered_by};
+ghost use Rattle.om_rows.specs.Ends.{IsKnown};
+ghost use Rattle.om_rows.specs.Numbering.{numbers_of};
+ghost use Rattle.om_rows.specs.ProgramTables.{known_in};
 
 use crate::stand_in::{fork, load_originals, spawn, team_size};
 use om_emit::draft::Draft;
-use om_tables::{BodyTables, Numbers, Region, Variables, given_copies};
+use om_rows::{BodyTables, Numbers, Region, Variables, given_copies};
 use std::alloc::{AllocError, Global};
 
 /// Writes what stands in the place of a `parallel`, and gives the numbers behind it. Its body gets

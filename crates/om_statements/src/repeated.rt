@@ -6,8 +6,8 @@ ghost use Rattle.om_statements.specs.Scoped.{EmitsScopes};
 ghost use Rattle.om_statements.specs.Stretches.{Begins, BeginsTurn, Ends, FreshTurn, do_begin, do_end, for_begin, for_end, loop_end, while_begin};
 ghost use Rattle.om_resolved.specs.ResolvedView.{view_resolved_expression, view_resolved_start};
 ghost use Rattle.om_rows.specs.Coded.{EffectHasCode, StartHasCode, ValueHasCode};
-ghost use Rattle.om_tables.specs.BodyTables.{numbered_by};
-ghost use Rattle.om_tables.specs.Numbered.{Numbered};
+ghost use Rattle.om_rows.specs.BodyTables.{numbered_by};
+ghost use Rattle.om_rows.specs.Numbered.{Numbered};
 
 use crate::declaration::{perhaps_effect, perhaps_test, start, test};
 use crate::labels::{LoopLabels, TurnLabels};
@@ -15,7 +15,7 @@ use crate::writing::Writing;
 use om_code::Instr;
 use om_emit::draft::Draft;
 use om_resolved::{ResolvedExpression, ResolvedStart};
-use om_tables::BodyTables;
+use om_rows::BodyTables;
 use std::alloc::AllocError;
 
 /// Writes the head of a `while` (C17 6.8.5.1).

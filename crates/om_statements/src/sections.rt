@@ -5,12 +5,12 @@ ghost use Rattle.om_resolved.specs.ResolvedView.{view_resolved_clause};
 ghost use Rattle.om_rows.specs.Scopes.{sections_head};
 ghost use Rattle.om_statements.specs.Scoped.{EmitsScopes};
 ghost use Rattle.om_statements.specs.Parts.{OpensParts, part_head};
-ghost use Rattle.om_tables.specs.BodyTables.{numbered_by};
+ghost use Rattle.om_rows.specs.BodyTables.{numbered_by};
 
 use crate::worksharing::{Parts, begin_sections};
 use crate::writing::Writing;
 use om_resolved::{ResolvedClause, ResolvedPart};
-use om_tables::{BodyTables, Numbers};
+use om_rows::{BodyTables, Numbers};
 use std::alloc::{AllocError, Global};
 
 /// A `sections`, where it stands: the numbers of the next body and of its own list of PICK.

@@ -3,7 +3,7 @@
 ghost use Rattle.std.specs.Prelude.{◌≡◌, None, Some};
 
 use crate::labels::JumpLabels;
-use om_tables::Numbers;
+use om_rows::Numbers;
 
 /// Where a statement stands: the numbers of the next body and of the next list of PICK, and where
 /// jumps go.

@@ -9,15 +9,15 @@ ghost use Rattle.om_rows.specs.Expressions as expressions;
 ghost use Rattle.om_rows.specs.Rows.{each, perhaps};
 ghost use Rattle.om_rows.specs.Statements as rows;
 ghost use Rattle.om_rows.specs.Statements.{load_original};
-ghost use Rattle.om_tables.specs.BodyTables.{numbered_by};
-ghost use Rattle.om_tables.specs.Copies.{first_copies_of, first_copy};
+ghost use Rattle.om_rows.specs.BodyTables.{numbered_by};
+ghost use Rattle.om_rows.specs.Copies.{first_copies_of, first_copy};
 
 use crate::clause::clause_value;
 use om_code::Instr;
 use om_emit::draft::Draft;
 use om_emit::value;
 use om_resolved::ResolvedClause;
-use om_tables::{BodyTables, FirstCopy};
+use om_rows::{BodyTables, FirstCopy};
 use std::alloc::AllocError;
 
 /// Writes the size that a `parallel` asks for, if one of its clauses does (OpenMP API 5.2, section

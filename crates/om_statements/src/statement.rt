@@ -9,10 +9,10 @@ ghost use Rattle.om_rows.specs.Scopes.{all_scopes, block, part_scopes, scopes};
 ghost use Rattle.om_statements.specs.Scoped.{EmitsScopes};
 ghost use Rattle.om_statements.specs.Emits.{EmitsStatement, EmitsStatements};
 ghost use Rattle.om_statements.specs.Parts.{AreFree, EmitsParts};
-ghost use Rattle.om_tables.specs.BodyTables.{numbered_by};
-ghost use Rattle.om_tables.specs.Ends.{HasAllEnds, HasEnds, HasPartsEnds};
-ghost use Rattle.om_tables.specs.Numbering.{numbers_of};
-ghost use Rattle.om_tables.specs.Tables.{known_in};
+ghost use Rattle.om_rows.specs.BodyTables.{numbered_by};
+ghost use Rattle.om_rows.specs.Ends.{HasAllEnds, HasEnds, HasPartsEnds};
+ghost use Rattle.om_rows.specs.Numbering.{numbers_of};
+ghost use Rattle.om_rows.specs.ProgramTables.{known_in};
 
 use crate::alone::{assignment, stand_alone, update};
 use crate::branch::{begin_else, begin_if};
@@ -28,7 +28,7 @@ use crate::writing::Writing;
 use om_code::Instr;
 use om_emit::effect;
 use om_resolved::{ConstructKind, ResolvedHead, ResolvedPart, ResolvedStatement};
-use om_tables::{BodyTables, Numbers, Region};
+use om_rows::{BodyTables, Numbers, Region};
 use std::alloc::{AllocError, Global};
 
 /// Writes the code of a statement, and gives the numbers behind it.

@@ -8,7 +8,7 @@ ghost use Rattle.om_statements.specs.Stretches.{Begins, bounds_row, sections_beg
 ghost use Rattle.om_resolved.specs.ResolvedView.{view_resolved_clause, view_resolved_loop};
 ghost use Rattle.om_rows.specs.Coded.{LoopHasCode};
 ghost use Rattle.om_rows.specs.Statements.{closes};
-ghost use Rattle.om_tables.specs.BodyTables.{numbered_by};
+ghost use Rattle.om_rows.specs.BodyTables.{numbered_by};
 
 use crate::barrier::worksharing_end;
 use crate::clause::{reductions, starts};
@@ -19,7 +19,7 @@ use om_code::Instr;
 use om_emit::draft::Draft;
 use om_emit::value;
 use om_resolved::{ResolvedClause, ResolvedLoop};
-use om_tables::BodyTables;
+use om_rows::BodyTables;
 use std::alloc::AllocError;
 
 /// The list of a PICK, and how many parts it has.

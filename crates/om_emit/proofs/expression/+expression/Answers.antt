@@ -17,7 +17,7 @@ use Rattle.om_resolved.specs.ResolvedView.{view_resolved_expression}
 use Rattle.om_rows.specs.Expressions.{value}
 use Rattle.om_rows.specs.Operators.{Both, Either, Plain, form_of, compound_of}
 use Rattle.om_rows.specs.Slots.{place_of}
-use Rattle.om_tables.specs.BodyTables.{numbered_by}
+use Rattle.om_rows.specs.BodyTables.{numbered_by}
 use Rattle.om_emit.proofs.expression.+expression.Goals as goal
 
 pub element-returns : goal.element-returns

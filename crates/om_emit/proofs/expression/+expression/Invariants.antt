@@ -3,7 +3,7 @@ use Rattle.om_emit.specs.Drafts.{Written}
 use Rattle.om_emit.specs.Emits.{Goes, site}
 use Rattle.om_emit.proofs.Arguments.{listed}
 use Rattle.om_rows.specs.Expressions.{values}
-use Rattle.om_tables.specs.BodyTables.{numbered_by}
+use Rattle.om_rows.specs.BodyTables.{numbered_by}
 use Rattle.om_emit.proofs.expression.+expression.Given as goal
 
 -- whoever writes what is left has written all

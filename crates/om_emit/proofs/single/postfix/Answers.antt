@@ -3,7 +3,7 @@ use Rattle.om_emit.specs.Emits.{site}
 use Rattle.om_emit.specs.Rests.{stepped}
 use Rattle.om_rows.specs.Expressions.{stepped_back}
 use Rattle.om_rows.specs.Operators.{inverse_step_of}
-use Rattle.om_tables.specs.BodyTables.{numbered_by}
+use Rattle.om_rows.specs.BodyTables.{numbered_by}
 use Rattle.std.proofs.Common.{true}
 use Rattle.om_emit.proofs.single.postfix.Goals as goal
 

@@ -1,5 +1,5 @@
 use Rattle.om_emit.proofs.Singles.{emits_stepped}
-use Rattle.om_tables.specs.BodyTables.{numbered_by}
+use Rattle.om_rows.specs.BodyTables.{numbered_by}
 use Rattle.om_emit.proofs.single.step.Goals as goal
 
 pub returns : goal.returns

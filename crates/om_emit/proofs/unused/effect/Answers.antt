@@ -7,7 +7,7 @@ use Rattle.om_resolved.specs.ResolvedTree as trees
 use Rattle.om_resolved.specs.ResolvedView.{view_resolved_expression}
 use Rattle.om_rows.specs.Expressions.{constant, value}
 use Rattle.om_rows.specs.Operators.{compound_of, step_of}
-use Rattle.om_tables.specs.BodyTables.{numbered_by}
+use Rattle.om_rows.specs.BodyTables.{numbered_by}
 use Rattle.om_emit.proofs.unused.effect.Goals as goal
 
 pub returns-in_ok-assign_element-in-AssignElement : goal.returns-in_ok-assign_element-in-AssignElement

@@ -1,6 +1,6 @@
 use Rattle.om_emit.proofs.Expressions.{emits_popped}
 use Rattle.om_resolved.specs.ResolvedView.{view_resolved_expression}
-use Rattle.om_tables.specs.BodyTables.{numbered_by}
+use Rattle.om_rows.specs.BodyTables.{numbered_by}
 use Rattle.om_emit.proofs.unused.popped.Goals as goal
 
 pub returns : goal.returns

@@ -1,7 +1,7 @@
 use Rattle.std.proofs.Common.{◌∙◌}
 use Rattle.om_emit.proofs.Arguments.{listed, counted, few}
 use Rattle.om_emit.proofs.Expressions.{emits_print}
-use Rattle.om_tables.specs.BodyTables.{numbered_by}
+use Rattle.om_rows.specs.BodyTables.{numbered_by}
 use Rattle.om_emit.proofs.unused.print.Goals as goal
 
 pub returns : goal.returns

@@ -1,7 +1,7 @@
 use Rattle.std.specs.Prelude.{[]}
 use Rattle.om_lower.proofs.Settled.{lists_are, row_stands, scopes_stand}
 use Rattle.om_sights.specs.Sites.{body_in}
-use Rattle.om_tables.specs.BodyTables.{numbered_by}
+use Rattle.om_rows.specs.BodyTables.{numbered_by}
 use Rattle.om_lower.proofs.body.emitted_in.Goals as goal
 
 pub returns-clause-row : goal.returns-clause-row

@@ -3,8 +3,8 @@ use Rattle.om_lower.specs.Made.{AddsFunction}
 use Rattle.om_resolved.specs.ResolvedView.{view_resolved, view_resolved_function}
 use Rattle.om_rows.specs.Bodies.{first_numbers, function_bodies}
 use Rattle.om_rows.specs.Coded.{BodyHasCode}
-use Rattle.om_tables.specs.Numbering.{numbers_of}
-use Rattle.om_tables.specs.Tables.{AreCellsOf, ends_in}
+use Rattle.om_rows.specs.Numbering.{numbers_of}
+use Rattle.om_rows.specs.ProgramTables.{AreCellsOf, ends_in}
 use Rattle.om_lower.proofs.Coding.{function_added, stopped_at}
 use Rattle.om_lower.proofs.FunctionBodies.{function_holds}
 use Rattle.om_lower.proofs.Items.{item_at}

@@ -3,8 +3,8 @@ use Rattle.om_resolved.specs.ResolvedTree as trees
 use Rattle.om_resolved.specs.ResolvedView.{view_resolved_part, view_resolved_statement}
 use Rattle.om_rows.specs.Bodies as bodies
 use Rattle.om_rows.specs.Mentions.{all_mentioned, parts_mentioned}
-use Rattle.om_tables.specs.Ends.{all_region_ends, parts_region_ends}
-use Rattle.om_tables.specs.Numbering.{numbers_of}
+use Rattle.om_rows.specs.Ends.{all_region_ends, parts_region_ends}
+use Rattle.om_rows.specs.Numbering.{numbers_of}
 use Rattle.om_sights.proofs.Noting.{AreLeft}
 use Rattle.om_sights.proofs.mentions.+statement.Given as goal
 

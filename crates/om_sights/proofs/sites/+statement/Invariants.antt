@@ -3,7 +3,7 @@ use Rattle.om_sights.specs.Sites.{KeepsRound, bodies_in, variables_at}
 use Rattle.om_resolved.specs.ResolvedTree as trees
 use Rattle.om_resolved.specs.ResolvedView.{view_resolved_function, view_resolved_part, view_resolved_statement}
 use Rattle.om_rows.specs.Bodies as bodies
-use Rattle.om_tables.specs.Numbering.{numbers_of}
+use Rattle.om_rows.specs.Numbering.{numbers_of}
 use Rattle.om_sights.proofs.sites.+statement.Given as goal
 
 abbrev pub invariant-see_statements-loop-item : goal.invariant-see_statements-loop-item

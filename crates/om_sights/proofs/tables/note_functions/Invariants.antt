@@ -4,10 +4,10 @@ use Rattle.om_resolved.specs.ResolvedView.{view_resolved_function}
 use Rattle.om_rows.specs.Bodies.{behind_functions, first_numbers}
 use Rattle.om_rows.specs.Mentions.{format_mention, function_mentioned, lock_mention}
 use Rattle.om_rows.specs.Slots.{Extent}
-use Rattle.om_tables.specs.Ends.{ends_from}
+use Rattle.om_rows.specs.Ends.{ends_from}
 use Rattle.om_sights.specs.Noted.{noted}
-use Rattle.om_tables.specs.Numbering.{function_numbers, numbers_of}
-use Rattle.om_tables.specs.Tables.{AreCellsOf}
+use Rattle.om_rows.specs.Numbering.{function_numbers, numbers_of}
+use Rattle.om_rows.specs.ProgramTables.{AreCellsOf}
 use Rattle.om_sights.proofs.tables.note_functions.Given as goal
 
 abbrev pub invariant-loop-function : goal.invariant-loop-function

@@ -1,4 +1,4 @@
-use Rattle.om_tables.specs.BodyTables.{numbered_by}
+use Rattle.om_rows.specs.BodyTables.{numbered_by}
 use Rattle.om_statements.proofs.Leaves.{atomic_element_is, atomic_is, emits_then, emits_then_one}
 use Rattle.om_statements.proofs.alone.update.Goals as goal
 

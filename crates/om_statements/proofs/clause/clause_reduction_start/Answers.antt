@@ -2,7 +2,7 @@ use Rattle.std.proofs.Common.{ap, ◌∙◌}
 use Rattle.om_resolved.specs.ResolvedView.{view_resolved_clause}
 use Rattle.om_statements.proofs.Scoped.{team_stands}
 use Rattle.om_statements.specs.Scoped.{team_from}
-use Rattle.om_tables.specs.BodyTables.{numbered_by}
+use Rattle.om_rows.specs.BodyTables.{numbered_by}
 use Rattle.om_statements.proofs.clause.clause_reduction_start.Goals as goal
 
 pub returns-clause-scopes : goal.returns-clause-scopes

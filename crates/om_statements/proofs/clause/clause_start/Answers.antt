@@ -1,6 +1,6 @@
 use Rattle.om_resolved.specs.ResolvedView.{view_resolved_clause}
 use Rattle.om_statements.proofs.Scoped.{copy_stands}
-use Rattle.om_tables.specs.BodyTables.{numbered_by}
+use Rattle.om_rows.specs.BodyTables.{numbered_by}
 use Rattle.om_statements.proofs.clause.clause_start.Goals as goal
 
 pub returns-clause-scopes : goal.returns-clause-scopes

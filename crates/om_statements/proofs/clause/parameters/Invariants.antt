@@ -2,7 +2,7 @@ use Rattle.std.proofs.Common.{drop}
 use Rattle.om_emit.specs.Drafts.{Written}
 use Rattle.om_rows.specs.Scopes.{each_scope, parameter_scope}
 use Rattle.om_statements.specs.Scoping.{ScopesOn}
-use Rattle.om_tables.specs.Numbered.{Numbered}
+use Rattle.om_rows.specs.Numbered.{Numbered}
 use Rattle.om_statements.proofs.clause.parameters.Given as goal
 
 abbrev pub invariant-loop-variable : goal.invariant-loop-variable

@@ -1,4 +1,4 @@
-use Rattle.om_tables.specs.BodyTables.{numbered_by}
+use Rattle.om_rows.specs.BodyTables.{numbered_by}
 use Rattle.om_statements.proofs.Leaves.{emits_two}
 use Rattle.om_statements.proofs.clause.set_original.Goals as goal
 

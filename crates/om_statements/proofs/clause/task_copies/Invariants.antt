@@ -3,7 +3,7 @@ use Rattle.om_emit.specs.Drafts.{Written}
 use Rattle.om_resolved.specs.ResolvedView.{view_resolved_clause}
 use Rattle.om_rows.specs.Scopes.{each_scope, task_scope}
 use Rattle.om_statements.specs.Scoping.{ScopesOn}
-use Rattle.om_tables.specs.Numbered.{Numbered}
+use Rattle.om_rows.specs.Numbered.{Numbered}
 use Rattle.om_statements.proofs.clause.task_copies.Given as goal
 
 abbrev pub invariant-loop-clause : goal.invariant-loop-clause

@@ -1,6 +1,6 @@
 use Rattle.std.proofs.Common.{ap, map}
 use Rattle.om_code.specs.declared.instruction.Instr.TheVariants as i
-use Rattle.om_tables.specs.BodyTables.{numbered_by}
+use Rattle.om_rows.specs.BodyTables.{numbered_by}
 use Rattle.om_statements.proofs.Leaves.{emits_one, emits_put_then, emits_then_one, emits_two, puts_is}
 use Rattle.om_resolved.specs.ResolvedView.{view_resolved_clause}
 use Rattle.om_statements.proofs.Opened.{begins}

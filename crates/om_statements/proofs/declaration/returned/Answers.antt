@@ -1,5 +1,5 @@
 use Rattle.std.proofs.Common.{◌∙◌, ap, true, false}
-use Rattle.om_tables.specs.BodyTables.{numbered_by}
+use Rattle.om_rows.specs.BodyTables.{numbered_by}
 use Rattle.om_rows.specs.Statements.{last_instruction}
 use Rattle.om_statements.proofs.Leaves.{returned_none, returned_some}
 use Rattle.om_statements.proofs.declaration.returned.Goals as goal

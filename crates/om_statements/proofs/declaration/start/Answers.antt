@@ -3,7 +3,7 @@ use Rattle.om_resolved.specs.ResolvedView.{view_resolved_expression}
 use Rattle.om_rows.specs.Expressions.{effect}
 use Rattle.om_rows.specs.Rows.{end}
 use Rattle.om_statements.specs.Scoping.{stand_plain}
-use Rattle.om_tables.specs.BodyTables.{numbered_by}
+use Rattle.om_rows.specs.BodyTables.{numbered_by}
 use Rattle.om_statements.proofs.declaration.start.Goals as goal
 
 pub returns-in-Nothing-clause-scopes : goal.returns-in-Nothing-clause-scopes

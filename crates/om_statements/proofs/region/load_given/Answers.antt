@@ -1,8 +1,8 @@
 use Rattle.std.proofs.Common.{ap, arith, map, ◌∙◌}
 use Rattle.om_resolved.specs.ResolvedView.{view_resolved_clause}
 use Rattle.om_rows.specs.Slots.{by_slots, first_copies}
-use Rattle.om_tables.specs.BodyTables.{numbered_by}
-use Rattle.om_tables.specs.Copies.{first_copies_of}
+use Rattle.om_rows.specs.BodyTables.{numbered_by}
+use Rattle.om_rows.specs.Copies.{first_copies_of}
 use Rattle.om_statements.proofs.Regions.{count_few, counted, given_loaded}
 use Rattle.om_statements.proofs.region.load_given.Goals as goal
 

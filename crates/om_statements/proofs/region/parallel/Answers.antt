@@ -1,7 +1,7 @@
 use Rattle.std.specs.Prelude.{map}
 use Rattle.om_resolved.specs.ResolvedView.{view_resolved_clause, view_resolved_statement}
-use Rattle.om_tables.specs.BodyTables.{numbered_by}
-use Rattle.om_tables.specs.Numbering.{numbers_of}
+use Rattle.om_rows.specs.BodyTables.{numbered_by}
+use Rattle.om_rows.specs.Numbering.{numbers_of}
 use Rattle.om_statements.proofs.Regions.{emits_parallel}
 use Rattle.om_statements.proofs.region.parallel.Goals as goal
 

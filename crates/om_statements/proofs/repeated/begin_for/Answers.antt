@@ -2,7 +2,7 @@ use Rattle.std.proofs.Common.{option_map}
 use Rattle.om_resolved.specs.ResolvedView.{view_resolved_expression, view_resolved_start}
 use Rattle.om_statements.proofs.Opened.{begins_turn}
 use Rattle.om_statements.proofs.Scoped.{for_begins}
-use Rattle.om_tables.specs.BodyTables.{numbered_by}
+use Rattle.om_rows.specs.BodyTables.{numbered_by}
 use Rattle.om_statements.proofs.repeated.begin_for.Goals as goal
 
 pub returns-clause-code : goal.returns-clause-code

@@ -1,4 +1,4 @@
-use Rattle.om_tables.specs.BodyTables.{numbered_by}
+use Rattle.om_rows.specs.BodyTables.{numbered_by}
 use Rattle.om_statements.proofs.Opened.{ends_turn}
 use Rattle.om_statements.proofs.repeated.end_do.Goals as goal
 

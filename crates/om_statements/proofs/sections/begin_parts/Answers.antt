@@ -2,7 +2,7 @@ use Rattle.std.proofs.Common.{length, refl, map}
 use Rattle.om_resolved.specs.ResolvedView.{view_resolved_clause}
 use Rattle.om_statements.proofs.SectionsRow.{opens_parts}
 use Rattle.om_statements.specs.Parts.{part_head}
-use Rattle.om_tables.specs.BodyTables.{numbered_by}
+use Rattle.om_rows.specs.BodyTables.{numbered_by}
 use Rattle.om_rows.specs.Scopes.{sections_head}
 use Rattle.om_statements.proofs.Scoped.{writes_list}
 use Rattle.om_statements.specs.Scoping.{stand_ahead}

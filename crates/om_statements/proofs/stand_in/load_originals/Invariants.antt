@@ -1,7 +1,7 @@
 use Rattle.std.proofs.Common.{drop, length}
 use Rattle.om_rows.specs.Statements.{load_original}
-use Rattle.om_tables.specs.BodyTables.{numbered_by}
-use Rattle.om_tables.specs.Copies.{first_copy}
+use Rattle.om_rows.specs.BodyTables.{numbered_by}
+use Rattle.om_rows.specs.Copies.{first_copy}
 use Rattle.om_statements.proofs.Leaves.{GoesOn}
 use Rattle.om_statements.proofs.stand_in.load_originals.Given as goal
 

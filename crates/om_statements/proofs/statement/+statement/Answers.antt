@@ -13,9 +13,9 @@ use Rattle.om_resolved.specs.ResolvedView.{view_resolved_clause, view_resolved_d
 use Rattle.om_resolved.specs.ResolvedView.{view_resolved_loop, view_resolved_part, view_resolved_start}
 use Rattle.om_resolved.specs.ResolvedView.{view_resolved_statement, view_resolved_update}
 use Rattle.om_rows.specs.Bodies as rows
-use Rattle.om_tables.specs.BodyTables.{numbered_by}
-use Rattle.om_tables.specs.Numbered.{Numbered}
-use Rattle.om_tables.specs.Numbering.{numbers_of}
+use Rattle.om_rows.specs.BodyTables.{numbered_by}
+use Rattle.om_rows.specs.Numbered.{Numbered}
+use Rattle.om_rows.specs.Numbering.{numbers_of}
 use Rattle.om_statements.specs.Going.{free_with, with_none}
 use Rattle.om_statements.proofs.Lists.{left_item, left_next, no_atomic, numbers_are, onward_begin, onward_done, spot_is}
 use Rattle.om_statements.proofs.Lists.{statement_is}

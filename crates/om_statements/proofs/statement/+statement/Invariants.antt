@@ -4,10 +4,10 @@ use Rattle.om_resolved.specs.ResolvedTree as trees
 use Rattle.om_resolved.specs.ResolvedView.{view_resolved_part, view_resolved_statement}
 use Rattle.om_rows.specs.Bodies as rows
 use Rattle.om_rows.specs.Coded.{PartsHaveCode, StatementsHaveCode}
-use Rattle.om_tables.specs.BodyTables.{numbered_by}
-use Rattle.om_tables.specs.Ends.{HasAllEnds, HasPartsEnds}
-use Rattle.om_tables.specs.Numbering.{numbers_of}
-use Rattle.om_tables.specs.Tables.{known_in}
+use Rattle.om_rows.specs.BodyTables.{numbered_by}
+use Rattle.om_rows.specs.Ends.{HasAllEnds, HasPartsEnds}
+use Rattle.om_rows.specs.Numbering.{numbers_of}
+use Rattle.om_rows.specs.ProgramTables.{known_in}
 use Rattle.om_rows.specs.Scopes.{all_scopes, part_scopes}
 use Rattle.om_statements.specs.Parts.{AreFree}
 use Rattle.om_statements.specs.Scoping.{ScopesOn}

@@ -1,6 +1,6 @@
 use Rattle.std.proofs.Common.{map}
 use Rattle.om_resolved.specs.ResolvedView.{view_resolved_clause}
-use Rattle.om_tables.specs.BodyTables.{numbered_by}
+use Rattle.om_rows.specs.BodyTables.{numbered_by}
 use Rattle.om_statements.proofs.Opened.{begins_sections}
 use Rattle.om_statements.proofs.Scoped.{sections_begin}
 use Rattle.om_statements.proofs.worksharing.begin_sections.Goals as goal

@@ -1,7 +1,7 @@
 use Rattle.std.proofs.Common.{◌∙◌, ap, map, sym}
 use Rattle.om_code.specs.declared.instruction.Instr.TheVariants as i
 use Rattle.om_resolved.specs.ResolvedView.{view_resolved_clause, view_resolved_loop}
-use Rattle.om_tables.specs.BodyTables.{numbered_by}
+use Rattle.om_rows.specs.BodyTables.{numbered_by}
 use Rattle.om_statements.proofs.Leaves.{puts_is}
 use Rattle.om_statements.proofs.Opened.{begins_worksharing}
 use Rattle.om_statements.proofs.Scoped.{loop_begins}

@@ -2,7 +2,7 @@ use Rattle.std.proofs.Common.{map}
 use Rattle.om_resolved.specs.ResolvedView.{view_resolved_clause, view_resolved_loop}
 use Rattle.om_statements.proofs.Leaves.{emits_then}
 use Rattle.om_statements.proofs.Scoped.{bounds_stand}
-use Rattle.om_tables.specs.BodyTables.{numbered_by}
+use Rattle.om_rows.specs.BodyTables.{numbered_by}
 use Rattle.om_statements.proofs.worksharing.bounds.Goals as goal
 
 pub returns-clause-code : goal.returns-clause-code

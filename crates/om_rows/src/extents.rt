@@ -1,0 +1,57 @@
+//! How many cells the declared variables of a function have.
+
+ghost use Rattle.std.specs.Prelude.{◌≡◌, [], OnOk};
+ghost use Rattle.om_rows.specs.Slots.{cells_in};
+ghost use Rattle.om_rows.specs.Extents.{with_extent};
+
+use indexmap::IndexMap;
+use std::alloc::{AllocError, Global};
+use std::marker::Model;
+
+/// The declared variables of a function, each once, with how many cells it has. Contracts see them
+/// in the order of the text.
+#[derive(Drop)]
+pub struct Extents {
+    cells: IndexMap<u32, u32>,
+}
+
+impl Model for Extents {
+    ghost use Rattle.std.specs.Prelude.{List};
+    ghost use Rattle.om_rows.specs.Slots.{Extent};
+    ghost use Rattle.om_rows.specs.Extents.{extents_in};
+
+    ghost Value = { List Extent };
+
+    ghost view = { λ s. extents_in s.cells.entries };
+}
+
+impl Extents {
+    /// None.
+    pub fn new(alloc: Global) -> Extents
+        ensures { result ≡ [] }
+    {
+        Extents {
+            cells: IndexMap::new(alloc),
+        }
+    }
+
+    #[tactic(auto, using(crate::proofs::Cells::cells_found))]
+    /// How many cells a variable has: 1 unless it is declared with more.
+    pub fn cells(&self, variable: u32) -> u32
+        ensures { result ≡ cells_in self.now variable }
+    {
+        self.cells.get(&variable).copied().unwrap_or(1)
+    }
+
+    /// Notes a declared variable.
+    pub fn note(&mut self, variable: u32, cells: u32) -> Result<(), AllocError>
+        ensures { OnOk result
+            (self.new ≡ with_extent self.old (record { variable = variable; cells = cells })) }
+    {
+        if self.cells.contains_key(&variable) {
+            return Ok(());
+        }
+        self.cells.insert(variable, cells)?;
+        Ok(())
+    }
+}
