@@ -1,4 +1,5 @@
--- Records by serial, in rows. A row stays where its record is taken out, until none stands behind it or room is short.
+-- For proofs. Records by serial, in rows. A row stays where its record is taken out. It goes when a record comes and none
+-- stands behind it, or room is short.
 use Rattle.std.specs.Prelude.{ℕ, ◌<◌, List, [], ◌∷◌, Option, None, Some, IsSome}
 use Rattle.om_history.specs.declared.by_serial.Row.{Row}
 use Rattle.om_history.specs.declared.records.UndoRecord.{UndoRecord}
@@ -13,12 +14,12 @@ abbrev pub entries_in : List Row → List (ℕ × UndoRecord)
 entries_in [] = []
 entries_in (r ∷ rs) = with_entry r.serial r.kept (entries_in rs)
 
--- the serials rise
+-- the serials rise, from above a number
 abbrev pub AreRising : ℕ → List Row → Type 0
 AreRising low [] = Unit {0}
 AreRising low (r ∷ rs) = (low < r.serial) × AreRising r.serial rs
 
--- the last row has its record
+-- the last row, if there is one, has its record
 abbrev pub LastStands : List Row → Type 0
 LastStands [] = Unit {0}
 LastStands (r ∷ []) = IsSome r.kept

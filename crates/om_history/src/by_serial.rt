@@ -1,6 +1,6 @@
 //! Kept records by serial.
 
-ghost use Rattle.std.specs.Prelude.{◌≡◌, ℕ, ◌<◌, ◌∷◌, ◌++◌, [], Some, None, IfSome, IfNone, OnOk, OnErr, IfErr, slice_get};
+ghost use Rattle.std.specs.Prelude.{◌≡◌, ℕ, ◌<◌, ◌∷◌, ◌++◌, [], Some, None, IfSome, IfNone, OnOk, OnErr, IfErr, slice_get, vec_len, vec_capacity};
 ghost use Rattle.std.specs.Ordering.{nat_cmp};
 ghost use Rattle.std.specs.BTreeMap.{is_at};
 ghost use Rattle.std.specs.Map.{lookup, remove_entry};
@@ -18,7 +18,7 @@ pub(crate) struct Row {
     pub kept: Option<Kept>,
 }
 
-/// Kept records by serial: most that come are behind all others, and are found by a binary search.
+/// Kept records by serial. Each that comes stands behind all others; one is found by a binary search.
 ///
 /// Contracts see each record with its serial; the serials rise.
 #[derive(Drop)]
@@ -50,7 +50,7 @@ fn place(rows: &[Row], serial: u64) -> Option<usize>
     (row.serial == serial).then_some(place)
 }
 
-/// Takes out the rows without a record behind the last one that has it. It takes no memory.
+/// Takes out the rows without a record behind the last one that has one. It takes no memory.
 fn drop_gone(rows: &mut Vec<Row>)
     requires { AreRising 0 rows.old.items }
     ensures same { entries_in rows.new.items ≡ entries_in rows.old.items }
@@ -65,15 +65,17 @@ fn drop_gone(rows: &mut Vec<Row>)
     }
 }
 
-/// Makes room for one more row. Where there is none, all rows without a record go, and then at least
-/// half of the room is free: so the time of this is a constant for each row that comes. When out of
-/// memory, the records are the same.
+/// Makes room for one more row. Where there is none, all rows without a record go, and then room is
+/// asked for until half of it is free. So the time is a constant for each row that comes, as long as
+/// memory is given. When out of memory, the records are the same, and the next call may pass over all
+/// rows again.
 fn make_room(rows: &mut Vec<Row>) -> Result<(), AllocError>
     requires rising { AreRising 0 rows.old.items }
     requires last { LastStands rows.old.items }
     ensures same { entries_in rows.new.items ≡ entries_in rows.old.items }
     ensures rising { AreRising 0 rows.new.items }
     ensures last { LastStands rows.new.items }
+    ensures room { OnOk result (vec_len rows.new < vec_capacity rows.new) }
 {
     if rows.len() < rows.capacity() {
         return Ok(());
@@ -92,7 +94,7 @@ impl BySerial {
         }
     }
 
-    /// The rows of the records, in the order of their serials.
+    /// All rows, in the order of their serials; one may have no record.
     pub(crate) fn rows(&self) -> &[Row]
         ensures { entries_in result.now ≡ self.now }
     {
@@ -121,17 +123,11 @@ impl BySerial {
         if make_room(&mut self.rows).is_err() {
             return Err(made);
         }
-        let row = Row {
+        self.rows.push_reserved(Row {
             serial: made.serial(),
             kept: Some(made),
-        };
-        match self.rows.push(row) {
-            Ok(()) => Ok(()),
-            Err(refused) => match refused.value.kept {
-                Some(made) => Err(made),
-                None => unreachable!(),
-            },
-        }
+        });
+        Ok(())
     }
 
     /// Takes the record with a serial out. It takes no memory, and moves no other record.

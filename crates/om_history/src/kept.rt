@@ -1,4 +1,4 @@
-//! Undo records as the history keeps them: small, so that they are sought fast.
+//! Undo records as the history keeps them: small, each behind one pointer.
 
 ghost use Rattle.std.specs.Prelude.{◌≡◌, [], IfOk};
 ghost use Rattle.om_history.specs.Records.{choice_of};

@@ -1,2 +1,1 @@
 pub mod OffsetLemmas
-pub mod BlockLemmas

@@ -18,7 +18,7 @@ abbrev pub is_offset : Option ℕ → ℕ → Bool
 is_offset None k = false
 is_offset (Some bits) k = has_offset bits k
 
--- whether a serial is in one of these blocks; each has 64 serials
+-- whether a serial is in one of these blocks; each has 64 serials, and serials are below 2^64
 abbrev pub in_older : Numbered → ℕ → Bool
 in_older older s = nat_lt (s / 64) (2 ^ 58) && is_offset (block_of older (s / 64)) (s % 64)
 
@@ -36,5 +36,11 @@ pub record BlocksView : Type 0 where
 abbrev pub AreBefore : ℕ → Numbered → Type 0
 AreBefore number older = (q : ℕ) → nat_lt q number ≡ false → block_of older q ≡ None
 
+-- where the newest block is empty, there is no other one
+abbrev pub IsApart : Option ℕ → Numbered → Type 0
+IsApart None older = (q : ℕ) → block_of older q ≡ None
+IsApart (Some bits) older = Unit {0}
+
+-- whether a serial is among them
 abbrev pub has_in : BlocksView → ℕ → Bool
 has_in b s = cond (in_newest b.number b.newest s) true (in_older b.older s)

@@ -2,7 +2,7 @@
 
 ghost use Rattle.std.specs.Prelude.{◌≡◌, ℕ, ◌<◌, ◌+◌, ◌*◌, ◌/◌, ◌%◌, ◌^◌, cond, nat_eq, nat_lt, ◌&&◌, true, false, None, Some, is_some, OnOk, OnErr, IfSome, IfNone};
 ghost use Rattle.om_touches.specs.Offsets.{has_offset};
-ghost use Rattle.om_touches.specs.Blocks.{block_of, is_offset, in_older, in_newest, has_in, AreBefore};
+ghost use Rattle.om_touches.specs.Blocks.{block_of, is_offset, in_older, in_newest, has_in, AreBefore, IsApart};
 ghost use Rattle.om_touches.specs.Touches.{sooner, IsFirst, IsGreatest};
 
 use crate::offsets::Offsets;
@@ -16,7 +16,7 @@ use std::ops::Bound;
 /// How many serials a block has.
 const IN_BLOCK: u64 = 64;
 
-/// How many blocks there are.
+/// Block numbers are below this, since serials are below 2^64.
 const BLOCKS: u64 = 1 << 58;
 
 /// Serials by blocks. Most serials that come are above all others, so the block of the newest lies
@@ -35,17 +35,18 @@ pub struct Blocks {
 
 impl Model for Blocks {
     ghost use Rattle.std.specs.Prelude.{◌<◌, ◌^◌};
-    ghost use Rattle.om_touches.specs.Blocks.{BlocksView, AreBefore};
+    ghost use Rattle.om_touches.specs.Blocks.{BlocksView, AreBefore, IsApart};
 
     ghost Value = { BlocksView };
 
     ghost view = { λ b. record { older = b.older.entries; number = b.number; newest = b.newest } };
 
-    ghost invariant = { λ b. (b.number < 2 ^ 58) × AreBefore b.number b.older.entries };
+    ghost invariant = { λ b. (b.number < 2 ^ 58) × AreBefore b.number b.older.entries
+        × IsApart b.newest b.older.entries };
 }
 
-/// Adds a serial to a block that is not there.
-fn begin(older: &mut BTreeMap<u64, Offsets>, serial: u64) -> Result<(), AllocError>
+/// Begins an older block with a serial. When out of memory, nothing changes.
+fn begin_older(older: &mut BTreeMap<u64, Offsets>, serial: u64) -> Result<(), AllocError>
     requires { block_of older.old.entries (serial / 64) ≡ None }
     ensures added { OnOk result
         ((s : ℕ) → in_older older.new.entries s ≡ cond (nat_eq serial s) true (in_older older.old.entries s)) }
@@ -58,7 +59,7 @@ fn begin(older: &mut BTreeMap<u64, Offsets>, serial: u64) -> Result<(), AllocErr
     Ok(())
 }
 
-/// Adds a serial. When out of memory, nothing changes.
+/// Adds a serial to the older blocks. When out of memory, nothing changes.
 fn put_older(older: &mut BTreeMap<u64, Offsets>, serial: u64) -> Result<(), AllocError>
     ensures added { OnOk result
         ((s : ℕ) → in_older older.new.entries s ≡ cond (nat_eq serial s) true (in_older older.old.entries s)) }
@@ -72,7 +73,7 @@ fn put_older(older: &mut BTreeMap<u64, Offsets>, serial: u64) -> Result<(), Allo
             offsets.add(serial % IN_BLOCK);
             Ok(())
         }
-        None => begin(older, serial),
+        None => begin_older(older, serial),
     }
 }
 
@@ -88,7 +89,7 @@ fn replace(older: &mut BTreeMap<u64, Offsets>, number: u64, offsets: Offsets)
     }
 }
 
-/// Takes a serial out, if it is there. It takes no memory.
+/// Takes a serial out of the older blocks, if it is there. It takes no memory.
 fn take_older(older: &mut BTreeMap<u64, Offsets>, serial: u64)
     ensures taken { (s : ℕ) → in_older older.new.entries s
         ≡ cond (nat_eq serial s) false (in_older older.old.entries s) }
@@ -142,7 +143,7 @@ fn first_within(offsets: &Offsets, serial: u64) -> Option<u64>
     }
 }
 
-/// The first serial after another one.
+/// The first serial of the older blocks after another one.
 fn first_older(older: &BTreeMap<u64, Offsets>, serial: u64) -> Option<u64>
     ensures { IsFirst (in_older older.now.entries) serial result }
 {
@@ -154,19 +155,6 @@ fn first_older(older: &BTreeMap<u64, Offsets>, serial: u64) -> Option<u64>
     match within {
         Some(first) => Some(first),
         None => first_behind(older, number),
-    }
-}
-
-/// The last serial.
-fn last_older(older: &BTreeMap<u64, Offsets>) -> Option<u64>
-    ensures { IsGreatest (in_older older.now.entries) result }
-{
-    match older
-        .range((Bound::Unbounded, Bound::Excluded(BLOCKS)))
-        .next_back()
-    {
-        Some((number, offsets)) => serial_at(*number, offsets.last()),
-        None => None,
     }
 }
 
@@ -203,10 +191,30 @@ fn take_last(older: &mut BTreeMap<u64, Offsets>) -> Option<(u64, Offsets)>
     ensures taken { IfSome result (λ block. (q : ℕ) → block_of older.new.entries q
         ≡ cond (nat_eq block.0 q) None (block_of older.old.entries q)) }
     ensures last { IfSome result (λ block. AreBefore block.0 older.new.entries) }
-    ensures none { IfNone result
-        ((q : ℕ) → block_of older.new.entries q ≡ block_of older.old.entries q) }
+    ensures none { IfNone result ((q : ℕ) → block_of older.new.entries q ≡ None) }
+    ensures none_before { IfNone result ((q : ℕ) → block_of older.old.entries q ≡ None) }
 {
     older.pop_last()
+}
+
+/// Where the newest block is empty, the one before it takes its place. It takes no memory.
+fn refill(older: &mut BTreeMap<u64, Offsets>, number: &mut u64, newest: &mut Option<Offsets>)
+    requires low { number.old < 2 ^ 58 }
+    requires before { AreBefore number.old older.old.entries }
+    ensures same { (s : ℕ) →
+        cond (in_newest number.new newest.new s) true (in_older older.new.entries s)
+        ≡ cond (in_newest number.old newest.old s) true (in_older older.old.entries s) }
+    ensures low { number.new < 2 ^ 58 }
+    ensures before { AreBefore number.new older.new.entries }
+    ensures apart { IsApart newest.new older.new.entries }
+{
+    if newest.is_some() {
+        return;
+    }
+    if let Some((last, offsets)) = take_last(older) {
+        *number = last;
+        *newest = Some(offsets);
+    }
 }
 
 /// Takes a serial out of its block, if it is there.
@@ -265,7 +273,11 @@ impl Blocks {
         ensures unchanged_on_error { OnErr result
             ((s : ℕ) → has_in self.new s ≡ has_in self.old s) }
     {
-        match (serial / IN_BLOCK).cmp(&self.number) {
+        let number = serial / IN_BLOCK;
+        if self.newest.is_none() {
+            self.number = number;
+        }
+        match number.cmp(&self.number) {
             Ordering::Less => put_older(&mut self.older, serial),
             Ordering::Equal => {
                 self.put_newest(serial);
@@ -275,26 +287,13 @@ impl Blocks {
         }
     }
 
-    /// Has the block before the newest one become the newest, where that is empty. It takes no memory.
-    fn refill(&mut self)
-        ensures { (s : ℕ) → has_in self.new s ≡ has_in self.old s }
-    {
-        if self.newest.is_some() {
-            return;
-        }
-        if let Some((number, offsets)) = take_last(&mut self.older) {
-            self.number = number;
-            self.newest = Some(offsets);
-        }
-    }
-
     /// Takes a serial out, if it is there. It takes no memory.
     pub(crate) fn take(&mut self, serial: u64)
         ensures { (s : ℕ) → has_in self.new s ≡ cond (nat_eq serial s) false (has_in self.old s) }
     {
         if serial / IN_BLOCK == self.number {
             take_newest(&mut self.newest, serial);
-            self.refill();
+            refill(&mut self.older, &mut self.number, &mut self.newest);
         } else {
             take_older(&mut self.older, serial);
         }
@@ -329,9 +328,7 @@ impl Blocks {
     pub(crate) fn last(&self) -> Option<u64>
         ensures { IsGreatest (has_in self.now) result }
     {
-        match &self.newest {
-            Some(offsets) => serial_at(self.number, offsets.last()),
-            None => last_older(&self.older),
-        }
+        let offsets = self.newest.as_ref()?;
+        serial_at(self.number, offsets.last())
     }
 }
