@@ -1,7 +1,8 @@
-//! The layer of seats: the book that they share, the receipts of its calls, and orders and their answers.
+//! Sessions: seats that share a book under one lock, their receipts, orders, and the answers that receipts
+//! back.
 //!
-//! A session keeps the book under one lock, and of answers to orders those are kept that the receipts of
-//! their seats back. The items of the journal are at this root too.
+//! Of answers to orders those are kept that the receipts of their seats back. The items of the journal are
+//! at this root too.
 #![tactic(auto)]
 
 mod backing;

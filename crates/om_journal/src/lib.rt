@@ -1,6 +1,5 @@
-//! The layer of books: the journal of a machine's calls, and whether two values of the machine are the same.
-//!
-//! A book has its journal beside the machine that its calls leave.
+//! Sessions, below the lock: a book, which is a machine with the journal of its calls, and whether two
+//! values of the machine are the same.
 #![tactic(auto)]
 
 mod book;

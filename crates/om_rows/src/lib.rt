@@ -1,6 +1,5 @@
-//! The code of a resolved tree as a relation, what serial code means, and what holds of it whoever made it.
-//!
-//! The tables by which code names variables, bodies, formats and locks are here too.
+//! Lowering, without an emitter: the code of a resolved tree as a relation, its laws, what serial code
+//! means, and the tables by which code names variables, bodies, formats and locks.
 #![tactic(auto)]
 
 mod body;

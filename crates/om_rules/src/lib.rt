@@ -1,4 +1,4 @@
-//! What a source means: the rules that it keeps, its resolution, the laws of both, and the forms of its parts.
+//! Names and rules: what breaks a rule, the resolution of a tree, the laws of both, and how forms are read.
 //!
 //! The rules are lists of breaches, and the resolution is a function of the tree; both stand in
 //! `specs/`. Here are the types that they speak of, and their laws: what breaks no rule resolves, and

@@ -1,4 +1,4 @@
-//! How the program ends.
+//! How a program ends.
 ghost use Rattle.std.specs.Prelude.{◌≡◌};
 ghost use Rattle.om_shell.specs.Outcomes.{status_of};
 

@@ -1,4 +1,4 @@
-//! The words that the program is called with.
+//! The words that a program is called with.
 
 use std::alloc::{AllocError, Global};
 use std::io;

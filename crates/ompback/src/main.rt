@@ -1,4 +1,4 @@
-//! The program: its words, its files, its thread and its exit status.
+//! The debugger as a program: the words of its command line, its files, its thread and its exit status.
 #![tactic(auto)]
 
 ghost use Rattle.std.specs.Prelude.{◌<◌, ◌≤◌};
