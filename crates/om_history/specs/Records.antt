@@ -87,6 +87,10 @@ pub record LastHasSerial (w : ℕ) (ks : List UndoRecord) (serial : ℕ) : Type 
   pub is_last : IsLastOf w ks i made
   pub serial_is : made.entry.serial ≡ serial
 
+-- one of the records has this serial
+abbrev pub HasSerial : ℕ → List UndoRecord → Type 0
+HasSerial serial ks = (i : ℕ) × (k : UndoRecord) × (slice_get ks i ≡ Some k) × (k.entry.serial ≡ serial)
+
 -- all serials are below one, or above
 abbrev pub AreBelow : ℕ → List UndoRecord → Type 0
 AreBelow serial ks = AllByRecursion (λ (k : UndoRecord). k.entry.serial < serial) ks

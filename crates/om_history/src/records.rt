@@ -10,7 +10,7 @@ ghost use Rattle.om_foot.specs.Footprint.{conflicts_with_any, conflict_of};
 ghost use Rattle.om_touches.specs.Touches.{has_touch, AreSame, AreWith, AreWithout, SameOwn, WithOwn, WithoutOwn};
 ghost use Rattle.om_history.specs.Cones.{meets_one, is_member as is_member_of, cone, taken_of};
 ghost use Rattle.om_history.specs.Runs.{conflict_or};
-ghost use Rattle.om_history.specs.Records.{entries_of, transition_of, transitions_of, kept_reply, LastHasSerial, AreBelow, AreAbove};
+ghost use Rattle.om_history.specs.Records.{entries_of, transition_of, transitions_of, kept_reply, LastHasSerial, HasSerial, AreBelow, AreAbove};
 ghost use Rattle.om_history.specs.declared.records.UndoRecord.{UndoRecord};
 ghost use Rattle.om_history.specs.Touches.{AreBySerial, AreListsOf, IsIndexed};
 
@@ -138,26 +138,22 @@ fn enter(
 
 /// Takes the record with a serial out, and its touches. It takes no memory, and moves no other
 /// record.
-fn leave(
-    kept: &mut BySerial,
-    lists: &mut TouchLists,
-    own: &mut OwnEntries,
-    serial: u64,
-) -> Option<Kept>
-    requires { IsIndexed kept.old lists.old own.old }
+fn leave(kept: &mut BySerial, lists: &mut TouchLists, own: &mut OwnEntries, serial: u64) -> Kept
+    requires indexed { IsIndexed kept.old lists.old own.old }
+    requires there { HasSerial serial (values_of kept.old) }
     ensures indexed { IsIndexed kept.new lists.new own.new }
     ensures left { (i : ℕ) (k : UndoRecord) → slice_get (values_of kept.old) i ≡ Some k
         → k.entry.serial ≡ serial
         → values_of kept.new ≡ remove (values_of kept.old) i }
     ensures returned { (i : ℕ) (k : UndoRecord) → slice_get (values_of kept.old) i ≡ Some k
-        → k.entry.serial ≡ serial → result ≡ Some k }
+        → k.entry.serial ≡ serial → result ≡ k }
 {
     match kept.take(serial) {
         Some(made) => {
             forget(lists, own, &made);
-            Some(made)
+            made
         }
-        None => None,
+        None => unreachable!(),
     }
 }
 
@@ -219,6 +215,7 @@ fn refusal_by(kept: &BySerial, undone: &Kept, first: u64, otherwise: UndoReply) 
 fn reply_at(kept: &BySerial, lists: &TouchLists, serial: u64) -> UndoReply
     requires by_serial { AreBySerial 0 kept.now }
     requires lists { AreListsOf (λ k. k.footprint) (values_of kept.now) lists.now }
+    requires there { HasSerial serial (values_of kept.now) }
     ensures { (i : ℕ) (k : UndoRecord) → slice_get (values_of kept.now) i ≡ Some k
         → k.entry.serial ≡ serial → result ≡ kept_reply (values_of kept.now) i }
 {
@@ -233,7 +230,7 @@ fn reply_at(kept: &BySerial, lists: &TouchLists, serial: u64) -> UndoReply
                 None => otherwise,
             }
         }
-        None => UndoReply::Nothing,
+        None => unreachable!(),
     }
 }
 
@@ -329,6 +326,7 @@ impl Records {
 
     /// What an undo of the entry with a serial answers.
     pub fn reply_to(&self, serial: u64) -> UndoReply
+        requires { HasSerial serial self.now }
         ensures { (i : ℕ) (k : UndoRecord) → slice_get self.now i ≡ Some k
             → k.entry.serial ≡ serial → result ≡ kept_reply self.now i }
     {
@@ -348,11 +346,12 @@ impl Records {
     }
 
     /// Takes the record with a serial out. It takes no memory, and moves no other record.
-    pub(crate) fn leave(&mut self, serial: u64) -> Option<Kept>
+    pub(crate) fn leave(&mut self, serial: u64) -> Kept
+        requires { HasSerial serial self.old }
         ensures left { (i : ℕ) (k : UndoRecord) → slice_get self.old i ≡ Some k
             → k.entry.serial ≡ serial → self.new ≡ remove self.old i }
         ensures returned { (i : ℕ) (k : UndoRecord) → slice_get self.old i ≡ Some k
-            → k.entry.serial ≡ serial → result ≡ Some k }
+            → k.entry.serial ≡ serial → result ≡ k }
     {
         leave(&mut self.kept, &mut self.lists, &mut self.own, serial)
     }

@@ -5,7 +5,7 @@ ghost use Rattle.om_foot.specs.declared.object.Obj.{Obj};
 ghost use Rattle.om_cells.specs.State.{updated, taken_back};
 ghost use Rattle.om_live.specs.Stores.{state_of, is_kept, pasts_of};
 ghost use Rattle.om_history.specs.Fills.{small_record, noted_all, full, before};
-ghost use Rattle.om_history.specs.Records.{HasRoom, AreBelow};
+ghost use Rattle.om_history.specs.Records.{HasRoom, AreBelow, HasSerial};
 ghost use Rattle.om_history.specs.Takes.{updates_by, small_for, CanMake, CanLeave};
 ghost use Rattle.om_history.specs.declared.records.UndoRecord.{UndoRecord};
 
@@ -159,8 +159,7 @@ pub(crate) fn append(
 pub(crate) fn take_out(store: &mut Store, records: &mut Records, serial: u64)
     requires can { (i : ℕ) (k : UndoRecord) → slice_get records.old i ≡ Some k
         → k.entry.serial ≡ serial → CanLeave store.old k }
-    requires there { (i : ℕ) × (k : UndoRecord) × (slice_get records.old i ≡ Some k)
-        × (k.entry.serial ≡ serial) }
+    requires there { HasSerial serial records.old }
     ensures state { (i : ℕ) (k : UndoRecord) → slice_get records.old i ≡ Some k
         → k.entry.serial ≡ serial → state_of store.new
         ≡ taken_back k.footprint (full (pasts_of store.old) k).back (state_of store.old) }
@@ -170,8 +169,6 @@ pub(crate) fn take_out(store: &mut Store, records: &mut Records, serial: u64)
         → k.entry.serial ≡ serial → records.new ≡ remove records.old i }
     ensures kept { (q : Obj) → is_kept store.new q ≡ is_kept store.old q }
 {
-    match records.leave(serial) {
-        Some(made) => take_back(store, made),
-        None => {}
-    }
+    let made = records.leave(serial);
+    take_back(store, made);
 }

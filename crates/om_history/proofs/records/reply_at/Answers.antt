@@ -33,6 +33,8 @@ returns-in-None-first_conflict c = λ i k at is.
     (subst (λ xs. IsFirst (meets (has_touch c.args.lists.now) xs) c.args.serial None) c.footprint.ensures
     c.in-None-first_conflict.ensures)
 
-pub returns-in-None : goal.returns-in-None
-returns-in-None c = λ i k at is. absurd (not_missing c.args.kept.now i c.args.serial k c.requires.by_serial
-    at is c.in-None.ensures.none)
+pub unreachable-requires : goal.unreachable-requires
+unreachable-requires c =
+    let there = c.requires.there in
+    not_missing c.args.kept.now there.0 c.args.serial there.1 c.requires.by_serial there.2 there.3
+    c.in-None.ensures.none

@@ -13,6 +13,11 @@ use Rattle.om_history.proofs.Soundness.{undo_replies, undo_done, undo_refused, u
 use Rattle.om_history.proofs.Holding.{can_leave, has_last, done_in, taken_from, kept_without}
 use Rattle.om_history.proofs.history.History.undo.Goals as goal
 
+pub reply_to-reply-requires : goal.reply_to-reply-requires
+reply_to-reply-requires c =
+    let x : LastHasSerial c.args.worker c.args.self.now.records c.in-Some.serial = c.in-Some.ensures.found in
+    (x.i, x.made, x.is_last.at, x.serial_is)
+
 pub take_out-requires-clause-can : goal.take_out-requires-clause-can
 take_out-requires-clause-can c = λ i k at is.
     can_leave c.requires.0 c.args.self.now.store c.args.self.now.records c.args.self.now.made i k c.requires.1 at
