@@ -18,7 +18,8 @@ pub(crate) struct Row {
     pub kept: Option<Kept>,
 }
 
-/// Kept records by serial. Each that comes stands behind all others; one is found by a binary search.
+/// Kept records by serial. Each that comes stands behind all others; one is found from the end, or by a
+/// binary search.
 ///
 /// Contracts see each record with its serial; the serials rise.
 #[derive(Drop)]
@@ -38,8 +39,20 @@ impl Model for BySerial {
     ghost invariant = { λ b. AreRising 0 b.rows.items };
 }
 
-/// The place of a serial among rows, if it has one.
-fn place(rows: &[Row], serial: u64) -> Option<usize>
+/// The place of a serial among rows, if it has one and no serial is left out behind it.
+fn place_from_end(rows: &[Row], serial: u64) -> Option<usize>
+    ensures { IfSome result
+        (λ i. (r : Row) × (slice_get rows.now i ≡ Some r) × (r.serial ≡ serial)) }
+{
+    let (last, earlier) = rows.split_last()?;
+    let behind = last.serial.checked_sub(serial)?;
+    let place = earlier.len().checked_sub(behind as usize)?;
+    let row = rows.get(place)?;
+    (row.serial == serial).then_some(place)
+}
+
+/// The place of a serial among rows, found by a binary search, if it has one.
+fn place_by_search(rows: &[Row], serial: u64) -> Option<usize>
     requires { AreRising 0 rows.now }
     ensures found { IfSome result
         (λ i. (r : Row) × (slice_get rows.now i ≡ Some r) × (r.serial ≡ serial)) }
@@ -48,6 +61,19 @@ fn place(rows: &[Row], serial: u64) -> Option<usize>
     let place = rows.partition_point(|row| row.serial < serial);
     let row = rows.get(place)?;
     (row.serial == serial).then_some(place)
+}
+
+/// The place of a serial among rows, if it has one. Few serials are left out, so most are found at once.
+fn place(rows: &[Row], serial: u64) -> Option<usize>
+    requires { AreRising 0 rows.now }
+    ensures found { IfSome result
+        (λ i. (r : Row) × (slice_get rows.now i ≡ Some r) × (r.serial ≡ serial)) }
+    ensures none { IfNone result (lookup (is_at (nat_cmp serial)) (entries_in rows.now) ≡ None) }
+{
+    match place_from_end(rows, serial) {
+        Some(place) => Some(place),
+        None => place_by_search(rows, serial),
+    }
 }
 
 /// Takes out the rows without a record behind the last one that has one. It takes no memory.

@@ -8,7 +8,7 @@ use Rattle.std.proofs.lemmas.Option.{slice_get_past, slice_get_read}
 use Rattle.om_history.specs.declared.by_serial.Row.{Row}
 use Rattle.om_history.specs.Rows.{entries_in}
 use Rattle.om_history.proofs.Rows.{parted, missing, same_row, if_none, chosen, unchosen}
-use Rattle.om_history.proofs.by_serial.place.Goals as goal
+use Rattle.om_history.proofs.by_serial.place_by_search.Goals as goal
 
 pub returns-in_err-row-clause-none : goal.returns-in_err-row-clause-none
 returns-in_err-row-clause-none c =
