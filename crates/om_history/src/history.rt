@@ -150,17 +150,18 @@ impl History {
     pub fn take(
         &mut self,
         alloc: Global,
-        label: Label,
+        label: &Label,
         change: Change,
     ) -> Result<StepReply, AllocError>
         requires few_made { (past_in self.old).made < 2 ^ 63 }
         requires room { HaveRoom change.edits
-            (control_in ((past_in self.old).state (obj.Control label.worker))) }
-        requires planned { (r : Rules) × IsPlanned r self.old label (step_for label change self.old) }
+            (control_in ((past_in self.old).state (obj.Control label.now.worker))) }
+        requires planned { (r : Rules)
+            × IsPlanned r self.old label.now (step_for label.now change self.old) }
         ensures reply { IfOk result
-            (RepliesToStep label (step_for label change self.old) self.old) }
+            (RepliesToStep label.now (step_for label.now change self.old) self.old) }
         ensures after { OnOk result
-            (TakesStep label (step_for label change self.old) self.old self.new) }
+            (TakesStep label.now (step_for label.now change self.old) self.old self.new) }
         ensures unchanged_on_error { OnErr result (Stays self.old self.new) }
     {
         let reply = self.reply(label.worker, &change);

@@ -19,7 +19,7 @@ use om_history::History;
 use om_seq::Seq;
 use om_task::laws::low_counters;
 use om_task::start::started;
-use om_task::{Plan, Worker, plan};
+use om_task::{Plan, plan};
 use om_undo::Machine;
 use om_undo::laws::{shaped_rules, steady_rules};
 use std::alloc::{AllocError, Global};
@@ -96,9 +96,9 @@ fn traced(
         (label_of entry.now)) }
 {
     let label = label_of(entry);
-    let plan = planned(alloc, program, workers, history, label)?;
+    let plan = planned(alloc, program, workers, history, &label)?;
     let words = Words::of(alloc, program, history.store(), &label, &plan)?;
-    match remade(alloc, history, label, plan) {
+    match remade(alloc, history, &label, plan) {
         Ok(footprint) => {
             let (instruction, value) = words.behind(history.store(), label.worker)?;
             Ok(Traced {
@@ -128,17 +128,14 @@ fn planned(
     program: &Program,
     workers: u8,
     history: &History,
-    label: Label,
+    label: &Label,
 ) -> Result<Plan, AllocError>
     requires { IsHeld (rules_of program.now workers) history.now }
-    ensures { IfOk result (λ plan. IsPlan (rules_of program.now workers) history.now label plan) }
+    ensures { IfOk result
+        (λ plan. IsPlan (rules_of program.now workers) history.now label.now plan) }
 {
     low_counters();
-    let worker = Worker {
-        number: label.worker,
-        workers,
-    };
-    plan(alloc, program, history.store(), worker, label.choice)
+    plan(alloc, program, history.store(), workers, label)
 }
 
 /// Takes the step of a plan, and answers what it touches. When out of memory, the history may be longer
@@ -146,15 +143,16 @@ fn planned(
 fn remade(
     alloc: Global,
     history: &mut History,
-    label: Label,
+    label: &Label,
     plan: Plan,
 ) -> Result<Seq<Access>, AllocError>
     requires few_made { (past_in history.old).made < 2 ^ 63 }
-    requires planned { (r : Rules) × IsPlan r history.old label plan × CanBeMade r history.old label }
-    ensures footprint { IfOk result (λ footprint. (r : Rules) → IsPlan r history.old label plan
-        → footprint ≡ footprint_for r history.old label) }
-    ensures longer { OnOk result ((r : Rules) → IsPlan r history.old label plan
-        → IsLonger r history.old history.new label) }
+    requires planned { (r : Rules)
+        × IsPlan r history.old label.now plan × CanBeMade r history.old label.now }
+    ensures footprint { IfOk result (λ footprint. (r : Rules) → IsPlan r history.old label.now plan
+        → footprint ≡ footprint_for r history.old label.now) }
+    ensures longer { OnOk result ((r : Rules) → IsPlan r history.old label.now plan
+        → IsLonger r history.old history.new label.now) }
 {
     match plan {
         Plan::Updates(change) => {

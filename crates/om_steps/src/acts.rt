@@ -85,7 +85,8 @@ fn naming(alloc: Global, next: u32, access: &Access, turn: Turn) -> Result<Answe
     ensures { IfOk result
         (λ answer. answer ≡ record { names = access.now ∷ []; row = row_of (next + 1) [] turn }) }
 {
-    let mut names = Seq::of(Vec::with_capacity(alloc, 1)?);
+    // Room for the worker's control too, which comes before it.
+    let mut names = Seq::of(Vec::with_capacity(alloc, 2)?);
     name(&mut names, access.object, access.mode)?;
     let row = row_of(alloc, next, Seq::new(alloc), turn)?;
     Ok(Answer { names, row })

@@ -19,17 +19,6 @@ pub struct At {
     pub to: u32,
 }
 
-/// An item, and the others behind it. They are kept as long as a step stands, so they have no room
-/// to spare.
-pub fn before<T: Drop>(alloc: Global, item: T, others: Seq<T>) -> Result<Seq<T>, AllocError>
-    ensures { IfOk result (λ all. all ≡ item ∷ others) }
-{
-    let mut all = Seq::of(Vec::with_capacity(alloc, others.len().saturating_add(1))?);
-    all.push(item)?;
-    all.append(others)?;
-    Ok(all)
-}
-
 /// The edits that go to a place, and do nothing else.
 pub fn go_on(alloc: Global, to: u32) -> Result<Seq<Edit>, AllocError>
     ensures { IfOk result (λ edits. edits ≡ Edit.Go to 0 None ∷ []) }

@@ -24,7 +24,6 @@ use om_foot::Access;
 use om_live::{Control, Stack, Store};
 use om_seq::Seq;
 use om_steps::{Answer, Row};
-use om_team::Worker;
 use om_team::answers::{Planning, footprint};
 use om_team::table::{Doing, instruction_of};
 use std::alloc::{AllocError, Global};
@@ -35,12 +34,12 @@ fn next_answer(
     program: &Program,
     store: &Store,
     stack: &Stack,
-    planning: &Planning,
+    planning: &Planning<'_>,
 ) -> Result<Answer, AllocError>
     requires { IsWithin (2 ^ 63) (plain_stack stack.now).top }
     ensures { IfOk result
         (λ answer. answer ≡ answered
-        (next_row (site program.now planning.now.workers planning.now.label.worker
+        (next_row (site program.now planning.now.workers planning.now.label.now.worker
         (plain_stack stack.now))
         (instruction_at program.now (plain_stack stack.now).top.frame.body
         (plain_stack stack.now).top.frame.next))
@@ -63,24 +62,24 @@ fn choice_answer(
     program: &Program,
     store: &Store,
     stack: &Stack,
-    planning: &Planning,
+    planning: &Planning<'_>,
 ) -> Result<Answer, AllocError>
     requires { IsWithin (2 ^ 63) (plain_stack stack.now).top }
     ensures { IfOk result
         (λ answer. answer ≡ answered
-        (asked (site program.now planning.now.workers planning.now.label.worker
+        (asked (site program.now planning.now.workers planning.now.label.now.worker
         (plain_stack stack.now))
-        planning.now.label.choice) (state_of store.now)) }
+        planning.now.label.now.choice) (state_of store.now)) }
 {
-    match planning.label.choice {
+    match &planning.label.choice {
         Choice::Next => next_answer(alloc, program, store, stack, planning),
         Choice::Start(name) => {
             let starting = Starting {
                 worker: planning.label.worker,
                 status: leaving(instruction(program, &stack.top)),
-                admits: admits(program, &name, stack),
+                admits: admits(program, name, stack),
             };
-            start(alloc, store, &starting, &name, &stack.top)
+            start(alloc, store, &starting, name, &stack.top)
         }
     }
 }
@@ -91,12 +90,12 @@ fn control_answer(
     program: &Program,
     store: &Store,
     control: &Control,
-    planning: &Planning,
+    planning: &Planning<'_>,
 ) -> Result<Answer, AllocError>
     requires { ControlWithin (2 ^ 63) (plain_control control.now) }
     ensures { IfOk result
         (λ answer. answer ≡ answer_in program.now planning.now.workers (state_of store.now)
-        planning.now.label (plain_control control.now)) }
+        planning.now.label.now (plain_control control.now)) }
 {
     match control {
         Control::Running(stack) => choice_answer(alloc, program, store, stack, planning),
@@ -110,21 +109,21 @@ fn control_answer(
 #[tactic(auto, using(crate::proofs::Plans::fault_room))]
 fn planned(
     alloc: Global,
-    label: Label,
+    label: &Label,
     line: u32,
     names: Seq<Access>,
     row: Row,
 ) -> Result<Plan, AllocError>
     ensures plan { (c : plain_controls.Control) →
         IfOk result (λ plan. StandsFor plan c (record {
-          footprint = control_access label ∷ names;
+          footprint = control_access label.now ∷ names;
           outcome = outcome_after c row;
           line = line;
         })) }
     ensures room { (c : plain_controls.Control) → RowHasRoom c row →
         IfOk result (λ plan. PlanHasRoom c plan) }
 {
-    let footprint = footprint(alloc, label.worker, names)?;
+    let footprint = footprint(label.worker, names)?;
     let (edits, updates) = match row {
         Row::Goes { edits, updates } => (edits, updates),
         Row::Faults(fault) => (Seq::one(alloc, Edit::Fail(fault))?, Seq::new(alloc)),
@@ -155,10 +154,10 @@ pub fn line(program: &Program, control: &Control) -> u32
 pub fn is_at_scheduling_point(program: &Program, control: &Control) -> bool
     ensures { result ≡ is_at_scheduling_point program.now (plain_control control.now) }
 {
-    match control {
-        Control::Running(stack) => leaving(instruction(program, &stack.top)).is_some(),
-        Control::Idle | Control::Faulted(_, _) | Control::Ended(_) => false,
-    }
+    let Control::Running(stack) = control else {
+        return false;
+    };
+    leaving(instruction(program, &stack.top)).is_some()
 }
 
 /// The plan of the step of a worker that has this control.
@@ -167,13 +166,13 @@ fn control_plan(
     program: &Program,
     store: &Store,
     control: &Control,
-    planning: &Planning,
+    planning: &Planning<'_>,
 ) -> Result<Plan, AllocError>
     requires control { ControlWithin (2 ^ 63) (plain_control control.now) }
     requires state { StateWithin (2 ^ 63) (state_of store.now) }
     ensures plan { IfOk result (λ plan. StandsFor plan (plain_control control.now)
-        (step_by program.now planning.now.label (plain_control control.now)
-        (answer_in program.now planning.now.workers (state_of store.now) planning.now.label
+        (step_by program.now planning.now.label.now (plain_control control.now)
+        (answer_in program.now planning.now.workers (state_of store.now) planning.now.label.now
         (plain_control control.now)))) }
     ensures room { IfOk result (λ plan. PlanHasRoom (plain_control control.now) plan) }
 {
@@ -189,20 +188,19 @@ fn control_plan(
 pub fn names(
     alloc: Global,
     program: &Program,
-    worker: Worker,
+    workers: u8,
     control: &Control,
-    choice: Choice,
+    label: &Label,
 ) -> Result<Seq<Access>, AllocError>
     requires { ControlWithin (2 ^ 63) (plain_control control.now) }
     ensures { IfOk result
-        (λ names. names ≡ names_of program.now worker.workers
-        (record { worker = worker.number; choice = choice }) (plain_control control.now)) }
+        (λ names. names ≡ names_of program.now workers label.now (plain_control control.now)) }
 {
-    let planning = &Planning::of(worker, choice);
+    let planning = &Planning { label, workers };
     let store = &Store::new(alloc);
     let Answer { names, row } = control_answer(alloc, program, store, control, planning)?;
     drop(row);
-    footprint(alloc, worker.number, names)
+    footprint(label.worker, names)
 }
 
 /// What comes of the choice of a worker that has this control.
@@ -211,12 +209,12 @@ fn control_row(
     program: &Program,
     store: &Store,
     control: &Control,
-    planning: &Planning,
+    planning: &Planning<'_>,
 ) -> Result<Row, AllocError>
     requires { ControlWithin (2 ^ 63) (plain_control control.now) }
     ensures { IfOk result
         (λ row. row ≡ (answer_in program.now planning.now.workers (state_of store.now)
-        planning.now.label (plain_control control.now)).row) }
+        planning.now.label.now (plain_control control.now)).row) }
 {
     let Answer { names, row } = control_answer(alloc, program, store, control, planning)?;
     drop(names);
@@ -232,16 +230,15 @@ pub fn effect(
     alloc: Global,
     program: &Program,
     store: &Store,
-    worker: Worker,
-    choice: Choice,
+    workers: u8,
+    label: &Label,
 ) -> Result<Row, AllocError>
     requires { StateWithin (2 ^ 63) (state_of store.now) }
     ensures { IfOk result
-        (λ row. row ≡ effect_at program.now worker.workers
-        (record { worker = worker.number; choice = choice }) (state_of store.now)) }
+        (λ row. row ≡ effect_at program.now workers label.now (state_of store.now)) }
 {
-    let planning = &Planning::of(worker, choice);
-    match store.control(worker.number) {
+    let planning = &Planning { label, workers };
+    match store.control(label.worker) {
         Some(control) => control_row(alloc, program, store, control, planning),
         None => control_row(alloc, program, store, &Control::Idle, planning),
     }
@@ -252,15 +249,15 @@ fn choice_plan(
     alloc: Global,
     program: &Program,
     store: &Store,
-    planning: &Planning,
+    planning: &Planning<'_>,
 ) -> Result<Plan, AllocError>
     requires { StateWithin (2 ^ 63) (state_of store.now) }
     ensures plan { IfOk result (λ plan. StandsFor plan
-        (control_in (state_of store.now (obj.Control planning.now.label.worker)))
+        (control_in (state_of store.now (obj.Control planning.now.label.now.worker)))
         (step_at (rules_of program.now planning.now.workers) (state_of store.now)
-        planning.now.label)) }
+        planning.now.label.now)) }
     ensures room { IfOk result (λ plan. PlanHasRoom
-        (control_in (state_of store.now (obj.Control planning.now.label.worker))) plan) }
+        (control_in (state_of store.now (obj.Control planning.now.label.now.worker))) plan) }
 {
     match store.control(planning.label.worker) {
         Some(control) => control_plan(alloc, program, store, control, planning),
@@ -277,16 +274,15 @@ pub fn plan(
     alloc: Global,
     program: &Program,
     store: &Store,
-    worker: Worker,
-    choice: Choice,
+    workers: u8,
+    label: &Label,
 ) -> Result<Plan, AllocError>
     requires { StateWithin (2 ^ 63) (state_of store.now) }
     ensures plan { IfOk result (λ plan. StandsFor plan
-        (control_in (state_of store.now (obj.Control worker.number)))
-        (step_at (rules_of program.now worker.workers) (state_of store.now)
-        (record { worker = worker.number; choice = choice }))) }
+        (control_in (state_of store.now (obj.Control label.now.worker)))
+        (step_at (rules_of program.now workers) (state_of store.now) label.now)) }
     ensures room { IfOk result (λ plan. PlanHasRoom
-        (control_in (state_of store.now (obj.Control worker.number))) plan) }
+        (control_in (state_of store.now (obj.Control label.now.worker))) plan) }
 {
-    choice_plan(alloc, program, store, &Planning::of(worker, choice))
+    choice_plan(alloc, program, store, &Planning { label, workers })
 }

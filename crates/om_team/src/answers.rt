@@ -15,54 +15,29 @@ use om_code::Program;
 use om_foot::{Access, Mode, Obj};
 use om_live::{Control, Stack, Store};
 use om_seq::Seq;
-use om_steps::parts::before;
 use om_steps::{Answer, Row};
 use std::alloc::{AllocError, Global};
 
-/// One of a program's workers.
+/// A choice of one of so many workers.
 #[derive(Clone, Copy)]
-pub struct Worker {
-    /// Its number, from 0.
-    pub number: u8,
+pub struct Planning<'a> {
+    pub label: &'a Label,
     /// How many workers there are, 1 to 32.
     pub workers: u8,
 }
 
-/// A choice of one of so many workers.
-#[derive(Clone, Copy)]
-pub struct Planning {
-    pub label: Label,
-    pub workers: u8,
-}
-
-impl Planning {
-    /// The choice of a worker.
-    pub fn of(worker: Worker, choice: Choice) -> Planning
-        ensures { result
-            ≡ record {
-              label = record { worker = worker.number; choice = choice };
-              workers = worker.workers;
-            } }
-    {
-        Planning {
-            label: Label {
-                worker: worker.number,
-                choice,
-            },
-            workers: worker.workers,
-        }
-    }
-}
-
-/// What a worker's step touches that names these objects beside its control.
-pub fn footprint(alloc: Global, worker: u8, names: Seq<Access>) -> Result<Seq<Access>, AllocError>
+/// What a worker's step touches that names these objects beside its control. Its only error is out of
+/// memory.
+pub fn footprint(worker: u8, names: Seq<Access>) -> Result<Seq<Access>, AllocError>
     ensures { IfOk result
         (λ footprint. footprint ≡ record { object = Obj.Control worker; mode = Mode.Write }
         ∷ names) }
 {
     let object = Obj::Control(worker);
     let mode = Mode::Write;
-    before(alloc, Access { object, mode }, names)
+    let mut footprint = names;
+    footprint.push_front(Access { object, mode })?;
+    Ok(footprint)
 }
 
 /// The answer of the instruction at which a stack stands.
@@ -71,12 +46,12 @@ fn next_answer(
     program: &Program,
     store: &Store,
     stack: &Stack,
-    planning: &Planning,
+    planning: &Planning<'_>,
 ) -> Result<Option<Answer>, AllocError>
     requires { IsWithin (2 ^ 63) (plain_stack stack.now).top }
     ensures { IfOk result
         (λ answer. answer ≡ answer_in (state_of store.now)
-        (next_asked (site program.now planning.now.workers planning.now.label.worker
+        (next_asked (site program.now planning.now.workers planning.now.label.now.worker
         (plain_stack stack.now))
         (instruction_at program.now (plain_stack stack.now).top.frame.body
         (plain_stack stack.now).top.frame.next))) }
@@ -101,16 +76,16 @@ fn choice_answer(
     program: &Program,
     store: &Store,
     stack: &Stack,
-    planning: &Planning,
+    planning: &Planning<'_>,
 ) -> Result<Option<Answer>, AllocError>
     requires { IsWithin (2 ^ 63) (plain_stack stack.now).top }
     ensures { IfOk result
         (λ answer. answer ≡ answer_in (state_of store.now)
-        (choice_asked (site program.now planning.now.workers planning.now.label.worker
+        (choice_asked (site program.now planning.now.workers planning.now.label.now.worker
         (plain_stack stack.now))
-        planning.now.label.choice)) }
+        planning.now.label.now.choice)) }
 {
-    match planning.label.choice {
+    match &planning.label.choice {
         Choice::Next => next_answer(alloc, program, store, stack, planning),
         Choice::Start(_) => Ok(None),
     }
@@ -122,12 +97,12 @@ fn control_answer(
     program: &Program,
     store: &Store,
     control: &Control,
-    planning: &Planning,
+    planning: &Planning<'_>,
 ) -> Result<Option<Answer>, AllocError>
     requires { ControlWithin (2 ^ 63) (plain_control control.now) }
     ensures { IfOk result
         (λ answer. answer ≡ answer_in (state_of store.now)
-        (asked_in program.now planning.now.workers planning.now.label
+        (asked_in program.now planning.now.workers planning.now.label.now
         (plain_control control.now))) }
 {
     match control {
@@ -146,25 +121,23 @@ fn control_answer(
 pub fn names(
     alloc: Global,
     program: &Program,
-    worker: Worker,
+    workers: u8,
     control: &Control,
-    choice: Choice,
+    label: &Label,
 ) -> Result<Option<Seq<Access>>, AllocError>
     requires { ControlWithin (2 ^ 63) (plain_control control.now) }
     ensures { IfOk result
-        (λ names. names ≡ names_in (record { worker = worker.number; choice = choice })
-        (asked_in program.now worker.workers
-        (record { worker = worker.number; choice = choice }) (plain_control control.now))) }
+        (λ names. names ≡ names_in label.now
+        (asked_in program.now workers label.now (plain_control control.now))) }
 {
-    let planning = &Planning::of(worker, choice);
+    let planning = &Planning { label, workers };
     let store = &Store::new(alloc);
-    match control_answer(alloc, program, store, control, planning)? {
-        Some(Answer { names, row }) => {
-            drop(row);
-            Ok(Some(footprint(alloc, worker.number, names)?))
-        }
-        None => Ok(None),
-    }
+    let Some(answer) = control_answer(alloc, program, store, control, planning)? else {
+        return Ok(None);
+    };
+    let Answer { names, row } = answer;
+    drop(row);
+    Ok(Some(footprint(label.worker, names)?))
 }
 
 /// What comes of the choice of a worker that has this control.
@@ -173,21 +146,20 @@ fn control_row(
     program: &Program,
     store: &Store,
     control: &Control,
-    planning: &Planning,
+    planning: &Planning<'_>,
 ) -> Result<Option<Row>, AllocError>
     requires { ControlWithin (2 ^ 63) (plain_control control.now) }
     ensures { IfOk result
         (λ row. row ≡ row_in (state_of store.now)
-        (asked_in program.now planning.now.workers planning.now.label
+        (asked_in program.now planning.now.workers planning.now.label.now
         (plain_control control.now))) }
 {
-    match control_answer(alloc, program, store, control, planning)? {
-        Some(Answer { names, row }) => {
-            drop(names);
-            Ok(Some(row))
-        }
-        None => Ok(None),
-    }
+    let Some(answer) = control_answer(alloc, program, store, control, planning)? else {
+        return Ok(None);
+    };
+    let Answer { names, row } = answer;
+    drop(names);
+    Ok(Some(row))
 }
 
 /// What comes of the choice of a worker at a store's state: edits of its control and updates, a
@@ -200,16 +172,15 @@ pub fn effect(
     alloc: Global,
     program: &Program,
     store: &Store,
-    worker: Worker,
-    choice: Choice,
+    workers: u8,
+    label: &Label,
 ) -> Result<Option<Row>, AllocError>
     requires { StateWithin (2 ^ 63) (state_of store.now) }
     ensures { IfOk result
-        (λ row. row ≡ effect_at program.now worker.workers
-        (record { worker = worker.number; choice = choice }) (state_of store.now)) }
+        (λ row. row ≡ effect_at program.now workers label.now (state_of store.now)) }
 {
-    let planning = &Planning::of(worker, choice);
-    match store.control(worker.number) {
+    let planning = &Planning { label, workers };
+    match store.control(label.worker) {
         Some(control) => control_row(alloc, program, store, control, planning),
         None => control_row(alloc, program, store, &Control::Idle, planning),
     }

@@ -1,5 +1,5 @@
-//! The machine of a program: steps forwards, undos and rolls at any place of the history, and the
-//! laws of its runs.
+//! History: the machine of a program. It steps forwards, and takes steps back by undos and rolls at any
+//! place of its history. The laws of its runs are here too.
 #![tactic(auto)]
 
 pub mod laws;

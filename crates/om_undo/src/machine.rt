@@ -25,7 +25,7 @@ use om_live::Control;
 use om_task::laws::low_counters;
 use om_task::planning::{is_at_scheduling_point, line};
 use om_task::start::started;
-use om_task::{Choice, Plan, Worker, plan};
+use om_task::{Choice, Plan, plan};
 use std::alloc::{AllocError, Global};
 use std::marker::Model;
 use std::snapshot::Snapshot;
@@ -169,11 +169,7 @@ fn planned(
         (λ plan. IsPlan (rules_of program.now workers) history.now label.now plan) }
 {
     low_counters();
-    let worker = Worker {
-        number: label.worker,
-        workers,
-    };
-    plan(alloc, program, history.store(), worker, label.choice)
+    plan(alloc, program, history.store(), workers, label)
 }
 
 /// What `taken` of a plan for a worker's label would answer now: the reply of the definition of a run.
@@ -195,13 +191,13 @@ fn replied(history: &History, worker: u8, plan: &Plan) -> StepReply
 fn taken(
     history: &mut History,
     alloc: Global,
-    label: Label,
+    label: &Label,
     plan: Plan,
 ) -> Result<StepReply, AllocError>
     requires few_made { (past_in history.old).made < 2 ^ 63 }
-    requires planned { (r : Rules) × IsPlan r history.old label plan }
-    ensures reply { IfOk result (RepliesToPlan label plan history.old) }
-    ensures after { OnOk result (TakesPlan label plan history.old history.new) }
+    requires planned { (r : Rules) × IsPlan r history.old label.now plan }
+    ensures reply { IfOk result (RepliesToPlan label.now plan history.old) }
+    ensures after { OnOk result (TakesPlan label.now plan history.old history.new) }
     ensures unchanged_on_error { OnErr result (Stays history.old history.new) }
 {
     match plan {
@@ -253,7 +249,7 @@ impl Machine {
     {
         let label = label(worker, &choice);
         let plan = planned(alloc, &self.program, self.workers, &self.history, &label)?;
-        taken(&mut self.history, alloc, label, plan)
+        taken(&mut self.history, alloc, &label, plan)
     }
 
     /// What `step` would answer now. Nothing changes; the only error is out of memory.
@@ -314,7 +310,7 @@ impl Machine {
             at: _,
         } = step;
         let label = label(worker, &choice.get());
-        taken(&mut self.history, alloc, label, plan)
+        taken(&mut self.history, alloc, &label, plan)
     }
 
     /// Takes a worker's last step out of the history, wherever it stands, unless a later step

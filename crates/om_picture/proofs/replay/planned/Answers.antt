@@ -34,6 +34,6 @@ plan-requires c =
 
 pub returns : goal.returns
 returns c = both_ok c.plan.result _ _ _
-    (λ p is room. is_plan (rules_of c.args.program.now c.args.workers) c.args.history.now c.args.label
+    (λ p is room. is_plan (rules_of c.args.program.now c.args.workers) c.args.history.now c.args.label.now
     (state_of c.store.result.now) p c.requires c.store.ensures.state c.store.ensures.replayed is room)
     c.plan.ensures.plan c.plan.ensures.room

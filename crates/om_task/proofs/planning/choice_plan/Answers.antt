@@ -6,7 +6,7 @@ use Rattle.om_task.proofs.planning.choice_plan.Goals as goal
 
 pub returns-in-Some-clause-plan : goal.returns-in-Some-clause-plan
 returns-in-Some-clause-plan c = plan_for c.args.program.now c.args.planning.now.workers (state_of c.args.store.now)
-    c.args.planning.now.label (plain_control c.in-Some.control.now) c.control_plan.result c.in-Some.ensures
+    c.args.planning.now.label.now (plain_control c.in-Some.control.now) c.control_plan.result c.in-Some.ensures
     c.control_plan.ensures.plan
 
 pub returns-in-Some-clause-room : goal.returns-in-Some-clause-room
@@ -15,7 +15,7 @@ returns-in-Some-clause-room c = room_for (plain_control c.in-Some.control.now) _
 
 pub returns-in-None-clause-plan : goal.returns-in-None-clause-plan
 returns-in-None-clause-plan c = plan_for c.args.program.now c.args.planning.now.workers (state_of c.args.store.now)
-    c.args.planning.now.label Idle c.control_plan-in-None.result c.in-None.ensures c.control_plan-in-None.ensures.plan
+    c.args.planning.now.label.now Idle c.control_plan-in-None.result c.in-None.ensures c.control_plan-in-None.ensures.plan
 
 pub returns-in-None-clause-room : goal.returns-in-None-clause-room
 returns-in-None-clause-room c = room_for Idle _ c.control_plan-in-None.result c.in-None.ensures

@@ -14,7 +14,7 @@ use Rattle.om_history.proofs.history.History.take.Goals as goal
 
 pub append-requires-clause-can : goal.append-requires-clause-can
 append-requires-clause-can c =
-    can_make c.requires.planned.0 c.args.self.now.store c.args.self.now.records c.args.self.now.made c.args.label
+    can_make c.requires.planned.0 c.args.self.now.store c.args.self.now.records c.args.self.now.made c.args.label.now
     c.args.change c.requires.planned.1.0 c.requires.room c.requires.planned.1.1
 
 pub append-requires-clause-latest : goal.append-requires-clause-latest
@@ -25,20 +25,20 @@ append-requires-clause-latest c =
     (IsRun-rises c.requires.planned.0 (history_in c.args.self.now) c.requires.planned.1.0.past.reached))
 
 pub returns-in-Ok-clause-reply : goal.returns-in-Ok-clause-reply
-returns-in-Ok-clause-reply c = c.reply-reply.ensures c.args.label refl
+returns-in-Ok-clause-reply c = c.reply-reply.ensures c.args.label.now refl
 
 pub returns-in-Ok-clause-after : goal.returns-in-Ok-clause-after
 returns-in-Ok-clause-after c = λ r next.
-    let can = can_make r c.args.self.now.store c.args.self.now.records c.args.self.now.made c.args.label
+    let can = can_make r c.args.self.now.store c.args.self.now.records c.args.self.now.made c.args.label.now
     c.args.change next.0 c.requires.room next.1 in (
       sym (ap entries_in (past_with r c.args.self.now.store c.append.new.store c.args.self.now.records
-          c.append.new.records c.args.self.now.made c.args.label c.args.change next.0 c.requires.few_made can next.1
+          c.append.new.records c.args.self.now.made c.args.label.now c.args.change next.0 c.requires.few_made can next.1
           c.in-Ok.ensures.state c.in-Ok.ensures.pasts c.in-Ok.ensures.records))
-          ∙ pushed_entries r (past_in c.args.self.now) c.args.label (step_for c.args.label c.args.change c.args.self.now)
-          (updates_by c.args.label.worker c.args.change.edits c.args.change.updates (state_of c.args.self.now.store))
+          ∙ pushed_entries r (past_in c.args.self.now) c.args.label.now (step_for c.args.label.now c.args.change c.args.self.now)
+          (updates_by c.args.label.now.worker c.args.change.edits c.args.change.updates (state_of c.args.self.now.store))
           next.0.past next.1 refl,
       kept_with r c.args.self.now.store c.append.new.store c.args.self.now.records
-          c.append.new.records c.args.self.now.made c.args.label c.args.change next.0 c.requires.few_made can next.1
+          c.append.new.records c.args.self.now.made c.args.label.now c.args.change next.0 c.requires.few_made can next.1
           c.in-Ok.ensures.state c.in-Ok.ensures.pasts c.in-Ok.ensures.records c.in-Ok.ensures.room
           c.append.ensures.others_kept,
     )
