@@ -1,4 +1,4 @@
-//! What a session says: its commands, and the answers to them.
+//! Commands and answers: what a session says, as bytes.
 //!
 //! A line of bytes asks for a command, and each reply is written to the byte.
 #![tactic(auto)]

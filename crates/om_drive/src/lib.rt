@@ -1,4 +1,4 @@
-//! Threads that carry orders to the seats of a session, and bring the answers back; and free runs, through a
+//! Sessions: threads that carry orders to the seats of a session, and bring the answers back; and free runs, through a
 //! session or over a book.
 #![tactic(auto)]
 

@@ -1,4 +1,4 @@
-//! Writes the code of expressions.
+//! Lowering: writes the code of expressions.
 //!
 //! While code is written, a jump names a label. What a part promises speaks of every finished
 //! program that agrees with what was written, so promises compose item by item, as rows do.

@@ -1,4 +1,4 @@
-//! The event records of a run, after OMPT, and their texts.
+//! State and rows: the event records of a run, after OMPT, and their texts.
 #![tactic(auto)]
 
 pub mod event;

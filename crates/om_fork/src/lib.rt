@@ -1,4 +1,4 @@
-//! The rows of parallel regions and barriers, and of the end of the program.
+//! State and rows: the rows of parallel regions and barriers, and of the end of the program.
 #![tactic(auto)]
 
 pub mod barrier;

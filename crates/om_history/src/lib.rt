@@ -1,5 +1,5 @@
-//! A run's history under any rules: undo at any place of it, rolls, and the laws that they rest
-//! on.
+//! History: that of a run under any rules, with undos at any place of it, rolls, and the laws that
+//! they rest on.
 #![tactic(auto)]
 
 mod by_serial;

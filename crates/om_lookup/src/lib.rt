@@ -1,4 +1,4 @@
-//! Look-ups: what a program still knows of its source, its lines and the names in scope.
+//! Code, look-ups: what a program still knows of its source, its lines and the names in scope.
 #![tactic(auto)]
 
 mod look;

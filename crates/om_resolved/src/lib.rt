@@ -1,4 +1,5 @@
-//! The resolved tree: every use has its variable, and every region what it takes from outside.
+//! Names and rules: the resolved tree, in which every use has its variable, and every region what it
+//! takes from outside.
 #![tactic(auto)]
 
 mod captures;

@@ -1,4 +1,5 @@
-//! The rows of worksharing, masked and critical regions, and how iterations are shared out.
+//! State and rows: the rows of worksharing, masked and critical regions, and how iterations are
+//! shared out.
 //!
 //! A row is a function that answers what an instruction names and what comes of it. Its only error is
 //! out of memory, and it changes nothing.

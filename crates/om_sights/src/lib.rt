@@ -1,5 +1,5 @@
-//! What a resolved tree mentions and uses, in the order of the text: the tables of a program, and the variables
-//! of its bodies.
+//! Lowering, before code is written: what a resolved tree mentions and uses, in the order of the text. From it
+//! come the tables of a program, and the variables of its bodies.
 #![tactic(auto)]
 
 mod formats;

@@ -1,4 +1,4 @@
-//! Writes the code of statements.
+//! Lowering: writes the code of statements.
 //!
 //! What has a statement in it is written by a begin, the statement and an end. The begin makes the
 //! labels, and the end places those that stand behind the statement.

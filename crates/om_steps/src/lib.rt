@@ -1,5 +1,5 @@
-//! What a step is made of: the objects that an instruction names, and its row; and the rows of the
-//! frame machine.
+//! State and rows: what a step is made of, which are the objects that an instruction names and its
+//! row; and the rows of the frame machine.
 #![tactic(auto)]
 
 pub mod acts;

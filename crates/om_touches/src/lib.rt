@@ -1,4 +1,4 @@
-//! Touch lists: which entries of a history touch an object, and which are a worker's own.
+//! History, touch lists: which entries of a history touch an object, and which are a worker's own.
 #![tactic(auto)]
 
 mod blocks;

@@ -1,4 +1,4 @@
-//! What each command is answered: a book that it is applied to, with breaks and watches.
+//! Commands and answers: what each command does to a book, with breaks and watches, and is answered.
 #![tactic(auto)]
 
 mod calls;
