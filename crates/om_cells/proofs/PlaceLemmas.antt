@@ -1,6 +1,6 @@
 -- Places by name and part: those of one object are told from those of another as the objects are.
 use Rattle.std.proofs.Common.{◌≡◌, refl, sym, ◌∙◌, ap, subst, Bool, true, false, cond, ◌&&◌, Option, None, Some, List, [], ℕ}
-use Rattle.std.proofs.Common.{MutBor, Bor, ◌∷◌}
+use Rattle.std.proofs.Common.{MutBor, Bor}
 use Rattle.std.specs.Option.{option_copied, option_copied_mut}
 use Rattle.std.specs.Prelude.{is_some, IsSome, Result, Ok, Err, OnErr}
 use Rattle.std.specs.Map.{lookup}

@@ -1,6 +1,6 @@
 -- The names of the ready tasks among kept values: all of them, ascending.
 use Rattle.std.proofs.Common.{◌≡◌, refl, sym, ◌∙◌, ap, subst, Bool, true, false, cond, None, Some, List, [], ◌∷◌, ◌++◌}
-use Rattle.std.proofs.Common.{ℕ, Option, ⊎_elim, arith}
+use Rattle.std.proofs.Common.{ℕ, ⊎_elim, arith}
 use Rattle.std.specs.Prelude.{All, Contains, option_to_list, map}
 use Rattle.std.specs.List.{AllByRecursion}
 use Rattle.std.specs.List.Sorted.{IsStrictlySortedBy}

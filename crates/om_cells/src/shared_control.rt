@@ -59,10 +59,7 @@ impl SharedControl {
     pub fn get(&self) -> Option<&Control>
         ensures { unwrap_or (option_copied result) Control.Idle ≡ self.now }
     {
-        match &self.control {
-            Some(control) => Some(control.get()),
-            None => None,
-        }
+        Some(self.control.as_ref()?.get())
     }
 
     /// The same control for one owner more; its only error is out of memory, where it has 2^63

@@ -239,10 +239,8 @@ fn next_below(below: &Tape<Box<Context>>) -> Option<&Context>
     ensures { option_map (λ c. plain_context c.now) result
         ≡ slice_get (map plain_held below.now.items) 0 }
 {
-    match below.get(0) {
-        Some(context) => Some(context),
-        None => None,
-    }
+    let context = below.get(0)?;
+    Some(context)
 }
 
 /// Appends the end of a region, where a member of number 0 leaves it.

@@ -284,14 +284,12 @@ fn append_call(
     journal.reserve(1)?;
     let asked = KeptCommand::of(alloc, command)?;
     let reply = done(alloc, machine, command)?;
-    match journal.push(JournalRecord {
+    journal.push_reserved(JournalRecord {
         seat,
         command: asked,
         reply,
-    }) {
-        Ok(()) => Ok(()),
-        Err(_) => unreachable!(),
-    }
+    });
+    Ok(())
 }
 
 /// The command of a planned step, to be kept, with room for its record. Its only error is out of memory.

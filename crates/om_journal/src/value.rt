@@ -32,12 +32,7 @@ impl Same for Task {
 fn is_idle(control: &Control) -> bool
     ensures { IsTrue result ↔ (control.now ≡ Control.Idle) }
 {
-    match control {
-        Control::Idle => true,
-        Control::Running(_) => false,
-        Control::Faulted(_, _) => false,
-        Control::Ended(_) => false,
-    }
+    matches!(control, Control::Idle)
 }
 
 impl Same for SharedControl {

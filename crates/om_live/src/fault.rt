@@ -59,8 +59,8 @@ pub fn fault_after(control: &Control, edits: &[Edit]) -> Option<Fault>
     for edit in edits {
         outlook = outlook_after(outlook, edit);
     }
-    match outlook {
-        Outlook::Runs(_) => None,
-        Outlook::Rests(fault) => fault,
-    }
+    let Outlook::Rests(fault) = outlook else {
+        return None;
+    };
+    fault
 }

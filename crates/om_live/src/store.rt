@@ -49,10 +49,10 @@ impl Drop for Store {
 pub fn worker_of(object: &Obj) -> Option<u8>
     ensures { result ≡ worker_of object.now }
 {
-    match object {
-        Obj::Control(worker) => Some(*worker),
-        _ => None,
-    }
+    let Obj::Control(worker) = object else {
+        return None;
+    };
+    Some(*worker)
 }
 
 /// Has trails up to that of this worker; those that are new are idle. When out of memory, there may

@@ -53,13 +53,11 @@ fn edit_logged(
     ensures can_rewind { CanRewind inverses.new control.new }
 {
     let inverse = apply(alloc, control, edit)?;
-    match inverses.push(inverse) {
-        Ok(()) => Ok(()),
-        Err(failed) => {
-            revert(control, failed.value);
-            Err(AllocError)
-        }
+    if let Err(failed) = inverses.push(inverse) {
+        revert(control, failed.value);
+        return Err(AllocError);
     }
+    Ok(())
 }
 
 /// Makes edits in turn. When out of memory, some of them are made, and the way back stays.
@@ -95,13 +93,11 @@ fn become_logged(
     ensures can_rewind { CanRewind inverses.new control.new }
 {
     let inverse = become_control(alloc, control, next)?;
-    match inverses.push(inverse) {
-        Ok(()) => Ok(()),
-        Err(failed) => {
-            revert(control, failed.value);
-            Err(AllocError)
-        }
+    if let Err(failed) = inverses.push(inverse) {
+        revert(control, failed.value);
+        return Err(AllocError);
     }
+    Ok(())
 }
 
 /// Goes back to where the latest change began. It takes no memory.
@@ -165,13 +161,11 @@ impl Trail {
     {
         self.inverses.push(Inverse::Began)?;
         let edits = edits.into_vec();
-        match edit_all(alloc, &mut self.control, &mut self.inverses, edits) {
-            Ok(()) => Ok(()),
-            Err(error) => {
-                rewind(&mut self.control, &mut self.inverses);
-                Err(error)
-            }
+        let made = edit_all(alloc, &mut self.control, &mut self.inverses, edits);
+        if made.is_err() {
+            rewind(&mut self.control, &mut self.inverses);
         }
+        made
     }
 
     /// Puts another control, as a FORK does for a member. When out of memory, nothing changes.
@@ -181,13 +175,11 @@ impl Trail {
     {
         let next = control_of(alloc, next)?;
         self.inverses.push(Inverse::Began)?;
-        match become_logged(alloc, &mut self.control, &mut self.inverses, next) {
-            Ok(()) => Ok(()),
-            Err(error) => {
-                rewind(&mut self.control, &mut self.inverses);
-                Err(error)
-            }
+        let made = become_logged(alloc, &mut self.control, &mut self.inverses, next);
+        if made.is_err() {
+            rewind(&mut self.control, &mut self.inverses);
         }
+        made
     }
 
     /// Takes the latest change that stands back, in place. It takes no memory.

@@ -109,10 +109,10 @@ fn name_own(
         (own.new ≡ own.old ++ own_slot (plain_context context.now) slot cells
         (home_at (plain_context context.now).frame.homes slot)) }
 {
-    match home_at(context.frame.homes.get().as_slice(), slot, &Home::Own) {
-        Home::Own => name_slot(own, context, slot, cells),
-        Home::Elsewhere { .. } => Ok(()),
-    }
+    let Home::Own = home_at(context.frame.homes.get().as_slice(), slot, &Home::Own) else {
+        return Ok(());
+    };
+    name_slot(own, context, slot, cells)
 }
 
 /// The cells of the running frame's own slots, as what is written.
@@ -203,10 +203,7 @@ pub fn operands_of(context: &Context) -> Operands<'_>
 fn region_at(constructs: &Tape<Shared<Construct>>, depth: usize) -> Option<&Construct>
     ensures { option_map (λ t. t.now) result ≡ slice_get constructs.now.items depth }
 {
-    match constructs.get(depth) {
-        Some(construct) => Some(construct.get()),
-        None => None,
-    }
+    Some(constructs.get(depth)?.get())
 }
 
 /// The innermost open region of a context.

@@ -66,10 +66,8 @@ fn context_at(contexts: &Tape<Box<Context>>, depth: usize) -> Option<&Context>
     ensures { option_map (λ c. plain_context c.now) result
         ≡ slice_get (map plain_held contexts.now.items) depth }
 {
-    match contexts.get(depth) {
-        Some(context) => Some(context),
-        None => None,
-    }
+    let context = contexts.get(depth)?;
+    Some(context)
 }
 
 /// Whether a task may be started where these contexts are left for it.

@@ -53,11 +53,16 @@ pub fn instruction_of(program: &Program, stack: &Stack) -> Option<Instr>
 pub fn is_of_tasks(instruction: Instr) -> bool
     ensures { result ≡ is_of_tasks instruction }
 {
-    match instruction {
-        Instr::Spawn { .. } | Instr::TaskEnd | Instr::WaitBegin | Instr::WaitEnd => true,
-        Instr::Yield | Instr::GroupBegin | Instr::GroupEnd => true,
-        _ => false,
-    }
+    matches!(
+        instruction,
+        Instr::Spawn { .. }
+            | Instr::TaskEnd
+            | Instr::WaitBegin
+            | Instr::WaitEnd
+            | Instr::Yield
+            | Instr::GroupBegin
+            | Instr::GroupEnd
+    )
 }
 
 /// How an instruction that takes so many operands begins a body.

@@ -111,13 +111,10 @@ fn take_older(older: &mut BTreeMap<u64, Offsets>, serial: u64)
 fn first_behind(older: &BTreeMap<u64, Offsets>, number: u64) -> Option<u64>
     ensures { IsFirst (λ s. nat_lt number (s / 64) && in_older older.now.entries s) (number * 64 + 63) result }
 {
-    match older
+    let (number, offsets) = older
         .range((Bound::Excluded(number), Bound::Unbounded))
-        .next()
-    {
-        Some((number, offsets)) => serial_at(*number, offsets.first()),
-        None => None,
-    }
+        .next()?;
+    serial_at(*number, offsets.first())
 }
 
 /// The serial at an offset of a block, where there is such a block.
@@ -137,10 +134,8 @@ fn first_within(offsets: &Offsets, serial: u64) -> Option<u64>
     ensures { IsFirst (λ s. nat_eq (serial / 64) (s / 64) && has_offset offsets.now (s % 64)) serial
         result }
 {
-    match offsets.first_after(serial % IN_BLOCK) {
-        Some(offset) => serial_at(serial / IN_BLOCK, offset),
-        None => None,
-    }
+    let offset = offsets.first_after(serial % IN_BLOCK)?;
+    serial_at(serial / IN_BLOCK, offset)
 }
 
 /// The first serial of the older blocks after another one.
@@ -222,11 +217,9 @@ fn take_newest(newest: &mut Option<Offsets>, serial: u64)
     ensures { (k : ℕ) → k < 64 → is_offset newest.new k
         ≡ cond (nat_eq (serial % 64) k) false (is_offset newest.old k) }
 {
-    let others = match newest {
-        Some(offsets) => offsets.without(serial % IN_BLOCK),
-        None => None,
-    };
-    *newest = others;
+    if let Some(offsets) = newest {
+        *newest = offsets.without(serial % IN_BLOCK);
+    }
 }
 
 impl Blocks {

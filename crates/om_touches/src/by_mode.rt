@@ -25,16 +25,11 @@ pub struct Touches {
 fn first_of_mode(serials: &Serials, touched: Mode, mode: Mode, serial: u64) -> Option<u64>
     ensures { IsFirst (λ s. modes_conflict mode touched && has serials.now s) serial result }
 {
-    match serials.first_after(serial) {
-        Some(first) => first_touch(
-            mode,
-            &[Touch {
-                serial: first,
-                mode: touched,
-            }],
-        ),
-        None => None,
-    }
+    let touch = Touch {
+        serial: serials.first_after(serial)?,
+        mode: touched,
+    };
+    first_touch(mode, &[touch])
 }
 
 impl Touches {

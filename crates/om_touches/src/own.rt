@@ -91,9 +91,6 @@ impl OwnEntries {
     pub fn last(&self, worker: u8) -> Option<u64>
         ensures { IsGreatest (is_own self.now worker) result }
     {
-        match self.workers.get(&worker) {
-            Some(serials) => serials.last(),
-            None => None,
-        }
+        self.workers.get(&worker)?.last()
     }
 }

@@ -9,8 +9,7 @@ pub(crate) fn sooner(first: Option<u64>, other: Option<u64>) -> Option<u64>
 {
     match (first, other) {
         (Some(a), Some(b)) => Some(a.min(b)),
-        (Some(a), None) => Some(a),
-        (None, Some(b)) => Some(b),
-        (None, None) => None,
+        (first, None) => first,
+        (None, other) => other,
     }
 }

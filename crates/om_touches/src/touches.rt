@@ -17,10 +17,10 @@ use std::alloc::{AllocError, Global};
 fn control_of(object: &Obj) -> Option<u8>
     ensures { result ≡ control_of object.now }
 {
-    match object {
-        Obj::Control(worker) => Some(*worker),
-        _ => None,
-    }
+    let Obj::Control(worker) = object else {
+        return None;
+    };
+    Some(*worker)
 }
 
 /// For each object its touches.

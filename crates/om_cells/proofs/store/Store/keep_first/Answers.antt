@@ -1,4 +1,4 @@
-use Rattle.std.proofs.Common.{◌≡◌, ◌∙◌, ap}
+use Rattle.std.proofs.Common.{◌∙◌, ap}
 use Rattle.om_foot.specs.declared.object.Obj.{Obj}
 use Rattle.om_cells.specs.Stores.{kept_at, state_of, is_kept}
 use Rattle.om_cells.specs.State.{with_value}

@@ -1,7 +1,5 @@
-use Rattle.std.proofs.Common.{◌≡◌, ◌∙◌, refl, sym, ap, subst, true, Some, None, ℕ, List}
+use Rattle.std.proofs.Common.{◌∙◌, sym, ap}
 use Rattle.std.specs.Prelude.{is_some}
-use Rattle.om_cells.specs.Parts.{name_of}
-use Rattle.om_cells.specs.Stores.{kept_at, value_among, places_in}
 use Rattle.om_cells.proofs.PlaceLemmas.{put_unnamed, owner_none, owner_some, kept_unnamed, kept_named, puts_part}
 use Rattle.om_cells.proofs.store.Store.put.Goals as goal
 

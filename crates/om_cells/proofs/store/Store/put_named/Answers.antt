@@ -1,7 +1,6 @@
 use Rattle.std.proofs.Common.{◌∙◌, sym, ap}
 use Rattle.std.specs.Prelude.{is_some}
 use Rattle.om_cells.proofs.PlaceLemmas.{put_named, name_found, name_missing, value_known, value_in}
-use Rattle.om_cells.specs.Stores.{places_in, value_among}
 use Rattle.om_cells.proofs.store.Store.put_named.Goals as goal
 
 pub unreachable-requires : goal.unreachable-requires
