@@ -43,14 +43,14 @@ pub(crate) fn form_of(operator: om_tree::BinaryOperator) -> Form
 pub(crate) fn compound_of(operator: AssignOperator) -> Option<BinaryOperator>
     ensures { result ≡ rows.compound_of operator }
 {
-    match operator {
-        AssignOperator::Set => None,
-        AssignOperator::Add => Some(BinaryOperator::Add),
-        AssignOperator::Subtract => Some(BinaryOperator::Subtract),
-        AssignOperator::Multiply => Some(BinaryOperator::Multiply),
-        AssignOperator::Divide => Some(BinaryOperator::Divide),
-        AssignOperator::Remainder => Some(BinaryOperator::Remainder),
-    }
+    Some(match operator {
+        AssignOperator::Set => return None,
+        AssignOperator::Add => BinaryOperator::Add,
+        AssignOperator::Subtract => BinaryOperator::Subtract,
+        AssignOperator::Multiply => BinaryOperator::Multiply,
+        AssignOperator::Divide => BinaryOperator::Divide,
+        AssignOperator::Remainder => BinaryOperator::Remainder,
+    })
 }
 
 /// What `x++` or `x--` does with x and 1 (C17 6.5.2.4).

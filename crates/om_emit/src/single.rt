@@ -98,17 +98,12 @@ pub(crate) fn unary_end(
         → OnOk result
         (EmitsRow names (λ at. rows.unary_rest at line operator) draft.old draft.new) }
 {
-    match operator {
-        UnaryOperator::Plus => Ok(()),
-        UnaryOperator::Negate => {
-            draft.put(line, Instr::Unary(instruction::UnaryOperator::Negate))?;
-            Ok(())
-        }
-        UnaryOperator::Not => {
-            draft.put(line, Instr::Unary(instruction::UnaryOperator::Not))?;
-            Ok(())
-        }
-    }
+    let operator = match operator {
+        UnaryOperator::Plus => return Ok(()),
+        UnaryOperator::Negate => instruction::UnaryOperator::Negate,
+        UnaryOperator::Not => instruction::UnaryOperator::Not,
+    };
+    draft.put(line, Instr::Unary(operator))
 }
 
 /// `x++` or `x--`, as `x += 1` or `x -= 1` (C17 6.5.2.4).

@@ -84,12 +84,12 @@ impl Macros {
     pub(crate) fn replaced(&self, kind: TokenKind) -> TokenKind
         ensures { result ≡ replaced self.now kind }
     {
-        let number = match &kind {
-            TokenKind::Name(name) => self.number(name.as_slice()),
-            TokenKind::Keyword(keyword) => self.number(keyword_text(*keyword)),
-            _ => None,
+        let word = match &kind {
+            TokenKind::Name(name) => name.as_slice(),
+            TokenKind::Keyword(keyword) => keyword_text(*keyword),
+            _ => return kind,
         };
-        match number {
+        match self.number(word) {
             Some(number) => TokenKind::Constant(number),
             None => kind,
         }

@@ -141,10 +141,7 @@ fn index_of_start(code: &[Line], number: u32) -> Option<usize>
 fn starts_body(number: u32, instruction: Instr) -> bool
     ensures { result ≡ starts_body number instruction }
 {
-    match instruction {
-        Instr::Fork { body, .. } | Instr::Spawn { body, .. } => body == number,
-        _ => false,
-    }
+    matches!(instruction, Instr::Fork { body, .. } | Instr::Spawn { body, .. } if body == number)
 }
 
 /// A variable of the body round a body, as this body has it.
@@ -179,8 +176,5 @@ fn index_of_slot(outer: &[Option<u32>], slot: u32) -> Option<usize>
 fn is_slot(slot: u32, other: Option<u32>) -> bool
     ensures { result ≡ is_slot slot other }
 {
-    match other {
-        None => false,
-        Some(other) => other == slot,
-    }
+    other == Some(slot)
 }

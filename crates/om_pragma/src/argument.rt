@@ -11,7 +11,7 @@ use crate::clause::{
     Clause, ClauseKind, DataSharing, DefaultArgument, PlainClause, Reduction, ReductionOperator,
     Schedule, ScheduleKind, Sharing, Value, ValueClause,
 };
-use crate::name::{Name, NameList, Number};
+use crate::name::{FurtherName, Name, NameList, Number};
 use crate::stop::Stop;
 use crate::token::{mark, name, place, take_chunk, take_first, take_mark};
 use crate::word::{is_mark, reduction_operator, schedule_kind, sharing};
@@ -178,7 +178,7 @@ pub fn list_after(
 /// A name, further names behind commas, the span of the parenthesis behind them, and the tokens
 /// behind that.
 #[tactic(auto, unfolding(crate::specs::Reading::names_at))]
-fn names(alloc: Global, tokens: &[Token]) -> Result<(Name, Seq<(Span, Name)>, Span, &[Token]), Stop>
+fn names(alloc: Global, tokens: &[Token]) -> Result<(Name, Seq<FurtherName>, Span, &[Token]), Stop>
     ensures { Gets (λ x. ((x.0, x.1, x.2), x.3.now)) result (names_at tokens.now) }
 {
     let (first, rest) = name(alloc, tokens)?;
@@ -190,7 +190,7 @@ fn names(alloc: Global, tokens: &[Token]) -> Result<(Name, Seq<(Span, Name)>, Sp
 fn further_names(
     alloc: Global,
     tokens: &[Token],
-) -> Result<(Seq<(Span, Name)>, Span, &[Token]), Stop>
+) -> Result<(Seq<FurtherName>, Span, &[Token]), Stop>
     ensures { Gets (λ x. (x.0, x.1, x.2.now)) result
         (until place (take_kind (kinds.Punctuator CloseParen)) further_at (suc (length tokens.now))
         [] tokens.now) }

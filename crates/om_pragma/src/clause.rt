@@ -4,7 +4,7 @@ ghost use Rattle.std.specs.Prelude.{◌≡◌, option_copied};
 ghost use Rattle.om_pragma.specs.Expressions.{clause_expression};
 ghost use Rattle.om_pragma.specs.Spelling.{value_kind, data_kind, plain_kind, kind_of};
 
-use crate::name::{Name, NameList, Number};
+use crate::name::{FurtherName, Name, NameList, Number};
 use om_lexer::Span;
 use om_seq::Seq;
 
@@ -107,8 +107,7 @@ pub struct Reduction {
     pub sign: Span,
     pub colon: Span,
     pub first: Name,
-    /// Each further name, behind the span of its comma.
-    pub rest: Seq<(Span, Name)>,
+    pub rest: Seq<FurtherName>,
     pub close_paren: Span,
 }
 

@@ -22,7 +22,7 @@ pub use clause::{
 };
 pub use kind::DirectiveKind;
 pub use laws::{clauses_stand, first_value, one_answer, one_directive, one_expression, one_fault};
-pub use name::{Name, NameList, Number};
+pub use name::{FurtherName, Name, NameList, Number};
 pub use reading::directive;
 pub use tree::{AtomicKind, Directive, DirectiveName};
 pub use word::begun_by;

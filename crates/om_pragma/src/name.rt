@@ -19,12 +19,14 @@ pub struct Number {
     pub span: Span,
 }
 
+/// A name of a list behind the first, and before it the span of its comma.
+pub type FurtherName = (Span, Name);
+
 /// One or more names in parentheses, with commas between them.
 #[derive(Drop)]
 pub struct NameList {
     pub open_paren: Span,
     pub first: Name,
-    /// Each further name, behind the span of its comma.
-    pub rest: Seq<(Span, Name)>,
+    pub rest: Seq<FurtherName>,
     pub close_paren: Span,
 }

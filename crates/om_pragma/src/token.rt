@@ -115,16 +115,11 @@ pub fn take_chunk(tokens: &[Token]) -> Option<(Number, &[Token])>
     let [first, rest @ ..] = tokens else {
         return None;
     };
-    match first.kind {
-        TokenKind::Constant(value) if value >= 1 => Some((
-            Number {
-                value,
-                span: first.span,
-            },
-            rest,
-        )),
-        _ => None,
-    }
+    let TokenKind::Constant(value) = first.kind else {
+        return None;
+    };
+    let span = first.span;
+    (value >= 1).then_some((Number { value, span }, rest))
 }
 
 /// The span of this punctuator, which must stand first, and the tokens behind it.

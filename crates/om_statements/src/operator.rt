@@ -61,21 +61,13 @@ pub(crate) fn side_of(side: Side) -> om_code::instruction::Side
 pub(crate) fn comparison_of(operator: BinaryOperator) -> Option<Comparison>
     ensures { result ≡ comparison_of operator }
 {
-    match operator {
-        BinaryOperator::Less => Some(Comparison::Less),
-        BinaryOperator::LessEqual => Some(Comparison::LessOrEqual),
-        BinaryOperator::Greater => Some(Comparison::Greater),
-        BinaryOperator::GreaterEqual => Some(Comparison::GreaterOrEqual),
-        BinaryOperator::And
-        | BinaryOperator::Or
-        | BinaryOperator::Equal
-        | BinaryOperator::NotEqual
-        | BinaryOperator::Add
-        | BinaryOperator::Subtract
-        | BinaryOperator::Multiply
-        | BinaryOperator::Divide
-        | BinaryOperator::Remainder => None,
-    }
+    Some(match operator {
+        BinaryOperator::Less => Comparison::Less,
+        BinaryOperator::LessEqual => Comparison::LessOrEqual,
+        BinaryOperator::Greater => Comparison::Greater,
+        BinaryOperator::GreaterEqual => Comparison::GreaterOrEqual,
+        _ => return None,
+    })
 }
 
 /// How iterations are shared out. A dynamic chunk has one iteration where no size is given (OpenMP API

@@ -6,8 +6,9 @@ ghost use Rattle.om_tree.specs.AtomicForms.{same_expression, contains, arguments
 ghost use Rattle.om_tree.specs.Tree.{arguments};
 ghost use Rattle.om_tree.specs.View.{view_argument, view_expression, view_statement};
 
-use crate::tree::{AssignOperator, BinaryOperator, Expression, PrefixOperator, Statement};
-use om_lexer::Span;
+use crate::tree::{
+    Argument, AssignOperator, BinaryOperator, Expression, PrefixOperator, Statement,
+};
 use om_pragma::{AtomicKind, Name};
 
 /// Whether two names have the same text.
@@ -137,10 +138,7 @@ pub fn same_expression(one: &Expression, other: &Expression) -> bool
 /// Whether these are as many arguments as the others, and each is the same as the other's.
 #[cycle(same)]
 #[tactic(auto, unfolding(crate::specs::AtomicForms::same_expression))]
-fn same_arguments(
-    values: &[(Option<Span>, Expression)],
-    others: &[(Option<Span>, Expression)],
-) -> bool
+fn same_arguments(values: &[Argument], others: &[Argument]) -> bool
     ensures { result ≡ same_arguments (arguments (map view_argument values.now))
         (arguments (map view_argument others.now)) }
 {
@@ -154,10 +152,7 @@ fn same_arguments(
         }
         rest = behind;
     }
-    match rest {
-        [] => true,
-        [_, ..] => false,
-    }
+    rest.is_empty()
 }
 
 /// Whether an expression, or a part of it, is the same as the target.
@@ -197,7 +192,7 @@ fn contains(expression: &Expression, target: &Expression) -> bool
 /// Whether one of these arguments, or a part of it, is the same as the target.
 #[cycle(contains)]
 #[tactic(auto, unfolding(crate::specs::AtomicForms::contains))]
-fn any_contains(values: &[(Option<Span>, Expression)], target: &Expression) -> bool
+fn any_contains(values: &[Argument], target: &Expression) -> bool
     ensures { result ≡ arguments_contain (view_expression target.now)
         (arguments (map view_argument values.now)) }
 {

@@ -10,8 +10,8 @@ pub use atomic::{has_atomic_form, same_expression};
 pub use limit::{BLOCK_LIMIT, NESTING_LIMIT, STATEMENT_LIMIT, TOKEN_LIMIT};
 pub use om_pragma::{Name, Number};
 pub use tree::{
-    ArrayLength, AssignOperator, BinaryOperator, Block, Condition, Declaration, Declarator,
-    Expression, ForHead, ForStart, Function, FunctionHead, Initializer, Item, Parameter,
-    Parameters, Part, PostfixOperator, PrefixOperator, ResultType, SignedNumber, Statement, Text,
-    Unit,
+    Argument, ArrayLength, AssignOperator, BinaryOperator, Block, Condition, Declaration,
+    Declarator, Expression, ForHead, ForStart, Function, FunctionHead, Initializer, Item,
+    Parameter, Parameters, Part, PostfixOperator, PrefixOperator, ResultType, SignedNumber,
+    Statement, Text, Unit,
 };

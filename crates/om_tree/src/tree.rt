@@ -84,6 +84,9 @@ pub enum AssignOperator {
     Remainder,
 }
 
+/// An argument of a call, and before it the span of its comma, which the first lacks.
+pub type Argument = (Option<Span>, Expression);
+
 /// An expression (C17 6.5). The spans are those of the tokens round its parts.
 #[derive(Drop)]
 pub enum Expression {
@@ -108,8 +111,7 @@ pub enum Expression {
     Call {
         name: Name,
         open_paren: Span,
-        /// Each behind the span of its comma, which the first lacks.
-        arguments: Vec<(Option<Span>, Expression)>,
+        arguments: Vec<Argument>,
         close_paren: Span,
     },
     Prefix {

@@ -1,4 +1,4 @@
-use Rattle.std.proofs.Common.{◌≡◌, ◌∙◌, ℕ, ◌≤◌, Bool, false, Option, List, [], ◌∷◌, length, drop, map, sym, arith}
+use Rattle.std.proofs.Common.{◌≡◌, ◌==◌, ◌∙◌, ℕ, ◌≤◌, Bool, Option, ne_eqb, List, [], ◌∷◌, length, drop, map, sym, arith}
 use Rattle.std.proofs.lemmas.List.{at_drop_all}
 use Rattle.om_lexer.specs.declared.token.Span.{Span}
 use Rattle.om_tree.specs.declared.tree.Expression.{Expression}
@@ -7,15 +7,17 @@ use Rattle.om_tree.specs.Tree.{arguments}
 use Rattle.om_tree.specs.View.{view_argument}
 use Rattle.om_tree.proofs.atomic.+same.Goals as goal
 
--- no argument is left of the first ones, and one of the others
-others_left : (xs ys : List (Option Span × Expression)) (i : ℕ) (all : Bool) → length xs ≤ i → 1 ≤ length ys
-    → same_arguments (arguments (map view_argument (drop i xs))) (arguments (map view_argument ys)) ≡ all → false ≡ all
+-- where no argument is left of the first ones, all are the same if none is left of the others
+others_left : (xs ys : List (Option Span × Expression)) (i : ℕ) (all : Bool) → length xs ≤ i
+    → same_arguments (arguments (map view_argument (drop i xs))) (arguments (map view_argument ys)) ≡ all
+    → (length ys == 0) ≡ all
 unfolding same_expression same_arguments
-others_left xs [] i all none some e = absurd (omega (arith, some))
-others_left xs (y ∷ ys) i all none some e =
-    sym (at_drop_all (λ zs. same_arguments (arguments (map view_argument zs))
+others_left xs [] i all none e =
+    sym (at_drop_all (λ zs. same_arguments (arguments (map view_argument zs)) (arguments [])) xs i none) ∙ e
+others_left xs (y ∷ ys) i all none e =
+    ne_eqb _ _ (omega arith) ∙ sym (at_drop_all (λ zs. same_arguments (arguments (map view_argument zs))
     (arguments (map view_argument (y ∷ ys)))) xs i none) ∙ e
 
-pub same_arguments-returns-in-len1-up-rest : goal.same_arguments-returns-in-len1-up-rest
-same_arguments-returns-in-len1-up-rest t c = others_left c.args.values.now c.loop-value.rest.now
-    c.loop-value.value-index _ (omega arith) (omega arith) c.loop-value.invariant
+pub same_arguments-returns : goal.same_arguments-returns
+same_arguments-returns t c = c.is_empty.ensures
+    ∙ others_left c.args.values.now c.loop-value.rest.now c.loop-value.value-index _ (omega arith) c.loop-value.invariant
