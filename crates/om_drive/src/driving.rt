@@ -50,24 +50,28 @@ pub fn drive_over<G: Gate + Drop + Send, D: Debuggee + Drop + Send, R: Threads +
             fault: Some(Fault::Memory),
         };
     };
-    let ring = Ring::new(alloc, gates);
-    let ranks = Ranks {
-        waiting: debuggees,
-        back,
+    let drive = Drive {
+        ring: Ring::new(alloc, gates),
+        ranks: Ranks {
+            waiting: debuggees,
+            back,
+        },
     };
     scope(
         scope_env(),
         rt,
         move |scope| -> DrivenOver<D>
-            requires room { vec_len ranks.back + vec_len ranks.waiting ≤ vec_capacity ranks.back }
-            requires none { ranks.back.items ≡ [] }
-            requires new { ring.answers.items ≡ [] }
-            ensures back { map D.place result.debuggees.items ≡ map D.place ranks.waiting.items }
+            requires room { vec_len drive.ranks.back + vec_len drive.ranks.waiting
+                ≤ vec_capacity drive.ranks.back }
+            requires none { drive.ranks.back.items ≡ [] }
+            requires new { drive.ring.answers.items ≡ [] }
+            ensures back { map D.place result.debuggees.items
+                ≡ map D.place drive.ranks.waiting.items }
             ensures part { Begins [] (map answer_number result.answers.items)
                 (in_rounds (λ o. o.items) orders.entry.now) }
             ensures all { result.fault ≡ None → map answer_number result.answers.items
                 ≡ in_rounds (λ o. o.items) orders.entry.now }
-        { drive_in(scope, rt, orders, ring, ranks) },
+        { drive_in(scope, rt, orders, drive) },
     )
 }
 
@@ -79,22 +83,21 @@ fn drive_in<
     G: Gate + Drop + Send + 's,
     D: Debuggee + Drop + Send + 's,
     R: Threads + Wait + Sync,
->(
-    scope: &Scope<'s, E>,
-    rt: &'s R,
-    orders: &[Vec<Order>],
-    mut ring: Ring<G>,
-    mut ranks: Ranks<D>,
-) -> DrivenOver<D>
-    requires room { vec_len ranks.back + vec_len ranks.waiting ≤ vec_capacity ranks.back }
-    requires none { ranks.back.items ≡ [] }
-    requires new { ring.answers.items ≡ [] }
-    ensures back { map D.place result.debuggees.items ≡ map D.place ranks.waiting.items }
+>(scope: &Scope<'s, E>, rt: &'s R, orders: &[Vec<Order>], drive: Drive<G, D>) -> DrivenOver<D>
+    requires room { vec_len drive.ranks.back + vec_len drive.ranks.waiting
+        ≤ vec_capacity drive.ranks.back }
+    requires none { drive.ranks.back.items ≡ [] }
+    requires new { drive.ring.answers.items ≡ [] }
+    ensures back { map D.place result.debuggees.items ≡ map D.place drive.ranks.waiting.items }
     ensures part { Begins [] (map answer_number result.answers.items)
         (in_rounds (λ o. o.items) orders.now) }
     ensures all { result.fault ≡ None → map answer_number result.answers.items
         ≡ in_rounds (λ o. o.items) orders.now }
 {
+    let Drive {
+        mut ring,
+        mut ranks,
+    } = drive;
     drive_from(scope, rt, orders, &mut ring, &mut ranks);
     let Ring { answers, fault, .. } = ring;
     let Ranks { waiting: _, back } = ranks;
@@ -103,6 +106,13 @@ fn drive_in<
         answers,
         fault,
     }
+}
+
+/// The two sides of a drive.
+#[derive(Drop)]
+struct Drive<G, D> {
+    ring: Ring<G>,
+    ranks: Ranks<D>,
 }
 
 /// The debuggees that wait for their threads, and those that came back.
@@ -134,7 +144,7 @@ fn drive_from<
         ring.ask(rt, orders);
         return;
     };
-    let debuggee = match start_if(scope, rt, ring.alloc, ring.next_gate(), debuggee) {
+    let debuggee = match start_if(scope, rt, ring, debuggee) {
         Ok(
             Started {
                 thread,
@@ -172,27 +182,22 @@ struct Started<D: Debuggee> {
     answers: Receiver<Answer>,
 }
 
-/// Starts a worker where there is a gate.
+/// Starts a worker where there is a gate for it.
 fn start_if<
     's,
     E,
     G: Gate + Drop + Send + 's,
     D: Debuggee + Drop + Send + 's,
     R: Threads + Wait + Sync,
->(
-    scope: &Scope<'s, E>,
-    rt: &'s R,
-    alloc: Global,
-    gate: Option<G>,
-    debuggee: D,
-) -> Result<Started<D>, D>
+>(scope: &Scope<'s, E>, rt: &'s R, ring: &mut Ring<G>, debuggee: D) -> Result<Started<D>, D>
+    ensures answers { ring.new.answers ≡ ring.old.answers }
     ensures started { IfOk result (λ s. s.thread.promise.0.value ≡ debuggee) }
     ensures back { IfErr result (λ d. D.place d ≡ D.place debuggee) }
 {
-    match gate {
-        Some(gate) => start(scope, rt, alloc, gate, debuggee),
-        None => Err(debuggee),
-    }
+    let Some(gate) = ring.next_gate() else {
+        return Err(debuggee);
+    };
+    start(scope, rt, ring.alloc, gate, debuggee)
 }
 
 /// Starts a worker over a debuggee. Where there is no memory or no thread, the debuggee comes back.
@@ -320,8 +325,5 @@ fn asked<R: Wait>(
     if senders.len() != orders.len() || receivers.len() != orders.len() {
         return Some(Fault::Memory);
     }
-    match ask_all(rt, senders, receivers, orders, answers) {
-        Ok(()) => None,
-        Err(fault) => Some(fault),
-    }
+    ask_all(rt, senders, receivers, orders, answers).err()
 }

@@ -41,10 +41,8 @@ impl<'s, L: Sitting> Debuggee for Sitter<'s, L> {
 fn last_place(receipts: &[Receipt]) -> Option<u64>
     ensures { result ≡ last_place_in receipts.now }
 {
-    match receipts.last() {
-        Some(receipt) => Some(receipt.place),
-        None => None,
-    }
+    let last = receipts.last()?;
+    Some(last.place)
 }
 
 /// Sets seats down at their session, in their order.

@@ -26,10 +26,9 @@ pub fn help_for(code: FaultCode, token: &[u8], before: &[u8]) -> Option<&'static
 
 /// Whether a token at which S3 stands is a word of C that is left out, as `static`.
 pub fn is_left_out(token: &[u8]) -> bool {
-    match token {
-        [b'a'..=b'z' | b'_', ..] => token != &b"int"[..] && words_of(&SYNTAX, token).is_some(),
-        _ => false,
-    }
+    matches!(token, [b'a'..=b'z' | b'_', ..])
+        && token != &b"int"[..]
+        && words_of(&SYNTAX, token).is_some()
 }
 
 // By the first byte of what is no token; all digits are one.
@@ -42,10 +41,10 @@ fn byte_words(token: &[u8]) -> Option<&'static str> {
 
 // By what stands behind the `#`.
 fn hash_line_words(line: &[u8]) -> Option<&'static str> {
-    match line {
-        [b'#', rest @ ..] => words_at(&HASH_LINES, rest.trim_ascii_start()),
-        _ => None,
-    }
+    let [b'#', rest @ ..] = line else {
+        return None;
+    };
+    words_at(&HASH_LINES, rest.trim_ascii_start())
 }
 
 // By the token, or by a name that stands there or before it, as `bool` in a function.

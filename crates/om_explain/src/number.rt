@@ -16,85 +16,86 @@ use om_lexer::FaultCode;
 fn blocked_of(number: u8) -> Option<Blocked>
     ensures { IfSome result (λ why. blocked_number why ≡ number) }
 {
-    match number {
-        1 => Some(Blocked::Barrier),
-        2 => Some(Blocked::Critical(0)),
-        3 => Some(Blocked::Children),
-        4 => Some(Blocked::Busy(0)),
-        5 => Some(Blocked::Idle),
-        6 => Some(Blocked::Task),
-        7 => Some(Blocked::Place),
-        8 => Some(Blocked::Group),
-        _ => None,
-    }
+    Some(match number {
+        1 => Blocked::Barrier,
+        2 => Blocked::Critical(0),
+        3 => Blocked::Children,
+        4 => Blocked::Busy(0),
+        5 => Blocked::Idle,
+        6 => Blocked::Task,
+        7 => Blocked::Place,
+        8 => Blocked::Group,
+        _ => return None,
+    })
 }
 
 // The fault of a program, by the number of its code.
 fn fault_of(number: u8) -> Option<Fault>
     ensures { IfSome result (λ fault. fault_number fault ≡ number) }
 {
-    match number {
-        1 => Some(Fault::Overflow),
-        2 => Some(Fault::ZeroDivisor),
-        3 => Some(Fault::Index),
-        4 => Some(Fault::Unset),
-        5 => Some(Fault::Dead),
-        6 => Some(Fault::NoValue),
-        7 => Some(Fault::Frames),
-        8 => Some(Fault::Size),
-        9 => Some(Fault::Nesting),
-        10 => Some(Fault::Name),
-        _ => None,
-    }
+    Some(match number {
+        1 => Fault::Overflow,
+        2 => Fault::ZeroDivisor,
+        3 => Fault::Index,
+        4 => Fault::Unset,
+        5 => Fault::Dead,
+        6 => Fault::NoValue,
+        7 => Fault::Frames,
+        8 => Fault::Size,
+        9 => Fault::Nesting,
+        10 => Fault::Name,
+        _ => return None,
+    })
 }
 
 // Why a source is refused, by the number of its code.
 fn refusal_of(number: u8) -> Option<FaultCode>
     ensures { IfSome result (λ code. number_of code ≡ number) }
 {
-    match number {
-        0 => Some(FaultCode::Memory),
-        1 => Some(FaultCode::SourceTooLong),
-        2 => Some(FaultCode::BadToken),
-        3 => Some(FaultCode::Syntax),
-        4 => Some(FaultCode::BadHashLine),
-        5 => Some(FaultCode::UnknownDirective),
-        6 => Some(FaultCode::BadClause),
-        7 => Some(FaultCode::Undeclared),
-        8 => Some(FaultCode::Redeclared),
-        9 => Some(FaultCode::Misuse),
-        10 => Some(FaultCode::ConstantTooLarge),
-        11 => Some(FaultCode::TooMany),
-        12 => Some(FaultCode::LoopForm),
-        13 => Some(FaultCode::Unlisted),
-        14 => Some(FaultCode::LeavesConstruct),
-        15 => Some(FaultCode::NoMain),
-        16 => Some(FaultCode::TooDeep),
-        _ => None,
-    }
+    Some(match number {
+        0 => FaultCode::Memory,
+        1 => FaultCode::SourceTooLong,
+        2 => FaultCode::BadToken,
+        3 => FaultCode::Syntax,
+        4 => FaultCode::BadHashLine,
+        5 => FaultCode::UnknownDirective,
+        6 => FaultCode::BadClause,
+        7 => FaultCode::Undeclared,
+        8 => FaultCode::Redeclared,
+        9 => FaultCode::Misuse,
+        10 => FaultCode::ConstantTooLarge,
+        11 => FaultCode::TooMany,
+        12 => FaultCode::LoopForm,
+        13 => FaultCode::Unlisted,
+        14 => FaultCode::LeavesConstruct,
+        15 => FaultCode::NoMain,
+        16 => FaultCode::TooDeep,
+        _ => return None,
+    })
 }
 
 // The words of the code of this family and number.
 fn numbered_words(family: u8, number: u8) -> Option<&'static str>
     ensures { IfSome result (λ words. IsOneLine words.now) }
 {
-    match family {
-        b'S' => Some(refusal_words(refusal_of(number)?)),
-        b'B' => Some(blocked_words(blocked_of(number)?)),
-        b'F' => Some(fault_words(fault_of(number)?)),
-        _ => None,
-    }
+    Some(match family {
+        b'S' => refusal_words(refusal_of(number)?),
+        b'B' => blocked_words(blocked_of(number)?),
+        b'F' => fault_words(fault_of(number)?),
+        _ => return None,
+    })
 }
 
 /// The words of a code of the families S, B and F as answers write it, as `B3`; `None` where it is none.
 pub fn code_words(code: &[u8]) -> Option<&'static str>
     ensures { IfSome result (λ words. IsOneLine words.now) }
 {
-    match code {
-        [family, one @ b'0'..=b'9'] => numbered_words(*family, *one - b'0'),
+    let (family, number) = match code {
+        [family, one @ b'0'..=b'9'] => (*family, *one - b'0'),
         [family, ten @ b'1'..=b'9', one @ b'0'..=b'9'] => {
-            numbered_words(*family, (*ten - b'0') * 10 + (*one - b'0'))
+            (*family, (*ten - b'0') * 10 + (*one - b'0'))
         }
-        _ => None,
-    }
+        _ => return None,
+    };
+    numbered_words(family, number)
 }

@@ -52,17 +52,14 @@ fn push_arrow(
     ensures { OnOk result (arrows.new.items ≡ arrows.old.items
         ++ arrow_between earlier.now between.now later.now) }
 {
-    match object_between(earlier, between, later) {
-        Some(object) => {
-            arrows.push(Arrow {
-                from: end_of(earlier),
-                to: end_of(later),
-                object,
-            })?;
-            Ok(())
-        }
-        None => Ok(()),
+    if let Some(object) = object_between(earlier, between, later) {
+        arrows.push(Arrow {
+            from: end_of(earlier),
+            to: end_of(later),
+            object,
+        })?;
     }
+    Ok(())
 }
 
 /// Adds the arrows into a step from those that stand before it.

@@ -99,10 +99,18 @@ fn push_instruction(
 
 /// Appends the name of a critical region, where it has one.
 fn push_lock(text: &mut Vec<u8>, program: &Program, lock: u32) -> Result<(), AllocError> {
-    match program.raw().locks.as_slice().get(lock as usize) {
-        Some(name) => text.extend_from_slice(name.as_slice()),
-        None => Ok(()),
+    if let Some(name) = program.raw().locks.as_slice().get(lock as usize) {
+        text.extend_from_slice(name.as_slice())?;
     }
+    Ok(())
+}
+
+/// Appends the name of a global variable, where there is one of this number.
+fn push_global(text: &mut Vec<u8>, program: &Program, variable: u32) -> Result<(), AllocError> {
+    if let Some(global) = program.globals().get(variable as usize) {
+        text.extend_from_slice(global.name.as_slice())?;
+    }
+    Ok(())
 }
 
 /// Appends the name of a variable where a frame is, or the number of its slot.
@@ -113,10 +121,7 @@ fn push_place(
     place: Place,
 ) -> Result<(), AllocError> {
     match place {
-        Place::Global(variable) => match program.globals().get(variable as usize) {
-            Some(global) => text.extend_from_slice(global.name.as_slice()),
-            None => Ok(()),
-        },
+        Place::Global(variable) => push_global(text, program, variable),
         Place::Slot(slot) => match name_at(program, frame, slot) {
             Some(name) => text.extend_from_slice(name),
             None => push_numbered(text, b"slot ", slot),
@@ -169,10 +174,10 @@ fn push_top(text: &mut Vec<u8>, store: &Store, worker: u8) -> Result<(), AllocEr
     let Some(Control::Running(stack)) = store.control(worker) else {
         return Ok(());
     };
-    match stack.top.frame.operands.get(0) {
-        Some(Operand::Int(number)) => push_number_behind(text, *number),
-        _ => Ok(()),
+    if let Some(Operand::Int(number)) = stack.top.frame.operands.get(0) {
+        push_number_behind(text, *number)?;
     }
+    Ok(())
 }
 
 /// The name of an instruction of C; `None` for those of OpenMP.

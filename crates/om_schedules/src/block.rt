@@ -52,27 +52,22 @@ fn grow_last(blocks: &mut Vec<Block>, worker: u8, more: u32) -> bool {
     let Some(last) = blocks.last_mut() else {
         return false;
     };
-    match grown(last, worker, more) {
-        Some(block) => {
-            *last = block;
-            true
-        }
-        None => false,
-    }
+    let Some(block) = grown(last, worker, more) else {
+        return false;
+    };
+    *last = block;
+    true
 }
 
 // A block of more steps, where it is of that worker and has room.
 fn grown(block: &Block, worker: u8, more: u32) -> Option<Block> {
-    match block {
-        Block::Steps {
-            worker: last,
-            count,
-        } if *last == worker => Some(Block::Steps {
-            worker,
-            count: count.checked_add(more)?,
-        }),
-        _ => None,
+    if block.stepper()? != worker {
+        return None;
     }
+    Some(Block::Steps {
+        worker,
+        count: block.steps().checked_add(more)?,
+    })
 }
 
 /// Appends a step.

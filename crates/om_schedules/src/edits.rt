@@ -40,10 +40,10 @@ pub(crate) fn moved(
 
 // Appends the block at a place, where there is one.
 fn push_nth(others: &mut Vec<Block>, blocks: &[Block], at: usize) -> Result<(), AllocError> {
-    match blocks.get(at) {
-        Some(block) => push_block(others, block),
-        None => Ok(()),
+    if let Some(block) = blocks.get(at) {
+        push_block(others, block)?;
     }
+    Ok(())
 }
 
 /// The blocks with so many steps fewer at a place.

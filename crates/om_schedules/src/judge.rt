@@ -124,10 +124,10 @@ fn fault_at(alloc: Global, machine: &Machine, worker: u8) -> Result<Option<Fault
 fn fault_in(control: Option<&Control>) -> Option<Fault>
     ensures { result ≡ fault_of (unwrap_or (option_copied control.entry) controls.Idle) }
 {
-    match control {
-        Some(Control::Faulted(fault, _)) => Some(*fault),
-        Some(Control::Idle) | Some(Control::Running(_)) | Some(Control::Ended(_)) | None => None,
-    }
+    let Some(Control::Faulted(fault, _)) = control else {
+        return None;
+    };
+    Some(*fault)
 }
 
 // Whether the initial task has ended.

@@ -48,11 +48,9 @@ fn end_at(alloc: Global, machine: &Machine, wanted: &Wanted) -> Result<Option<En
         (λ end. IfSome end (λ e.
         IsEnd machine.now wanted.now.text.items e.output.items e.why)) }
 {
-    match wanted.judge(alloc, machine)? {
-        Some(why) => Ok(Some(End {
-            output: output(alloc, machine)?,
-            why,
-        })),
-        None => Ok(None),
-    }
+    let Some(why) = wanted.judge(alloc, machine)? else {
+        return Ok(None);
+    };
+    let output = output(alloc, machine)?;
+    Ok(Some(End { output, why }))
 }

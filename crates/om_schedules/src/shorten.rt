@@ -199,10 +199,8 @@ fn are_of_one(blocks: &[Block], one: usize, two: usize) -> bool {
     if one == two {
         return false;
     }
-    match (blocks.get(one), blocks.get(two)) {
-        (Some(first), Some(second)) => {
-            first.stepper().is_some() && first.stepper() == second.stepper()
-        }
-        _ => false,
-    }
+    let (Some(first), Some(second)) = (blocks.get(one), blocks.get(two)) else {
+        return false;
+    };
+    first.stepper().is_some() && first.stepper() == second.stepper()
 }

@@ -99,17 +99,17 @@ fn workers_in(given: &ArgMatches<'_>) -> Option<u8>
 // What a subcommand asks for.
 fn asked_by<'a>(name: &str, given: &ArgMatches<'a>) -> Option<Asked<'a>> {
     let file = given.get_str("file");
-    match name {
-        "check" => Some(Asked::Check { file: file? }),
-        "hunt" => hunt_by(file?, given),
-        "script" => Some(Asked::Script {
+    Some(match name {
+        "check" => Asked::Check { file: file? },
+        "hunt" => hunt_by(file?, given)?,
+        "script" => Asked::Script {
             file,
             cone: given.get_one::<u64>("cone"),
-        }),
-        "notes" => Some(Asked::Notes { file: file? }),
-        "draw" => Some(Asked::Draw { file }),
-        _ => None,
-    }
+        },
+        "notes" => Asked::Notes { file: file? },
+        "draw" => Asked::Draw { file },
+        _ => return None,
+    })
 }
 
 // What a hunt asks for.

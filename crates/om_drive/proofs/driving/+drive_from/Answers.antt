@@ -23,17 +23,17 @@ returns-clause-back g t c =
 
 pub returns-clause-part : goal.returns-clause-part
 returns-clause-part g t c = elim c.match-start_if.branch [
-  | in-Ok w ↦ let same = w.add.ensures ∙ c.next_gate.ensures in
+  | in-Ok w ↦ let same = w.add.ensures ∙ c.start_if.ensures.answers in
       rw w.ring-is (rw same at w.drive_from.ensures.part)
-  | in-Err w ↦ let same = w.break_off.ensures ∙ c.next_gate.ensures in
+  | in-Err w ↦ let same = w.break_off.ensures ∙ c.start_if.ensures.answers in
       rw w.ring-is (rw same at w.drive_from-in-Err.ensures.part)
 ]
 
 pub returns-clause-all : goal.returns-clause-all
 returns-clause-all g t c = elim c.match-start_if.branch [
-  | in-Ok w ↦ let same = w.add.ensures ∙ c.next_gate.ensures in
+  | in-Ok w ↦ let same = w.add.ensures ∙ c.start_if.ensures.answers in
       rw w.ring-is (rw same at w.drive_from.ensures.all)
-  | in-Err w ↦ let same = w.break_off.ensures ∙ c.next_gate.ensures in
+  | in-Err w ↦ let same = w.break_off.ensures ∙ c.start_if.ensures.answers in
       rw w.ring-is (rw same at w.drive_from-in-Err.ensures.all)
 ]
 
