@@ -8,7 +8,7 @@ use om_foot::Obj;
 use om_task::Choice;
 
 /// What is asked about the state where the machine stands.
-#[derive(Clone, Copy)]
+#[derive(Clone, Copy, PartialEq, Eq)]
 pub enum Query {
     /// What an object holds.
     Value(Obj),
@@ -19,7 +19,7 @@ pub enum Query {
 }
 
 /// One call. Workers are numbered from 0.
-#[derive(Clone, Copy)]
+#[derive(Clone, Copy, PartialEq, Eq)]
 pub enum Command {
     /// The step of a worker by its choice.
     Step { worker: u8, choice: Choice },
@@ -45,31 +45,8 @@ impl Command {
     }
 }
 
-impl Same for Query {
-    fn is_same(&self, other: &Query) -> bool {
-        match (self, other) {
-            (Query::Value(one), Query::Value(two)) => one.is_same(two),
-            (Query::Ready, Query::Ready) => true,
-            (Query::Entries, Query::Entries) => true,
-            _ => false,
-        }
-    }
-}
-
 impl Same for Command {
     fn is_same(&self, other: &Command) -> bool {
-        match (self, other) {
-            (
-                Command::Step { worker, choice },
-                Command::Step {
-                    worker: other_worker,
-                    choice: other_choice,
-                },
-            ) => *worker == *other_worker && choice.is_same(other_choice),
-            (Command::Undo(one), Command::Undo(two)) => *one == *two,
-            (Command::Roll(one), Command::Roll(two)) => *one == *two,
-            (Command::Look(one), Command::Look(two)) => one.is_same(two),
-            _ => false,
-        }
+        self == other
     }
 }
