@@ -110,11 +110,10 @@ fn binary_level(operator: BinaryOperator) -> usize
 fn is_unary(expression: &Expression) -> bool
     ensures { result ≡ nat_le 9 (level (view_expression expression.now)) }
 {
-    match expression {
-        Expression::Binary { operator, .. } => 9 <= binary_level(*operator),
-        Expression::Conditional { .. } | Expression::Assign { .. } => false,
-        _ => true,
-    }
+    !matches!(
+        expression,
+        Expression::Binary { .. } | Expression::Conditional { .. } | Expression::Assign { .. }
+    )
 }
 
 /// The operator before an operand that stands first, its span, and the tokens behind it.
