@@ -244,25 +244,23 @@ fn body_on(
     ensures { let tree = view_resolved whole.now.resolved.now in
         IfOk result (λ made. FitsBody tree (seen_body seen.now) made) }
 {
-    match code_in(whole, known, seen)? {
-        None => Ok(None),
-        Some(emitted) => {
-            let given = given_in(whole.alloc, seen)?;
-            let Emitted {
-                code,
-                lists,
-                scopes,
-            } = emitted;
-            let names = names_with(whole.alloc, scopes, seen.variables, seen.outer)?;
-            let body = Body {
-                code,
-                slots,
-                given,
-                names,
-            };
-            Ok(Some(LoweredBody { body, lists }))
-        }
-    }
+    let Some(emitted) = code_in(whole, known, seen)? else {
+        return Ok(None);
+    };
+    let given = given_in(whole.alloc, seen)?;
+    let Emitted {
+        code,
+        lists,
+        scopes,
+    } = emitted;
+    let names = names_with(whole.alloc, scopes, seen.variables, seen.outer)?;
+    let body = Body {
+        code,
+        slots,
+        given,
+        names,
+    };
+    Ok(Some(LoweredBody { body, lists }))
 }
 
 /// The variables of a body, by their slots.

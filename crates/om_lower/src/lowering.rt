@@ -135,10 +135,10 @@ fn within_limits(whole: &Whole<'_>, placed: &Placed) -> Result<(), SourceFault>
     ensures refused { let tree = view_resolved whole.now.resolved.now in
         IfErr result (λ fault. fault ≢ no_memory → IsTooMany tree fault) }
 {
-    match over_at(whole, placed)? {
-        None => Ok(()),
-        Some(index) => Err(too_many(&whole.resolved.functions.as_slice()[index])),
-    }
+    let Some(index) = over_at(whole, placed)? else {
+        return Ok(());
+    };
+    Err(too_many(&whole.resolved.functions.as_slice()[index]))
 }
 
 /// The first function that passes a limit, if one does.

@@ -45,10 +45,8 @@ pub fn last_within(landmarks: &[Landmark], depth: usize) -> Option<Landmark>
     requires descend { Descend landmarks.now }
     ensures { result ≡ last_within landmarks.now depth }
 {
-    match count_within(landmarks, depth) {
-        0 => None,
-        count => landmarks.get(count - 1).copied(),
-    }
+    let last = count_within(landmarks, depth).checked_sub(1)?;
+    landmarks.get(last).copied()
 }
 
 /// The innermost construct of all, if it stands in the one that lists a name, or else that from round

@@ -25,11 +25,10 @@ pub fn check_declared(symbols: &Symbols, name: &Name) -> Result<(), SourceFault>
 fn is_undeclared(symbols: &Symbols, name: &[u8], meaning: Option<Meaning>) -> bool
     ensures { result ≡ is_undeclared symbols.now name.now meaning }
 {
-    match meaning {
-        None => true,
-        Some(Meaning::Function(_)) => !symbols.definition_of(name).is_some(),
-        Some(Meaning::Printf | Meaning::Variable(..)) => false,
-    }
+    let Some(meaning) = meaning else {
+        return true;
+    };
+    matches!(meaning, Meaning::Function(_)) && symbols.definition_of(name).is_none()
 }
 
 /// Whether it is one `int`.

@@ -179,14 +179,15 @@ impl Nesting {
             marks,
         };
         note_parallel(&mut self.parallels, region.kind, landmark);
-        match self.constructs.push(Construct {
+        let construct = Construct {
             depth,
             region,
             marks,
-        }) {
-            Ok(()) => Ok(()),
-            Err(_) => unreachable!(),
-        }
+        };
+        let Ok(()) = self.constructs.push(construct) else {
+            unreachable!()
+        };
+        Ok(())
     }
 
     /// Leaves the construct that stands in the scope of this depth, if one does.

@@ -111,10 +111,10 @@ impl Symbols {
         let depth = self.outer.len();
         self.sightings
             .note(alloc, name, Sighting { depth, meaning })?;
-        match self.inner.insert(key, meaning) {
-            Ok(_) => Ok(()),
-            Err(_) => unreachable!(),
-        }
+        let Ok(_) = self.inner.insert(key, meaning) else {
+            unreachable!()
+        };
+        Ok(())
     }
 
     /// What a name means here: its innermost declaration.

@@ -62,26 +62,33 @@ pub fn if_of<'a>(
     boxed_before(alloc, statement, rest)
 }
 
-/// An `if` of a word and its condition, and of a body, with an `else` and its body.
+/// What an `if` with `else` chooses from.
+#[derive(Drop)]
+pub struct Branches {
+    pub body: Box<Statement>,
+    pub else_word: Span,
+    pub else_body: Box<Statement>,
+}
+
+/// An `if` of these parts, with `else`.
 #[inline(never)]
 pub fn if_else_of<'a>(
     alloc: Global,
-    opening: (Span, Box<Condition>),
-    body: Box<Statement>,
-    other: (Span, Box<Statement>),
+    at: Span,
+    condition: Box<Condition>,
+    branches: Branches,
     rest: &'a [Token],
 ) -> Result<(Box<Statement>, &'a [Token]), SourceFault>
-    ensures { MakesStatement result (trees.IfElse opening.0 (view_condition opening.1.value)
-        (view_statement body.value) other.0 (view_statement other.1.value)) rest.now }
+    ensures { MakesStatement result (trees.IfElse at (view_condition condition.value)
+        (view_statement branches.body.value) branches.else_word
+        (view_statement branches.else_body.value)) rest.now }
 {
-    let (word, condition) = opening;
-    let (else_word, else_body) = other;
     let if_else = Statement::IfElse {
-        word,
+        word: at,
         condition,
-        body,
-        else_word,
-        else_body,
+        body: branches.body,
+        else_word: branches.else_word,
+        else_body: branches.else_body,
     };
     boxed_before(alloc, if_else, rest)
 }

@@ -149,8 +149,6 @@ fn enclosed_before(
 fn unboxed(value: Option<Box<Expression>>) -> Option<Expression>
     ensures { result ≡ option_map (λ b. b.value) value }
 {
-    match value {
-        Some(value) => Some(Box::into_inner(value)),
-        None => None,
-    }
+    let value = value?;
+    Some(Box::into_inner(value))
 }

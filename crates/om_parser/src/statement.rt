@@ -13,7 +13,8 @@ ghost use Rattle.om_tree.specs.Tree as trees;
 ghost use Rattle.om_tree.specs.View.{view_block, view_directive, view_part, view_statement};
 
 use crate::assembly::{
-    atomic_of, block_of, construct_of, do_end, for_of, if_else_of, if_of, sections_of, while_of,
+    Branches, atomic_of, block_of, construct_of, do_end, for_of, if_else_of, if_of, sections_of,
+    while_of,
 };
 use crate::construct::{LineStart, at_section, ends_part, line_start, misplaced};
 use crate::opening::{Opening, opening_after};
@@ -200,9 +201,14 @@ fn behind_body(
 {
     match opening {
         Opening::If(at, condition) => match take_else(tokens) {
-            Some((other, rest)) => {
-                let (second, rest) = statement(alloc, rest, room)?;
-                if_else_of(alloc, (at, condition), body, (other, second), rest)
+            Some((else_word, rest)) => {
+                let (else_body, rest) = statement(alloc, rest, room)?;
+                let branches = Branches {
+                    body,
+                    else_word,
+                    else_body,
+                };
+                if_else_of(alloc, at, condition, branches, rest)
             }
             None => if_of(alloc, at, condition, body, tokens),
         },

@@ -17,7 +17,7 @@ use crate::operator::{
 };
 use om_lexer::{Punctuator, SourceFault, Span, Token};
 use om_pragma::Name;
-use om_tree::{Expression, PrefixOperator, TOKEN_LIMIT};
+use om_tree::{Argument, Expression, PrefixOperator, TOKEN_LIMIT};
 use std::alloc::Global;
 
 /// The levels of precedence between operands: from `||` to `*`.
@@ -431,7 +431,7 @@ fn arguments(
     first: Box<Expression>,
     tokens: &[Token],
     budget: Budget,
-) -> Result<(Vec<(Option<Span>, Expression)>, Span, &[Token]), SourceFault>
+) -> Result<(Vec<Argument>, Span, &[Token]), SourceFault>
     ensures { Reads (λ x. (map view_argument x.0.items, x.1, x.2.now)) result
         (arguments_at budget.beyond (whole_in budget)
         (view_expression first.value) tokens.now) }

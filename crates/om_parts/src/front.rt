@@ -41,10 +41,10 @@ pub fn take_mark(tokens: &[Token], wanted: Punctuator) -> Option<(Span, &[Token]
     let [first, rest @ ..] = tokens else {
         return None;
     };
-    match first.kind {
-        TokenKind::Punctuator(found) if found == wanted => Some((first.span, rest)),
-        _ => None,
-    }
+    let TokenKind::Punctuator(found) = first.kind else {
+        return None;
+    };
+    (found == wanted).then_some((first.span, rest))
 }
 
 /// The first token's span, if it is this keyword, and the tokens behind it.
@@ -55,10 +55,10 @@ pub fn take_word(tokens: &[Token], wanted: Keyword) -> Option<(Span, &[Token])>
     let [first, rest @ ..] = tokens else {
         return None;
     };
-    match first.kind {
-        TokenKind::Keyword(found) if found == wanted => Some((first.span, rest)),
-        _ => None,
-    }
+    let TokenKind::Keyword(found) = first.kind else {
+        return None;
+    };
+    (found == wanted).then_some((first.span, rest))
 }
 
 /// The first token, if it is a constant, and the tokens behind it.

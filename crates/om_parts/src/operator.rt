@@ -19,62 +19,74 @@ use std::alloc::{AllocError, Global};
 fn prefix_operator(kind: &TokenKind) -> Option<PrefixOperator>
     ensures { result ≡ prefix_of kind.now }
 {
-    match kind {
-        TokenKind::Punctuator(Punctuator::Plus) => Some(PrefixOperator::Plus),
-        TokenKind::Punctuator(Punctuator::Minus) => Some(PrefixOperator::Minus),
-        TokenKind::Punctuator(Punctuator::Bang) => Some(PrefixOperator::Not),
-        TokenKind::Punctuator(Punctuator::PlusPlus) => Some(PrefixOperator::Increment),
-        TokenKind::Punctuator(Punctuator::MinusMinus) => Some(PrefixOperator::Decrement),
-        _ => None,
-    }
+    let TokenKind::Punctuator(mark) = kind else {
+        return None;
+    };
+    Some(match mark {
+        Punctuator::Plus => PrefixOperator::Plus,
+        Punctuator::Minus => PrefixOperator::Minus,
+        Punctuator::Bang => PrefixOperator::Not,
+        Punctuator::PlusPlus => PrefixOperator::Increment,
+        Punctuator::MinusMinus => PrefixOperator::Decrement,
+        _ => return None,
+    })
 }
 
 /// The operator behind an operand that a token of this kind is (C17 6.5.2.4).
 fn postfix_operator(kind: &TokenKind) -> Option<PostfixOperator>
     ensures { result ≡ postfix_of kind.now }
 {
-    match kind {
-        TokenKind::Punctuator(Punctuator::PlusPlus) => Some(PostfixOperator::Increment),
-        TokenKind::Punctuator(Punctuator::MinusMinus) => Some(PostfixOperator::Decrement),
-        _ => None,
-    }
+    let TokenKind::Punctuator(mark) = kind else {
+        return None;
+    };
+    Some(match mark {
+        Punctuator::PlusPlus => PostfixOperator::Increment,
+        Punctuator::MinusMinus => PostfixOperator::Decrement,
+        _ => return None,
+    })
 }
 
 /// The binary operator that a token of this kind is (C17 6.5.5 to 6.5.14).
 fn binary_operator(kind: &TokenKind) -> Option<BinaryOperator>
     ensures { result ≡ binary_of kind.now }
 {
-    match kind {
-        TokenKind::Punctuator(Punctuator::OrOr) => Some(BinaryOperator::Or),
-        TokenKind::Punctuator(Punctuator::AndAnd) => Some(BinaryOperator::And),
-        TokenKind::Punctuator(Punctuator::EqualEqual) => Some(BinaryOperator::Equal),
-        TokenKind::Punctuator(Punctuator::BangEqual) => Some(BinaryOperator::NotEqual),
-        TokenKind::Punctuator(Punctuator::Less) => Some(BinaryOperator::Less),
-        TokenKind::Punctuator(Punctuator::Greater) => Some(BinaryOperator::Greater),
-        TokenKind::Punctuator(Punctuator::LessEqual) => Some(BinaryOperator::LessEqual),
-        TokenKind::Punctuator(Punctuator::GreaterEqual) => Some(BinaryOperator::GreaterEqual),
-        TokenKind::Punctuator(Punctuator::Plus) => Some(BinaryOperator::Add),
-        TokenKind::Punctuator(Punctuator::Minus) => Some(BinaryOperator::Subtract),
-        TokenKind::Punctuator(Punctuator::Star) => Some(BinaryOperator::Multiply),
-        TokenKind::Punctuator(Punctuator::Slash) => Some(BinaryOperator::Divide),
-        TokenKind::Punctuator(Punctuator::Percent) => Some(BinaryOperator::Remainder),
-        _ => None,
-    }
+    let TokenKind::Punctuator(mark) = kind else {
+        return None;
+    };
+    Some(match mark {
+        Punctuator::OrOr => BinaryOperator::Or,
+        Punctuator::AndAnd => BinaryOperator::And,
+        Punctuator::EqualEqual => BinaryOperator::Equal,
+        Punctuator::BangEqual => BinaryOperator::NotEqual,
+        Punctuator::Less => BinaryOperator::Less,
+        Punctuator::Greater => BinaryOperator::Greater,
+        Punctuator::LessEqual => BinaryOperator::LessEqual,
+        Punctuator::GreaterEqual => BinaryOperator::GreaterEqual,
+        Punctuator::Plus => BinaryOperator::Add,
+        Punctuator::Minus => BinaryOperator::Subtract,
+        Punctuator::Star => BinaryOperator::Multiply,
+        Punctuator::Slash => BinaryOperator::Divide,
+        Punctuator::Percent => BinaryOperator::Remainder,
+        _ => return None,
+    })
 }
 
 /// The assignment that a token of this kind is (C17 6.5.16).
 fn assign_operator(kind: &TokenKind) -> Option<AssignOperator>
     ensures { result ≡ assign_of kind.now }
 {
-    match kind {
-        TokenKind::Punctuator(Punctuator::Equal) => Some(AssignOperator::Set),
-        TokenKind::Punctuator(Punctuator::PlusEqual) => Some(AssignOperator::Add),
-        TokenKind::Punctuator(Punctuator::MinusEqual) => Some(AssignOperator::Subtract),
-        TokenKind::Punctuator(Punctuator::StarEqual) => Some(AssignOperator::Multiply),
-        TokenKind::Punctuator(Punctuator::SlashEqual) => Some(AssignOperator::Divide),
-        TokenKind::Punctuator(Punctuator::PercentEqual) => Some(AssignOperator::Remainder),
-        _ => None,
-    }
+    let TokenKind::Punctuator(mark) = kind else {
+        return None;
+    };
+    Some(match mark {
+        Punctuator::Equal => AssignOperator::Set,
+        Punctuator::PlusEqual => AssignOperator::Add,
+        Punctuator::MinusEqual => AssignOperator::Subtract,
+        Punctuator::StarEqual => AssignOperator::Multiply,
+        Punctuator::SlashEqual => AssignOperator::Divide,
+        Punctuator::PercentEqual => AssignOperator::Remainder,
+        _ => return None,
+    })
 }
 
 /// How tightly a binary operator binds: from 3, the loosest, to 8.
@@ -98,11 +110,10 @@ fn binary_level(operator: BinaryOperator) -> usize
 fn is_unary(expression: &Expression) -> bool
     ensures { result ≡ nat_le 9 (level (view_expression expression.now)) }
 {
-    match expression {
-        Expression::Binary { operator, .. } => 9 <= binary_level(*operator),
-        Expression::Conditional { .. } | Expression::Assign { .. } => false,
-        _ => true,
-    }
+    !matches!(
+        expression,
+        Expression::Binary { .. } | Expression::Conditional { .. } | Expression::Assign { .. }
+    )
 }
 
 /// The operator before an operand that stands first, its span, and the tokens behind it.

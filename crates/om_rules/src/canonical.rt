@@ -199,13 +199,11 @@ fn start_of(start: &ForStart) -> Option<LoopStart<'_>>
 fn comparison_direction(operator: BinaryOperator) -> Option<Direction>
     ensures { result ≡ loops.comparison_direction operator }
 {
-    match operator {
-        BinaryOperator::Less => Some(Direction::Up),
-        BinaryOperator::LessEqual => Some(Direction::Up),
-        BinaryOperator::Greater => Some(Direction::Down),
-        BinaryOperator::GreaterEqual => Some(Direction::Down),
-        _ => None,
-    }
+    Some(match operator {
+        BinaryOperator::Less | BinaryOperator::LessEqual => Direction::Up,
+        BinaryOperator::Greater | BinaryOperator::GreaterEqual => Direction::Down,
+        _ => return None,
+    })
 }
 
 /// The bound that a comparison of a variable has.
@@ -245,11 +243,12 @@ fn bound_of<'a>(condition: &'a Expression, name: &[u8]) -> Option<Bound<'a>>
 fn prefix_step(operator: PrefixOperator) -> Option<Step>
     ensures { result ≡ loops.prefix_step operator }
 {
-    match operator {
-        PrefixOperator::Increment => Some(one_step(Direction::Up)),
-        PrefixOperator::Decrement => Some(one_step(Direction::Down)),
-        _ => None,
-    }
+    let direction = match operator {
+        PrefixOperator::Increment => Direction::Up,
+        PrefixOperator::Decrement => Direction::Down,
+        _ => return None,
+    };
+    Some(one_step(direction))
 }
 
 /// The step by `++` or `--` behind it.
@@ -337,42 +336,29 @@ fn assigned_step(operator: AssignOperator, value: &Expression, name: &[u8]) -> O
 fn step_in(step: &Expression, name: &[u8]) -> Option<Step>
     ensures { result ≡ loops.step_in (view_expression step.now) name.now }
 {
-    match step {
+    let (variable, stepped) = match step {
         Expression::Prefix {
             operator,
             operand,
             ..
-        } => {
-            if is_named(operand, name) {
-                prefix_step(*operator)
-            } else {
-                None
-            }
-        }
+        } => (operand, prefix_step(*operator)),
         Expression::Postfix {
             operand,
             operator,
             ..
-        } => {
-            if is_named(operand, name) {
-                Some(postfix_step(*operator))
-            } else {
-                None
-            }
-        }
+        } => (operand, Some(postfix_step(*operator))),
         Expression::Assign {
             target,
             operator,
             value,
             ..
-        } => {
-            if is_named(target, name) {
-                assigned_step(*operator, value, name)
-            } else {
-                None
-            }
-        }
-        _ => None,
+        } => (target, assigned_step(*operator, value, name)),
+        _ => return None,
+    };
+    if is_named(variable, name) {
+        stepped
+    } else {
+        None
     }
 }
 

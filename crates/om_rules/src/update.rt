@@ -66,13 +66,13 @@ pub struct Operation {
 fn binary_operator(operator: BinaryOperator) -> Option<UpdateOperator>
     ensures { result ≡ binary_operator operator }
 {
-    match operator {
-        BinaryOperator::Add => Some(UpdateOperator::Add),
-        BinaryOperator::Subtract => Some(UpdateOperator::Subtract),
-        BinaryOperator::Multiply => Some(UpdateOperator::Multiply),
-        BinaryOperator::Divide => Some(UpdateOperator::Divide),
-        _ => None,
-    }
+    Some(match operator {
+        BinaryOperator::Add => UpdateOperator::Add,
+        BinaryOperator::Subtract => UpdateOperator::Subtract,
+        BinaryOperator::Multiply => UpdateOperator::Multiply,
+        BinaryOperator::Divide => UpdateOperator::Divide,
+        _ => return None,
+    })
 }
 
 /// An expression, taken out of its place.
@@ -142,14 +142,15 @@ fn assignment(
     ensures { option_map view_operation result
         ≡ operation side operator (view_resolved_expression value.old) }
 {
-    match operator {
-        AssignOperator::Set => value_operation(side, value),
-        AssignOperator::Add => Some(compound(UpdateOperator::Add, taken(value))),
-        AssignOperator::Subtract => Some(compound(UpdateOperator::Subtract, taken(value))),
-        AssignOperator::Multiply => Some(compound(UpdateOperator::Multiply, taken(value))),
-        AssignOperator::Divide => Some(compound(UpdateOperator::Divide, taken(value))),
-        AssignOperator::Remainder => None,
-    }
+    let operator = match operator {
+        AssignOperator::Set => return value_operation(side, value),
+        AssignOperator::Add => UpdateOperator::Add,
+        AssignOperator::Subtract => UpdateOperator::Subtract,
+        AssignOperator::Multiply => UpdateOperator::Multiply,
+        AssignOperator::Divide => UpdateOperator::Divide,
+        AssignOperator::Remainder => return None,
+    };
+    Some(compound(operator, taken(value)))
 }
 
 fn step_operator(operator: PostfixOperator) -> UpdateOperator
@@ -197,15 +198,12 @@ fn expression_update(
     ensures { option_map view_resolved_update result
         ≡ expression_update at side (view_resolved_expression expression.old) }
 {
-    match expression {
+    let (variable, index, found) = match expression {
         ResolvedExpression::Assign {
             variable,
             operator,
             value,
-        } => {
-            let found = assignment(side, *operator, value)?;
-            Some(updated(at, *variable, None, found))
-        }
+        } => (*variable, None, assignment(side, *operator, value)?),
         ResolvedExpression::AssignElement {
             array,
             index,
@@ -213,21 +211,19 @@ fn expression_update(
             value,
         } => {
             let found = assignment(side, *operator, value)?;
-            Some(updated(at, *array, Some(taken(index)), found))
+            (*array, Some(taken(index)), found)
         }
         ResolvedExpression::Postfix { variable, operator } => {
-            Some(updated(at, *variable, None, step_operation(*operator)))
+            (*variable, None, step_operation(*operator))
         }
         ResolvedExpression::PostfixElement {
             array,
             index,
             operator,
-        } => {
-            let found = step_operation(*operator);
-            Some(updated(at, *array, Some(taken(index)), found))
-        }
-        _ => None,
-    }
+        } => (*array, Some(taken(index)), step_operation(*operator)),
+        _ => return None,
+    };
+    Some(updated(at, variable, index, found))
 }
 
 /// The update that a statement is, whose target stands on that side of its operator (OpenMP API 5.2,

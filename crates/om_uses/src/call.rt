@@ -10,16 +10,16 @@ ghost use Rattle.om_rules.specs.ExpressionRules.{argument_count, is_print, mispr
 ghost use Rattle.om_rules.specs.Resolution.{call_of, format_in, text_in};
 ghost use Rattle.om_uses.specs.Views.{view_argument};
 
-use om_lexer::{FaultCode, SourceFault, Span};
+use om_lexer::{FaultCode, SourceFault};
 use om_names::refuse_if;
 use om_resolved::ResolvedExpression;
 use om_rules::is_format;
 use om_seq::Seq;
-use om_tree::{Expression, Name};
+use om_tree::{Argument, Expression, Name};
 use std::alloc::Global;
 
 /// How many values a call has.
-pub fn argument_count(values: &[(Option<Span>, Expression)]) -> usize
+pub fn argument_count(values: &[Argument]) -> usize
     ensures { result ≡ argument_count (arguments (map view_argument values.now)) }
 {
     values.len()
@@ -31,7 +31,7 @@ pub fn resolve_format(
     alloc: Global,
     for_value: bool,
     name: &Name,
-    values: &[(Option<Span>, Expression)],
+    values: &[Argument],
 ) -> Result<Seq<u8>, SourceFault>
     ensures checked { Checks result
         (misprint_breaches for_value name.now (arguments (map view_argument values.now))) }
@@ -47,7 +47,7 @@ pub fn resolve_format(
 }
 
 /// Whether a call of `printf` has a format, and as many values as it takes.
-fn is_print(values: &[(Option<Span>, Expression)]) -> bool
+fn is_print(values: &[Argument]) -> bool
     ensures { result ≡ is_print (arguments (map view_argument values.now)) }
 {
     let [format, printed @ ..] = values else {
@@ -57,7 +57,7 @@ fn is_print(values: &[(Option<Span>, Expression)]) -> bool
 }
 
 /// The format that a `printf` begins with, which is there where it has one.
-fn format_in(values: &[(Option<Span>, Expression)]) -> Option<&Seq<u8>>
+fn format_in(values: &[Argument]) -> Option<&Seq<u8>>
     ensures { option_map (λ text. text.now) result
         ≡ format_in (arguments (map view_argument values.now)) }
 {

@@ -16,9 +16,9 @@ ghost use Rattle.om_rules.specs.StatementResolution.{clause_of, flushed, kind_of
 use crate::declaration::local_of;
 use crate::expression::boxed_expression;
 use crate::kept::add;
-use om_lexer::{FaultCode, SourceFault, Span};
+use om_lexer::{FaultCode, SourceFault};
 use om_names::{Listed, Symbols, check_declared, is_copied_array, is_scalar, refuse_if, traits_of};
-use om_pragma::{Clause, ClauseItem, DataSharing, Directive, DirectiveName, NameList};
+use om_pragma::{Clause, ClauseItem, DataSharing, Directive, DirectiveName, FurtherName, NameList};
 use om_resolved::{CopyKind, ResolvedClause, Variable};
 use om_rules::{Flow, Meaning};
 use om_seq::Seq;
@@ -161,7 +161,7 @@ fn list_further_names(
     listing: &Listing<'_>,
     listed: &mut Listed,
     clauses: &mut Vec<ResolvedClause>,
-    rest: &[(Span, Name)],
+    rest: &[FurtherName],
 ) -> Result<(), SourceFault>
     ensures checked { Checks result
         (names_breaches listing.now.symbols.now (sharing_of listing.now.kind) listed.old
@@ -190,7 +190,7 @@ fn list_names(
     listed: &mut Listed,
     clauses: &mut Vec<ResolvedClause>,
     first: &Name,
-    rest: &[(Span, Name)],
+    rest: &[FurtherName],
 ) -> Result<(), SourceFault>
     ensures checked { Checks result
         (names_breaches listing.now.symbols.now (sharing_of listing.now.kind) listed.old
@@ -336,7 +336,7 @@ fn resolve_further_flushed(
     alloc: Global,
     symbols: &Symbols,
     variables: &mut Vec<Variable>,
-    rest: &[(Span, Name)],
+    rest: &[FurtherName],
 ) -> Result<(), SourceFault>
     ensures checked { Checks result
         (flat_map (flushed_breaches symbols.now) (map (λ further. further.1) rest.now)) }
@@ -357,7 +357,7 @@ fn resolve_names(
     alloc: Global,
     symbols: &Symbols,
     first: &Name,
-    rest: &[(Span, Name)],
+    rest: &[FurtherName],
 ) -> Result<Seq<Variable>, SourceFault>
     ensures checked { Checks result
         (flat_map (flushed_breaches symbols.now) (names_in first.now rest.now)) }

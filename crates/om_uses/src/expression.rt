@@ -17,11 +17,11 @@ use crate::call::{argument_count, call_of, resolve_format};
 use crate::fault::refuse_among;
 use crate::kept::{add, boxed};
 use crate::target::{Target, assigned, is_target, misplaced, stepped};
-use om_lexer::{FaultCode, SourceFault, Span};
+use om_lexer::{FaultCode, SourceFault};
 use om_names::{Symbols, is_printf, misuse, resolve_array, resolve_callee, resolve_scalar};
 use om_resolved::{ResolvedExpression, UnaryOperator, Variable};
 use om_rules::{PRINTED_LIMIT, expression_start};
-use om_tree::{AssignOperator, Expression, Name, Number, PrefixOperator};
+use om_tree::{Argument, AssignOperator, Expression, Name, Number, PrefixOperator};
 use std::alloc::Global;
 
 /// An expression, whose value is used or not.
@@ -268,7 +268,7 @@ fn resolve_call(
     symbols: &Symbols,
     for_value: bool,
     name: &Name,
-    values: &[(Option<Span>, Expression)],
+    values: &[Argument],
 ) -> Result<ResolvedExpression, SourceFault>
     ensures checked { Checks result
         (called_breaches symbols.now for_value name.now
@@ -290,7 +290,7 @@ fn resolve_print(
     symbols: &Symbols,
     for_value: bool,
     name: &Name,
-    values: &[(Option<Span>, Expression)],
+    values: &[Argument],
 ) -> Result<ResolvedExpression, SourceFault>
     ensures checked { Checks result
         (print_breaches symbols.now for_value name.now (arguments (map view_argument values.now))) }
@@ -312,7 +312,7 @@ fn resolve_print(
 fn resolve_printed(
     alloc: Global,
     symbols: &Symbols,
-    values: &[(Option<Span>, Expression)],
+    values: &[Argument],
 ) -> Result<Vec<ResolvedExpression>, SourceFault>
     ensures checked { Checks result
         (printed_breaches symbols.now 0 (arguments (map view_argument values.now))) }
@@ -361,7 +361,7 @@ fn resolve_own_call(
     symbols: &Symbols,
     for_value: bool,
     name: &Name,
-    values: &[(Option<Span>, Expression)],
+    values: &[Argument],
 ) -> Result<ResolvedExpression, SourceFault>
     ensures checked { Checks result
         (own_call_breaches symbols.now for_value name.now
@@ -381,7 +381,7 @@ fn resolve_own_call(
 fn resolve_values(
     alloc: Global,
     symbols: &Symbols,
-    values: &[(Option<Span>, Expression)],
+    values: &[Argument],
 ) -> Result<Vec<ResolvedExpression>, SourceFault>
     ensures checked { Checks result
         (arguments_breaches symbols.now (arguments (map view_argument values.now))) }

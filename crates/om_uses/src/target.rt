@@ -50,10 +50,8 @@ pub fn is_target(expression: &Expression) -> bool
     ensures { result ≡ is_target (view_expression expression.now) }
 {
     match expression {
-        Expression::Name(_) => true,
-        Expression::Index { .. } => true,
         Expression::Paren { inner, .. } => is_target(inner),
-        _ => false,
+        _ => matches!(expression, Expression::Name(_) | Expression::Index { .. }),
     }
 }
 

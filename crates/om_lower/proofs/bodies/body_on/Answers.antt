@@ -1,4 +1,4 @@
-use Rattle.std.proofs.Common.{◌≤◌, length, refl, sym, ap, subst, ◌∙◌}
+use Rattle.std.proofs.Common.{◌≡◌, ◌≤◌, None, Option, Some, length, refl, sym, ap, subst, ◌∙◌}
 use Rattle.om_lower.specs.declared.bodies.LoweredBody.{LoweredBody}
 use Rattle.om_lower.specs.Made.{FitsCode}
 use Rattle.om_lower.specs.Ready.{seen_body}
@@ -7,18 +7,23 @@ use Rattle.om_rows.specs.Scopes.{names_with}
 use Rattle.om_lower.proofs.Coding.{made_body, over_code}
 use Rattle.om_lower.proofs.bodies.body_on.Goals as goal
 
-pub returns-in-None : goal.returns-in-None
-returns-in-None c =
+-- what is nothing that is there is not there
+none_of : {A : Type 0} (found : Option A) → ((a : A) → found ≡ Some a → ⊥) → found ≡ None
+none_of None other = refl
+none_of (Some a) other = absurd (other a refl)
+
+pub returns-in_default : goal.returns-in_default
+returns-in_default c =
     let tree = view_resolved c.args.whole.now.resolved.now in
     let b = seen_body c.args.seen.now in
-    over_code tree b (subst (λ code. FitsCode tree b code) c.in-None.is c.in_ok-code_in.ensures)
+    over_code tree b (subst (λ code. FitsCode tree b code) (none_of _ c.in_default.not-Some) c.in_ok-emitted.ensures)
 
 pub names_with-requires-clause-few : goal.names_with-requires-clause-few
 names_with-requires-clause-few c =
     subst (λ variables. length variables ≤ 256) (sym c.requires.variables) c.requires.slots.1
 
-pub returns-in_ok-names-in-Some : goal.returns-in_ok-names-in-Some
-returns-in_ok-names-in-Some c =
+pub returns : goal.returns
+returns c =
     let tree = view_resolved c.args.whole.now.resolved.now in
     let b = seen_body c.args.seen.now in
     let made = c.in-Some.emitted in
@@ -26,13 +31,13 @@ returns-in_ok-names-in-Some c =
       body = record {
         code = made.code;
         slots = c.args.slots;
-        given = c.in_ok-given-in-Some.given;
-        names = c.in_ok-names-in-Some.names;
+        given = c.in_ok-given.given;
+        names = c.in_ok-names.names;
       };
       lists = made.lists;
     } in
     made_body tree b made body _ _ _ c.requires.slots
-    (subst (λ code. FitsCode tree b code) c.in-Some.is c.in_ok-code_in.ensures) c.in_ok-given-in-Some.ensures
-    (c.in_ok-names-in-Some.ensures
+    (subst (λ code. FitsCode tree b code) c.in-Some.is c.in_ok-emitted.ensures) c.in_ok-given.ensures
+    (c.in_ok-names.ensures
     ∙ ap (λ variables. names_with variables b.outer made.scopes.items) c.requires.variables)
     refl refl

@@ -6,20 +6,20 @@ use Rattle.om_lower.proofs.Items.{item_at}
 use Rattle.om_lower.proofs.Refusing.{refused}
 use Rattle.om_lower.proofs.lowering.within_limits.Goals as goal
 
-pub returns-in-Some-clause-refused : goal.returns-in-Some-clause-refused
-returns-in-Some-clause-refused c =
+pub returns-clause-refused : goal.returns-clause-refused
+returns-clause-refused c =
     let tree = view_resolved c.args.whole.now.resolved.now in
     let placed = c.args.placed.now in
     let items = c.args.whole.now.resolved.now.functions.items in
     let index = c.in-Some.index in
     let function = view_resolved_function c.index-as_slice-index.result in
     let within = subst (λ found.
-    IfSome found (λ index. index < length items)) c.in-Some.is c.in_ok-over_at.ensures.within in
+    IfSome found (λ index. index < length items)) c.in-Some.is c.in_ok-index.ensures.within in
     let at = subst (λ all.
     slice_get (map view_resolved_function all) index ≡ Some function) c.as_slice.ensures.value
     (item_at view_resolved_function c.as_slice.result.now index c.index-as_slice-index.result
     (subst (λ all. index < length all) (sym c.as_slice.ensures.value) within) c.index-as_slice-index.is) in
     let over = subst (λ found.
-    IsOverAt placed.picks placed.functions placed.is_whole found) c.in-Some.is c.in_ok-over_at.ensures.over in
+    IsOverAt placed.picks placed.functions placed.is_whole found) c.in-Some.is c.in_ok-index.ensures.over in
     λ other. subst (λ fault. IsTooMany tree fault) (sym c.too_many.ensures)
     (refused tree placed.picks placed.functions placed.is_whole index function c.requires.lowered over at)
