@@ -68,12 +68,10 @@ fn are_alike(one: Signature, other: Signature) -> bool
 fn is_redeclared(signature: Signature, earlier: Option<Meaning>) -> bool
     ensures { result ≡ is_redeclared signature earlier }
 {
-    match earlier {
-        None => false,
-        Some(Meaning::Function(earlier)) => !are_alike(earlier, signature),
-        Some(Meaning::Variable(..)) => true,
-        Some(Meaning::Printf) => true,
-    }
+    let Some(earlier) = earlier else {
+        return false;
+    };
+    !matches!(earlier, Meaning::Function(other) if are_alike(other, signature))
 }
 
 /// Whether it is `main`, but not `int main(void)`.
@@ -219,10 +217,10 @@ fn declare_optional(
         FaultCode::TooMany,
         parameter.int.start,
     )?;
-    match &parameter.name {
-        None => Ok(()),
-        Some(name) => declare_parameter_name(alloc, symbols, name),
-    }
+    let Some(name) = &parameter.name else {
+        return Ok(());
+    };
+    declare_parameter_name(alloc, symbols, name)
 }
 
 /// Declares the parameters of a prototype behind the first.

@@ -186,12 +186,12 @@ pub(crate) fn check_section(
     ensures { Checks result
         (section_breaches before (option_map (λ d. view_directive d.value) section.now)) }
 {
-    match section {
-        Some(directive) => refuse_if(
-            SECTION_LIMIT <= before,
-            FaultCode::TooMany,
-            directive.hash.start,
-        ),
-        None => Ok(()),
-    }
+    let Some(directive) = section else {
+        return Ok(());
+    };
+    refuse_if(
+        SECTION_LIMIT <= before,
+        FaultCode::TooMany,
+        directive.hash.start,
+    )
 }
