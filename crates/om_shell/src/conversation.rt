@@ -7,7 +7,6 @@ ghost use Rattle.om_shell.specs.Sessions.{due, AnswersBatch};
 ghost use Rattle.om_view.specs.Freed.{FreeRun};
 
 use crate::fault::ShellFault;
-use crate::host::Host;
 use crate::input::Input;
 use crate::lines::{line_end, without_carriage_return};
 use crate::session::Session;
@@ -18,8 +17,7 @@ use std::thread::Threads;
 // Answers the whole lines at the front of the bytes, up to a `quit`. Answers how many bytes they take, and whether
 // one was `quit`. The first `searched` bytes are known to end no line.
 fn answer_lines<R: Threads + Wait + Sync, W: Write>(
-    host: &Host<'_, R>,
-    session: &mut Session,
+    session: &mut Session<'_, R>,
     bytes: &[u8],
     mut searched: usize,
     writer: &mut W,
@@ -39,7 +37,7 @@ fn answer_lines<R: Threads + Wait + Sync, W: Write>(
         let line = without_carriage_return(&bytes[at..at + n]);
         at += n + 1;
         searched = 0;
-        let quits = session.answer(host, line, writer)?;
+        let quits = session.answer(line, writer)?;
         if quits {
             return Ok((at, true));
         }
@@ -51,8 +49,7 @@ fn answer_lines<R: Threads + Wait + Sync, W: Write>(
 ///
 /// Each byte is looked at a bounded number of times, however long the lines are.
 pub(crate) fn converse<H: Threads + Wait + Sync, R: Read, W: Write>(
-    host: &Host<'_, H>,
-    session: &mut Session,
+    session: &mut Session<'_, H>,
     input: &mut Input,
     reader: &mut R,
     writer: &mut W,
@@ -70,14 +67,14 @@ pub(crate) fn converse<H: Threads + Wait + Sync, R: Read, W: Write>(
 {
     let mut searched = 0;
     'reads: loop {
-        let (used, quits) = answer_lines(host, session, &input.pending, searched, writer)?;
+        let (used, quits) = answer_lines(session, &input.pending, searched, writer)?;
         if quits {
             return Ok(());
         }
         input.discard(used);
         searched = input.pending.len();
         if !input.read_more(reader)? {
-            session.answer(host, &input.pending, writer)?;
+            session.answer(&input.pending, writer)?;
             return Ok(());
         }
     }

@@ -44,70 +44,72 @@ fn tell<W: Write>(
     send(writer, &text)
 }
 
-// Answers the commands to a program.
-fn answer_commands<H: Threads + Wait + Sync, R: Read, W: Write>(
-    host: &Host<'_, H>,
-    program: Program,
-    input: &mut Input,
-    reader: &mut R,
-    writer: &mut W,
-) -> Result<Ended, ShellFault>
-    requires at_least_one { 0 < host.now.workers }
-    requires at_most_32 { host.now.workers ≤ 32 }
-    ensures status { IfOk result (λ ended. ended.status ≡ 0) }
-    ensures done { IfOk result (λ ended. (runs : List FreeRun)
-        × DoneWith (moment_of (R.remaining reader.old) (W.contents writer.old)
-        input.old.pending.items)
-        (moment_of (R.remaining reader.new) (W.contents writer.new) [])
-        (due (opened program host.now.workers) runs) ended.book) }
-    ensures broken_off { IfErr result (λ fault. (runs : List FreeRun)
-        × BreaksOff (moment_of (R.remaining reader.old) (W.contents writer.old)
-        input.old.pending.items)
-        (moment_of (R.remaining reader.new) (W.contents writer.new) [])
-        (due (opened program host.now.workers) runs) fault) }
-{
-    let mut session = Session::new(host.alloc, program, host.workers)?;
-    match converse(host, &mut session, input, reader, writer) {
-        Ok(()) => Ok(Ended::accepted(session.into_book())),
-        Err(fault) => {
-            drop(session);
-            Err(fault)
+impl<H: Threads + Wait + Sync> Host<'_, H> {
+    // Answers the commands to a program.
+    fn answer_commands<R: Read, W: Write>(
+        &self,
+        program: Program,
+        input: &mut Input,
+        reader: &mut R,
+        writer: &mut W,
+    ) -> Result<Ended, ShellFault>
+        requires at_least_one { 0 < self.now.workers }
+        requires at_most_32 { self.now.workers ≤ 32 }
+        ensures status { IfOk result (λ ended. ended.status ≡ 0) }
+        ensures done { IfOk result (λ ended. (runs : List FreeRun)
+            × DoneWith (moment_of (R.remaining reader.old) (W.contents writer.old)
+            input.old.pending.items)
+            (moment_of (R.remaining reader.new) (W.contents writer.new) [])
+            (due (opened program self.now.workers) runs) ended.book) }
+        ensures broken_off { IfErr result (λ fault. (runs : List FreeRun)
+            × BreaksOff (moment_of (R.remaining reader.old) (W.contents writer.old)
+            input.old.pending.items)
+            (moment_of (R.remaining reader.new) (W.contents writer.new) [])
+            (due (opened program self.now.workers) runs) fault) }
+    {
+        let mut session = Session::new(self, program)?;
+        match converse(&mut session, input, reader, writer) {
+            Ok(()) => Ok(Ended::accepted(session.into_book())),
+            Err(fault) => {
+                drop(session);
+                Err(fault)
+            }
         }
     }
-}
 
-/// Serves a source and the commands behind it.
-///
-/// When out of memory for its program, nothing is read or written.
-pub(crate) fn serve<H: Threads + Wait + Sync, R: Read, W: Write>(
-    host: &Host<'_, H>,
-    source: &[u8],
-    input: &mut Input,
-    reader: &mut R,
-    writer: &mut W,
-) -> Result<Ended, ShellFault>
-    requires at_least_one { 0 < host.now.workers }
-    requires at_most_32 { host.now.workers ≤ 32 }
-    ensures served { IfOk result
-        (λ ended. Serves (moment_of (R.remaining reader.old) (W.contents writer.old)
-        input.old.pending.items)
-        (moment_of (R.remaining reader.new) (W.contents writer.new) [])
-        host.now.workers source.now ended.status ended.book) }
-    ensures broken_off { IfErr result
-        (BreaksOffServing (moment_of (R.remaining reader.old) (W.contents writer.old)
-        input.old.pending.items)
-        (moment_of (R.remaining reader.new) (W.contents writer.new) [])
-        host.now.workers source.now) }
-{
-    let alloc = host.alloc;
-    match program_of(alloc, source) {
-        Ok(program) => answer_commands(host, program, input, reader, writer),
-        Err(fault) => {
-            if fault.code == FaultCode::Memory {
-                return Err(ShellFault::Memory);
+    /// Serves a source and the commands behind it.
+    ///
+    /// When out of memory for its program, nothing is read or written.
+    pub(crate) fn serve<R: Read, W: Write>(
+        &self,
+        source: &[u8],
+        input: &mut Input,
+        reader: &mut R,
+        writer: &mut W,
+    ) -> Result<Ended, ShellFault>
+        requires at_least_one { 0 < self.now.workers }
+        requires at_most_32 { self.now.workers ≤ 32 }
+        ensures served { IfOk result
+            (λ ended. Serves (moment_of (R.remaining reader.old) (W.contents writer.old)
+            input.old.pending.items)
+            (moment_of (R.remaining reader.new) (W.contents writer.new) [])
+            self.now.workers source.now ended.status ended.book) }
+        ensures broken_off { IfErr result
+            (BreaksOffServing (moment_of (R.remaining reader.old) (W.contents writer.old)
+            input.old.pending.items)
+            (moment_of (R.remaining reader.new) (W.contents writer.new) [])
+            self.now.workers source.now) }
+    {
+        let alloc = self.alloc;
+        match program_of(alloc, source) {
+            Ok(program) => self.answer_commands(program, input, reader, writer),
+            Err(fault) => {
+                if fault.code == FaultCode::Memory {
+                    return Err(ShellFault::Memory);
+                }
+                tell(alloc, source, fault, writer)?;
+                Ok(Ended::refused())
             }
-            tell(alloc, source, fault, writer)?;
-            Ok(Ended::refused())
         }
     }
 }

@@ -1,4 +1,4 @@
-//! A session: a debugger, and the text of its last answer.
+//! A session: a debugger, what it runs on, and the text of its last answer.
 ghost use Rattle.std.specs.Prelude.{◌≡◌, ◌≢◌, ◌<◌, ◌≤◌, ℕ, List, IfOk, IfErr};
 ghost use Rattle.std.specs.Io.KnownBytes.{Appends};
 ghost use Rattle.om_shell.specs.Progress.{AppendsPart};
@@ -16,31 +16,35 @@ use std::io::Write;
 use std::sync::Wait;
 use std::thread::Threads;
 
-/// A debugger, and the text of its last answer.
+/// A debugger, what it runs on, and the text of its last answer.
 #[derive(Drop)]
-pub(crate) struct Session {
+pub(crate) struct Session<'a, R> {
+    rt: &'a R,
+    alloc: Global,
     pub(crate) debugger: Debugger,
     text: Vec<u8>,
 }
 
-impl Session {
+impl<'a, R: Threads + Wait + Sync> Session<'a, R> {
     /// A session at the start of a program.
-    pub(crate) fn new(alloc: Global, program: Program, workers: u8) -> Result<Session, AllocError>
-        requires at_least_one { 0 < workers }
-        requires at_most_32 { workers ≤ 32 }
-        ensures { IfOk result (λ session. session.debugger ≡ opened program workers) }
+    pub(crate) fn new(host: &Host<'a, R>, program: Program) -> Result<Session<'a, R>, AllocError>
+        requires at_least_one { 0 < host.now.workers }
+        requires at_most_32 { host.now.workers ≤ 32 }
+        ensures { IfOk result (λ session. session.debugger ≡ opened program host.now.workers) }
     {
         Ok(Session {
-            debugger: Debugger::new(alloc, program, workers)?,
-            text: Vec::new(alloc),
+            rt: host.rt,
+            alloc: host.alloc,
+            debugger: Debugger::new(host.alloc, program, host.workers)?,
+            text: Vec::new(host.alloc),
         })
     }
 
     /// Its debugger's book.
     pub(crate) fn into_book(self) -> Book
-        ensures { result ≡ self.debugger.book }
+        ensures { result ≡ self.entry.debugger.book }
     {
-        let Session { debugger, text: _ } = self;
+        let Session { debugger, .. } = self;
         debugger.into_book()
     }
 
@@ -48,9 +52,8 @@ impl Session {
     ///
     /// After a fault a beginning of the answer was written.
     #[tactic(auto, using(crate::proofs::SessionLaws::part_of, crate::proofs::SessionLaws::no_part))]
-    pub(crate) fn answer<R: Threads + Wait + Sync, W: Write>(
+    pub(crate) fn answer<W: Write>(
         &mut self,
-        host: &Host<'_, R>,
         line: &[u8],
         writer: &mut W,
     ) -> Result<bool, ShellFault>
@@ -62,23 +65,19 @@ impl Session {
             × ((runs : List FreeRun) × AppendsPart (W.contents writer.old) (W.contents writer.new)
             (answered self.old.debugger runs line.now).text)) }
     {
-        let quits = self.follow(host, line)?;
+        let quits = self.follow(line)?;
         send(writer, &self.text)?;
         Ok(quits)
     }
 
     // Answers one line; the answer is the text then. Says whether the session is over.
-    fn follow<R: Threads + Wait + Sync>(
-        &mut self,
-        host: &Host<'_, R>,
-        line: &[u8],
-    ) -> Result<bool, AllocError>
+    fn follow(&mut self, line: &[u8]) -> Result<bool, AllocError>
         ensures { IfOk result
             (λ quits. IsAnswered self.old.debugger line.now self.new.text.items self.new.debugger
             quits) }
     {
         self.text.clear();
         self.debugger
-            .answer(host.rt, host.alloc, line, &mut self.text)
+            .answer(self.rt, self.alloc, line, &mut self.text)
     }
 }

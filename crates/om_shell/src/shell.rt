@@ -9,7 +9,7 @@ use crate::fault::ShellFault;
 use crate::host::Host;
 use crate::input::Input;
 use crate::options::Options;
-use crate::serve::{serve, serve_alone};
+use crate::serve::serve_alone;
 use crate::source::read_source;
 use std::alloc::Global;
 use std::io::{Read, Write};
@@ -48,7 +48,7 @@ fn run_from_input<H: Threads + Wait + Sync, R: Read, W: Write>(
     match after {
         Some(after) => {
             input.discard(after);
-            serve(host, &source, &mut input, reader, writer)
+            host.serve(&source, &mut input, reader, writer)
         }
         None => serve_alone(host.alloc, host.workers, &source, writer),
     }
@@ -72,7 +72,7 @@ fn run_by<H: Threads + Wait + Sync, R: Read, W: Write>(
         host.now.workers (option_copied source.entry)) }
 {
     match source {
-        Some(source) => serve(host, source, &mut Input::new(host.alloc), reader, writer),
+        Some(source) => host.serve(source, &mut Input::new(host.alloc), reader, writer),
         None => run_from_input(host, reader, writer),
     }
 }

@@ -2,7 +2,7 @@ use Rattle.std.proofs.Common.{rules, inr, ◌≢◌}
 use Rattle.std.proofs.lemmas.Result.{err_from_is_err_and}
 use Rattle.om_lexer.specs.declared.fault.FaultCode.TheVariants.{Memory}
 use Rattle.om_shell.proofs.ServeLaws.{is_refused, Serves_refused, ServesPart_refused}
-use Rattle.om_shell.proofs.serve.serve.Goals as goal
+use Rattle.om_shell.proofs.host.Host.serve.Goals as goal
 
 pub returns-in_err-tell-in-Err-clause-broken_off : goal.returns-in_err-tell-in-Err-clause-broken_off
 returns-in_err-tell-in-Err-clause-broken_off g c =
