@@ -7,18 +7,12 @@ use std::alloc::{AllocError, Global};
 
 // Whether a token is this punctuator.
 fn is_mark(token: &Token, mark: Punctuator) -> bool {
-    match &token.kind {
-        TokenKind::Punctuator(found) => *found == mark,
-        _ => false,
-    }
+    matches!(&token.kind, TokenKind::Punctuator(found) if *found == mark)
 }
 
 // Whether a token is this name.
 fn is_name(token: &Token, name: &[u8]) -> bool {
-    match &token.kind {
-        TokenKind::Name(found) => found.as_slice() == name,
-        _ => false,
-    }
+    matches!(&token.kind, TokenKind::Name(found) if found.as_slice() == name)
 }
 
 // The K of `num_threads(K)`, where the tokens begin so.
@@ -26,16 +20,13 @@ fn threads_asked(tokens: &[Token]) -> Option<u32> {
     let [word, left, number, right, ..] = tokens else {
         return None;
     };
-    if !is_name(word, b"num_threads")
-        || !is_mark(left, Punctuator::OpenParen)
-        || !is_mark(right, Punctuator::CloseParen)
-    {
+    let TokenKind::Constant(threads) = &number.kind else {
         return None;
-    }
-    match &number.kind {
-        TokenKind::Constant(threads) => Some(*threads),
-        _ => None,
-    }
+    };
+    let is_clause = is_name(word, b"num_threads")
+        && is_mark(left, Punctuator::OpenParen)
+        && is_mark(right, Punctuator::CloseParen);
+    is_clause.then_some(*threads)
 }
 
 // A file, its source, and how many workers there are.
