@@ -35,10 +35,10 @@ fn place_of(parts: &[&[u8]]) -> Option<Place> {
 
 // Whether an instruction starts the body of this number.
 fn starts(number: usize, instruction: Instr) -> bool {
-    match instruction {
-        Instr::Fork { body, .. } | Instr::Spawn { body, .. } => body as usize == number,
-        _ => false,
-    }
+    matches!(
+        instruction,
+        Instr::Fork { body, .. } | Instr::Spawn { body, .. } if body as usize == number
+    )
 }
 
 // Whether the body of this number is that of a `parallel` or a `task`.
@@ -55,10 +55,8 @@ fn is_region(program: &Program, number: usize) -> bool {
 
 // Whether a body has such a cell of its own.
 fn has_cell(body: &Body, place: Place) -> bool {
-    match body.slots.as_slice().get(place.slot as usize) {
-        Some(slot) => slot.source == Source::Own && place.index < slot.cells,
-        None => false,
-    }
+    let slot = body.slots.as_slice().get(place.slot as usize);
+    slot.is_some_and(|slot| slot.source == Source::Own && place.index < slot.cells)
 }
 
 // Whether the cell may be one of the body of this number.

@@ -21,17 +21,11 @@ use std::io::{Read, Write};
 fn push_tail(text: &mut Vec<u8>, words: &[u8]) -> Result<(), AllocError>
     ensures { OnOk result (HasTail text.old.items text.new.items) }
 {
-    if words.is_empty() {
+    if words.is_empty() || line_end(words).is_some() {
         return Ok(());
     }
-    match line_end(words) {
-        Some(_) => Ok(()),
-        None => {
-            text.extend_from_slice(b" | ")?;
-            text.extend_from_slice(words)?;
-            Ok(())
-        }
-    }
+    text.extend_from_slice(b" | ")?;
+    text.extend_from_slice(words)
 }
 
 // A line with what stands behind it, and its end.

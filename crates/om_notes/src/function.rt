@@ -17,18 +17,15 @@ pub(crate) struct Function {
 
 // The name that a token is.
 fn name_of(token: &Token) -> Option<&[u8]> {
-    match &token.kind {
-        TokenKind::Name(name) => Some(name.as_slice()),
-        _ => None,
-    }
+    let TokenKind::Name(name) = &token.kind else {
+        return None;
+    };
+    Some(name.as_slice())
 }
 
 // Whether a token is this punctuator.
 fn is_mark(token: &Token, mark: Punctuator) -> bool {
-    match &token.kind {
-        TokenKind::Punctuator(found) => *found == mark,
-        _ => false,
-    }
+    matches!(&token.kind, TokenKind::Punctuator(found) if *found == mark)
 }
 
 // The name of a function whose braces begin or end, where the walk over the tokens is.

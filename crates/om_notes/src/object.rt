@@ -8,10 +8,10 @@ use std::alloc::AllocError;
 
 // What kind of object it is.
 fn push_kind(text: &mut Vec<u8>, kind: &[u8]) -> Result<(), AllocError> {
-    match object_words(kind) {
-        Some(words) => text.extend_from_slice(words.as_bytes()),
-        None => Ok(()),
+    if let Some(words) = object_words(kind) {
+        text.extend_from_slice(words.as_bytes())?;
     }
+    Ok(())
 }
 
 // The variables that a cell may be, or what a cell is.

@@ -79,10 +79,10 @@ fn answer_of(line: &[u8], words: &[&[u8]]) -> Option<&'static str> {
 
 // Appends the words that are found.
 fn push_found(text: &mut Vec<u8>, found: Option<&'static str>) -> Result<(), AllocError> {
-    match found {
-        Some(words) => push_words(text, words.as_bytes()),
-        None => Ok(()),
+    if let Some(words) = found {
+        push_words(text, words.as_bytes())?;
     }
+    Ok(())
 }
 
 /// What stands behind the mark of an answer, which falls into these words; no bytes where there is nothing
