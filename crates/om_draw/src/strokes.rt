@@ -57,10 +57,10 @@ fn push_class(text: &mut Vec<u8>, class: &[u8], object: &Obj) -> Result<(), Allo
     ensures { OnOk result (text.new.items ≡ text.old.items ++ class_text class.now object.now) }
 {
     text.extend_from_slice(class)?;
-    match object {
-        Obj::Control(_) => text.extend_from_slice(b" own"),
-        _ => Ok(()),
+    if let Obj::Control(_) = object {
+        text.extend_from_slice(b" own")?;
     }
+    Ok(())
 }
 
 /// Appends an arrow of a class.
