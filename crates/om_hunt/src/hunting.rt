@@ -138,22 +138,20 @@ fn shown<H: Threads + Wait + Sync>(
 {
     let commands = script(alloc, &schedule.blocks)?;
     let Ran { text, book } = run_over(rt, alloc, ground.workers, source, &commands)?;
-    match book {
-        Some(book) => {
-            let Some(end) = end_of(alloc, book, ground.wanted)? else {
-                return Ok(None);
-            };
-            let wanted = ground.wanted.text.clone()?;
-            Ok(Some(Found {
-                seed: schedule.seed,
-                blocks: schedule.blocks,
-                script: commands,
-                printed: text,
-                output: end.output,
-                wanted,
-                why: end.why,
-            }))
-        }
-        None => Ok(None),
-    }
+    let Some(book) = book else {
+        return Ok(None);
+    };
+    let Some(end) = end_of(alloc, book, ground.wanted)? else {
+        return Ok(None);
+    };
+    let wanted = ground.wanted.text.clone()?;
+    Ok(Some(Found {
+        seed: schedule.seed,
+        blocks: schedule.blocks,
+        script: commands,
+        printed: text,
+        output: end.output,
+        wanted,
+        why: end.why,
+    }))
 }
