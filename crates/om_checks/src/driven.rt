@@ -25,10 +25,10 @@ pub(crate) fn all_are_answered<R: Threads + Wait + Sync>(
     alloc: Global,
 ) -> Result<bool, AllocError> {
     let orders = two_lists(alloc, 200)?;
-    Ok(match drive_two(rt, alloc, orders.as_slice())? {
-        Some(drove) => are_answered(&drove, 400),
-        None => false,
-    })
+    let Some(drove) = drive_two(rt, alloc, orders.as_slice())? else {
+        return Ok(false);
+    };
+    Ok(are_answered(&drove, 400))
 }
 
 /// Whether each of 200 orders of two seats is answered with the place of its record: together those of the journal,
@@ -38,12 +38,10 @@ pub(crate) fn places_are_those_of_the_journal<R: Threads + Wait + Sync>(
     alloc: Global,
 ) -> Result<bool, AllocError> {
     let orders = two_lists(alloc, 100)?;
-    match drive_two(rt, alloc, orders.as_slice())? {
-        Some(drove) => Ok(
-            are_answered(&drove, 200) && are_places(alloc, drove.answers.as_slice(), 100)?,
-        ),
-        None => Ok(false),
-    }
+    let Some(drove) = drive_two(rt, alloc, orders.as_slice())? else {
+        return Ok(false);
+    };
+    Ok(are_answered(&drove, 200) && are_places(alloc, drove.answers.as_slice(), 100)?)
 }
 
 /// Drives two seats over a book without records.

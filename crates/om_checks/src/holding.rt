@@ -109,12 +109,10 @@ pub(crate) fn drives_are_side_by_side<R: Threads + Wait + Sync>(
     let Some(book) = BookOfTwo::of(alloc, ADDING) else {
         return Ok(false);
     };
-    Ok(
-        match (Table { book, gates }).drive(rt, alloc, orders.as_slice()) {
-            Some(drove) => are_in_time(&drove) && board.both_saw(),
-            None => false,
-        },
-    )
+    let Some(drove) = (Table { book, gates }).drive(rt, alloc, orders.as_slice()) else {
+        return Ok(false);
+    };
+    Ok(are_in_time(&drove) && board.both_saw())
 }
 
 /// Whether both answers came, and none was late.
@@ -143,10 +141,10 @@ pub(crate) fn free_runs_are_side_by_side<R: Threads + Wait + Sync>(
         alloc,
         rounds: 2,
     };
-    Ok(match (Table { book, gates }).free(errand) {
-        Some(ran) => is_run_so(&ran) && board.both_saw(),
-        None => false,
-    })
+    let Some(ran) = (Table { book, gates }).free(errand) else {
+        return Ok(false);
+    };
+    Ok(is_run_so(&ran) && board.both_saw())
 }
 
 /// Whether the one order of calls was made that the gates leave: worker 1 is idle, worker 0 forks, and then both begin

@@ -34,7 +34,18 @@ fn compared<R: Wait>(rt: &R, alloc: Global, places: [u64; 4]) -> Result<KeptAnsw
         return Err(AllocError);
     };
     let orders = two_lists_of_looks(alloc, &[10, 11], &[20, 21])?;
-    compared_in::<Brand, _>(rt, alloc, Blank::new(2), book, (orders.as_slice(), places))
+    let told = Told {
+        orders: orders.as_slice(),
+        places,
+    };
+    compared_in::<Brand, _>(rt, alloc, Blank::new(2), book, told)
+}
+
+/// Orders for each seat, and the places that the answers to them tell.
+#[derive(Clone, Copy)]
+struct Told<'a> {
+    orders: &'a [Vec<Order>],
+    places: [u64; 4],
 }
 
 /// Compares the answers to the orders of the session that is meant.
@@ -44,20 +55,20 @@ fn compared_in<L: Sitting, R: Wait>(
     alloc: Global,
     blank: Blank,
     book: BookOfTwo,
-    told: (&[Vec<Order>], [u64; 4]),
+    told: Told<'_>,
 ) -> Result<KeptAnswers, AllocError>
     requires name { blank.ledger.name ≡ L.name }
     requires parts { blank.ledger.parts ≡ L.parts }
     requires opened { book.book ≡ L.opened }
     requires workers { L.workers ≡ 2 }
     requires two { blank.seats ≡ 2 }
-    requires lists { length told.0.now ≡ 2 }
+    requires lists { length told.orders.now ≡ 2 }
 {
     let BookOfTwo { book } = book;
     let Ok((session, mut seats)) = Session::<L>::new(alloc, blank, book) else {
         return Err(AllocError);
     };
-    let (orders, places) = told;
+    let Told { orders, places } = told;
     let answers = answered(rt, alloc, &session, seats.as_mut_slice(), &places)?;
     let rows = Rows {
         seats: seats.as_slice(),
