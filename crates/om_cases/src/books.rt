@@ -26,11 +26,11 @@ pub(crate) fn full_book_has_two_steps<R: Threads + Wait + Sync>(
         return Ok(false);
     };
     let entries = book.machine().history(alloc)?;
-    let steps = match entries.as_slice() {
-        [first, second] => first.serial == 1 && second.serial == 2,
-        _ => false,
-    };
-    Ok(steps && book.journal().len() == 200_000)
+    let has_both = matches!(
+        entries.as_slice(),
+        [first, second] if first.serial == 1 && second.serial == 2
+    );
+    Ok(has_both && book.journal().len() == 200_000)
 }
 
 /// Whether a free run's calls are in the book with those before and behind it: each of two workers
@@ -59,8 +59,6 @@ fn book_behind<R: Threads + Wait + Sync>(rt: &R, alloc: Global, commands: &str) 
         workers: 2,
         source: Some(SOURCE.as_bytes()),
     };
-    match run(rt, alloc, &mut reader, &mut writer, options) {
-        Ok(Ended { book, .. }) => book,
-        Err(_) => None,
-    }
+    let Ended { book, .. } = run(rt, alloc, &mut reader, &mut writer, options).ok()?;
+    book
 }

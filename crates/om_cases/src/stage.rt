@@ -29,14 +29,14 @@ pub(crate) enum Stage {
 
 /// The stage of a word.
 pub(crate) fn stage_of(word: &str) -> Option<Stage> {
-    match word {
-        "lexer" => Some(Stage::Lexer),
-        "line" => Some(Stage::Line),
-        "parser" => Some(Stage::Parser),
-        "resolver" => Some(Stage::Resolver),
-        "code" => Some(Stage::Code),
-        _ => None,
-    }
+    Some(match word {
+        "lexer" => Stage::Lexer,
+        "line" => Stage::Line,
+        "parser" => Stage::Parser,
+        "resolver" => Stage::Resolver,
+        "code" => Stage::Code,
+        _ => return None,
+    })
 }
 
 /// The refusal of a source on its way to the end of a stage; `None` where it is accepted.
