@@ -24,10 +24,7 @@ fn source_in<R: Files>(
     alloc: Global,
     file: Option<&str>,
 ) -> Result<Option<Vec<u8>>, ShellFault> {
-    match file {
-        Some(path) => Ok(Some(read_file(rt, alloc, path)?)),
-        None => Ok(None),
-    }
+    file.map(|path| read_file(rt, alloc, path)).transpose()
 }
 
 // Runs the shell over these ends, and tells how it ended.
