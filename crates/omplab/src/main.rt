@@ -36,24 +36,20 @@ fn source_in<R: Files>(
     alloc: Global,
     file: Option<&str>,
 ) -> Result<Option<Vec<u8>>, ShellFault> {
-    match file {
-        Some(path) => Ok(Some(read_file(rt, alloc, path)?)),
-        None => Ok(None),
-    }
+    file.map(|path| read_file(rt, alloc, path)).transpose()
 }
 
 // Does what is asked for over standard input and output, and answers the exit status.
 fn done<R: Runtime + Threads + Wait + Sync>(
     host: &Host<'_, R>,
-    options: Options<'_>,
     asked: Asked<'_>,
 ) -> Result<u8, ShellFault>
-    requires least { 0 < options.workers }
-    requires most { options.workers ≤ 32 }
+    requires least { 0 < host.now.options.workers }
+    requires most { host.now.options.workers ≤ 32 }
 {
     let mut writer = io::writer(host.rt);
     match asked {
-        Asked::Check { file } => check(host.alloc, file, options, &mut writer),
+        Asked::Check { file } => check(host.alloc, file, host.options, &mut writer),
         Asked::Hunt {
             file,
             seeds,
@@ -66,13 +62,16 @@ fn done<R: Runtime + Threads + Wait + Sync>(
                 steps,
                 expected,
             };
-            hunt(host, options, search, &mut writer)
+            hunt(host, search, &mut writer)
         }
-        Asked::Notes { .. } => explain(host.alloc, options, &mut host.rt.reader(), &mut writer),
-        Asked::Script { cone, .. } => {
-            keep(host, options, cone, &mut host.rt.reader(), &mut writer)
-        }
-        Asked::Draw { .. } => draw(host, options, &mut host.rt.reader(), &mut writer),
+        Asked::Notes { .. } => explain(
+            host.alloc,
+            host.options,
+            &mut host.rt.reader(),
+            &mut writer,
+        ),
+        Asked::Script { cone, .. } => keep(host, cone, &mut host.rt.reader(), &mut writer),
+        Asked::Draw { .. } => draw(host, &mut host.rt.reader(), &mut writer),
     }
 }
 
@@ -93,7 +92,8 @@ fn outcome_of<R: Runtime + Threads + Wait + Sync>(
         workers: words.workers,
         source: source.as_ref().map(|bytes| bytes.as_slice()),
     };
-    match done(&Host { rt, alloc }, options, words.asked) {
+    let host = Host { rt, alloc, options };
+    match done(&host, words.asked) {
         Ok(status) => Outcome::Ran(status),
         Err(fault) => Outcome::Fault(fault),
     }

@@ -23,11 +23,12 @@ const REFUSED: u8 = 1;
 // The exit status where a script does not lead where it is to lead.
 const BROKEN: u8 = 3;
 
-/// Where a subcommand runs.
+/// Where a subcommand runs, and what it is told besides its input.
 #[derive(Drop)]
 pub(crate) struct Host<'a, H> {
     pub(crate) rt: &'a H,
     pub(crate) alloc: Global,
+    pub(crate) options: Options<'a>,
 }
 
 /// Says whether a source is accepted, and else why not.
@@ -84,22 +85,19 @@ fn unescaped(alloc: Global, text: &str) -> Result<Vec<u8>, AllocError> {
 
 // What the program is to print, where that is told.
 fn wanted(alloc: Global, expected: Option<&str>) -> Result<Option<Vec<u8>>, AllocError> {
-    match expected {
-        Some(text) => Ok(Some(unescaped(alloc, text)?)),
-        None => Ok(None),
-    }
+    expected.map(|text| unescaped(alloc, text)).transpose()
 }
 
 /// Tries schedules by chance, and writes the first that is bad, made short.
 pub(crate) fn hunt<H: Runtime + Threads + Wait + Sync, W: Write>(
     host: &Host<'_, H>,
-    options: Options<'_>,
     search: Search<'_>,
     writer: &mut W,
 ) -> Result<u8, ShellFault>
-    requires least { 0 < options.workers }
-    requires most { options.workers ≤ 32 }
+    requires least { 0 < host.now.options.workers }
+    requires most { host.now.options.workers ≤ 32 }
 {
+    let options = host.options;
     let wanted = wanted(host.alloc, search.expected)?;
     let aims = Aims {
         workers: options.workers,
@@ -138,10 +136,8 @@ fn report_on<W: Write>(
 
 // Whether the first answer says that the program ended.
 fn has_ended(printed: &Vec<u8>) -> bool {
-    match printed.split(|byte| *byte == b'\n').next() {
-        Some(line) => line.ends_with(b" ended"),
-        None => false,
-    }
+    let first = printed.split(|byte| *byte == b'\n').next();
+    first.is_some_and(|line| line.ends_with(b" ended"))
 }
 
 /// Passes answers on, with words behind them.
@@ -158,17 +154,16 @@ pub(crate) fn explain<R: Read, W: Write>(
 /// Writes the steps that a session leaves as a script, or those of a cone.
 pub(crate) fn keep<H: Runtime + Threads + Wait + Sync, R: Read, W: Write>(
     host: &Host<'_, H>,
-    options: Options<'_>,
     serial: Option<u64>,
     reader: &mut R,
     writer: &mut W,
 ) -> Result<u8, ShellFault>
-    requires least { 0 < options.workers }
-    requires most { options.workers ≤ 32 }
+    requires least { 0 < host.now.options.workers }
+    requires most { host.now.options.workers ≤ 32 }
 {
     let kept = match serial {
-        Some(serial) => cone(host.rt, host.alloc, reader, options, serial),
-        None => script(host.rt, host.alloc, reader, options),
+        Some(serial) => cone(host.rt, host.alloc, reader, host.options, serial),
+        None => script(host.rt, host.alloc, reader, host.options),
     };
     match kept {
         Ok(Script::Steps(text)) => written(writer, &text, DONE),
@@ -184,14 +179,13 @@ pub(crate) fn keep<H: Runtime + Threads + Wait + Sync, R: Read, W: Write>(
 /// Draws what a session leaves.
 pub(crate) fn draw<H: Threads + Wait + Sync, R: Read, W: Write>(
     host: &Host<'_, H>,
-    options: Options<'_>,
     reader: &mut R,
     writer: &mut W,
 ) -> Result<u8, ShellFault>
-    requires least { 0 < options.workers }
-    requires most { options.workers ≤ 32 }
+    requires least { 0 < host.now.options.workers }
+    requires most { host.now.options.workers ≤ 32 }
 {
-    match page(host.rt, host.alloc, reader, options) {
+    match page(host.rt, host.alloc, reader, host.options) {
         Ok(Page::Drawn(text)) => written(writer, &text, DONE),
         Ok(Page::Refused(line)) => written(writer, &line, REFUSED),
         Err(fault) => Err(behind(fault)),

@@ -60,10 +60,14 @@ help: leave it out; a variable of a function becomes a global
 #[test]
 fn keeps_the_steps_of_a_session(rt: HostRuntime) {
     let alloc = rt.alloc();
-    let host = Host { rt: &rt, alloc };
+    let host = Host {
+        rt: &rt,
+        alloc,
+        options: options(RACE),
+    };
     let mut text = Vec::new(alloc);
     let mut reader = LOST.as_bytes();
-    let done = keep(&host, options(RACE), None, &mut reader, &mut text);
+    let done = keep(&host, None, &mut reader, &mut text);
     let wanted =
         "step 0\nstep 0\nstep 1\nstep 0\nstep 1\nstep 0\nstep 0\nstep 0\nstep 1\nstep 1\nstep 1\n";
     assert_eq!(rt; text_of(&text), wanted);
@@ -73,10 +77,14 @@ fn keeps_the_steps_of_a_session(rt: HostRuntime) {
 #[test]
 fn lists_a_cone(rt: HostRuntime) {
     let alloc = rt.alloc();
-    let host = Host { rt: &rt, alloc };
+    let host = Host {
+        rt: &rt,
+        alloc,
+        options: options(RACE),
+    };
     let mut text = Vec::new(alloc);
     let mut reader = LOST.as_bytes();
-    let done = keep(&host, options(RACE), Some(5), &mut reader, &mut text);
+    let done = keep(&host, Some(5), &mut reader, &mut text);
     let wanted = "#5 worker 1 line 6
 #8 worker 0 line 6
 #9 worker 1 line 6
@@ -119,7 +127,11 @@ x = 1
 #[test]
 fn finds_a_lost_update(rt: HostRuntime) -> Result<(), Fail> {
     let alloc = rt.alloc();
-    let host = Host { rt: &rt, alloc };
+    let host = Host {
+        rt: &rt,
+        alloc,
+        options: options(RACE),
+    };
     let mut text = Vec::new(alloc);
     let search = Search {
         file: "a.c",
@@ -127,7 +139,7 @@ fn finds_a_lost_update(rt: HostRuntime) -> Result<(), Fail> {
         steps: 1_000,
         expected: Some("2\\n"),
     };
-    let done = hunt(&host, options(RACE), search, &mut text);
+    let done = hunt(&host, search, &mut text);
     let (_, script) = text_of(&text)
         .split_once("\n\n")
         .unwrap_or(("nothing was found", ""));
@@ -139,7 +151,11 @@ fn finds_a_lost_update(rt: HostRuntime) -> Result<(), Fail> {
 #[test]
 fn says_that_nothing_was_compared(rt: HostRuntime) {
     let alloc = rt.alloc();
-    let host = Host { rt: &rt, alloc };
+    let host = Host {
+        rt: &rt,
+        alloc,
+        options: options("int main(void){ while (1) ; }"),
+    };
     let mut text = Vec::new(alloc);
     let search = Search {
         file: "a.c",
@@ -147,12 +163,7 @@ fn says_that_nothing_was_compared(rt: HostRuntime) {
         steps: 10,
         expected: None,
     };
-    let done = hunt(
-        &host,
-        options("int main(void){ while (1) ; }"),
-        search,
-        &mut text,
-    );
+    let done = hunt(&host, search, &mut text);
     assert!(rt; text_of(&text).ends_with("say by --expect what is to be printed\n"));
     assert!(rt; matches!(done, Ok(0)));
 }
