@@ -4,14 +4,13 @@ ghost use Rattle.std.specs.Prelude.{◌≡◌, ◌<◌, ◌+◌, ◌^◌, [], �
 ghost use Rattle.om_cells.specs.declared.control.Context as PlainContexts;
 ghost use Rattle.om_cells.specs.declared.control.Control.TheVariants as plain;
 ghost use Rattle.om_cells.specs.Edits.{context_at, frame_begun, value_given, edited, Counts};
-ghost use Rattle.om_live.specs.Plain.{plain_context, stack_of};
+ghost use Rattle.om_live.specs.Plain.{plain_context, plain_frame, stack_of};
 ghost use Rattle.om_live.specs.Inverses.{turned_back, CanTurnBack, TurnsContext};
 
-use crate::control::{Context, Inverse};
+use crate::control::{Context, Frame, Inverse};
 use crate::frame::new_frame;
-use om_cells::{Construct, Edit, Home, Shared};
+use om_cells::{Construct, Edit, Shared};
 use om_code::frame::Operand;
-use om_seq::Seq;
 use std::alloc::{AllocError, Global};
 
 impl Context {
@@ -35,24 +34,30 @@ impl Context {
         }
     }
 
-    /// The running frame goes to a place, with so many operands taken, and waits there for a new
-    /// frame, which runs. When out of memory, nothing changes.
+    /// The running frame goes to a place, with so many operands taken, and waits there for the next
+    /// frame, at its first instruction, which runs. When out of memory, nothing changes.
     pub fn begin_frame(
         &mut self,
-        alloc: Global,
         to: u32,
         takes: u32,
-        body: u32,
-        homes: Shared<Seq<Home>>,
+        frame: Box<Frame>,
     ) -> Result<Inverse, AllocError>
-        requires { self.old.frames + 1 < 2 ^ 64 }
+        requires counts { self.old.frames + 1 < 2 ^ 64 }
+        requires next { plain_frame frame.value
+            ≡ record {
+              body = frame.value.body;
+              next = 0;
+              ordinal = self.old.frames;
+              operands = [];
+              homes = frame.value.homes;
+            } }
         ensures changed { OnOk result (plain_context self.new
-            ≡ frame_begun body homes (context_at to takes None (plain_context self.old))) }
+            ≡ frame_begun frame.value.body frame.value.homes
+            (context_at to takes None (plain_context self.old))) }
         ensures can { IfOk result (λ i. CanTurnBack i self.new) }
         ensures back { IfOk result (λ i. turned_back i self.new ≡ self.old) }
         ensures unchanged_on_error { OnErr result (self.new ≡ self.old) }
     {
-        let frame = new_frame(alloc, body, self.frames, homes)?;
         let passed = self.frame.pass(to, takes);
         match self.callers.push_under(frame, &mut self.frame) {
             Ok(over) => {
@@ -151,7 +156,10 @@ impl Context {
                 takes,
                 body,
                 homes,
-            } => self.begin_frame(alloc, to, takes, body, homes),
+            } => {
+                let frame = new_frame(alloc, body, self.frames, homes)?;
+                self.begin_frame(to, takes, frame)
+            }
             Edit::EndFrame(value) => self.end_frame(value),
             Edit::Open(construct) => self.open(construct),
             Edit::Close => Ok(self.close()),

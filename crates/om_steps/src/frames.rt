@@ -132,28 +132,36 @@ fn reduced(
     }
 }
 
+/// A copy of a reduction that is combined with its original.
+#[derive(Clone, Copy)]
+pub struct Combining {
+    pub reduction: Reduction,
+    /// The slot of the copy.
+    pub copy: u32,
+    pub original: Place,
+}
+
 /// RED: the copy in a slot is combined with its original, in one step.
 pub fn reduce(
     alloc: Global,
     store: &Store,
     context: &Context,
-    reduction: Reduction,
-    operands: (u32, Place),
+    combining: Combining,
 ) -> Result<Answer, AllocError>
     requires { (plain_context context.now).frame.next + 1 < 2 ^ 32 }
     ensures { IfOk result
         (λ answer. answer ≡ answered
-        (reduce_row (plain_context context.now) reduction operands.0 operands.1)
+        (reduce_row (plain_context context.now) combining.reduction combining.copy
+        combining.original)
         (state_of store.now)) }
 {
-    let (copy, place) = operands;
-    let copy = &read(object_of(context, Place::Slot(copy), 0));
-    let original = &write(object_of(context, place, 0));
+    let copy = &read(object_of(context, Place::Slot(combining.copy), 0));
+    let original = &write(object_of(context, combining.original, 0));
     let to = context.frame.next + 1;
     let row = reduced(
         alloc,
         to,
-        reduction,
+        combining.reduction,
         store.cell(alloc, &copy.object),
         store.cell(alloc, &original.object),
     )?;

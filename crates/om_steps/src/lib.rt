@@ -12,6 +12,6 @@ pub mod row;
 pub mod updates;
 
 pub use acts::serial;
-pub use frames::{call, give_back, number, reduce};
+pub use frames::{Combining, call, give_back, number, reduce};
 pub use parts::At;
 pub use row::{Answer, Launch, Row};

@@ -25,7 +25,7 @@ use om_share::{
     leave_critical, masked, open_loop, open_sections, pick, single,
 };
 use om_steps::names::operands_of;
-use om_steps::{Answer, At, Launch, Row};
+use om_steps::{Answer, At, Combining, Launch, Row};
 use std::alloc::{AllocError, Global};
 
 /// A worker of so many that carries out an instruction.
@@ -129,7 +129,15 @@ fn frame_answer(
             reduction,
             copy,
             place,
-        } => om_steps::reduce(alloc, store, context, reduction, (copy, place)),
+        } => {
+            let original = place;
+            let combining = Combining {
+                reduction,
+                copy,
+                original,
+            };
+            om_steps::reduce(alloc, store, context, combining)
+        }
         _ => Ok(Answer::decided(alloc, Row::Lacks)),
     }
 }
