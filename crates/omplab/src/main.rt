@@ -41,7 +41,7 @@ fn source_in<R: Files>(
 
 // Does what is asked for over standard input and output, and answers the exit status.
 fn done<R: Runtime + Threads + Wait + Sync>(
-    host: &Host<'_, R>,
+    host: &Host<'_, '_, R>,
     asked: Asked<'_>,
 ) -> Result<u8, ShellFault>
     requires least { 0 < host.now.options.workers }

@@ -25,10 +25,10 @@ const BROKEN: u8 = 3;
 
 /// Where a subcommand runs, and what it is told besides its input.
 #[derive(Drop)]
-pub(crate) struct Host<'a, H> {
+pub(crate) struct Host<'a, 'b, H> {
     pub(crate) rt: &'a H,
     pub(crate) alloc: Global,
-    pub(crate) options: Options<'a>,
+    pub(crate) options: Options<'b>,
 }
 
 /// Says whether a source is accepted, and else why not.
@@ -90,7 +90,7 @@ fn wanted(alloc: Global, expected: Option<&str>) -> Result<Option<Vec<u8>>, Allo
 
 /// Tries schedules by chance, and writes the first that is bad, made short.
 pub(crate) fn hunt<H: Runtime + Threads + Wait + Sync, W: Write>(
-    host: &Host<'_, H>,
+    host: &Host<'_, '_, H>,
     search: Search<'_>,
     writer: &mut W,
 ) -> Result<u8, ShellFault>
@@ -153,7 +153,7 @@ pub(crate) fn explain<R: Read, W: Write>(
 
 /// Writes the steps that a session leaves as a script, or those of a cone.
 pub(crate) fn keep<H: Runtime + Threads + Wait + Sync, R: Read, W: Write>(
-    host: &Host<'_, H>,
+    host: &Host<'_, '_, H>,
     serial: Option<u64>,
     reader: &mut R,
     writer: &mut W,
@@ -178,7 +178,7 @@ pub(crate) fn keep<H: Runtime + Threads + Wait + Sync, R: Read, W: Write>(
 
 /// Draws what a session leaves.
 pub(crate) fn draw<H: Threads + Wait + Sync, R: Read, W: Write>(
-    host: &Host<'_, H>,
+    host: &Host<'_, '_, H>,
     reader: &mut R,
     writer: &mut W,
 ) -> Result<u8, ShellFault>
