@@ -36,11 +36,11 @@ fn file<'a>(alloc: Global, is_required: bool) -> Arg<'a> {
         .action(ArgAction::Set)
 }
 
-// An option that takes a number from 1 on.
-fn number<'a>(alloc: Global, name: &'a str, help: &'a str) -> Arg<'a> {
+// An option that takes a number from 1 on, which the help calls by this letter.
+fn number<'a>(alloc: Global, name: &'a str, letter: &'a str, help: &'a str) -> Arg<'a> {
     Arg::new(alloc, name)
         .long(name)
-        .value_name("K")
+        .value_name(letter)
         .help(help)
         .action(ArgAction::Set)
         .value_parser(clap::value_parser!(u64).range(1..=1_000_000_000))
@@ -101,13 +101,14 @@ This is no exploration of all schedules and no race detector.",
 }
 
 fn seeds<'a>(alloc: Global) -> Arg<'a> {
-    number(alloc, "seeds", "How many schedules are tried").default_value("100")
+    number(alloc, "seeds", "K", "How many schedules are tried").default_value("100")
 }
 
 fn steps<'a>(alloc: Global) -> Arg<'a> {
     number(
         alloc,
         "steps",
+        "M",
         "How many steps chance makes at most, before `run` makes the others",
     )
     .default_value("100000")
