@@ -136,9 +136,9 @@ fn cone<'a>(alloc: Global) -> Arg<'a> {
     number(
         alloc,
         "cone",
+        "S",
         "Lists the steps that `roll S` would take back, in place of all",
     )
-    .value_name("S")
 }
 
 fn notes<'a>(alloc: Global) -> Result<Command<'a>, AllocError> {
