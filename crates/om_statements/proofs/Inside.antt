@@ -1,5 +1,5 @@
 -- What is in a statement is smaller than it, and has code where that does.
-use Rattle.std.proofs.Common.{◌≡◌, ◌<◌, ◌≤◌, suc, Bool, true, false, List, [], ◌∷◌, None, length, map, option_map}
+use Rattle.std.proofs.Common.{◌≡◌, ◌<◌, ◌≤◌, suc, All, Bool, true, false, List, [], ◌∷◌, None, length, map, option_map}
 use Rattle.std.proofs.Common.{add-one, refl, sym, ap, ◌∙◌, subst, arith}
 use Rattle.std.specs.Prelude.{IfSome, is_some}
 use Rattle.om_statements.specs.declared.spot.Spot.{Spot}
@@ -14,15 +14,18 @@ use Rattle.om_resolved.specs.declared.resolved.ResolvedStatement.TheViews.{sized
 use Rattle.om_resolved.specs.declared.resolved.ResolvedStatement.TheViews.{sized-Loop, sized-While}
 use Rattle.om_resolved.specs.ResolvedTree as trees
 use Rattle.om_resolved.specs.ResolvedTree.{ResolvedPartsTree, ResolvedStatementTree, ResolvedStatementsTree}
-use Rattle.om_resolved.specs.ResolvedView.{view_resolved_clause, view_resolved_expression, view_resolved_loop}
-use Rattle.om_resolved.specs.ResolvedView.{view_resolved_part, view_resolved_start, view_resolved_statement}
+use Rattle.om_resolved.specs.ResolvedView.{view_resolved_clause, view_resolved_declarator, view_resolved_expression}
+use Rattle.om_resolved.specs.ResolvedView.{view_resolved_loop, view_resolved_part, view_resolved_start}
+use Rattle.om_resolved.specs.ResolvedView.{view_resolved_statement, view_resolved_update}
 use Rattle.om_resolved.specs.Whole.{part_count}
 use Rattle.om_rows.specs.Bodies.{Numbers, behind}
-use Rattle.om_rows.specs.Coded.{AssignmentHasCode, EffectHasCode, LoopHasCode, PartsHaveCode, StartHasCode}
-use Rattle.om_rows.specs.Coded.{StatementHasCode, StatementsHaveCode, ValueHasCode}
+use Rattle.om_rows.specs.Coded.{AssignmentHasCode, DeclaratorHasCode, EffectHasCode, LoopHasCode, PartsHaveCode}
+use Rattle.om_rows.specs.Coded.{StartHasCode, StatementHasCode, StatementsHaveCode, UpdateHasCode, ValueHasCode}
 use Rattle.om_rows.specs.declared.numbers.Numbers as tables
-use Rattle.om_statements.proofs.Views.{view_construct, view_do, view_for, view_if, view_if_else, view_loop, view_sections}
-use Rattle.om_statements.proofs.Views.{view_while}
+use Rattle.om_rows.specs.Statements.{clause_value}
+use Rattle.om_statements.proofs.Views.{view_break, view_construct, view_continue, view_declaration, view_do}
+use Rattle.om_statements.proofs.Views.{view_expression, view_for, view_if, view_if_else, view_loop, view_parallel}
+use Rattle.om_statements.proofs.Views.{view_return, view_sections, view_update, view_while}
 
 -- ---- smaller
 
@@ -71,6 +74,41 @@ construct_inside tree x at kind clauses s is same =
     omega (arith, ap size-ResolvedStatement is, sized-Construct at kind clauses s, ap size-ResolvedStatement same)
 
 -- ---- code
+
+pub declaration_code : (breaks continues : Bool) (tree : ResolvedStatement) (at : _) (ds : _) → tree ≡ v.Declaration at ds
+    → StatementHasCode breaks continues (view_resolved_statement tree) → All DeclaratorHasCode (map view_resolved_declarator ds.items)
+declaration_code breaks continues tree at ds is code =
+    subst (λ z. StatementHasCode breaks continues z) (ap view_resolved_statement is ∙ view_declaration at ds) code
+
+pub expression_code : (breaks continues : Bool) (tree : ResolvedStatement) (at : _) (e : _) → tree ≡ v.Expression at e
+    → StatementHasCode breaks continues (view_resolved_statement tree) → EffectHasCode (view_resolved_expression e)
+expression_code breaks continues tree at e is code =
+    subst (λ z. StatementHasCode breaks continues z) (ap view_resolved_statement is ∙ view_expression at e) code
+
+pub return_code : (breaks continues : Bool) (tree : ResolvedStatement) (at : _) (e : _) → tree ≡ v.Return at e
+    → StatementHasCode breaks continues (view_resolved_statement tree) → IfSome (option_map view_resolved_expression e) ValueHasCode
+return_code breaks continues tree at e is code =
+    subst (λ z. StatementHasCode breaks continues z) (ap view_resolved_statement is ∙ view_return at e) code
+
+pub break_code : (breaks continues : Bool) (tree : ResolvedStatement) (at : _) → tree ≡ v.Break at
+    → StatementHasCode breaks continues (view_resolved_statement tree) → breaks ≡ true
+break_code breaks continues tree at is code =
+    subst (λ z. StatementHasCode breaks continues z) (ap view_resolved_statement is ∙ view_break at) code
+
+pub continue_code : (breaks continues : Bool) (tree : ResolvedStatement) (at : _) → tree ≡ v.Continue at
+    → StatementHasCode breaks continues (view_resolved_statement tree) → continues ≡ true
+continue_code breaks continues tree at is code =
+    subst (λ z. StatementHasCode breaks continues z) (ap view_resolved_statement is ∙ view_continue at) code
+
+pub update_code : (breaks continues : Bool) (tree : ResolvedStatement) (at : _) (u : _) → tree ≡ v.Update at u
+    → StatementHasCode breaks continues (view_resolved_statement tree) → UpdateHasCode (view_resolved_update u.value)
+update_code breaks continues tree at u is code =
+    subst (λ z. StatementHasCode breaks continues z) (ap view_resolved_statement is ∙ view_update at u) code
+
+pub parallel_code : (breaks continues : Bool) (tree : ResolvedStatement) (at : _) (clauses : _) (captures : _) (s : _) → tree ≡ v.Parallel at clauses captures s
+    → StatementHasCode breaks continues (view_resolved_statement tree) → IfSome (clause_value (map view_resolved_clause clauses.items)) ValueHasCode
+parallel_code breaks continues tree at clauses captures s is code =
+    subst (λ z. StatementHasCode breaks continues z) (ap view_resolved_statement is ∙ view_parallel at clauses captures s) code
 
 pub if_code : (breaks continues : Bool) (tree : ResolvedStatement) (at : _) (c : _) (s : _) → tree ≡ v.If at c s
     → StatementHasCode breaks continues (view_resolved_statement tree)
