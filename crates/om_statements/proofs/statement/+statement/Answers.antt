@@ -33,7 +33,8 @@ use Rattle.om_statements.proofs.PartLists.{onward_parts_done, opens_are, parts_a
 use Rattle.om_statements.proofs.SectionsRow.{emits_sections, labels_are}
 use Rattle.om_rows.specs.Coded.{DeclaratorHasCode, EffectHasCode, LoopHasCode, StartHasCode, UpdateHasCode}
 use Rattle.om_rows.specs.Coded.{ValueHasCode}
-use Rattle.om_statements.proofs.Inside.{atomic_ends, break_code, code_here, continue_code, declaration_code, do_code}
+use Rattle.om_statements.proofs.Inside.{atomic_code, atomic_emits, atomic_ends, begin_code, break_code, code_here}
+use Rattle.om_statements.proofs.Inside.{continue_code, declaration_code, do_code}
 use Rattle.om_statements.proofs.Inside.{expression_code, for_code, if_code, if_else_code, loop_code, parallel_code}
 use Rattle.om_statements.proofs.Inside.{parts_code_here, return_code, sections_few, update_code, while_code}
 use Rattle.om_statements.proofs.Within.{block_within, construct_within, do_within, else_within, for_within, if_within}
@@ -46,6 +47,7 @@ use Rattle.om_statements.proofs.Scoped.{construct_stands, do_scopes, for_scopes,
 use Rattle.om_statements.proofs.Scoped.{loop_scopes_clauses, part_scopes_are, part_scopes_done, part_scopes_next}
 use Rattle.om_statements.proofs.Scoped.{part_stands, scopes_are, sections_scopes, sections_scopes_clauses, while_scopes}
 use Rattle.om_statements.specs.declared.writing.ScopeStack.{ScopeStack}
+use Rattle.om_statements.specs.Emits.{EmitsStatement}
 use Rattle.om_statements.specs.Parts.{AreFree}
 use Rattle.om_statements.specs.Scoped.{ScopesStand}
 use Rattle.om_statements.specs.Scoping.{scopes_begin, stand_block, stand_plain}
@@ -848,3 +850,61 @@ statement-begin_worksharing-requires t c =
 pub statement-define-requires : goal.statement-define-requires
 statement-define-requires t c =
     free_with _ _ _ _ _ c.in_ok-end-in-If.ensures.free c.in_ok-after-in-If.ensures.emitted
+
+pub statement-begin_construct-requires : goal.statement-begin_construct-requires
+statement-begin_construct-requires t c =
+    begin_code _ _ c.args.tree.now c.in-Construct.at c.in-Construct.kind c.in-Construct.clauses c.in-Construct.body _
+    (no_atomic c.in-Construct.kind c.in_default.not-Atomic) c.in-Construct.is c.as_slice-in-Construct.ensures.value
+    c.requires.code
+
+pub statement-assignment-requires : goal.statement-assignment-requires
+statement-assignment-requires t c =
+    atomic_code _ _ c.args.tree.now _ c.in-Construct.at c.in-Construct.kind c.in-Construct.clauses c.in-Construct.body
+    c.in-Construct.is c.in-Atomic.is c.deref-in-Atomic.ensures c.requires.code
+
+-- ---- what is left of `sections`, `atomic` and the empty statement
+
+pub statement-returns-in_ok-end-in-Sections-clause-behind : goal.statement-returns-in_ok-end-in-Sections-clause-behind
+statement-returns-in_ok-end-in-Sections-clause-behind t c =
+    let n = numbers_of c.args.spot.numbers in
+    c.in_ok-after-in-Sections.ensures.behind
+    ∙ ap (λ m. rows.behind_parts m (trees.parts (map view_resolved_part c.as_slice-in-Sections-3.result.now)))
+    c.in_ok-inside-in-Sections.ensures.code.numbers
+    ∙ ap (λ xs. rows.behind_parts (rows.next_pick n) (trees.parts (map view_resolved_part xs)))
+    c.as_slice-in-Sections-3.ensures.value
+    ∙ ap (λ z. rows.behind n z) (sym (ap view_resolved_statement c.in-Sections.is ∙ view_sections c.in-Sections.at
+    c.in-Sections.clauses c.in-Sections.nowait c.in-Sections.sections))
+
+pub statement-returns-in-Atomic-clause-emitted : goal.statement-returns-in-Atomic-clause-emitted
+statement-returns-in-Atomic-clause-emitted t c =
+    let names = numbered_by c.args.tables.now in
+    let n = numbers_of c.args.spot.numbers in
+    let clauses = map view_resolved_clause c.in-Construct.clauses.items in
+    let s = view_resolved_statement c.deref-in-Atomic.result.now in
+    statement_is names n _ _ c.args.spot.jumps _ _
+    (ap (λ k. trees.Construct c.in-Construct.at k clauses s) (sym c.in-Atomic.is)
+    ∙ ap (λ z. trees.Construct c.in-Construct.at c.in-Construct.kind clauses (view_resolved_statement z))
+    c.deref-in-Atomic.ensures
+    ∙ sym (ap view_resolved_statement c.in-Construct.is ∙ view_construct c.in-Construct.at c.in-Construct.kind
+    c.in-Construct.clauses c.in-Construct.body))
+    (atomic_emits names n c.in-Construct.at clauses s c.args.spot.jumps _ _
+    (atomic_code _ _ c.args.tree.now _ c.in-Construct.at c.in-Construct.kind c.in-Construct.clauses
+    c.in-Construct.body c.in-Construct.is c.in-Atomic.is c.deref-in-Atomic.ensures c.requires.code)
+    c.in_ok-assignment-in-Construct.ensures)
+
+-- nothing is written
+empty_emits : (names : Numbered) (n : rows.Numbers) (jumps : JumpLabels) (tree : ResolvedStatement) (first : Span)
+    (draft : Written) → tree ≡ v.Empty first → EmitsStatement names n (view_resolved_statement tree) jumps draft draft
+empty_emits names n jumps tree first draft is =
+    statement_is names n (trees.Empty first) _ jumps draft draft (sym (ap view_resolved_statement is ∙ view_empty first))
+    (with_none _ _ _ _ (goes_end (length draft.places) draft))
+
+pub statement-returns-in-Empty-clause-emitted : goal.statement-returns-in-Empty-clause-emitted
+statement-returns-in-Empty-clause-emitted t c =
+    empty_emits (numbered_by c.args.tables.now) (numbers_of c.args.spot.numbers) c.args.spot.jumps _ _
+    c.args.writing.now.draft c.in-Empty.is
+
+pub statement-returns-in-Empty-clause-behind : goal.statement-returns-in-Empty-clause-behind
+statement-returns-in-Empty-clause-behind t c =
+    ap (λ z. rows.behind (numbers_of c.args.spot.numbers) z)
+    (sym (ap view_resolved_statement c.in-Empty.is ∙ view_empty _))
