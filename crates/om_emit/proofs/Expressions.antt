@@ -1,15 +1,16 @@
 -- The code of expressions, row by row.
-use Rattle.std.proofs.Common.{◌≡◌, ℕ, Bool, List, length, Option, Some, None, subst, arith}
+use Rattle.std.proofs.Common.{◌≡◌, ℕ, Bool, List, [], ◌∷◌, length, Option, Some, None, subst, arith}
 use Rattle.om_code.specs.declared.instruction.BinaryOperator as machine
 use Rattle.om_code.specs.declared.instruction.Instr.{Instr}
 use Rattle.om_code.specs.declared.instruction.Instr.TheVariants as i
+use Rattle.om_code.specs.declared.instruction.Place.{Place}
 use Rattle.om_emit.specs.declared.expression.Target.{Target}
 use Rattle.om_emit.specs.declared.single.Stepped.{Stepped}
-use Rattle.om_emit.specs.Drafts.{Written, moved, Puts}
+use Rattle.om_emit.specs.Drafts.{Written, moved, Puts, PutsAll}
 use Rattle.om_emit.specs.Emits.{Part, site, Emits, EmitsEffect, EmitsRow, EmitsValue, EmitsValues}
 use Rattle.om_emit.specs.Rests.{assignment, assignment_rest, binary_rest, call, element_rest, popped, postfix_rest}
 use Rattle.om_emit.specs.Rests.{print, stepped_rest, unary_rest}
-use Rattle.om_emit.specs.Writing.{goes_end, goes_put, goes_part, put_length}
+use Rattle.om_emit.specs.Writing.{all_ins, goes_end, goes_put, goes_put_all, goes_part, put_all_length, put_length}
 use Rattle.om_emit.proofs.Singles.{emits_one, emits_then, emits_as}
 use Rattle.om_resolved.specs.declared.resolved.UnaryOperator.{UnaryOperator}
 use Rattle.om_resolved.specs.declared.resolved.UnaryOperator.TheVariants as unaries
@@ -160,24 +161,23 @@ emits_set names l keeps x operator e a b c is h k =
     (emits_put names (λ at. value at l e) l (i.Store (place_of names.slots x) keeps) a b c h k)
 
 pub emits_compound : (names : Numbered) (l : ℕ) (keeps : Bool) (x : variables.Variable) (operator : AssignOperator)
-    (o : machine.BinaryOperator)
-    (e : ResolvedExpressionTree) (a b c d f : Written)
-    → Some o ≡ compound_of operator → Puts l (i.Load (place_of names.slots x)) a b → EmitsValue names l e b c
-    → Puts l (i.Binary o) c d
-    → Puts l (i.Store (place_of names.slots x) keeps) d f
-    → EmitsRow names (λ at. assignment at l keeps x operator e) a f
-emits_compound names l keeps x operator o e a b c d f is h1 h2 h3 h4 =
+    (o : machine.BinaryOperator) (at_x : Place)
+    (e : ResolvedExpressionTree) (a b c d : Written)
+    → Some o ≡ compound_of operator → at_x ≡ place_of names.slots x → Puts l (i.Load (place_of names.slots x)) a b
+    → EmitsValue names l e b c → PutsAll l (i.Binary o ∷ i.Store at_x keeps ∷ []) c d
+    → EmitsRow names (λ at. assignment at l keeps x operator e) a d
+emits_compound names l keeps x operator o at_x e a b c d is here h1 h2 h3 =
     let n = length a.places in
     let n1 = put_length l _ a b h1 in
-    let at_x = place_of names.slots x in
-    let r4 : Part = λ done at. ins (site names done) l (i.Store at_x keeps) ▸ end in
-    let r3 : Part = λ done at. ins (site names done) l (i.Binary o) ▸ r4 done at in
+    let place = place_of names.slots x in
+    let all : Place → List Instr = λ p. i.Binary o ∷ i.Store p keeps ∷ [] in
+    let r3 : Part = λ done at. all_ins (site names done) at l (all place) end in
     let r2 : Part = λ done at. part (value (site names done) l e) ▸ r3 done at in
-    subst (λ z. EmitsRow names (λ at. assigned at l keeps x z (value at l e)) a f) is
-    (goes_put names n l (i.Load at_x) r2 a b f h1
-    (goes_part n (λ done at. value (site names done) l e) r3 b c f (omega arith) h2
-    (goes_put names n l (i.Binary o) r4 c d f h3
-    (goes_put names n l (i.Store at_x keeps) (λ done at. end) d f f h4 (goes_end n f)))))
+    subst (λ z. EmitsRow names (λ at. assigned at l keeps x z (value at l e)) a d) is
+    (goes_put names n l (i.Load place) r2 a b d h1
+    (goes_part n (λ done at. value (site names done) l e) r3 b c d (omega arith) h2
+    (goes_put_all names n l (all place) (λ done at. end) c d d (subst (λ p. PutsAll l (all p) c d) here h3)
+    (goes_end n d))))
 
 pub emits_set_element : (names : Numbered) (l : ℕ) (keeps : Bool) (x : variables.Variable) (operator : AssignOperator)
     (e : ResolvedExpressionTree)
@@ -190,27 +190,25 @@ emits_set_element names l keeps x operator e a b c is h k =
     (emits_put names (λ at. value at l e) l (i.StoreElement (place_of names.slots x) keeps) a b c h k)
 
 pub emits_compound_element : (names : Numbered) (l : ℕ) (keeps : Bool) (x : variables.Variable)
-    (operator : AssignOperator) (o : machine.BinaryOperator)
-    (e : ResolvedExpressionTree) (a b c d f g : Written)
-    → Some o ≡ compound_of operator → Puts l i.Duplicate a b → Puts l (i.LoadElement (place_of names.slots x)) b c
-    → EmitsValue names l e c d
-    → Puts l (i.Binary o) d f → Puts l (i.StoreElement (place_of names.slots x) keeps) f g
-    → EmitsRow names (λ at. assignment_rest at l keeps x operator e) a g
-emits_compound_element names l keeps x operator o e a b c d f g is h1 h2 h3 h4 h5 =
+    (operator : AssignOperator) (o : machine.BinaryOperator) (at_x : Place)
+    (e : ResolvedExpressionTree) (a b c d : Written)
+    → Some o ≡ compound_of operator → at_x ≡ place_of names.slots x
+    → PutsAll l (i.Duplicate ∷ i.LoadElement at_x ∷ []) a b → EmitsValue names l e b c
+    → PutsAll l (i.Binary o ∷ i.StoreElement at_x keeps ∷ []) c d
+    → EmitsRow names (λ at. assignment_rest at l keeps x operator e) a d
+emits_compound_element names l keeps x operator o at_x e a b c d is here h1 h2 h3 =
     let n = length a.places in
-    let n1 = put_length l _ a b h1 in
-    let n2 = put_length l _ b c h2 in
-    let at_x = place_of names.slots x in
-    let r5 : Part = λ done at. ins (site names done) l (i.StoreElement at_x keeps) ▸ end in
-    let r4 : Part = λ done at. ins (site names done) l (i.Binary o) ▸ r5 done at in
-    let r3 : Part = λ done at. part (value (site names done) l e) ▸ r4 done at in
-    let r2 : Part = λ done at. ins (site names done) l (i.LoadElement at_x) ▸ r3 done at in
-    subst (λ z. EmitsRow names (λ at. element_rest at l keeps x z (value at l e)) a g) is
-    (goes_put names n l i.Duplicate r2 a b g h1
-    (goes_put names n l (i.LoadElement at_x) r3 b c g h2
-    (goes_part n (λ done at. value (site names done) l e) r4 c d g (omega arith) h3
-    (goes_put names n l (i.Binary o) r5 d f g h4
-    (goes_put names n l (i.StoreElement at_x keeps) (λ done at. end) f g g h5 (goes_end n g))))))
+    let n1 = put_all_length l _ a b h1 in
+    let place = place_of names.slots x in
+    let loaded : Place → List Instr = λ p. i.Duplicate ∷ i.LoadElement p ∷ [] in
+    let stored : Place → List Instr = λ p. i.Binary o ∷ i.StoreElement p keeps ∷ [] in
+    let r3 : Part = λ done at. all_ins (site names done) at l (stored place) end in
+    let r2 : Part = λ done at. part (value (site names done) l e) ▸ r3 done at in
+    subst (λ z. EmitsRow names (λ at. element_rest at l keeps x z (value at l e)) a d) is
+    (goes_put_all names n l (loaded place) r2 a b d (subst (λ p. PutsAll l (loaded p) a b) here h1)
+    (goes_part n (λ done at. value (site names done) l e) r3 b c d (omega arith) h2
+    (goes_put_all names n l (stored place) (λ done at. end) c d d (subst (λ p. PutsAll l (stored p) c d) here h3)
+    (goes_end n d))))
 
 -- ---- another name for the tree
 

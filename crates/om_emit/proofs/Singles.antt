@@ -1,16 +1,17 @@
 -- What a few instructions in a row are.
-use Rattle.std.proofs.Common.{◌≡◌, ℕ, ◌+◌, ℤ, pos, Bool, length, Some, refl, subst, arith}
+use Rattle.std.proofs.Common.{◌≡◌, ◌<◌, ℕ, ◌+◌, ℤ, pos, Bool, List, [], ◌∷◌, length, Some, refl, subst, arith}
 use Rattle.om_code.specs.declared.instruction.BinaryOperator as machine
 use Rattle.om_code.specs.declared.instruction.Instr.{Instr}
 use Rattle.om_code.specs.declared.instruction.Instr.TheVariants as i
-use Rattle.om_emit.specs.Drafts.{Labels, Written, moved, Puts}
+use Rattle.om_code.specs.declared.instruction.Place.{Place}
+use Rattle.om_emit.specs.Drafts.{Labels, Written, moved, Defines, Puts, PutsAll}
 use Rattle.om_emit.specs.Emits.{Finished, Part, site, Goes, Emits, EmitsRow}
-use Rattle.om_emit.specs.Rests.{element_rest, stepped, stepped_rest}
-use Rattle.om_emit.specs.Writing.{goes_end, goes_put, goes_part, goes_as}
+use Rattle.om_emit.specs.Rests.{element_rest, stepped, stepped_rest, truth_row}
+use Rattle.om_emit.specs.Writing.{all_ins, goes_end, goes_put, goes_put_all, goes_part, goes_here, goes_less, goes_as}
 use Rattle.om_resolved.specs.declared.resolved.Variable as variables
 use Rattle.om_rows.specs.Expressions.{assigned, constant, stepped_back}
 use Rattle.om_rows.specs.Operators.{step_of, inverse_step_of}
-use Rattle.om_rows.specs.Rows.{end, ins, part, ◌▸◌}
+use Rattle.om_rows.specs.Rows.{end, ins, part, here, ◌▸◌}
 use Rattle.om_rows.specs.Slots.{place_of}
 use Rattle.om_rows.specs.Numbered.{Numbered}
 use Rattle.om_tree.specs.declared.tree.PostfixOperator.{PostfixOperator}
@@ -21,93 +22,74 @@ pub emits_one : (names : Numbered) (l : ℕ) (x : Instr) (a b : Written) → Put
 emits_one names l x a b h = goes_put names (length a.places) l x (λ done at. end) a b b h (goes_end
     (length a.places) b)
 
+-- several instructions of one line
+pub emits_all : (names : Numbered) (l : ℕ) (xs : List Instr) (a b : Written) → PutsAll l xs a b
+    → Emits (λ done at. all_ins (site names done) at l xs end) a b
+emits_all names l xs a b h = goes_put_all names (length a.places) l xs (λ done at. end) a b b h (goes_end
+    (length a.places) b)
+
+-- the same under another form of the row
+pub emits_as : (r s : Part) (a c : Written) → ((done : Finished) (at : Labels) (p q : ℕ) → r done at p q
+    → s done at p q)
+    → Emits r a c → Emits s a c
+emits_as r s a c f e = goes_as (length a.places) r s a c f e
+
 -- the number as it was read
 pub emits_constant : (names : Numbered) (l : ℕ) (c read : ℤ) (a b : Written) → read ≡ c → Puts l (i.Constant read) a b
     → EmitsRow names (λ at. constant at l c) a b
 emits_constant names l c read a b is h =
     subst (λ z. EmitsRow names (λ at. constant at l z) a b) is (emits_one names l (i.Constant read) a b h)
 
--- one instruction, which is a part
-goes_constant : (names : Numbered) (n l : ℕ) (c : ℤ) (r : Part) (a b d : Written) → Puts l (i.Constant c) a b
-    → Goes n r b d
-    → Goes n (λ done at. part (constant (site names done) l c) ▸ r done at) a d
-goes_constant names n l c r a b d h g =
-    goes_as n (λ done at. ins (site names done) l (i.Constant c)
-    ▸ r done at) _ a d (λ done at p q x. (p + 1, (x.0, refl), x.1))
-    (goes_put names n l (i.Constant c) r a b d h g)
-
 -- CONST 1, BIN
-emits_stepped_back : (names : Numbered) (l : ℕ) (o : machine.BinaryOperator) (a b c : Written)
-    → Puts l (i.Constant (pos 1)) a b → Puts l (i.Binary o) b c
-    → EmitsRow names (λ at. stepped_back at l o) a c
-emits_stepped_back names l o a b c h1 h2 =
-    let n = length a.places in
-    goes_put names n l (i.Constant (pos 1)) (λ done at. ins (site names done) l (i.Binary o) ▸ end) a b c h1
-    (goes_put names n l (i.Binary o) (λ done at. end) b c c h2 (goes_end n c))
+pub emits_old : (names : Numbered) (l : ℕ) (operator : PostfixOperator) (o : machine.BinaryOperator)
+    (a b : Written) → o ≡ inverse_step_of operator → PutsAll l (i.Constant (pos 1) ∷ i.Binary o ∷ []) a b
+    → EmitsRow names (λ at. stepped_back at l (inverse_step_of operator)) a b
+emits_old names l operator o a b is h =
+    subst (λ z. EmitsRow names (λ at. stepped_back at l z) a b) is (emits_all names l _ a b h)
 
 -- LOAD, CONST 1, BIN, STORE
-emits_step : (names : Numbered) (l : ℕ) (keeps : Bool) (x : variables.Variable) (o : machine.BinaryOperator)
-    (a b c d e : Written)
-    → Puts l (i.Load (place_of names.slots x)) a b → Puts l (i.Constant (pos 1)) b c → Puts l (i.Binary o) c d
-    → Puts l (i.Store (place_of names.slots x) keeps) d e
-    → EmitsRow names (λ at. assigned at l keeps x (Some o) (constant at l (pos 1))) a e
-emits_step names l keeps x o a b c d e h1 h2 h3 h4 =
-    let n = length a.places in
-    let at_x = place_of names.slots x in
-    let r4 : Part = λ done at. ins (site names done) l (i.Store at_x keeps) ▸ end in
-    let r3 : Part = λ done at. ins (site names done) l (i.Binary o) ▸ r4 done at in
-    let r2 : Part = λ done at. part (constant (site names done) l (pos 1)) ▸ r3 done at in
-    goes_put names n l (i.Load at_x) r2 a b e h1
-    (goes_constant names n l (pos 1) r3 b c e h2
-    (goes_put names n l (i.Binary o) r4 c d e h3
-    (goes_put names n l (i.Store at_x keeps) (λ done at. end) d e e h4 (goes_end n e))))
+pub emits_stepped : (names : Numbered) (l : ℕ) (keeps : Bool) (x : variables.Variable) (operator : PostfixOperator)
+    (o : machine.BinaryOperator) (at_x : Place) (a b : Written)
+    → o ≡ step_of operator → at_x ≡ place_of names.slots x
+    → PutsAll l (i.Load at_x ∷ i.Constant (pos 1) ∷ i.Binary o ∷ i.Store at_x keeps ∷ []) a b
+    → EmitsRow names (λ at. stepped at l keeps x operator) a b
+emits_stepped names l keeps x operator o at_x a b is here h =
+    let all : Place → List Instr = λ p. i.Load p ∷ i.Constant (pos 1) ∷ i.Binary o ∷ i.Store p keeps ∷ [] in
+    let place = place_of names.slots x in
+    subst (λ z. EmitsRow names (λ at. assigned at l keeps x (Some z) (constant at l (pos 1))) a b) is
+    (emits_as (λ done at. all_ins (site names done) at l (all place) end) _ a b
+    (λ done at p q r. (r.0, (p + 1 + 1, (r.1.0, refl), r.1.1)))
+    (emits_all names l (all place) a b (subst (λ p. PutsAll l (all p) a b) here h)))
 
 -- DUP, LOADX, CONST 1, BIN, STOREX
-emits_step_element : (names : Numbered) (l : ℕ) (keeps : Bool) (x : variables.Variable) (o : machine.BinaryOperator)
-    (a b c d e f : Written)
-    → Puts l i.Duplicate a b → Puts l (i.LoadElement (place_of names.slots x)) b c → Puts l (i.Constant (pos 1)) c d
-    → Puts l (i.Binary o) d e → Puts l (i.StoreElement (place_of names.slots x) keeps) e f
-    → EmitsRow names (λ at. element_rest at l keeps x (Some o) (constant at l (pos 1))) a f
-emits_step_element names l keeps x o a b c d e f h1 h2 h3 h4 h5 =
-    let n = length a.places in
-    let at_x = place_of names.slots x in
-    let r5 : Part = λ done at. ins (site names done) l (i.StoreElement at_x keeps) ▸ end in
-    let r4 : Part = λ done at. ins (site names done) l (i.Binary o) ▸ r5 done at in
-    let r3 : Part = λ done at. part (constant (site names done) l (pos 1)) ▸ r4 done at in
-    let r2 : Part = λ done at. ins (site names done) l (i.LoadElement at_x) ▸ r3 done at in
-    goes_put names n l i.Duplicate r2 a b f h1
-    (goes_put names n l (i.LoadElement at_x) r3 b c f h2
-    (goes_constant names n l (pos 1) r4 c d f h3
-    (goes_put names n l (i.Binary o) r5 d e f h4
-    (goes_put names n l (i.StoreElement at_x keeps) (λ done at. end) e f f h5 (goes_end n f)))))
-
--- the operator as it was looked up
-pub emits_stepped : (names : Numbered) (l : ℕ) (keeps : Bool) (x : variables.Variable) (operator : PostfixOperator)
-    (o : machine.BinaryOperator)
-    (a b c d e : Written) → o ≡ step_of operator
-    → Puts l (i.Load (place_of names.slots x)) a b → Puts l (i.Constant (pos 1)) b c → Puts l (i.Binary o) c d
-    → Puts l (i.Store (place_of names.slots x) keeps) d e
-    → EmitsRow names (λ at. stepped at l keeps x operator) a e
-emits_stepped names l keeps x operator o a b c d e is h1 h2 h3 h4 =
-    subst (λ z. EmitsRow names (λ at. assigned at l keeps x (Some z) (constant at l (pos 1))) a e) is
-    (emits_step names l keeps x o a b c d e h1 h2 h3 h4)
-
 pub emits_stepped_element : (names : Numbered) (l : ℕ) (keeps : Bool) (x : variables.Variable)
-    (operator : PostfixOperator) (o : machine.BinaryOperator)
-    (a b c d e f : Written) → o ≡ step_of operator
-    → Puts l i.Duplicate a b → Puts l (i.LoadElement (place_of names.slots x)) b c → Puts l (i.Constant (pos 1)) c d
-    → Puts l (i.Binary o) d e → Puts l (i.StoreElement (place_of names.slots x) keeps) e f
-    → EmitsRow names (λ at. stepped_rest at l keeps x operator) a f
-emits_stepped_element names l keeps x operator o a b c d e f is h1 h2 h3 h4 h5 =
-    subst (λ z. EmitsRow names (λ at. element_rest at l keeps x (Some z) (constant at l (pos 1))) a f) is
-    (emits_step_element names l keeps x o a b c d e f h1 h2 h3 h4 h5)
+    (operator : PostfixOperator) (o : machine.BinaryOperator) (at_x : Place) (a b : Written)
+    → o ≡ step_of operator → at_x ≡ place_of names.slots x
+    → PutsAll l (i.Duplicate ∷ i.LoadElement at_x ∷ i.Constant (pos 1) ∷ i.Binary o ∷ i.StoreElement at_x keeps ∷ []) a b
+    → EmitsRow names (λ at. stepped_rest at l keeps x operator) a b
+emits_stepped_element names l keeps x operator o at_x a b is here h =
+    let all : Place → List Instr =
+    λ p. i.Duplicate ∷ i.LoadElement p ∷ i.Constant (pos 1) ∷ i.Binary o ∷ i.StoreElement p keeps ∷ [] in
+    let place = place_of names.slots x in
+    subst (λ z. EmitsRow names (λ at. element_rest at l keeps x (Some z) (constant at l (pos 1))) a b) is
+    (emits_as (λ done at. all_ins (site names done) at l (all place) end) _ a b
+    (λ done at p q r. (r.0, (r.1.0, (p + 1 + 1 + 1, (r.1.1.0, refl), r.1.1.1))))
+    (emits_all names l (all place) a b (subst (λ p. PutsAll l (all p) a b) here h)))
 
-pub emits_old : (names : Numbered) (l : ℕ) (operator : PostfixOperator) (o : machine.BinaryOperator)
-    (a b c : Written) → o ≡ inverse_step_of operator
-    → Puts l (i.Constant (pos 1)) a b → Puts l (i.Binary o) b c
-    → EmitsRow names (λ at. stepped_back at l (inverse_step_of operator)) a c
-emits_old names l operator o a b c is h1 h2 =
-    subst (λ z. EmitsRow names (λ at. stepped_back at l z) a c) is (emits_stepped_back names l o a b c h1 h2)
+-- JZ f, CONST 1, JMP e, f: CONST 0, e:
+pub emits_truth : (names : Numbered) (l f e : ℕ) (a b c d g : Written) → f < e
+    → PutsAll l (i.JumpIfZero f ∷ i.Constant (pos 1) ∷ i.Jump e ∷ []) a b → Defines f b c
+    → Puts l (i.Constant (pos 0)) c d → Defines e d g
+    → Goes f (λ done at. truth_row (site names done) l (at f) (at e)) a g
+emits_truth names l f e a b c d g lt h1 h2 h3 h4 =
+    let r3 : Part = λ done at. here (at e) ▸ end in
+    let r2 : Part = λ done at. ins (site names done) l (i.Constant (pos 0)) ▸ r3 done at in
+    let r1 : Part = λ done at. here (at f) ▸ r2 done at in
+    goes_put_all names f l (i.JumpIfZero f ∷ i.Constant (pos 1) ∷ i.Jump e ∷ []) r1 a b g h1
+    (goes_here f f r2 b c g (omega arith) h2
+    (goes_put names f l (i.Constant (pos 0)) r3 c d g h3
+    (goes_here f e (λ done at. end) d g g (omega arith) h4
+    (goes_end f g))))
 
 -- ---- a part, and what stands behind it
 
@@ -116,18 +98,4 @@ pub emits_then : (r s : Part) (a b c : Written) → Emits r a b → Emits s b c
     → Emits (λ done at. part (r done at) ▸ s done at) a c
 emits_then r s a b c e f =
     goes_part (length a.places) r s a b c (omega arith) e
-    (record {
-      writes = f.writes;
-      keeps = record {
-        picks = f.keeps.picks;
-        more = f.keeps.more;
-        same =
-            λ l h. f.keeps.same l (omega (arith, e.keeps.more));
-      };
-    })
-
--- the same under another form of the row
-pub emits_as : (r s : Part) (a c : Written) → ((done : Finished) (at : Labels) (p q : ℕ) → r done at p q
-    → s done at p q)
-    → Emits r a c → Emits s a c
-emits_as r s a c f e = goes_as (length a.places) r s a c f e
+    (goes_less (length a.places) (length b.places) s b c e.keeps.more f)

@@ -55,6 +55,15 @@ pub record Puts (line : ℕ) (instruction : Instr) (old new : Written) : Type 0 
   pub places : new.places ≡ old.places
   pub picks : new.picks ≡ old.picks
 
+-- instructions of one line, one behind the other
+abbrev pub line_of : ℕ → Instr → Line
+line_of line instruction = record { instruction = instruction; line = line }
+
+pub record PutsAll (line : ℕ) (instructions : List Instr) (old new : Written) : Type 0 where
+  pub code : new.code ≡ old.code ++ map (line_of line) instructions
+  pub places : new.places ≡ old.places
+  pub picks : new.picks ≡ old.picks
+
 -- a label that stands nowhere yet
 pub record Fresh (label : ℕ) (old new : Written) : Type 0 where
   pub code : new.code ≡ old.code

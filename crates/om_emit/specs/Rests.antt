@@ -40,17 +40,19 @@ unary_rest at l unaries.Plus = end
 unary_rest at l unaries.Negate = ins at l (i.Unary unary.Negate) ▸ end
 unary_rest at l unaries.Not = ins at l (i.Unary unary.Not) ▸ end
 
+-- 1 where the value on top is not 0, and 0 where it is; what jumped to the label e goes on behind it
+abbrev pub truth_row : Site → ℕ → (f e : ℕ) → Row
+truth_row at l f e =
+    ins at l (i.JumpIfZero f) ▸ ins at l (i.Constant (pos 1)) ▸ ins at l (i.Jump e)
+    ▸ here f ▸ ins at l (i.Constant (pos 0)) ▸ here e ▸ end
+
 -- behind the left operand of an operator between two
 abbrev pub binary_rest : Site → ℕ → BinaryForm → ResolvedExpressionTree → Row
 binary_rest at l Both b = λ p q. (f e : ℕ) ×
-    (ins at l (i.JumpIfZero f) ▸ part (value at l b) ▸ ins at l (i.JumpIfZero f)
-    ▸ ins at l (i.Constant (pos 1)) ▸ ins at l (i.Jump e)
-    ▸ here f ▸ ins at l (i.Constant (pos 0)) ▸ here e ▸ end) p q
+    (ins at l (i.JumpIfZero f) ▸ part (value at l b) ▸ truth_row at l f e) p q
 binary_rest at l Either b = λ p q. (n f e : ℕ) ×
     (ins at l (i.JumpIfZero n) ▸ ins at l (i.Constant (pos 1)) ▸ ins at l (i.Jump e)
-    ▸ here n ▸ part (value at l b) ▸ ins at l (i.JumpIfZero f)
-    ▸ ins at l (i.Constant (pos 1)) ▸ ins at l (i.Jump e)
-    ▸ here f ▸ ins at l (i.Constant (pos 0)) ▸ here e ▸ end) p q
+    ▸ here n ▸ part (value at l b) ▸ truth_row at l f e) p q
 binary_rest at l (Plain operator) b = part (value at l b) ▸ ins at l (i.Binary operator) ▸ end
 
 -- behind the index of an assignment to an element

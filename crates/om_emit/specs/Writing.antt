@@ -1,15 +1,16 @@
 -- How a row is written from the left, an item at a time: what is written first, and what whoever goes on
 -- writes behind it.
 use Rattle.std.proofs.Common.{◌≡◌, ℕ, zero, suc, ◌+◌, ◌<◌, ◌≤◌, List, [], ◌∷◌, ◌++◌, length, Some, None, refl, ap, ◌∙◌}
-use Rattle.std.proofs.Common.{subst, arith, length-append}
+use Rattle.std.proofs.Common.{subst, arith, length-append, map, sym}
 use Rattle.std.specs.Prelude.{slice_get, slice_set}
+use Rattle.std.proofs.lemmas.List.{append_assoc, append-nil}
 use Rattle.std.proofs.lemmas.Option.{slice_get_within}
 use Rattle.om_code.specs.declared.instruction.Instr.{Instr}
-use Rattle.om_emit.specs.Drafts.{Labels, Written, moved, Puts, Fresh, Defines}
+use Rattle.om_emit.specs.Drafts.{Labels, Written, line_of, moved, Puts, PutsAll, Fresh, Defines}
 use Rattle.om_emit.specs.declared.draft.Pick.{Pick}
 use Rattle.om_emit.specs.Emits.{Finished, Part, site, Fits, Grows, Keeps, Goes, Emits}
 use Rattle.om_rows.specs.Numbered.{Numbered}
-use Rattle.om_rows.specs.Rows.{end, ins, part, here}
+use Rattle.om_rows.specs.Rows.{Site, Row, end, ins, part, here}
 
 -- ---- lists
 
@@ -156,6 +157,35 @@ goes_put names n l x r a b c h g = record {
               (omega (arith, len)) f)),
         )
 
+-- instructions of one line, one behind the other, and then the rest
+abbrev pub all_ins : Site → Labels → ℕ → List Instr → Row → Row
+all_ins s at l [] rest = rest
+all_ins s at l (x ∷ xs) rest = ins s l (moved at x) (all_ins s at l xs rest)
+
+pub goes_put_all : (names : Numbered) (n l : ℕ) (xs : List Instr) (r : Part) (a b c : Written) → PutsAll l xs a b
+    → Goes n r b c
+    → Goes n (λ done at. all_ins (site names done) at l xs (r done at)) a c
+goes_put_all names n l [] r a b c h g =
+    goes_noted n r a b c (record {
+      code = h.code ∙ append-nil a.code;
+      places = λ m y e. rw h.places e;
+      picks = λ m y e. rw h.picks e;
+      keeps = record {
+        picks = h.picks;
+        more = omega (arith, ap length h.places);
+        same = λ m lt. ap (λ s. slice_get s m) h.places;
+      };
+    }) g
+goes_put_all names n l (x ∷ xs) r a b c h g =
+    let first : Written = record { code = a.code ++ line_of l x ∷ []; places = a.places; picks = a.picks } in
+    goes_put names n l x (λ done at. all_ins (site names done) at l xs (r done at)) a first c
+    (record { code = refl; places = refl; picks = refl })
+    (goes_put_all names n l xs r first b c (record {
+      code = h.code ∙ sym (append_assoc a.code (line_of l x ∷ []) (map (line_of l) xs));
+      places = h.places;
+      picks = h.picks;
+    }) g)
+
 -- a whole part
 pub goes_part : (n : ℕ) (r s : Part) (a b c : Written) → n ≤ length a.places → Emits r a b → Goes n s b c
     → Goes n (λ done at. part (r done at) (s done at)) a c
@@ -235,6 +265,13 @@ goes_fresh n label r a b c le h g = goes_noted n r a b c noted g
       };
     }
 
+-- fewer labels are kept
+pub goes_less : (n m : ℕ) (r : Part) (a c : Written) → n ≤ m → Goes m r a c → Goes n r a c
+goes_less n m r a c le g = record {
+  writes = g.writes;
+  keeps = record { picks = g.keeps.picks; more = g.keeps.more; same = λ l lt. g.keeps.same l (omega arith) };
+}
+
 -- another form of the row, as with names for its labels
 pub goes_as : (n : ℕ) (r s : Part) (a c : Written) → ((done : Finished) (at : Labels) (p q : ℕ)
     → r done at p q → s done at p q)
@@ -258,6 +295,10 @@ pub free_put : (label l : ℕ) (x : Instr) (a b : Written) → Puts l x a b
     → slice_get a.places label ≡ Some None → slice_get b.places label ≡ Some None
 free_put label l x a b h f = ap (λ s. slice_get s label) h.places ∙ f
 
+pub free_put_all : (label l : ℕ) (xs : List Instr) (a b : Written) → PutsAll l xs a b
+    → slice_get a.places label ≡ Some None → slice_get b.places label ≡ Some None
+free_put_all label l xs a b h f = ap (λ s. slice_get s label) h.places ∙ f
+
 pub free_part : (label : ℕ) (r : Part) (a b : Written) → Emits r a b
     → slice_get a.places label ≡ Some None → slice_get b.places label ≡ Some None
 free_part label r a b e f = e.keeps.same label (slice_get_within a.places label None f) ∙ f
@@ -274,6 +315,10 @@ fresh_length label a b h = ap length h.places ∙ length-append a.places (None �
 
 pub put_length : (l : ℕ) (x : Instr) (a b : Written) → Puts l x a b → length b.places ≡ length a.places
 put_length l x a b h = ap length h.places
+
+pub put_all_length : (l : ℕ) (xs : List Instr) (a b : Written) → PutsAll l xs a b
+    → length b.places ≡ length a.places
+put_all_length l xs a b h = ap length h.places
 
 pub define_length : (label : ℕ) (a b : Written) → Defines label a b → length b.places ≡ length a.places
 define_length label a b h = ap length h.places ∙ set_length a.places label (Some (length a.code))

@@ -1,7 +1,7 @@
 //! Code that is being written, with labels in place of the targets of jumps.
 
 ghost use Rattle.std.specs.Prelude.{◌≡◌, IfOk, OnOk, None, Some, length, slice_get};
-ghost use Rattle.om_emit.specs.Drafts.{Defines, Fresh, FreshLabels, FreshList, Puts, moved, nothing, place_in, settled, settled_code};
+ghost use Rattle.om_emit.specs.Drafts.{Defines, Fresh, FreshLabels, FreshList, Puts, PutsAll, moved, nothing, place_in, settled, settled_code};
 ghost use Rattle.om_emit.specs.Settled.{settled_list, settled_lists};
 
 use om_code::Instr;
@@ -77,6 +77,16 @@ impl Draft {
             return Err(AllocError);
         }
         self.code.push(Line { instruction, line })?;
+        Ok(())
+    }
+
+    /// Adds instructions of one line, one behind the other. The target of a jump is a label.
+    pub fn put_all(&mut self, line: u32, instructions: &[Instr]) -> Result<(), AllocError>
+        ensures { OnOk result (PutsAll line instructions.now self.old self.new) }
+    {
+        for instruction in instructions {
+            self.put(line, *instruction)?;
+        }
         Ok(())
     }
 

@@ -13,7 +13,7 @@ ghost use Rattle.om_rows.specs.BodyTables.{numbered_by};
 use crate::draft::Draft;
 use crate::operator::{Form, compound_of, form_of};
 use crate::single::{
-    load, load_element, postfix, postfix_element, store, store_element, unary_end,
+    load, load_element, postfix, postfix_element, store, store_element, truth, unary_end,
 };
 use om_code::Instr;
 use om_resolved::{ResolvedExpression, UnaryOperator, Variable};
@@ -64,8 +64,7 @@ pub fn value(
             right,
         } => {
             value(draft, tables, line, left)?;
-            binary_end(draft, tables, line, *operator, right)?;
-            Ok(())
+            binary_end(draft, tables, line, *operator, right)
         }
         ResolvedExpression::Conditional {
             condition,
@@ -95,8 +94,7 @@ pub fn value(
             value: e,
         } => {
             value(draft, tables, line, index)?;
-            assign_element(draft, tables, line, kept(*array, *operator), e)?;
-            Ok(())
+            assign_element(draft, tables, line, kept(*array, *operator), e)
         }
         ResolvedExpression::Postfix { variable, operator } => {
             postfix(draft, tables, line, *variable, *operator)
@@ -107,8 +105,7 @@ pub fn value(
             operator,
         } => {
             value(draft, tables, line, index)?;
-            postfix_element(draft, tables, line, *array, *operator)?;
-            Ok(())
+            postfix_element(draft, tables, line, *array, *operator)
         }
     }
 }
@@ -156,8 +153,7 @@ fn element(
         OnOk result (EmitsValue (numbered_by tables.now) line tree draft.old draft.new) }
 {
     value(draft, tables, line, index)?;
-    load_element(draft, tables, line, array)?;
-    Ok(())
+    load_element(draft, tables, line, array)
 }
 
 /// How many values a call has.
@@ -186,8 +182,7 @@ pub(crate) fn call(
     let count = count_of(arguments);
     values(draft, tables, line, arguments)?;
     let values = count;
-    draft.put(line, Instr::Call { body, values })?;
-    Ok(())
+    draft.put(line, Instr::Call { body, values })
 }
 
 /// Writes a call whose value is used.
@@ -205,8 +200,7 @@ fn used_call(
         OnOk result (EmitsValue (numbered_by tables.now) line tree draft.old draft.new) }
 {
     call(draft, tables, line, function, arguments)?;
-    draft.put(line, Instr::Use)?;
-    Ok(())
+    draft.put(line, Instr::Use)
 }
 
 /// Writes an operator before its operand (C17 6.5.3.3).
@@ -223,8 +217,7 @@ fn unary(
         OnOk result (EmitsValue (numbered_by tables.now) line tree draft.old draft.new) }
 {
     value(draft, tables, line, operand)?;
-    unary_end(draft, line, operator)?;
-    Ok(())
+    unary_end(draft, line, operator)
 }
 
 /// Writes what stands behind the left operand of an operator between two (C17 6.5.5 to 6.5.14).
@@ -246,8 +239,7 @@ fn binary_end(
         Form::Either => either_end(draft, tables, line, right),
         Form::Plain(operator) => {
             value(draft, tables, line, right)?;
-            draft.put(line, Instr::Binary(operator))?;
-            Ok(())
+            draft.put(line, Instr::Binary(operator))
         }
     }
 }
@@ -269,13 +261,7 @@ fn both_end(
     let end = draft.fresh()?;
     draft.put(line, Instr::JumpIfZero(not_both))?;
     value(draft, tables, line, right)?;
-    draft.put(line, Instr::JumpIfZero(not_both))?;
-    draft.put(line, Instr::Constant(1))?;
-    draft.put(line, Instr::Jump(end))?;
-    draft.define(not_both);
-    draft.put(line, Instr::Constant(0))?;
-    draft.define(end);
-    Ok(())
+    truth(draft, line, not_both, end)
 }
 
 /// Writes what stands behind the left operand of `a || b` (C17 6.5.14).
@@ -294,18 +280,15 @@ fn either_end(
     let next = draft.fresh()?;
     let neither = draft.fresh()?;
     let end = draft.fresh()?;
-    draft.put(line, Instr::JumpIfZero(next))?;
-    draft.put(line, Instr::Constant(1))?;
-    draft.put(line, Instr::Jump(end))?;
+    let left = [
+        Instr::JumpIfZero(next),
+        Instr::Constant(1),
+        Instr::Jump(end),
+    ];
+    draft.put_all(line, &left)?;
     draft.define(next);
     value(draft, tables, line, right)?;
-    draft.put(line, Instr::JumpIfZero(neither))?;
-    draft.put(line, Instr::Constant(1))?;
-    draft.put(line, Instr::Jump(end))?;
-    draft.define(neither);
-    draft.put(line, Instr::Constant(0))?;
-    draft.define(end);
-    Ok(())
+    truth(draft, line, neither, end)
 }
 
 /// Writes an assignment to a variable (C17 6.5.16).
@@ -326,15 +309,17 @@ pub(crate) fn assign(
     match compound_of(target.operator) {
         None => {
             value(draft, tables, line, e)?;
-            store(draft, tables, line, target.variable, target.keeps)?;
-            Ok(())
+            store(draft, tables, line, target.variable, target.keeps)
         }
         Some(operator) => {
             load(draft, tables, line, target.variable)?;
             value(draft, tables, line, e)?;
-            draft.put(line, Instr::Binary(operator))?;
-            store(draft, tables, line, target.variable, target.keeps)?;
-            Ok(())
+            let place = tables.place(target.variable);
+            let keeps = target.keeps;
+            draft.put_all(
+                line,
+                &[Instr::Binary(operator), Instr::Store { place, keeps }],
+            )
         }
     }
 }
@@ -358,16 +343,20 @@ pub(crate) fn assign_element(
     match compound_of(target.operator) {
         None => {
             value(draft, tables, line, e)?;
-            store_element(draft, tables, line, target.variable, target.keeps)?;
-            Ok(())
+            store_element(draft, tables, line, target.variable, target.keeps)
         }
         Some(operator) => {
-            draft.put(line, Instr::Duplicate)?;
-            load_element(draft, tables, line, target.variable)?;
+            let place = tables.place(target.variable);
+            let keeps = target.keeps;
+            draft.put_all(line, &[Instr::Duplicate, Instr::LoadElement(place)])?;
             value(draft, tables, line, e)?;
-            draft.put(line, Instr::Binary(operator))?;
-            store_element(draft, tables, line, target.variable, target.keeps)?;
-            Ok(())
+            draft.put_all(
+                line,
+                &[
+                    Instr::Binary(operator),
+                    Instr::StoreElement { place, keeps },
+                ],
+            )
         }
     }
 }

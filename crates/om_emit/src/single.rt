@@ -1,9 +1,9 @@
 //! The code of what no expression stands in.
 
-ghost use Rattle.std.specs.Prelude.{OnOk};
+ghost use Rattle.std.specs.Prelude.{◌≡◌, ◌<◌, None, OnOk, Some, slice_get};
 ghost use Rattle.om_code.specs.declared.instruction.Instr.TheVariants as i;
 ghost use Rattle.om_emit.specs.Drafts.{Puts};
-ghost use Rattle.om_emit.specs.Emits.{EmitsRow, EmitsValue};
+ghost use Rattle.om_emit.specs.Emits.{EmitsRow, EmitsValue, Goes, site};
 ghost use Rattle.om_emit.specs.Rests as rows;
 ghost use Rattle.om_resolved.specs.ResolvedTree as trees;
 ghost use Rattle.om_rows.specs.Expressions.{stepped_back};
@@ -106,6 +106,33 @@ pub(crate) fn unary_end(
     draft.put(line, Instr::Unary(operator))
 }
 
+/// Writes 1 where the value on top is not 0, and 0 where it is; what jumps over goes on behind it. So
+/// `&&` and `||` end (C17 6.5.13p3, 6.5.14p3).
+pub(crate) fn truth(
+    draft: &mut Draft,
+    line: u32,
+    otherwise: u32,
+    over: u32,
+) -> Result<(), AllocError>
+    requires otherwise { slice_get draft.old.places otherwise ≡ Some None }
+    requires over { slice_get draft.old.places over ≡ Some None }
+    requires apart { otherwise < over }
+    ensures { (names : Numbered) → OnOk result
+        (Goes otherwise (λ done at. rows.truth_row (site names done) line (at otherwise) (at over))
+        draft.old draft.new) }
+{
+    let nonzero = [
+        Instr::JumpIfZero(otherwise),
+        Instr::Constant(1),
+        Instr::Jump(over),
+    ];
+    draft.put_all(line, &nonzero)?;
+    draft.define(otherwise);
+    draft.put(line, Instr::Constant(0))?;
+    draft.define(over);
+    Ok(())
+}
+
 /// `x++` or `x--`, as `x += 1` or `x -= 1` (C17 6.5.2.4).
 pub(crate) fn step(
     draft: &mut Draft,
@@ -117,11 +144,15 @@ pub(crate) fn step(
         rows.stepped at line target.keeps target.variable target.operator in
         OnOk result (EmitsRow (numbered_by tables.now) row draft.old draft.new) }
 {
-    load(draft, tables, line, target.variable)?;
-    draft.put(line, Instr::Constant(1))?;
-    draft.put(line, Instr::Binary(step_of(target.operator)))?;
-    store(draft, tables, line, target.variable, target.keeps)?;
-    Ok(())
+    let place = tables.place(target.variable);
+    let keeps = target.keeps;
+    let stepped = [
+        Instr::Load(place),
+        Instr::Constant(1),
+        Instr::Binary(step_of(target.operator)),
+        Instr::Store { place, keeps },
+    ];
+    draft.put_all(line, &stepped)
 }
 
 /// `a[j]++` or `a[j]--`, as `a[j] += 1` or `a[j] -= 1`, behind the index.
@@ -135,12 +166,16 @@ pub(crate) fn step_element(
         λ (at : Site). rows.stepped_rest at line target.keeps target.variable target.operator in
         OnOk result (EmitsRow (numbered_by tables.now) row draft.old draft.new) }
 {
-    draft.put(line, Instr::Duplicate)?;
-    load_element(draft, tables, line, target.variable)?;
-    draft.put(line, Instr::Constant(1))?;
-    draft.put(line, Instr::Binary(step_of(target.operator)))?;
-    store_element(draft, tables, line, target.variable, target.keeps)?;
-    Ok(())
+    let place = tables.place(target.variable);
+    let keeps = target.keeps;
+    let stepped = [
+        Instr::Duplicate,
+        Instr::LoadElement(place),
+        Instr::Constant(1),
+        Instr::Binary(step_of(target.operator)),
+        Instr::StoreElement { place, keeps },
+    ];
+    draft.put_all(line, &stepped)
 }
 
 /// The old value of what was stepped, from the new one on top.
@@ -149,9 +184,8 @@ fn step_back(draft: &mut Draft, line: u32, operator: PostfixOperator) -> Result<
         (names : Numbered) → OnOk result
         (EmitsRow names (λ at. stepped_back at line back) draft.old draft.new) }
 {
-    draft.put(line, Instr::Constant(1))?;
-    draft.put(line, Instr::Binary(inverse_step_of(operator)))?;
-    Ok(())
+    let back = [Instr::Constant(1), Instr::Binary(inverse_step_of(operator))];
+    draft.put_all(line, &back)
 }
 
 /// `x++` or `x--`, whose value is the old one.
@@ -171,8 +205,7 @@ pub(crate) fn postfix(
         keeps: true,
     };
     step(draft, tables, line, target)?;
-    step_back(draft, line, operator)?;
-    Ok(())
+    step_back(draft, line, operator)
 }
 
 /// `a[j]++` or `a[j]--` behind the index; its value is the old one.
@@ -192,6 +225,5 @@ pub(crate) fn postfix_element(
         keeps: true,
     };
     step_element(draft, tables, line, target)?;
-    step_back(draft, line, operator)?;
-    Ok(())
+    step_back(draft, line, operator)
 }

@@ -44,8 +44,7 @@ pub fn effect(
             value: e,
         } => {
             value(draft, tables, line, index)?;
-            assign_element(draft, tables, line, dropped(*array, *operator), e)?;
-            Ok(())
+            assign_element(draft, tables, line, dropped(*array, *operator), e)
         }
         ResolvedExpression::Postfix { variable, operator } => {
             step(draft, tables, line, stepped(*variable, *operator))
@@ -56,8 +55,7 @@ pub fn effect(
             operator,
         } => {
             value(draft, tables, line, index)?;
-            step_element(draft, tables, line, stepped(*array, *operator))?;
-            Ok(())
+            step_element(draft, tables, line, stepped(*array, *operator))
         }
         ResolvedExpression::Print {
             format,
@@ -68,8 +66,7 @@ pub fn effect(
             values: arguments,
         } => {
             call(draft, tables, line, *function, arguments.as_slice())?;
-            draft.put(line, Instr::Pop)?;
-            Ok(())
+            draft.put(line, Instr::Pop)
         }
         ResolvedExpression::Constant(_) => popped(draft, tables, line, e),
         ResolvedExpression::Variable(_) => popped(draft, tables, line, e),
@@ -116,8 +113,7 @@ fn popped(
         OnOk result (EmitsRow (numbered_by tables.now) row draft.old draft.new) }
 {
     value(draft, tables, line, e)?;
-    draft.put(line, Instr::Pop)?;
-    Ok(())
+    draft.put(line, Instr::Pop)
 }
 
 /// Writes the values of a `printf`, and what prints them by its format (C17 7.21.6.3).
@@ -137,6 +133,5 @@ fn print(
     let count = count_of(arguments);
     values(draft, tables, line, arguments)?;
     let values = count;
-    draft.put(line, Instr::Print { text, values })?;
-    Ok(())
+    draft.put(line, Instr::Print { text, values })
 }

@@ -142,14 +142,17 @@ fn add_next<'a>(
 {
     round.truncate(site.depth);
     let variables = own_variables(known, site);
-    let none = Variables::new(whole.alloc);
-    let outer = innermost(round.as_slice(), &none);
-    let seen = SeenBody {
-        site,
-        variables,
-        outer,
+    let added = {
+        let none = Variables::new(whole.alloc);
+        let outer = innermost(round.as_slice(), &none);
+        let seen = SeenBody {
+            site,
+            variables,
+            outer,
+        };
+        add_body(made, whole, known, &seen)
     };
-    let fits = add_body(made, whole, known, &seen)?;
+    let fits = added?;
     round.push(variables)?;
     Ok(fits)
 }

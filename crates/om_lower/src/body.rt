@@ -58,13 +58,7 @@ fn write_body(
 {
     match &site.part {
         BodyPart::Function => write_function(alloc, writing, tables, site.numbers, site.function),
-        BodyPart::Parallel(region) => {
-            write_parallel(alloc, writing, tables, site.numbers, region)?;
-            Ok(())
-        }
-        BodyPart::Task(region) => {
-            write_task(alloc, writing, tables, site.numbers, region)?;
-            Ok(())
-        }
+        BodyPart::Parallel(region) => write_parallel(alloc, writing, tables, site.numbers, region),
+        BodyPart::Task(region) => write_task(alloc, writing, tables, site.numbers, region),
     }
 }

@@ -152,8 +152,7 @@ fn add_function(
     if !add_slots(slots, whole.alloc, sites.as_slice())? {
         return Ok(false);
     }
-    let fits = add_bodies(lowered, slots.as_slice(), whole, next, sites.as_slice())?;
-    Ok(fits)
+    add_bodies(lowered, slots.as_slice(), whole, next, sites.as_slice())
 }
 
 /// The same, where the function's bodies are found and none has too many slots.

@@ -50,8 +50,7 @@ pub(crate) fn write_function(
     let last = last_instruction(tables.is_main, false);
     writing.draft.put(function.closing_line, last)?;
     let to = writing.draft.place();
-    writing.scopes.end(height, to)?;
-    Ok(())
+    writing.scopes.end(height, to)
 }
 
 /// Writes what each thread of a team does (OpenMP API 5.2, section 10.1): its implicit task begins,
@@ -83,8 +82,7 @@ pub(crate) fn write_parallel(
     writing.draft.put(line, Instr::Arrive(Barrier::Parallel))?;
     writing.draft.put(line, Instr::Leave)?;
     let to = writing.draft.place();
-    writing.scopes.end(height, to)?;
-    Ok(())
+    writing.scopes.end(height, to)
 }
 
 /// Writes what a task does (OpenMP API 5.2, section 12.5), and its end.
@@ -111,6 +109,5 @@ pub(crate) fn write_task(
     inner(alloc, writing, tables, spot, region.statement)?;
     writing.draft.put(region.at.line, Instr::TaskEnd)?;
     let to = writing.draft.place();
-    writing.scopes.end(height, to)?;
-    Ok(())
+    writing.scopes.end(height, to)
 }

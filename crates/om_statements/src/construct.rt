@@ -98,8 +98,7 @@ pub fn end_construct(
     match kind {
         ConstructKind::Single { nowait } => {
             draft.define(label);
-            worksharing_end(draft, line, *nowait)?;
-            Ok(())
+            worksharing_end(draft, line, *nowait)
         }
         ConstructKind::Masked => {
             draft.put(line, Instr::EndMasked)?;
@@ -108,13 +107,9 @@ pub fn end_construct(
         }
         ConstructKind::Critical { name } => {
             let lock = tables.lock_number(name);
-            draft.put(line, Instr::LeaveCritical(lock))?;
-            Ok(())
+            draft.put(line, Instr::LeaveCritical(lock))
         }
         ConstructKind::Atomic => unreachable!(),
-        ConstructKind::Taskgroup => {
-            draft.put(line, Instr::GroupEnd)?;
-            Ok(())
-        }
+        ConstructKind::Taskgroup => draft.put(line, Instr::GroupEnd),
     }
 }

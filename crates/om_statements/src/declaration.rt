@@ -34,10 +34,7 @@ fn initialize(
         (EmitsRow (numbered_by tables.now) (λ at. declarator at line tree) draft.old draft.new) }
 {
     match &declared.initial {
-        None => {
-            draft.put(line, Instr::Clear(tables.slot(&declared.variable)))?;
-            Ok(())
-        }
+        None => draft.put(line, Instr::Clear(tables.slot(&declared.variable))),
         Some(initial) => {
             value(draft, tables, line, initial)?;
             store(
@@ -46,8 +43,7 @@ fn initialize(
                 line,
                 Variable::Local(declared.variable.at),
                 false,
-            )?;
-            Ok(())
+            )
         }
     }
 }
@@ -71,8 +67,7 @@ fn declarator(
     writing
         .scopes
         .begin(from, declared.length, &declared.variable)?;
-    initialize(&mut writing.draft, tables, line, declared)?;
-    Ok(())
+    initialize(&mut writing.draft, tables, line, declared)
 }
 
 /// Writes the code of the names of a declaration, in their order.
@@ -115,8 +110,7 @@ pub fn start(
     match start {
         ResolvedStart::Nothing => Ok(()),
         ResolvedStart::Expression(expression) => {
-            effect(&mut writing.draft, tables, line, expression)?;
-            Ok(())
+            effect(&mut writing.draft, tables, line, expression)
         }
         ResolvedStart::Declaration(declared) => {
             declarators(writing, tables, line, declared.as_slice())?;
@@ -138,8 +132,7 @@ pub fn test(
         OnOk result (EmitsTest (numbered_by tables.now) line otherwise tree draft.old draft.new) }
 {
     value(draft, tables, line, condition)?;
-    draft.put(line, Instr::JumpIfZero(otherwise))?;
-    Ok(())
+    draft.put(line, Instr::JumpIfZero(otherwise))
 }
 
 /// Writes a test that may be left out (C17 6.8.5.3p2).
@@ -196,14 +189,12 @@ pub fn returned(
     match answer {
         None => {
             let last = last_instruction(is_main, false);
-            draft.put(line, last)?;
-            Ok(())
+            draft.put(line, last)
         }
         Some(answer) => {
             value(draft, tables, line, answer)?;
             let last = last_instruction(is_main, true);
-            draft.put(line, last)?;
-            Ok(())
+            draft.put(line, last)
         }
     }
 }

@@ -161,8 +161,7 @@ pub fn statement(
                 captures: captures.as_slice(),
                 statement: body,
             };
-            let after = parallel(alloc, &mut writing.draft, tables, numbers, &region)?;
-            Ok(after)
+            parallel(alloc, &mut writing.draft, tables, numbers, &region)
         }
         ResolvedStatement::Task {
             at,
@@ -176,8 +175,7 @@ pub fn statement(
                 captures: captures.as_slice(),
                 statement: body,
             };
-            let after = task(alloc, &mut writing.draft, tables, numbers, &region)?;
-            Ok(after)
+            task(alloc, &mut writing.draft, tables, numbers, &region)
         }
         ResolvedStatement::Loop {
             at,

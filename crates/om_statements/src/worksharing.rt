@@ -50,8 +50,7 @@ fn bounds(
 {
     value(&mut writing.draft, tables, repeated.at.line, &repeated.from)?;
     value(&mut writing.draft, tables, repeated.at.line, &repeated.to)?;
-    starts(writing, tables, line, clauses)?;
-    Ok(())
+    starts(writing, tables, line, clauses)
 }
 
 /// Writes the begin of a worksharing loop (OpenMP API 5.2, section 11.5): chunks of iterations are
@@ -141,6 +140,5 @@ pub fn end_worksharing(
         (EmitsRow (numbered_by tables.now) (λ at. closes at line trees nowait) draft.old draft.new) }
 {
     reductions(draft, tables, line, clauses)?;
-    worksharing_end(draft, line, nowait)?;
-    Ok(())
+    worksharing_end(draft, line, nowait)
 }

@@ -2,7 +2,7 @@ use Rattle.std.proofs.Common.{◌≡◌, ◌≤◌, get_or, rules, ap, sym, ◌�
 use Rattle.std.proofs.lemmas.Result.{on_ok_weaker}
 use Rattle.om_code.specs.declared.instruction.Instr.TheVariants as i
 use Rattle.om_emit.specs.Forms.{form}
-use Rattle.om_emit.specs.Writing.{fresh_length, free_new, free_fresh, free_put, free_part, free_define}
+use Rattle.om_emit.specs.Writing.{fresh_length, free_new, free_fresh, free_put, free_put_all, free_part, free_define}
 use Rattle.om_emit.proofs.Arguments.{listed, counted, few, with_depth, has_code, emits_next}
 use Rattle.om_emit.proofs.Expressions.{emits_element, emits_used_call, emits_right, emits_unary, emits_set}
 use Rattle.om_emit.proofs.Expressions.{emits_compound, emits_set_element, emits_compound_element, emits_call}
@@ -22,30 +22,36 @@ use Rattle.om_emit.proofs.expression.+expression.Goals as goal
 
 pub element-returns : goal.element-returns
 element-returns t c =
-    emits_element (numbered_by c.args.tables.now) c.args.line c.args.array
-    (view_resolved_expression c.args.index.now) _ _ _
-    c.in_ok-value.ensures c.in_ok-load_element.ensures
+    on_ok_weaker c.load_element.result
+    (λ h. emits_element (numbered_by c.args.tables.now) c.args.line c.args.array
+    (view_resolved_expression c.args.index.now) _ _ _ c.in_ok-value.ensures h)
+    c.load_element.ensures
 
 pub call-returns : goal.call-returns
 call-returns t c =
-    emits_call (numbered_by c.args.tables.now) c.args.line c.args.function
+    on_ok_weaker c.put.result
+    (λ h. emits_call (numbered_by c.args.tables.now) c.args.line c.args.function
     (listed c.args.arguments.now) c.called_body-body.result c.count_of-count.result _ _ _
     c.called_body-body.ensures (c.count_of-count.ensures
-    ∙ counted c.args.arguments.now) c.in_ok-values.ensures c.in_ok-put.ensures
+    ∙ counted c.args.arguments.now) c.in_ok-values.ensures h)
+    c.put.ensures
 
 pub call-count_of-count-requires : goal.call-count_of-count-requires
 call-count_of-count-requires t c = few c.args.arguments.now c.requires
 
 pub used_call-returns : goal.used_call-returns
 used_call-returns t c =
-    emits_used_call (numbered_by c.args.tables.now) c.args.line c.args.function
-    (listed c.args.arguments.now) _ _ _ c.in_ok-call.ensures c.in_ok-put.ensures
+    on_ok_weaker c.put.result
+    (λ h. emits_used_call (numbered_by c.args.tables.now) c.args.line c.args.function
+    (listed c.args.arguments.now) _ _ _ c.in_ok-call.ensures h)
+    c.put.ensures
 
 pub unary-returns : goal.unary-returns
 unary-returns t c =
-    emits_unary (numbered_by c.args.tables.now) c.args.line c.args.operator
-    (view_resolved_expression c.args.operand.now) _ _ _
-    c.in_ok-value.ensures (c.in_ok-unary_end.ensures (numbered_by c.args.tables.now))
+    on_ok_weaker c.unary_end.result
+    (λ h. emits_unary (numbered_by c.args.tables.now) c.args.line c.args.operator
+    (view_resolved_expression c.args.operand.now) _ _ _ c.in_ok-value.ensures h)
+    (c.unary_end.ensures (numbered_by c.args.tables.now))
 
 -- ---- operators between two operands
 
@@ -65,121 +71,151 @@ binary_end-returns-in-Either t c =
     (ap form (sym c.in-Either.is) ∙ c.form_of.ensures))
     c.either_end.ensures
 
-pub binary_end-returns-in_ok-put-in-Plain : goal.binary_end-returns-in_ok-put-in-Plain
-binary_end-returns-in_ok-put-in-Plain t c =
-    rest_is (numbered_by c.args.tables.now) c.args.line (Plain c.in-Plain.operator) (form_of c.args.operator)
+pub binary_end-returns-in_ok-value-in-Plain : goal.binary_end-returns-in_ok-value-in-Plain
+binary_end-returns-in_ok-value-in-Plain t c =
+    on_ok_weaker c.put.result
+    (λ h. rest_is (numbered_by c.args.tables.now) c.args.line (Plain c.in-Plain.operator) (form_of c.args.operator)
     (view_resolved_expression c.args.right.now) _ _
     (ap form (sym c.in-Plain.is) ∙ c.form_of.ensures)
     (emits_right (numbered_by c.args.tables.now) c.args.line c.in-Plain.operator
     (view_resolved_expression c.args.right.now) _ _ _
-    c.in_ok-value-in-Plain.ensures c.in_ok-put-in-Plain.ensures)
+    c.in_ok-value-in-Plain.ensures h))
+    c.put.ensures
 
-pub both_end-define-requires : goal.both_end-define-requires
-both_end-define-requires t c =
-    let l = c.in_ok-not_both.not_both in
-    free_put l _ _ _ _ c.in_ok-put-4.ensures (free_put l _ _ _ _ c.in_ok-put-3.ensures
-    (free_put l _ _ _ _ c.in_ok-put-2.ensures
-    (free_part l _ _ _ c.in_ok-value.ensures (free_put l _ _ _ _ c.in_ok-put.ensures
-    (free_fresh l _ _ _ c.in_ok-end.ensures (free_new l _ _ c.in_ok-not_both.ensures))))))
-
-pub both_end-define-requires-2 : goal.both_end-define-requires-2
-both_end-define-requires-2 t c =
-    let l = c.in_ok-end.end in
-    let next = fresh_length _ _ _ c.in_ok-not_both.ensures in
-    free_put l _ _ _ _ c.in_ok-put-5.ensures
-    (free_define l c.in_ok-not_both.not_both _ _ (λ same. omega
-    (arith, c.in_ok-not_both.ensures.is, c.in_ok-end.ensures.is, next, same)) c.define.ensures
-    (free_put l _ _ _ _ c.in_ok-put-4.ensures (free_put l _ _ _ _ c.in_ok-put-3.ensures
-    (free_put l _ _ _ _ c.in_ok-put-2.ensures
-    (free_part l _ _ _ c.in_ok-value.ensures (free_put l _ _ _ _ c.in_ok-put.ensures
-    (free_new l _ _ c.in_ok-end.ensures)))))))
+pub both_end-truth-requires : goal.both_end-truth-requires
+both_end-truth-requires t c =
+    let f = c.in_ok-not_both.not_both in
+    let e = c.in_ok-end.end in
+    let past = fresh_length _ _ _ c.in_ok-not_both.ensures in
+    record {
+      otherwise = free_part f _ _ _ c.in_ok-value.ensures (free_put f _ _ _ _ c.in_ok-put.ensures
+          (free_fresh f _ _ _ c.in_ok-end.ensures (free_new f _ _ c.in_ok-not_both.ensures)));
+      over = free_part e _ _ _ c.in_ok-value.ensures (free_put e _ _ _ _ c.in_ok-put.ensures
+          (free_new e _ _ c.in_ok-end.ensures));
+      apart = omega (arith, c.in_ok-not_both.ensures.is, c.in_ok-end.ensures.is, past);
+    }
 
 pub both_end-returns : goal.both_end-returns
 both_end-returns t c =
-    emits_both (numbered_by c.args.tables.now) c.args.line (view_resolved_expression c.args.right.now)
-    c.in_ok-not_both.not_both c.in_ok-end.end _ _ _ _ _ _ _ _ _ _ _
-    c.in_ok-not_both.ensures c.in_ok-end.ensures c.in_ok-put.ensures c.in_ok-value.ensures c.in_ok-put-2.ensures
-    c.in_ok-put-3.ensures c.in_ok-put-4.ensures c.define.ensures c.in_ok-put-5.ensures c.define-2.ensures
+    let names = numbered_by c.args.tables.now in
+    on_ok_weaker c.truth.result
+    (λ h. emits_both names c.args.line (view_resolved_expression c.args.right.now)
+    c.in_ok-not_both.not_both c.in_ok-end.end _ _ _ _ _ _
+    c.in_ok-not_both.ensures c.in_ok-end.ensures c.in_ok-put.ensures c.in_ok-value.ensures h)
+    (c.truth.ensures names)
 
 pub either_end-define-requires : goal.either_end-define-requires
 either_end-define-requires t c =
     let l = c.in_ok-next.next in
-    free_put l _ _ _ _ c.in_ok-put-3.ensures (free_put l _ _ _ _ c.in_ok-put-2.ensures
-    (free_put l _ _ _ _ c.in_ok-put.ensures
+    free_put_all l _ _ _ _ c.in_ok-put_all.ensures
     (free_fresh l _ _ _ c.in_ok-end.ensures (free_fresh l _ _ _ c.in_ok-neither.ensures
-    (free_new l _ _ c.in_ok-next.ensures)))))
+    (free_new l _ _ c.in_ok-next.ensures)))
 
-pub either_end-define-requires-2 : goal.either_end-define-requires-2
-either_end-define-requires-2 t c =
-    let l = c.in_ok-neither.neither in
-    let past = fresh_length _ _ _ c.in_ok-next.ensures in
-    free_put l _ _ _ _ c.in_ok-put-6.ensures (free_put l _ _ _ _ c.in_ok-put-5.ensures
-    (free_put l _ _ _ _ c.in_ok-put-4.ensures
-    (free_part l _ _ _ c.in_ok-value.ensures
-    (free_define l c.in_ok-next.next _ _ (λ same. omega
-    (arith, c.in_ok-next.ensures.is, c.in_ok-neither.ensures.is, past, same)) c.define.ensures
-    (free_put l _ _ _ _ c.in_ok-put-3.ensures (free_put l _ _ _ _ c.in_ok-put-2.ensures
-    (free_put l _ _ _ _ c.in_ok-put.ensures
-    (free_fresh l _ _ _ c.in_ok-end.ensures (free_new l _ _ c.in_ok-neither.ensures)))))))))
-
-pub either_end-define-requires-3 : goal.either_end-define-requires-3
-either_end-define-requires-3 t c =
-    let l = c.in_ok-end.end in
+pub either_end-truth-requires : goal.either_end-truth-requires
+either_end-truth-requires t c =
+    let n = c.in_ok-next.next in
+    let f = c.in_ok-neither.neither in
+    let e = c.in_ok-end.end in
     let past = fresh_length _ _ _ c.in_ok-next.ensures in
     let beyond = fresh_length _ _ _ c.in_ok-neither.ensures in
-    free_put l _ _ _ _ c.in_ok-put-7.ensures
-    (free_define l c.in_ok-neither.neither _ _ (λ same. omega
-    (arith, c.in_ok-neither.ensures.is, c.in_ok-end.ensures.is, beyond, same)) c.define-2.ensures
-    (free_put l _ _ _ _ c.in_ok-put-6.ensures (free_put l _ _ _ _ c.in_ok-put-5.ensures
-    (free_put l _ _ _ _ c.in_ok-put-4.ensures
-    (free_part l _ _ _ c.in_ok-value.ensures
-    (free_define l c.in_ok-next.next _ _ (λ same. omega
-    (arith, c.in_ok-next.ensures.is, c.in_ok-end.ensures.is, past, beyond, same)) c.define.ensures
-    (free_put l _ _ _ _ c.in_ok-put-3.ensures (free_put l _ _ _ _ c.in_ok-put-2.ensures
-    (free_put l _ _ _ _ c.in_ok-put.ensures
-    (free_new l _ _ c.in_ok-end.ensures))))))))))
+    record {
+      otherwise = free_part f _ _ _ c.in_ok-value.ensures
+          (free_define f n _ _ (λ same. omega (arith, c.in_ok-next.ensures.is, c.in_ok-neither.ensures.is, past, same))
+          c.define.ensures (free_put_all f _ _ _ _ c.in_ok-put_all.ensures
+          (free_fresh f _ _ _ c.in_ok-end.ensures (free_new f _ _ c.in_ok-neither.ensures))));
+      over = free_part e _ _ _ c.in_ok-value.ensures
+          (free_define e n _ _ (λ same. omega
+          (arith, c.in_ok-next.ensures.is, c.in_ok-end.ensures.is, past, beyond, same))
+          c.define.ensures (free_put_all e _ _ _ _ c.in_ok-put_all.ensures (free_new e _ _ c.in_ok-end.ensures)));
+      apart = omega (arith, c.in_ok-neither.ensures.is, c.in_ok-end.ensures.is, beyond);
+    }
 
 pub either_end-returns : goal.either_end-returns
 either_end-returns t c =
-    emits_either (numbered_by c.args.tables.now) c.args.line (view_resolved_expression c.args.right.now)
-    c.in_ok-next.next c.in_ok-neither.neither c.in_ok-end.end _ _ _ _ _ _ _ _ _ _ _ _ _ _ _
-    c.in_ok-next.ensures c.in_ok-neither.ensures c.in_ok-end.ensures c.in_ok-put.ensures c.in_ok-put-2.ensures
-    c.in_ok-put-3.ensures c.define.ensures c.in_ok-value.ensures c.in_ok-put-4.ensures c.in_ok-put-5.ensures
-    c.in_ok-put-6.ensures
-    c.define-2.ensures c.in_ok-put-7.ensures c.define-3.ensures
+    let names = numbered_by c.args.tables.now in
+    on_ok_weaker c.truth.result
+    (λ h. emits_either names c.args.line (view_resolved_expression c.args.right.now)
+    c.in_ok-next.next c.in_ok-neither.neither c.in_ok-end.end _ _ _ _ _ _ _ _
+    c.in_ok-next.ensures c.in_ok-neither.ensures c.in_ok-end.ensures c.in_ok-put_all.ensures c.define.ensures
+    c.in_ok-value.ensures h)
+    (c.truth.ensures names)
 
 -- ---- assignments
 
-pub assign-returns-in_ok-store-in-None : goal.assign-returns-in_ok-store-in-None
-assign-returns-in_ok-store-in-None t c =
-    emits_set (numbered_by c.args.tables.now) c.args.line c.args.target.keeps c.args.target.variable
-    c.args.target.operator
-    (view_resolved_expression c.args.e.now) _ _ _ (sym c.in-None.is
-    ∙ c.compound_of.ensures) c.in_ok-value-in-None.ensures c.in_ok-store-in-None.ensures
+pub assign-returns-in_ok-value-in-None : goal.assign-returns-in_ok-value-in-None
+assign-returns-in_ok-value-in-None t c =
+    on_ok_weaker c.store.result
+    (λ h. emits_set (numbered_by c.args.tables.now) c.args.line c.args.target.keeps c.args.target.variable
+    c.args.target.operator (view_resolved_expression c.args.e.now) _ _ _ (sym c.in-None.is ∙ c.compound_of.ensures)
+    c.in_ok-value-in-None.ensures h)
+    c.store.ensures
 
-pub assign-returns-in_ok-store-in-Some : goal.assign-returns-in_ok-store-in-Some
-assign-returns-in_ok-store-in-Some t c =
-    emits_compound (numbered_by c.args.tables.now) c.args.line c.args.target.keeps c.args.target.variable
-    c.args.target.operator _
-    (view_resolved_expression c.args.e.now) _ _ _ _ _ (sym c.in-Some.is
-    ∙ c.compound_of.ensures) c.in_ok-load-in-Some.ensures
-    c.in_ok-value-in-Some.ensures c.in_ok-put-in-Some.ensures c.in_ok-store-in-Some.ensures
+pub assign-returns-in_ok-value-in-Some : goal.assign-returns-in_ok-value-in-Some
+assign-returns-in_ok-value-in-Some t c =
+    on_ok_weaker c.put_all.result
+    (λ h. emits_compound (numbered_by c.args.tables.now) c.args.line c.args.target.keeps c.args.target.variable
+    c.args.target.operator _ _ (view_resolved_expression c.args.e.now) _ _ _ _
+    (sym c.in-Some.is ∙ c.compound_of.ensures) c.place-place.ensures c.in_ok-load-in-Some.ensures
+    c.in_ok-value-in-Some.ensures h)
+    c.put_all.ensures
 
-pub assign_element-returns-in_ok-store_element-in-None : goal.assign_element-returns-in_ok-store_element-in-None
-assign_element-returns-in_ok-store_element-in-None t c =
-    emits_set_element (numbered_by c.args.tables.now) c.args.line c.args.target.keeps c.args.target.variable
-    c.args.target.operator
-    (view_resolved_expression c.args.e.now) _ _ _ (sym c.in-None.is
-    ∙ c.compound_of.ensures) c.in_ok-value-in-None.ensures c.in_ok-store_element-in-None.ensures
+pub assign_element-returns-in_ok-value-in-None : goal.assign_element-returns-in_ok-value-in-None
+assign_element-returns-in_ok-value-in-None t c =
+    on_ok_weaker c.store_element.result
+    (λ h. emits_set_element (numbered_by c.args.tables.now) c.args.line c.args.target.keeps c.args.target.variable
+    c.args.target.operator (view_resolved_expression c.args.e.now) _ _ _ (sym c.in-None.is ∙ c.compound_of.ensures)
+    c.in_ok-value-in-None.ensures h)
+    c.store_element.ensures
 
-pub assign_element-returns-in_ok-store_element-in-Some : goal.assign_element-returns-in_ok-store_element-in-Some
-assign_element-returns-in_ok-store_element-in-Some t c =
-    emits_compound_element (numbered_by c.args.tables.now) c.args.line c.args.target.keeps c.args.target.variable
-    c.args.target.operator _
-    (view_resolved_expression c.args.e.now) _ _ _ _ _ _ (sym c.in-Some.is
-    ∙ c.compound_of.ensures) c.in_ok-put-in-Some.ensures
-    c.in_ok-load_element-in-Some.ensures c.in_ok-value-in-Some.ensures c.in_ok-put-in-Some-2.ensures
-    c.in_ok-store_element-in-Some.ensures
+pub assign_element-returns-in_ok-value-in-Some : goal.assign_element-returns-in_ok-value-in-Some
+assign_element-returns-in_ok-value-in-Some t c =
+    on_ok_weaker c.put_all-in-Some.result
+    (λ h. emits_compound_element (numbered_by c.args.tables.now) c.args.line c.args.target.keeps
+    c.args.target.variable c.args.target.operator _ _ (view_resolved_expression c.args.e.now) _ _ _ _
+    (sym c.in-Some.is ∙ c.compound_of.ensures) c.place-place.ensures c.in_ok-put_all-in-Some.ensures
+    c.in_ok-value-in-Some.ensures h)
+    c.put_all-in-Some.ensures
+
+-- ---- what a call is on is the same, and has code
+
+pub element-value-requires : goal.element-value-requires
+element-value-requires t c = (omega (arith, c.decreases), c.requires)
+
+pub unary-value-requires : goal.unary-value-requires
+unary-value-requires t c = (omega (arith, c.decreases), c.requires)
+
+pub binary_end-both_end-requires : goal.binary_end-both_end-requires
+binary_end-both_end-requires t c = (omega (arith, c.decreases), c.requires)
+
+pub binary_end-either_end-requires : goal.binary_end-either_end-requires
+binary_end-either_end-requires t c = (omega (arith, c.decreases), c.requires)
+
+pub binary_end-value-requires : goal.binary_end-value-requires
+binary_end-value-requires t c = (omega (arith, c.decreases), c.requires)
+
+pub both_end-value-requires : goal.both_end-value-requires
+both_end-value-requires t c = (omega (arith, c.decreases), c.requires)
+
+pub either_end-value-requires : goal.either_end-value-requires
+either_end-value-requires t c = (omega (arith, c.decreases), c.requires)
+
+pub assign-value-requires : goal.assign-value-requires
+assign-value-requires t c = (omega (arith, c.decreases), c.requires)
+
+pub assign-value-requires-in-Some : goal.assign-value-requires-in-Some
+assign-value-requires-in-Some t c = (omega (arith, c.decreases), c.requires)
+
+pub assign_element-value-requires : goal.assign_element-value-requires
+assign_element-value-requires t c = (omega (arith, c.decreases), c.requires)
+
+pub assign_element-value-requires-in-Some : goal.assign_element-value-requires-in-Some
+assign_element-value-requires-in-Some t c = (omega (arith, c.decreases), c.requires)
+
+pub call-values-requires : goal.call-values-requires
+call-values-requires t c = (omega (arith, c.decreases), c.requires.1)
+
+pub used_call-call-requires : goal.used_call-call-requires
+used_call-call-requires t c = (omega (arith, c.decreases), c.requires)
 
 -- ---- the values of a call
 
@@ -248,8 +284,8 @@ value-returns-in-Call t c =
     (view_resolved_expression c.args.e.now) _ _ (same ∙ sym is) h)
     c.used_call.ensures
 
-pub value-returns-in_ok-binary_end-in-Binary : goal.value-returns-in_ok-binary_end-in-Binary
-value-returns-in_ok-binary_end-in-Binary t c =
+pub value-returns-in_ok-value-in-Binary : goal.value-returns-in_ok-value-in-Binary
+value-returns-in_ok-value-in-Binary t c =
     let names = numbered_by c.args.tables.now in
     let left = c.deref-in-Binary.result.now in
     let right = c.deref-in-Binary-2.result.now in
@@ -260,12 +296,14 @@ value-returns-in_ok-binary_end-in-Binary t c =
     (view_resolved_expression right)) c.deref-in-Binary.ensures
     ∙ ap (λ e. trees.Binary (view_resolved_expression c.in-Binary.left.value) c.in-Binary.operator
     (view_resolved_expression e)) c.deref-in-Binary-2.ensures in
-    value_is names c.args.line (trees.Binary (view_resolved_expression left) c.in-Binary.operator
+    on_ok_weaker c.binary_end.result
+    (λ h. value_is names c.args.line (trees.Binary (view_resolved_expression left) c.in-Binary.operator
     (view_resolved_expression right)) (view_resolved_expression c.args.e.now)
     _ _ (same ∙ sym is)
     (emits_binary names c.args.line c.in-Binary.operator (view_resolved_expression left)
     (view_resolved_expression right) _ _ _
-    c.in_ok-value-in-Binary.ensures c.in_ok-binary_end-in-Binary.ensures)
+    c.in_ok-value-in-Binary.ensures h))
+    c.binary_end.ensures
 
 pub value-define-requires : goal.value-define-requires
 value-define-requires t c =
@@ -321,8 +359,8 @@ value-returns-in_ok-value-in-Conditional-3 t c =
     c.in_ok-value-in-Conditional-3.ensures
     c.define-in-Conditional.ensures)
 
-pub value-returns-in_ok-assign_element-in-AssignElement : goal.value-returns-in_ok-assign_element-in-AssignElement
-value-returns-in_ok-assign_element-in-AssignElement t c =
+pub value-returns-in_ok-value-in-AssignElement : goal.value-returns-in_ok-value-in-AssignElement
+value-returns-in_ok-value-in-AssignElement t c =
     let names = numbered_by c.args.tables.now in
     let j = c.deref-in-AssignElement.result.now in
     let e = c.deref-in-AssignElement-2.result.now in
@@ -335,7 +373,8 @@ value-returns-in_ok-assign_element-in-AssignElement t c =
     (view_resolved_expression e)) c.deref-in-AssignElement.ensures
     ∙ ap (λ z. trees.AssignElement x (view_resolved_expression c.in-AssignElement.index.value) o
     (view_resolved_expression z)) c.deref-in-AssignElement-2.ensures in
-    value_is names c.args.line (trees.AssignElement x (view_resolved_expression j) o (view_resolved_expression e))
+    on_ok_weaker c.assign_element.result
+    (λ h. value_is names c.args.line (trees.AssignElement x (view_resolved_expression j) o (view_resolved_expression e))
     (view_resolved_expression c.args.e.now)
     _ _ (same ∙ sym is)
     (emits_element_assigned names c.args.line true x (view_resolved_expression j) (compound_of o)
@@ -347,10 +386,11 @@ value-returns-in_ok-assign_element-in-AssignElement t c =
       operator = o;
       keeps = true;
     }) _ _
-    c.kept-in-AssignElement.ensures c.in_ok-assign_element-in-AssignElement.ensures))
+    c.kept-in-AssignElement.ensures h)))
+    c.assign_element.ensures
 
-pub value-returns-in_ok-postfix_element-in-PostfixElement : goal.value-returns-in_ok-postfix_element-in-PostfixElement
-value-returns-in_ok-postfix_element-in-PostfixElement t c =
+pub value-returns-in_ok-value-in-PostfixElement : goal.value-returns-in_ok-value-in-PostfixElement
+value-returns-in_ok-value-in-PostfixElement t c =
     let names = numbered_by c.args.tables.now in
     let j = c.deref-in-PostfixElement.result.now in
     let x = c.in-PostfixElement.array in
@@ -358,7 +398,9 @@ value-returns-in_ok-postfix_element-in-PostfixElement t c =
     let is = ap view_resolved_expression c.in-PostfixElement.is
     ∙ view_postfix_element x c.in-PostfixElement.index o in
     let same = ap (λ z. trees.PostfixElement x (view_resolved_expression z) o) c.deref-in-PostfixElement.ensures in
-    value_is names c.args.line (trees.PostfixElement x (view_resolved_expression j) o)
+    on_ok_weaker c.postfix_element.result
+    (λ h. value_is names c.args.line (trees.PostfixElement x (view_resolved_expression j) o)
     (view_resolved_expression c.args.e.now) _ _ (same ∙ sym is)
     (emits_postfix_element names c.args.line x (view_resolved_expression j) o _ _ _
-    c.in_ok-value-in-PostfixElement.ensures c.in_ok-postfix_element-in-PostfixElement.ensures)
+    c.in_ok-value-in-PostfixElement.ensures h))
+    c.postfix_element.ensures

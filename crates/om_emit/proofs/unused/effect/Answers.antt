@@ -10,8 +10,8 @@ use Rattle.om_rows.specs.Operators.{compound_of, step_of}
 use Rattle.om_rows.specs.BodyTables.{numbered_by}
 use Rattle.om_emit.proofs.unused.effect.Goals as goal
 
-pub returns-in_ok-assign_element-in-AssignElement : goal.returns-in_ok-assign_element-in-AssignElement
-returns-in_ok-assign_element-in-AssignElement c =
+pub returns-in_ok-value-in-AssignElement : goal.returns-in_ok-value-in-AssignElement
+returns-in_ok-value-in-AssignElement c =
     let names = numbered_by c.args.tables.now in
     let j = c.deref-in-AssignElement.result.now in
     let e = c.deref-in-AssignElement-2.result.now in
@@ -24,7 +24,8 @@ returns-in_ok-assign_element-in-AssignElement c =
     (view_resolved_expression e)) c.deref-in-AssignElement.ensures
     ∙ ap (λ z. trees.AssignElement x (view_resolved_expression c.in-AssignElement.index.value) o
     (view_resolved_expression z)) c.deref-in-AssignElement-2.ensures in
-    effect_is names c.args.line (trees.AssignElement x (view_resolved_expression j) o (view_resolved_expression e))
+    on_ok_weaker c.assign_element.result
+    (λ h. effect_is names c.args.line (trees.AssignElement x (view_resolved_expression j) o (view_resolved_expression e))
     (view_resolved_expression c.args.e.now)
     _ _ (same ∙ sym is)
     (emits_element_assigned names c.args.line false x (view_resolved_expression j) (compound_of o)
@@ -36,10 +37,11 @@ returns-in_ok-assign_element-in-AssignElement c =
       operator = o;
       keeps = false;
     }) _ _
-    c.dropped-in-AssignElement.ensures c.in_ok-assign_element-in-AssignElement.ensures))
+    c.dropped-in-AssignElement.ensures h)))
+    c.assign_element.ensures
 
-pub returns-in_ok-step_element-in-PostfixElement : goal.returns-in_ok-step_element-in-PostfixElement
-returns-in_ok-step_element-in-PostfixElement c =
+pub returns-in_ok-value-in-PostfixElement : goal.returns-in_ok-value-in-PostfixElement
+returns-in_ok-value-in-PostfixElement c =
     let names = numbered_by c.args.tables.now in
     let j = c.deref-in-PostfixElement.result.now in
     let x = c.in-PostfixElement.array in
@@ -47,7 +49,8 @@ returns-in_ok-step_element-in-PostfixElement c =
     let is = ap view_resolved_expression c.in-PostfixElement.is
     ∙ view_postfix_element x c.in-PostfixElement.index o in
     let same = ap (λ z. trees.PostfixElement x (view_resolved_expression z) o) c.deref-in-PostfixElement.ensures in
-    effect_is names c.args.line (trees.PostfixElement x (view_resolved_expression j) o)
+    on_ok_weaker c.step_element.result
+    (λ h. effect_is names c.args.line (trees.PostfixElement x (view_resolved_expression j) o)
     (view_resolved_expression c.args.e.now) _ _ (same ∙ sym is)
     (emits_element_assigned names c.args.line false x (view_resolved_expression j) (Some (step_of o))
     (λ at. constant at c.args.line (pos 1)) _ _ _
@@ -58,17 +61,20 @@ returns-in_ok-step_element-in-PostfixElement c =
       keeps =
           false;
     }) _ _
-    c.stepped-in-PostfixElement.ensures c.in_ok-step_element-in-PostfixElement.ensures))
+    c.stepped-in-PostfixElement.ensures h)))
+    c.step_element.ensures
 
-pub returns-in_ok-put-in-Call : goal.returns-in_ok-put-in-Call
-returns-in_ok-put-in-Call c =
+pub returns-in_ok-call-in-Call : goal.returns-in_ok-call-in-Call
+returns-in_ok-call-in-Call c =
     let names = numbered_by c.args.tables.now in
     let is = ap view_resolved_expression c.in-Call.is ∙ view_call c.in-Call.function c.in-Call.arguments in
     let same = ap (λ es. trees.Call c.in-Call.function (listed es)) c.as_slice-in-Call.ensures.value in
-    effect_is names c.args.line (trees.Call c.in-Call.function (listed c.as_slice-in-Call.result.now))
+    on_ok_weaker c.put.result
+    (λ h. effect_is names c.args.line (trees.Call c.in-Call.function (listed c.as_slice-in-Call.result.now))
     (view_resolved_expression c.args.e.now) _ _ (same ∙ sym is)
     (emits_dropped_call names c.args.line c.in-Call.function
-    (listed c.as_slice-in-Call.result.now) _ _ _ c.in_ok-call-in-Call.ensures c.in_ok-put-in-Call.ensures)
+    (listed c.as_slice-in-Call.result.now) _ _ _ c.in_ok-call-in-Call.ensures h))
+    c.put.ensures
 
 pub returns-in-Print : goal.returns-in-Print
 returns-in-Print c =

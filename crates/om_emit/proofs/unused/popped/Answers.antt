@@ -1,3 +1,4 @@
+use Rattle.std.proofs.lemmas.Result.{on_ok_weaker}
 use Rattle.om_emit.proofs.Expressions.{emits_popped}
 use Rattle.om_resolved.specs.ResolvedView.{view_resolved_expression}
 use Rattle.om_rows.specs.BodyTables.{numbered_by}
@@ -5,5 +6,7 @@ use Rattle.om_emit.proofs.unused.popped.Goals as goal
 
 pub returns : goal.returns
 returns c =
-    emits_popped (numbered_by c.args.tables.now) c.args.line
-    (view_resolved_expression c.args.e.now) _ _ _ c.in_ok-value.ensures c.in_ok-put.ensures
+    on_ok_weaker c.put.result
+    (λ h. emits_popped (numbered_by c.args.tables.now) c.args.line
+    (view_resolved_expression c.args.e.now) _ _ _ c.in_ok-value.ensures h)
+    c.put.ensures

@@ -7,7 +7,7 @@ use Rattle.om_lower.proofs.bodies.add_next.Goals as goal
 
 pub returns-clause-adds : goal.returns-clause-adds
 returns-clause-adds c =
-    adds_in (view_resolved c.args.whole.now.resolved.now) c.args.site.now _ _ c.args.made.now c.add_body.new.made
+    adds_in (view_resolved c.args.whole.now.resolved.now) c.args.site.now _ _ c.args.made.now c.add_body-added.new.made
     c.in_ok-fits.fits
     (c.innermost-outer.ensures
     ∙ ap innermost (round_seen c.args.round.now.items c.as_slice.result.now (λ one. one.now) c.args.site.now.depth

@@ -1,4 +1,5 @@
 use Rattle.std.proofs.Common.{[], sym, subst}
+use Rattle.std.proofs.lemmas.Result.{on_ok_weaker}
 use Rattle.std.specs.Prelude.{OnOk}
 use Rattle.om_lower.specs.Emitted.{EmitsBody}
 use Rattle.om_sights.specs.Sites.{body_in, part_tree}
@@ -14,30 +15,30 @@ returns-in-Function-clause-scopes c =
     (λ at. body_scopes at b.function (part_tree part)) c.args.writing.now c.write_function.new.writing))
     (sym c.in-Function.is) c.write_function.ensures.scopes
 
-pub returns-in_ok-write_parallel-in-Parallel-clause-code : goal.returns-in_ok-write_parallel-in-Parallel-clause-code
-returns-in_ok-write_parallel-in-Parallel-clause-code c =
+pub returns-in-Parallel-clause-code : goal.returns-in-Parallel-clause-code
+returns-in-Parallel-clause-code c =
     let b = body_in [] c.args.site.now in
-    subst (λ part. EmitsBody (numbered_by c.args.tables.now) b.numbers b.function (part_tree part)
-    c.args.writing.now.draft c.write_parallel.new.writing.draft)
-    (sym c.in-Parallel.is) (c.in_ok-write_parallel-in-Parallel.ensures.code b.function)
+    subst (λ part. OnOk c.write_parallel.result (EmitsBody (numbered_by c.args.tables.now) b.numbers b.function
+    (part_tree part) c.args.writing.now.draft c.write_parallel.new.writing.draft))
+    (sym c.in-Parallel.is) (on_ok_weaker c.write_parallel.result (λ h. h b.function) c.write_parallel.ensures.code)
 
-pub returns-in_ok-write_parallel-in-Parallel-clause-scopes : goal.returns-in_ok-write_parallel-in-Parallel-clause-scopes
-returns-in_ok-write_parallel-in-Parallel-clause-scopes c =
+pub returns-in-Parallel-clause-scopes : goal.returns-in-Parallel-clause-scopes
+returns-in-Parallel-clause-scopes c =
     let b = body_in [] c.args.site.now in
-    subst (λ part. EmitsScopes (numbered_by c.args.tables.now) (λ at. body_scopes at b.function (part_tree part))
-    c.args.writing.now c.write_parallel.new.writing)
-    (sym c.in-Parallel.is) (c.in_ok-write_parallel-in-Parallel.ensures.scopes b.function)
+    subst (λ part. OnOk c.write_parallel.result (EmitsScopes (numbered_by c.args.tables.now)
+    (λ at. body_scopes at b.function (part_tree part)) c.args.writing.now c.write_parallel.new.writing))
+    (sym c.in-Parallel.is) (on_ok_weaker c.write_parallel.result (λ h. h b.function) c.write_parallel.ensures.scopes)
 
-pub returns-in_ok-write_task-in-Task-clause-code : goal.returns-in_ok-write_task-in-Task-clause-code
-returns-in_ok-write_task-in-Task-clause-code c =
+pub returns-in-Task-clause-code : goal.returns-in-Task-clause-code
+returns-in-Task-clause-code c =
     let b = body_in [] c.args.site.now in
-    subst (λ part. EmitsBody (numbered_by c.args.tables.now) b.numbers b.function (part_tree part)
-    c.args.writing.now.draft c.write_task.new.writing.draft)
-    (sym c.in-Task.is) (c.in_ok-write_task-in-Task.ensures.code b.function)
+    subst (λ part. OnOk c.write_task.result (EmitsBody (numbered_by c.args.tables.now) b.numbers b.function
+    (part_tree part) c.args.writing.now.draft c.write_task.new.writing.draft))
+    (sym c.in-Task.is) (on_ok_weaker c.write_task.result (λ h. h b.function) c.write_task.ensures.code)
 
-pub returns-in_ok-write_task-in-Task-clause-scopes : goal.returns-in_ok-write_task-in-Task-clause-scopes
-returns-in_ok-write_task-in-Task-clause-scopes c =
+pub returns-in-Task-clause-scopes : goal.returns-in-Task-clause-scopes
+returns-in-Task-clause-scopes c =
     let b = body_in [] c.args.site.now in
-    subst (λ part. EmitsScopes (numbered_by c.args.tables.now) (λ at. body_scopes at b.function (part_tree part))
-    c.args.writing.now c.write_task.new.writing)
-    (sym c.in-Task.is) (c.in_ok-write_task-in-Task.ensures.scopes b.function)
+    subst (λ part. OnOk c.write_task.result (EmitsScopes (numbered_by c.args.tables.now)
+    (λ at. body_scopes at b.function (part_tree part)) c.args.writing.now c.write_task.new.writing))
+    (sym c.in-Task.is) (on_ok_weaker c.write_task.result (λ h. h b.function) c.write_task.ensures.scopes)

@@ -1,4 +1,5 @@
 use Rattle.std.proofs.Common.{ap}
+use Rattle.std.proofs.lemmas.Result.{on_ok_weaker}
 use Rattle.om_lower.proofs.Wholes.{function_emits, function_scopes}
 use Rattle.om_resolved.specs.ResolvedTree as trees
 use Rattle.om_resolved.specs.ResolvedView.{view_resolved_function, view_resolved_statement}
@@ -8,16 +9,20 @@ use Rattle.om_lower.proofs.whole.write_function.Goals as goal
 
 pub returns-clause-code : goal.returns-clause-code
 returns-clause-code c =
-    function_emits (numbered_by c.args.tables.now) (view_resolved_function c.args.function.now) c.args.numbers
+    on_ok_weaker c.end.result
+    (λ h. function_emits (numbered_by c.args.tables.now) (view_resolved_function c.args.function.now) c.args.numbers
     _ _ _ _ _ _
     c.outside-spot.ensures
     (ap (λ items. trees.statements (map view_resolved_statement items)) c.as_slice-2.ensures.value)
-    c.last_instruction-last.ensures c.in_ok-statements.ensures.emitted c.in_ok-put.ensures
+    c.last_instruction-last.ensures c.in_ok-statements.ensures.emitted c.in_ok-put.ensures)
+    c.end.ensures
 
 pub returns-clause-scopes : goal.returns-clause-scopes
 returns-clause-scopes c =
-    function_scopes (numbered_by c.args.tables.now) (view_resolved_function c.args.function.now) _ _ _ _ _ _ _ _ _ _ _ _
+    on_ok_weaker c.end.result
+    (λ h. function_scopes (numbered_by c.args.tables.now) (view_resolved_function c.args.function.now) _ _ _ _ _ _ _ _ _ _ _ _
     (ap (λ items. trees.statements (map view_resolved_statement items)) c.as_slice-2.ensures.value)
     c.as_slice.ensures c.height-height.ensures c.place-to.ensures
     (c.in_ok-parameters.ensures (numbered_by c.args.tables.now) _) c.in_ok-statements.ensures.scopes c.in_ok-put.ensures
-    c.in_ok-end.ensures
+    h)
+    c.end.ensures

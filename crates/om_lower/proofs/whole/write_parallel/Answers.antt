@@ -1,4 +1,5 @@
 use Rattle.std.specs.Prelude.{map}
+use Rattle.std.proofs.lemmas.Result.{on_ok_weaker}
 use Rattle.om_lower.proofs.Wholes.{parallel_emits, parallel_scopes}
 use Rattle.om_resolved.specs.ResolvedView.{view_resolved_clause}
 use Rattle.om_rows.specs.BodyTables.{numbered_by}
@@ -6,16 +7,20 @@ use Rattle.om_lower.proofs.whole.write_parallel.Goals as goal
 
 pub returns-clause-code : goal.returns-clause-code
 returns-clause-code c =
-    parallel_emits (numbered_by c.args.tables.now) c.args.numbers _ c.args.region.now.at
+    on_ok_weaker c.end.result
+    (λ h. parallel_emits (numbered_by c.args.tables.now) c.args.numbers _ c.args.region.now.at
     (map view_resolved_clause c.args.region.now.clauses.now) c.args.region.now.captures.now _ _ _ _ _ _ _ _
     c.outside-spot.ensures
     c.in_ok-put.ensures c.in_ok-reduction_starts.ensures.code c.in_ok-inner.ensures.emitted
-    c.in_ok-reductions.ensures c.in_ok-put-2.ensures c.in_ok-put-3.ensures
+    c.in_ok-reductions.ensures c.in_ok-put-2.ensures c.in_ok-put-3.ensures)
+    c.end.ensures
 
 pub returns-clause-scopes : goal.returns-clause-scopes
 returns-clause-scopes c =
-    parallel_scopes (numbered_by c.args.tables.now) c.args.region.now.at
+    on_ok_weaker c.end.result
+    (λ h. parallel_scopes (numbered_by c.args.tables.now) c.args.region.now.at
     (map view_resolved_clause c.args.region.now.clauses.now) c.args.region.now.captures.now _ _ _ _ _ _ _ _ _ _ _ _ _
     _ _ _ _ c.height-height.ensures c.place-to.ensures c.in_ok-put.ensures c.in_ok-reduction_starts.ensures.scopes
     c.in_ok-inner.ensures.scopes c.in_ok-reductions.ensures c.in_ok-put-2.ensures c.in_ok-put-3.ensures
-    c.in_ok-end.ensures
+    h)
+    c.end.ensures

@@ -101,3 +101,6 @@ note_statement-note_statement-requires-in-Construct t c = (
   ),
   tt,
 )
+
+pub note_region-note_statement-requires : goal.note_region-note_statement-requires
+note_region-note_statement-requires t c = (omega (arith, c.decreases), tt)
