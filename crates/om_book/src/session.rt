@@ -150,14 +150,12 @@ impl<L: Sitting> Desk<L> {
         };
         let (reply, copy) = book.apply_with_copy(alloc, seat.number, command)?;
         calls.add(&mut seat.share, 1);
-        match seat.receipts.push(Receipt {
+        seat.receipts.push_reserved(Receipt {
             place: place as u64,
             command: asked,
             reply: copy,
-        }) {
-            Ok(()) => Ok(reply),
-            Err(_) => unreachable!(),
-        }
+        });
+        Ok(reply)
     }
 }
 

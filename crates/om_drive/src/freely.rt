@@ -150,7 +150,6 @@ fn free_in<
 }
 
 /// Starts the last debuggee's thread, then those before it, and joins them on the way back.
-#[tactic(auto, using(crate::proofs::Stepping::sum_last))]
 fn free_from<
     's,
     E,

@@ -70,7 +70,7 @@ pub fn finish(
         team: context.team.get().name,
         phase: context.phase,
     };
-    let row = finished(alloc, context, value, is_zero(alloc, store, pending))?;
     let names = name_with_events(alloc, pending, Mode::Read, worker)?;
+    let row = finished(alloc, context, value, is_zero(alloc, store, pending))?;
     Ok(Answer { names, row })
 }

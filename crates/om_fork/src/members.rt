@@ -74,8 +74,8 @@ pub(crate) fn member(alloc: Global, team: &Team, frame: &Frame) -> Result<Contex
     requires { length team.now.name ≤ 63 }
     ensures { IfOk result (λ context. context ≡ member team.now frame.now) }
 {
-    let standing = in_no_group(alloc, &member_name(&team.name, team.number), team)?;
     let frame = frame.copy(alloc)?;
+    let standing = in_no_group(alloc, &member_name(&team.name, team.number), team)?;
     new_context(alloc, Kind::Implicit, 0, standing, frame)
 }
 

@@ -37,6 +37,7 @@ pub fn begin(alloc: Global, at: At, context: &Context) -> Result<Answer, AllocEr
               (begin_row at.worker at.to (plain_context context.now)).row [];
         }) }
 {
+    let edits = go_on(alloc, at.to)?;
     let begun = Record::ImplicitTask {
         endpoint: Endpoint::Begin,
         team: context.team.get().name,
@@ -45,7 +46,6 @@ pub fn begin(alloc: Global, at: At, context: &Context) -> Result<Answer, AllocEr
         number: context.team.get().number,
         flag: TaskFlag::Implicit,
     };
-    let edits = go_on(alloc, at.to)?;
     recorded(alloc, at.worker, edits, begun)
 }
 

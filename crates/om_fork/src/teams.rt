@@ -23,6 +23,7 @@ use om_live::{Context, Store};
 use om_seq::Seq;
 use om_steps::begin::first_frame;
 use om_steps::names::{homes_in, name_events, operands_of};
+use om_steps::parts::go_and_then;
 use om_steps::updates::put_event;
 use om_steps::{Answer, Launch, Row};
 use std::alloc::{AllocError, Global};
@@ -137,16 +138,9 @@ fn fork_edits(
         (λ edits. edits ≡ Edit.Go launch.to launch.takes None ∷ Edit.CountBirth
         ∷ Edit.BeginContext (member team.now frame.now) ∷ []) }
 {
-    let go = Edit::Go {
-        to: launch.to,
-        takes: launch.takes,
-        pushed: None,
-    };
-    let mut edits = Seq::one(alloc, go)?;
-    edits.push(Edit::CountBirth)?;
     let member = Shared::of(alloc, member(alloc, team, frame)?)?;
-    edits.push(Edit::BeginContext(member))?;
-    Ok(edits)
+    let begin = Edit::BeginContext(member);
+    go_and_then(alloc, launch.to, launch.takes, Edit::CountBirth, begin)
 }
 
 /// The row of a FORK that makes a team, whose members begin with this frame.

@@ -45,8 +45,8 @@ fn place_from_end(rows: &[Row], serial: u64) -> Option<usize>
         (λ i. (r : Row) × (slice_get rows.now i ≡ Some r) × (r.serial ≡ serial)) }
 {
     let (last, earlier) = rows.split_last()?;
-    let behind = last.serial.checked_sub(serial)?;
-    let place = earlier.len().checked_sub(behind as usize)?;
+    let behind = last.serial.saturating_sub(serial);
+    let place = earlier.len().saturating_sub(behind as usize);
     let row = rows.get(place)?;
     (row.serial == serial).then_some(place)
 }

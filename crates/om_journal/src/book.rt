@@ -333,14 +333,12 @@ fn append_step(
         return Err(AllocError);
     };
     let reply = machine.take(alloc, step)?;
-    match journal.push(JournalRecord {
+    journal.push_reserved(JournalRecord {
         seat,
         command: asked,
         reply: Reply::Step(reply),
-    }) {
-        Ok(()) => Ok(reply),
-        Err(_) => unreachable!(),
-    }
+    });
+    Ok(reply)
 }
 
 /// Does what a command asks, and adds its record; the reply comes twice. When out of memory, nothing
@@ -365,14 +363,12 @@ fn append_thrice(
     journal.reserve(1)?;
     let asked = KeptCommand::of(alloc, command)?;
     let replies = done_thrice(alloc, machine, command)?;
-    match journal.push(JournalRecord {
+    journal.push_reserved(JournalRecord {
         seat,
         command: asked,
         reply: replies.kept,
-    }) {
-        Ok(()) => Ok((replies.answer, replies.receipt)),
-        Err(_) => unreachable!(),
-    }
+    });
+    Ok((replies.answer, replies.receipt))
 }
 
 /// How many steps the calls of a journal made.

@@ -2,7 +2,6 @@
 
 use crate::same::Same;
 use om_code::frame::{Cell, Fault, Operand};
-use om_code::instruction::Schedule;
 
 impl Same for Operand {
     fn is_same(&self, other: &Operand) -> bool {
@@ -18,12 +17,6 @@ impl Same for Cell {
 
 impl Same for Fault {
     fn is_same(&self, other: &Fault) -> bool {
-        self == other
-    }
-}
-
-impl Same for Schedule {
-    fn is_same(&self, other: &Schedule) -> bool {
         self == other
     }
 }

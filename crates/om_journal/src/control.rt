@@ -1,7 +1,7 @@
 //! Whether two controls, or parts of them, are the same.
 
 use crate::same::Same;
-use om_cells::{Construct, Context, Control, Frame, Home, Kind, Share, Sharing, Stack, Team};
+use om_cells::{Construct, Context, Control, Frame, Home, Share, Stack, Team};
 
 impl Same for Home {
     fn is_same(&self, other: &Home) -> bool {
@@ -36,26 +36,14 @@ impl Same for Team {
     }
 }
 
-impl Same for Kind {
-    fn is_same(&self, other: &Kind) -> bool {
-        self == other
-    }
-}
-
-impl Same for Sharing {
-    fn is_same(&self, other: &Sharing) -> bool {
-        self == other
-    }
-}
-
 impl Same for Share {
     fn is_same(&self, other: &Share) -> bool {
-        self.sharing.is_same(&other.sharing)
+        self.sharing == other.sharing
             && self.region == other.region
             && self.count == other.count
             && self.lower == other.lower
             && self.step == other.step
-            && self.schedule.is_same(&other.schedule)
+            && self.schedule == other.schedule
             && self.taken == other.taken
             && self.next == other.next
             && self.end == other.end
@@ -78,7 +66,7 @@ impl Same for Construct {
 impl Same for Context {
     fn is_same(&self, other: &Context) -> bool {
         self.task.is_same(&other.task)
-            && self.kind.is_same(&other.kind)
+            && self.kind == other.kind
             && self.team.is_same(&other.team)
             && self.phase == other.phase
             && self.births == other.births

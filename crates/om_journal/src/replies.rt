@@ -1,6 +1,6 @@
 //! The machine's reply to a command, once or three times: all copies are made before anything changes.
 
-ghost use Rattle.std.specs.Prelude.{◌≡◌, ◌<◌, ◌^◌, IfOk, OnOk, OnErr, true};
+ghost use Rattle.std.specs.Prelude.{◌≡◌, ◌<◌, ◌^◌, IfOk, IfSome, IsNone, OnOk, OnErr, true};
 ghost use Rattle.om_journal.specs.Kept.{is_conflict};
 ghost use Rattle.om_journal.specs.Runs.{IsInRange, IsReply, after, answer_to};
 
@@ -9,7 +9,7 @@ use crate::kept::KeptUndoReply;
 use crate::reply::Reply;
 use om_seq::Seq;
 use om_undo::laws::{one_ready_list, ready_names_are_ready};
-use om_undo::{Machine, RollReply, StepReply, UndoReply};
+use om_undo::{Machine, RollReply, StepReply, Taken, UndoReply};
 use std::alloc::{AllocError, Global};
 
 /// One reply, three times.
@@ -126,9 +126,19 @@ fn undone(alloc: Global, reply: &UndoReply) -> Result<Replies, AllocError>
     })
 }
 
+/// What a roll answers that takes these entries out.
+fn rolled(taken: Option<Vec<Taken>>) -> Reply
+    ensures some { IfSome taken (λ v. result ≡ Reply.Roll (RollReply.Rolled v.items)) }
+    ensures none { IsNone taken → result ≡ Reply.Roll RollReply.NoEntry }
+{
+    match taken {
+        Some(taken) => Reply::Roll(RollReply::Rolled(Seq::of(taken))),
+        None => Reply::Roll(RollReply::NoEntry),
+    }
+}
+
 /// Rolls the entry with a serial, and answers three times. What it takes out is found beforehand for the
 /// copies.
-#[tactic(auto, using(crate::proofs::Rolls::rolled_same))]
 fn roll_thrice(alloc: Global, machine: &mut Machine, serial: u64) -> Result<Replies, AllocError>
     ensures reply { IfOk result (λ x. IsReply machine.old (Command.Roll serial) x.answer) }
     ensures same { IfOk result (λ x. (x.receipt ≡ x.answer) × (x.kept ≡ x.answer)) }
@@ -137,19 +147,12 @@ fn roll_thrice(alloc: Global, machine: &mut Machine, serial: u64) -> Result<Repl
 {
     let receipt = machine.cone(alloc, serial)?;
     let kept = machine.cone(alloc, serial)?;
-    match (machine.roll(alloc, serial)?, receipt, kept) {
-        (RollReply::NoEntry, _, _) => Ok(Replies {
-            answer: Reply::Roll(RollReply::NoEntry),
-            receipt: Reply::Roll(RollReply::NoEntry),
-            kept: Reply::Roll(RollReply::NoEntry),
-        }),
-        (RollReply::Rolled(taken), Some(receipt), Some(kept)) => Ok(Replies {
-            answer: Reply::Roll(RollReply::Rolled(taken)),
-            receipt: Reply::Roll(RollReply::Rolled(Seq::of(receipt))),
-            kept: Reply::Roll(RollReply::Rolled(Seq::of(kept))),
-        }),
-        _ => unreachable!(),
-    }
+    let answer = machine.roll(alloc, serial)?;
+    Ok(Replies {
+        answer: Reply::Roll(answer),
+        receipt: rolled(receipt),
+        kept: rolled(kept),
+    })
 }
 
 /// Answers a question three times.

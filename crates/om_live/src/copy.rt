@@ -1,11 +1,11 @@
 //! Plain copies of controls in the form that is changed in place.
 
-ghost use Rattle.std.specs.Prelude.{◌≡◌, IfOk, map};
+ghost use Rattle.std.specs.Prelude.{◌≡◌, IfOk, map, reverse};
 ghost use Rattle.om_live.specs.Plain.{plain_frame, plain_box, plain_context, plain_held};
 ghost use Rattle.om_live.specs.Plain.{plain_stack, plain_control};
 
 use crate::control::{Context, Control, Frame, Stack};
-use crate::live::shares_of;
+use crate::live::{shares_of, ties_of};
 use om_cells::{
     Context as PlainContext, Control as PlainControl, Frame as PlainFrame, Shared, SharedPile,
     Stack as PlainStack,
@@ -27,61 +27,63 @@ fn plain_frame_of(alloc: Global, frame: &Frame) -> Result<PlainFrame, AllocError
     })
 }
 
-/// Plain copies of frames, in their order.
-fn plain_frames_of(
+/// The plain stack of frames that wait, the last one on top.
+fn plain_callers_of(
     alloc: Global,
     frames: &[Box<Frame>],
-) -> Result<Vec<Shared<PlainFrame>>, AllocError>
-    ensures { IfOk result (λ v. v.items ≡ map plain_box frames.now) }
+) -> Result<SharedPile<PlainFrame>, AllocError>
+    ensures { IfOk result (λ plain. plain ≡ reverse (map plain_box frames.now)) }
 {
     let mut copies = Vec::with_capacity(alloc, frames.len())?;
     for frame in frames {
         copies.push(Shared::of(alloc, plain_frame_of(alloc, frame)?)?)?;
     }
-    Ok(copies)
+    SharedPile::of(alloc, copies)
 }
 
 /// A plain copy of a context; its only error is out of memory.
 fn plain_context_of(alloc: Global, context: &Context) -> Result<PlainContext, AllocError>
     ensures { IfOk result (λ plain. plain ≡ plain_context context.now) }
 {
-    let constructs = shares_of(alloc, context.constructs.as_slice())?;
-    let callers = plain_frames_of(alloc, context.callers.as_slice())?;
+    let shares = shares_of(alloc, context.constructs.as_slice())?;
+    let constructs = SharedPile::of(alloc, shares)?;
+    let callers = plain_callers_of(alloc, context.callers.as_slice())?;
+    let frame = plain_frame_of(alloc, &context.frame)?;
+    let ties = ties_of(&context.task, &context.team, &context.group)?;
     Ok(PlainContext {
-        task: context.task.copy()?,
+        task: ties.task,
         kind: context.kind,
-        team: context.team.copy()?,
+        team: ties.team,
         phase: context.phase,
         births: context.births,
         regions: context.regions,
         frames: context.frames,
-        group: context.group.copy()?,
-        constructs: SharedPile::of(alloc, constructs)?,
-        frame: plain_frame_of(alloc, &context.frame)?,
-        callers: SharedPile::of(alloc, callers)?,
+        group: ties.group,
+        constructs,
+        frame,
+        callers,
     })
 }
 
-/// Plain copies of contexts, in their order.
-fn plain_contexts_of(
+/// The plain stack of the contexts below the running one, the last one on top.
+fn plain_below_of(
     alloc: Global,
     contexts: &[Box<Context>],
-) -> Result<Vec<Shared<PlainContext>>, AllocError>
-    ensures { IfOk result (λ v. v.items ≡ map plain_held contexts.now) }
+) -> Result<SharedPile<PlainContext>, AllocError>
+    ensures { IfOk result (λ plain. plain ≡ reverse (map plain_held contexts.now)) }
 {
     let mut copies = Vec::with_capacity(alloc, contexts.len())?;
     for context in contexts {
         copies.push(Shared::of(alloc, plain_context_of(alloc, context)?)?)?;
     }
-    Ok(copies)
+    SharedPile::of(alloc, copies)
 }
 
 /// A plain copy of a stack.
 fn plain_stack_of(alloc: Global, stack: &Stack) -> Result<PlainStack, AllocError>
     ensures { IfOk result (λ plain. plain ≡ plain_stack stack.now) }
 {
-    let contexts = plain_contexts_of(alloc, stack.below.as_slice())?;
-    let below = SharedPile::of(alloc, contexts)?;
+    let below = plain_below_of(alloc, stack.below.as_slice())?;
     Ok(PlainStack {
         top: plain_context_of(alloc, &stack.top)?,
         below,

@@ -8,9 +8,17 @@ use crate::control::{Context, Control, Frame, Stack};
 use crate::tape::Tape;
 use om_cells::{
     Construct, Context as PlainContext, Control as PlainControl, Frame as PlainFrame, Shared,
-    Stack as PlainStack,
+    Stack as PlainStack, Team,
 };
+use om_foot::Name;
 use std::alloc::{AllocError, Global};
+
+/// This value in a box; the only error is out of memory.
+pub(crate) fn boxed<T: Drop>(alloc: Global, value: T) -> Result<Box<T>, AllocError>
+    ensures { IfOk result (λ made. made.value ≡ value) }
+{
+    Ok(Box::new(alloc, value)?)
+}
 
 /// A frame that stands for a plain one; the only error is out of memory.
 fn frame_of(alloc: Global, plain: &PlainFrame) -> Result<Box<Frame>, AllocError>
@@ -23,7 +31,7 @@ fn frame_of(alloc: Global, plain: &PlainFrame) -> Result<Box<Frame>, AllocError>
         operands: Tape::of(Vec::from_slice(alloc, plain.operands.as_slice())?),
         homes: plain.homes.copy()?,
     };
-    Ok(Box::new(alloc, frame)?)
+    boxed(alloc, frame)
 }
 
 /// Frames that stand for plain ones, in their order.
@@ -51,26 +59,52 @@ pub(crate) fn shares_of(
     Ok(constructs)
 }
 
+/// What a context has of its task: its name, its place in its team, and the group in which it began.
+#[derive(Drop)]
+pub(crate) struct Ties {
+    pub(crate) task: Shared<Name>,
+    pub(crate) team: Shared<Team>,
+    pub(crate) group: Shared<Option<Name>>,
+}
+
+/// These ties, shared once more; the only error is out of memory.
+pub(crate) fn ties_of(
+    task: &Shared<Name>,
+    team: &Shared<Team>,
+    group: &Shared<Option<Name>>,
+) -> Result<Ties, AllocError>
+    ensures { IfOk result
+        (λ ties. ties ≡ record { task = task.now; team = team.now; group = group.now }) }
+{
+    Ok(Ties {
+        task: task.copy()?,
+        team: team.copy()?,
+        group: group.copy()?,
+    })
+}
+
 /// A context that stands for a plain one; the only error is out of memory.
 pub fn context_of(alloc: Global, plain: &PlainContext) -> Result<Box<Context>, AllocError>
     ensures { IfOk result (λ b. plain_context b.value ≡ plain.now) }
 {
     let constructs = shares_of(alloc, plain.constructs.shares().as_slice())?;
     let callers = frames_of(alloc, plain.callers.shares().as_slice())?;
+    let frame = frame_of(alloc, &plain.frame)?;
+    let ties = ties_of(&plain.task, &plain.team, &plain.group)?;
     let context = Context {
-        task: plain.task.copy()?,
+        task: ties.task,
         kind: plain.kind,
-        team: plain.team.copy()?,
+        team: ties.team,
         phase: plain.phase,
         births: plain.births,
         regions: plain.regions,
         frames: plain.frames,
-        group: plain.group.copy()?,
+        group: ties.group,
         constructs: Tape::of(constructs),
-        frame: frame_of(alloc, &plain.frame)?,
+        frame,
         callers: Tape::of(callers),
     };
-    Ok(Box::new(alloc, context)?)
+    boxed(alloc, context)
 }
 
 /// Contexts that stand for plain ones, in their order.

@@ -22,6 +22,7 @@ use om_code::frame::Cell;
 use om_foot::{Name, Obj};
 use om_seq::Seq;
 use std::alloc::{AllocError, Global};
+use std::mem;
 
 /// A total map from objects to values: an object that isn't kept holds its default.
 ///
@@ -248,10 +249,14 @@ impl Store {
         let control = control_of(alloc, control)?;
         match grow(alloc, &mut self.trails, worker) {
             Ok(()) => {
-                self.trails[worker as usize] = Trail::of(alloc, control);
+                let trail = Trail::of(alloc, control);
+                drop(mem::replace(&mut self.trails[worker as usize], trail));
                 Ok(())
             }
-            Err(error) => Err(error),
+            Err(error) => {
+                drop(control);
+                Err(error)
+            }
         }
     }
 

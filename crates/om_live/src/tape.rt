@@ -154,13 +154,23 @@ impl<T> Tape<T> {
         self.height += 1;
     }
 
+    /// Takes the top item in exchange for another one, which lies on top in its place.
+    fn swap_top(&mut self, item: &mut T)
+        requires { 0 < length self.old.items }
+        ensures top { Some item.new ≡ slice_get self.old.items 0 }
+        ensures exchanged { self.new ≡ exchanged item.old self.old }
+    {
+        mem::swap(&mut self.slots[self.height - 1], item);
+    }
+
     /// Puts an item in the place of the top one, and answers that one. It takes no memory.
-    pub fn exchange_top(&mut self, item: T) -> T
+    pub fn exchange_top(&mut self, mut item: T) -> T
         requires { 0 < length self.old.items }
         ensures top { Some result ≡ slice_get self.old.items 0 }
         ensures exchanged { self.new ≡ exchanged item self.old }
     {
-        mem::replace(&mut self.slots[self.height - 1], item)
+        self.swap_top(&mut item);
+        item
     }
 
     /// Pushes the item that runs and has another one run, and answers the taken one that it lies
@@ -174,17 +184,9 @@ impl<T> Tape<T> {
         ensures unchanged_on_error { OnErr result (self.new ≡ self.old) }
         ensures running_on_error { OnErr result (running.new ≡ running.old) }
     {
-        if self.height < self.slots.len() {
-            let waiting = mem::replace(running, next);
-            let over = mem::replace(&mut self.slots[self.height], waiting);
-            self.height += 1;
-            Ok(Some(over))
-        } else {
-            self.slots.push(next)?;
-            mem::swap(&mut self.slots[self.height], running);
-            self.height += 1;
-            Ok(None)
-        }
+        let over = self.push(next)?;
+        self.swap_top(running);
+        Ok(over)
     }
 
     /// Takes such a push back, by what it answered. It takes no memory.
@@ -196,7 +198,7 @@ impl<T> Tape<T> {
         ensures running { Some running.new ≡ slice_get self.old.items 0 }
         ensures unpushed { self.new ≡ unpushed over self.old }
     {
-        mem::swap(&mut self.slots[self.height - 1], running);
+        self.swap_top(running);
         self.unpush(over);
     }
 }

@@ -11,7 +11,7 @@ use om_live::Context;
 use om_seq::Seq;
 use om_steps::Row;
 use om_steps::names::innermost;
-use om_steps::parts::go_and;
+use om_steps::parts::{go_and, go_and_then};
 use std::alloc::{AllocError, Global};
 
 /// The two places at which an instruction can go on.
@@ -45,10 +45,8 @@ pub(crate) fn begun(
 ) -> Result<Seq<Edit>, AllocError>
     ensures { IfOk result (λ es. es ≡ begun to takes region.now) }
 {
-    let mut edits = go_and(alloc, to, takes, Edit::CountRegion)?;
     let region = Shared::of(alloc, *region)?;
-    edits.push(Edit::Open(region))?;
-    Ok(edits)
+    go_and_then(alloc, to, takes, Edit::CountRegion, Edit::Open(region))
 }
 
 /// The row that goes on at a place, and changes nothing else.

@@ -11,6 +11,7 @@ ghost use Rattle.om_steps.specs.Objects.{read, write};
 ghost use Rattle.om_steps.specs.SerialRows.{row_of, unsets, cleared, serial_row, slots_in};
 
 use crate::names::{name, name_slot, object_of, operands_of};
+use crate::parts::name_one;
 use crate::updates::put_cell;
 use crate::{Answer, Row};
 use om_cells::{Edit, Tail, Update, Val};
@@ -124,9 +125,8 @@ fn printing(alloc: Global, next: u32, bytes: Seq<u8>, turn: Turn) -> Result<Answ
               (Update.Append (Tail.Bytes bytes) ∷ []) turn;
         }) }
 {
-    let mut names = Seq::new(alloc);
-    name(&mut names, Obj::Output, Mode::Write)?;
     let updates = Seq::one(alloc, Update::Append(Tail::Bytes(bytes)))?;
+    let names = name_one(alloc, &Obj::Output, Mode::Write)?;
     let row = row_of(alloc, next, updates, turn)?;
     Ok(Answer { names, row })
 }

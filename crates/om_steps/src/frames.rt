@@ -158,6 +158,9 @@ pub fn reduce(
     let copy = &read(object_of(context, Place::Slot(combining.copy), 0));
     let original = &write(object_of(context, combining.original, 0));
     let to = context.frame.next + 1;
+    let mut names = Seq::new(alloc);
+    name(&mut names, copy.object, copy.mode)?;
+    name(&mut names, original.object, original.mode)?;
     let row = reduced(
         alloc,
         to,
@@ -165,8 +168,5 @@ pub fn reduce(
         store.cell(alloc, &copy.object),
         store.cell(alloc, &original.object),
     )?;
-    let mut names = Seq::new(alloc);
-    name(&mut names, copy.object, copy.mode)?;
-    name(&mut names, original.object, original.mode)?;
     Ok(Answer { names, row })
 }

@@ -41,6 +41,21 @@ pub fn go_and(alloc: Global, to: u32, takes: u32, then: Edit) -> Result<Seq<Edit
     Ok(edits)
 }
 
+/// The edits that go to a place with so many operands taken, and then make two more.
+pub fn go_and_then(
+    alloc: Global,
+    to: u32,
+    takes: u32,
+    then: Edit,
+    last: Edit,
+) -> Result<Seq<Edit>, AllocError>
+    ensures { IfOk result (λ edits. edits ≡ Edit.Go to takes None ∷ then ∷ last ∷ []) }
+{
+    let mut edits = go_and(alloc, to, takes, then)?;
+    edits.push(last)?;
+    Ok(edits)
+}
+
 /// An object alone.
 pub fn name_one(alloc: Global, object: &Obj, mode: Mode) -> Result<Seq<Access>, AllocError>
     ensures { IfOk result (λ names. names ≡ record { object = object.now; mode = mode } ∷ []) }
@@ -71,9 +86,7 @@ pub fn name_with_events(
 pub fn own_events(alloc: Global, worker: u8) -> Result<Seq<Access>, AllocError>
     ensures { IfOk result (λ names. names ≡ events worker ∷ []) }
 {
-    let mut names = Seq::new(alloc);
-    name_events(&mut names, worker)?;
-    Ok(names)
+    name_one(alloc, &Obj::Events(worker), Mode::Write)
 }
 
 /// An update, and behind it that an event record is appended.

@@ -123,13 +123,13 @@ fn planned(
     ensures room { (c : plain_controls.Control) → RowHasRoom c row →
         IfOk result (λ plan. PlanHasRoom c plan) }
 {
-    let footprint = footprint(label.worker, names)?;
     let (edits, updates) = match row {
         Row::Goes { edits, updates } => (edits, updates),
         Row::Faults(fault) => (Seq::one(alloc, Edit::Fail(fault))?, Seq::new(alloc)),
         Row::Blocked(why) => return Ok(Plan::Blocked(why)),
         Row::Lacks => return Ok(Plan::Ended),
     };
+    let footprint = footprint(label.worker, names)?;
     Ok(Plan::Updates(Change {
         footprint,
         edits,

@@ -1,10 +1,12 @@
 //! The store in which a program starts.
 
-ghost use Rattle.std.specs.Prelude.{◌≡◌, ◌≤◌, IfOk, [], ◌∷◌, None};
+ghost use Rattle.std.specs.Prelude.{◌≡◌, ◌≤◌, IfOk, OnOk, [], ◌∷◌, None};
 ghost use Rattle.om_code.specs.declared.frame.Cell.TheVariants as cells;
 ghost use Rattle.om_events.specs.declared.kind.Thread.TheVariants as thread;
 ghost use Rattle.om_events.specs.declared.event.Record.TheVariants as event_record;
+ghost use Rattle.om_foot.specs.declared.object.Obj.TheVariants as obj;
 ghost use Rattle.om_cells.specs.declared.value.Val.TheVariants as value;
+ghost use Rattle.om_cells.specs.State.{with_value};
 ghost use Rattle.om_live.specs.Stores.{state_of};
 ghost use Rattle.om_steps.specs.Begins.{new_context};
 ghost use Rattle.om_team.specs.Sites.{body_of};
@@ -121,12 +123,24 @@ fn initial_value(global: &GlobalVariable) -> Val
     }
 }
 
+/// Puts the control of the worker that runs the initial task. Its only error is out of memory.
+fn begin_initial(alloc: Global, store: &mut Store, program: &Program) -> Result<(), AllocError>
+    ensures { OnOk result (state_of store.new
+        ≡ with_value (obj.Control 0) (value.Control (first_control program.now 0))
+        (state_of store.old)) }
+{
+    let control = first_control(alloc, program)?;
+    let begun = store.begin(alloc, 0, &control);
+    drop(control);
+    begun
+}
+
 /// The store in which a program starts with one worker. Its only error is out of memory.
 fn with_globals(alloc: Global, program: &Program) -> Result<Store, AllocError>
     ensures { IfOk result (λ store. state_of store ≡ start_of program.now 1) }
 {
     let mut store = Store::new(alloc);
-    store.begin(alloc, 0, &first_control(alloc, program)?)?;
+    begin_initial(alloc, &mut store, program)?;
     store.create(alloc, &Obj::Events(0), initial_records(alloc)?)?;
     for (number, global) in program.globals().iter().enumerate() {
         let variable = number as u32;

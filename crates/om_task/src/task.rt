@@ -90,12 +90,12 @@ fn give_values(
     ensures { OnOk result
         (updates.new ≡ updates.old ++ values_given (plain_context context.now) new.now values.now) }
 {
+    put_ints(updates, values)?;
+    add_to_counts(updates, 1, &group_of(context))?;
     let entry = Record::TaskCreate {
         task: *context.task.get(),
         new: *new,
     };
-    put_ints(updates, values)?;
-    add_to_counts(updates, 1, &group_of(context))?;
     put_event(alloc, updates, entry)
 }
 
@@ -194,14 +194,14 @@ fn ended_updates(
     ensures { IfOk result
         (λ updates. updates ≡ ended_updates (plain_context context.now) own.now next.now) }
 {
+    let mut updates = Seq::one(alloc, Update::Put(Val::Task(Task::Done)))?;
+    put_deaths(&mut updates, own)?;
+    add_to_counts(&mut updates, -1, context.group.get())?;
     let entry = Record::TaskSchedule {
         prior: *context.task.get(),
         status: TaskStatus::Complete,
         next: *next,
     };
-    let mut updates = Seq::one(alloc, Update::Put(Val::Task(Task::Done)))?;
-    put_deaths(&mut updates, own)?;
-    add_to_counts(&mut updates, -1, context.group.get())?;
     put_event(alloc, &mut updates, entry)?;
     Ok(updates)
 }

@@ -62,8 +62,9 @@ fn task_context(
     ensures { IfOk result
         (λ context. context ≡ task_context name.now (plain_context on.now) ready.now) }
 {
+    let homes = ready.homes.copy()?;
     let standing = task_standing(alloc, name, on, ready)?;
-    let frame = first_frame(alloc, ready.body, ready.homes.copy()?);
+    let frame = first_frame(alloc, ready.body, homes);
     new_context(alloc, Kind::Explicit, ready.phase, standing, frame)
 }
 

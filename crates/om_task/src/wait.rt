@@ -19,7 +19,7 @@ use om_live::{Context, Store};
 use om_seq::Seq;
 use om_steps::counts::is_zero;
 use om_steps::names::innermost;
-use om_steps::parts::{go_and, go_on, name_with_events, recorded, update_with_event};
+use om_steps::parts::{go_and, go_and_then, go_on, name_with_events, recorded, update_with_event};
 use om_steps::{Answer, Row};
 use std::alloc::{AllocError, Global};
 
@@ -80,8 +80,8 @@ pub fn wait_end(
         (state_of store.now)) }
 {
     let kids = &Obj::Kids(*context.task.get());
-    let row = waited(alloc, to, context, is_zero(alloc, store, kids))?;
     let names = name_with_events(alloc, kids, Mode::Read, worker)?;
+    let row = waited(alloc, to, context, is_zero(alloc, store, kids))?;
     Ok(Answer { names, row })
 }
 
@@ -91,10 +91,8 @@ fn opening(alloc: Global, to: u32, group: &Name) -> Result<Seq<Edit>, AllocError
         (λ edits. edits ≡ Edit.Go to 0 None ∷ Edit.CountBirth
         ∷ Edit.Open (Construct.Group group.now) ∷ []) }
 {
-    let mut edits = go_and(alloc, to, 0, Edit::CountBirth)?;
     let region = Shared::of(alloc, Construct::Group(*group))?;
-    edits.push(Edit::Open(region))?;
-    Ok(edits)
+    go_and_then(alloc, to, 0, Edit::CountBirth, Edit::Open(region))
 }
 
 /// TGB: a task group opens, by a name that is born of the task, which goes on to a place.
@@ -162,7 +160,7 @@ pub fn group_end(
         return Ok(Answer::decided(alloc, Row::Lacks));
     };
     let count = &Obj::Group(*group);
-    let row = closed(alloc, to, context, is_zero(alloc, store, count))?;
     let names = name_with_events(alloc, count, Mode::Read, worker)?;
+    let row = closed(alloc, to, context, is_zero(alloc, store, count))?;
     Ok(Answer { names, row })
 }

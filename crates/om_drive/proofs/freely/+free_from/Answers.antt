@@ -1,8 +1,27 @@
-use Rattle.std.proofs.Common.{◌≡◌, ◌+◌}
+use Rattle.std.proofs.Common.{◌≡◌, ◌+◌, ◌++◌, map}
 use Rattle.om_drive.specs.Steps.{steps_in}
-use Rattle.om_drive.proofs.Stepping.{one_back}
+use Rattle.om_drive.proofs.Stepping.{one_back, place_back}
 use Rattle.om_drive.proofs.freely.+free_from.Goals.{in-Ok, in-Err}
 use Rattle.om_drive.proofs.freely.+free_from.Goals as goal
+
+pub returns-clause-back : goal.returns-clause-back
+returns-clause-back g t c =
+    let at = g.D.Debuggee.place in
+    let line = c.match-started.line in
+    let ran = c.match-started.ran in
+    let back : map at line.back.items ≡ map at c.args.line.now.back.items ++ map at c.pop.new.self.items =
+    elim c.match-started.branch [
+      | in-Ok w ↦ rw w.line-is c.free_from.ensures.back
+      | in-Err w ↦ rw w.line-is c.free_from.ensures.back
+    ] in
+    let place : at ran.debuggee ≡ at c.in-Some.debuggee =
+    elim c.match-started.branch [
+      | in-Ok w ↦ rw w.ran-is (rw w.in-Ok.ensures.started at w.join-ran.ensures.0)
+      | in-Err w ↦ rw w.ran-is w.in-Err.ensures.place
+    ] in
+    place_back at c.take_back.new.self.back.items line.back.items c.args.line.now.back.items
+    c.args.line.now.waiting.items c.pop.new.self.items c.in-Some.debuggee ran.debuggee c.take_back.ensures.back
+    c.in-Some.ensures.items back place
 
 pub returns-clause-done : goal.returns-clause-done
 returns-clause-done g t c =

@@ -1,6 +1,7 @@
 use Rattle.std.proofs.Common.{◌∙◌, ◌++◌, map, ap}
 use denote.Param.Send.{sendable}
 use denote.Ref.{NamedLft}
+use Rattle.om_book.specs.Rounds.{answer_number}
 use Rattle.om_book.specs.Standing.{number_of}
 use Rattle.om_drive.specs.Calls.{place_of}
 use Rattle.om_drive.proofs.Places.{numbers_same}
@@ -28,3 +29,10 @@ returns-clause-back g c =
 pub returns-clause-kept : goal.returns-clause-kept
 returns-clause-kept g c =
     (c.drive_over-sitters.result.answers.items, c.drive_over-sitters.ensures.part, c.compared.ensures.kept)
+
+pub returns-clause-all : goal.returns-clause-all
+returns-clause-all g c = λ no_fault. ap (λ xs. map answer_number xs) (c.compared.ensures.all no_fault)
+    ∙ c.drive_over-sitters.ensures.all (c.compared.ensures.none no_fault)
+
+pub returns-clause-backed : goal.returns-clause-backed
+returns-clause-backed g c = c.compared.ensures.backed

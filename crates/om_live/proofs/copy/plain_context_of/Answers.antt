@@ -7,22 +7,22 @@ use Rattle.om_live.proofs.copy.plain_context_of.Goals as goal
 pub returns : goal.returns
 returns c =
     let k = c.args.context.now in
-    let constructs = c.in_ok-of.ensures ∙ ap reverse c.in_ok-constructs.ensures ∙ c.as_slice.ensures in
+    let constructs = c.in_ok-constructs.ensures ∙ ap reverse c.in_ok-shares.ensures ∙ c.as_slice.ensures in
     let callers =
-    c.in_ok-of-2.ensures
-    ∙ ap reverse c.in_ok-callers.ensures
+    c.in_ok-callers.ensures
     ∙ sym (map_reversed plain_box c.as_slice-2.result.now)
     ∙ ap (map plain_box) c.as_slice-2.ensures in
-    let frame = c.in_ok-plain_frame_of.ensures ∙ ap plain_frame c.deref.ensures in
+    let frame = c.in_ok-frame.ensures ∙ ap plain_frame c.deref.ensures in
+    let ties = c.in_ok-ties.ensures in
     λ i. record {
-      task = c.in_ok-copy.ensures i;
+      task = (ties i).task;
       kind = k.kind;
-      team = c.in_ok-copy-2.ensures i;
+      team = (ties i).team;
       phase = k.phase;
       births = k.births;
       regions = k.regions;
       frames = k.frames;
-      group = c.in_ok-copy-3.ensures i;
+      group = (ties i).group;
       constructs = constructs i;
       frame = frame i;
       callers = callers i;

@@ -1,5 +1,5 @@
 -- The contexts below are those of the plain pile, turned twice.
-use Rattle.std.proofs.Common.{◌∙◌, sym, ap, reverse, map}
+use Rattle.std.proofs.Common.{◌∙◌, sym, ap, map}
 use Rattle.om_live.specs.Plain.{plain_held, plain_context}
 use Rattle.om_live.proofs.Tapes.{map_reversed}
 use Rattle.om_live.proofs.copy.plain_stack_of.Goals as goal
@@ -8,7 +8,6 @@ pub returns : goal.returns
 returns c =
     let below =
     c.in_ok-below.ensures
-    ∙ ap reverse c.in_ok-contexts.ensures
     ∙ sym (map_reversed plain_held c.as_slice.result.now)
     ∙ ap (map plain_held) c.as_slice.ensures in
     let top = c.in_ok-plain_context_of.ensures ∙ ap plain_context c.deref.ensures in

@@ -1,5 +1,6 @@
 -- The items of each pile are those of the plain one, turned twice.
 use Rattle.std.proofs.Common.{◌∙◌, ap, reverse, map}
+use Rattle.std.proofs.lemmas.Result.{IfOk-weaker}
 use Rattle.om_live.specs.Plain.{plain_box, plain_context}
 use Rattle.om_live.proofs.Tapes.{map_reversed}
 use Rattle.om_live.proofs.live.context_of.Goals as goal
@@ -15,17 +16,18 @@ returns c =
     ∙ ap reverse c.in_ok-callers.ensures
     ∙ c.as_slice-2.ensures
     ∙ c.shares-2.ensures in
-    ap plain_context c.in_ok-new.ensures.ok
+    let ties = c.in_ok-ties.ensures in
+    IfOk-weaker c.boxed.result _ _ (λ made is. ap plain_context is
     ∙ (λ i. record {
-      task = c.in_ok-copy.ensures i;
+      task = (ties i).task;
       kind = p.kind;
-      team = c.in_ok-copy-2.ensures i;
+      team = (ties i).team;
       phase = p.phase;
       births = p.births;
       regions = p.regions;
       frames = p.frames;
-      group = c.in_ok-copy-3.ensures i;
+      group = (ties i).group;
       constructs = constructs i;
-      frame = c.in_ok-frame_of.ensures i;
+      frame = c.in_ok-frame.ensures i;
       callers = callers i;
-    })
+    })) c.boxed.ensures

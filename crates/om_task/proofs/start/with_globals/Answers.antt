@@ -3,16 +3,16 @@ use Rattle.om_code.specs.declared.raw.GlobalVariable.{GlobalVariable}
 use Rattle.om_foot.specs.declared.object.Obj.TheVariants as obj
 use Rattle.om_cells.specs.declared.value.Val.TheVariants as value
 use Rattle.om_cells.specs.State.{with_value}
-use Rattle.om_task.specs.Rules.{initial_in, first_records}
+use Rattle.om_task.specs.Rules.{initial_in, first_control, first_records}
 use Rattle.om_task.proofs.Starting.{start_below, start-none, start-more, int}
 use Rattle.om_task.proofs.start.with_globals.Goals as goal
 
 pub loop-number-init : goal.loop-number-init
 loop-number-init c =
     c.in_ok-create.ensures.state
-    ∙ (λ j. with_value (obj.Events 0) (c.in_ok-initial_records.ensures j) (c.in_ok-begin.ensures.state j))
+    ∙ (λ j. with_value (obj.Events 0) (c.in_ok-initial_records.ensures j) (c.in_ok-begin_initial.ensures j))
     ∙ (λ j. with_value (obj.Events 0) (value.Events (first_records 1 0))
-    (with_value (obj.Control 0) (value.Control (c.in_ok-first_control.ensures j)) (c.new-store.ensures.state j)))
+    (with_value (obj.Control 0) (value.Control (first_control c.args.program.now 0)) (c.new-store.ensures.state j)))
     ∙ start-none c.args.program.now
 
 pub loop-number-preserved : goal.loop-number-preserved

@@ -14,9 +14,9 @@ returns-in-Ok-clause-state c =
     let us = c.grow.new.trails.items in
     let s = (values.state_of c.args.self.now.values) in
     let w = c.args.worker in
-    held_put us w c.of.result s c.in-Ok.ensures.enough
-    ∙ ap (λ v. with_value (obj.Control w) (value.Control v) (held_by us s)) (ap (λ t. t.now) c.of.ensures
-    ∙ c.in_ok-control.ensures)
+    held_put us w c.replace.new.dest s c.in-Ok.ensures.enough
+    ∙ ap (λ v. with_value (obj.Control w) (value.Control v) (held_by us s))
+    (ap (λ t. t.now) (c.replace.ensures.after ∙ c.of-trail.ensures) ∙ c.in_ok-control.ensures)
     ∙ ap (with_value (obj.Control w) (value.Control c.args.control.now))
     (held_grown c.args.self.now.trails.items us s c.grow.ensures.grown)
 
@@ -25,7 +25,8 @@ unfolding pasts_of
 returns-in-Ok-clause-pasts c =
     let us = c.grow.new.trails.items in
     let w = c.args.worker in
-    begun_put us w c.of.result c.in-Ok.ensures.enough (ap (λ t. t.past) c.of.ensures)
+    begun_put us w c.replace.new.dest c.in-Ok.ensures.enough
+    (ap (λ t. t.past) (c.replace.ensures.after ∙ c.of-trail.ensures))
     ∙ ap (begun_at (obj.Control w)) (pasts_grown c.args.self.now.trails.items us c.grow.ensures.grown)
 
 pub returns-in-Ok-clause-kept : goal.returns-in-Ok-clause-kept
@@ -33,7 +34,7 @@ unfolding is_kept
 returns-in-Ok-clause-kept c =
     let us = c.grow.new.trails.items in
     let w = c.args.worker in
-    kept_put us w c.of.result (values.is_kept c.args.self.now.values) (obj.Control w)
+    kept_put us w c.replace.new.dest (values.is_kept c.args.self.now.values) (obj.Control w)
     ∙ there us w c.in-Ok.ensures.enough
 
 pub returns-in-Ok-clause-others_kept : goal.returns-in-Ok-clause-others_kept
@@ -41,7 +42,8 @@ unfolding is_kept
 returns-in-Ok-clause-others_kept c = λ q h.
     let us = c.grow.new.trails.items in
     let k = (values.is_kept c.args.self.now.values) in
-    kept_put us c.args.worker c.of.result k q ∙ kept_grown c.args.self.now.trails.items us k c.grow.ensures.grown q h
+    kept_put us c.args.worker c.replace.new.dest k q
+    ∙ kept_grown c.args.self.now.trails.items us k c.grow.ensures.grown q h
 
 pub returns-in-Err-clause-others_kept : goal.returns-in-Err-clause-others_kept
 unfolding is_kept
