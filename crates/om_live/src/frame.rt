@@ -6,7 +6,6 @@ ghost use Rattle.om_live.specs.Plain.{plain_frame};
 ghost use Rattle.om_live.specs.Inverses.{passed_back, went_back, CanPassBack, CanGoBack};
 
 use crate::control::{Frame, Laid, Passed, Went};
-use crate::live::boxed;
 use crate::tape::Tape;
 use om_cells::{Home, Shared};
 use om_code::frame::Operand;
@@ -32,7 +31,7 @@ pub(crate) fn new_frame(
         operands: Tape::new(alloc),
         homes,
     };
-    boxed(alloc, frame)
+    Ok(Box::new(alloc, frame)?)
 }
 
 impl Frame {

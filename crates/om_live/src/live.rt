@@ -13,13 +13,6 @@ use om_cells::{
 use om_foot::Name;
 use std::alloc::{AllocError, Global};
 
-/// This value in a box; the only error is out of memory.
-pub(crate) fn boxed<T: Drop>(alloc: Global, value: T) -> Result<Box<T>, AllocError>
-    ensures { IfOk result (λ made. made.value ≡ value) }
-{
-    Ok(Box::new(alloc, value)?)
-}
-
 /// A frame that stands for a plain one; the only error is out of memory.
 fn frame_of(alloc: Global, plain: &PlainFrame) -> Result<Box<Frame>, AllocError>
     ensures { IfOk result (λ b. plain_frame b.value ≡ plain.now) }
@@ -31,7 +24,7 @@ fn frame_of(alloc: Global, plain: &PlainFrame) -> Result<Box<Frame>, AllocError>
         operands: Tape::of(Vec::from_slice(alloc, plain.operands.as_slice())?),
         homes: plain.homes.copy()?,
     };
-    boxed(alloc, frame)
+    Ok(Box::new(alloc, frame)?)
 }
 
 /// Frames that stand for plain ones, in their order.
@@ -104,7 +97,7 @@ pub fn context_of(alloc: Global, plain: &PlainContext) -> Result<Box<Context>, A
         frame,
         callers: Tape::of(callers),
     };
-    boxed(alloc, context)
+    Ok(Box::new(alloc, context)?)
 }
 
 /// Contexts that stand for plain ones, in their order.

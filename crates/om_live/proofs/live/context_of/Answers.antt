@@ -1,6 +1,5 @@
 -- The items of each pile are those of the plain one, turned twice.
 use Rattle.std.proofs.Common.{◌∙◌, ap, reverse, map}
-use Rattle.std.proofs.lemmas.Result.{IfOk-weaker}
 use Rattle.om_live.specs.Plain.{plain_box, plain_context}
 use Rattle.om_live.proofs.Tapes.{map_reversed}
 use Rattle.om_live.proofs.live.context_of.Goals as goal
@@ -17,7 +16,7 @@ returns c =
     ∙ c.as_slice-2.ensures
     ∙ c.shares-2.ensures in
     let ties = c.in_ok-ties.ensures in
-    IfOk-weaker c.boxed.result _ _ (λ made is. ap plain_context is
+    ap plain_context c.in_ok-new.ensures.ok
     ∙ (λ i. record {
       task = (ties i).task;
       kind = p.kind;
@@ -30,4 +29,4 @@ returns c =
       constructs = constructs i;
       frame = c.in_ok-frame.ensures i;
       callers = callers i;
-    })) c.boxed.ensures
+    })
