@@ -13,11 +13,11 @@ use om_lexer::FaultCode;
 /// `#` is its whole line, at a quote the whole text, and at the end of the source it is empty.
 pub fn help_for(code: FaultCode, token: &[u8], before: &[u8]) -> Option<&'static str> {
     match code {
-        FaultCode::BadToken => words_of(&LIBRARY, before).or(byte_words(token)),
+        FaultCode::BadToken => library_words(before).or(byte_words(token)),
         FaultCode::Syntax => syntax_words(token, before),
         FaultCode::BadHashLine => hash_line_words(token),
         FaultCode::UnknownDirective | FaultCode::BadClause => words_of(&WORDS, token),
-        FaultCode::Undeclared => words_of(&LIBRARY, token),
+        FaultCode::Undeclared => library_words(token),
         FaultCode::Misuse => words_of(&MISUSES, token),
         FaultCode::LoopForm | FaultCode::LeavesConstruct => words_of(&CONSTRUCTS, token),
         _ => None,
@@ -28,7 +28,24 @@ pub fn help_for(code: FaultCode, token: &[u8], before: &[u8]) -> Option<&'static
 pub fn is_left_out(token: &[u8]) -> bool {
     matches!(token, [b'a'..=b'z' | b'_', ..])
         && token != &b"int"[..]
-        && words_of(&SYNTAX, token).is_some()
+        && token_words(token).is_some()
+}
+
+// A table that several places ask has one function, since its text costs each function that names it.
+
+// By the token at which S3 stands.
+fn token_words(token: &[u8]) -> Option<&'static str> {
+    words_of(&SYNTAX, token)
+}
+
+// By a name that stands at an S3 or before it.
+fn name_words(name: &[u8]) -> Option<&'static str> {
+    words_of(&NAMES, name)
+}
+
+// By a name of the library.
+fn library_words(name: &[u8]) -> Option<&'static str> {
+    words_of(&LIBRARY, name)
 }
 
 // By the first byte of what is no token; all digits are one.
@@ -50,11 +67,11 @@ fn hash_line_words(line: &[u8]) -> Option<&'static str> {
 // By the token, or by a name that stands there or before it, as `bool` in a function.
 fn syntax_words(token: &[u8], before: &[u8]) -> Option<&'static str> {
     match token {
-        [b'"', ..] => words_of(&NAMES, before).or(words_of(&SYNTAX, b"\"")),
-        [b'#', ..] => words_of(&SYNTAX, b"#"),
+        [b'"', ..] => name_words(before).or(token_words(b"\"")),
+        [b'#', ..] => token_words(b"#"),
         [] => Some("a `}` or a `;` is missing before the end"),
-        _ => words_of(&SYNTAX, token)
-            .or(words_of(&NAMES, token))
-            .or(words_of(&NAMES, before)),
+        _ => token_words(token)
+            .or(name_words(token))
+            .or(name_words(before)),
     }
 }

@@ -1,17 +1,18 @@
 //! What is bad about where a machine stands.
 
-ghost use Rattle.std.specs.Prelude.{◌≡◌, ◌<◌, ℕ, List, None, true, false, unwrap_or, IfOk, IfSome};
+ghost use Rattle.std.specs.Prelude.{◌≡◌, ◌<◌, ℕ, List, None, true, false, IfOk, IfSome};
 ghost use Rattle.std.specs.Option.{option_copied};
-ghost use Rattle.om_cells.specs.declared.control.Control.TheVariants as controls;
+ghost use Rattle.om_live.specs.Stores.{plain_or_idle};
 ghost use Rattle.om_journal.specs.Runs.{is_step_made};
 ghost use Rattle.om_journal.specs.declared.reply.Reply.TheVariants as replies;
 ghost use Rattle.om_undo.specs.ReadyNames.{ready_names};
 ghost use Rattle.om_view.specs.Runs.{can_step, start_among, move_of, has_ended};
 ghost use Rattle.om_schedules.specs.Bad.{IsBad, control_of, output_of, wanted_by, fault_of};
 
-use om_cells::{Choice, Control, Val};
+use om_cells::Choice;
 use om_code::frame::Fault;
 use om_foot::{Name, Obj};
+use om_live::Control;
 use om_undo::laws::{one_ready_list, ready_names_are_ready};
 use om_undo::{Machine, StepReply};
 use std::alloc::{AllocError, Global};
@@ -52,7 +53,7 @@ impl Wanted {
                 is_known: true,
             });
         }
-        let is_known = has_ended(alloc, machine)?;
+        let is_known = has_ended(machine.control(0));
         let text = if is_known {
             output(alloc, machine)?
         } else {
@@ -71,10 +72,10 @@ impl Wanted {
         ensures { IfOk result
             (λ bad. IfSome bad (IsBad machine.now self.now.text.items)) }
     {
-        if let Some(bad) = first_fault(alloc, machine)? {
+        if let Some(bad) = first_fault(machine) {
             return Ok(Some(bad));
         }
-        if has_ended(alloc, machine)? {
+        if has_ended(machine.control(0)) {
             return self.judge_output(alloc, machine);
         }
         if can_move(alloc, machine)? {
@@ -100,29 +101,20 @@ impl Wanted {
 }
 
 // The fault of the least worker that met one.
-fn first_fault(alloc: Global, machine: &Machine) -> Result<Option<Badness>, AllocError>
-    ensures { IfOk result (λ bad. (wanted : List ℕ) → IfSome bad (IsBad machine.now wanted)) }
+fn first_fault(machine: &Machine) -> Option<Badness>
+    ensures { (wanted : List ℕ) → IfSome result (IsBad machine.now wanted) }
 {
     for worker in 0..machine.workers() {
-        if let Some(fault) = fault_at(alloc, machine, worker)? {
-            return Ok(Some(Badness::Fault { fault, worker }));
+        if let Some(fault) = fault_in(machine.control(worker)) {
+            return Some(Badness::Fault { fault, worker });
         }
     }
-    Ok(None)
+    None
 }
 
 // The fault that a worker met, if it did.
-fn fault_at(alloc: Global, machine: &Machine, worker: u8) -> Result<Option<Fault>, AllocError>
-    ensures { IfOk result (λ fault. fault ≡ fault_of (control_of machine.now worker)) }
-{
-    let value = machine.look(alloc, &Obj::Control(worker))?;
-    let fault = fault_in(value.control());
-    drop(value);
-    Ok(fault)
-}
-
 fn fault_in(control: Option<&Control>) -> Option<Fault>
-    ensures { result ≡ fault_of (unwrap_or (option_copied control.entry) controls.Idle) }
+    ensures { result ≡ fault_of (plain_or_idle (option_copied control.entry)) }
 {
     let Some(Control::Faulted(fault, _)) = control else {
         return None;
@@ -131,17 +123,8 @@ fn fault_in(control: Option<&Control>) -> Option<Fault>
 }
 
 // Whether the initial task has ended.
-fn has_ended(alloc: Global, machine: &Machine) -> Result<bool, AllocError>
-    ensures { IfOk result (λ ended. ended ≡ has_ended (control_of machine.now 0)) }
-{
-    let value = machine.look(alloc, &Obj::Control(0))?;
-    let ended = is_ended(value.control());
-    drop(value);
-    Ok(ended)
-}
-
-fn is_ended(control: Option<&Control>) -> bool
-    ensures { result ≡ has_ended (unwrap_or (option_copied control.entry) controls.Idle) }
+fn has_ended(control: Option<&Control>) -> bool
+    ensures { result ≡ has_ended (plain_or_idle (option_copied control.entry)) }
 {
     match control {
         Some(Control::Ended(_)) => true,
