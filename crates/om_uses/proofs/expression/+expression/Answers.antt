@@ -11,6 +11,9 @@ use Rattle.om_uses.proofs.Arguments.{printed_format, printed_made, printed_refus
 use Rattle.om_uses.proofs.Items.{drop-item, map-push}
 use Rattle.om_tree.specs.declared.tree.Expression.{fold-roll-Expression}
 use Rattle.om_tree.specs.declared.tree.Expression.TheVariants as expressions
+use Rattle.om_tree.specs.declared.tree.Expression.TheViews.{size-Expression, sized-Assign, sized-Binary}
+use Rattle.om_tree.specs.declared.tree.Expression.TheViews.{sized-Conditional, sized-Index, sized-Paren, sized-Postfix}
+use Rattle.om_tree.specs.declared.tree.Expression.TheViews.{sized-Prefix}
 use Rattle.om_tree.specs.View.{view_expression}
 use Rattle.om_resolved.specs.declared.resolved.ResolvedExpression.{fold-roll-ResolvedExpression}
 use Rattle.om_resolved.specs.declared.resolved.ResolvedExpression.TheVariants as made
@@ -55,6 +58,13 @@ resolve_values-returns-in_err-add-clause-checked t c =
     rw (p.1, p.2) (arguments_refuse _ _ _ _ _ _ left.0
     (c.in_err-add.ensures.checked _ c.resolve_expression-value.ensures.checked))
 
+pub resolve_values-returns-clause-checked : goal.resolve_values-returns-clause-checked
+unfolding arguments_breaches
+resolve_values-returns-clause-checked t c =
+    let none = ap (λ vs. arguments (map view_argument vs)) (drop_all c.loop-argument.argument-index
+    c.args.values.now (omega (arith, c.loop-argument-test.false))) in
+    c.loop-argument.invariant.0 ∙ ap (arguments_breaches c.args.symbols.now) none
+
 pub resolve_values-returns-clause-resolved : goal.resolve_values-returns-clause-resolved
 resolve_values-returns-clause-resolved t c =
     let none = ap (λ vs. arguments (map view_argument vs)) (drop_all c.loop-argument.argument-index
@@ -95,6 +105,13 @@ resolve_printed-returns-in_err-add-clause-checked t c =
     let left = rw here at c.loop-argument.invariant in
     rw (p.1, p.2) (printed_refuse _ _ _ _ _ _ _ left.0
     (c.in_err-add.ensures.checked _ c.resolve_argument-value.ensures.checked))
+
+pub resolve_printed-returns-clause-checked : goal.resolve_printed-returns-clause-checked
+unfolding printed_breaches
+resolve_printed-returns-clause-checked t c =
+    let none = ap (λ vs. arguments (map view_argument vs)) (drop_all c.loop-argument.argument-index
+    c.args.values.now (omega (arith, c.loop-argument-test.false))) in
+    c.loop-argument.invariant.0 ∙ ap (printed_breaches c.args.symbols.now c.loop-argument.place) none
 
 pub resolve_printed-returns-clause-resolved : goal.resolve_printed-returns-clause-resolved
 resolve_printed-returns-clause-resolved t c =
@@ -387,3 +404,64 @@ resolve_target-returns-in_default t c =
     let same = no_target c.args.symbols.now c.args.target.now c.in_default.not-Name c.in_default.not-Paren
     c.in_default.not-Index in
     record { checked = λ other. ap first_of same ∙ c.misplaced-in_default.ensures; resolved = tt }
+
+pub resolve_expression-resolve_expression-requires : goal.resolve_expression-resolve_expression-requires
+resolve_expression-resolve_expression-requires t c =
+    (omega (arith, ap size-Expression c.in-Paren.is, sized-Paren c.in-Paren.open_paren c.in-Paren.inner
+    c.in-Paren.close_paren, ap size-Expression c.deref.ensures, c.decreases), tt)
+
+pub resolve_expression-resolve_element-requires : goal.resolve_expression-resolve_element-requires
+resolve_expression-resolve_element-requires t c =
+    (omega (arith, ap size-Expression c.in-Index.is, sized-Index c.in-Index.name c.in-Index.open_bracket
+    c.in-Index.index c.in-Index.close_bracket, ap size-Expression c.deref-in-Index.ensures, c.decreases), tt)
+
+pub resolve_expression-resolve_prefix-requires : goal.resolve_expression-resolve_prefix-requires
+resolve_expression-resolve_prefix-requires t c =
+    (omega (arith, ap size-Expression c.in-Prefix.is, sized-Prefix c.in-Prefix.operator c.in-Prefix.operator_span
+    c.in-Prefix.operand, ap size-Expression c.deref-in-Prefix.ensures, c.decreases), tt)
+
+pub resolve_expression-resolve_target-requires : goal.resolve_expression-resolve_target-requires
+resolve_expression-resolve_target-requires t c =
+    (omega (arith, ap size-Expression c.in-Postfix.is, sized-Postfix c.in-Postfix.operand c.in-Postfix.operator
+    c.in-Postfix.operator_span, ap size-Expression c.deref-in-Postfix.ensures, c.decreases), tt)
+
+pub resolve_expression-boxed_expression-requires : goal.resolve_expression-boxed_expression-requires
+resolve_expression-boxed_expression-requires t c =
+    (omega (arith, ap size-Expression c.in-Binary.is, sized-Binary c.in-Binary.left c.in-Binary.operator
+    c.in-Binary.operator_span c.in-Binary.right, ap size-Expression c.deref-in-Binary.ensures, c.decreases), tt)
+
+pub resolve_expression-boxed_expression-requires-in-Binary : goal.resolve_expression-boxed_expression-requires-in-Binary
+resolve_expression-boxed_expression-requires-in-Binary t c =
+    (omega (arith, ap size-Expression c.in-Binary.is, sized-Binary c.in-Binary.left c.in-Binary.operator
+    c.in-Binary.operator_span c.in-Binary.right, ap size-Expression c.deref-in-Binary-2.ensures, c.decreases), tt)
+
+pub resolve_expression-boxed_expression-requires-in-Conditional :
+    goal.resolve_expression-boxed_expression-requires-in-Conditional
+resolve_expression-boxed_expression-requires-in-Conditional t c =
+    (omega (arith, ap size-Expression c.in-Conditional.is, sized-Conditional c.in-Conditional.condition
+    c.in-Conditional.question c.in-Conditional.then c.in-Conditional.colon c.in-Conditional.other, ap size-Expression
+    c.deref-in-Conditional.ensures, c.decreases), tt)
+
+pub resolve_expression-boxed_expression-requires-in-Conditional-2 :
+    goal.resolve_expression-boxed_expression-requires-in-Conditional-2
+resolve_expression-boxed_expression-requires-in-Conditional-2 t c =
+    (omega (arith, ap size-Expression c.in-Conditional.is, sized-Conditional c.in-Conditional.condition
+    c.in-Conditional.question c.in-Conditional.then c.in-Conditional.colon c.in-Conditional.other, ap size-Expression
+    c.deref-in-Conditional-2.ensures, c.decreases), tt)
+
+pub resolve_expression-boxed_expression-requires-in-Conditional-3 :
+    goal.resolve_expression-boxed_expression-requires-in-Conditional-3
+resolve_expression-boxed_expression-requires-in-Conditional-3 t c =
+    (omega (arith, ap size-Expression c.in-Conditional.is, sized-Conditional c.in-Conditional.condition
+    c.in-Conditional.question c.in-Conditional.then c.in-Conditional.colon c.in-Conditional.other, ap size-Expression
+    c.deref-in-Conditional-3.ensures, c.decreases), tt)
+
+pub resolve_expression-resolve_target-requires-in-Assign : goal.resolve_expression-resolve_target-requires-in-Assign
+resolve_expression-resolve_target-requires-in-Assign t c =
+    (omega (arith, ap size-Expression c.in-Assign.is, sized-Assign c.in-Assign.target c.in-Assign.operator
+    c.in-Assign.operator_span c.in-Assign.value, ap size-Expression c.deref-in-Assign.ensures, c.decreases), tt)
+
+pub resolve_expression-boxed_expression-requires-in-Assign : goal.resolve_expression-boxed_expression-requires-in-Assign
+resolve_expression-boxed_expression-requires-in-Assign t c =
+    (omega (arith, ap size-Expression c.in-Assign.is, sized-Assign c.in-Assign.target c.in-Assign.operator
+    c.in-Assign.operator_span c.in-Assign.value, ap size-Expression c.deref-in-Assign-2.ensures, c.decreases), tt)
