@@ -298,6 +298,22 @@ resolve_expression-returns-in_ok-target-in-Postfix-clause-resolved t c =
     let target = rw c.deref-in-Postfix.ensures at c.in_ok-target-in-Postfix.ensures.resolved in
     rw (c.in-Postfix.is, ← expressions.rolls-Postfix, fold-roll-Expression, target, c.stepped.ensures) refl
 
+pub resolve_expression-returns-in_ok-array-in-Index-clause-resolved :
+    goal.resolve_expression-returns-in_ok-array-in-Index-clause-resolved
+unfolding resolved_expression
+resolve_expression-returns-in_ok-array-in-Index-clause-resolved t c =
+    let found = c.in_ok-array-in-Index.ensures in
+    let index = rw c.deref-in-Index.ensures at found.index in
+    rw (
+      c.in-Index.is,
+      ← expressions.rolls-Index,
+      fold-roll-Expression,
+      found.array,
+      index,
+      ← made.rolls-Element,
+      fold-roll-ResolvedExpression,
+    ) refl
+
 pub resolve_expression-returns-in_err-array-in-Index-clause-checked :
     goal.resolve_expression-returns-in_err-array-in-Index-clause-checked
 unfolding expression_breaches
