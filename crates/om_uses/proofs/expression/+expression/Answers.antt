@@ -12,8 +12,7 @@ use Rattle.om_uses.proofs.Items.{drop-item, map-push}
 use Rattle.om_tree.specs.declared.tree.Expression.{fold-roll-Expression}
 use Rattle.om_tree.specs.declared.tree.Expression.TheVariants as expressions
 use Rattle.om_tree.specs.declared.tree.Expression.TheViews.{size-Expression, sized-Assign, sized-Binary}
-use Rattle.om_tree.specs.declared.tree.Expression.TheViews.{sized-Conditional, sized-Index, sized-Paren, sized-Postfix}
-use Rattle.om_tree.specs.declared.tree.Expression.TheViews.{sized-Prefix}
+use Rattle.om_tree.specs.declared.tree.Expression.TheViews.{sized-Conditional}
 use Rattle.om_tree.specs.View.{view_expression}
 use Rattle.om_resolved.specs.declared.resolved.ResolvedExpression.{fold-roll-ResolvedExpression}
 use Rattle.om_resolved.specs.declared.resolved.ResolvedExpression.TheVariants as made
@@ -421,63 +420,58 @@ resolve_target-returns-in_default t c =
     c.in_default.not-Index in
     record { checked = λ other. ap first_of same ∙ c.misplaced-in_default.ensures; resolved = tt }
 
-pub resolve_expression-resolve_expression-requires : goal.resolve_expression-resolve_expression-requires
-resolve_expression-resolve_expression-requires t c =
-    (omega (arith, ap size-Expression c.in-Paren.is, sized-Paren c.in-Paren.open_paren c.in-Paren.inner
-    c.in-Paren.close_paren, ap size-Expression c.deref.ensures, c.decreases), tt)
-
-pub resolve_expression-resolve_element-requires : goal.resolve_expression-resolve_element-requires
-resolve_expression-resolve_element-requires t c =
-    (omega (arith, ap size-Expression c.in-Index.is, sized-Index c.in-Index.name c.in-Index.open_bracket
-    c.in-Index.index c.in-Index.close_bracket, ap size-Expression c.deref-in-Index.ensures, c.decreases), tt)
-
-pub resolve_expression-resolve_prefix-requires : goal.resolve_expression-resolve_prefix-requires
-resolve_expression-resolve_prefix-requires t c =
-    (omega (arith, ap size-Expression c.in-Prefix.is, sized-Prefix c.in-Prefix.operator c.in-Prefix.operator_span
-    c.in-Prefix.operand, ap size-Expression c.deref-in-Prefix.ensures, c.decreases), tt)
-
-pub resolve_expression-resolve_target-requires : goal.resolve_expression-resolve_target-requires
-resolve_expression-resolve_target-requires t c =
-    (omega (arith, ap size-Expression c.in-Postfix.is, sized-Postfix c.in-Postfix.operand c.in-Postfix.operator
-    c.in-Postfix.operator_span, ap size-Expression c.deref-in-Postfix.ensures, c.decreases), tt)
-
-pub resolve_expression-boxed_expression-requires : goal.resolve_expression-boxed_expression-requires
-resolve_expression-boxed_expression-requires t c =
-    (omega (arith, ap size-Expression c.in-Binary.is, sized-Binary c.in-Binary.left c.in-Binary.operator
-    c.in-Binary.operator_span c.in-Binary.right, ap size-Expression c.deref-in-Binary.ensures, c.decreases), tt)
-
 pub resolve_expression-boxed_expression-requires-in-Binary : goal.resolve_expression-boxed_expression-requires-in-Binary
-resolve_expression-boxed_expression-requires-in-Binary t c =
-    (omega (arith, ap size-Expression c.in-Binary.is, sized-Binary c.in-Binary.left c.in-Binary.operator
-    c.in-Binary.operator_span c.in-Binary.right, ap size-Expression c.deref-in-Binary-2.ensures, c.decreases), tt)
-
-pub resolve_expression-boxed_expression-requires-in-Conditional :
-    goal.resolve_expression-boxed_expression-requires-in-Conditional
-resolve_expression-boxed_expression-requires-in-Conditional t c =
-    (omega (arith, ap size-Expression c.in-Conditional.is, sized-Conditional c.in-Conditional.condition
-    c.in-Conditional.question c.in-Conditional.then c.in-Conditional.colon c.in-Conditional.other, ap size-Expression
-    c.deref-in-Conditional.ensures, c.decreases), tt)
+resolve_expression-boxed_expression-requires-in-Binary t c = (
+  omega (
+    arith,
+    ap size-Expression c.in-Binary.is,
+    sized-Binary c.in-Binary.left c.in-Binary.operator
+        c.in-Binary.operator_span c.in-Binary.right,
+    ap size-Expression c.deref-in-Binary-2.ensures,
+    c.decreases,
+  ),
+  tt,
+)
 
 pub resolve_expression-boxed_expression-requires-in-Conditional-2 :
     goal.resolve_expression-boxed_expression-requires-in-Conditional-2
-resolve_expression-boxed_expression-requires-in-Conditional-2 t c =
-    (omega (arith, ap size-Expression c.in-Conditional.is, sized-Conditional c.in-Conditional.condition
-    c.in-Conditional.question c.in-Conditional.then c.in-Conditional.colon c.in-Conditional.other, ap size-Expression
-    c.deref-in-Conditional-2.ensures, c.decreases), tt)
+resolve_expression-boxed_expression-requires-in-Conditional-2 t c = (
+  omega (
+    arith,
+    ap size-Expression c.in-Conditional.is,
+    sized-Conditional c.in-Conditional.condition
+        c.in-Conditional.question c.in-Conditional.then c.in-Conditional.colon c.in-Conditional.other,
+    ap size-Expression
+        c.deref-in-Conditional-2.ensures,
+    c.decreases,
+  ),
+  tt,
+)
 
 pub resolve_expression-boxed_expression-requires-in-Conditional-3 :
     goal.resolve_expression-boxed_expression-requires-in-Conditional-3
-resolve_expression-boxed_expression-requires-in-Conditional-3 t c =
-    (omega (arith, ap size-Expression c.in-Conditional.is, sized-Conditional c.in-Conditional.condition
-    c.in-Conditional.question c.in-Conditional.then c.in-Conditional.colon c.in-Conditional.other, ap size-Expression
-    c.deref-in-Conditional-3.ensures, c.decreases), tt)
-
-pub resolve_expression-resolve_target-requires-in-Assign : goal.resolve_expression-resolve_target-requires-in-Assign
-resolve_expression-resolve_target-requires-in-Assign t c =
-    (omega (arith, ap size-Expression c.in-Assign.is, sized-Assign c.in-Assign.target c.in-Assign.operator
-    c.in-Assign.operator_span c.in-Assign.value, ap size-Expression c.deref-in-Assign.ensures, c.decreases), tt)
+resolve_expression-boxed_expression-requires-in-Conditional-3 t c = (
+  omega (
+    arith,
+    ap size-Expression c.in-Conditional.is,
+    sized-Conditional c.in-Conditional.condition
+        c.in-Conditional.question c.in-Conditional.then c.in-Conditional.colon c.in-Conditional.other,
+    ap size-Expression
+        c.deref-in-Conditional-3.ensures,
+    c.decreases,
+  ),
+  tt,
+)
 
 pub resolve_expression-boxed_expression-requires-in-Assign : goal.resolve_expression-boxed_expression-requires-in-Assign
-resolve_expression-boxed_expression-requires-in-Assign t c =
-    (omega (arith, ap size-Expression c.in-Assign.is, sized-Assign c.in-Assign.target c.in-Assign.operator
-    c.in-Assign.operator_span c.in-Assign.value, ap size-Expression c.deref-in-Assign-2.ensures, c.decreases), tt)
+resolve_expression-boxed_expression-requires-in-Assign t c = (
+  omega (
+    arith,
+    ap size-Expression c.in-Assign.is,
+    sized-Assign c.in-Assign.target c.in-Assign.operator
+        c.in-Assign.operator_span c.in-Assign.value,
+    ap size-Expression c.deref-in-Assign-2.ensures,
+    c.decreases,
+  ),
+  tt,
+)

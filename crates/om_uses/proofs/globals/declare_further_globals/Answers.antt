@@ -50,6 +50,7 @@ loop-further-preserved c =
     let one = c.in_ok-declare_global.ensures in
     let made = global_of (view_declarator view_number c.further-item.result.1) ∷ [] in
     let rest = behind_commas (map (view_further view_number)
-    (drop (c.loop-further.further-index + 1) c.args.rest.now)) in
-    (rw one.in_scope (unbroken-step global_breaches after_global left.0 one.checked),
-    rw one.declared (append_assoc c.loop-further.globals.items made (map global_of rest) ∙ left.1))
+    (drop (c.loop-further.further-index + 1) c.args.rest.now)) in (
+      rw one.in_scope (unbroken-step global_breaches after_global left.0 one.checked),
+      rw one.declared (append_assoc c.loop-further.globals.items made (map global_of rest) ∙ left.1),
+    )
