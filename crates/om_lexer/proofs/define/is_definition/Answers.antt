@@ -6,13 +6,13 @@ use Rattle.om_lexer.proofs.define.is_definition.Goals.{then-is_macro_name, else-
 pub returns-then-is_decimal : goal.returns-then-is_decimal
 returns-then-is_decimal c = elim c.if-is_macro_name.branch [
   | then-is_macro_name w ↦ (
-        λ yes. (
-          c.is_macro_name.ensures.0 w.if-is_macro_name.true,
-          w.is_decimal.ensures.0 (sym w.value-is ∙ c.if-is_decimal.true),
-          c.ends_line.ensures.0 yes,
-        ),
-        λ all. c.ends_line.ensures.1 all.2,
-      )
+    λ yes. (
+      c.is_macro_name.ensures.0 w.if-is_macro_name.true,
+      w.is_decimal.ensures.0 (sym w.value-is ∙ c.if-is_decimal.true),
+      c.ends_line.ensures.0 yes,
+    ),
+    λ all. c.ends_line.ensures.1 all.2,
+  )
   | else-is_macro_name w ↦ absurd (both_ways _ w.if-is_macro_name.false (sym w.value-is ∙ c.if-is_decimal.true))
 ]
 
