@@ -14,12 +14,22 @@ use std::alloc::{AllocError, Global};
 use std::marker::Model;
 
 /// What the clauses of a directive say of variables.
-#[derive(Drop)]
 pub struct Listed {
     default: Option<Sharing>,
     shared: Names,
     /// The variables of which the construct has copies.
     copies: IndexMap<Vec<u8>, Meaning>,
+}
+
+// By hand: crates above call this, and do not open the tables.
+impl Drop for Listed {
+    fn drop(self) {
+        let Listed {
+            default: _,
+            shared: _shared,
+            copies: _copies,
+        } = self;
+    }
 }
 
 impl Model for Listed {

@@ -19,7 +19,6 @@ use std::marker::Model;
 use std::mem;
 
 /// The names in scope at a place. Contracts see the scopes round that place.
-#[derive(Drop)]
 pub struct Symbols {
     /// The names of the innermost scope, in the order of their declarations.
     inner: IndexMap<Vec<u8>, Meaning>,
@@ -37,6 +36,28 @@ pub struct Symbols {
     definitions: Names,
     /// Those that it defines before this place.
     defined: Names,
+}
+
+// By hand: crates above call this, and do not prove anew how each part is dropped.
+impl Drop for Symbols {
+    fn drop(self) {
+        let Symbols {
+            inner,
+            outer,
+            nesting,
+            sightings,
+            globals: _,
+            cells: _,
+            definitions,
+            defined,
+        } = self;
+        drop(inner);
+        drop(outer);
+        drop(nesting);
+        drop(sightings);
+        drop(definitions);
+        drop(defined);
+    }
 }
 
 impl Model for Symbols {

@@ -28,6 +28,9 @@ use Rattle.om_parts.specs.ItemsSound.{until_sound}
 use Rattle.om_parser.proofs.OneOrMore.{several_sound}
 use Rattle.om_parser.proofs.StatementParts.{IsWholeOptional, IsWholeStart, IsWholeHead, optional_spelling, opening_spelling, IsWholeOpening, IsGood, IsGoodBody, IsGoodPartItem, are_good, IsGoodPart, good_part, are_good_parts, body_is_part, statements_flat, parts_flat, IsStatementRead, IsStatementSound, AreItemsRead, braces_spelling, AreGoodBraces, Whole, alone_named, section_named}
 
+never : {A : Type 0} → false ≡ true → A
+never e = absurd cc
+
 module _ (p : Parts) (l : Limits) (one : 1 ≤ l.nested) (sound : ArePartsSound p l) where
   pub condition_sound : IsSound condition_spelling (λ c. IsWhole l 1 c.value) (condition_at p)
   unfolding condition_at condition_spelling
@@ -218,7 +221,7 @@ module _ (p : Parts) (l : Limits) (one : 1 ≤ l.nested) (sound : ArePartsSound 
           };
           body = tt;
         };
-        nearest = λ is. absurd cc;
+        nearest = λ is. never is;
       })
 
   -- ---- items in braces

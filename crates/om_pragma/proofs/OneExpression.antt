@@ -1,6 +1,6 @@
 -- A directive has one expression at most.
 use Rattle.std.proofs.Common.{◌≡◌, ◌≤◌, List, [], ◌∷◌, ◌++◌, length, Bool, true, false, refl, sym, ◌∙◌, arith}
-use Rattle.std.specs.Prelude.{◌&&◌, ◌||◌, not}
+use Rattle.std.specs.Prelude.{◌&&◌, ◌||◌, not, if◌then◌else◌}
 use Rattle.std.specs.List.{flat_map, list_any}
 use Rattle.om_pragma.specs.declared.clause.Clause.{Clause}
 use Rattle.om_pragma.specs.declared.clause.Clause.TheVariants as clauses
@@ -11,7 +11,8 @@ use Rattle.om_pragma.specs.declared.clause.ValueClause.{ValueClause}
 use Rattle.om_pragma.specs.declared.clause.ValueClause.TheVariants as value_kinds
 use Rattle.om_pragma.specs.declared.tree.Directive.{Directive}
 use Rattle.om_pragma.specs.declared.tree.DirectiveName.{DirectiveName}
-use Rattle.om_pragma.specs.declared.tree.DirectiveName.TheVariants as directives
+use Rattle.om_pragma.specs.declared.kind.DirectiveKind.{DirectiveKind}
+use Rattle.om_pragma.specs.declared.kind.DirectiveKind.TheVariants as directives
 use Rattle.om_pragma.specs.Expressions.{clause_expressions, expressions}
 use Rattle.om_pragma.specs.Kinds.{directive_kind}
 use Rattle.om_pragma.specs.Spelling.{kind_of, value_kind}
@@ -42,8 +43,15 @@ any_kind p (i ∷ items) = rw (any_kind p items) refl
 
 -- the clause with an expression that a directive can have, if it can have one
 value_of_name : DirectiveName → ClauseKind
-value_of_name (directives.Masked s) = clause_kinds.Filter
-value_of_name _ = clause_kinds.NumThreads
+value_of_name n = if list_any (λ j. same_clause j clause_kinds.Filter) (clauses_of (directive_kind n)) then
+    clause_kinds.Filter else clause_kinds.NumThreads
+
+-- none can have both
+no_filter : (k : DirectiveKind) → list_any (λ j. same_clause j clause_kinds.NumThreads) (clauses_of k) ≡ true
+    → list_any (λ j. same_clause j clause_kinds.Filter) (clauses_of k) ≡ false
+unfolding same_clause
+no_filter directives.Masked e = absurd cc
+no_filter _ e = refl
 
 and_first : (a b : Bool) → (a && b) ≡ true → a ≡ true
 and_first true b e = refl
@@ -55,11 +63,9 @@ and_second false b e = absurd cc
 
 only_value : (n : DirectiveName) (k : ValueClause) → list_any (λ j. same_clause j (value_kind k))
     (clauses_of (directive_kind n)) ≡ true → value_kind k ≡ value_of_name n
-unfolding value_of_name same_clause
-only_value (directives.Masked s) value_kinds.NumThreads e = absurd cc
-only_value (directives.Masked s) value_kinds.Filter e = refl
-only_value _ value_kinds.NumThreads e = refl
-only_value _ value_kinds.Filter e = absurd cc
+unfolding value_of_name
+only_value n value_kinds.NumThreads e = rw (no_filter (directive_kind n) e) refl
+only_value n value_kinds.Filter e = rw e refl
 
 excludes_itself : (k : ValueClause) → excludes (value_kind k) (value_kind k) ≡ true
 unfolding same_clause

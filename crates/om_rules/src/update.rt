@@ -203,7 +203,10 @@ fn expression_update(
             variable,
             operator,
             value,
-        } => (*variable, None, assignment(side, *operator, value)?),
+        } => {
+            let found = assignment(side, *operator, value)?;
+            (*variable, None, found)
+        }
         ResolvedExpression::AssignElement {
             array,
             index,

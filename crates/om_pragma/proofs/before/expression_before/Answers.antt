@@ -1,7 +1,10 @@
-use Rattle.std.proofs.Common.{sym, ◌∙◌}
+use Rattle.std.proofs.Common.{◌≡◌, Some, None, sym, ◌∙◌}
 use Rattle.om_pragma.proofs.Closings.{before_ends, before_found, before_goes_on, first_shorter}
 use Rattle.om_pragma.proofs.Values.{is_first, is_absent}
 use Rattle.om_pragma.proofs.before.expression_before.Goals as goal
+
+some_is_not : {A : Type 0} {x : A} → Some x ≡ None → ⊥
+some_is_not e = absurd cc
 
 pub returns-in_default : goal.returns-in_default
 returns-in_default c =
@@ -15,7 +18,7 @@ returns-in-Some-expression_at c =
     ∙ c.tokens.invariant in
     record {
       found = is_first c.args.place c.args.tokens.now c.in-Some-expression_at.expression.now (sym found);
-      absent = λ none. absurd cc;
+      absent = λ none. absurd (some_is_not none);
     }
 
 pub tokens-preserved : goal.tokens-preserved

@@ -1,7 +1,9 @@
 use Rattle.std.proofs.Common.{◌≡◌, ◌+◌, [], ◌∷◌, ◌++◌, Some, length, length-append, map, option_map, ap, sym, ◌∙◌}
-use Rattle.std.proofs.Common.{arith, rules}
+use Rattle.std.proofs.Common.{arith}
+use Rattle.std.specs.Prelude.{is_some}
 use Rattle.std.proofs.lemmas.List.{drop_all}
 use Rattle.std.proofs.lemmas.Result.{err_from_is_err_and}
+use Rattle.om_tree.specs.declared.tree.Statement.TheViews.{size-Statement, sized-Construct}
 use Rattle.om_tree.specs.View.{view_directive, view_for_start, view_part, view_statement}
 use Rattle.om_rules.specs.LoopViews.{view_loop}
 use Rattle.om_rules.specs.Loops.{loop_in}
@@ -9,12 +11,15 @@ use Rattle.om_resolved.specs.ResolvedView.{view_resolved_part, view_resolved_sta
 use Rattle.om_rules.specs.ProperConstructs.{construct_there, parts_proper, proper_inside}
 use Rattle.om_rules.specs.Scopes.{outside}
 use Rattle.om_rules.specs.StatementResolution.{resolved_statement}
-use Rattle.om_rules.specs.StatementRules.{after_for_start, after_statement, after_statements, statement_breaches}
+use Rattle.om_rules.specs.StatementRules.{after_for_start, after_statement, after_statements, parts_breaches}
+use Rattle.om_rules.specs.StatementRules.{statement_breaches, statements_breaches}
 use Rattle.om_scope.proofs.Blocks.{block_outside, body_outside, construct_outside, for_outside, parts_refuse}
 use Rattle.om_scope.proofs.Blocks.{parts_step, statements_made, statements_refuse, statements_step, statements_whole}
 use Rattle.om_scope.proofs.Constructs.{view_construct, view_do, view_if, view_if_else, view_while}
 use Rattle.om_scope.proofs.Founds.{ok_anyway, ok_then}
 use Rattle.om_scope.proofs.Fronts.{bounds_refuse}
+use Rattle.om_scope.proofs.Inside.{block_inside, do_inside, else_inside, for_inside, if_inside, sections_inside}
+use Rattle.om_scope.proofs.Inside.{then_inside, while_inside}
 use Rattle.om_scope.proofs.MadeParts.{parts_made, parts_whole}
 use Rattle.om_rules.specs.InRow.{both_whole, first_refuses, second_refuses}
 use Rattle.om_scope.proofs.BlockPropers.{left_parts_proper, left_proper, with_depth}
@@ -183,15 +188,102 @@ resolve_statement-returns-in_ok-condition-in-Do-clause-checked t c =
     rw (c.in-Do.is, view_do c.in-Do.at c.in-Do.body c.in-Do.while_word c.in-Do.condition c.in-Do.semicolon)
     (both_whole _ _ body condition)
 
+pub resolve_statement-resolve_block-requires : goal.resolve_statement-resolve_block-requires
+resolve_statement-resolve_block-requires t c =
+    let part = block_inside c.args.statement.now _ c.in-Block.left c.in-Block.items c.in-Block.close_brace c.in-Block.is
+    c.as_slice.ensures.value c.requires.proper in
+    (omega (arith, part.0, c.decreases), part.1)
+
+pub resolve_statement-resolve_body-requires : goal.resolve_statement-resolve_body-requires
+resolve_statement-resolve_body-requires t c =
+    let part = if_inside c.args.statement.now _ c.in-If.at c.in-If.condition c.in-If.then c.in-If.is
+    c.deref-in-If-2.ensures c.requires.proper in
+    (omega (arith, part.0, c.decreases), part.1)
+
+pub resolve_statement-resolve_body-requires-in-IfElse : goal.resolve_statement-resolve_body-requires-in-IfElse
+resolve_statement-resolve_body-requires-in-IfElse t c =
+    let part = then_inside c.args.statement.now _ c.in-IfElse.at c.in-IfElse.condition c.in-IfElse.then
+    c.in-IfElse.else_word c.in-IfElse.other c.in-IfElse.is c.deref-in-IfElse-2.ensures c.requires.proper in
+    (omega (arith, part.0, c.decreases), part.1)
+
+pub resolve_statement-resolve_body-requires-in-IfElse-2 : goal.resolve_statement-resolve_body-requires-in-IfElse-2
+resolve_statement-resolve_body-requires-in-IfElse-2 t c =
+    let part = else_inside c.args.statement.now _ c.in-IfElse.at c.in-IfElse.condition c.in-IfElse.then
+    c.in-IfElse.else_word c.in-IfElse.other c.in-IfElse.is c.deref-in-IfElse-3.ensures c.requires.proper in
+    (omega (arith, part.0, c.decreases), part.1)
+
+pub resolve_statement-resolve_body-requires-in-While : goal.resolve_statement-resolve_body-requires-in-While
+resolve_statement-resolve_body-requires-in-While t c =
+    let part = while_inside c.args.statement.now _ c.in-While.at c.in-While.condition c.in-While.body c.in-While.is
+    c.deref-in-While-2.ensures c.requires.proper in
+    (omega (arith, part.0, c.decreases), part.1)
+
+pub resolve_statement-resolve_body-requires-in-Do : goal.resolve_statement-resolve_body-requires-in-Do
+resolve_statement-resolve_body-requires-in-Do t c =
+    let part = do_inside c.args.statement.now _ c.in-Do.at c.in-Do.body c.in-Do.while_word c.in-Do.condition
+    c.in-Do.semicolon c.in-Do.is c.deref-in-Do.ensures c.requires.proper in
+    (omega (arith, part.0, c.decreases), part.1)
+
+pub resolve_statement-resolve_for-requires : goal.resolve_statement-resolve_for-requires
+resolve_statement-resolve_for-requires t c =
+    let part = for_inside c.args.statement.now _ c.in-For.head c.in-For.body c.in-For.is c.deref-in-For-2.ensures
+    c.requires.proper in
+    (omega (arith, part.0, c.decreases), part.1)
+
+pub resolve_statement-resolve_construct-requires : goal.resolve_statement-resolve_construct-requires
+resolve_statement-resolve_construct-requires t c = (
+  omega (
+    arith,
+    ap size-Statement c.in-Construct.is,
+    sized-Construct c.in-Construct.directive c.in-Construct.body,
+    ap size-Statement c.deref-in-Construct-2.ensures,
+    c.decreases,
+  ),
+  rw (c.deref-in-Construct.ensures, c.deref-in-Construct-2.ensures)
+      (rw (c.in-Construct.is, view_construct c.in-Construct.directive c.in-Construct.body) at c.requires.proper),
+)
+
+pub resolve_statement-resolve_sections-requires : goal.resolve_statement-resolve_sections-requires
+resolve_statement-resolve_sections-requires t c =
+    let part = sections_inside c.args.statement.now _ c.in-Sections.directive c.in-Sections.open_brace
+    c.in-Sections.parts c.in-Sections.close_brace c.in-Sections.is c.as_slice-in-Sections.ensures.value
+    c.requires.proper in
+    (omega (arith, part.0, c.decreases), (part.1, part.2))
+
+pub boxed_statement-resolve_statement-requires : goal.boxed_statement-resolve_statement-requires
+boxed_statement-resolve_statement-requires t c = (omega (arith, c.decreases), c.requires.proper)
+
+pub resolve_body-boxed_statement-found-requires : goal.resolve_body-boxed_statement-found-requires
+resolve_body-boxed_statement-found-requires t c = (omega (arith, c.decreases), c.requires.proper)
+
+pub resolve_block-resolve_statements-items-requires : goal.resolve_block-resolve_statements-items-requires
+resolve_block-resolve_statements-items-requires t c = (omega (arith, c.decreases), c.requires.proper)
+
+pub resolve_for-resolve_body-requires : goal.resolve_for-resolve_body-requires
+resolve_for-resolve_body-requires t c = (omega (arith, c.decreases), c.requires.proper)
+
+pub resolve_repeated-resolve_body-requires : goal.resolve_repeated-resolve_body-requires
+resolve_repeated-resolve_body-requires t c = (omega (arith, c.decreases), c.requires.proper)
+
+pub resolve_loop_construct-resolve_loop_body-requires : goal.resolve_loop_construct-resolve_loop_body-requires
+resolve_loop_construct-resolve_loop_body-requires t c =
+    let same : loop_in (view_statement c.args.body.now) ≡ Some (view_loop c.in-Some.found) = sym c.loop_in.ensures
+    ∙ ap (option_map view_loop) c.in-Some.is in
+    (omega (arith, c.decreases), (c.requires.proper, ap is_some same))
+
+pub resolve_loop_construct-boxed_statement-checked-requires :
+    goal.resolve_loop_construct-boxed_statement-checked-requires
+resolve_loop_construct-boxed_statement-checked-requires t c = (omega (arith, c.decreases), c.requires.proper)
+
 pub resolve_construct-resolve_loop_construct-requires : goal.resolve_construct-resolve_loop_construct-requires
 resolve_construct-resolve_loop_construct-requires t c = (
-  search rules,
+  omega (arith, c.decreases),
   proper_inside (view_directive c.args.directive.now) (view_statement c.args.body.now) c.requires.proper,
 )
 
 pub resolve_plain_construct-boxed_statement-requires : goal.resolve_plain_construct-boxed_statement-requires
 resolve_plain_construct-boxed_statement-requires t c = (
-  search rules,
+  omega (arith, c.decreases),
   proper_inside (view_directive c.args.directive.now) (view_statement c.args.body.now) c.requires.proper,
 )
 
@@ -203,7 +295,7 @@ resolve_plain_construct-construct_of-requires t c = record {
 
 pub resolve_sections-resolve_parts-requires : goal.resolve_sections-resolve_parts-requires
 resolve_sections-resolve_parts-requires t c = (
-  search rules,
+  omega (arith, c.decreases),
   parts_proper _ c.requires.formed c.requires.forms,
 )
 
@@ -283,6 +375,19 @@ resolve_loop_construct-returns-in_err-clauses-in-Some-clause-checked t c =
     rw (p.1, p.2, same) (bounds_refuse c.args.symbols.now c.args.flow (view_directive c.args.directive.now)
     (view_loop c.in-Some.found) (view_statement c.args.body.now) _ c.in_err-clauses-in-Some.ensures.checked)
 
+pub resolve_statements-returns-clause-checked : goal.resolve_statements-returns-clause-checked
+unfolding statements_breaches
+resolve_statements-returns-clause-checked t c =
+    let none = ap (map view_statement) (drop_all c.loop-item.item-index c.args.items.now c.loop-item-test.false) in
+    let left = rw none at c.loop-item.invariant in
+    left.0
+
+pub resolve_statements-returns-clause-in_scope : goal.resolve_statements-returns-clause-in_scope
+resolve_statements-returns-clause-in_scope t c =
+    let none = ap (map view_statement) (drop_all c.loop-item.item-index c.args.items.now c.loop-item-test.false) in
+    let left = rw none at c.loop-item.invariant in
+    sym left.1
+
 pub resolve_statements-returns-clause-resolved : goal.resolve_statements-returns-clause-resolved
 resolve_statements-returns-clause-resolved t c =
     let none = ap (map view_statement) (drop_all c.loop-item.item-index c.args.items.now c.loop-item-test.false) in
@@ -338,6 +443,13 @@ resolve_parts-loop-part-preserved t c =
       (left_parts_proper c.args.sections.now c.loop-part.part-index c.part-item.result c.loop-part-test.true
           c.part-item.is c.loop-part.invariant.3).1,
     )
+
+pub resolve_parts-returns-clause-checked : goal.resolve_parts-returns-clause-checked
+unfolding parts_breaches
+resolve_parts-returns-clause-checked t c =
+    let none = ap (map view_part) (drop_all c.loop-part.part-index c.args.sections.now c.loop-part-test.false) in
+    let left = rw none at c.loop-part.invariant in
+    left.0
 
 pub resolve_parts-returns-clause-resolved : goal.resolve_parts-returns-clause-resolved
 resolve_parts-returns-clause-resolved t c =

@@ -38,3 +38,9 @@ returns-clause-atomics_assign c =
     let made = rw c.as_slice.ensures.value at c.in_ok-resolved.ensures.resolved in
     subst (λ found. IfSome found TreeAtomicsAssign) made (c.atomics_assign.ensures (view_unit c.args.unit)
     c.requires.atomics_have_forms)
+
+pub returns-clause-resolved : goal.returns-clause-resolved
+unfolding resolution_of
+returns-clause-resolved c =
+    let made = rw c.as_slice.ensures.value at c.in_ok-resolved.ensures.resolved in
+    made

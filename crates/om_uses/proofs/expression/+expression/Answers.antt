@@ -11,6 +11,8 @@ use Rattle.om_uses.proofs.Arguments.{printed_format, printed_made, printed_refus
 use Rattle.om_uses.proofs.Items.{drop-item, map-push}
 use Rattle.om_tree.specs.declared.tree.Expression.{fold-roll-Expression}
 use Rattle.om_tree.specs.declared.tree.Expression.TheVariants as expressions
+use Rattle.om_tree.specs.declared.tree.Expression.TheViews.{size-Expression, sized-Assign, sized-Binary}
+use Rattle.om_tree.specs.declared.tree.Expression.TheViews.{sized-Conditional}
 use Rattle.om_tree.specs.View.{view_expression}
 use Rattle.om_resolved.specs.declared.resolved.ResolvedExpression.{fold-roll-ResolvedExpression}
 use Rattle.om_resolved.specs.declared.resolved.ResolvedExpression.TheVariants as made
@@ -55,6 +57,13 @@ resolve_values-returns-in_err-add-clause-checked t c =
     rw (p.1, p.2) (arguments_refuse _ _ _ _ _ _ left.0
     (c.in_err-add.ensures.checked _ c.resolve_expression-value.ensures.checked))
 
+pub resolve_values-returns-clause-checked : goal.resolve_values-returns-clause-checked
+unfolding arguments_breaches
+resolve_values-returns-clause-checked t c =
+    let none = ap (λ vs. arguments (map view_argument vs)) (drop_all c.loop-argument.argument-index
+    c.args.values.now (omega (arith, c.loop-argument-test.false))) in
+    c.loop-argument.invariant.0 ∙ ap (arguments_breaches c.args.symbols.now) none
+
 pub resolve_values-returns-clause-resolved : goal.resolve_values-returns-clause-resolved
 resolve_values-returns-clause-resolved t c =
     let none = ap (λ vs. arguments (map view_argument vs)) (drop_all c.loop-argument.argument-index
@@ -95,6 +104,13 @@ resolve_printed-returns-in_err-add-clause-checked t c =
     let left = rw here at c.loop-argument.invariant in
     rw (p.1, p.2) (printed_refuse _ _ _ _ _ _ _ left.0
     (c.in_err-add.ensures.checked _ c.resolve_argument-value.ensures.checked))
+
+pub resolve_printed-returns-clause-checked : goal.resolve_printed-returns-clause-checked
+unfolding printed_breaches
+resolve_printed-returns-clause-checked t c =
+    let none = ap (λ vs. arguments (map view_argument vs)) (drop_all c.loop-argument.argument-index
+    c.args.values.now (omega (arith, c.loop-argument-test.false))) in
+    c.loop-argument.invariant.0 ∙ ap (printed_breaches c.args.symbols.now c.loop-argument.place) none
 
 pub resolve_printed-returns-clause-resolved : goal.resolve_printed-returns-clause-resolved
 resolve_printed-returns-clause-resolved t c =
@@ -281,6 +297,22 @@ resolve_expression-returns-in_ok-target-in-Postfix-clause-resolved t c =
     let target = rw c.deref-in-Postfix.ensures at c.in_ok-target-in-Postfix.ensures.resolved in
     rw (c.in-Postfix.is, ← expressions.rolls-Postfix, fold-roll-Expression, target, c.stepped.ensures) refl
 
+pub resolve_expression-returns-in_ok-array-in-Index-clause-resolved :
+    goal.resolve_expression-returns-in_ok-array-in-Index-clause-resolved
+unfolding resolved_expression
+resolve_expression-returns-in_ok-array-in-Index-clause-resolved t c =
+    let found = c.in_ok-array-in-Index.ensures in
+    let index = rw c.deref-in-Index.ensures at found.index in
+    rw (
+      c.in-Index.is,
+      ← expressions.rolls-Index,
+      fold-roll-Expression,
+      found.array,
+      index,
+      ← made.rolls-Element,
+      fold-roll-ResolvedExpression,
+    ) refl
+
 pub resolve_expression-returns-in_err-array-in-Index-clause-checked :
     goal.resolve_expression-returns-in_err-array-in-Index-clause-checked
 unfolding expression_breaches
@@ -387,3 +419,59 @@ resolve_target-returns-in_default t c =
     let same = no_target c.args.symbols.now c.args.target.now c.in_default.not-Name c.in_default.not-Paren
     c.in_default.not-Index in
     record { checked = λ other. ap first_of same ∙ c.misplaced-in_default.ensures; resolved = tt }
+
+pub resolve_expression-boxed_expression-requires-in-Binary : goal.resolve_expression-boxed_expression-requires-in-Binary
+resolve_expression-boxed_expression-requires-in-Binary t c = (
+  omega (
+    arith,
+    ap size-Expression c.in-Binary.is,
+    sized-Binary c.in-Binary.left c.in-Binary.operator
+        c.in-Binary.operator_span c.in-Binary.right,
+    ap size-Expression c.deref-in-Binary-2.ensures,
+    c.decreases,
+  ),
+  tt,
+)
+
+pub resolve_expression-boxed_expression-requires-in-Conditional-2 :
+    goal.resolve_expression-boxed_expression-requires-in-Conditional-2
+resolve_expression-boxed_expression-requires-in-Conditional-2 t c = (
+  omega (
+    arith,
+    ap size-Expression c.in-Conditional.is,
+    sized-Conditional c.in-Conditional.condition
+        c.in-Conditional.question c.in-Conditional.then c.in-Conditional.colon c.in-Conditional.other,
+    ap size-Expression
+        c.deref-in-Conditional-2.ensures,
+    c.decreases,
+  ),
+  tt,
+)
+
+pub resolve_expression-boxed_expression-requires-in-Conditional-3 :
+    goal.resolve_expression-boxed_expression-requires-in-Conditional-3
+resolve_expression-boxed_expression-requires-in-Conditional-3 t c = (
+  omega (
+    arith,
+    ap size-Expression c.in-Conditional.is,
+    sized-Conditional c.in-Conditional.condition
+        c.in-Conditional.question c.in-Conditional.then c.in-Conditional.colon c.in-Conditional.other,
+    ap size-Expression
+        c.deref-in-Conditional-3.ensures,
+    c.decreases,
+  ),
+  tt,
+)
+
+pub resolve_expression-boxed_expression-requires-in-Assign : goal.resolve_expression-boxed_expression-requires-in-Assign
+resolve_expression-boxed_expression-requires-in-Assign t c = (
+  omega (
+    arith,
+    ap size-Expression c.in-Assign.is,
+    sized-Assign c.in-Assign.target c.in-Assign.operator
+        c.in-Assign.operator_span c.in-Assign.value,
+    ap size-Expression c.deref-in-Assign-2.ensures,
+    c.decreases,
+  ),
+  tt,
+)

@@ -1,9 +1,9 @@
-use Rattle.std.proofs.Common.{◌++◌, map, ap, sym, refl, ◌∙◌}
+use Rattle.std.proofs.Common.{◌+◌, ◌++◌, [], ◌∷◌, append_assoc, map, drop, ap, sym, refl, ◌∙◌}
 use Rattle.std.proofs.lemmas.Result.{err_from_is_err_and}
-use Rattle.om_tree.specs.View.{view_further, view_number}
+use Rattle.om_tree.specs.View.{view_declarator, view_further, view_number}
 use Rattle.om_rules.specs.Scopes.{after_global}
 use Rattle.om_rules.specs.UnitRules.{global_breaches}
-use Rattle.om_rules.specs.InRow.{unbroken-refuse}
+use Rattle.om_rules.specs.InRow.{unbroken-refuse, unbroken-step}
 use Rattle.om_uses.proofs.Items.{drop-item}
 use Rattle.std.proofs.lemmas.List.{append-nil, drop_all}
 use Rattle.om_rules.specs.InRow.{unbroken-begin}
@@ -41,3 +41,16 @@ returns-clause-declared c =
     (drop_all c.loop-further.further-index c.args.rest.now c.loop-further-test.false) in
     let made = c.loop-further.globals.items in
     sym (ap (λ left. made ++ map global_of left) none ∙ append-nil made) ∙ c.loop-further.invariant.1
+
+pub loop-further-preserved : goal.loop-further-preserved
+loop-further-preserved c =
+    let here = ap (map (view_further view_number)) (drop-item c.args.rest.now c.loop-further.further-index
+    c.further-item.result c.loop-further-test.true c.further-item.is) in
+    let left = rw here at c.loop-further.invariant in
+    let one = c.in_ok-declare_global.ensures in
+    let made = global_of (view_declarator view_number c.further-item.result.1) ∷ [] in
+    let rest = behind_commas (map (view_further view_number)
+    (drop (c.loop-further.further-index + 1) c.args.rest.now)) in (
+      rw one.in_scope (unbroken-step global_breaches after_global left.0 one.checked),
+      rw one.declared (append_assoc c.loop-further.globals.items made (map global_of rest) ∙ left.1),
+    )
