@@ -29,7 +29,7 @@ pub(crate) fn journal_gets_full(alloc: Global) -> Result<bool, AllocError> {
 fn looks_are_answered(alloc: Global, book: &mut BookOfTwo) -> bool {
     for _ in 0..MOST {
         let answer = book.apply(alloc, Command::Look(Query::Value(Obj::Output)));
-        if !matches!(answer, Ok(Reply::Value(Val::Output(_)))) {
+        if !matches!(&answer, Ok(Reply::Value(Val::Output(_)))) {
             return false;
         }
     }
