@@ -1,18 +1,11 @@
 -- What is in a statement is smaller than it, and has code where that does.
-use Rattle.std.proofs.Common.{◌≡◌, ◌<◌, ◌≤◌, suc, All, Bool, true, false, List, [], ◌∷◌, None, length, map, option_map}
+use Rattle.std.proofs.Common.{◌≡◌, ◌<◌, ◌≤◌, suc, Bool, true, false, List, [], ◌∷◌, None, length, map, option_map}
 use Rattle.std.proofs.Common.{add-one, refl, sym, ap, ◌∙◌, subst, arith}
 use Rattle.std.specs.Prelude.{IfSome, is_some}
 use Rattle.om_statements.specs.declared.spot.Spot.{Spot}
-use Rattle.om_statements.specs.Stretches.{BeginHasCode, IsNoAtomic}
-use Rattle.om_statements.specs.declared.labels.JumpLabels.{JumpLabels}
-use Rattle.om_statements.specs.Emits.{EmitsStatement, EmitsWith}
-use Rattle.om_statements.specs.Going.{with_none}
-use Rattle.om_emit.specs.Drafts.{Written}
-use Rattle.om_emit.specs.Emits.{EmitsRow, site}
-use Rattle.om_lexer.specs.declared.token.Span.{Span}
+use Rattle.om_statements.specs.Stretches.{IsNoAtomic}
 use Rattle.om_resolved.specs.declared.resolved.ConstructKind.{ConstructKind}
 use Rattle.om_resolved.specs.declared.resolved.ConstructKind.TheVariants as constructs
-use Rattle.om_resolved.specs.declared.resolved.ResolvedClause.{ResolvedClause}
 use Rattle.om_resolved.specs.declared.resolved.ResolvedPart.{ResolvedPart}
 use Rattle.om_resolved.specs.declared.resolved.ResolvedStatement.{ResolvedStatement}
 use Rattle.om_resolved.specs.declared.resolved.ResolvedStatement.TheVariants as v
@@ -20,22 +13,16 @@ use Rattle.om_resolved.specs.declared.resolved.ResolvedStatement.TheViews.{size-
 use Rattle.om_resolved.specs.declared.resolved.ResolvedStatement.TheViews.{sized-Do, sized-For, sized-If, sized-IfElse}
 use Rattle.om_resolved.specs.declared.resolved.ResolvedStatement.TheViews.{sized-Loop, sized-While}
 use Rattle.om_resolved.specs.ResolvedTree as trees
-use Rattle.om_resolved.specs.ResolvedTree.{ResolvedClauseTree, ResolvedPartsTree, ResolvedStatementTree}
-use Rattle.om_resolved.specs.ResolvedTree.{ResolvedStatementsTree}
-use Rattle.om_resolved.specs.ResolvedView.{view_resolved_clause, view_resolved_declarator, view_resolved_expression}
-use Rattle.om_resolved.specs.ResolvedView.{view_resolved_loop, view_resolved_part, view_resolved_start}
-use Rattle.om_resolved.specs.ResolvedView.{view_resolved_statement, view_resolved_update}
+use Rattle.om_resolved.specs.ResolvedTree.{ResolvedPartsTree, ResolvedStatementTree, ResolvedStatementsTree}
+use Rattle.om_resolved.specs.ResolvedView.{view_resolved_clause, view_resolved_expression, view_resolved_loop}
+use Rattle.om_resolved.specs.ResolvedView.{view_resolved_part, view_resolved_start, view_resolved_statement}
 use Rattle.om_resolved.specs.Whole.{part_count}
 use Rattle.om_rows.specs.Bodies.{Numbers, behind}
-use Rattle.om_rows.specs.Coded.{AssignmentHasCode, DeclaratorHasCode, EffectHasCode, LoopHasCode, PartsHaveCode}
-use Rattle.om_rows.specs.Coded.{StartHasCode, StatementHasCode, StatementsHaveCode, UpdateHasCode, ValueHasCode}
+use Rattle.om_rows.specs.Coded.{AssignmentHasCode, EffectHasCode, LoopHasCode, PartsHaveCode, StartHasCode}
+use Rattle.om_rows.specs.Coded.{StatementHasCode, StatementsHaveCode, ValueHasCode}
 use Rattle.om_rows.specs.declared.numbers.Numbers as tables
-use Rattle.om_rows.specs.Numbered.{Numbered}
-use Rattle.om_rows.specs.Picks.{own_picks}
-use Rattle.om_rows.specs.Statements.{assignment_row, clause_value}
-use Rattle.om_statements.proofs.Views.{view_break, view_construct, view_continue, view_declaration, view_do}
-use Rattle.om_statements.proofs.Views.{view_expression, view_for, view_if, view_if_else, view_loop, view_parallel}
-use Rattle.om_statements.proofs.Views.{view_return, view_sections, view_update, view_while}
+use Rattle.om_statements.proofs.Views.{view_construct, view_do, view_for, view_if, view_if_else, view_loop, view_sections}
+use Rattle.om_statements.proofs.Views.{view_while}
 
 -- ---- smaller
 
@@ -84,41 +71,6 @@ construct_inside tree x at kind clauses s is same =
     omega (arith, ap size-ResolvedStatement is, sized-Construct at kind clauses s, ap size-ResolvedStatement same)
 
 -- ---- code
-
-pub declaration_code : (breaks continues : Bool) (tree : ResolvedStatement) (at : _) (ds : _) → tree ≡ v.Declaration at ds
-    → StatementHasCode breaks continues (view_resolved_statement tree) → All DeclaratorHasCode (map view_resolved_declarator ds.items)
-declaration_code breaks continues tree at ds is code =
-    subst (λ z. StatementHasCode breaks continues z) (ap view_resolved_statement is ∙ view_declaration at ds) code
-
-pub expression_code : (breaks continues : Bool) (tree : ResolvedStatement) (at : _) (e : _) → tree ≡ v.Expression at e
-    → StatementHasCode breaks continues (view_resolved_statement tree) → EffectHasCode (view_resolved_expression e)
-expression_code breaks continues tree at e is code =
-    subst (λ z. StatementHasCode breaks continues z) (ap view_resolved_statement is ∙ view_expression at e) code
-
-pub return_code : (breaks continues : Bool) (tree : ResolvedStatement) (at : _) (e : _) → tree ≡ v.Return at e
-    → StatementHasCode breaks continues (view_resolved_statement tree) → IfSome (option_map view_resolved_expression e) ValueHasCode
-return_code breaks continues tree at e is code =
-    subst (λ z. StatementHasCode breaks continues z) (ap view_resolved_statement is ∙ view_return at e) code
-
-pub break_code : (breaks continues : Bool) (tree : ResolvedStatement) (at : _) → tree ≡ v.Break at
-    → StatementHasCode breaks continues (view_resolved_statement tree) → breaks ≡ true
-break_code breaks continues tree at is code =
-    subst (λ z. StatementHasCode breaks continues z) (ap view_resolved_statement is ∙ view_break at) code
-
-pub continue_code : (breaks continues : Bool) (tree : ResolvedStatement) (at : _) → tree ≡ v.Continue at
-    → StatementHasCode breaks continues (view_resolved_statement tree) → continues ≡ true
-continue_code breaks continues tree at is code =
-    subst (λ z. StatementHasCode breaks continues z) (ap view_resolved_statement is ∙ view_continue at) code
-
-pub update_code : (breaks continues : Bool) (tree : ResolvedStatement) (at : _) (u : _) → tree ≡ v.Update at u
-    → StatementHasCode breaks continues (view_resolved_statement tree) → UpdateHasCode (view_resolved_update u.value)
-update_code breaks continues tree at u is code =
-    subst (λ z. StatementHasCode breaks continues z) (ap view_resolved_statement is ∙ view_update at u) code
-
-pub parallel_code : (breaks continues : Bool) (tree : ResolvedStatement) (at : _) (clauses : _) (captures : _) (s : _) → tree ≡ v.Parallel at clauses captures s
-    → StatementHasCode breaks continues (view_resolved_statement tree) → IfSome (clause_value (map view_resolved_clause clauses.items)) ValueHasCode
-parallel_code breaks continues tree at clauses captures s is code =
-    subst (λ z. StatementHasCode breaks continues z) (ap view_resolved_statement is ∙ view_parallel at clauses captures s) code
 
 pub if_code : (breaks continues : Bool) (tree : ResolvedStatement) (at : _) (c : _) (s : _) → tree ≡ v.If at c s
     → StatementHasCode breaks continues (view_resolved_statement tree)
@@ -180,25 +132,6 @@ construct_code breaks continues tree at kind clauses s h is code =
     (subst (λ z. StatementHasCode breaks continues z) (ap view_resolved_statement is
     ∙ view_construct at kind clauses s) code)
 
-kind_begins : (breaks continues : Bool) (at : _) (kind : ConstructKind) (clauses : List ResolvedClauseTree)
-    (s : ResolvedStatementTree) → IsNoAtomic kind
-    → StatementHasCode breaks continues (trees.Construct at kind clauses s) → BeginHasCode kind clauses
-kind_begins breaks continues at (constructs.Single nowait) clauses s h code = tt
-kind_begins breaks continues at constructs.Masked clauses s h code = code.0
-kind_begins breaks continues at (constructs.Critical name) clauses s h code = tt
-kind_begins breaks continues at constructs.Atomic clauses s h code = absurd h
-kind_begins breaks continues at constructs.Taskgroup clauses s h code = tt
-
-pub begin_code : (breaks continues : Bool) (tree : ResolvedStatement) (at : _) (kind : ConstructKind) (clauses : _)
-    (s : _) (xs : List ResolvedClause) → IsNoAtomic kind → tree ≡ v.Construct at kind clauses s → xs ≡ clauses.items
-    → StatementHasCode breaks continues (view_resolved_statement tree)
-    → BeginHasCode kind (map view_resolved_clause xs)
-begin_code breaks continues tree at kind clauses s xs h is same code =
-    subst (λ ys. BeginHasCode kind (map view_resolved_clause ys)) (sym same)
-    (kind_begins breaks continues at kind (map view_resolved_clause clauses.items) (view_resolved_statement s.value) h
-    (subst (λ z. StatementHasCode breaks continues z) (ap view_resolved_statement is
-    ∙ view_construct at kind clauses s) code))
-
 pub sections_code : (breaks continues : Bool) (tree : ResolvedStatement) (at : _) (clauses : _) (nowait : _)
     (parts : _) → tree ≡ v.Sections at clauses nowait parts
     → StatementHasCode breaks continues (view_resolved_statement tree)
@@ -229,35 +162,15 @@ assignment_ends : (n : Numbers) (s : ResolvedStatementTree) → AssignmentHasCod
 assignment_ends n (trees.Expression at e) code = refl
 assignment_ends n _ code = absurd code
 
-pub atomic_code : (breaks continues : Bool) (tree x : ResolvedStatement) (at : _) (kind : ConstructKind)
-    (clauses : _) (s : _) → tree ≡ v.Construct at kind clauses s → kind ≡ constructs.Atomic → x ≡ s.value
-    → StatementHasCode breaks continues (view_resolved_statement tree)
-    → AssignmentHasCode (view_resolved_statement x)
-atomic_code breaks continues tree x at kind clauses s is plain same code =
-    let seen = ap view_resolved_statement is ∙ view_construct at kind clauses s in
-    subst (λ z. AssignmentHasCode (view_resolved_statement z)) (sym same)
-    (subst (λ k. StatementHasCode breaks continues (trees.Construct at k (map view_resolved_clause clauses.items)
-    (view_resolved_statement s.value))) plain (subst (λ z. StatementHasCode breaks continues z) seen code))
-
 pub atomic_ends : (breaks continues : Bool) (n : Numbers) (tree : ResolvedStatement) (at : _) (kind : ConstructKind)
     (clauses : _) (s : _) → tree ≡ v.Construct at kind clauses s → kind ≡ constructs.Atomic
     → StatementHasCode breaks continues (view_resolved_statement tree) → n ≡ behind n (view_resolved_statement tree)
 atomic_ends breaks continues n tree at kind clauses s is plain code =
-    assignment_ends n (view_resolved_statement s.value)
-    (atomic_code breaks continues tree s.value at kind clauses s is plain refl code)
-    ∙ ap (λ z. behind n z) (sym (ap view_resolved_statement is ∙ view_construct at kind clauses s))
-
-assignment_picks : (n : Numbers) (s : ResolvedStatementTree) → AssignmentHasCode s → [] ≡ own_picks n s
-assignment_picks n (trees.Expression at e) code = refl
-assignment_picks n _ code = absurd code
-
-pub atomic_emits : (names : Numbered) (n : Numbers) (first : Span) (clauses : List ResolvedClauseTree)
-    (s : ResolvedStatementTree) (jumps : JumpLabels) (a b : Written) → AssignmentHasCode s
-    → EmitsRow names (λ at. assignment_row at first.line s) a b
-    → EmitsStatement names n (trees.Construct first constructs.Atomic clauses s) jumps a b
-atomic_emits names n first clauses s jumps a b code e =
-    subst (λ picks. EmitsWith picks (λ done at. assignment_row (site names done) first.line s) a b)
-    (assignment_picks n s code) (with_none _ (λ done at. assignment_row (site names done) first.line s) a b e)
+    let seen = ap view_resolved_statement is ∙ view_construct at kind clauses s in
+    let assigned : AssignmentHasCode (view_resolved_statement s.value) =
+    subst (λ k. StatementHasCode breaks continues (trees.Construct at k (map view_resolved_clause clauses.items)
+    (view_resolved_statement s.value))) plain (subst (λ z. StatementHasCode breaks continues z) seen code) in
+    assignment_ends n (view_resolved_statement s.value) assigned ∙ ap (λ z. behind n z) (sym seen)
 
 -- where it stands at a spot
 pub code_at : (x y : Spot) (s t : ResolvedStatement) → x ≡ y → s ≡ t

@@ -12,9 +12,9 @@ use Rattle.om_code.specs.declared.instruction.Instr.TheVariants as i
 use Rattle.om_resolved.specs.ResolvedTree.{ResolvedExpressionTree}
 use Rattle.om_rows.specs.Expressions.{value}
 use Rattle.om_rows.specs.Statements.{last_instruction, returned}
-use Rattle.om_emit.specs.Drafts.{Written, moved, Puts, PutsAll}
+use Rattle.om_emit.specs.Drafts.{Written, moved, Puts}
 use Rattle.om_emit.specs.Emits.{Part, site, Goes, Emits}
-use Rattle.om_emit.specs.Writing.{all_ins, goes_end, goes_less, goes_put, goes_put_all, goes_part}
+use Rattle.om_emit.specs.Writing.{goes_end, goes_put, goes_part}
 use Rattle.om_rows.specs.Rows.{Site, Row, end, ins, part, each}
 use Rattle.om_rows.specs.Numbered.{Numbered}
 
@@ -22,23 +22,18 @@ pub emits_one : (names : Numbered) (l : ℕ) (x : Instr) (a b : Written) → Put
     → Emits (λ done at. ins (site names done) l (moved at x) end) a b
 emits_one names l x a b h = goes_put names _ l x (λ done at. end) a b b h (goes_end _ b)
 
-pub emits_all : (names : Numbered) (l : ℕ) (xs : List Instr) (a b : Written) → PutsAll l xs a b
-    → Emits (λ done at. all_ins (site names done) at l xs end) a b
-emits_all names l xs a b h = goes_put_all names _ l xs (λ done at. end) a b b h (goes_end _ b)
-
--- two instructions under other names
-pub emits_both : (names : Numbered) (l : ℕ) (x y u v : Instr) (a b : Written) → x ≡ u → y ≡ v
-    → PutsAll l (x ∷ y ∷ []) a b
-    → Emits (λ done at. ins (site names done) l (moved at u) (ins (site names done) l (moved at v) end)) a b
-emits_both names l x y u v a b e f h =
-    emits_all names l (u ∷ v ∷ []) a b
-    (subst (λ z. PutsAll l (u ∷ z ∷ []) a b) f (subst (λ z. PutsAll l (z ∷ y ∷ []) a b) e h))
-
 pub emits_two : (names : Numbered) (l : ℕ) (x y : Instr) (a b c : Written) → Puts l x a b → Puts l y b c
     → Emits (λ done at. ins (site names done) l (moved at x) (ins (site names done) l (moved at y) end)) a c
 emits_two names l x y a b c h j =
     goes_put names _ l x (λ done at. ins (site names done) l (moved at y) end) a b c h
     (goes_put names _ l y (λ done at. end) b c c j (goes_end _ c))
+
+-- fewer labels are kept
+pub goes_less : (n m : ℕ) (r : Part) (a c : Written) → n ≤ m → Goes m r a c → Goes n r a c
+goes_less n m r a c le g = record {
+  writes = g.writes;
+  keeps = record { picks = g.keeps.picks; more = g.keeps.more; same = λ l lt. g.keeps.same l (omega arith) };
+}
 
 pub emits_then : (r s : Part) (a b c : Written) → Emits r a b → Emits s b c
     → Emits (λ done at. part (r done at) (s done at)) a c

@@ -11,10 +11,11 @@ use Rattle.om_statements.specs.declared.labels.TurnLabels.{TurnLabels}
 use Rattle.om_statements.specs.declared.worksharing.Parts.{Parts}
 use Rattle.om_statements.specs.Stretches.{Opens, Begins, BeginsTurn, FreshTurn, bounds_row, do_begin, else_begin}
 use Rattle.om_statements.specs.Stretches.{loop_end, sections_begin, worksharing_begin}
+use Rattle.om_statements.proofs.Leaves.{goes_less}
 use Rattle.om_emit.specs.Drafts.{Labels, Written, moved, Puts, Fresh, Defines}
 use Rattle.om_emit.specs.Emits.{Finished, Part, site, Goes, Emits}
 use Rattle.om_emit.specs.Writing.{goes_end, goes_put, goes_part, goes_here, goes_fresh, goes_as, fresh_length}
-use Rattle.om_emit.specs.Writing.{define_length, goes_less}
+use Rattle.om_emit.specs.Writing.{define_length}
 use Rattle.om_resolved.specs.ResolvedTree.{ResolvedClauseTree, ResolvedLoopTree}
 use Rattle.om_rows.specs.Operators.{comparison_of, form_with}
 use Rattle.om_rows.specs.Rows.{end, ins, part, here, ◌▸◌}

@@ -24,10 +24,23 @@ pub fn stand_alone(draft: &mut Draft, line: u32, directive: &StandAlone) -> Resu
         (EmitsAnywhere (λ at. alone_row at line directive.now) draft.old draft.new) }
 {
     match directive {
-        StandAlone::Barrier => barrier(draft, line, Barrier::Explicit),
-        StandAlone::Taskwait => draft.put_all(line, &[Instr::WaitBegin, Instr::WaitEnd]),
-        StandAlone::Taskyield => draft.put(line, Instr::Yield),
-        StandAlone::Flush(_) => draft.put(line, Instr::Nop),
+        StandAlone::Barrier => {
+            barrier(draft, line, Barrier::Explicit)?;
+            Ok(())
+        }
+        StandAlone::Taskwait => {
+            draft.put(line, Instr::WaitBegin)?;
+            draft.put(line, Instr::WaitEnd)?;
+            Ok(())
+        }
+        StandAlone::Taskyield => {
+            draft.put(line, Instr::Yield)?;
+            Ok(())
+        }
+        StandAlone::Flush(_) => {
+            draft.put(line, Instr::Nop)?;
+            Ok(())
+        }
     }
 }
 
@@ -56,7 +69,8 @@ pub fn update(
                     side,
                     place,
                 },
-            )
+            )?;
+            Ok(())
         }
         Some(index) => {
             value(draft, tables, line, index)?;
@@ -68,7 +82,8 @@ pub fn update(
                     side,
                     place,
                 },
-            )
+            )?;
+            Ok(())
         }
     }
 }

@@ -13,7 +13,9 @@ use std::alloc::AllocError;
 pub fn barrier(draft: &mut Draft, line: u32, kind: Barrier) -> Result<(), AllocError>
     ensures { OnOk result (EmitsAnywhere (λ at. barrier at line kind) draft.old draft.new) }
 {
-    draft.put_all(line, &[Instr::Arrive(kind), Instr::Depart(kind)])
+    draft.put(line, Instr::Arrive(kind))?;
+    draft.put(line, Instr::Depart(kind))?;
+    Ok(())
 }
 
 /// Writes the end of a worksharing construct: all threads wait for each other, unless it is `nowait`

@@ -16,6 +16,7 @@ use crate::operator::{identity_of, reduction_of};
 use crate::writing::{ScopeStack, Writing};
 use om_code::Instr;
 use om_emit::draft::Draft;
+use om_emit::{load, store};
 use om_pragma::ReductionOperator;
 use om_resolved::{CopyKind, LocalVariable, ResolvedClause, ResolvedExpression, Variable};
 use om_rows::BodyTables;
@@ -46,9 +47,9 @@ fn set_identity(
         OnOk result (EmitsRow (numbered_by tables.now) begin draft.old draft.new) }
 {
     let identity = identity_of(operator);
-    let place = tables.place(Variable::Local(copy.at));
-    let keeps = false;
-    draft.put_all(line, &[identity, Instr::Store { place, keeps }])
+    draft.put(line, identity)?;
+    store(draft, tables, line, Variable::Local(copy.at), false)?;
+    Ok(())
 }
 
 /// Gives a copy the value of its original.
@@ -62,10 +63,9 @@ fn set_original(
     ensures { let begin = original_start line original copy.now in
         OnOk result (EmitsRow (numbered_by tables.now) begin draft.old draft.new) }
 {
-    let from = tables.place(original);
-    let place = tables.place(Variable::Local(copy.at));
-    let keeps = false;
-    draft.put_all(line, &[Instr::Load(from), Instr::Store { place, keeps }])
+    load(draft, tables, line, original)?;
+    store(draft, tables, line, Variable::Local(copy.at), false)?;
+    Ok(())
 }
 
 /// Writes what the copy of a clause of a worksharing construct begins with (OpenMP API 5.2, section 5.4).
@@ -88,9 +88,18 @@ fn begin_copy(
         return Ok(());
     };
     match kind {
-        CopyKind::Private => draft.put(line, Instr::Clear(tables.slot(copy))),
-        CopyKind::Firstprivate => set_original(draft, tables, line, *original, copy),
-        CopyKind::Reduction(operator) => set_identity(draft, tables, line, *operator, copy),
+        CopyKind::Private => {
+            draft.put(line, Instr::Clear(tables.slot(copy)))?;
+            Ok(())
+        }
+        CopyKind::Firstprivate => {
+            set_original(draft, tables, line, *original, copy)?;
+            Ok(())
+        }
+        CopyKind::Reduction(operator) => {
+            set_identity(draft, tables, line, *operator, copy)?;
+            Ok(())
+        }
     }
 }
 
@@ -106,7 +115,8 @@ fn begin_scope(
     let ResolvedClause::Copied { copy, .. } = clause else {
         return Ok(());
     };
-    scopes.begin(from, None, copy)
+    scopes.begin(from, None, copy)?;
+    Ok(())
 }
 
 /// Writes what the copy of a clause of a worksharing construct begins with, from which on it is in
@@ -126,7 +136,8 @@ fn clause_start(
 {
     let from = writing.draft.place();
     begin_scope(&mut writing.scopes, from, clause)?;
-    begin_copy(&mut writing.draft, tables, line, clause)
+    begin_copy(&mut writing.draft, tables, line, clause)?;
+    Ok(())
 }
 
 /// Writes what the copies of a worksharing construct begin with, in clause order.
@@ -169,7 +180,8 @@ fn begin_reduction(
     let CopyKind::Reduction(operator) = kind else {
         return Ok(());
     };
-    set_identity(draft, tables, line, *operator, copy)
+    set_identity(draft, tables, line, *operator, copy)?;
+    Ok(())
 }
 
 /// Where the scope of a region's copy begins: that of a reduction at its start, which is at this place,
@@ -202,7 +214,8 @@ fn clause_reduction_start(
 {
     let from = team_from(writing.draft.place(), clause);
     begin_scope(&mut writing.scopes, from, clause)?;
-    begin_reduction(&mut writing.draft, tables, line, clause)
+    begin_reduction(&mut writing.draft, tables, line, clause)?;
+    Ok(())
 }
 
 /// Writes what the copies of a `parallel` begin with in its body, in clause order.

@@ -98,7 +98,8 @@ pub fn end_construct(
     match kind {
         ConstructKind::Single { nowait } => {
             draft.define(label);
-            worksharing_end(draft, line, *nowait)
+            worksharing_end(draft, line, *nowait)?;
+            Ok(())
         }
         ConstructKind::Masked => {
             draft.put(line, Instr::EndMasked)?;
@@ -107,9 +108,13 @@ pub fn end_construct(
         }
         ConstructKind::Critical { name } => {
             let lock = tables.lock_number(name);
-            draft.put(line, Instr::LeaveCritical(lock))
+            draft.put(line, Instr::LeaveCritical(lock))?;
+            Ok(())
         }
         ConstructKind::Atomic => unreachable!(),
-        ConstructKind::Taskgroup => draft.put(line, Instr::GroupEnd),
+        ConstructKind::Taskgroup => {
+            draft.put(line, Instr::GroupEnd)?;
+            Ok(())
+        }
     }
 }

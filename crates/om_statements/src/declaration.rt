@@ -34,7 +34,10 @@ fn initialize(
         (EmitsRow (numbered_by tables.now) (λ at. declarator at line tree) draft.old draft.new) }
 {
     match &declared.initial {
-        None => draft.put(line, Instr::Clear(tables.slot(&declared.variable))),
+        None => {
+            draft.put(line, Instr::Clear(tables.slot(&declared.variable)))?;
+            Ok(())
+        }
         Some(initial) => {
             value(draft, tables, line, initial)?;
             store(
@@ -43,7 +46,8 @@ fn initialize(
                 line,
                 Variable::Local(declared.variable.at),
                 false,
-            )
+            )?;
+            Ok(())
         }
     }
 }
@@ -67,7 +71,8 @@ fn declarator(
     writing
         .scopes
         .begin(from, declared.length, &declared.variable)?;
-    initialize(&mut writing.draft, tables, line, declared)
+    initialize(&mut writing.draft, tables, line, declared)?;
+    Ok(())
 }
 
 /// Writes the code of the names of a declaration, in their order.
@@ -110,7 +115,8 @@ pub fn start(
     match start {
         ResolvedStart::Nothing => Ok(()),
         ResolvedStart::Expression(expression) => {
-            effect(&mut writing.draft, tables, line, expression)
+            effect(&mut writing.draft, tables, line, expression)?;
+            Ok(())
         }
         ResolvedStart::Declaration(declared) => {
             declarators(writing, tables, line, declared.as_slice())?;
@@ -132,7 +138,8 @@ pub fn test(
         OnOk result (EmitsTest (numbered_by tables.now) line otherwise tree draft.old draft.new) }
 {
     value(draft, tables, line, condition)?;
-    draft.put(line, Instr::JumpIfZero(otherwise))
+    draft.put(line, Instr::JumpIfZero(otherwise))?;
+    Ok(())
 }
 
 /// Writes a test that may be left out (C17 6.8.5.3p2).
@@ -189,12 +196,14 @@ pub fn returned(
     match answer {
         None => {
             let last = last_instruction(is_main, false);
-            draft.put(line, last)
+            draft.put(line, last)?;
+            Ok(())
         }
         Some(answer) => {
             value(draft, tables, line, answer)?;
             let last = last_instruction(is_main, true);
-            draft.put(line, last)
+            draft.put(line, last)?;
+            Ok(())
         }
     }
 }

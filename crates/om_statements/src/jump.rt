@@ -32,5 +32,6 @@ fn jump(draft: &mut Draft, line: u32, label: Option<u32>) -> Result<(), AllocErr
     let Some(label) = label else {
         unreachable!();
     };
-    draft.put(line, Instr::Jump(label))
+    draft.put(line, Instr::Jump(label))?;
+    Ok(())
 }

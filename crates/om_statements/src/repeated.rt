@@ -86,7 +86,8 @@ pub fn end_do(
     let TurnLabels { again, next, over } = labels;
     draft.define(next);
     test(draft, tables, line, condition, over)?;
-    end_loop(draft, line, LoopLabels { again, over })
+    end_loop(draft, line, LoopLabels { again, over })?;
+    Ok(())
 }
 
 /// Writes the head of a `for` (C17 6.8.5.3): without a condition nothing is tested.
@@ -134,5 +135,6 @@ pub fn end_for(
     let TurnLabels { again, next, over } = labels;
     draft.define(next);
     perhaps_effect(draft, tables, line, step)?;
-    end_loop(draft, line, LoopLabels { again, over })
+    end_loop(draft, line, LoopLabels { again, over })?;
+    Ok(())
 }

@@ -74,7 +74,8 @@ fn load(
         OnOk result
         (EmitsRow (numbered_by tables.now) (λ at. load_original at line given) draft.old draft.new) }
 {
-    draft.put(line, Instr::Load(tables.place(copy.original)))
+    draft.put(line, Instr::Load(tables.place(copy.original)))?;
+    Ok(())
 }
 
 /// Writes the begin of a team on a body, with so many firstprivate values: one for a slot at most.
@@ -96,7 +97,8 @@ pub fn fork(
             sized,
             values,
         },
-    )
+    )?;
+    Ok(())
 }
 
 /// Writes the begin of a task on a body, with so many firstprivate values: one for a slot at most.
@@ -105,5 +107,6 @@ pub fn spawn(draft: &mut Draft, line: u32, body: u32, values: usize) -> Result<(
     ensures { OnOk result (EmitsAnywhere (spawn_row line body values) draft.old draft.new) }
 {
     let values = values as u16;
-    draft.put(line, Instr::Spawn { body, values })
+    draft.put(line, Instr::Spawn { body, values })?;
+    Ok(())
 }

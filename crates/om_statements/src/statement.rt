@@ -161,7 +161,8 @@ pub fn statement(
                 captures: captures.as_slice(),
                 statement: body,
             };
-            parallel(alloc, &mut writing.draft, tables, numbers, &region)
+            let after = parallel(alloc, &mut writing.draft, tables, numbers, &region)?;
+            Ok(after)
         }
         ResolvedStatement::Task {
             at,
@@ -175,7 +176,8 @@ pub fn statement(
                 captures: captures.as_slice(),
                 statement: body,
             };
-            task(alloc, &mut writing.draft, tables, numbers, &region)
+            let after = task(alloc, &mut writing.draft, tables, numbers, &region)?;
+            Ok(after)
         }
         ResolvedStatement::Loop {
             at,

@@ -50,7 +50,8 @@ fn bounds(
 {
     value(&mut writing.draft, tables, repeated.at.line, &repeated.from)?;
     value(&mut writing.draft, tables, repeated.at.line, &repeated.to)?;
-    starts(writing, tables, line, clauses)
+    starts(writing, tables, line, clauses)?;
+    Ok(())
 }
 
 /// Writes the begin of a worksharing loop (OpenMP API 5.2, section 11.5): chunks of iterations are
@@ -140,5 +141,6 @@ pub fn end_worksharing(
         (EmitsRow (numbered_by tables.now) (λ at. closes at line trees nowait) draft.old draft.new) }
 {
     reductions(draft, tables, line, clauses)?;
-    worksharing_end(draft, line, nowait)
+    worksharing_end(draft, line, nowait)?;
+    Ok(())
 }

@@ -1,6 +1,5 @@
-use Rattle.std.proofs.lemmas.Result.{on_ok_weaker}
-use Rattle.om_statements.proofs.Leaves.{emits_all}
+use Rattle.om_statements.proofs.Leaves.{emits_two}
 use Rattle.om_statements.proofs.barrier.barrier.Goals as goal
 
 pub returns : goal.returns
-returns c = on_ok_weaker c.put_all.result (λ h names. emits_all names _ _ _ _ h) c.put_all.ensures
+returns c = λ names. emits_two names _ _ _ _ _ _ c.in_ok-put.ensures c.in_ok-put-2.ensures

@@ -1,5 +1,4 @@
 use Rattle.std.proofs.Common.{ap, ◌∙◌}
-use Rattle.std.proofs.lemmas.Result.{on_ok_weaker}
 use Rattle.om_resolved.specs.ResolvedView.{view_resolved_clause}
 use Rattle.om_statements.proofs.Scoped.{team_stands}
 use Rattle.om_statements.specs.Scoped.{team_from}
@@ -8,8 +7,6 @@ use Rattle.om_statements.proofs.clause.clause_reduction_start.Goals as goal
 
 pub returns-clause-scopes : goal.returns-clause-scopes
 returns-clause-scopes c =
-    on_ok_weaker c.begin_reduction.result
-    (λ h. team_stands (numbered_by c.args.tables.now) c.args.line (view_resolved_clause c.args.clause.now) _ _ _ _ _
+    team_stands (numbered_by c.args.tables.now) c.args.line (view_resolved_clause c.args.clause.now) _ _ _ _ _
     (c.team_from-from.ensures ∙ ap (λ p. team_from p (view_resolved_clause c.args.clause.now)) c.place.ensures)
-    c.in_ok-begin_scope.ensures h.writes)
-    c.begin_reduction.ensures
+    c.in_ok-begin_scope.ensures c.in_ok-begin_reduction.ensures.writes

@@ -1,4 +1,3 @@
-use Rattle.std.proofs.lemmas.Result.{on_ok_weaker}
 use Rattle.om_resolved.specs.ResolvedView.{view_resolved_clause}
 use Rattle.om_statements.proofs.Scoped.{copy_stands}
 use Rattle.om_rows.specs.BodyTables.{numbered_by}
@@ -6,7 +5,5 @@ use Rattle.om_statements.proofs.clause.clause_start.Goals as goal
 
 pub returns-clause-scopes : goal.returns-clause-scopes
 returns-clause-scopes c =
-    on_ok_weaker c.begin_copy.result
-    (λ h. copy_stands (numbered_by c.args.tables.now) c.args.line (view_resolved_clause c.args.clause.now) _ _ _ _ _
-    c.place-from.ensures c.in_ok-begin_scope.ensures h.writes)
-    c.begin_copy.ensures
+    copy_stands (numbered_by c.args.tables.now) c.args.line (view_resolved_clause c.args.clause.now) _ _ _ _ _
+    c.place-from.ensures c.in_ok-begin_scope.ensures c.in_ok-begin_copy.ensures.writes

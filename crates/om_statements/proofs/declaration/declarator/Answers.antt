@@ -1,4 +1,3 @@
-use Rattle.std.proofs.lemmas.Result.{on_ok_weaker}
 use Rattle.om_resolved.specs.ResolvedView.{view_resolved_declarator}
 use Rattle.om_rows.specs.Statements.{declarator}
 use Rattle.om_statements.specs.Scoping.{stand_opens}
@@ -7,8 +6,6 @@ use Rattle.om_statements.proofs.declaration.declarator.Goals as goal
 
 pub returns-clause-scopes : goal.returns-clause-scopes
 returns-clause-scopes c =
-    on_ok_weaker c.initialize.result
-    (λ h. stand_opens (numbered_by c.args.tables.now) _ _ _
+    stand_opens (numbered_by c.args.tables.now) _ _ _
     (λ at. declarator at c.args.line (view_resolved_declarator c.args.declared.now)) _ _ _ _ c.place-from.ensures
-    c.in_ok-begin.ensures h.writes)
-    c.initialize.ensures
+    c.in_ok-begin.ensures c.in_ok-initialize.ensures.writes

@@ -1,4 +1,3 @@
-use Rattle.std.proofs.lemmas.Result.{on_ok_weaker}
 use Rattle.om_emit.specs.Writing.{goes_end}
 use Rattle.om_resolved.specs.ResolvedView.{view_resolved_expression}
 use Rattle.om_rows.specs.Expressions.{effect}
@@ -11,8 +10,7 @@ pub returns-in-Nothing-clause-scopes : goal.returns-in-Nothing-clause-scopes
 returns-in-Nothing-clause-scopes c = rw c.in-Nothing.is (stand_plain (numbered_by c.args.tables.now) (λ at. end) _ _ _
     (goes_end 0 _).writes)
 
-pub returns-in-Expression-clause-scopes : goal.returns-in-Expression-clause-scopes
-returns-in-Expression-clause-scopes c = rw c.in-Expression.is (on_ok_weaker c.effect.result
-    (λ h. stand_plain (numbered_by c.args.tables.now)
-    (λ at. effect at c.args.line (view_resolved_expression c.in-Expression.expression)) _ _ _ h.writes)
-    c.effect.ensures)
+pub returns-in_ok-effect-in-Expression-clause-scopes : goal.returns-in_ok-effect-in-Expression-clause-scopes
+returns-in_ok-effect-in-Expression-clause-scopes c = rw c.in-Expression.is (stand_plain (numbered_by c.args.tables.now)
+    (λ at. effect at c.args.line (view_resolved_expression c.in-Expression.expression)) _ _ _
+    c.in_ok-effect-in-Expression.ensures.writes)

@@ -1,7 +1,6 @@
-use Rattle.std.proofs.Common.{◌≡◌, ◌≤◌, ◌+◌, ◌^◌, All, IfSome, List, arith, drop, refl, length, map, option_map, sym, ap, subst, ◌∙◌}
+use Rattle.std.proofs.Common.{◌≡◌, ◌≤◌, ◌+◌, ◌^◌, List, arith, drop, refl, length, map, option_map, sym, ap, subst, ◌∙◌}
 use denote.Param.Weighed.{most}
 use Rattle.std.proofs.lemmas.List.{drop_all}
-use Rattle.std.proofs.lemmas.Result.{IfOk-weaker, on_ok_weaker}
 use Rattle.om_emit.specs.Drafts.{Written}
 use Rattle.om_emit.specs.Writing.{goes_end}
 use Rattle.om_lexer.specs.declared.token.Span.{Span}
@@ -31,23 +30,18 @@ use Rattle.om_statements.proofs.Forms.{emits_if, emits_if_else, emits_loop, emit
 use Rattle.om_statements.proofs.PartLists.{free_first, free_start, items_are, left_count, left_part, onward_parts_begin}
 use Rattle.om_statements.proofs.PartLists.{onward_parts_done, opens_are, parts_are, parts_next}
 use Rattle.om_statements.proofs.SectionsRow.{emits_sections, labels_are}
-use Rattle.om_rows.specs.Coded.{DeclaratorHasCode, EffectHasCode, LoopHasCode, StartHasCode, UpdateHasCode}
-use Rattle.om_rows.specs.Coded.{ValueHasCode}
-use Rattle.om_statements.proofs.Inside.{atomic_code, atomic_emits, atomic_ends, begin_code, break_code, code_here}
-use Rattle.om_statements.proofs.Inside.{continue_code, declaration_code, do_code}
-use Rattle.om_statements.proofs.Inside.{expression_code, for_code, if_code, if_else_code, loop_code, parallel_code}
-use Rattle.om_statements.proofs.Inside.{parts_code_here, return_code, sections_few, update_code, while_code}
+use Rattle.om_statements.proofs.Inside.{atomic_ends, code_here, if_code, if_else_code, parts_code_here, sections_few}
+use Rattle.om_statements.proofs.Inside.{while_code}
 use Rattle.om_statements.proofs.Within.{block_within, construct_within, do_within, else_within, for_within, if_within}
 use Rattle.om_statements.proofs.Within.{loop_within, parts_within, then_within, while_within, with_depth}
 use Rattle.om_rows.specs.Scopes.{all_scopes, scopes}
-use Rattle.om_rows.specs.Statements.{assignment_row, clause_value}
+use Rattle.om_rows.specs.Statements.{assignment_row}
 use Rattle.om_statements.specs.declared.labels.JumpLabels.{JumpLabels}
 use Rattle.om_statements.proofs.Scoped.{all_scopes_done, all_scopes_next, alone, construct_scopes_clauses}
 use Rattle.om_statements.proofs.Scoped.{construct_stands, do_scopes, for_scopes, if_else_scopes, if_scopes, loop_scopes}
 use Rattle.om_statements.proofs.Scoped.{loop_scopes_clauses, part_scopes_are, part_scopes_done, part_scopes_next}
 use Rattle.om_statements.proofs.Scoped.{part_stands, scopes_are, sections_scopes, sections_scopes_clauses, while_scopes}
 use Rattle.om_statements.specs.declared.writing.ScopeStack.{ScopeStack}
-use Rattle.om_statements.specs.Emits.{EmitsStatement}
 use Rattle.om_statements.specs.Parts.{AreFree}
 use Rattle.om_statements.specs.Scoped.{ScopesStand}
 use Rattle.om_statements.specs.Scoping.{scopes_begin, stand_block, stand_plain}
@@ -233,6 +227,28 @@ statement-returns-in_ok-end-in-For t c =
           c.in_ok-end-in-For.ensures);
     }
 
+pub statement-returns-in_ok-leave_loop-in-Break-clause-emitted :
+    goal.statement-returns-in_ok-leave_loop-in-Break-clause-emitted
+statement-returns-in_ok-leave_loop-in-Break-clause-emitted t c =
+    statement_is (numbered_by c.args.tables.now) (numbers_of c.args.spot.numbers) _ _ c.args.spot.jumps _ _
+    (sym (ap view_resolved_statement c.in-Break.is ∙ view_break c.in-Break.at))
+    (with_none _ _ _ _ (c.in_ok-leave_loop-in-Break.ensures (numbered_by c.args.tables.now)))
+
+pub statement-returns-in_ok-go_on-in-Continue-clause-emitted :
+    goal.statement-returns-in_ok-go_on-in-Continue-clause-emitted
+statement-returns-in_ok-go_on-in-Continue-clause-emitted t c =
+    statement_is (numbered_by c.args.tables.now) (numbers_of c.args.spot.numbers) _ _ c.args.spot.jumps _ _
+    (sym (ap view_resolved_statement c.in-Continue.is ∙ view_continue c.in-Continue.at))
+    (with_none _ _ _ _ (c.in_ok-go_on-in-Continue.ensures (numbered_by c.args.tables.now)))
+
+pub statement-returns-in_ok-stand_alone-in-StandAlone-clause-emitted :
+    goal.statement-returns-in_ok-stand_alone-in-StandAlone-clause-emitted
+statement-returns-in_ok-stand_alone-in-StandAlone-clause-emitted t c =
+    statement_is (numbered_by c.args.tables.now) (numbers_of c.args.spot.numbers) _ _ c.args.spot.jumps _ _
+    (sym (ap view_resolved_statement c.in-StandAlone.is ∙ view_stand_alone c.in-StandAlone.at
+    c.in-StandAlone.directive))
+    (with_none _ _ _ _ (c.in_ok-stand_alone-in-StandAlone.ensures (numbered_by c.args.tables.now)))
+
 pub statement-returns-in_ok-end-in-Loop : goal.statement-returns-in_ok-end-in-Loop
 statement-returns-in_ok-end-in-Loop t c =
     let seen = (ap (λ z. trees.Loop c.in-Loop.at (map view_resolved_clause c.in-Loop.clauses.items) c.in-Loop.nowait
@@ -345,6 +361,33 @@ statements-returns-clause-emitted t c =
     onward_done _ (numbered_by c.args.tables.now) c.args.spot.jumps _ _ _ _ _ _
     (ap (λ xs. trees.statements (map view_resolved_statement xs))
     (drop_all c.loop-item.item-index c.args.items.now c.loop-item-test.false)) c.loop-item.invariant.2
+
+pub statement-returns-in_ok-after-in-Parallel-clause-emitted :
+    goal.statement-returns-in_ok-after-in-Parallel-clause-emitted
+statement-returns-in_ok-after-in-Parallel-clause-emitted t c =
+    statement_is (numbered_by c.args.tables.now) (numbers_of c.args.spot.numbers) _ _ c.args.spot.jumps _ _
+    (ap (λ x. trees.Parallel c.in-Parallel.at (map view_resolved_clause x) c.as_slice-in-Parallel-2.result.now
+    (view_resolved_statement c.deref-in-Parallel.result.now)) c.as_slice-in-Parallel.ensures.value
+    ∙ ap (λ x. trees.Parallel c.in-Parallel.at (map view_resolved_clause c.in-Parallel.clauses.items) x
+    (view_resolved_statement c.deref-in-Parallel.result.now)) c.as_slice-in-Parallel-2.ensures
+    ∙ ap (λ z. trees.Parallel c.in-Parallel.at (map view_resolved_clause c.in-Parallel.clauses.items)
+    c.in-Parallel.captures (view_resolved_statement z)) c.deref-in-Parallel.ensures
+    ∙ sym (ap view_resolved_statement c.in-Parallel.is ∙ view_parallel c.in-Parallel.at c.in-Parallel.clauses
+    c.in-Parallel.captures c.in-Parallel.body))
+    (c.in_ok-after-in-Parallel.ensures.emitted c.args.spot.jumps)
+
+pub statement-returns-in_ok-after-in-Task-clause-emitted : goal.statement-returns-in_ok-after-in-Task-clause-emitted
+statement-returns-in_ok-after-in-Task-clause-emitted t c =
+    statement_is (numbered_by c.args.tables.now) (numbers_of c.args.spot.numbers) _ _ c.args.spot.jumps _ _
+    (ap (λ x. trees.Task c.in-Task.at (map view_resolved_clause x) c.as_slice-in-Task-2.result.now
+    (view_resolved_statement c.deref-in-Task.result.now)) c.as_slice-in-Task.ensures.value
+    ∙ ap (λ x. trees.Task c.in-Task.at (map view_resolved_clause c.in-Task.clauses.items) x
+    (view_resolved_statement c.deref-in-Task.result.now)) c.as_slice-in-Task-2.ensures
+    ∙ ap (λ z. trees.Task c.in-Task.at (map view_resolved_clause c.in-Task.clauses.items) c.in-Task.captures
+    (view_resolved_statement z)) c.deref-in-Task.ensures
+    ∙ sym (ap view_resolved_statement c.in-Task.is ∙ view_task c.in-Task.at c.in-Task.clauses c.in-Task.captures
+    c.in-Task.body))
+    (c.in_ok-after-in-Task.ensures.emitted c.args.spot.jumps)
 
 pub parts-loop-index-init : goal.parts-loop-index-init
 parts-loop-index-init t c =
@@ -545,6 +588,58 @@ statement-task-requires t c =
           c.in-Task.is c.deref-in-Task.ensures c.as_slice-in-Task.ensures.value c.requires.ends;
     }
 
+pub statement-returns-in_ok-leave_loop-in-Break-clause-scopes : goal.statement-returns-in_ok-leave_loop-in-Break-clause-scopes
+statement-returns-in_ok-leave_loop-in-Break-clause-scopes t c =
+    scopes_are (numbered_by c.args.tables.now) _ _ _ _ _ _ (sym (ap view_resolved_statement c.in-Break.is ∙ view_break c.in-Break.at))
+    (alone (numbered_by c.args.tables.now) (numbers_of c.args.spot.numbers)
+    (trees.Break c.in-Break.at)
+    c.args.spot.jumps _ _ _ (c.in_ok-leave_loop-in-Break.ensures (numbered_by c.args.tables.now)).writes)
+
+pub statement-returns-in_ok-go_on-in-Continue-clause-scopes : goal.statement-returns-in_ok-go_on-in-Continue-clause-scopes
+statement-returns-in_ok-go_on-in-Continue-clause-scopes t c =
+    scopes_are (numbered_by c.args.tables.now) _ _ _ _ _ _ (sym (ap view_resolved_statement c.in-Continue.is ∙ view_continue c.in-Continue.at))
+    (alone (numbered_by c.args.tables.now) (numbers_of c.args.spot.numbers)
+    (trees.Continue c.in-Continue.at)
+    c.args.spot.jumps _ _ _ (c.in_ok-go_on-in-Continue.ensures (numbered_by c.args.tables.now)).writes)
+
+pub statement-returns-in_ok-stand_alone-in-StandAlone-clause-scopes : goal.statement-returns-in_ok-stand_alone-in-StandAlone-clause-scopes
+statement-returns-in_ok-stand_alone-in-StandAlone-clause-scopes t c =
+    scopes_are (numbered_by c.args.tables.now) _ _ _ _ _ _ (sym (ap view_resolved_statement c.in-StandAlone.is ∙ view_stand_alone c.in-StandAlone.at
+    c.in-StandAlone.directive))
+    (alone (numbered_by c.args.tables.now) (numbers_of c.args.spot.numbers)
+    (trees.StandAlone c.in-StandAlone.at c.in-StandAlone.directive)
+    c.args.spot.jumps _ _ _ (c.in_ok-stand_alone-in-StandAlone.ensures (numbered_by c.args.tables.now)).writes)
+
+pub statement-returns-in_ok-after-in-Parallel-clause-scopes : goal.statement-returns-in_ok-after-in-Parallel-clause-scopes
+statement-returns-in_ok-after-in-Parallel-clause-scopes t c =
+    scopes_are (numbered_by c.args.tables.now) _ _ _ _ _ _ (ap (λ x. trees.Parallel c.in-Parallel.at (map view_resolved_clause x) c.as_slice-in-Parallel-2.result.now
+    (view_resolved_statement c.deref-in-Parallel.result.now)) c.as_slice-in-Parallel.ensures.value
+    ∙ ap (λ x. trees.Parallel c.in-Parallel.at (map view_resolved_clause c.in-Parallel.clauses.items) x
+    (view_resolved_statement c.deref-in-Parallel.result.now)) c.as_slice-in-Parallel-2.ensures
+    ∙ ap (λ z. trees.Parallel c.in-Parallel.at (map view_resolved_clause c.in-Parallel.clauses.items)
+    c.in-Parallel.captures (view_resolved_statement z)) c.deref-in-Parallel.ensures
+    ∙ sym (ap view_resolved_statement c.in-Parallel.is ∙ view_parallel c.in-Parallel.at c.in-Parallel.clauses
+    c.in-Parallel.captures c.in-Parallel.body))
+    (alone (numbered_by c.args.tables.now) (numbers_of c.args.spot.numbers)
+    (trees.Parallel c.in-Parallel.at (map view_resolved_clause c.as_slice-in-Parallel.result.now) c.as_slice-in-Parallel-2.result.now
+    (view_resolved_statement c.deref-in-Parallel.result.now))
+    c.args.spot.jumps _ _ _ (c.in_ok-after-in-Parallel.ensures.emitted c.args.spot.jumps).writes)
+
+pub statement-returns-in_ok-after-in-Task-clause-scopes : goal.statement-returns-in_ok-after-in-Task-clause-scopes
+statement-returns-in_ok-after-in-Task-clause-scopes t c =
+    scopes_are (numbered_by c.args.tables.now) _ _ _ _ _ _ (ap (λ x. trees.Task c.in-Task.at (map view_resolved_clause x) c.as_slice-in-Task-2.result.now
+    (view_resolved_statement c.deref-in-Task.result.now)) c.as_slice-in-Task.ensures.value
+    ∙ ap (λ x. trees.Task c.in-Task.at (map view_resolved_clause c.in-Task.clauses.items) x
+    (view_resolved_statement c.deref-in-Task.result.now)) c.as_slice-in-Task-2.ensures
+    ∙ ap (λ z. trees.Task c.in-Task.at (map view_resolved_clause c.in-Task.clauses.items) c.in-Task.captures
+    (view_resolved_statement z)) c.deref-in-Task.ensures
+    ∙ sym (ap view_resolved_statement c.in-Task.is ∙ view_task c.in-Task.at c.in-Task.clauses c.in-Task.captures
+    c.in-Task.body))
+    (alone (numbered_by c.args.tables.now) (numbers_of c.args.spot.numbers)
+    (trees.Task c.in-Task.at (map view_resolved_clause c.as_slice-in-Task.result.now) c.as_slice-in-Task-2.result.now
+    (view_resolved_statement c.deref-in-Task.result.now))
+    c.args.spot.jumps _ _ _ (c.in_ok-after-in-Task.ensures.emitted c.args.spot.jumps).writes)
+
 pub statement-returns-in_ok-end-in-Sections-clause-scopes : goal.statement-returns-in_ok-end-in-Sections-clause-scopes
 statement-returns-in_ok-end-in-Sections-clause-scopes t c =
     let all = trees.parts (map view_resolved_part c.in-Sections.sections.items) in
@@ -577,6 +672,54 @@ pub parts-returns-clause-scopes : goal.parts-returns-clause-scopes
 parts-returns-clause-scopes t c =
     part_scopes_done (numbered_by c.args.tables.now) _ _ _ _ _ _ (ap (λ xs. trees.parts (map view_resolved_part xs))
     (drop_all c.loop-index.index c.args.sections.now c.loop-index-test.false)) c.loop-index.invariant.5
+
+pub statement-returns-in_ok-end-in-Block-clause-scopes : goal.statement-returns-in_ok-end-in-Block-clause-scopes
+statement-returns-in_ok-end-in-Block-clause-scopes t c =
+    let items = trees.statements (map view_resolved_statement c.as_slice-in-Block.result.now) in
+    scopes_are (numbered_by c.args.tables.now) _ _ _ _ _ _
+    (ap (λ xs. trees.Block c.in-Block.at (trees.statements (map view_resolved_statement xs)))
+    c.as_slice-in-Block.ensures.value
+    ∙ sym (ap view_resolved_statement c.in-Block.is ∙ view_block c.in-Block.at c.in-Block.items))
+    (stand_block (numbered_by c.args.tables.now) (λ at. all_scopes at items) _ _ _ _ _ _ _ c.height-height.ensures
+    c.place-to.ensures c.in_ok-after-in-Block.ensures.scopes c.in_ok-end-in-Block.ensures)
+
+pub statement-returns-in_ok-declarators-in-Declaration-clause-scopes :
+    goal.statement-returns-in_ok-declarators-in-Declaration-clause-scopes
+statement-returns-in_ok-declarators-in-Declaration-clause-scopes t c =
+    scopes_are (numbered_by c.args.tables.now) _ _ _ _ _ _
+    (ap (λ xs. trees.Declaration c.in-Declaration.at (map view_resolved_declarator xs)) c.as_slice.ensures.value
+    ∙ sym (ap view_resolved_statement c.in-Declaration.is
+    ∙ view_declaration c.in-Declaration.at c.in-Declaration.declared))
+    c.in_ok-declarators-in-Declaration.ensures.scopes
+
+pub statement-returns-in_ok-effect-in-Expression-clause-scopes :
+    goal.statement-returns-in_ok-effect-in-Expression-clause-scopes
+statement-returns-in_ok-effect-in-Expression-clause-scopes t c =
+    scopes_are (numbered_by c.args.tables.now) _ _ _ _ _ _
+    (sym (ap view_resolved_statement c.in-Expression.is
+    ∙ view_expression c.in-Expression.at c.in-Expression.expression))
+    (alone (numbered_by c.args.tables.now) (numbers_of c.args.spot.numbers)
+    (trees.Expression c.in-Expression.at (view_resolved_expression c.in-Expression.expression)) c.args.spot.jumps _ _ _
+    c.in_ok-effect-in-Expression.ensures.writes)
+
+pub statement-returns-in_ok-returned-in-Return-clause-scopes :
+    goal.statement-returns-in_ok-returned-in-Return-clause-scopes
+statement-returns-in_ok-returned-in-Return-clause-scopes t c =
+    scopes_are (numbered_by c.args.tables.now) _ _ _ _ _ _
+    (sym (ap view_resolved_statement c.in-Return.is ∙ view_return c.in-Return.at c.in-Return.answer))
+    (alone (numbered_by c.args.tables.now) (numbers_of c.args.spot.numbers)
+    (trees.Return c.in-Return.at (option_map view_resolved_expression c.in-Return.answer)) c.args.spot.jumps _ _ _
+    c.in_ok-returned-in-Return.ensures.writes)
+
+pub statement-returns-in_ok-update-in-Update-clause-scopes :
+    goal.statement-returns-in_ok-update-in-Update-clause-scopes
+statement-returns-in_ok-update-in-Update-clause-scopes t c =
+    scopes_are (numbered_by c.args.tables.now) _ _ _ _ _ _
+    (ap (λ z. trees.Update c.in-Update.at (view_resolved_update z)) c.deref-in-Update.ensures
+    ∙ sym (ap view_resolved_statement c.in-Update.is ∙ view_update c.in-Update.at c.in-Update.updated))
+    (alone (numbered_by c.args.tables.now) (numbers_of c.args.spot.numbers)
+    (trees.Update c.in-Update.at (view_resolved_update c.deref-in-Update.result.now)) c.args.spot.jumps _ _ _
+    c.in_ok-update-in-Update.ensures.writes)
 
 -- nothing is written, so no scope begins or ends
 empty_stands : (names : Numbered) (n : rows.Numbers) (jumps : JumpLabels) (tree : ResolvedStatement) (first : Span)
@@ -613,298 +756,3 @@ pub statement-begin_parts-requires : goal.statement-begin_parts-requires
 statement-begin_parts-requires t c =
     sections_few _ _ c.args.tree.now _ c.in-Sections.at c.in-Sections.clauses c.in-Sections.nowait
     c.in-Sections.sections c.in-Sections.is c.as_slice-in-Sections-2.ensures.value c.requires.code
-
--- ---- statements without one in them, regions and blocks
-
-pub statement-returns-in_ok-leave_loop-in-Break : goal.statement-returns-in_ok-leave_loop-in-Break
-statement-returns-in_ok-leave_loop-in-Break t c =
-    let names = numbered_by c.args.tables.now in
-    let n = numbers_of c.args.spot.numbers in
-    let seen = sym (ap view_resolved_statement c.in-Break.is ∙ view_break c.in-Break.at) in
-    record {
-      behind = ap (λ z. rows.behind n z) seen;
-      emitted = statement_is names n _ _ c.args.spot.jumps _ _ seen
-          (with_none _ _ _ _ (c.in_ok-leave_loop-in-Break.ensures names));
-      scopes = scopes_are names _ _ _ _ _ _ seen
-          (alone names n (trees.Break c.in-Break.at) c.args.spot.jumps _ _ _
-          (c.in_ok-leave_loop-in-Break.ensures names).writes);
-    }
-
-pub statement-returns-in_ok-go_on-in-Continue : goal.statement-returns-in_ok-go_on-in-Continue
-statement-returns-in_ok-go_on-in-Continue t c =
-    let names = numbered_by c.args.tables.now in
-    let n = numbers_of c.args.spot.numbers in
-    let seen = sym (ap view_resolved_statement c.in-Continue.is ∙ view_continue c.in-Continue.at) in
-    record {
-      behind = ap (λ z. rows.behind n z) seen;
-      emitted = statement_is names n _ _ c.args.spot.jumps _ _ seen
-          (with_none _ _ _ _ (c.in_ok-go_on-in-Continue.ensures names));
-      scopes = scopes_are names _ _ _ _ _ _ seen
-          (alone names n (trees.Continue c.in-Continue.at) c.args.spot.jumps _ _ _
-          (c.in_ok-go_on-in-Continue.ensures names).writes);
-    }
-
-pub statement-returns-in_ok-stand_alone-in-StandAlone : goal.statement-returns-in_ok-stand_alone-in-StandAlone
-statement-returns-in_ok-stand_alone-in-StandAlone t c =
-    let names = numbered_by c.args.tables.now in
-    let n = numbers_of c.args.spot.numbers in
-    let seen = sym (ap view_resolved_statement c.in-StandAlone.is ∙ view_stand_alone c.in-StandAlone.at
-    c.in-StandAlone.directive) in
-    record {
-      behind = ap (λ z. rows.behind n z) seen;
-      emitted = statement_is names n _ _ c.args.spot.jumps _ _ seen
-          (with_none _ _ _ _ (c.in_ok-stand_alone-in-StandAlone.ensures names));
-      scopes = scopes_are names _ _ _ _ _ _ seen
-          (alone names n (trees.StandAlone c.in-StandAlone.at c.in-StandAlone.directive) c.args.spot.jumps _ _ _
-          (c.in_ok-stand_alone-in-StandAlone.ensures names).writes);
-    }
-
-pub statement-returns-in_ok-declarators-in-Declaration : goal.statement-returns-in_ok-declarators-in-Declaration
-statement-returns-in_ok-declarators-in-Declaration t c =
-    let names = numbered_by c.args.tables.now in
-    let n = numbers_of c.args.spot.numbers in
-    let seen = ap (λ xs. trees.Declaration c.in-Declaration.at (map view_resolved_declarator xs)) c.as_slice.ensures.value
-    ∙ sym (ap view_resolved_statement c.in-Declaration.is
-    ∙ view_declaration c.in-Declaration.at c.in-Declaration.declared) in
-    record {
-      behind = ap (λ z. rows.behind n z) seen;
-      emitted = statement_is names n _ _ c.args.spot.jumps _ _ seen
-          (with_none _ _ _ _ c.in_ok-declarators-in-Declaration.ensures.code);
-      scopes = scopes_are names _ _ _ _ _ _ seen
-          c.in_ok-declarators-in-Declaration.ensures.scopes;
-    }
-
-pub statement-returns-in_ok-effect-in-Expression : goal.statement-returns-in_ok-effect-in-Expression
-statement-returns-in_ok-effect-in-Expression t c =
-    let names = numbered_by c.args.tables.now in
-    let n = numbers_of c.args.spot.numbers in
-    let seen = sym (ap view_resolved_statement c.in-Expression.is ∙ view_expression c.in-Expression.at c.in-Expression.expression) in
-    record {
-      behind = ap (λ z. rows.behind n z) seen;
-      emitted = statement_is names n _ _ c.args.spot.jumps _ _ seen
-          (with_none _ _ _ _ c.in_ok-effect-in-Expression.ensures);
-      scopes = scopes_are names _ _ _ _ _ _ seen
-          (alone names n (trees.Expression c.in-Expression.at (view_resolved_expression c.in-Expression.expression))
-          c.args.spot.jumps _ _ _ c.in_ok-effect-in-Expression.ensures.writes);
-    }
-
-pub statement-returns-in_ok-returned-in-Return : goal.statement-returns-in_ok-returned-in-Return
-statement-returns-in_ok-returned-in-Return t c =
-    let names = numbered_by c.args.tables.now in
-    let n = numbers_of c.args.spot.numbers in
-    let seen = sym (ap view_resolved_statement c.in-Return.is ∙ view_return c.in-Return.at c.in-Return.answer) in
-    record {
-      behind = ap (λ z. rows.behind n z) seen;
-      emitted = statement_is names n _ _ c.args.spot.jumps _ _ seen
-          (with_none _ _ _ _ c.in_ok-returned-in-Return.ensures);
-      scopes = scopes_are names _ _ _ _ _ _ seen
-          (alone names n (trees.Return c.in-Return.at (option_map view_resolved_expression c.in-Return.answer))
-          c.args.spot.jumps _ _ _ c.in_ok-returned-in-Return.ensures.writes);
-    }
-
-pub statement-returns-in_ok-update-in-Update : goal.statement-returns-in_ok-update-in-Update
-statement-returns-in_ok-update-in-Update t c =
-    let names = numbered_by c.args.tables.now in
-    let n = numbers_of c.args.spot.numbers in
-    let seen = ap (λ z. trees.Update c.in-Update.at (view_resolved_update z)) c.deref-in-Update.ensures
-    ∙ sym (ap view_resolved_statement c.in-Update.is ∙ view_update c.in-Update.at c.in-Update.updated) in
-    record {
-      behind = ap (λ z. rows.behind n z) seen;
-      emitted = statement_is names n _ _ c.args.spot.jumps _ _ seen
-          (with_none _ _ _ _ c.in_ok-update-in-Update.ensures);
-      scopes = scopes_are names _ _ _ _ _ _ seen
-          (alone names n (trees.Update c.in-Update.at (view_resolved_update c.deref-in-Update.result.now))
-          c.args.spot.jumps _ _ _ c.in_ok-update-in-Update.ensures.writes);
-    }
-
-pub statement-returns-in-Parallel : goal.statement-returns-in-Parallel
-statement-returns-in-Parallel t c =
-    let names = numbered_by c.args.tables.now in
-    let n = numbers_of c.args.spot.numbers in
-    let seen = ap (λ x. trees.Parallel c.in-Parallel.at (map view_resolved_clause x) c.as_slice-in-Parallel-2.result.now
-    (view_resolved_statement c.deref-in-Parallel.result.now)) c.as_slice-in-Parallel.ensures.value
-    ∙ ap (λ x. trees.Parallel c.in-Parallel.at (map view_resolved_clause c.in-Parallel.clauses.items) x
-    (view_resolved_statement c.deref-in-Parallel.result.now)) c.as_slice-in-Parallel-2.ensures
-    ∙ ap (λ z. trees.Parallel c.in-Parallel.at (map view_resolved_clause c.in-Parallel.clauses.items) c.in-Parallel.captures
-    (view_resolved_statement z)) c.deref-in-Parallel.ensures
-    ∙ sym (ap view_resolved_statement c.in-Parallel.is ∙ view_parallel c.in-Parallel.at c.in-Parallel.clauses c.in-Parallel.captures
-    c.in-Parallel.body) in
-    record {
-      behind = IfOk-weaker c.parallel.result _ _ (λ after h. h ∙ ap (λ z. rows.behind n z) seen) c.parallel.ensures.behind;
-      emitted = on_ok_weaker c.parallel.result
-          (λ h. statement_is names n _ _ c.args.spot.jumps _ _ seen (h c.args.spot.jumps)) c.parallel.ensures.emitted;
-      scopes = on_ok_weaker c.parallel.result
-          (λ h. scopes_are names _ _ _ _ _ _ seen (alone names n
-          (trees.Parallel c.in-Parallel.at (map view_resolved_clause c.as_slice-in-Parallel.result.now)
-          c.as_slice-in-Parallel-2.result.now (view_resolved_statement c.deref-in-Parallel.result.now))
-          c.args.spot.jumps _ _ _ (h c.args.spot.jumps).writes))
-          c.parallel.ensures.emitted;
-    }
-
-pub statement-returns-in-Task : goal.statement-returns-in-Task
-statement-returns-in-Task t c =
-    let names = numbered_by c.args.tables.now in
-    let n = numbers_of c.args.spot.numbers in
-    let seen = ap (λ x. trees.Task c.in-Task.at (map view_resolved_clause x) c.as_slice-in-Task-2.result.now
-    (view_resolved_statement c.deref-in-Task.result.now)) c.as_slice-in-Task.ensures.value
-    ∙ ap (λ x. trees.Task c.in-Task.at (map view_resolved_clause c.in-Task.clauses.items) x
-    (view_resolved_statement c.deref-in-Task.result.now)) c.as_slice-in-Task-2.ensures
-    ∙ ap (λ z. trees.Task c.in-Task.at (map view_resolved_clause c.in-Task.clauses.items) c.in-Task.captures
-    (view_resolved_statement z)) c.deref-in-Task.ensures
-    ∙ sym (ap view_resolved_statement c.in-Task.is ∙ view_task c.in-Task.at c.in-Task.clauses c.in-Task.captures
-    c.in-Task.body) in
-    record {
-      behind = IfOk-weaker c.task.result _ _ (λ after h. h ∙ ap (λ z. rows.behind n z) seen) c.task.ensures.behind;
-      emitted = on_ok_weaker c.task.result
-          (λ h. statement_is names n _ _ c.args.spot.jumps _ _ seen (h c.args.spot.jumps)) c.task.ensures.emitted;
-      scopes = on_ok_weaker c.task.result
-          (λ h. scopes_are names _ _ _ _ _ _ seen (alone names n
-          (trees.Task c.in-Task.at (map view_resolved_clause c.as_slice-in-Task.result.now)
-          c.as_slice-in-Task-2.result.now (view_resolved_statement c.deref-in-Task.result.now))
-          c.args.spot.jumps _ _ _ (h c.args.spot.jumps).writes))
-          c.task.ensures.emitted;
-    }
-
-pub statement-returns-in_ok-end-in-Block : goal.statement-returns-in_ok-end-in-Block
-statement-returns-in_ok-end-in-Block t c =
-    let names = numbered_by c.args.tables.now in
-    let n = numbers_of c.args.spot.numbers in
-    let seen = ap (λ xs. trees.Block c.in-Block.at (trees.statements (map view_resolved_statement xs)))
-    c.as_slice-in-Block.ensures.value
-    ∙ sym (ap view_resolved_statement c.in-Block.is ∙ view_block c.in-Block.at c.in-Block.items) in
-    record {
-      behind = c.in_ok-after-in-Block.ensures.behind ∙ ap (λ z. rows.behind n z) seen;
-      emitted = statement_is names n _ _ c.args.spot.jumps _ _ seen
-          c.in_ok-after-in-Block.ensures.emitted;
-      scopes = scopes_are names _ _ _ _ _ _ seen
-          (stand_block names
-          (λ at. all_scopes at (trees.statements (map view_resolved_statement c.as_slice-in-Block.result.now)))
-          _ _ _ _ _ _ _ c.height-height.ensures c.place-to.ensures c.in_ok-after-in-Block.ensures.scopes
-          c.in_ok-end-in-Block.ensures);
-    }
-
--- ---- what is in a statement has code
-
-pub statement-declarators-requires : goal.statement-declarators-requires
-statement-declarators-requires t c =
-    subst (λ xs. All DeclaratorHasCode (map view_resolved_declarator xs)) (sym c.as_slice.ensures.value)
-    (declaration_code _ _ c.args.tree.now c.in-Declaration.at c.in-Declaration.declared c.in-Declaration.is
-    c.requires.code)
-
-pub statement-effect-requires : goal.statement-effect-requires
-statement-effect-requires t c =
-    expression_code _ _ c.args.tree.now c.in-Expression.at c.in-Expression.expression c.in-Expression.is c.requires.code
-
-pub statement-returned-requires : goal.statement-returned-requires
-statement-returned-requires t c =
-    return_code _ _ c.args.tree.now c.in-Return.at c.in-Return.answer c.in-Return.is c.requires.code
-
-pub statement-leave_loop-requires : goal.statement-leave_loop-requires
-statement-leave_loop-requires t c = break_code _ _ c.args.tree.now c.in-Break.at c.in-Break.is c.requires.code
-
-pub statement-go_on-requires : goal.statement-go_on-requires
-statement-go_on-requires t c = continue_code _ _ c.args.tree.now c.in-Continue.at c.in-Continue.is c.requires.code
-
-pub statement-update-requires : goal.statement-update-requires
-statement-update-requires t c =
-    subst (λ z. UpdateHasCode (view_resolved_update z)) (sym c.deref-in-Update.ensures)
-    (update_code _ _ c.args.tree.now c.in-Update.at c.in-Update.updated c.in-Update.is c.requires.code)
-
-pub statement-parallel-requires-clause-code : goal.statement-parallel-requires-clause-code
-statement-parallel-requires-clause-code t c =
-    subst (λ xs. IfSome (clause_value (map view_resolved_clause xs)) ValueHasCode)
-    (sym c.as_slice-in-Parallel.ensures.value)
-    (parallel_code _ _ c.args.tree.now c.in-Parallel.at c.in-Parallel.clauses c.in-Parallel.captures c.in-Parallel.body
-    c.in-Parallel.is c.requires.code)
-
-pub statement-end_do-requires-clause-condition : goal.statement-end_do-requires-clause-condition
-statement-end_do-requires-clause-condition t c =
-    (do_code _ _ c.args.tree.now c.in-Do.at c.in-Do.body c.in-Do.condition c.in-Do.is c.requires.code).1
-
-pub statement-end_do-requires-clause-apart : goal.statement-end_do-requires-clause-apart
-statement-end_do-requires-clause-apart t c = c.in_ok-labels-in-Do.ensures.apart
-
-pub statement-begin_for-requires : goal.statement-begin_for-requires
-statement-begin_for-requires t c =
-    let code = for_code _ _ c.args.tree.now c.in-For.at c.in-For.head c.in-For.body c.in-For.is c.requires.code in
-    record {
-      start = subst (λ z. StartHasCode (view_resolved_start z.start)) (sym c.deref-head.ensures) code.0;
-      condition = subst (λ z. IfSome (option_map view_resolved_expression z.condition) ValueHasCode)
-          (sym c.deref-head.ensures) code.1;
-    }
-
-pub statement-end_for-requires-clause-step : goal.statement-end_for-requires-clause-step
-statement-end_for-requires-clause-step t c =
-    subst (λ z. IfSome (option_map view_resolved_expression z.step) EffectHasCode) (sym c.deref-head.ensures)
-    (for_code _ _ c.args.tree.now c.in-For.at c.in-For.head c.in-For.body c.in-For.is c.requires.code).2
-
-pub statement-end_for-requires-clause-apart : goal.statement-end_for-requires-clause-apart
-statement-end_for-requires-clause-apart t c = c.in_ok-labels-in-For.ensures.code.apart
-
-pub statement-begin_worksharing-requires : goal.statement-begin_worksharing-requires
-statement-begin_worksharing-requires t c =
-    subst (λ z. LoopHasCode (view_resolved_loop z)) (sym c.deref-in-Loop.ensures)
-    (loop_code _ _ c.args.tree.now c.in-Loop.at c.in-Loop.clauses c.in-Loop.nowait c.in-Loop.repeated c.in-Loop.body
-    c.in-Loop.is c.requires.code).0
-
-pub statement-define-requires : goal.statement-define-requires
-statement-define-requires t c =
-    free_with _ _ _ _ _ c.in_ok-end-in-If.ensures.free c.in_ok-after-in-If.ensures.emitted
-
-pub statement-begin_construct-requires : goal.statement-begin_construct-requires
-statement-begin_construct-requires t c =
-    begin_code _ _ c.args.tree.now c.in-Construct.at c.in-Construct.kind c.in-Construct.clauses c.in-Construct.body _
-    (no_atomic c.in-Construct.kind c.in_default.not-Atomic) c.in-Construct.is c.as_slice-in-Construct.ensures.value
-    c.requires.code
-
-pub statement-assignment-requires : goal.statement-assignment-requires
-statement-assignment-requires t c =
-    atomic_code _ _ c.args.tree.now _ c.in-Construct.at c.in-Construct.kind c.in-Construct.clauses c.in-Construct.body
-    c.in-Construct.is c.in-Atomic.is c.deref-in-Atomic.ensures c.requires.code
-
--- ---- what is left of `sections`, `atomic` and the empty statement
-
-pub statement-returns-in_ok-end-in-Sections-clause-behind : goal.statement-returns-in_ok-end-in-Sections-clause-behind
-statement-returns-in_ok-end-in-Sections-clause-behind t c =
-    let n = numbers_of c.args.spot.numbers in
-    c.in_ok-after-in-Sections.ensures.behind
-    ∙ ap (λ m. rows.behind_parts m (trees.parts (map view_resolved_part c.as_slice-in-Sections-3.result.now)))
-    c.in_ok-inside-in-Sections.ensures.code.numbers
-    ∙ ap (λ xs. rows.behind_parts (rows.next_pick n) (trees.parts (map view_resolved_part xs)))
-    c.as_slice-in-Sections-3.ensures.value
-    ∙ ap (λ z. rows.behind n z) (sym (ap view_resolved_statement c.in-Sections.is ∙ view_sections c.in-Sections.at
-    c.in-Sections.clauses c.in-Sections.nowait c.in-Sections.sections))
-
-pub statement-returns-in-Atomic-clause-emitted : goal.statement-returns-in-Atomic-clause-emitted
-statement-returns-in-Atomic-clause-emitted t c =
-    let names = numbered_by c.args.tables.now in
-    let n = numbers_of c.args.spot.numbers in
-    let clauses = map view_resolved_clause c.in-Construct.clauses.items in
-    let s = view_resolved_statement c.deref-in-Atomic.result.now in
-    statement_is names n _ _ c.args.spot.jumps _ _
-    (ap (λ k. trees.Construct c.in-Construct.at k clauses s) (sym c.in-Atomic.is)
-    ∙ ap (λ z. trees.Construct c.in-Construct.at c.in-Construct.kind clauses (view_resolved_statement z))
-    c.deref-in-Atomic.ensures
-    ∙ sym (ap view_resolved_statement c.in-Construct.is ∙ view_construct c.in-Construct.at c.in-Construct.kind
-    c.in-Construct.clauses c.in-Construct.body))
-    (atomic_emits names n c.in-Construct.at clauses s c.args.spot.jumps _ _
-    (atomic_code _ _ c.args.tree.now _ c.in-Construct.at c.in-Construct.kind c.in-Construct.clauses
-    c.in-Construct.body c.in-Construct.is c.in-Atomic.is c.deref-in-Atomic.ensures c.requires.code)
-    c.in_ok-assignment-in-Construct.ensures)
-
--- nothing is written
-empty_emits : (names : Numbered) (n : rows.Numbers) (jumps : JumpLabels) (tree : ResolvedStatement) (first : Span)
-    (draft : Written) → tree ≡ v.Empty first → EmitsStatement names n (view_resolved_statement tree) jumps draft draft
-empty_emits names n jumps tree first draft is =
-    statement_is names n (trees.Empty first) _ jumps draft draft (sym (ap view_resolved_statement is ∙ view_empty first))
-    (with_none _ _ _ _ (goes_end (length draft.places) draft))
-
-pub statement-returns-in-Empty-clause-emitted : goal.statement-returns-in-Empty-clause-emitted
-statement-returns-in-Empty-clause-emitted t c =
-    empty_emits (numbered_by c.args.tables.now) (numbers_of c.args.spot.numbers) c.args.spot.jumps _ _
-    c.args.writing.now.draft c.in-Empty.is
-
-pub statement-returns-in-Empty-clause-behind : goal.statement-returns-in-Empty-clause-behind
-statement-returns-in-Empty-clause-behind t c =
-    ap (λ z. rows.behind (numbers_of c.args.spot.numbers) z)
-    (sym (ap view_resolved_statement c.in-Empty.is ∙ view_empty _))

@@ -1,5 +1,4 @@
 use Rattle.std.proofs.Common.{map}
-use Rattle.std.proofs.lemmas.Result.{on_ok_weaker}
 use Rattle.om_resolved.specs.ResolvedView.{view_resolved_clause, view_resolved_loop}
 use Rattle.om_statements.proofs.Leaves.{emits_then}
 use Rattle.om_statements.proofs.Scoped.{bounds_stand}
@@ -7,13 +6,11 @@ use Rattle.om_rows.specs.BodyTables.{numbered_by}
 use Rattle.om_statements.proofs.worksharing.bounds.Goals as goal
 
 pub returns-clause-code : goal.returns-clause-code
-returns-clause-code c = on_ok_weaker c.starts.result
-    (λ h. emits_then _ _ _ _ _ c.in_ok-value.ensures (emits_then _ _ _ _ _ c.in_ok-value-2.ensures h))
-    c.starts.ensures.code
+returns-clause-code c = emits_then _ _ _ _ _ c.in_ok-value.ensures (emits_then _ _ _ _ _ c.in_ok-value-2.ensures
+    c.in_ok-starts.ensures.code)
 
 pub returns-clause-scopes : goal.returns-clause-scopes
 returns-clause-scopes c =
-    on_ok_weaker c.starts.result
-    (λ h. bounds_stand (numbered_by c.args.tables.now) c.args.line (map view_resolved_clause c.args.clauses.now)
-    (view_resolved_loop c.args.repeated.now) _ _ _ _ _ _ c.in_ok-value.ensures c.in_ok-value-2.ensures h)
-    c.starts.ensures.scopes
+    bounds_stand (numbered_by c.args.tables.now) c.args.line (map view_resolved_clause c.args.clauses.now)
+    (view_resolved_loop c.args.repeated.now) _ _ _ _ _ _ c.in_ok-value.ensures c.in_ok-value-2.ensures
+    c.in_ok-starts.ensures.scopes
