@@ -55,10 +55,11 @@ pub record Puts (line : ℕ) (instruction : Instr) (old new : Written) : Type 0 
   pub places : new.places ≡ old.places
   pub picks : new.picks ≡ old.picks
 
--- instructions of one line, one behind the other
+-- an instruction with its line
 abbrev pub line_of : ℕ → Instr → Line
 line_of line instruction = record { instruction = instruction; line = line }
 
+-- instructions of one line, one behind the other
 pub record PutsAll (line : ℕ) (instructions : List Instr) (old new : Written) : Type 0 where
   pub code : new.code ≡ old.code ++ map (line_of line) instructions
   pub places : new.places ≡ old.places

@@ -40,7 +40,8 @@ unary_rest at l unaries.Plus = end
 unary_rest at l unaries.Negate = ins at l (i.Unary unary.Negate) ▸ end
 unary_rest at l unaries.Not = ins at l (i.Unary unary.Not) ▸ end
 
--- 1 where the value on top is not 0, and 0 where it is; what jumped to the label e goes on behind it
+-- 1 where the value on top is not 0, and 0 where it is; what jumped to the label f gets the 0, and what jumped to
+-- the label e goes on behind it
 abbrev pub truth_row : Site → ℕ → (f e : ℕ) → Row
 truth_row at l f e =
     ins at l (i.JumpIfZero f) ▸ ins at l (i.Constant (pos 1)) ▸ ins at l (i.Jump e)

@@ -106,8 +106,8 @@ pub(crate) fn unary_end(
     draft.put(line, Instr::Unary(operator))
 }
 
-/// Writes 1 where the value on top is not 0, and 0 where it is; what jumps over goes on behind it. So
-/// `&&` and `||` end (C17 6.5.13p3, 6.5.14p3).
+/// Writes 1 where the value on top is not 0, and 0 where it is. What jumped to `otherwise` gets the
+/// 0, and what jumped to `over` goes on behind it. So `&&` and `||` end (C17 6.5.13p3, 6.5.14p3).
 pub(crate) fn truth(
     draft: &mut Draft,
     line: u32,

@@ -63,8 +63,8 @@ RollIsCone = (r : Rules) (cs : List Command) (serial : ℕ) (t : Transition)
 abbrev pub IsGone : ℕ → History → Type 0
 IsGone serial h = All (λ (e : Entry). e.serial ≢ serial) h.entries
 
--- what is left without the cone of the entry with a serial, and with all else: an entry that stood is gone exactly
--- where it is a member
+-- of the entries that stood those are gone, by their serials, that are members of the cone of the entry with a
+-- serial, and no others
 abbrev pub TakesCone : Rules → History → ℕ → History → Type 0
 TakesCone r h serial after = let ts = transitions r h.entries in (t : Transition) → Contains ts t
     → (IsGone t.entry.serial after ↔ InCone ts serial t)

@@ -39,7 +39,8 @@ impl Model for BySerial {
     ghost invariant = { λ b. AreRising 0 b.rows.items };
 }
 
-/// The place of a serial among rows, if it has one and no serial is left out behind it.
+/// The place of a serial among rows, as far as counting from the end finds it: it does where no
+/// serial is left out behind it.
 fn place_from_end(rows: &[Row], serial: u64) -> Option<usize>
     ensures { IfSome result
         (λ i. (r : Row) × (slice_get rows.now i ≡ Some r) × (r.serial ≡ serial)) }

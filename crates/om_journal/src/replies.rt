@@ -1,4 +1,5 @@
-//! The machine's reply to a command, once or three times: all copies are made before anything changes.
+//! The machine's reply to a command, once or three times: copies that take memory are made before
+//! anything changes.
 
 ghost use Rattle.std.specs.Prelude.{◌≡◌, ◌<◌, ◌^◌, IfOk, IfSome, IsNone, OnOk, OnErr, true};
 ghost use Rattle.om_journal.specs.Kept.{is_conflict};

@@ -21,7 +21,7 @@ use Rattle.om_team.specs.Sites.{targets_of}
 abbrev pub HasNoValue : ℕ → List Operand → Type 0
 HasNoValue count operands = Contains (take count operands) NoValue
 
--- the innermost region is no loop
+-- the innermost region is a loop
 abbrev pub is_in_loop : Option Share → Bool
 is_in_loop None = false
 is_in_loop (Some share) = is_loop share.sharing
