@@ -34,3 +34,4 @@ pub mod FlowInts
 pub mod Places
 pub mod Cells
 pub mod Called
+pub mod Indexes

@@ -23,5 +23,6 @@ pub mod Numbering
 pub mod Ends
 pub mod Copies
 pub mod Extents
+pub mod Indexes
 pub mod ProgramTables
 pub mod Picks

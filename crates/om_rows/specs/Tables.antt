@@ -1,6 +1,6 @@
 -- Numbers by order of first sight: a table has each different thing of a list once, and a thing's number is
 -- how many stand before it.
-use Rattle.std.specs.Prelude.{ℕ, ◌+◌, List, [], ◌∷◌, ◌++◌, Bool, fold, if◌then◌else◌}
+use Rattle.std.specs.Prelude.{ℕ, ◌+◌, List, [], ◌∷◌, ◌++◌, Bool, fold, if◌then◌else◌, Option, None, Some}
 use Rattle.std.specs.List.{list_any}
 
 -- behind one more thing
@@ -15,3 +15,7 @@ table_of same sights = fold (with_sight same) [] sights
 abbrev pub number_in : {A : Type 0} → (A → Bool) → List A → ℕ
 number_in is [] = 0
 number_in is (x ∷ rest) = if is x then 0 else number_in is rest + 1
+
+-- the number of a thing that is there
+abbrev pub found_in : {A : Type 0} → (A → Bool) → List A → Option ℕ
+found_in is table = if list_any is table then Some (number_in is table) else None

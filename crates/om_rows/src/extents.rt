@@ -4,25 +4,30 @@ ghost use Rattle.std.specs.Prelude.{◌≡◌, [], OnOk};
 ghost use Rattle.om_rows.specs.Slots.{cells_in};
 ghost use Rattle.om_rows.specs.Extents.{with_extent};
 
-use indexmap::IndexMap;
 use std::alloc::{AllocError, Global};
+use std::collections::BTreeMap;
 use std::marker::Model;
 
 /// The declared variables of a function, each once, with how many cells it has. Contracts see them
 /// in the order of the text.
 #[derive(Drop)]
 pub struct Extents {
-    cells: IndexMap<u32, u32>,
+    /// Each variable with its cells.
+    declared: Vec<(u32, u32)>,
+    cells: BTreeMap<u32, u32>,
 }
 
 impl Model for Extents {
     ghost use Rattle.std.specs.Prelude.{List};
     ghost use Rattle.om_rows.specs.Slots.{Extent};
     ghost use Rattle.om_rows.specs.Extents.{extents_in};
+    ghost use Rattle.om_rows.specs.Indexes.{AreAlike};
 
     ghost Value = { List Extent };
 
-    ghost view = { λ s. extents_in s.cells.entries };
+    ghost view = { λ s. extents_in s.declared.items };
+
+    ghost invariant = { λ s. AreAlike s.declared.items s.cells.entries };
 }
 
 impl Extents {
@@ -31,7 +36,8 @@ impl Extents {
         ensures { result ≡ [] }
     {
         Extents {
-            cells: IndexMap::new(alloc),
+            declared: Vec::new(alloc),
+            cells: BTreeMap::new(alloc),
         }
     }
 
@@ -51,7 +57,9 @@ impl Extents {
         if self.cells.contains_key(&variable) {
             return Ok(());
         }
+        self.declared.reserve(1)?;
         self.cells.insert(variable, cells)?;
+        self.declared.push_reserved((variable, cells));
         Ok(())
     }
 }

@@ -4,8 +4,8 @@ ghost use Rattle.std.specs.Prelude.{◌≡◌, ◌≤◌, [], OnOk, length, opti
 ghost use Rattle.std.specs.Str.{bytes_eq};
 ghost use Rattle.om_rows.specs.Tables.{number_in, with_sight};
 
-use indexmap::IndexSet;
 use std::alloc::{AllocError, Global};
+use std::collections::BTreeMap;
 use std::marker::Model;
 
 /// How many texts have numbers of 32 bits, the number behind all of them included.
@@ -14,17 +14,20 @@ const TEXT_LIMIT: usize = 0xffff_ffff;
 /// Texts, each once. Contracts see them in the order of their numbers, which count from 0.
 #[derive(Drop)]
 pub struct Texts {
-    texts: IndexSet<Vec<u8>>,
+    texts: Vec<Vec<u8>>,
+    numbers: BTreeMap<Vec<u8>, usize>,
 }
 
 impl Model for Texts {
     ghost use Rattle.std.specs.Prelude.{ℕ, ◌≤◌, List, length, map};
+    ghost use Rattle.om_rows.specs.Indexes.{AreTextNumbers};
 
     ghost Value = { List (List ℕ) };
 
-    ghost view = { λ s. map (λ text. text.items) s.texts.keys };
+    ghost view = { λ s. map (λ text. text.items) s.texts.items };
 
-    ghost invariant = { λ s. length s.texts.keys ≤ 4294967295 };
+    ghost invariant = { λ s. (length s.texts.items ≤ 4294967295)
+        × AreTextNumbers (map (λ text. text.items) s.texts.items) s.numbers.entries };
 }
 
 impl Texts {
@@ -33,7 +36,8 @@ impl Texts {
         ensures { result ≡ [] }
     {
         Texts {
-            texts: IndexSet::new(alloc),
+            texts: Vec::new(alloc),
+            numbers: BTreeMap::new(alloc),
         }
     }
 
@@ -49,7 +53,7 @@ impl Texts {
     pub fn text(&self, number: usize) -> Option<&[u8]>
         ensures { option_map (λ text. text.now) result ≡ slice_get self.now number }
     {
-        let text = self.texts.get_index(number)?;
+        let text = self.texts.get(number)?;
         Some(text.as_slice())
     }
 
@@ -57,7 +61,7 @@ impl Texts {
     pub fn number_of(&self, text: &[u8]) -> u32
         ensures { result ≡ number_in (bytes_eq text.now) self.now }
     {
-        let number = self.texts.get_index_of(text);
+        let number = self.numbers.get(text).copied();
         number.unwrap_or(self.texts.len()) as u32
     }
 
@@ -65,10 +69,17 @@ impl Texts {
     pub fn note(&mut self, alloc: Global, text: &[u8]) -> Result<(), AllocError>
         ensures { OnOk result (self.new ≡ with_sight bytes_eq self.old text.now) }
     {
+        if self.numbers.contains_key(text) {
+            return Ok(());
+        }
         if self.texts.len() >= TEXT_LIMIT {
             return Err(AllocError);
         }
-        self.texts.insert(Vec::from_slice(alloc, text)?)?;
+        self.texts.reserve(1)?;
+        let key = Vec::from_slice(alloc, text)?;
+        let text = Vec::from_slice(alloc, text)?;
+        self.numbers.insert(key, self.texts.len())?;
+        self.texts.push_reserved(text);
         Ok(())
     }
 }

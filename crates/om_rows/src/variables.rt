@@ -5,24 +5,31 @@ ghost use Rattle.om_resolved.specs.Captures.{variable_uses};
 ghost use Rattle.om_rows.specs.Slots.{slot_of};
 ghost use Rattle.om_rows.specs.Tables.{with_sight};
 
-use indexmap::IndexSet;
 use om_resolved::Variable;
 use std::alloc::{AllocError, Global};
+use std::collections::BTreeMap;
 use std::marker::Model;
 
 /// The variables of a function that a body has, each once. Contracts see them in the order of their
 /// slots, which are numbered from 0.
+///
+/// A list with a map beside it: an `IndexSet` in a public type would cost each crate above it half
+/// a minute of proof.
 #[derive(Drop)]
 pub struct Variables {
-    seen: IndexSet<u32>,
+    seen: Vec<u32>,
+    slots: BTreeMap<u32, usize>,
 }
 
 impl Model for Variables {
     ghost use Rattle.std.specs.Prelude.{ℕ, List};
+    ghost use Rattle.om_rows.specs.Indexes.{AreNumbers};
 
     ghost Value = { List ℕ };
 
-    ghost view = { λ s. s.seen.keys };
+    ghost view = { λ s. s.seen.items };
+
+    ghost invariant = { λ s. AreNumbers s.seen.items s.slots.entries };
 }
 
 impl Variables {
@@ -31,7 +38,8 @@ impl Variables {
         ensures { result ≡ [] }
     {
         Variables {
-            seen: IndexSet::new(alloc),
+            seen: Vec::new(alloc),
+            slots: BTreeMap::new(alloc),
         }
     }
 
@@ -55,7 +63,7 @@ impl Variables {
         ensures exact { result ≡ slot_of self.now variable }
         ensures least { result ≤ length self.now }
     {
-        let slot = self.seen.get_index_of(&variable);
+        let slot = self.slots.get(&variable).copied();
         slot.unwrap_or(self.seen.len())
     }
 
@@ -63,7 +71,12 @@ impl Variables {
     pub fn add(&mut self, variable: u32) -> Result<(), AllocError>
         ensures { OnOk result (self.new ≡ with_sight nat_eq self.old variable) }
     {
-        self.seen.insert(variable)?;
+        if self.slots.contains_key(&variable) {
+            return Ok(());
+        }
+        self.seen.reserve(1)?;
+        self.slots.insert(variable, self.seen.len())?;
+        self.seen.push_reserved(variable);
         Ok(())
     }
 

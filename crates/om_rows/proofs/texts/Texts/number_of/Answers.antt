@@ -1,18 +1,36 @@
-use Rattle.std.proofs.Common.{sym, ap, ◌∙◌}
-use Rattle.std.specs.List.{position}
+use Rattle.std.proofs.Common.{◌≡◌, ◌≤◌, sym, ap, length, map, arith, ◌∙◌}
+use Rattle.std.proofs.lemmas.List.{length-map}
 use Rattle.std.specs.Option.{unwrap_or}
 use Rattle.std.specs.Str.{bytes_eq}
-use Rattle.om_rows.specs.Tables.{number_in}
-use Rattle.om_rows.proofs.Places.{number_found, number-map}
+use Rattle.om_rows.specs.Tables.{found_in, number_in}
+use Rattle.om_rows.proofs.Indexes.{found-number}
+use Rattle.om_rows.proofs.Places.{number_least, texts_of}
 use Rattle.om_rows.proofs.texts.Texts.number_of.Goals as goal
+use Rattle.om_rows.proofs.texts.Texts.number_of.Goals.{After-unwrap_or}
+
+-- the number of the text, or of all of them
+number : (c : After-unwrap_or) → c.unwrap_or.result ≡ number_in (bytes_eq c.args.text.now)
+    (texts_of c.self.inside.texts.items)
+number c =
+    let text = c.args.text.now in
+    let texts = c.self.inside.texts.items in
+    c.unwrap_or.ensures
+    ∙ ap (λ found. unwrap_or found c.len.result)
+    (c.copied-number.ensures ∙ c.get.ensures.value ∙ c.self.invariant.1 text)
+    ∙ ap (λ all. unwrap_or (found_in (bytes_eq text) (texts_of texts)) all)
+    (c.len.ensures ∙ c.self.inside.texts.ok.0 ∙ sym (length-map texts (λ t. t.items)))
+    ∙ found-number (bytes_eq text) (texts_of texts)
+
+pub overflow_cast-result : goal.overflow_cast-result
+overflow_cast-result c =
+    let texts = c.self.inside.texts.items in
+    omega (
+      arith,
+      number c,
+      number_least (bytes_eq c.args.text.now) (texts_of texts),
+      length-map texts (λ t. t.items),
+      c.self.invariant.0,
+    )
 
 pub returns : goal.returns
-returns c =
-    let text = c.args.text.now in
-    let keys = c.self.inside.texts.keys in
-    c.unwrap_or.ensures
-    ∙ ap (λ found. unwrap_or found c.len.result) c.get_index_of-number.ensures.index
-    ∙ ap (λ all. unwrap_or (position (λ key. bytes_eq text key.items) keys) all) c.len.ensures.len
-    ∙ number_found (λ key. bytes_eq text key.items) keys
-    ∙ sym (number-map (bytes_eq text) (λ key. key.items) keys)
-    ∙ ap (λ texts. number_in (bytes_eq text) texts) c.self.view_is
+returns c = number c ∙ ap (λ texts. number_in (bytes_eq c.args.text.now) texts) c.self.view_is

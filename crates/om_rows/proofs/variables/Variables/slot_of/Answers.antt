@@ -1,0 +1,17 @@
+use Rattle.std.proofs.Common.{ap, nat_eq, ◌∙◌}
+use Rattle.std.specs.Option.{unwrap_or}
+use Rattle.om_rows.specs.Slots.{slot_of}
+use Rattle.om_rows.specs.Tables.{found_in}
+use Rattle.om_rows.proofs.Indexes.{found-number}
+use Rattle.om_rows.proofs.variables.Variables.slot_of.Goals as goal
+
+pub returns-clause-exact : goal.returns-clause-exact
+returns-clause-exact c =
+    let variable = c.args.variable in
+    let seen = c.self.inside.seen.items in
+    c.unwrap_or.ensures
+    ∙ ap (λ found. unwrap_or found c.len.result)
+    (c.copied-slot.ensures ∙ c.get.ensures.value ∙ c.self.invariant variable)
+    ∙ ap (λ all. unwrap_or (found_in (nat_eq variable) seen) all) (c.len.ensures ∙ c.self.inside.seen.ok.0)
+    ∙ found-number (nat_eq variable) seen
+    ∙ ap (λ table. slot_of table variable) c.self.view_is
