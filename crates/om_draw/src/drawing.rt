@@ -8,7 +8,6 @@ ghost use Rattle.om_draw.specs.Pages.{IsDrawing, IsPage, IsShown, Leaves};
 
 use crate::beside::{Beside, beside_of, push_beside};
 use crate::front::push_front;
-use crate::input::source_part;
 use crate::marks::push_boxes;
 use crate::outcome::Page;
 use crate::scale::Scale;
@@ -17,7 +16,7 @@ use crate::style::FOOT;
 use om_code::Program;
 use om_journal::Book;
 use om_picture::{Picture, picture_of, trace};
-use om_shell::{Ended, Options, ShellFault, read_all, run};
+use om_shell::{Ended, Options, ShellFault, read_all, run, session_bytes};
 use std::alloc::{AllocError, Global};
 use std::io::Read;
 use std::sync::Wait;
@@ -50,7 +49,7 @@ pub fn page<H: Threads + Wait + Sync, R: Read>(
     let mut text = Vec::new(alloc);
     match session(rt, alloc, &input, &mut text, options) {
         Ok(ended) => {
-            let source = options.source.unwrap_or(source_part(&input));
+            let source = session_bytes(options.source, &input).source;
             shown(alloc, source, ended, text)
         }
         Err(fault) => Err(fault),

@@ -5,7 +5,6 @@ mod beside;
 mod drawing;
 mod escape;
 mod front;
-mod input;
 mod marks;
 mod object;
 mod outcome;

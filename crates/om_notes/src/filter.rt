@@ -7,12 +7,11 @@ ghost use Rattle.om_notes.specs.Parts.{announced};
 ghost use Rattle.om_notes.specs.Passing.{BreaksOff, BreaksPart, GoesOn, HasTail, IsNoted};
 ghost use Rattle.om_notes.specs.Passing.{PassesAll, PassesBeginning, PassesPart};
 
-use crate::input::Input;
-use crate::lines::line_end;
 use crate::names::Names;
 use crate::remark::remark;
+use crate::waiting::Waiting;
 use crate::words::{announced, words_of};
-use om_shell::{ShellFault, send};
+use om_shell::{ShellFault, first_line_end, send};
 use std::alloc::{AllocError, Global};
 use std::io::{Read, Write};
 
@@ -21,7 +20,7 @@ use std::io::{Read, Write};
 fn push_tail(text: &mut Vec<u8>, words: &[u8]) -> Result<(), AllocError>
     ensures { OnOk result (HasTail text.old.items text.new.items) }
 {
-    if words.is_empty() || line_end(words).is_some() {
+    if words.is_empty() || first_line_end(words).is_some() {
         return Ok(());
     }
     text.extend_from_slice(b" | ")?;
@@ -55,24 +54,26 @@ fn answer(names: &Names<'_>, pending: &[u8], end: usize) -> Result<(Vec<u8>, usi
 // Passes the pending line on that ends at `end`, with words behind it.
 fn pass_line<W: Write>(
     names: &Names<'_>,
-    input: &mut Input,
+    waiting: &mut Waiting,
     end: usize,
     writer: &mut W,
 ) -> Result<(), ShellFault>
-    requires due { input.old.due ≡ 0 }
-    requires ended { Some end ≡ position (λ byte. byte == 10) input.old.pending.items }
-    requires within { end < length input.old.pending.items }
+    requires due { waiting.old.due ≡ 0 }
+    requires ended { Some end ≡ position (λ byte. byte == 10) waiting.old.read.pending.items }
+    requires within { end < length waiting.old.read.pending.items }
     ensures passed { OnOk result
-        (PassesPart (W.contents writer.old) (W.contents writer.new) input.old.pending.items
-        input.new.pending.items 0 input.new.due) }
-    ensures fewer { OnOk result (length input.new.pending.items < length input.old.pending.items) }
+        (PassesPart (W.contents writer.old) (W.contents writer.new) waiting.old.read.pending.items
+        waiting.new.read.pending.items 0 waiting.new.due) }
+    ensures fewer { OnOk result
+        (length waiting.new.read.pending.items < length waiting.old.read.pending.items) }
     ensures broken_off { OnErr result
-        (BreaksPart (W.contents writer.old) (W.contents writer.new) input.old.pending.items 0) }
-    ensures reads { input.new.reads_left ≡ input.old.reads_left }
+        (BreaksPart (W.contents writer.old) (W.contents writer.new)
+        waiting.old.read.pending.items 0) }
+    ensures reads { waiting.new.read.reads_left ≡ waiting.old.read.reads_left }
 {
-    let (text, due) = answer(names, &input.pending, end)?;
+    let (text, due) = answer(names, &waiting.read.pending, end)?;
     send(writer, &text)?;
-    input.discard(end + 1, due);
+    waiting.discard(end + 1, due);
     Ok(())
 }
 
@@ -87,21 +88,22 @@ fn smaller(one: usize, other: usize) -> usize
 
 // Passes pending bytes on that are due as they are.
 #[tactic(auto, using(crate::proofs::PassLaws::bytes_passed))]
-fn pass_bytes<W: Write>(input: &mut Input, writer: &mut W) -> Result<(), ShellFault>
-    requires due { 0 < input.old.due }
-    requires pending { 0 < length input.old.pending.items }
+fn pass_bytes<W: Write>(waiting: &mut Waiting, writer: &mut W) -> Result<(), ShellFault>
+    requires due { 0 < waiting.old.due }
+    requires pending { 0 < length waiting.old.read.pending.items }
     ensures passed { OnOk result
-        (PassesPart (W.contents writer.old) (W.contents writer.new) input.old.pending.items
-        input.new.pending.items input.old.due input.new.due) }
-    ensures fewer { OnOk result (length input.new.pending.items < length input.old.pending.items) }
+        (PassesPart (W.contents writer.old) (W.contents writer.new) waiting.old.read.pending.items
+        waiting.new.read.pending.items waiting.old.due waiting.new.due) }
+    ensures fewer { OnOk result
+        (length waiting.new.read.pending.items < length waiting.old.read.pending.items) }
     ensures broken_off { OnErr result
-        (BreaksPart (W.contents writer.old) (W.contents writer.new) input.old.pending.items
-        input.old.due) }
-    ensures reads { input.new.reads_left ≡ input.old.reads_left }
+        (BreaksPart (W.contents writer.old) (W.contents writer.new) waiting.old.read.pending.items
+        waiting.old.due) }
+    ensures reads { waiting.new.read.reads_left ≡ waiting.old.read.reads_left }
 {
-    let count = smaller(input.due, input.pending.len());
-    send(writer, &input.pending[..count])?;
-    input.discard(count, input.due - count);
+    let count = smaller(waiting.due, waiting.read.pending.len());
+    send(writer, &waiting.read.pending[..count])?;
+    waiting.discard(count, waiting.due - count);
     Ok(())
 }
 
@@ -109,34 +111,34 @@ fn pass_bytes<W: Write>(input: &mut Input, writer: &mut W) -> Result<(), ShellFa
 // line.
 fn pass_part<W: Write>(
     names: &Names<'_>,
-    input: &mut Input,
+    waiting: &mut Waiting,
     writer: &mut W,
 ) -> Result<bool, ShellFault>
     ensures passed { IfOk result (λ passed. passed ≡ true
-        → PassesPart (W.contents writer.old) (W.contents writer.new) input.old.pending.items
-        input.new.pending.items input.old.due input.new.due) }
+        → PassesPart (W.contents writer.old) (W.contents writer.new) waiting.old.read.pending.items
+        waiting.new.read.pending.items waiting.old.due waiting.new.due) }
     ensures fewer { IfOk result (λ passed. passed ≡ true
-        → length input.new.pending.items < length input.old.pending.items) }
+        → length waiting.new.read.pending.items < length waiting.old.read.pending.items) }
     ensures unended { IfOk result
-        (λ passed. passed ≡ false → HasNoLineEnd input.new.pending.items) }
+        (λ passed. passed ≡ false → HasNoLineEnd waiting.new.read.pending.items) }
     ensures unchanged { IfOk result (λ passed. passed ≡ false
-        → (writer.new ≡ writer.old) × (input.new ≡ input.old)) }
+        → (writer.new ≡ writer.old) × (waiting.new ≡ waiting.old)) }
     ensures broken_off { OnErr result
-        (BreaksPart (W.contents writer.old) (W.contents writer.new) input.old.pending.items
-        input.old.due) }
-    ensures reads { input.new.reads_left ≡ input.old.reads_left }
+        (BreaksPart (W.contents writer.old) (W.contents writer.new) waiting.old.read.pending.items
+        waiting.old.due) }
+    ensures reads { waiting.new.read.reads_left ≡ waiting.old.read.reads_left }
 {
-    if input.due > 0 {
-        if input.pending.is_empty() {
+    if waiting.due > 0 {
+        if waiting.read.pending.is_empty() {
             return Ok(false);
         }
-        pass_bytes(input, writer)?;
+        pass_bytes(waiting, writer)?;
         return Ok(true);
     }
-    let Some(end) = line_end(&input.pending) else {
+    let Some(end) = first_line_end(&waiting.read.pending) else {
         return Ok(false);
     };
-    pass_line(names, input, end, writer)?;
+    pass_line(names, waiting, end, writer)?;
     Ok(true)
 }
 
@@ -144,31 +146,31 @@ fn pass_part<W: Write>(
 #[tactic(auto, using(crate::proofs::PassLaws::goes_on_none, crate::proofs::PassLaws::goes_on_one))]
 fn pass_parts<W: Write>(
     names: &Names<'_>,
-    input: &mut Input,
+    waiting: &mut Waiting,
     writer: &mut W,
 ) -> Result<(), ShellFault>
     ensures passed { OnOk result
-        (GoesOn (W.contents writer.old) (W.contents writer.new) input.old.pending.items
-        input.new.pending.items input.old.due input.new.due) }
-    ensures unended { OnOk result (HasNoLineEnd input.new.pending.items) }
+        (GoesOn (W.contents writer.old) (W.contents writer.new) waiting.old.read.pending.items
+        waiting.new.read.pending.items waiting.old.due waiting.new.due) }
+    ensures unended { OnOk result (HasNoLineEnd waiting.new.read.pending.items) }
     ensures broken_off { OnErr result
-        (BreaksOff (W.contents writer.old) (W.contents writer.new) input.old.pending.items
-        input.old.due) }
-    ensures reads { input.new.reads_left ≡ input.old.reads_left }
+        (BreaksOff (W.contents writer.old) (W.contents writer.new) waiting.old.read.pending.items
+        waiting.old.due) }
+    ensures reads { waiting.new.read.reads_left ≡ waiting.old.read.reads_left }
 {
-    'parts: while pass_part(names, input, writer)? {}
+    'parts: while pass_part(names, waiting, writer)? {}
     Ok(())
 }
 
 // Passes all that comes on.
 fn pass_all<R: Read, W: Write>(
     names: &Names<'_>,
-    input: &mut Input,
+    waiting: &mut Waiting,
     reader: &mut R,
     writer: &mut W,
 ) -> Result<(), ShellFault>
-    requires nothing_pending { input.old.pending.items ≡ [] }
-    requires nothing_due { input.old.due ≡ 0 }
+    requires nothing_pending { waiting.old.read.pending.items ≡ [] }
+    requires nothing_due { waiting.old.due ≡ 0 }
     ensures passed { OnOk result
         (PassesAll (R.remaining reader.old) (R.remaining reader.new) (W.contents writer.old)
         (W.contents writer.new)) }
@@ -177,9 +179,9 @@ fn pass_all<R: Read, W: Write>(
         (W.contents writer.new)) }
 {
     'reads: loop {
-        pass_parts(names, input, writer)?;
-        if !input.read_more(reader)? {
-            send(writer, &input.pending)?;
+        pass_parts(names, waiting, writer)?;
+        if !waiting.read.read_more(reader)? {
+            send(writer, &waiting.read.pending)?;
             return Ok(());
         }
     }
@@ -212,5 +214,5 @@ pub fn annotate<R: Read, W: Write>(
         (W.contents writer.new)) }
 {
     let names = Names::of(alloc, source)?;
-    pass_all(&names, &mut Input::new(alloc), reader, writer)
+    pass_all(&names, &mut Waiting::new(alloc), reader, writer)
 }

@@ -4,11 +4,10 @@
 mod cell;
 mod filter;
 mod function;
-mod input;
-mod lines;
 mod names;
 mod object;
 mod remark;
+mod waiting;
 mod words;
 
 pub use filter::annotate;

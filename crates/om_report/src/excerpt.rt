@@ -1,10 +1,10 @@
 //! The line of the source that a refusal stands in, with a mark under its token and help.
 
-use crate::place::{front_of, line_behind, rest_of};
 use crate::token::{line_front, line_rest, name_before, token_at};
 use om_command::push_numbered;
 use om_explain::{help_for, is_left_out, refusal_words};
 use om_lexer::{FaultCode, SourceFault};
+use om_shell::{front_of, line_behind};
 use std::alloc::{AllocError, Global};
 
 // What stands round the place of a refusal.
@@ -17,6 +17,16 @@ struct Around<'a> {
     // The line from the place on, without its line end.
     rest: &'a [u8],
     token: &'a [u8],
+}
+
+// The part of a source from a byte on.
+fn rest_of(source: &[u8], at: u32) -> &[u8] {
+    let at = at as usize;
+    if at < source.len() {
+        &source[at..]
+    } else {
+        &[]
+    }
 }
 
 // What stands round a byte of the source.

@@ -3,9 +3,9 @@
 ghost use Rattle.std.specs.Prelude.{◌≡◌, ◌++◌, decimal, codes, OnOk};
 ghost use Rattle.om_report.specs.Reports.{accepted_head, place_text, refused_head};
 
-use crate::place::{column_behind, front_of, line_behind};
 use om_command::push_numbered;
 use om_lexer::SourceFault;
+use om_shell::{column_behind, front_of, line_behind};
 use std::alloc::AllocError;
 
 /// Appends `FILE:LINE:COLUMN` of a byte of the source.

@@ -3,7 +3,6 @@
 
 mod excerpt;
 mod head;
-mod place;
 mod team;
 mod token;
 mod verdict;

@@ -1,4 +1,1 @@
-pub mod LineEnds
-pub mod LineLaws
-pub mod SourceLaws
 pub mod RunLaws

@@ -4,6 +4,7 @@ use Rattle.std.specs.Io.KnownBytes.{Appends, Consumes}
 use Rattle.std.specs.Str.Lines.{lines}
 use Rattle.om_journal.specs.Books.{BookView}
 use Rattle.om_shell.specs.Ends.{RunsToEnd}
+use Rattle.om_shell.specs.Files.{ReadsAll}
 use Rattle.om_shell.specs.Progress.{moment_of}
 use Rattle.om_shell.specs.Script.{IsScript, book_of, commands_of, source_of, script_by, transcript_of}
 use Rattle.om_shell.specs.Verdict.{IsVerdict}
@@ -91,8 +92,11 @@ Cone_of workers given input source commands serial (Steps text) e c p = record {
 Cone_of workers given input source commands serial (Refused line) e c p = Session_of workers given input source
     commands line.items None e c p
 
--- what is true of the bytes that were read is true of all that the reader had
-pub of_input : (known : Option (List ℕ)) (bytes : List ℕ) (P : List ℕ → Type 0) → IfSome known (λ input. bytes ≡ input)
-    → P bytes → IfSome known P
-of_input None bytes P e p = tt
-of_input (Some input) bytes P e p = subst P e p
+-- what is true of the bytes that were read to the end is true of all that the reader had
+pub of_reader : (old new : Option (List ℕ)) (bytes : List ℕ) (P : List ℕ → Type 0) → ReadsAll old new bytes
+    → P bytes → IfSome old P
+of_reader None new bytes P e p = tt
+of_reader (Some input) None bytes P e p = absurd e.consumes
+of_reader (Some input) (Some rest) bytes P e p =
+    let all = e.consumes ∙ ap (λ l. bytes ++ l) e.at_end ∙ append-nil bytes in
+    subst P (sym all) p

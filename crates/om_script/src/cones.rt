@@ -8,13 +8,11 @@ ghost use Rattle.om_script.specs.Cones.{taken_line, cone_text, IsConeOf};
 ghost use Rattle.om_script.specs.Sessions.{IsConeFor};
 
 use crate::answer::{Script, ScriptFault};
-use crate::input::read_all;
 use crate::run::{Ran, run_over};
-use crate::source::{Session, session_of};
 use om_command::{push_numbered, push_roll};
 use om_history::{RollReply, Taken};
 use om_journal::Book;
-use om_shell::Options;
+use om_shell::{Options, SessionBytes, read_all, session_bytes};
 use std::alloc::{AllocError, Global};
 use std::io::Read;
 use std::sync::Wait;
@@ -40,7 +38,7 @@ pub fn cone<H: Threads + Wait + Sync, R: Read>(
         script)) }
 {
     let input = read_all(alloc, reader)?;
-    let session = session_of(options.source, &input);
+    let session = session_bytes(options.source, &input);
     cone_of(rt, alloc, options.workers, session, serial)
 }
 
@@ -49,7 +47,7 @@ fn cone_of<H: Threads + Wait + Sync>(
     rt: &H,
     alloc: Global,
     workers: u8,
-    session: Session<'_>,
+    session: SessionBytes<'_>,
     serial: u64,
 ) -> Result<Script, ScriptFault>
     requires at_least_one_worker { 0 < workers }

@@ -3,9 +3,7 @@
 
 mod answer;
 mod cones;
-mod input;
 mod run;
-mod source;
 mod steps;
 mod text;
 

@@ -7,13 +7,11 @@ ghost use Rattle.om_script.specs.Runs.{entries_in};
 ghost use Rattle.om_script.specs.Sessions.{LeadsTo, IsScriptFor};
 
 use crate::answer::{Script, ScriptFault};
-use crate::input::read_all;
 use crate::run::{Ran, run_over};
-use crate::source::{Session, session_of};
 use crate::text::commands_for;
 use om_cells::Entry;
 use om_journal::{Book, same_items};
-use om_shell::{Options, ShellFault};
+use om_shell::{Options, SessionBytes, ShellFault, read_all, session_bytes};
 use std::alloc::{AllocError, Global};
 use std::io::Read;
 use std::sync::Wait;
@@ -39,7 +37,7 @@ pub fn script<H: Threads + Wait + Sync, R: Read>(
         IsScriptFor options.entry.workers (option_copied options.entry.source) input script)) }
 {
     let input = read_all(alloc, reader)?;
-    let session = session_of(options.source, &input);
+    let session = session_bytes(options.source, &input);
     script_of(rt, alloc, options.workers, session)
 }
 
@@ -55,7 +53,7 @@ fn script_of<H: Threads + Wait + Sync>(
     rt: &H,
     alloc: Global,
     workers: u8,
-    session: Session<'_>,
+    session: SessionBytes<'_>,
 ) -> Result<Script, ScriptFault>
     requires at_least_one_worker { 0 < workers }
     requires at_most_32_workers { workers ≤ 32 }

@@ -35,12 +35,21 @@ pub fn read_all<R: Read>(alloc: Global, reader: &mut R) -> Result<Vec<u8>, Shell
     Err(ShellFault::Read)
 }
 
-/// The bytes of the file of this name.
-///
-/// Errors: H3 where it can't be opened or read; H5 when out of memory.
-pub fn read_file<R: Files>(rt: &R, alloc: Global, path: &str) -> Result<Vec<u8>, ShellFault> {
+// The bytes of the file of this name.
+fn read_file<R: Files>(rt: &R, alloc: Global, path: &str) -> Result<Vec<u8>, ShellFault> {
     match std::fs::open(rt, path) {
         Ok(mut reader) => read_all(alloc, &mut reader),
         Err(_) => Err(ShellFault::Read),
     }
+}
+
+/// The bytes of the file that is named, if one is.
+///
+/// Errors: H3 where it can't be opened or read; H5 when out of memory.
+pub fn read_named<R: Files>(
+    rt: &R,
+    alloc: Global,
+    file: Option<&str>,
+) -> Result<Option<Vec<u8>>, ShellFault> {
+    file.map(|path| read_file(rt, alloc, path)).transpose()
 }

@@ -7,22 +7,32 @@ use crate::fault::ShellFault;
 use std::alloc::Global;
 use std::io::{ErrorKind, Read};
 
-// How many reads a run makes at most.
+// How many reads of an input there are at most.
 const MOST_READS: u64 = 1 << 32;
 
 // How many bytes a read asks for.
 const CHUNK: usize = 4096;
 
 /// The bytes that were read and not yet answered, and how many more reads there may be.
-#[derive(Drop)]
-pub(crate) struct Input {
-    pub(crate) pending: Vec<u8>,
-    pub(crate) reads_left: u64,
+pub struct Input {
+    pub pending: Vec<u8>,
+    pub reads_left: u64,
+}
+
+// By hand: crates above call this, and do not prove anew how each part is dropped.
+impl Drop for Input {
+    fn drop(self) {
+        let Input {
+            pending,
+            reads_left: _,
+        } = self;
+        drop(pending);
+    }
 }
 
 impl Input {
     /// Nothing is read yet. It takes no memory.
-    pub(crate) fn new(alloc: Global) -> Input
+    pub fn new(alloc: Global) -> Input
         ensures pending { result.pending.items ≡ [] }
         ensures reads { result.reads_left ≡ 2 ^ 32 }
     {
@@ -33,7 +43,7 @@ impl Input {
     }
 
     /// Lets the first `used` pending bytes go.
-    pub(crate) fn discard(&mut self, used: usize)
+    pub fn discard(&mut self, used: usize)
         requires { used ≤ length self.old.pending.items }
         ensures pending { self.new.pending.items ≡ drop used self.old.pending.items }
         ensures reads { self.new.reads_left ≡ self.old.reads_left }
@@ -44,7 +54,9 @@ impl Input {
     }
 
     /// Reads once, and answers whether the input may go on.
-    pub(crate) fn read_more<R: Read>(&mut self, reader: &mut R) -> Result<bool, ShellFault>
+    ///
+    /// Errors: H3 where the read fails, or 2^32 reads were made; H5 when out of memory.
+    pub fn read_more<R: Read>(&mut self, reader: &mut R) -> Result<bool, ShellFault>
         ensures read { IfOk result
             (λ _. (bytes : List ℕ)
             × (Consumes (R.remaining reader.old) (R.remaining reader.new) bytes)

@@ -1,9 +1,11 @@
 //! The shell: a source and commands go in as bytes, replies come out, and each way to end has its status.
 //!
-//! Files read whole and the words that a program was called with are here too, since both programs have them.
+//! Files read whole, the words that a program was called with, and what else both programs do with bytes are here
+//! too: an input that is read on, its lines, its places, and a session cut into source and commands.
 #![tactic(auto)]
 
 mod conversation;
+mod cut;
 mod ended;
 mod fault;
 mod file;
@@ -15,6 +17,7 @@ mod lines;
 mod options;
 mod outcome;
 mod output;
+mod place;
 mod refusal;
 mod serve;
 mod session;
@@ -22,12 +25,16 @@ mod shell;
 mod source;
 mod words;
 
+pub use cut::{SessionBytes, session_bytes};
 pub use ended::Ended;
 pub use fault::ShellFault;
-pub use file::{read_all, read_file};
+pub use file::{read_all, read_named};
 pub use front_end::program_of;
+pub use input::Input;
+pub use lines::first_line_end;
 pub use options::Options;
 pub use outcome::{Outcome, status};
 pub use output::send;
+pub use place::{column_behind, front_of, line_behind};
 pub use shell::run;
 pub use words::words_of;

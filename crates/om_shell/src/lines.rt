@@ -4,8 +4,8 @@ ghost use Rattle.std.specs.List.{position};
 ghost use Rattle.std.specs.Str.Lines.{strip_carriage_return};
 ghost use Rattle.om_shell.specs.Lines.{HasNoLineEnd};
 
-// Where the first line feed stands.
-fn first_line_end(bytes: &[u8]) -> Option<usize>
+/// Where the first line feed stands.
+pub fn first_line_end(bytes: &[u8]) -> Option<usize>
     ensures first { result ≡ position (λ byte. byte == 10) bytes.now }
     ensures within { IfSome result (λ n. n < length bytes.now) }
 {

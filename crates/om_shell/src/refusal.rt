@@ -1,40 +1,11 @@
 //! The line that tells why a source is refused, and where.
-ghost use Rattle.std.specs.Prelude.{◌≡◌, ◌++◌, ◌≤◌, take, length, decimal, codes, OnOk};
-ghost use Rattle.om_shell.specs.Places.{line_after, column_after, refusal_text};
+ghost use Rattle.std.specs.Prelude.{◌≡◌, ◌++◌, decimal, codes, OnOk};
+ghost use Rattle.om_shell.specs.Places.{refusal_text};
 
+use crate::place::{column_behind, front_of, line_behind};
 use om_command::push_number;
 use om_lexer::SourceFault;
 use std::alloc::AllocError;
-
-// The part of a source that stands before a place.
-fn front_of(source: &[u8], at: u32) -> &[u8]
-    ensures { result.now ≡ take at source.now }
-{
-    let at = at as usize;
-    if at < source.len() {
-        &source[..at]
-    } else {
-        source
-    }
-}
-
-// The line of the byte behind these, from 1.
-fn line_behind(front: &[u8]) -> usize
-    ensures { result ≡ line_after front.now }
-{
-    front.iter().filter(|byte| **byte == b'\n').count() + 1
-}
-
-// Its column in bytes, from 1.
-fn column_behind(front: &[u8]) -> usize
-    ensures { result ≡ column_after front.now }
-{
-    let mut column = 1;
-    for byte in front {
-        column = if *byte == b'\n' { 1 } else { column + 1 };
-    }
-    column
-}
 
 fn push_place(text: &mut Vec<u8>, line: usize, column: usize) -> Result<(), AllocError>
     ensures { OnOk result

@@ -12,8 +12,8 @@ use std::io::Read;
 // The line that ends the source.
 const MARK: &[u8] = b"%%";
 
-// Goes over whole lines from `at` on, up to the mark. The first `searched` bytes there are known to end no line.
-fn scan(bytes: &[u8], mut at: usize, mut searched: usize) -> (usize, Option<usize>)
+/// Goes over whole lines from `at` on, up to the mark. The first `searched` bytes there are known to end no line.
+pub(crate) fn scan(bytes: &[u8], mut at: usize, mut searched: usize) -> (usize, Option<usize>)
     requires scanned { Scanned bytes.now at }
     requires within { searched ≤ length (drop at bytes.now) }
     requires known { HasNoLineEnd (take searched (drop at bytes.now)) }
@@ -33,8 +33,8 @@ fn scan(bytes: &[u8], mut at: usize, mut searched: usize) -> (usize, Option<usiz
     (at, None)
 }
 
-// Where the source ends in an input that has ended, whose whole lines up to `at` are of the source.
-fn source_end(bytes: &[u8], at: usize) -> usize
+/// Where the source ends in an input that has ended, whose whole lines up to `at` are of the source.
+pub(crate) fn source_end(bytes: &[u8], at: usize) -> usize
     requires scanned { Scanned bytes.now at }
     requires unended { HasNoLineEnd (drop at bytes.now) }
     ensures { IsUnmarked bytes.now result }

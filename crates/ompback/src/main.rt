@@ -9,7 +9,7 @@ mod words;
 
 use crate::words::{Words, words_in};
 use om_parser::STACK_SIZE;
-use om_shell::{Options, Outcome, ShellFault, read_file, run, status, words_of};
+use om_shell::{Options, Outcome, ShellFault, read_named, run, status, words_of};
 use std::alloc::{AllocError, Global};
 use std::io::{Read, Write};
 use std::process::ExitCode;
@@ -17,15 +17,6 @@ use std::rt::{Files, Runtime};
 use std::sync::Wait;
 use std::thread::{Builder, Threads};
 use std::{io, mem};
-
-// The source in a file, if one is named.
-fn source_in<R: Files>(
-    rt: &R,
-    alloc: Global,
-    file: Option<&str>,
-) -> Result<Option<Vec<u8>>, ShellFault> {
-    file.map(|path| read_file(rt, alloc, path)).transpose()
-}
 
 // Runs the shell over these ends, and tells how it ended.
 fn run_over<H: Threads + Wait + Sync, R: Read, W: Write>(
@@ -58,7 +49,7 @@ fn session<R: Files + Input + Print + Threads + Wait + Sync>(
     requires least { 0 < words.workers }
     requires most { words.workers ≤ 32 }
 {
-    let source = match source_in(rt, alloc, words.file) {
+    let source = match read_named(rt, alloc, words.file) {
         Ok(source) => source,
         Err(fault) => return Outcome::Fault(fault),
     };

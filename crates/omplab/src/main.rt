@@ -10,7 +10,7 @@ mod tests;
 
 use crate::subcommands::{Host, Search, check, draw, explain, hunt, keep};
 use om_parser::STACK_SIZE;
-use om_shell::{Options, Outcome, ShellFault, read_file, status, words_of};
+use om_shell::{Options, Outcome, ShellFault, read_named, status, words_of};
 use om_subcommands::{Asked, Words, words_in};
 use std::alloc::{AllocError, Global};
 use std::io;
@@ -28,15 +28,6 @@ fn file_of<'a>(asked: Asked<'a>) -> Option<&'a str> {
         Asked::Script { file, .. } => file,
         Asked::Draw { file } => file,
     }
-}
-
-// The source in a file, if one is named.
-fn source_in<R: Files>(
-    rt: &R,
-    alloc: Global,
-    file: Option<&str>,
-) -> Result<Option<Vec<u8>>, ShellFault> {
-    file.map(|path| read_file(rt, alloc, path)).transpose()
 }
 
 // Does what is asked for over standard input and output, and answers the exit status.
@@ -84,7 +75,7 @@ fn outcome_of<R: Runtime + Threads + Wait + Sync>(
     requires least { 0 < words.workers }
     requires most { words.workers ≤ 32 }
 {
-    let source = match source_in(rt, alloc, file_of(words.asked)) {
+    let source = match read_named(rt, alloc, file_of(words.asked)) {
         Ok(source) => source,
         Err(fault) => return Outcome::Fault(fault),
     };

@@ -38,4 +38,4 @@ pub reads-preserved : goal.reads-preserved
 reads-preserved g c =
     let far = c.in_ok-pass_parts.ensures.passed _ _ _ c.reads.invariant in
     let read = c.in_ok-read_more.ensures.read in
-    rw c.in_ok-read_more.ensures.due (read_on _ _ _ _ _ _ _ read.0 _ far read.1 read.2)
+    read_on _ _ _ _ _ _ _ read.0 _ far read.1 read.2

@@ -6,8 +6,8 @@ use Rattle.om_notes.proofs.filter.pass_bytes.Goals as goal
 pub returns-in_err-send-clause-broken_off : goal.returns-in_err-send-clause-broken_off
 returns-in_err-send-clause-broken_off g c =
     let p = err_from_is_err_and c.from_residual.result c.from_residual.ensures.1 in
-    let pending = c.args.input.now.pending.items in
-    let due = c.args.input.now.due in
+    let pending = c.args.waiting.now.read.pending.items in
+    let due = c.args.waiting.now.due in
     let count = c.smaller-count.result in
     let within : count ≤ length pending = search rules in
     let below : count ≤ due = search rules in

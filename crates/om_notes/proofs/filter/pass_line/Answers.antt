@@ -13,7 +13,7 @@ returns-in_err-send-clause-broken_off g c =
     let p = err_from_is_err_and c.from_residual-in_err-send.result c.from_residual-in_err-send.ensures.1 in
     let noted = rw c.deref.ensures.value at c.in_ok-text.ensures.text in
     let part = rw c.deref-2.ensures.value at c.in_err-send.ensures.begun_on_error in
-    rw p.1 (line_broken _ _ c.args.input.now.pending.items c.in_ok-text.text.items c.args.end c.requires.ended noted
+    rw p.1 (line_broken _ _ c.args.waiting.now.read.pending.items c.in_ok-text.text.items c.args.end c.requires.ended noted
     part.1)
 
 pub returns-clause-passed : goal.returns-clause-passed
@@ -21,7 +21,7 @@ returns-clause-passed g c =
     let noted = rw c.deref.ensures.value at c.in_ok-text.ensures.text in
     let counted = rw c.deref.ensures.value at c.in_ok-text.ensures.due in
     let wrote = rw c.deref-2.ensures.value at c.in_ok-send.ensures.written in
-    line_passed _ _ c.args.input.now.pending.items c.in_ok-text.text.items c.discard.new.self.pending.items c.args.end
+    line_passed _ _ c.args.waiting.now.read.pending.items c.in_ok-text.text.items c.discard.new.self.read.pending.items c.args.end
     c.discard.new.self.due c.requires.ended noted (c.discard.ensures.due ∙ counted) wrote c.discard.ensures.pending
 
 pub returns-clause-fewer : goal.returns-clause-fewer
@@ -29,6 +29,6 @@ returns-clause-fewer g c =
     omega (
       arith,
       ap length c.discard.ensures.pending,
-      length-drop (c.args.end + 1) c.args.input.now.pending.items,
+      length-drop (c.args.end + 1) c.args.waiting.now.read.pending.items,
       c.requires.within,
     )

@@ -5,9 +5,9 @@ use Rattle.om_notes.proofs.filter.pass_parts.Given as goal
 abbrev pub invariant-parts : goal.invariant-parts
 invariant-parts g l = record {
   passed : GoesOn (g.W.Write.contents l.initial.writer) (g.W.Write.contents l.writer)
-      l.initial.input.pending.items l.input.pending.items l.initial.input.due l.input.due;
-  reads : l.input.reads_left ≡ l.initial.input.reads_left;
+      l.initial.waiting.read.pending.items l.waiting.read.pending.items l.initial.waiting.due l.waiting.due;
+  reads : l.waiting.read.reads_left ≡ l.initial.waiting.read.reads_left;
 }
 
 abbrev pub decreases-parts : goal.decreases-parts
-decreases-parts g l = length l.input.pending.items
+decreases-parts g l = length l.waiting.read.pending.items

@@ -1,6 +1,6 @@
 use Rattle.std.proofs.Common.{sym, ap, ◌∙◌, drop, take-append-drop}
 use Rattle.om_shell.specs.Lines.{parts_of, source_in}
-use Rattle.om_script.proofs.source.cut.Goals as goal
+use Rattle.om_shell.proofs.cut.cut.Goals as goal
 
 pub returns-in-Some-clause-source : goal.returns-in-Some-clause-source
 returns-in-Some-clause-source c =

@@ -1,6 +1,6 @@
 use Rattle.std.proofs.Common.{◌≡◌, ◌+◌, ◌≤◌, take}
 use Rattle.om_shell.specs.Places.{column_after}
-use Rattle.om_report.proofs.place.column_behind.Given as goal
+use Rattle.om_shell.proofs.place.column_behind.Given as goal
 
 abbrev pub invariant-loop-byte : goal.invariant-loop-byte
 invariant-loop-byte l = record {

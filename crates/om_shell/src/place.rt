@@ -2,8 +2,8 @@
 ghost use Rattle.std.specs.Prelude.{◌≡◌, ◌++◌, ◌≤◌, take, length};
 ghost use Rattle.om_shell.specs.Places.{line_after, column_after};
 
-/// The part of a source that stands before a byte.
-pub(crate) fn front_of(source: &[u8], at: u32) -> &[u8]
+/// The part of a source that stands before a byte; all of it where it has no such byte.
+pub fn front_of(source: &[u8], at: u32) -> &[u8]
     ensures { result.now ≡ take at source.now }
 {
     let at = at as usize;
@@ -14,25 +14,15 @@ pub(crate) fn front_of(source: &[u8], at: u32) -> &[u8]
     }
 }
 
-/// The part of a source from a byte on.
-pub(crate) fn rest_of(source: &[u8], at: u32) -> &[u8] {
-    let at = at as usize;
-    if at < source.len() {
-        &source[at..]
-    } else {
-        &[]
-    }
-}
-
 /// The line of the byte behind these, from 1.
-pub(crate) fn line_behind(front: &[u8]) -> usize
+pub fn line_behind(front: &[u8]) -> usize
     ensures { result ≡ line_after front.now }
 {
     front.iter().filter(|byte| **byte == b'\n').count() + 1
 }
 
 /// Its column in bytes, from 1.
-pub(crate) fn column_behind(front: &[u8]) -> usize
+pub fn column_behind(front: &[u8]) -> usize
     ensures { result ≡ column_after front.now }
 {
     let mut column = 1;
