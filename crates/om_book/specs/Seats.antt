@@ -1,5 +1,8 @@
 -- What contracts see of a seat and of a session.
-use Rattle.std.specs.Prelude.{ℕ, zero, suc, List, [], ◌∷◌, ◌++◌}
+use Rattle.std.specs.Prelude.{◌≡◌, ℕ, zero, suc, List, [], ◌∷◌, ◌++◌}
+use Rattle.om_journal.specs.Runs.{IsReply}
+use Rattle.om_journal.specs.Journals.{IsLegal}
+use Rattle.om_journal.specs.Books.{BookView, machine_of, records_of}
 use Rattle.om_journal.specs.declared.command.Command.{Command}
 use Rattle.om_journal.specs.declared.reply.Reply.{Reply}
 use Rattle.om_book.specs.declared.receipt.Receipt.{Receipt}
@@ -17,6 +20,13 @@ pub record SessionView : Type 0 where
 abbrev pub with_receipt : SeatView → ℕ → Command → Reply → SeatView
 with_receipt s place command reply =
     record s { receipts = s.receipts ++ record { place = place; command = command; reply = reply } ∷ [] }
+
+-- a book answered the seat's command: its records have the replies that a machine of one thread gives there, the machine
+-- that they leave gives this reply, and the place of the seat's new receipt is the number of the records
+pub record IsAnsweredBy (book : BookView) (old new : SeatView) (command : Command) (reply : Reply) : Type 0 where
+  pub legal : IsLegal book.start book.journal
+  pub replied : IsReply (machine_of book) command reply
+  pub receipt : new ≡ with_receipt old (records_of book) command reply
 
 -- so many seats, numbered from 0, that have not called
 abbrev pub seats_below : ℕ → List SeatView

@@ -1,10 +1,9 @@
 //! Sessions: seats that call one book, which lies under one lock.
 
 ghost use Rattle.std.specs.Prelude.{◌≡◌, ℕ, ◌<◌, ◌≤◌, ◌+◌, [], ◌↔◌, IfOk, IfErr, OnOk, OnErr, IsOk, length, vec_len, sum_by, ◌^◌};
-ghost use Rattle.om_journal.specs.Runs.{IsInRange, IsReply};
-ghost use Rattle.om_undo.specs.Machines.{MachineView};
-ghost use Rattle.om_journal.specs.Books.{BookView, machine_of, records_of, with_record, IsGrown};
-ghost use Rattle.om_book.specs.Seats.{seats_below, with_receipt};
+ghost use Rattle.om_journal.specs.Runs.{IsInRange};
+ghost use Rattle.om_journal.specs.Books.{BookView, records_of, with_record, IsGrown};
+ghost use Rattle.om_book.specs.Seats.{IsAnsweredBy, seats_below, with_receipt};
 ghost use Rattle.om_book.specs.Standing.{CountsAll, Covers, AllDiffer, receipts_in};
 
 use crate::receipt::{Receipt, standing};
@@ -128,9 +127,9 @@ impl<L: Sitting> Desk<L> {
         command: Command,
     ) -> Result<Reply, CallError>
         requires { IsInRange L.workers command }
-        ensures receipt { IfOk result (λ x. seat.new
-            ≡ with_receipt seat.old (length self.old.book.journal) command x) }
-        ensures legal { IfOk result (λ x. IsReply (machine_of self.old.book) command x) }
+        ensures answered { IfOk result
+            (λ x. IsAnsweredBy self.old.book seat.old seat.new command x) }
+        ensures counted { OnOk result (length seat.old.receipts ≤ self.old.calls.total) }
         ensures recorded { IfOk result (λ x. self.new.book
             ≡ with_record self.old.book seat.old.number command x) }
         ensures same_seat_on_error { OnErr result (seat.new ≡ seat.old) }
@@ -149,6 +148,8 @@ impl<L: Sitting> Desk<L> {
             return Err(CallError::OutOfMemory);
         };
         let (reply, copy) = book.apply_with_copy(alloc, seat.number, command)?;
+        // The seat's calls are among those of the total.
+        calls.audit(&mut seat.share);
         calls.add(&mut seat.share, 1);
         seat.receipts.push_reserved(Receipt {
             place: place as u64,
@@ -258,9 +259,10 @@ impl<L: Sitting> Session<L> {
 
     /// Calls through a seat. It waits for the lock.
     ///
-    /// The reply is the one that a machine of one thread gives. The seat gets one receipt where the
-    /// call was answered, and is unchanged on an error: the journal was full, or it was out of
-    /// memory.
+    /// A book answers to which the opened one has grown, by at least as many records as the seat has
+    /// receipts. The reply is the one that its machine gives, and the seat gets a receipt whose
+    /// place is the number of its records. On an error the seat is unchanged: the journal was full,
+    /// or it was out of memory.
     pub fn call<R: Wait>(
         &self,
         rt: &R,
@@ -269,7 +271,8 @@ impl<L: Sitting> Session<L> {
         command: Command,
     ) -> Result<Reply, CallError>
         requires { IsInRange L.workers command }
-        ensures legal { IfOk result (λ x. (m : MachineView) × IsReply m command x) }
+        ensures answered { IfOk result (λ x. (b : BookView) × (n : ℕ) × IsGrown L.opened b n
+            × (length seat.old.receipts ≤ n) × IsAnsweredBy b seat.old seat.new command x) }
         ensures receipt { IfOk result (λ x. (place : ℕ)
             × (seat.new ≡ with_receipt seat.old place command x)) }
         ensures unchanged_on_error { OnErr result (seat.new ≡ seat.old) }
