@@ -2,4 +2,5 @@ pub mod Freeing
 pub mod Rounding
 pub mod Places
 pub mod Stepping
+pub mod OwnCalls
 pub mod Sent

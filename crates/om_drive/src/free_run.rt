@@ -1,9 +1,10 @@
 //! Free runs over a book: all workers step at once, each in a thread and through a seat of its own.
 
-ghost use Rattle.std.specs.Prelude.{◌≡◌, ◌≤◌, IfOk, IfErr, drop, length, vec_len};
+ghost use Rattle.std.specs.Prelude.{◌≡◌, ◌≤◌, IfOk, IfErr, None, true, drop, length, vec_len};
 ghost use Rattle.om_book.specs.Seats.{seats_below};
 ghost use Rattle.om_journal.specs.Journals.{IsLegal, done_in};
 ghost use Rattle.om_drive.specs.FreeRuns.{GoesOn, gained};
+ghost use Rattle.om_drive.specs.OwnCalls.{AreOwnCalls};
 
 use crate::{Fault, Freed, Gate, free};
 use core::mem::replace_with;
@@ -35,16 +36,18 @@ pub struct Count {
 }
 
 /// Lets all workers of a book step at once: opens a session over it, lets its seats run freely and
-/// closes it. Their calls are added to the journal.
+/// closes it. Their calls are added to the journal: of each its own steps, and its questions which
+/// tasks are ready.
 ///
 /// The only error is out of memory, or no thread; the calls that were made are in the journal then
-/// too.
+/// too. It is also the error of a session in which a receipt does not stand.
 pub fn run_freely<R: Threads + Wait + Sync>(
     book: &mut Book,
     errand: Errand<'_, R>,
 ) -> Result<Count, AllocError>
     ensures goes_on { GoesOn book.old book.new }
     ensures done { IfOk result (λ count. count.done ≡ done_in (gained book.old book.new)) }
+    ensures own { IfOk result (λ count. AreOwnCalls (gained book.old book.new)) }
 {
     replace_with(
         book,
@@ -52,6 +55,7 @@ pub fn run_freely<R: Threads + Wait + Sync>(
         |book, errand| -> (Book, Result<Count, AllocError>)
             ensures goes_on { GoesOn book result.0 }
             ensures done { IfOk result.1 (λ count. count.done ≡ done_in (gained book result.0)) }
+            ensures own { IfOk result.1 (λ count. AreOwnCalls (gained book result.0)) }
         { ran_freely(errand, book) },
     )
 }
@@ -64,6 +68,7 @@ fn ran_freely<R: Threads + Wait + Sync>(
 ) -> (Book, Result<Count, AllocError>)
     ensures goes_on { GoesOn book result.0 }
     ensures done { IfOk result.1 (λ count. count.done ≡ done_in (gained book result.0)) }
+    ensures own { IfOk result.1 (λ count. AreOwnCalls (gained book result.0)) }
 {
     let workers = book.machine().workers();
     let Ok(gates) = open_gates(errand.alloc, workers) else {
@@ -127,6 +132,7 @@ fn run_through<L: Sitting + Send + Sync, R: Threads + Wait + Sync>(
     requires gates { vec_len gates ≡ blank.seats }
     ensures goes_on { GoesOn book result.0 }
     ensures done { IfOk result.1 (λ count. count.done ≡ done_in (gained book result.0)) }
+    ensures own { IfOk result.1 (λ count. AreOwnCalls (gained book result.0)) }
 {
     let before = book.journal().len();
     let (session, seats) = match opened::<L>(errand.alloc, blank, book) {
@@ -140,8 +146,26 @@ fn run_through<L: Sitting + Send + Sync, R: Threads + Wait + Sync>(
         ..
     } = free(&session, errand.rt, seats, gates, errand.rounds);
     match session.close(seats) {
-        Ok(Closed { book, .. }) => counted(book, before, full, fault),
+        Ok(
+            Closed {
+                book,
+                calls,
+                standing,
+                ..
+            },
+        ) => counted(book, before, full, fault_where(standing == calls, fault)),
         Err(_) => unreachable!(),
+    }
+}
+
+/// What broke off a run. It is a fault too that a receipt does not stand.
+fn fault_where(all_stand: bool, fault: Option<Fault>) -> Option<Fault>
+    ensures { result ≡ None → all_stand ≡ true }
+{
+    if all_stand {
+        fault
+    } else {
+        Some(Fault::Strange)
     }
 }
 
@@ -156,6 +180,7 @@ fn counted(
     ensures book { result.0 ≡ book }
     ensures legal { IsLegal book.start book.journal }
     ensures done { IfOk result.1 (λ count. count.done ≡ done_in (drop before book.journal)) }
+    ensures no_fault { IfOk result.1 (λ count. fault ≡ None) }
 {
     // Each reply in it is that of its command.
     let _answered = book.journal();

@@ -2,6 +2,7 @@
 
 ghost use Rattle.std.specs.Prelude.{◌≡◌, ◌<◌, ◌≤◌, ◌+◌, ◌*◌, ◌^◌, ◌++◌, ◌∷◌, [], IfOk, IfErr, vec_len, vec_capacity, map, sum_by};
 ghost use Rattle.om_book.specs.Standing.{number_of};
+ghost use Rattle.om_drive.specs.OwnCalls.{others_in, others_from, receipts_of};
 ghost use Rattle.om_drive.specs.Steps.{steps_in, steps_of};
 
 use crate::rounds::push_within;
@@ -31,7 +32,8 @@ pub struct Freed<L: Sitting> {
 ///
 /// In each of its rounds a worker makes its next step. Where that waits at a barrier or for tasks,
 /// it asks which tasks are ready and starts the first. A worker goes on after a step that is not
-/// made, and stops where the journal is full. The seats always come back in their places.
+/// made, and stops where the journal is full. So each seat gains own calls of its worker alone. The
+/// seats always come back in their places.
 pub fn free<L: Sitting + Send + Sync, G: Gate + Drop + Send, R: Threads + Wait + Sync>(
     session: &Session<L>,
     rt: &R,
@@ -44,6 +46,8 @@ pub fn free<L: Sitting + Send + Sync, G: Gate + Drop + Send, R: Threads + Wait +
     ensures back { map number_of result.seats.items ≡ map number_of seats.items }
     ensures done { sum_by steps_of result.seats.items
         ≡ sum_by steps_of seats.items + result.done }
+    ensures own { others_from 0 (map receipts_of result.seats.items)
+        ≡ others_from 0 (map receipts_of seats.items) }
 {
     let alloc = *seats.allocator();
     let Ok(mut sitters) = Vec::with_capacity(alloc, seats.len()) else {
@@ -78,6 +82,8 @@ fn free_over<G: Gate + Drop + Send, D: Debuggee + Drop + Send, R: Threads + Wait
     ensures back { map D.place result.0.items ≡ map D.place debuggees.items }
     ensures done { sum_by (λ d. steps_in (D.made d)) result.0.items
         ≡ sum_by (λ d. steps_in (D.made d)) debuggees.items + result.1.done }
+    ensures own { others_from 0 (map D.made result.0.items)
+        ≡ others_from 0 (map D.made debuggees.items) }
 {
     let tally = Tally {
         done: 0,
@@ -105,6 +111,8 @@ fn free_over<G: Gate + Drop + Send, D: Debuggee + Drop + Send, R: Threads + Wait
             ensures back { map D.place result.0.items ≡ map D.place line.waiting.items }
             ensures done { sum_by (λ d. steps_in (D.made d)) result.0.items
                 ≡ sum_by (λ d. steps_in (D.made d)) line.waiting.items + result.1.done }
+            ensures own { others_from 0 (map D.made result.0.items)
+                ≡ others_from 0 (map D.made line.waiting.items) }
         { free_in(scope, rt, rounds, line) },
     )
 }
@@ -143,6 +151,8 @@ fn free_in<
     ensures back { map D.place result.0.items ≡ map D.place line.waiting.items }
     ensures done { sum_by (λ d. steps_in (D.made d)) result.0.items
         ≡ sum_by (λ d. steps_in (D.made d)) line.waiting.items + result.1.done }
+    ensures own { others_from 0 (map D.made result.0.items)
+        ≡ others_from 0 (map D.made line.waiting.items) }
 {
     free_from(scope, rt, rounds, &mut line);
     let Line { back, tally, .. } = line;
@@ -160,12 +170,15 @@ fn free_from<
     requires room { vec_len line.old.back + vec_len line.old.waiting ≤ vec_capacity line.old.back }
     requires paired { vec_len line.old.gates ≡ vec_len line.old.waiting }
     requires few { vec_len line.old.waiting ≤ 64 }
+    requires none { line.old.back.items ≡ [] }
     requires small { line.old.tally.done + vec_len line.old.waiting * 2 ^ 32 < 2 ^ 63 }
     ensures back { map D.place line.new.back.items
         ≡ map D.place line.old.back.items ++ map D.place line.old.waiting.items }
     ensures done { sum_by (λ d. steps_in (D.made d)) line.new.back.items + line.old.tally.done
         ≡ sum_by (λ d. steps_in (D.made d)) line.old.back.items
         + sum_by (λ d. steps_in (D.made d)) line.old.waiting.items + line.new.tally.done }
+    ensures own { others_from 0 (map D.made line.new.back.items)
+        ≡ others_from 0 (map D.made line.old.waiting.items) }
     ensures small { line.new.tally.done ≤ line.old.tally.done + vec_len line.old.waiting * 2 ^ 32 }
     ensures capacity { vec_capacity line.old.back ≤ vec_capacity line.new.back }
 {
@@ -193,16 +206,20 @@ fn free_from<
     line.take_back(ran);
 }
 
-/// That a debuggee comes back as the one that it was, with as many further steps as are counted.
+/// That a runner's debuggee comes back as the one that it was, with as many further steps as are
+/// counted, and with no further call that is not its worker's own.
 #[derive(Drop)]
-struct Counted<D: Debuggee>(Snapshot<D>);
+struct Counted<G: Gate + Drop, D: Debuggee + Drop>(Snapshot<Runner<G, D>>);
 
-impl<D: Debuggee + Drop> Promise<Ran<D>> for Counted<D> {
+impl<G: Gate + Drop, D: Debuggee + Drop> Promise<Ran<D>> for Counted<G, D> {
     ghost use Rattle.std.specs.Prelude.{◌≡◌, ◌+◌};
+    ghost use Rattle.om_drive.specs.OwnCalls.{others_in};
     ghost use Rattle.om_drive.specs.Steps.{steps_in};
 
-    ghost kept_by = { λ p r. (D.place r.debuggee ≡ D.place p.0.value)
-        × (steps_in (D.made r.debuggee) ≡ steps_in (D.made p.0.value) + r.done) };
+    ghost kept_by = { λ p r. (D.place r.debuggee ≡ D.place p.0.value.debuggee)
+        × (steps_in (D.made r.debuggee) ≡ steps_in (D.made p.0.value.debuggee) + r.done)
+        × (others_in p.0.value.worker (D.made r.debuggee)
+        ≡ others_in p.0.value.worker (D.made p.0.value.debuggee)) };
 }
 
 /// Starts a worker's thread. Where there is none, the worker makes its rounds here.
@@ -217,13 +234,15 @@ fn start<
     rt: &'s R,
     rounds: u32,
     runner: Runner<G, D>,
-) -> Result<PromisedHandle<Ran<D>, Counted<D>>, Ran<D>>
-    ensures started { IfOk result (λ thread. thread.promise.0.value ≡ runner.debuggee) }
+) -> Result<PromisedHandle<Ran<D>, Counted<G, D>>, Ran<D>>
+    ensures started { IfOk result (λ thread. thread.promise.0.value ≡ runner) }
     ensures place { IfErr result (λ ran. D.place ran.debuggee ≡ D.place runner.debuggee) }
     ensures steps { IfErr result
         (λ ran. steps_in (D.made ran.debuggee) ≡ steps_in (D.made runner.debuggee) + ran.done) }
+    ensures own { IfErr result (λ ran. others_in runner.worker (D.made ran.debuggee)
+        ≡ others_in runner.worker (D.made runner.debuggee)) }
 {
-    let promise = Counted(Snapshot::of(&runner.debuggee));
+    let promise = Counted(Snapshot::of(&runner));
     match scope.spawn_with(promise, move || runner.run(rt, rounds)) {
         Ok(thread) => Ok(thread),
         Err(refused) => Err((refused.value)()),

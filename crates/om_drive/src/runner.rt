@@ -2,6 +2,7 @@
 
 ghost use Rattle.std.specs.Prelude.{◌≡◌, ◌<◌, ◌≤◌, ◌+◌, cond, IfOk, OnErr};
 ghost use Rattle.om_journal.specs.Runs.{IsInRange};
+ghost use Rattle.om_drive.specs.OwnCalls.{others_in};
 ghost use Rattle.om_drive.specs.Steps.{makes_step, steps_in, waits_for_tasks};
 
 use crate::worker::{Debuggee, Gate, says_yes};
@@ -41,11 +42,13 @@ pub(crate) struct Ran<D: Debuggee + Drop> {
 
 impl<G: Gate + Drop, D: Debuggee + Drop> Runner<G, D> {
     /// Makes its rounds, each behind its gate, until a call is not answered. A worker that is out
-    /// of range makes none.
+    /// of range makes none. All calls are the worker's own.
     pub(crate) fn run<R: Wait>(mut self, rt: &R, rounds: u32) -> Ran<D>
         ensures place { D.place result.debuggee ≡ D.place self.debuggee }
         ensures steps { steps_in (D.made result.debuggee)
             ≡ steps_in (D.made self.debuggee) + result.done }
+        ensures own { others_in self.worker (D.made result.debuggee)
+            ≡ others_in self.worker (D.made self.debuggee) }
     {
         let mut done = 0;
         let mut error = None;
@@ -66,6 +69,8 @@ impl<G: Gate + Drop, D: Debuggee + Drop> Runner<G, D> {
         ensures place { D.place self.new.debuggee ≡ D.place self.old.debuggee }
         ensures steps { steps_in (D.made self.new.debuggee)
             ≡ steps_in (D.made self.old.debuggee) + result.0 }
+        ensures own { others_in self.old.worker (D.made self.new.debuggee)
+            ≡ others_in self.old.worker (D.made self.old.debuggee) }
     {
         let mut done = 0;
         for round in 0..rounds {
@@ -89,6 +94,8 @@ impl<G: Gate + Drop, D: Debuggee + Drop> Runner<G, D> {
             ≡ steps_in (D.made self.old.debuggee) + cond made 1 0) }
         ensures none_on_error { OnErr result
             (steps_in (D.made self.new.debuggee) ≡ steps_in (D.made self.old.debuggee)) }
+        ensures own { others_in self.old.worker (D.made self.new.debuggee)
+            ≡ others_in self.old.worker (D.made self.old.debuggee) }
     {
         let came = self.step(rt, Choice::Next)?;
         if came.waits && !came.made {
@@ -106,6 +113,8 @@ impl<G: Gate + Drop, D: Debuggee + Drop> Runner<G, D> {
             ≡ steps_in (D.made self.old.debuggee) + cond made 1 0) }
         ensures none_on_error { OnErr result
             (steps_in (D.made self.new.debuggee) ≡ steps_in (D.made self.old.debuggee)) }
+        ensures own { others_in self.old.worker (D.made self.new.debuggee)
+            ≡ others_in self.old.worker (D.made self.old.debuggee) }
     {
         let Some(task) = self.first_ready(rt)? else {
             return Ok(false);
@@ -119,6 +128,8 @@ impl<G: Gate + Drop, D: Debuggee + Drop> Runner<G, D> {
         ensures place { D.place self.new.debuggee ≡ D.place self.old.debuggee }
         ensures worker { self.new.worker ≡ self.old.worker }
         ensures steps { steps_in (D.made self.new.debuggee) ≡ steps_in (D.made self.old.debuggee) }
+        ensures own { others_in self.old.worker (D.made self.new.debuggee)
+            ≡ others_in self.old.worker (D.made self.old.debuggee) }
     {
         let reply = self.debuggee.call(rt, Command::Look(Query::Ready))?;
         let first = first_name(&reply);
@@ -135,6 +146,8 @@ impl<G: Gate + Drop, D: Debuggee + Drop> Runner<G, D> {
             ≡ steps_in (D.made self.old.debuggee) + cond came.made 1 0) }
         ensures none_on_error { OnErr result
             (steps_in (D.made self.new.debuggee) ≡ steps_in (D.made self.old.debuggee)) }
+        ensures own { others_in self.old.worker (D.made self.new.debuggee)
+            ≡ others_in self.old.worker (D.made self.old.debuggee) }
     {
         let worker = self.worker;
         let reply = self.debuggee.call(rt, Command::Step { worker, choice })?;

@@ -1,5 +1,7 @@
-use Rattle.std.proofs.Common.{◌≡◌, ◌+◌, ◌++◌, map}
+use Rattle.std.proofs.Common.{rules, ◌≡◌, ◌+◌, ◌++◌, map}
+use Rattle.om_drive.specs.OwnCalls.{others_in, others_from}
 use Rattle.om_drive.specs.Steps.{steps_in}
+use Rattle.om_drive.proofs.OwnCalls.{own_back}
 use Rattle.om_drive.proofs.Stepping.{one_back, place_back}
 use Rattle.om_drive.proofs.freely.+free_from.Goals.{in-Ok, in-Err}
 use Rattle.om_drive.proofs.freely.+free_from.Goals as goal
@@ -42,3 +44,22 @@ returns-clause-done g t c =
     c.args.line.now.tally.done c.free_from.new.line.tally.done line.tally.done ran.done
     c.take_back.new.self.tally.done c.take_back.ensures.back c.in-Some.ensures.items c.free_from.ensures.done back
     tally told c.take_back.ensures.done
+
+pub returns-clause-own : goal.returns-clause-own
+returns-clause-own g t c =
+    let made = g.D.Debuggee.made in
+    let line = c.match-started.line in
+    let ran = c.match-started.ran in
+    let worker = c.len-worker.result in
+    let same : others_from 0 (map made line.back.items) ≡ others_from 0 (map made c.pop.new.self.items) =
+    elim c.match-started.branch [
+      | in-Ok w ↦ rw w.line-is c.free_from.ensures.own
+      | in-Err w ↦ rw w.line-is c.free_from.ensures.own
+    ] in
+    let own : others_in worker (made ran.debuggee) ≡ others_in worker (made c.in-Some.debuggee) =
+    elim c.match-started.branch [
+      | in-Ok w ↦ rw w.ran-is (rw w.in-Ok.ensures.started at w.join-ran.ensures.2)
+      | in-Err w ↦ rw w.ran-is w.in-Err.ensures.own
+    ] in
+    own_back made c.take_back.new.self.back.items line.back.items c.args.line.now.waiting.items c.pop.new.self.items
+    c.in-Some.debuggee ran.debuggee worker c.take_back.ensures.back c.in-Some.ensures.items same (search rules) own

@@ -2,7 +2,9 @@ use Rattle.std.proofs.Common.{◌∙◌, ◌+◌, ◌++◌, map, sum_by, ap, sym
 use denote.Param.Send.{sendable}
 use denote.Ref.{NamedLft}
 use Rattle.om_drive.specs.Calls.{place_of}
+use Rattle.om_drive.specs.OwnCalls.{others_from, receipts_of}
 use Rattle.om_drive.specs.Steps.{steps_of}
+use Rattle.om_drive.proofs.OwnCalls.{seated_calls}
 use Rattle.om_drive.proofs.Places.{numbers_same}
 use Rattle.om_drive.proofs.Sent.{sitter_send}
 use Rattle.om_drive.proofs.Stepping.{seated_steps}
@@ -36,3 +38,14 @@ returns-clause-done g c =
     let before = seated_steps (λ s. s.seat) sitting ∙ ap (sum_by steps_of) down in
     let after = ap (sum_by steps_of) up ∙ sym (seated_steps (λ s. s.seat) sat) in
     after ∙ c.free_over-sitters.ensures.done ∙ ap (λ n. n + c.free_over-sitters.result.1.done) before
+
+pub returns-clause-own : goal.returns-clause-own
+returns-clause-own g c =
+    let sat = c.free_over-sitters.result.0.items in
+    let sitting = c.sit_down.new.sitters.items in
+    let here = c.args.seats.items in
+    let up = c.stand_up.ensures.unseated ∙ ap (λ xs. xs ++ map (λ s. s.seat) sat) c.sit_down.ensures.empty in
+    let down = c.sit_down.ensures.seated ∙ ap (λ xs. map (λ s. s.seat) xs ++ here) c.in-Ok.ensures.items in
+    let before = seated_calls (λ s. s.seat) sitting ∙ ap (map receipts_of) down in
+    let after = ap (map receipts_of) up ∙ sym (seated_calls (λ s. s.seat) sat) in
+    ap (others_from 0) after ∙ c.free_over-sitters.ensures.own ∙ ap (others_from 0) before
