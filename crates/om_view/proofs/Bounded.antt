@@ -35,7 +35,8 @@ use Rattle.om_journal.specs.declared.command.Command.TheVariants as call
 use Rattle.om_journal.specs.declared.command.Query.{Query}
 use Rattle.om_journal.specs.declared.reply.Reply.TheVariants as reply
 use Rattle.om_view.specs.Calls.{label_of, step_reply_of, undo_reply_of, with_call, with_step}
-use Rattle.om_view.specs.Freed.{SeatCall, records_by}
+use Rattle.om_drive.specs.OwnCalls.{AreOwnCalls}
+use Rattle.om_view.specs.Freed.{SeatCall, AreOwn, records_by}
 use Rattle.om_view.specs.Runs.{after_move, can_step, move_among, move_of, moved_of, ran, run_within, said_by}
 use Rattle.om_view.specs.Runs.{planned_for, planned_if, planned_move, start_among}
 use Rattle.om_view.specs.Said.{Said}
@@ -282,6 +283,11 @@ legal_records m [] h = refl
 legal_records m (r ∷ rs) h =
     ap (λ x. record { seat = r.seat; command = r.command; reply = x } ∷ rs) h.0
     ∙ ap (λ more. record r { reply = reply_to m r.command } ∷ more) (legal_records (after m r.command) rs h.1)
+
+-- records of own calls
+pub own_calls : (rs : List JournalRecord) → AreOwnCalls rs → AreOwn (map call_of rs)
+own_calls [] h = tt
+own_calls (r ∷ rs) h = (h.0, own_calls rs h.1)
 
 -- lists, an item at a time
 

@@ -1,6 +1,8 @@
 -- Free runs: all workers step at once, in whatever order they come to the lock.
-use Rattle.std.specs.Prelude.{ℕ, Bool, false, cond, List, [], ◌∷◌}
+use Rattle.std.specs.Prelude.{◌≡◌, ℕ, Bool, true, false, cond, List, [], ◌∷◌}
+use Rattle.std.specs.List.{AllByRecursion}
 use Rattle.om_drive.specs.FreeRuns.{with_records}
+use Rattle.om_drive.specs.OwnCalls.{is_own_call}
 use Rattle.om_journal.specs.Books.{BookView, machine_of}
 use Rattle.om_journal.specs.Journals.{done_in}
 use Rattle.om_journal.specs.Runs.{after, reply_to}
@@ -16,14 +18,20 @@ pub record SeatCall : Type 0 where
   pub seat : ℕ
   pub command : Command
 
+-- each is an own call of the worker whose number its seat has: a step of this worker, or the question which tasks are
+-- ready
+abbrev pub AreOwn : List SeatCall → Type 0
+AreOwn calls = AllByRecursion (λ (c : SeatCall). is_own_call c.seat c.command ≡ true) calls
+
 -- what a free run did: the calls of its workers, in the order in which they were recorded, and whether a worker found
 -- no room for one more
 pub record FreeRun : Type 0 where
   pub calls : List SeatCall
   pub full : Bool
+  pub own : AreOwn calls
 
 abbrev pub no_run : FreeRun
-no_run = record { calls = []; full = false }
+no_run = record { calls = []; full = false; own = tt }
 
 -- the records of calls, one after the other
 abbrev pub records_by : MachineView → List SeatCall → List JournalRecord

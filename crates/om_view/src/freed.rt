@@ -10,7 +10,8 @@ use std::alloc::{AllocError, Global};
 use std::sync::Wait;
 use std::thread::Threads;
 
-/// Answers `free K`.
+/// Answers `free K`, by the calls that the workers made: their own steps, and questions which tasks
+/// are ready.
 pub(crate) fn free<R: Threads + Wait + Sync>(
     rt: &R,
     alloc: Global,

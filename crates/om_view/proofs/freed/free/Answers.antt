@@ -5,7 +5,7 @@ use Rattle.om_journal.specs.Books.{machine_of}
 use Rattle.om_journal.specs.Journals.{done_in}
 use Rattle.om_command.specs.Stops.{freed_text}
 use Rattle.om_view.specs.Freed.{FreeRun, made_by}
-use Rattle.om_view.proofs.Bounded.{call_of, legal_records}
+use Rattle.om_view.proofs.Bounded.{call_of, legal_records, own_calls}
 use Rattle.om_view.proofs.freed.free.Goals as goal
 
 pub returns-then-count : goal.returns-then-count
@@ -13,7 +13,8 @@ returns-then-count g c =
     let old = c.args.book.now in
     let ran = c.in_ok-count.ensures.goes_on in
     let calls = gained old c.run_freely.new.book in
-    let run : FreeRun = record { calls = map call_of calls; full = true } in
+    let own = own_calls calls c.in_ok-count.ensures.own in
+    let run : FreeRun = record { calls = map call_of calls; full = true; own = own } in
     on_ok_weaker c.push_full.result
     (λ said. (run, said, ran.grown ∙ ap (with_records old) (legal_records (machine_of old) calls ran.legal)))
     c.push_full.ensures
@@ -23,7 +24,8 @@ returns g c =
     let old = c.args.book.now in
     let ran = c.in_ok-count.ensures.goes_on in
     let calls = gained old c.run_freely.new.book in
-    let run : FreeRun = record { calls = map call_of calls; full = false } in
+    let own = own_calls calls c.in_ok-count.ensures.own in
+    let run : FreeRun = record { calls = map call_of calls; full = false; own = own } in
     let same : calls ≡ made_by run old = legal_records (machine_of old) calls ran.legal in
     on_ok_weaker c.push_freed.result (λ said. (
       run,
