@@ -6,14 +6,14 @@ use Rattle.om_schedules.specs.Bad.{wanted_by}
 use Rattle.om_hunt.specs.Finds.{FindsBad, FindsNothing, IsFound, RunsAlone}
 
 -- what was found by what is wanted is bad
-pub Finds_of : (workers : ℕ) (source : List ℕ) (expected : Option (List ℕ)) (wanted text : List ℕ) (alone : BookView)
+pub Finds_of : (workers : ℕ) (source : List ℕ) (expected wanted : Option (List ℕ)) (text : List ℕ) (alone : BookView)
     (found : Found) → RunsAlone workers source text (Some alone) → wanted ≡ wanted_by expected (machine_of alone)
     → IsFound workers source wanted found → FindsBad workers source expected found
 Finds_of workers source expected wanted text alone found runs e p = record {
   text = text;
   alone = alone;
   runs = runs;
-  is = subst (λ l. IsFound workers source l found) e p;
+  is = subst (λ w. IsFound workers source w found) e p;
 }
 
 pub Nothing_of : (workers : ℕ) (source text : List ℕ) (alone : BookView) → RunsAlone workers source text (Some alone)

@@ -5,15 +5,16 @@ use Rattle.om_schedules.specs.declared.hunted.Hunted.{Hunted}
 use Rattle.om_schedules.specs.declared.hunted.Hunted.TheVariants as hunted
 use Rattle.om_schedules.specs.Bad.{IsEnd, wanted_by}
 use Rattle.om_schedules.specs.Schedules.{schedule_text}
+use Rattle.om_schedules.specs.Texts.{text_in}
 use Rattle.om_journal.specs.Books.{BookView, machine_of}
 use Rattle.om_script.specs.Runs.{Leaves}
 
 -- The script is that of the schedule. What ompback writes for it is what was printed, and what it leaves is bad.
-pub record IsFound (workers : ℕ) (source wanted : List ℕ) (found : Found) : Type 0 where
+pub record IsFound (workers : ℕ) (source : List ℕ) (wanted : Option (List ℕ)) (found : Found) : Type 0 where
   pub book : BookView
   pub leaves : Leaves workers (Some source) found.script.items found.printed.items (Some book)
   pub schedule : found.script.items ≡ schedule_text found.blocks.items
-  pub wanted_is : found.wanted.items ≡ wanted
+  pub wanted_is : text_in found.wanted ≡ wanted
   pub ends : IsEnd (machine_of book) wanted found.output.items found.why
 
 -- where `run` makes all steps, ompback writes this and leaves this book

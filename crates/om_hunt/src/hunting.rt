@@ -3,6 +3,7 @@
 ghost use Rattle.std.specs.Prelude.{◌≡◌, ◌<◌, ◌≤◌, IfOk, IfSome};
 ghost use Rattle.std.specs.Option.{option_copied};
 ghost use Rattle.om_hunt.specs.Finds.{IsFound, IsHunted};
+ghost use Rattle.om_schedules.specs.Texts.{text_in};
 
 use om_schedules::{
     Aims, Chances, Found, Ground, Hunted, Progress, Schedule, end_of, script, wanted_of,
@@ -70,7 +71,7 @@ fn find<H: Threads + Wait + Sync, P: Progress>(
     requires at_most_32 { ground.now.workers ≤ 32 }
     ensures { IfOk result
         (λ found. IfSome found
-        (IsFound ground.now.workers source.now ground.now.wanted.now.text.items)) }
+        (IsFound ground.now.workers source.now (text_in ground.now.wanted.now.text))) }
 {
     let alone = Schedule {
         seed: 0,
@@ -94,7 +95,7 @@ fn find_by_chance<H: Threads + Wait + Sync, P: Progress>(
     requires at_most_32 { ground.now.workers ≤ 32 }
     ensures { IfOk result
         (λ found. IfSome found
-        (IsFound ground.now.workers source.now ground.now.wanted.now.text.items)) }
+        (IsFound ground.now.workers source.now (text_in ground.now.wanted.now.text))) }
 {
     let mut chances = chances_over(alloc, source, ground.workers)?;
     let mut behind = 0;
@@ -134,7 +135,7 @@ fn shown<H: Threads + Wait + Sync>(
     requires at_most_32 { ground.now.workers ≤ 32 }
     ensures { IfOk result
         (λ found. IfSome found
-        (IsFound ground.now.workers source.now ground.now.wanted.now.text.items)) }
+        (IsFound ground.now.workers source.now (text_in ground.now.wanted.now.text))) }
 {
     let commands = script(alloc, &schedule.blocks)?;
     let Ran { text, book } = run_over(rt, alloc, ground.workers, source, &commands)?;
@@ -144,7 +145,7 @@ fn shown<H: Threads + Wait + Sync>(
     let Some(end) = end_of(alloc, book, ground.wanted)? else {
         return Ok(None);
     };
-    let wanted = ground.wanted.text.clone()?;
+    let wanted = ground.wanted.copy()?;
     Ok(Some(Found {
         seed: schedule.seed,
         blocks: schedule.blocks,

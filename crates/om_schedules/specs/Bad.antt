@@ -1,5 +1,5 @@
 -- What is bad about where a machine stands.
-use Rattle.std.specs.Prelude.{◌≡◌, ◌≢◌, ◌<◌, ℕ, true, false, cond, List, [], Option, None, Some}
+use Rattle.std.specs.Prelude.{◌≡◌, ◌≢◌, ◌<◌, ℕ, true, false, cond, List, Option, None, Some, IsSomeAnd}
 use Rattle.om_cells.specs.declared.control.Control as controls
 use Rattle.om_cells.specs.declared.control.Control.TheVariants as control
 use Rattle.om_cells.specs.Values.{control_in, bytes_in}
@@ -33,18 +33,18 @@ pub record IsStuck (m : MachineView) : Type 0 where
   pub not_ended : has_ended (control_of m 0) ≡ false
   pub no_move : (worker : ℕ) → worker < m.workers → move_of m worker ≡ None
 
--- this is bad about where a machine stands
-abbrev pub IsBad : MachineView → List ℕ → Badness → Type 0
-IsBad m wanted badness.Output = PrintsOther m wanted
+-- this is bad about where a machine stands; where it is not known what is wanted, no output is
+abbrev pub IsBad : MachineView → Option (List ℕ) → Badness → Type 0
+IsBad m wanted badness.Output = IsSomeAnd wanted (PrintsOther m)
 IsBad m wanted (badness.Fault fault worker) = fault_of (control_of m worker) ≡ Some fault
 IsBad m wanted badness.Stuck = IsStuck m
 
 -- this was printed where a machine stands, and this is bad there
-pub record IsEnd (m : MachineView) (wanted output : List ℕ) (why : Badness) : Type 0 where
+pub record IsEnd (m : MachineView) (wanted : Option (List ℕ)) (output : List ℕ) (why : Badness) : Type 0 where
   pub printed : output ≡ output_of m
   pub bad : IsBad m wanted why
 
--- what a program has to print: what is expected, else what it printed where it ended
-abbrev pub wanted_by : Option (List ℕ) → MachineView → List ℕ
-wanted_by (Some text) m = text
-wanted_by None m = cond (has_ended (control_of m 0)) (output_of m) []
+-- what a program has to print, where that is known: what is expected, else what it printed where it ended
+abbrev pub wanted_by : Option (List ℕ) → MachineView → Option (List ℕ)
+wanted_by (Some text) m = Some text
+wanted_by None m = cond (has_ended (control_of m 0)) (Some (output_of m)) None

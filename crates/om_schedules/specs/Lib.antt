@@ -2,3 +2,4 @@ pub mod Schedules
 pub mod Bad
 pub mod Reports
 pub mod Entries
+pub mod Texts

@@ -1,5 +1,5 @@
 -- The text of a report.
-use Rattle.std.specs.Prelude.{ℕ, List, [], ◌∷◌, ◌++◌, ◌==◌, if◌then◌else◌, codes, decimal, length}
+use Rattle.std.specs.Prelude.{ℕ, List, [], ◌∷◌, ◌++◌, ◌==◌, Option, None, Some, if◌then◌else◌, codes, decimal, length}
 use Rattle.om_code.specs.declared.frame.Fault.{Fault}
 use Rattle.om_code.specs.Faults.{fault_number}
 use Rattle.om_foot.specs.Names.{name_text}
@@ -11,6 +11,7 @@ use Rattle.om_schedules.specs.declared.hunted.Hunted.TheVariants as hunted
 use Rattle.om_schedules.specs.declared.judge.Badness.{Badness}
 use Rattle.om_schedules.specs.declared.judge.Badness.TheVariants as badness
 use Rattle.om_command.specs.Lists.{joined}
+use Rattle.om_schedules.specs.Texts.{text_in}
 
 -- a byte in quotes: line ends, quotes and backslashes stand behind a backslash
 abbrev pub byte_text : ℕ → List ℕ
@@ -28,8 +29,13 @@ quoted bytes = (34 ∷ []) ++ joined byte_text bytes ++ (34 ∷ [])
 abbrev pub seed_text : ℕ → List ℕ
 seed_text seed = if seed == 0 then codes "run: " else codes "seed " ++ decimal seed ++ codes ": "
 
-abbrev pub outputs_text : List ℕ → List ℕ → List ℕ
-outputs_text output wanted = codes "printed " ++ quoted output ++ codes ", wanted " ++ quoted wanted
+-- what was wanted, where that is known
+abbrev pub wanted_text : Option (List ℕ) → List ℕ
+wanted_text (Some wanted) = codes ", wanted " ++ quoted wanted
+wanted_text None = []
+
+abbrev pub outputs_text : List ℕ → Option (List ℕ) → List ℕ
+outputs_text output wanted = codes "printed " ++ quoted output ++ wanted_text wanted
 
 abbrev pub of_worker : ℕ → List ℕ
 of_worker worker = codes " of worker " ++ decimal worker
@@ -38,7 +44,7 @@ abbrev pub fault_words : Fault → ℕ → List ℕ
 fault_words fault worker = codes "fault F" ++ decimal (fault_number fault) ++ of_worker worker
 
 -- what is bad, by what was printed and what was wanted
-abbrev pub badness_text : Badness → List ℕ → List ℕ → List ℕ
+abbrev pub badness_text : Badness → List ℕ → Option (List ℕ) → List ℕ
 badness_text badness.Output output wanted = outputs_text output wanted
 badness_text (badness.Fault fault worker) output wanted = fault_words fault worker
 badness_text badness.Stuck output wanted = codes "stuck: no worker has a move"
@@ -54,8 +60,8 @@ length_text blocks = codes "shortened to " ++ decimal (length blocks) ++ codes "
 
 -- what was found, in words
 abbrev pub words_text : Found → List ℕ
-words_text found = seed_text found.seed ++ badness_text found.why found.output.items found.wanted.items ++ codes "\n"
-    ++ length_text found.blocks.items
+words_text found = seed_text found.seed ++ badness_text found.why found.output.items (text_in found.wanted)
+    ++ codes "\n" ++ length_text found.blocks.items
 
 -- the words, an empty line, and the script
 abbrev pub found_text : Found → List ℕ

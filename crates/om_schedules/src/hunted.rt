@@ -35,8 +35,8 @@ pub struct Found {
     pub printed: Vec<u8>,
     /// What the program printed there.
     pub output: Vec<u8>,
-    /// What it had to print; nothing where that is not known, as `run` came to no end.
-    pub wanted: Vec<u8>,
+    /// What it had to print, where that is known.
+    pub wanted: Option<Vec<u8>>,
     /// What is bad about it.
     pub why: Badness,
 }

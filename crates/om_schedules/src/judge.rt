@@ -1,6 +1,6 @@
 //! What is bad about where a machine stands.
 
-ghost use Rattle.std.specs.Prelude.{◌≡◌, ◌<◌, ℕ, List, None, true, false, IfOk, IfSome};
+ghost use Rattle.std.specs.Prelude.{◌≡◌, ◌<◌, ℕ, List, Option, None, true, false, IfOk, IfSome};
 ghost use Rattle.std.specs.Option.{option_copied};
 ghost use Rattle.om_live.specs.Stores.{plain_or_idle};
 ghost use Rattle.om_journal.specs.Runs.{is_step_made};
@@ -8,6 +8,7 @@ ghost use Rattle.om_journal.specs.declared.reply.Reply.TheVariants as replies;
 ghost use Rattle.om_undo.specs.ReadyNames.{ready_names};
 ghost use Rattle.om_view.specs.Runs.{can_step, start_among, move_of, has_ended};
 ghost use Rattle.om_schedules.specs.Bad.{IsBad, control_of, output_of, wanted_by, fault_of};
+ghost use Rattle.om_schedules.specs.Texts.{text_in};
 
 use om_cells::Choice;
 use om_code::frame::Fault;
@@ -31,10 +32,8 @@ pub enum Badness {
 /// What a program has to print.
 #[derive(Drop)]
 pub struct Wanted {
-    /// The bytes; none where they are not known.
-    pub text: Vec<u8>,
-    /// Whether they are known. Where not, any output will do.
-    pub is_known: bool,
+    /// The bytes, where they are known. Where not, any output will do.
+    pub text: Option<Vec<u8>>,
 }
 
 impl Wanted {
@@ -45,21 +44,24 @@ impl Wanted {
         expected: Option<&[u8]>,
     ) -> Result<Wanted, AllocError>
         ensures { IfOk result
-            (λ wanted. wanted.text.items ≡ wanted_by (option_copied expected.entry) machine.now) }
+            (λ wanted.
+            text_in wanted.text ≡ wanted_by (option_copied expected.entry) machine.now) }
     {
-        if let Some(text) = expected {
-            return Ok(Wanted {
-                text: Vec::from_slice(alloc, text)?,
-                is_known: true,
-            });
-        }
-        let is_known = has_ended(machine.control(0));
-        let text = if is_known {
-            output(alloc, machine)?
-        } else {
-            Vec::new(alloc)
+        let text = match expected {
+            Some(text) => Some(Vec::from_slice(alloc, text)?),
+            None => output_at_end(alloc, machine)?,
         };
-        Ok(Wanted { text, is_known })
+        Ok(Wanted { text })
+    }
+
+    /// A copy of the bytes, where they are known. Its only error is out of memory.
+    pub fn copy(&self) -> Result<Option<Vec<u8>>, AllocError>
+        ensures { IfOk result (λ text. text_in text ≡ text_in self.now.text) }
+    {
+        match &self.text {
+            Some(text) => Ok(Some(text.clone()?)),
+            None => Ok(None),
+        }
     }
 
     /// What is bad about where a machine stands, if something is: a fault, else the output of a program that
@@ -70,7 +72,7 @@ impl Wanted {
         machine: &Machine,
     ) -> Result<Option<Badness>, AllocError>
         ensures { IfOk result
-            (λ bad. IfSome bad (IsBad machine.now self.now.text.items)) }
+            (λ bad. IfSome bad (IsBad machine.now (text_in self.now.text))) }
     {
         if let Some(bad) = first_fault(machine) {
             return Ok(Some(bad));
@@ -89,20 +91,23 @@ impl Wanted {
     fn judge_output(&self, alloc: Global, machine: &Machine) -> Result<Option<Badness>, AllocError>
         requires { has_ended (control_of machine.now 0) ≡ true }
         ensures { IfOk result
-            (λ bad. IfSome bad (IsBad machine.now self.now.text.items)) }
+            (λ bad. IfSome bad (IsBad machine.now (text_in self.now.text))) }
     {
+        let Some(text) = &self.text else {
+            return Ok(None);
+        };
         let printed = output(alloc, machine)?;
-        if self.is_known && printed.as_slice() != self.text.as_slice() {
-            Ok(Some(Badness::Output))
-        } else {
+        if printed.as_slice() == text.as_slice() {
             Ok(None)
+        } else {
+            Ok(Some(Badness::Output))
         }
     }
 }
 
 // The fault of the least worker that met one.
 fn first_fault(machine: &Machine) -> Option<Badness>
-    ensures { (wanted : List ℕ) → IfSome result (IsBad machine.now wanted) }
+    ensures { (wanted : Option (List ℕ)) → IfSome result (IsBad machine.now wanted) }
 {
     for worker in 0..machine.workers() {
         if let Some(fault) = fault_in(machine.control(worker)) {
@@ -142,6 +147,17 @@ pub(crate) fn output(alloc: Global, machine: &Machine) -> Result<Vec<u8>, AllocE
     let bytes = Vec::from_slice(alloc, value.bytes());
     drop(value);
     bytes
+}
+
+// What the program printed, where the initial task has ended.
+fn output_at_end(alloc: Global, machine: &Machine) -> Result<Option<Vec<u8>>, AllocError>
+    ensures { IfOk result (λ text. text_in text ≡ wanted_by None machine.now) }
+{
+    if has_ended(machine.control(0)) {
+        Ok(Some(output(alloc, machine)?))
+    } else {
+        Ok(None)
+    }
 }
 
 // Whether some worker has a move.

@@ -4,6 +4,7 @@ ghost use Rattle.std.specs.Prelude.{◌≡◌, IfOk, IfSome};
 ghost use Rattle.std.specs.Option.{option_copied};
 ghost use Rattle.om_journal.specs.Books.{machine_of};
 ghost use Rattle.om_schedules.specs.Bad.{IsEnd, wanted_by};
+ghost use Rattle.om_schedules.specs.Texts.{text_in};
 
 use crate::judge::{Badness, Wanted, output};
 use om_journal::Book;
@@ -15,7 +16,7 @@ use std::alloc::{AllocError, Global};
 pub fn wanted_of(alloc: Global, alone: Book, expected: Option<&[u8]>) -> Result<Wanted, AllocError>
     ensures { IfOk result
         (λ wanted.
-        wanted.text.items ≡ wanted_by (option_copied expected.entry) (machine_of alone)) }
+        text_in wanted.text ≡ wanted_by (option_copied expected.entry) (machine_of alone)) }
 {
     let wanted = Wanted::of(alloc, alone.machine(), expected);
     drop(alone);
@@ -35,7 +36,7 @@ pub struct End {
 pub fn end_of(alloc: Global, book: Book, wanted: &Wanted) -> Result<Option<End>, AllocError>
     ensures { IfOk result
         (λ end. IfSome end (λ e.
-        IsEnd (machine_of book) wanted.now.text.items e.output.items e.why)) }
+        IsEnd (machine_of book) (text_in wanted.now.text) e.output.items e.why)) }
 {
     let end = end_at(alloc, book.machine(), wanted);
     drop(book);
@@ -46,7 +47,7 @@ pub fn end_of(alloc: Global, book: Book, wanted: &Wanted) -> Result<Option<End>,
 fn end_at(alloc: Global, machine: &Machine, wanted: &Wanted) -> Result<Option<End>, AllocError>
     ensures { IfOk result
         (λ end. IfSome end (λ e.
-        IsEnd machine.now wanted.now.text.items e.output.items e.why)) }
+        IsEnd machine.now (text_in wanted.now.text) e.output.items e.why)) }
 {
     let Some(why) = wanted.judge(alloc, machine)? else {
         return Ok(None);

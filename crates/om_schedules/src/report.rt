@@ -1,8 +1,9 @@
 //! The text of a report: words, an empty line, and the script.
 
-ghost use Rattle.std.specs.Prelude.{◌≡◌, ◌++◌, OnOk};
+ghost use Rattle.std.specs.Prelude.{◌≡◌, ◌++◌, OnOk, Some};
 ghost use Rattle.om_command.specs.Lists.{joined};
-ghost use Rattle.om_schedules.specs.Reports.{byte_text, quoted, seed_text, outputs_text, fault_words, badness_text, block_words, length_text, words_text, found_text, limits_text, nothing_text, report_text};
+ghost use Rattle.om_schedules.specs.Reports.{byte_text, quoted, seed_text, wanted_text, outputs_text, fault_words, badness_text, block_words, length_text, words_text, found_text, limits_text, nothing_text, report_text};
+ghost use Rattle.om_schedules.specs.Texts.{text_in};
 
 use crate::block::Block;
 use crate::hunted::{Found, Hunted};
@@ -74,10 +75,10 @@ fn push_seed(text: &mut Vec<u8>, seed: u64) -> Result<(), AllocError>
 fn push_badness(text: &mut Vec<u8>, found: &Found) -> Result<(), AllocError>
     ensures { OnOk result
         (text.new.items ≡ text.old.items
-        ++ badness_text found.now.why found.now.output.items found.now.wanted.items) }
+        ++ badness_text found.now.why found.now.output.items (text_in found.now.wanted)) }
 {
     match found.why {
-        Badness::Output => push_outputs(text, found.output.as_slice(), found.wanted.as_slice()),
+        Badness::Output => push_outputs(text, found),
         Badness::Fault { fault, worker } => push_fault(text, fault, worker),
         Badness::Stuck => text.extend_from_slice(b"stuck: no worker has a move"),
     }
@@ -91,12 +92,22 @@ fn push_fault(text: &mut Vec<u8>, fault: Fault, worker: u8) -> Result<(), AllocE
     Ok(())
 }
 
-fn push_outputs(text: &mut Vec<u8>, output: &[u8], wanted: &[u8]) -> Result<(), AllocError>
+fn push_outputs(text: &mut Vec<u8>, found: &Found) -> Result<(), AllocError>
     ensures { OnOk result
-        (text.new.items ≡ text.old.items ++ outputs_text output.now wanted.now) }
+        (text.new.items ≡ text.old.items
+        ++ outputs_text found.now.output.items (text_in found.now.wanted)) }
 {
     text.extend_from_slice(b"printed ")?;
-    push_quoted(text, output)?;
+    push_quoted(text, found.output.as_slice())?;
+    match &found.wanted {
+        Some(wanted) => push_wanted(text, wanted.as_slice()),
+        None => Ok(()),
+    }
+}
+
+fn push_wanted(text: &mut Vec<u8>, wanted: &[u8]) -> Result<(), AllocError>
+    ensures { OnOk result (text.new.items ≡ text.old.items ++ wanted_text (Some wanted.now)) }
+{
     text.extend_from_slice(b", wanted ")?;
     push_quoted(text, wanted)
 }
