@@ -127,7 +127,7 @@ fn fault_in(control: Option<&Control>) -> Option<Fault>
     Some(*fault)
 }
 
-// Whether the initial task has ended.
+// Whether a control is that of a worker whose program has ended.
 fn has_ended(control: Option<&Control>) -> bool
     ensures { result ≡ has_ended (plain_or_idle (option_copied control.entry)) }
 {
