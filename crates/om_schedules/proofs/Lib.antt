@@ -2,3 +2,4 @@ pub mod Made
 pub mod Texts
 pub mod Moves
 pub mod Undone
+pub mod Judging

@@ -1,19 +1,19 @@
 -- The moves of workers.
-use Rattle.std.proofs.Common.{◌≡◌, ◌<◌, ◌+◌, ℕ, zero, suc, false, None, List, [], ◌∷◌, length, drop, get_or, refl}
-use Rattle.std.proofs.Common.{sym, ap, ◌∙◌, arith}
-use Rattle.om_cells.specs.declared.step.Choice.TheVariants.{Next, Start}
+use Rattle.std.proofs.Common.{◌≡◌, ◌<◌, ◌+◌, ℕ, zero, suc, true, false, is_some, List, [], ◌∷◌, length, drop, get_or}
+use Rattle.std.proofs.Common.{refl, sym, ap, ◌∙◌, arith}
+use Rattle.om_cells.specs.declared.step.Choice.TheVariants.{Start}
 use Rattle.om_undo.specs.Machines.{MachineView}
-use Rattle.om_undo.specs.ReadyNames.{ready_names}
-use Rattle.om_view.specs.Runs.{can_step, move_of, start_among}
+use Rattle.om_view.specs.Runs.{can_step, start_among}
+
+pub start_here : (m : MachineView) (worker : ℕ) (name : List ℕ) (names : List (List ℕ)) → can_step m worker
+    (Start name) ≡ true
+    → is_some (start_among m worker (name ∷ names)) ≡ true
+start_here m worker name names e = rw e refl
 
 pub start_behind : (m : MachineView) (worker : ℕ) (name : List ℕ) (names : List (List ℕ)) → can_step m worker
     (Start name) ≡ false
     → start_among m worker (name ∷ names) ≡ start_among m worker names
 start_behind m worker name names e = rw e refl
-
-pub no_move : (m : MachineView) (worker : ℕ) → can_step m worker Next ≡ false
-    → start_among m worker (ready_names m) ≡ None → move_of m worker ≡ None
-no_move m worker e h = rw e h
 
 drop_here : {A : Type 0} (xs : List A) (k : ℕ) (x : A) → k < length xs → x ≡ get_or xs k x → drop k xs ≡ x
     ∷ drop (suc k) xs

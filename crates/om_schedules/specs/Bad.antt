@@ -7,6 +7,7 @@ use Rattle.om_code.specs.declared.frame.Fault.{Fault}
 use Rattle.om_foot.specs.declared.object.Obj.TheVariants as object
 use Rattle.om_schedules.specs.declared.judge.Badness.{Badness}
 use Rattle.om_schedules.specs.declared.judge.Badness.TheVariants as badness
+use Rattle.om_schedules.specs.declared.outcome.End.{End}
 use Rattle.om_undo.specs.Machines.{MachineView, state_in}
 use Rattle.om_view.specs.Runs.{has_ended, move_of}
 
@@ -28,21 +29,48 @@ pub record PrintsOther (m : MachineView) (wanted : List ℕ) : Type 0 where
   pub ended : has_ended (control_of m 0) ≡ true
   pub other : output_of m ≢ wanted
 
+-- this worker met this fault
+pub record IsFaulted (m : MachineView) (fault : Fault) (worker : ℕ) : Type 0 where
+  pub is_worker : worker < m.workers
+  pub met : fault_of (control_of m worker) ≡ Some fault
+
+-- no worker met a fault
+abbrev pub NoneFaulted : MachineView → Type 0
+NoneFaulted m = (worker : ℕ) → worker < m.workers → fault_of (control_of m worker) ≡ None
+
+-- no worker has a move
+abbrev pub NoneMoves : MachineView → Type 0
+NoneMoves m = (worker : ℕ) → worker < m.workers → move_of m worker ≡ None
+
 -- the initial task has not ended, and no worker has a move
 pub record IsStuck (m : MachineView) : Type 0 where
   pub not_ended : has_ended (control_of m 0) ≡ false
-  pub no_move : (worker : ℕ) → worker < m.workers → move_of m worker ≡ None
+  pub no_move : NoneMoves m
 
 -- this is bad about where a machine stands; where it is not known what is wanted, no output is
 abbrev pub IsBad : MachineView → Option (List ℕ) → Badness → Type 0
 IsBad m wanted badness.Output = IsSomeAnd wanted (PrintsOther m)
-IsBad m wanted (badness.Fault fault worker) = fault_of (control_of m worker) ≡ Some fault
+IsBad m wanted (badness.Fault fault worker) = IsFaulted m fault worker
 IsBad m wanted badness.Stuck = IsStuck m
+
+-- nothing is bad there
+abbrev pub NothingIsBad : MachineView → Option (List ℕ) → Type 0
+NothingIsBad m wanted = (why : Badness) → ¬ IsBad m wanted why
+
+-- this is bad there, or nothing is
+abbrev pub IsJudged : MachineView → Option (List ℕ) → Option Badness → Type 0
+IsJudged m wanted (Some why) = IsBad m wanted why
+IsJudged m wanted None = NothingIsBad m wanted
 
 -- this was printed where a machine stands, and this is bad there
 pub record IsEnd (m : MachineView) (wanted : Option (List ℕ)) (output : List ℕ) (why : Badness) : Type 0 where
   pub printed : output ≡ output_of m
   pub bad : IsBad m wanted why
+
+-- this is what a session came to that is bad, or nothing is
+abbrev pub EndsWith : MachineView → Option (List ℕ) → Option End → Type 0
+EndsWith m wanted (Some end) = IsEnd m wanted end.output.items end.why
+EndsWith m wanted None = NothingIsBad m wanted
 
 -- what a program has to print, where that is known: what is expected, else what it printed where it ended
 abbrev pub wanted_by : Option (List ℕ) → MachineView → Option (List ℕ)

@@ -1,13 +1,13 @@
 //! What is bad about where a machine stands.
 
-ghost use Rattle.std.specs.Prelude.{◌≡◌, ◌<◌, ℕ, List, Option, None, true, false, IfOk, IfSome};
+ghost use Rattle.std.specs.Prelude.{◌≡◌, ◌<◌, ℕ, List, Option, None, true, false, is_some, IfOk, IfNone, IfSome};
 ghost use Rattle.std.specs.Option.{option_copied};
 ghost use Rattle.om_live.specs.Stores.{plain_or_idle};
 ghost use Rattle.om_journal.specs.Runs.{is_step_made};
 ghost use Rattle.om_journal.specs.declared.reply.Reply.TheVariants as replies;
 ghost use Rattle.om_undo.specs.ReadyNames.{ready_names};
 ghost use Rattle.om_view.specs.Runs.{can_step, start_among, move_of, has_ended};
-ghost use Rattle.om_schedules.specs.Bad.{IsBad, control_of, output_of, wanted_by, fault_of};
+ghost use Rattle.om_schedules.specs.Bad.{IsBad, IsJudged, NoneFaulted, NoneMoves, control_of, output_of, wanted_by, fault_of};
 ghost use Rattle.om_schedules.specs.Texts.{text_in};
 
 use om_cells::Choice;
@@ -71,8 +71,7 @@ impl Wanted {
         alloc: Global,
         machine: &Machine,
     ) -> Result<Option<Badness>, AllocError>
-        ensures { IfOk result
-            (λ bad. IfSome bad (IsBad machine.now (text_in self.now.text))) }
+        ensures { IfOk result (λ bad. IsJudged machine.now (text_in self.now.text) bad) }
     {
         if let Some(bad) = first_fault(machine) {
             return Ok(Some(bad));
@@ -89,9 +88,9 @@ impl Wanted {
 
     // Whether something else was printed than is wanted.
     fn judge_output(&self, alloc: Global, machine: &Machine) -> Result<Option<Badness>, AllocError>
-        requires { has_ended (control_of machine.now 0) ≡ true }
-        ensures { IfOk result
-            (λ bad. IfSome bad (IsBad machine.now (text_in self.now.text))) }
+        requires ended { has_ended (control_of machine.now 0) ≡ true }
+        requires faultless { NoneFaulted machine.now }
+        ensures { IfOk result (λ bad. IsJudged machine.now (text_in self.now.text) bad) }
     {
         let Some(text) = &self.text else {
             return Ok(None);
@@ -107,7 +106,8 @@ impl Wanted {
 
 // The fault of the least worker that met one.
 fn first_fault(machine: &Machine) -> Option<Badness>
-    ensures { (wanted : Option (List ℕ)) → IfSome result (IsBad machine.now wanted) }
+    ensures met { (wanted : Option (List ℕ)) → IfSome result (IsBad machine.now wanted) }
+    ensures none { IfNone result (NoneFaulted machine.now) }
 {
     for worker in 0..machine.workers() {
         if let Some(fault) = fault_in(machine.control(worker)) {
@@ -162,8 +162,8 @@ fn output_at_end(alloc: Global, machine: &Machine) -> Result<Option<Vec<u8>>, Al
 
 // Whether some worker has a move.
 fn can_move(alloc: Global, machine: &Machine) -> Result<bool, AllocError>
-    ensures { IfOk result (λ can. can ≡ false →
-        (worker : ℕ) → worker < machine.now.workers → move_of machine.now worker ≡ None) }
+    ensures moves { IfOk result (λ can. can ≡ true → ¬ NoneMoves machine.now) }
+    ensures none { IfOk result (λ can. can ≡ false → NoneMoves machine.now) }
 {
     let names = ready_in(alloc, machine)?;
     for worker in 0..machine.workers() {
@@ -192,7 +192,7 @@ fn has_move(
 ) -> Result<bool, AllocError>
     requires in_range { worker < machine.now.workers }
     requires ready { names.now ≡ ready_names machine.now }
-    ensures { IfOk result (λ has. has ≡ false → move_of machine.now worker ≡ None) }
+    ensures { IfOk result (λ has. has ≡ is_some (move_of machine.now worker)) }
 {
     if can_step(alloc, machine, worker, Choice::Next)? {
         return Ok(true);
@@ -208,8 +208,7 @@ fn can_start(
     names: &[Name],
 ) -> Result<bool, AllocError>
     requires { worker < machine.now.workers }
-    ensures { IfOk result
-        (λ can. can ≡ false → start_among machine.now worker names.now ≡ None) }
+    ensures { IfOk result (λ can. can ≡ is_some (start_among machine.now worker names.now)) }
 {
     for name in names {
         if can_step(alloc, machine, worker, Choice::Start(*name))? {

@@ -1,9 +1,9 @@
 //! What the book that a session left says of its schedule.
 
-ghost use Rattle.std.specs.Prelude.{◌≡◌, IfOk, IfSome};
+ghost use Rattle.std.specs.Prelude.{◌≡◌, IfOk};
 ghost use Rattle.std.specs.Option.{option_copied};
 ghost use Rattle.om_journal.specs.Books.{machine_of};
-ghost use Rattle.om_schedules.specs.Bad.{IsEnd, wanted_by};
+ghost use Rattle.om_schedules.specs.Bad.{EndsWith, wanted_by};
 ghost use Rattle.om_schedules.specs.Texts.{text_in};
 
 use crate::judge::{Badness, Wanted, output};
@@ -35,8 +35,7 @@ pub struct End {
 /// What is bad about the book that a session left, if something is. Its only error is out of memory.
 pub fn end_of(alloc: Global, book: Book, wanted: &Wanted) -> Result<Option<End>, AllocError>
     ensures { IfOk result
-        (λ end. IfSome end (λ e.
-        IsEnd (machine_of book) (text_in wanted.now.text) e.output.items e.why)) }
+        (λ end. EndsWith (machine_of book) (text_in wanted.now.text) end) }
 {
     let end = end_at(alloc, book.machine(), wanted);
     drop(book);
@@ -45,9 +44,7 @@ pub fn end_of(alloc: Global, book: Book, wanted: &Wanted) -> Result<Option<End>,
 
 // What is bad about where a machine stands, if something is.
 fn end_at(alloc: Global, machine: &Machine, wanted: &Wanted) -> Result<Option<End>, AllocError>
-    ensures { IfOk result
-        (λ end. IfSome end (λ e.
-        IsEnd machine.now (text_in wanted.now.text) e.output.items e.why)) }
+    ensures { IfOk result (λ end. EndsWith machine.now (text_in wanted.now.text) end) }
 {
     let Some(why) = wanted.judge(alloc, machine)? else {
         return Ok(None);
