@@ -3,7 +3,7 @@ use Rattle.std.specs.Prelude.{◌≡◌, ℕ, List, [], Option, None, Some}
 use Rattle.om_schedules.specs.declared.hunted.Found.{Found}
 use Rattle.om_schedules.specs.declared.hunted.Hunted.{Hunted}
 use Rattle.om_schedules.specs.declared.hunted.Hunted.TheVariants as hunted
-use Rattle.om_schedules.specs.Bad.{IsEnd, wanted_by}
+use Rattle.om_schedules.specs.Bad.{IsEnd, NothingIsBad, wanted_by}
 use Rattle.om_schedules.specs.Schedules.{schedule_text}
 use Rattle.om_schedules.specs.Texts.{text_in}
 use Rattle.om_journal.specs.Books.{BookView, machine_of}
@@ -28,12 +28,15 @@ pub record FindsBad (workers : ℕ) (source : List ℕ) (expected : Option (List
   pub runs : RunsAlone workers source text (Some alone)
   pub is : IsFound workers source (wanted_by expected (machine_of alone)) found
 
-pub record FindsNothing (workers : ℕ) (source printed : List ℕ) : Type 0 where
+-- nothing is bad where `run` makes all steps, of which this is what ompback writes
+pub record FindsNothing (workers : ℕ) (source : List ℕ) (expected : Option (List ℕ)) (printed : List ℕ) : Type 0 where
   pub alone : BookView
   pub runs : RunsAlone workers source printed (Some alone)
+  pub good : NothingIsBad (machine_of alone) (wanted_by expected (machine_of alone))
 
--- what came of a hunt
-abbrev pub IsHunted : ℕ → List ℕ → Option (List ℕ) → Hunted → Type 0
-IsHunted workers source expected (hunted.Refused line) = RunsAlone workers source line.items None
-IsHunted workers source expected (hunted.Nothing seeds printed) = FindsNothing workers source printed.items
-IsHunted workers source expected (hunted.Found found) = FindsBad workers source expected found
+-- what came of a hunt of so many seeds
+abbrev pub IsHunted : ℕ → ℕ → List ℕ → Option (List ℕ) → Hunted → Type 0
+IsHunted workers seeds source expected (hunted.Refused line) = RunsAlone workers source line.items None
+IsHunted workers seeds source expected (hunted.Nothing told printed) =
+    (told ≡ seeds) × FindsNothing workers source expected printed.items
+IsHunted workers seeds source expected (hunted.Found found) = FindsBad workers source expected found

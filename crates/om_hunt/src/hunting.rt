@@ -6,7 +6,7 @@ ghost use Rattle.om_hunt.specs.Finds.{IsFound, IsHunted};
 ghost use Rattle.om_schedules.specs.Texts.{text_in};
 
 use om_schedules::{
-    Aims, Chances, Found, Ground, Hunted, Progress, Schedule, end_of, script, wanted_of,
+    Aims, Alone, Chances, Found, Ground, Hunted, Progress, Schedule, alone_of, end_of, script,
 };
 use om_script::{Ran, run_over};
 use om_shell::{ShellFault, program_of};
@@ -21,9 +21,8 @@ use std::thread::Threads;
 /// `run` alone leads to. Where `run` alone comes to no end within 100,000 steps and nothing is expected, any
 /// output will do. First `run` alone is judged, and then the schedule of each seed; `progress` is told before
 /// each seed. All this is on steps that the debugger makes: what is answered is what it wrote for the script.
-/// A hunt that finds nothing says nothing of other schedules. Faults are those of the debugger, and out of
-/// memory is H5.
-#[tactic(auto, using(crate::proofs::Finding::Finds_of, crate::proofs::Finding::Nothing_of))]
+/// A hunt that finds nothing says that `run` alone is not bad, and nothing of schedules that it did not try.
+/// Faults are those of the debugger, and out of memory is H5.
 pub fn hunt<H: Threads + Wait + Sync, P: Progress>(
     rt: &H,
     alloc: Global,
@@ -34,57 +33,43 @@ pub fn hunt<H: Threads + Wait + Sync, P: Progress>(
     requires at_least_one { 0 < aims.now.workers }
     requires at_most_32 { aims.now.workers ≤ 32 }
     ensures { IfOk result
-        (λ hunted. IsHunted aims.now.workers source.now (option_copied aims.now.expected) hunted) }
+        (λ hunted. IsHunted aims.now.workers aims.now.seeds source.now
+        (option_copied aims.now.expected) hunted) }
 {
-    let alone = script(alloc, &[])?;
-    let Ran { text, book } = run_over(rt, alloc, aims.workers, source, &alone)?;
-    match book {
-        Some(book) => {
-            let wanted = wanted_of(alloc, book, aims.expected)?;
-            let ground = Ground {
-                workers: aims.workers,
-                steps: aims.steps,
-                seeds: aims.seeds,
-                wanted: &wanted,
-            };
-            match find(rt, alloc, source, &ground, progress)? {
-                Some(found) => Ok(Hunted::Found(found)),
-                None => Ok(Hunted::Nothing {
-                    seeds: aims.seeds,
-                    printed: text,
-                }),
-            }
-        }
-        None => Ok(Hunted::Refused(text)),
-    }
-}
-
-// The first bad schedule: that of `run`, or the first that a seed leads to.
-fn find<H: Threads + Wait + Sync, P: Progress>(
-    rt: &H,
-    alloc: Global,
-    source: &[u8],
-    ground: &Ground<'_>,
-    progress: &mut P,
-) -> Result<Option<Found>, ShellFault>
-    requires at_least_one { 0 < ground.now.workers }
-    requires at_most_32 { ground.now.workers ≤ 32 }
-    ensures { IfOk result
-        (λ found. IfSome found
-        (IsFound ground.now.workers source.now (text_in ground.now.wanted.now.text))) }
-{
-    let alone = Schedule {
-        seed: 0,
-        blocks: Vec::new(alloc),
+    let commands = script(alloc, &[])?;
+    let Ran { text, book } = run_over(rt, alloc, aims.workers, source, &commands)?;
+    let Some(book) = book else {
+        return Ok(Hunted::Refused(text));
     };
-    match shown(rt, alloc, source, ground, alone)? {
-        Some(found) => Ok(Some(found)),
-        None => find_by_chance(rt, alloc, source, ground, progress),
+    let Alone { wanted, end } = alone_of(alloc, book, aims.expected)?;
+    if let Some(end) = end {
+        return Ok(Hunted::Found(Found {
+            seed: 0,
+            blocks: Vec::new(alloc),
+            script: commands,
+            printed: text,
+            output: end.output,
+            wanted: wanted.text,
+            why: end.why,
+        }));
+    }
+    let ground = Ground {
+        workers: aims.workers,
+        steps: aims.steps,
+        seeds: aims.seeds,
+        wanted: &wanted,
+    };
+    match find(rt, alloc, source, &ground, progress)? {
+        Some(found) => Ok(Hunted::Found(found)),
+        None => Ok(Hunted::Nothing {
+            seeds: aims.seeds,
+            printed: text,
+        }),
     }
 }
 
 // The first bad schedule that a seed leads to.
-fn find_by_chance<H: Threads + Wait + Sync, P: Progress>(
+fn find<H: Threads + Wait + Sync, P: Progress>(
     rt: &H,
     alloc: Global,
     source: &[u8],

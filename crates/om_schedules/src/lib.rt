@@ -19,6 +19,6 @@ pub use block::Block;
 pub use commands::script;
 pub use hunted::{Aims, Found, Hunted, Progress};
 pub use judge::{Badness, Wanted};
-pub use outcome::{End, end_of, wanted_of};
+pub use outcome::{Alone, End, alone_of, end_of};
 pub use report::push_report;
 pub use seeds::{Chances, Ground, Schedule};

@@ -11,18 +11,6 @@ use om_journal::Book;
 use om_undo::Machine;
 use std::alloc::{AllocError, Global};
 
-/// What is wanted: what is expected, else what was printed where `run` alone left this book, if the initial task
-/// has ended there. Its only error is out of memory.
-pub fn wanted_of(alloc: Global, alone: Book, expected: Option<&[u8]>) -> Result<Wanted, AllocError>
-    ensures { IfOk result
-        (λ wanted.
-        text_in wanted.text ≡ wanted_by (option_copied expected.entry) (machine_of alone)) }
-{
-    let wanted = Wanted::of(alloc, alone.machine(), expected);
-    drop(alone);
-    wanted
-}
-
 /// What a session came to that is bad.
 #[derive(Drop)]
 pub struct End {
@@ -40,6 +28,42 @@ pub fn end_of(alloc: Global, book: Book, wanted: &Wanted) -> Result<Option<End>,
     let end = end_at(alloc, book.machine(), wanted);
     drop(book);
     end
+}
+
+/// What a session in which `run` makes all steps came to.
+#[derive(Drop)]
+pub struct Alone {
+    /// What is wanted: what is expected, else what was printed, if the initial task has ended.
+    pub wanted: Wanted,
+    /// What is bad, if something is.
+    pub end: Option<End>,
+}
+
+/// What is wanted, by the book that `run` alone left, and what is bad about that book, if something is. Its only
+/// error is out of memory.
+pub fn alone_of(alloc: Global, book: Book, expected: Option<&[u8]>) -> Result<Alone, AllocError>
+    ensures wanted { IfOk result
+        (λ alone.
+        text_in alone.wanted.text ≡ wanted_by (option_copied expected.entry) (machine_of book)) }
+    ensures judged { IfOk result
+        (λ alone. EndsWith (machine_of book) (text_in alone.wanted.text) alone.end) }
+{
+    let alone = alone_at(alloc, book.machine(), expected);
+    drop(book);
+    alone
+}
+
+// What is wanted, by where `run` alone leaves a machine, and what is bad there, if something is.
+fn alone_at(alloc: Global, machine: &Machine, expected: Option<&[u8]>) -> Result<Alone, AllocError>
+    ensures wanted { IfOk result
+        (λ alone.
+        text_in alone.wanted.text ≡ wanted_by (option_copied expected.entry) machine.now) }
+    ensures judged { IfOk result
+        (λ alone. EndsWith machine.now (text_in alone.wanted.text) alone.end) }
+{
+    let wanted = Wanted::of(alloc, machine, expected)?;
+    let end = end_at(alloc, machine, &wanted)?;
+    Ok(Alone { wanted, end })
 }
 
 // What is bad about where a machine stands, if something is.

@@ -30,7 +30,7 @@ pub struct Ground<'a> {
 /// A schedule, and the seed that led to it.
 #[derive(Drop)]
 pub struct Schedule {
-    /// The seed, from 1; 0 for that of `run` alone.
+    /// The seed, from 1.
     pub seed: u64,
     /// The steps before those that `run` makes.
     pub blocks: Vec<Block>,
