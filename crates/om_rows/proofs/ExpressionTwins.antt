@@ -36,89 +36,90 @@ module _ (base : Site) (code code' : List Line) (picks picks' : List (List ℕ))
 
   -- two codes of one row that needs nothing of its place
   abbrev pub Twin : Row → Row → Type 0
-  Twin r t = (p p' q q' : ℕ) → r p q → t p' q' → Alike code code' (Unit {0}) (Unit {0}) p q p' q'
+  Twin r t = (p p' q q' : ℕ) → r p q → t p' q' → Alike code code' picks picks' (Unit {0}) (Unit {0}) p q p' q'
 
   pub constant_twin : (l : ℕ) (n : ℤ) → Twin (constant c l n) (constant d l n)
-  constant_twin l n p p' q q' r t = twin_next r t twin_end
+  constant_twin l n p p' q q' r t = twin_next r t tt twin_end
 
   unary_twin : (l : ℕ) (o : UnaryOperator) (a a' : Row) → Twin a a' → Twin (unary_row c l o a) (unary_row d l o a')
   unary_twin l unaries.Plus a a' ha p p' q q' r t = ha p p' q q' r t
-  unary_twin l unaries.Negate a a' ha p p' q q' r t = twin_part r t (ha p p') (λ m m' r t. twin_next r t twin_end)
-  unary_twin l unaries.Not a a' ha p p' q q' r t = twin_part r t (ha p p') (λ m m' r t. twin_next r t twin_end)
+  unary_twin l unaries.Negate a a' ha p p' q q' r t = twin_part r t (ha p p') (λ m m' r t. twin_next r t tt twin_end)
+  unary_twin l unaries.Not a a' ha p p' q q' r t = twin_part r t (ha p p') (λ m m' r t. twin_next r t tt twin_end)
 
   binary_twin : (l : ℕ) (form : BinaryForm) (a b a' b' : Row) → Twin a a' → Twin b b'
       → Twin (binary_row c l form a b) (binary_row d l form a' b')
   binary_twin l Both a b a' b' ha hb p p' q q' r t =
       twin_closed {L = (r.0 ≡ t.0) × (r.1 ≡ t.1)}
       (twin_part r.2 t.2 (ha p p') (λ m m' r t.
-      twin_jump r t (λ k. ap i.JumpIfZero k.1.0) (λ r t.
+      twin_jump r t tt (λ k. ap i.JumpIfZero k.1.0) (λ r t.
       twin_part r t (hb (m + 1) (m' + 1)) (λ m m' r t.
-      twin_jump r t (λ k. ap i.JumpIfZero k.1.0) (λ r t.
-      twin_next r t (λ r t.
-      twin_jump r t (λ k. ap i.Jump k.1.1) (λ r t.
-      twin_here r t (λ r t. twin_next r t (λ r t. twin_here r t twin_end)))))))))
+      twin_jump r t tt (λ k. ap i.JumpIfZero k.1.0) (λ r t.
+      twin_next r t tt (λ r t.
+      twin_jump r t tt (λ k. ap i.Jump k.1.1) (λ r t.
+      twin_here r t (λ r t. twin_next r t tt (λ r t. twin_here r t twin_end)))))))))
       (λ g. (g.0, g.1.0)) (λ g. tt)
   binary_twin l Either a b a' b' ha hb p p' q q' r t =
       twin_closed {L = (r.0 ≡ t.0) × (r.1 ≡ t.1) × (r.2 ≡ t.2)}
       (twin_part r.3 t.3 (ha p p') (λ m m' r t.
-      twin_jump r t (λ k. ap i.JumpIfZero k.1.0) (λ r t.
-      twin_next r t (λ r t.
-      twin_jump r t (λ k. ap i.Jump k.1.2) (λ r t.
+      twin_jump r t tt (λ k. ap i.JumpIfZero k.1.0) (λ r t.
+      twin_next r t tt (λ r t.
+      twin_jump r t tt (λ k. ap i.Jump k.1.2) (λ r t.
       twin_here r t (λ r t.
       twin_part r t (hb (m + 1 + 1 + 1) (m' + 1 + 1 + 1)) (λ m m' r t.
-      twin_jump r t (λ k. ap i.JumpIfZero k.1.1) (λ r t.
-      twin_next r t (λ r t.
-      twin_jump r t (λ k. ap i.Jump k.1.2) (λ r t.
-      twin_here r t (λ r t. twin_next r t (λ r t. twin_here r t twin_end))))))))))))
+      twin_jump r t tt (λ k. ap i.JumpIfZero k.1.1) (λ r t.
+      twin_next r t tt (λ r t.
+      twin_jump r t tt (λ k. ap i.Jump k.1.2) (λ r t.
+      twin_here r t (λ r t. twin_next r t tt (λ r t. twin_here r t twin_end))))))))))))
       (λ g. (g.0, g.1.0, g.1.1.0)) (λ g. tt)
   binary_twin l (Plain o) a b a' b' ha hb p p' q q' r t =
-      twin_part r t (ha p p') (λ m m' r t. twin_part r t (hb m m') (λ m m' r t. twin_next r t twin_end))
+      twin_part r t (ha p p') (λ m m' r t. twin_part r t (hb m m') (λ m m' r t. twin_next r t tt twin_end))
 
   conditional_twin : (l : ℕ) (x a b x' a' b' : Row) → Twin x x' → Twin a a' → Twin b b'
       → Twin (conditional_row c l x a b) (conditional_row d l x' a' b')
   conditional_twin l x a b x' a' b' hx ha hb p p' q q' r t =
       twin_closed {L = (r.0 ≡ t.0) × (r.1 ≡ t.1)}
       (twin_part r.2 t.2 (hx p p') (λ m m' r t.
-      twin_jump r t (λ k. ap i.JumpIfZero k.1.0) (λ r t.
+      twin_jump r t tt (λ k. ap i.JumpIfZero k.1.0) (λ r t.
       twin_part r t (ha (m + 1) (m' + 1)) (λ m m' r t.
-      twin_jump r t (λ k. ap i.Jump k.1.1) (λ r t.
+      twin_jump r t tt (λ k. ap i.Jump k.1.1) (λ r t.
       twin_here r t (λ r t. twin_part r t (hb (m + 1) (m' + 1)) (λ m m' r t. twin_here r t twin_end)))))))
       (λ g. (g.0, g.1.0)) (λ g. tt)
 
   assigned_twin : (l : ℕ) (keeps : Bool) (x : variables.Variable) (o : Option machine.BinaryOperator) (e e' : Row)
       → Twin e e'
       → Twin (assigned c l keeps x o e) (assigned d l keeps x o e')
-  assigned_twin l keeps x None e e' he p p' q q' r t = twin_part r t (he p p') (λ m m' r t. twin_next r t twin_end)
+  assigned_twin l keeps x None e e' he p p' q q' r t = twin_part r t (he p p') (λ m m' r t. twin_next r t tt twin_end)
   assigned_twin l keeps x (Some o) e e' he p p' q q' r t =
-      twin_next r t (λ r t. twin_part r t (he (p + 1) (p' + 1))
-      (λ m m' r t. twin_next r t (λ r t. twin_next r t twin_end)))
+      twin_next r t tt (λ r t. twin_part r t (he (p + 1) (p' + 1))
+      (λ m m' r t. twin_next r t tt (λ r t. twin_next r t tt twin_end)))
 
   element_assigned_twin : (l : ℕ) (keeps : Bool) (a : variables.Variable) (j j' : Row)
       (o : Option machine.BinaryOperator) (e e' : Row)
       → Twin j j' → Twin e e' → Twin (element_assigned c l keeps a j o e) (element_assigned d l keeps a j' o e')
   element_assigned_twin l keeps a j j' None e e' hj he p p' q q' r t =
-      twin_part r t (hj p p') (λ m m' r t. twin_part r t (he m m') (λ m m' r t. twin_next r t twin_end))
+      twin_part r t (hj p p') (λ m m' r t. twin_part r t (he m m') (λ m m' r t. twin_next r t tt twin_end))
   element_assigned_twin l keeps a j j' (Some o) e e' hj he p p' q q' r t =
-      twin_part r t (hj p p') (λ m m' r t. twin_next r t (λ r t. twin_next r t (λ r t.
-      twin_part r t (he (m + 1 + 1) (m' + 1 + 1)) (λ m m' r t. twin_next r t (λ r t. twin_next r t twin_end)))))
+      twin_part r t (hj p p') (λ m m' r t. twin_next r t tt (λ r t. twin_next r t tt (λ r t.
+      twin_part r t (he (m + 1 + 1) (m' + 1 + 1)) (λ m m' r t. twin_next r t tt (λ r t. twin_next r t tt twin_end)))))
 
   called_twin : (l f : ℕ) (es : ValuesTree) (e e' : Row) → Twin e e' → Twin (called c l f es e) (called d l f es e')
-  called_twin l f es e e' he p p' q q' r t = twin_part r t (he p p') (λ m m' r t. twin_next r t twin_end)
+  called_twin l f es e e' he p p' q q' r t = twin_part r t (he p p') (λ m m' r t. twin_next r t tt twin_end)
 
   printed_twin : (l : ℕ) (format : List ℕ) (es : ValuesTree) (e e' : Row) → Twin e e'
       → Twin (printed c l format es e) (printed d l format es e')
-  printed_twin l format es e e' he p p' q q' r t = twin_part r t (he p p') (λ m m' r t. twin_next r t twin_end)
+  printed_twin l format es e e' he p p' q q' r t = twin_part r t (he p p') (λ m m' r t. twin_next r t tt twin_end)
 
   mutual
     pub value_twin : (l : ℕ) (e : ResolvedExpressionTree) → Twin (value c l e) (value d l e)
-    value_twin l (Constant n) p p' q q' r t = twin_next r t twin_end
-    value_twin l (Variable x) p p' q q' r t = twin_next r t twin_end
-    value_twin l (Element a j) p p' q q' r t = twin_part r t (value_twin l j p p') (λ m m' r t. twin_next r t twin_end)
+    value_twin l (Constant n) p p' q q' r t = twin_next r t tt twin_end
+    value_twin l (Variable x) p p' q q' r t = twin_next r t tt twin_end
+    value_twin l (Element a j) p p' q q' r t = twin_part r t (value_twin l j p p')
+        (λ m m' r t. twin_next r t tt twin_end)
     value_twin l (Call f es) p p' q q' r t =
         twin_part r t (called_twin l f es (values c l es) (values d l es) (values_twin l es) p p')
-        (λ m m' r t. twin_next r t twin_end)
-    value_twin l ThreadNumber p p' q q' r t = twin_next r t twin_end
-    value_twin l TeamSize p p' q q' r t = twin_next r t twin_end
+        (λ m m' r t. twin_next r t tt twin_end)
+    value_twin l ThreadNumber p p' q q' r t = twin_next r t tt twin_end
+    value_twin l TeamSize p p' q q' r t = twin_next r t tt twin_end
     value_twin l (Print format es) p p' q q' r t = absurd r
     value_twin l (Unary o a) p p' q q' r t = unary_twin l o (value c l a) (value d l a) (value_twin l a) p p' q q' r t
     value_twin l (Binary a o b) p p' q q' r t =
@@ -135,13 +136,13 @@ module _ (base : Site) (code code' : List Line) (picks picks' : List (List ℕ))
     value_twin l (Postfix x o) p p' q q' r t =
         twin_part r t (assigned_twin l true x (Some (step_of o)) (constant c l (pos 1)) (constant d l (pos 1))
         (constant_twin l (pos 1)) p p')
-        (λ m m' r t. twin_next r t (λ r t. twin_next r t twin_end))
+        (λ m m' r t. twin_next r t tt (λ r t. twin_next r t tt twin_end))
     value_twin l (PostfixElement a j o) p p' q q' r t =
         twin_part r t
         (element_assigned_twin l true a (value c l j) (value d l j) (Some (step_of o)) (constant c l (pos 1))
         (constant d l (pos 1))
         (value_twin l j) (constant_twin l (pos 1)) p p')
-        (λ m m' r t. twin_next r t (λ r t. twin_next r t twin_end))
+        (λ m m' r t. twin_next r t tt (λ r t. twin_next r t tt twin_end))
 
     pub values_twin : (l : ℕ) (es : ValuesTree) → Twin (values c l es) (values d l es)
     values_twin l NoValues p p' q q' r t = twin_end r t
@@ -165,5 +166,5 @@ module _ (base : Site) (code code' : List Line) (picks picks' : List (List ℕ))
       (values_twin l es) p p' q q' r t
   effect_twin l (Call f es) p p' q q' r t =
       twin_part r t (called_twin l f es (values c l es) (values d l es) (values_twin l es) p p')
-      (λ m m' r t. twin_next r t twin_end)
-  effect_twin l e p p' q q' r t = twin_part r t (value_twin l e p p') (λ m m' r t. twin_next r t twin_end)
+      (λ m m' r t. twin_next r t tt twin_end)
+  effect_twin l e p p' q q' r t = twin_part r t (value_twin l e p p') (λ m m' r t. twin_next r t tt twin_end)

@@ -37,7 +37,7 @@ module _ (base : Site) (code code' : List Line) (picks picks' : List (List ℕ))
   d = with_code base code' picks'
 
   abbrev pub Twins : Type 0 → Type 0 → Row → Row → Type 0
-  Twins needs gives r t = (p p' q q' : ℕ) → r p q → t p' q' → Alike code code' needs gives p q p' q'
+  Twins needs gives r t = (p p' q q' : ℕ) → r p q → t p' q' → Alike code code' picks picks' needs gives p q p' q'
 
   abbrev pub Twin : Row → Row → Type 0
   Twin r t = Twins (Unit {0}) (Unit {0}) r t
@@ -74,8 +74,8 @@ module _ (base : Site) (code code' : List Line) (picks picks' : List (List ℕ))
 
   pub declared_twin : (l : ℕ) (x : LocalVariable) (e : Option ResolvedExpressionTree) → Twin (declared c l x e)
       (declared d l x e)
-  declared_twin l x None p p' q q' r t = twin_next r t twin_end
-  declared_twin l x (Some e) p p' q q' r t = twin_part r t (value_twin l e p p') (λ m m' r t. twin_next r t twin_end)
+  declared_twin l x None p p' q q' r t = twin_next r t tt twin_end
+  declared_twin l x (Some e) p p' q q' r t = twin_part r t (value_twin l e p p') (λ m m' r t. twin_next r t tt twin_end)
 
   pub declarators_twin : (l : ℕ) (ds : List ResolvedDeclaratorTree) → Twin (each (declarator c l) ds)
       (each (declarator d l) ds)
@@ -88,26 +88,27 @@ module _ (base : Site) (code code' : List Line) (picks picks' : List (List ℕ))
 
   pub test_twin : (l f f' : ℕ) (e : ResolvedExpressionTree) → Twins (f ≡ f') (Unit {0}) (test c l f e) (test d l f' e)
   test_twin l f f' e p p' q q' r t = twin_part r t (value_twin l e p p')
-      (λ m m' r t. twin_jump r t (λ k. ap i.JumpIfZero k) twin_end)
+      (λ m m' r t. twin_jump r t tt (λ k. ap i.JumpIfZero k) twin_end)
 
   pub returned_twin : (l : ℕ) (is_main : Bool) (e : Option ResolvedExpressionTree) → Twin (returned c l is_main e)
       (returned d l is_main e)
-  returned_twin l true None p p' q q' r t = twin_next r t twin_end
-  returned_twin l true (Some e) p p' q q' r t = twin_part r t (value_twin l e p p') (λ m m' r t. twin_next r t twin_end)
-  returned_twin l false None p p' q q' r t = twin_next r t twin_end
+  returned_twin l true None p p' q q' r t = twin_next r t tt twin_end
+  returned_twin l true (Some e) p p' q q' r t = twin_part r t (value_twin l e p p')
+      (λ m m' r t. twin_next r t tt twin_end)
+  returned_twin l false None p p' q q' r t = twin_next r t tt twin_end
   returned_twin l false (Some e) p p' q q' r t = twin_part r t (value_twin l e p p')
-      (λ m m' r t. twin_next r t twin_end)
+      (λ m m' r t. twin_next r t tt twin_end)
 
   pub jump_twin : (l : ℕ) (to to' : Option ℕ) → Twins (to ≡ to') (Unit {0}) (given to (jump c l)) (given to' (jump d l))
   jump_twin l None to' p p' q q' r t = absurd r
   jump_twin l (Some f) None p p' q q' r t = absurd t
-  jump_twin l (Some f) (Some f') p p' q q' r t = twin_jump r t (λ k. ap i.Jump (cc k)) twin_end
+  jump_twin l (Some f) (Some f') p p' q q' r t = twin_jump r t tt (λ k. ap i.Jump (cc k)) twin_end
 
   pub copy_start_twin : (l : ℕ) (kind : CopyKind) (x : variables.Variable) (copy : LocalVariable)
       → Twin (copy_start c l kind x copy) (copy_start d l kind x copy)
-  copy_start_twin l copies.Private x copy p p' q q' r t = twin_next r t twin_end
-  copy_start_twin l copies.Firstprivate x copy p p' q q' r t = twin_next r t (λ r t. twin_next r t twin_end)
-  copy_start_twin l (copies.Reduction o) x copy p p' q q' r t = twin_next r t (λ r t. twin_next r t twin_end)
+  copy_start_twin l copies.Private x copy p p' q q' r t = twin_next r t tt twin_end
+  copy_start_twin l copies.Firstprivate x copy p p' q q' r t = twin_next r t tt (λ r t. twin_next r t tt twin_end)
+  copy_start_twin l (copies.Reduction o) x copy p p' q q' r t = twin_next r t tt (λ r t. twin_next r t tt twin_end)
 
   pub clause_start_twin : (l : ℕ) (clause : ResolvedClauseTree) → Twin (clause_start c l clause)
       (clause_start d l clause)
@@ -122,7 +123,7 @@ module _ (base : Site) (code code' : List Line) (picks picks' : List (List ℕ))
       → Twin (reduction_start c l kind x copy) (reduction_start d l kind x copy)
   reduction_start_twin l copies.Private x copy p p' q q' r t = twin_end r t
   reduction_start_twin l copies.Firstprivate x copy p p' q q' r t = twin_end r t
-  reduction_start_twin l (copies.Reduction o) x copy p p' q q' r t = twin_next r t (λ r t. twin_next r t twin_end)
+  reduction_start_twin l (copies.Reduction o) x copy p p' q q' r t = twin_next r t tt (λ r t. twin_next r t tt twin_end)
 
   pub clause_reduction_start_twin : (l : ℕ) (clause : ResolvedClauseTree) → Twin (clause_reduction_start c l clause)
       (clause_reduction_start d l clause)
@@ -139,7 +140,7 @@ module _ (base : Site) (code code' : List Line) (picks picks' : List (List ℕ))
       → Twin (combine_copy c l kind x copy) (combine_copy d l kind x copy)
   combine_copy_twin l copies.Private x copy p p' q q' r t = twin_end r t
   combine_copy_twin l copies.Firstprivate x copy p p' q q' r t = twin_end r t
-  combine_copy_twin l (copies.Reduction o) x copy p p' q q' r t = twin_next r t twin_end
+  combine_copy_twin l (copies.Reduction o) x copy p p' q q' r t = twin_next r t tt twin_end
 
   pub combine_clause_twin : (l : ℕ) (clause : ResolvedClauseTree) → Twin (combine_clause c l clause)
       (combine_clause d l clause)
@@ -152,23 +153,23 @@ module _ (base : Site) (code code' : List Line) (picks picks' : List (List ℕ))
   reductions_twin l clauses = each_twin (combine_clause c l) (combine_clause d l) clauses (combine_clause_twin l)
 
   pub loads_twin : (l : ℕ) (xs : List FirstCopy) → Twin (each (load_original c l) xs) (each (load_original d l) xs)
-  loads_twin l xs = each_twin (load_original c l) (load_original d l) xs (λ x p p' q q' r t. twin_next r t twin_end)
+  loads_twin l xs = each_twin (load_original c l) (load_original d l) xs (λ x p p' q q' r t. twin_next r t tt twin_end)
 
   pub barrier_twin : (l : ℕ) (kind : Barrier) → Twin (barrier c l kind) (barrier d l kind)
-  barrier_twin l kind p p' q q' r t = twin_next r t (λ r t. twin_next r t twin_end)
+  barrier_twin l kind p p' q q' r t = twin_next r t tt (λ r t. twin_next r t tt twin_end)
 
   pub end_twin : (l : ℕ) (nowait : Bool) → Twin (worksharing_end c l nowait) (worksharing_end d l nowait)
-  end_twin l true p p' q q' r t = twin_next r t twin_end
-  end_twin l false p p' q q' r t = twin_next r t (λ r t. twin_next r t (λ r t. twin_next r t twin_end))
+  end_twin l true p p' q q' r t = twin_next r t tt twin_end
+  end_twin l false p p' q q' r t = twin_next r t tt (λ r t. twin_next r t tt (λ r t. twin_next r t tt twin_end))
 
   pub alone_twin : (l : ℕ) (directive : alone.StandAlone) → Twin (alone_row c l directive) (alone_row d l directive)
-  alone_twin l alones.Barrier p p' q q' r t = twin_next r t (λ r t. twin_next r t twin_end)
-  alone_twin l alones.Taskwait p p' q q' r t = twin_next r t (λ r t. twin_next r t twin_end)
-  alone_twin l alones.Taskyield p p' q q' r t = twin_next r t twin_end
-  alone_twin l (alones.Flush vs) p p' q q' r t = twin_next r t twin_end
+  alone_twin l alones.Barrier p p' q q' r t = twin_next r t tt (λ r t. twin_next r t tt twin_end)
+  alone_twin l alones.Taskwait p p' q q' r t = twin_next r t tt (λ r t. twin_next r t tt twin_end)
+  alone_twin l alones.Taskyield p p' q q' r t = twin_next r t tt twin_end
+  alone_twin l (alones.Flush vs) p p' q q' r t = twin_next r t tt twin_end
 
   pub filter_twin : (l : ℕ) (e : Option ResolvedExpressionTree) → Twin (filter_row c l e) (filter_row d l e)
-  filter_twin l None p p' q q' r t = twin_next r t twin_end
+  filter_twin l None p p' q q' r t = twin_next r t tt twin_end
   filter_twin l (Some e) p p' q q' r t = value_twin l e p p' q q' r t
 
   -- ---- constructs
@@ -178,7 +179,7 @@ module _ (base : Site) (code code' : List Line) (picks picks' : List (List ℕ))
       → Twins (Unit {0}) G (single_row c l nowait clauses body) (single_row d l nowait clauses body')
   single_twin l nowait clauses body body' h p p' q q' r t =
       twin_closed {L = r.0 ≡ t.0}
-      (twin_jump r.1 t.1 (λ k. ap i.Single k.1) (λ r t.
+      (twin_jump r.1 t.1 tt (λ k. ap i.Single k.1) (λ r t.
       twin_part r t (starts_twin l clauses (p + 1) (p' + 1)) (λ m m' r t.
       twin_within r t (λ n. tt) (h m m') (λ m m' r t.
       twin_here r t (λ r t. twin_as (twin_more (end_twin l nowait m m' q q' r t) (λ n. tt)) (λ g. g))))))
@@ -190,24 +191,24 @@ module _ (base : Site) (code code' : List Line) (picks picks' : List (List ℕ))
   masked_twin l clauses body body' h p p' q q' r t =
       twin_closed {L = r.0 ≡ t.0}
       (twin_part r.1 t.1 (filter_twin l (clause_value clauses) p p') (λ m m' r t.
-      twin_jump r t (λ k. ap i.Masked k.1) (λ r t.
+      twin_jump r t tt (λ k. ap i.Masked k.1) (λ r t.
       twin_within r t (λ n. tt) (h (m + 1) (m' + 1)) (λ m m' r t.
-      twin_next r t (λ r t. twin_here r t twin_end)))))
+      twin_next r t tt (λ r t. twin_here r t twin_end)))))
       (λ g. g.1.0) (λ g. g.0)
 
   pub critical_twin : {G : Type 0} (l : ℕ) (name : Option (List ℕ)) (body body' : Row) → Twins (Unit {0}) G body body'
       → Twins (Unit {0}) G (critical_row c l name body) (critical_row d l name body')
   critical_twin l name body body' h p p' q q' r t =
       twin_as
-      (twin_next r t (λ r t. twin_next r t (λ r t.
-      twin_within r t (λ n. tt) (h (p + 1 + 1) (p' + 1 + 1)) (λ m m' r t. twin_next r t twin_end))))
+      (twin_next r t tt (λ r t. twin_next r t tt (λ r t.
+      twin_within r t (λ n. tt) (h (p + 1 + 1) (p' + 1 + 1)) (λ m m' r t. twin_next r t tt twin_end))))
       (λ g. g.0)
 
   pub group_twin : {G : Type 0} (l : ℕ) (body body' : Row) → Twins (Unit {0}) G body body' → Twins (Unit {0}) G
       (group_row c l body) (group_row d l body')
   group_twin l body body' h p p' q q' r t =
-      twin_as (twin_next r t (λ r t. twin_within r t (λ n. tt) (h (p + 1) (p' + 1))
-      (λ m m' r t. twin_next r t twin_end))) (λ g. g.0)
+      twin_as (twin_next r t tt (λ r t. twin_within r t (λ n. tt) (h (p + 1) (p' + 1))
+      (λ m m' r t. twin_next r t tt twin_end))) (λ g. g.0)
 
   pub loop_twin : {G : Type 0} (l : ℕ) (clauses : List ResolvedClauseTree) (nowait : Bool) (loop : ResolvedLoopTree)
       (body body' : ℕ → Row) (comparison : Comparison)
@@ -219,13 +220,13 @@ module _ (base : Site) (code code' : List Line) (picks picks' : List (List ℕ))
       (twin_part r.3 t.3 (value_twin loop.at.line loop.from p p') (λ m m' u v.
       twin_part u v (value_twin loop.at.line loop.to m m') (λ m m' u v.
       twin_part u v (starts_twin l clauses m m') (λ m m' u v.
-      twin_next u v (λ u v.
+      twin_next u v tt (λ u v.
       twin_here u v (λ u v.
-      twin_jump u v (λ k. ap i.Grab k.1.2) (λ u v.
+      twin_jump u v tt (λ k. ap i.Grab k.1.2) (λ u v.
       twin_here u v (λ u v.
-      twin_jump u v (λ k. ap (i.Iterate (slot c loop.variable)) k.1.0) (λ u v.
+      twin_jump u v tt (λ k. ap (i.Iterate (slot c loop.variable)) k.1.0) (λ u v.
       twin_within u v (λ n. n.1.1) (h r.1 t.1 (m + 1 + 1 + 1) (m' + 1 + 1 + 1)) (λ m m' u v.
-      twin_jump u v (λ k. ap i.Jump k.1.1) (λ u v.
+      twin_jump u v tt (λ k. ap i.Jump k.1.1) (λ u v.
       twin_here u v (λ u v.
       twin_part u v (reductions_twin l clauses (m + 1) (m' + 1)) (λ m m' u v.
       twin_more (end_twin l nowait m m' q q' u v) (λ n. tt))))))))))))))
@@ -235,10 +236,10 @@ module _ (base : Site) (code code' : List Line) (picks picks' : List (List ℕ))
       (side : Side) (e : ResolvedExpressionTree)
       → Twin (updated c l x j o side e) (updated d l x j o side e)
   updated_twin l x None o side e p p' q q' r t = twin_part r t (value_twin l e p p')
-      (λ m m' r t. twin_next r t twin_end)
+      (λ m m' r t. twin_next r t tt twin_end)
   updated_twin l x (Some j) o side e p p' q q' r t =
       twin_part r t (value_twin l j p p') (λ m m' r t. twin_part r t (value_twin l e m m')
-      (λ m m' r t. twin_next r t twin_end))
+      (λ m m' r t. twin_next r t tt twin_end))
 
   pub update_twin : (l : ℕ) (u : ResolvedUpdateTree) → Twin (update_row c l u) (update_row d l u)
   update_twin l u = updated_twin l u.variable u.index (update_of u.operator) (side_of u.side) u.operand
@@ -249,7 +250,7 @@ module _ (base : Site) (code code' : List Line) (picks picks' : List (List ℕ))
       → Twin (parallel_row c l body size xs) (parallel_row d l body size xs)
   parallel_twin l body size xs p p' q q' r t =
       twin_part r t (perhaps_twin (value c l) (value d l) size (value_twin l) p p') (λ m m' r t.
-      twin_part r t (loads_twin l xs m m') (λ m m' r t. twin_next r t twin_end))
+      twin_part r t (loads_twin l xs m m') (λ m m' r t. twin_next r t tt twin_end))
 
   pub task_twin : (l body : ℕ) (xs : List FirstCopy) → Twin (task_row c l body xs) (task_row d l body xs)
-  task_twin l body xs p p' q q' r t = twin_part r t (loads_twin l xs p p') (λ m m' r t. twin_next r t twin_end)
+  task_twin l body xs p p' q q' r t = twin_part r t (loads_twin l xs p p') (λ m m' r t. twin_next r t tt twin_end)

@@ -1,27 +1,33 @@
--- A tree has one code.
-use Rattle.std.proofs.Common.{◌≡◌, ℕ, zero, suc, ◌<◌, List, [], ◌∷◌, length, Some, refl, sym, ap, ◌∙◌, arith}
-use Rattle.std.specs.Prelude.{slice_get}
+-- A tree has one code, and so has each of its bodies.
+use Rattle.std.proofs.Common.{◌≡◌, ℕ, zero, suc, ◌<◌, Bool, true, false, List, [], ◌∷◌, length, Some, refl, sym, ap}
+use Rattle.std.proofs.Common.{subst, ◌∙◌, arith}
+use Rattle.std.specs.Prelude.{slice_get, Contains}
 use Rattle.std.specs.List.{AllZip}
+use Rattle.std.proofs.lemmas.Option.{slice_get_within}
+use Rattle.om_code.specs.declared.instruction.Exits.{Exits}
+use Rattle.om_code.specs.declared.instruction.Exits.TheVariants.{Nowhere, Next, Always, Either, OneOf}
 use Rattle.om_code.specs.declared.raw.Body.{Body}
 use Rattle.om_code.specs.declared.raw.Piece.{Piece}
 use Rattle.om_code.specs.declared.raw.Raw.{Raw}
 use Rattle.om_code.specs.declared.raw.Line.{Line}
+use Rattle.om_code.specs.Ways.{exits, places, Way, starts, follows}
 use Rattle.om_resolved.specs.ResolvedTree.{ResolvedFunctionTree, ResolvedTree}
 use Rattle.om_rows.specs.declared.scope.VariableScope.{VariableScope}
 use Rattle.om_rows.specs.Bodies.{Numbers, next_body, BodyTree, BodySite, FunctionBody, ParallelBody, TaskBody}
 use Rattle.om_rows.specs.Bodies.{function_variables, function_bodies, behind_function, behind_functions, bodies_from}
 use Rattle.om_rows.specs.Bodies.{bodies_of, first_numbers, variables_of}
 use Rattle.om_rows.specs.Code.{body_row, IsBodyOf}
-use Rattle.om_rows.specs.Laws.{OneCode}
+use Rattle.om_rows.specs.Laws.{OneBodyCode, OneCode}
 use Rattle.om_rows.specs.Mentions.{formats_of, locks_of, IsTextOf}
+use Rattle.om_rows.specs.Numbered.{site_with}
 use Rattle.om_rows.specs.Rows.{Site}
 use Rattle.om_rows.specs.Scopes.{Found, names_with}
-use Rattle.om_rows.specs.Statements.{nowhere}
+use Rattle.om_rows.specs.Statements.{nowhere, last_instruction}
 use Rattle.om_rows.proofs.ExpressionTwins.{with_code}
 use Rattle.om_rows.proofs.HeadTwins as heads
 use Rattle.om_rows.proofs.ScopeTwins.{body_match}
 use Rattle.om_rows.proofs.StatementTwins as twins
-use Rattle.om_rows.proofs.Twins.{Alike, Agree, twin_end, twin_next, twin_within, twin_as, twin_part}
+use Rattle.om_rows.proofs.Twins.{Alike, Agree, HasOneList, twin_end, twin_next, twin_within, twin_as, twin_part}
 
 -- lists with the same at each place
 same_by_places : {A : Type 0} (xs ys : List A) → length xs ≡ length ys → ((k : ℕ) → k < length xs → slice_get xs k
@@ -47,36 +53,41 @@ module _ (functions : List ResolvedFunctionTree) (formats locks picks picks' : L
   abbrev HasCodes : BodySite → Type 0
   HasCodes b = twins.HasCodes functions formats locks picks picks' b
 
+  -- the last instruction of a function goes on nowhere
+  last_list : (is_main : Bool) → HasOneList picks picks' (exits (last_instruction is_main false))
+  last_list true = tt
+  last_list false = tt
+
   -- two codes of one body
   body_agrees : (f : ResolvedFunctionTree) (tree : BodyTree) (n : Numbers) (base : Site) (code code' : List Line)
       (q q' : ℕ)
       → body_row (with_code base code picks) n f tree 0 q → body_row (with_code base code' picks') n f tree 0 q'
-      → (q ≡ q') × Agree code code' 0 q
+      → (q ≡ q') × Agree code code' picks picks' 0 q
   body_agrees f FunctionBody n base code code' q q' r t =
-      let a : Alike code code' (Unit {0}) (Unit {0}) 0 q 0 q' =
+      let a : Alike code code' picks picks' (Unit {0}) (Unit {0}) 0 q 0 q' =
       twin_as
       (twin_within r t (λ k. (refl, refl)) (twins.statements_twin functions formats locks picks picks' f f.body n
       (function_variables f) base code code' nowhere nowhere 0 0)
-      (λ m m' r t. twin_next r t twin_end))
+      (λ m m' r t. twin_next r t (last_list base.is_main) twin_end))
       (λ g. tt) in
       (a.same refl, a.agree refl tt)
   body_agrees f (ParallelBody first clauses captures s) n base code code' q q' r t =
-      let a : Alike code code' (Unit {0}) (Unit {0}) 0 q 0 q' =
+      let a : Alike code code' picks picks' (Unit {0}) (Unit {0}) 0 q 0 q' =
       twin_as
-      (twin_next r t (λ r t.
+      (twin_next r t tt (λ r t.
       twin_part r t (heads.reduction_starts_twin base code code' picks picks' first.line clauses 1 1) (λ m m' r t.
       twin_within r t (λ k. (refl, refl)) (twins.statement_twin functions formats locks picks picks' f s n [] base
       code code' nowhere nowhere m m') (λ m m' r t.
       twin_part r t (heads.reductions_twin base code code' picks picks' first.line clauses m m') (λ m m' r t.
-      twin_next r t (λ r t. twin_next r t twin_end))))))
+      twin_next r t tt (λ r t. twin_next r t tt twin_end))))))
       (λ g. tt) in
       (a.same refl, a.agree refl tt)
   body_agrees f (TaskBody first clauses captures s) n base code code' q q' r t =
-      let a : Alike code code' (Unit {0}) (Unit {0}) 0 q 0 q' =
+      let a : Alike code code' picks picks' (Unit {0}) (Unit {0}) 0 q 0 q' =
       twin_as
       (twin_within r t (λ k. (refl, refl)) (twins.statement_twin functions formats locks picks picks' f s n [] base
       code code' nowhere nowhere 0 0)
-      (λ m m' r t. twin_next r t twin_end))
+      (λ m m' r t. twin_next r t tt twin_end))
       (λ g. tt) in
       (a.same refl, a.agree refl tt)
 
@@ -101,6 +112,34 @@ module _ (functions : List ResolvedFunctionTree) (formats locks picks picks' : L
       (bodies_from (behind_function n f) fs) h))
       (functions_cover fs (behind_function n f) (twins.back functions formats locks picks picks' f
       (function_bodies n f) (bodies_from (behind_function n f) fs) h))
+
+-- ---- one body
+
+module _ (picks others : List (List ℕ)) where
+  -- an instruction with one list goes on to the same places
+  same_places : (at : ℕ) (e : Exits) → HasOneList picks others e → places picks at e ≡ places others at e
+  same_places at Nowhere h = refl
+  same_places at Next h = refl
+  same_places at (Always target) h = refl
+  same_places at (Either target) h = refl
+  same_places at (OneOf list) h = h
+
+  same_ways : (code : List Line)
+      → ((k : ℕ) (line : Line) → slice_get code k ≡ Some line → HasOneList picks others (exits line.instruction))
+      → (at height : ℕ) → Way picks code at height → Way others code at height
+  same_ways code lists _ _ starts = starts
+  same_ways code lists _ _ (follows at height rest to line way is takes leads) =
+      follows at height rest to line (same_ways code lists at height way) is takes
+      (subst (λ tos. Contains tos to) (same_places at (exits line.instruction) (lists at line is)) leads)
+
+pub one_body_code : OneBodyCode
+one_body_code names n f tree code other picks others r t =
+    let e = body_agrees names.functions names.formats names.locks picks others f tree n (site_with names [] []) code
+    other (length code) (length other) r t in
+    let same : code ≡ other = same_by_places code other e.0 (λ k lt. e.1.by k (omega arith) lt) in
+    let ways = same_ways picks others code
+    (λ k line at. e.1.lists k line (omega arith) (slice_get_within code k line at) at) in
+    (same, λ at height way. subst (λ lines. Way others lines at height) same (ways at height way))
 
 module _ (tree : ResolvedTree) (raw other : Raw) where
   codes : (bs : List BodySite) (xs ys : List Body) → AllZip (IsBodyOf tree raw) bs xs → AllZip (IsBodyOf tree other)

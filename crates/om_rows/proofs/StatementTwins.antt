@@ -1,9 +1,10 @@
 -- Two codes of one statement: they are one, and so are the lists of PICK that they have.
 use Rattle.std.proofs.Common.{◌≡◌, ℕ, ◌+◌, ◌<◌, ◌≤◌, List, [], ◌∷◌, length, Some, refl, sym, ap, ◌∙◌, ⊎_elim, arith}
-use Rattle.std.specs.Prelude.{slice_get, ◌++◌}
+use Rattle.std.specs.Prelude.{slice_get, slice_index_or, ◌++◌}
 use Rattle.om_resolved.specs.Uses.{is_main_function}
 use Rattle.om_lexer.specs.declared.token.Span.{Span}
 use Rattle.std.proofs.lemmas.Bool.{cases_lt}
+use Rattle.std.proofs.lemmas.Option.{get_or_from_slice_get}
 use Rattle.om_code.specs.declared.instruction.Instr.TheVariants as i
 use Rattle.om_code.specs.declared.raw.Line.{Line}
 use Rattle.om_resolved.specs.declared.resolved.Capture.{Capture}
@@ -22,7 +23,7 @@ use Rattle.om_rows.specs.Operators.{comparison_of}
 use Rattle.om_rows.specs.Rows.{Site, Row, ins, part, here, ◌▸◌}
 use Rattle.om_rows.specs.Statements.{Jumps, nowhere, in_loop, in_iteration, test, clause_value, given_copies}
 use Rattle.om_rows.specs.Statements.{assignment_row, loop_rest, with_place, no_place, statement, statements, parts}
-use Rattle.om_rows.proofs.Twins.{Alike, twin_end, twin_jump, twin_next, twin_within, twin_as, twin_more, twin_free}
+use Rattle.om_rows.proofs.Twins.{Alike, twin_end, twin_jump, twin_pick, twin_within, twin_as, twin_more, twin_free}
 use Rattle.om_rows.proofs.Twins.{twin_part, twin_here, twin_closed}
 use Rattle.om_rows.proofs.HeadTwins as heads
 use Rattle.om_rows.proofs.ExpressionTwins as expressions
@@ -101,7 +102,8 @@ module _ (functions : List ResolvedFunctionTree) (formats locks picks picks' : L
     back (x ∷ xs) ys h = back xs ys h.1
 
     abbrev pub Twins : List Line → List Line → Type 0 → Type 0 → Row → Row → Type 0
-    Twins code code' needs gives r t = (p p' q q' : ℕ) → r p q → t p' q' → Alike code code' needs gives p q p' q'
+    Twins code code' needs gives r t = (p p' q q' : ℕ) → r p q → t p' q'
+        → Alike code code' picks picks' needs gives p q p' q'
 
     no_place_twin : {N : Type 0} (code code' : List Line) (places places' : List ℕ) → Twins code code' N
         (places ≡ places') (no_place places) (no_place places')
@@ -117,6 +119,12 @@ module _ (functions : List ResolvedFunctionTree) (formats locks picks picks' : L
     with_place_twin code code' (x ∷ xs) (y ∷ ys) row row' h p p' q q' r t = twin_as (h x y xs ys p p' q q' r t)
         (λ g. (cc (g.0, g.1), g.2))
 
+    one_list : (list : ℕ) (places places' : List ℕ) → slice_get picks list ≡ Some places
+        → slice_get picks' list ≡ Some places' → places ≡ places'
+        → slice_index_or picks list [] ≡ slice_index_or picks' list []
+    one_list list places places' e e' same = get_or_from_slice_get picks list places [] e ∙ same
+        ∙ sym (get_or_from_slice_get picks' list places' [] e')
+
     -- the bodies of regions given, the lists of a statement, of statements, of parts
     abbrev pub Covers-in : List ℕ → Numbers → ResolvedStatementTree → Type 0
     Covers-in outer n s = HaveCodes (regions f outer n s) → Covered n.picks (behind n s).picks
@@ -128,8 +136,9 @@ module _ (functions : List ResolvedFunctionTree) (formats locks picks picks' : L
     Covers-parts outer n sections = HaveCodes (parts_regions f outer n sections) → Covered n.picks
         (behind_parts n sections).picks
 
-    own : {N X : Type 0} {code code' : List Line} {p p' q q' : ℕ} (n : Numbers) → Alike code code' N (Unit {0}) p q
-        p' q' → Alike code code' N (X → Covered n.picks n.picks) p q p' q'
+    own : {N X : Type 0} {code code' : List Line} {p p' q q' : ℕ} (n : Numbers)
+        → Alike code code' picks picks' N (Unit {0}) p q p' q'
+        → Alike code code' picks picks' N (X → Covered n.picks n.picks) p q p' q'
     own n a = twin_as a (λ g h. covers_none n.picks)
 
     assignment_twin : (l : ℕ) (s : ResolvedStatementTree) (n : Numbers) (outer : List ℕ) (base : Site)
@@ -195,16 +204,16 @@ module _ (functions : List ResolvedFunctionTree) (formats locks picks picks' : L
       statement_twin (If first c s) n outer base code code' j j' p p' q q' r t =
           twin_closed {L = r.0 ≡ t.0}
           (twin_part r.1 t.1 (expressions.value_twin base code code' picks picks' first.line c p p') (λ m m' r t.
-          twin_jump r t (λ k. ap i.JumpIfZero k.1) (λ r t.
+          twin_jump r t tt (λ k. ap i.JumpIfZero k.1) (λ r t.
           twin_within r t (λ k. k.0) (statement_twin s n outer base code code' j j' (m + 1) (m' + 1)) (λ m m' r t.
           twin_here r t twin_end))))
           (λ g. g.1.0) (λ g. g.0)
       statement_twin (IfElse first c s u) n outer base code code' j j' p p' q q' r t =
           twin_closed {L = (r.0 ≡ t.0) × (r.1 ≡ t.1)}
           (twin_part r.2 t.2 (expressions.value_twin base code code' picks picks' first.line c p p') (λ m m' r t.
-          twin_jump r t (λ k. ap i.JumpIfZero k.1.0) (λ r t.
+          twin_jump r t tt (λ k. ap i.JumpIfZero k.1.0) (λ r t.
           twin_within r t (λ k. k.0) (statement_twin s n outer base code code' j j' (m + 1) (m' + 1)) (λ m m' r t.
-          twin_jump r t (λ k. ap i.Jump k.1.1) (λ r t.
+          twin_jump r t tt (λ k. ap i.Jump k.1.1) (λ r t.
           twin_here r t (λ r t.
           twin_within r t (λ k. k.0) (statement_twin u (behind n s) outer base code code' j j' (m + 1) (m' + 1))
           (λ m m' r t.
@@ -216,10 +225,10 @@ module _ (functions : List ResolvedFunctionTree) (formats locks picks picks' : L
           twin_closed {L = (r.0 ≡ t.0) × (r.1 ≡ t.1)}
           (twin_here r.2 t.2 (λ u v.
           twin_part u v (expressions.value_twin base code code' picks picks' first.line c p p') (λ m m' u v.
-          twin_jump u v (λ k. ap i.JumpIfZero k.1.1) (λ u v.
+          twin_jump u v tt (λ k. ap i.JumpIfZero k.1.1) (λ u v.
           twin_within u v (λ k. (ap Some k.1.1, ap Some k.1.0)) (statement_twin s n outer base code code'
           (in_loop r.1 r.0) (in_loop t.1 t.0) (m + 1) (m' + 1)) (λ m m' u v.
-          twin_jump u v (λ k. ap i.Jump k.1.0) (λ u v.
+          twin_jump u v tt (λ k. ap i.Jump k.1.0) (λ u v.
           twin_here u v twin_end))))))
           (λ g. (g.0, g.1.1.0)) (λ g. g.1.0)
       statement_twin (Do first s c) n outer base code code' j j' p p' q q' r t =
@@ -229,8 +238,8 @@ module _ (functions : List ResolvedFunctionTree) (formats locks picks picks' : L
           (in_loop r.2 r.1) (in_loop t.2 t.1) p p') (λ m m' u v.
           twin_here u v (λ u v.
           twin_part u v (expressions.value_twin base code code' picks picks' first.line c m m') (λ m m' u v.
-          twin_jump u v (λ k. ap i.JumpIfZero k.1.2) (λ u v.
-          twin_jump u v (λ k. ap i.Jump k.1.0) (λ u v.
+          twin_jump u v tt (λ k. ap i.JumpIfZero k.1.2) (λ u v.
+          twin_jump u v tt (λ k. ap i.Jump k.1.0) (λ u v.
           twin_here u v twin_end)))))))
           (λ g. (g.0, g.1.1.0, g.1.1.1.0)) (λ g. g.1.0)
       statement_twin (For first begin c step s) n outer base code code' j j' p p' q q' r t =
@@ -248,7 +257,7 @@ module _ (functions : List ResolvedFunctionTree) (formats locks picks picks' : L
           (heads.perhaps_twin base code code' picks picks' (effect (with_code base code picks) first.line)
           (effect (with_code base code' picks') first.line) step
           (expressions.effect_twin base code code' picks picks' first.line) m m') (λ m m' u v.
-          twin_jump u v (λ k. ap i.Jump k.1.0) (λ u v.
+          twin_jump u v tt (λ k. ap i.Jump k.1.0) (λ u v.
           twin_here u v twin_end))))))))
           (λ g. (g.0, g.1.1.1.0, g.1.1.1.1.0)) (λ g. g.1.1.0)
       statement_twin (Return first e) n outer base code code' j j' p p' q q' r t =
@@ -291,10 +300,10 @@ module _ (functions : List ResolvedFunctionTree) (formats locks picks picks' : L
       statement_twin (Sections first clauses nowait sections) n outer base code code' j j' p p' q q' r t =
           twin_closed {L = (r.0 ≡ t.0) × (r.1 ≡ t.1) × (r.2 ≡ t.2)}
           (twin_part r.4 t.4 (heads.starts_twin base code code' picks picks' first.line clauses p p') (λ m m' u v.
-          twin_jump u v (λ k. ap (λ z. i.Sections (length z)) k.1.0) (λ u v.
+          twin_jump u v tt (λ k. ap (λ z. i.Sections (length z)) k.1.0) (λ u v.
           twin_here u v (λ u v.
-          twin_jump u v (λ k. ap i.Grab k.1.2) (λ u v.
-          twin_next u v (λ u v.
+          twin_jump u v tt (λ k. ap i.Grab k.1.2) (λ u v.
+          twin_pick u v (λ k. one_list n.picks r.0 t.0 r.3 t.3 k.1.0) (λ u v.
           twin_within u v (λ k. k.1.1)
           (parts_twin sections (next_pick n) outer base code code' first.line r.1 t.1 r.0 t.0 (m + 1 + 1 + 1)
           (m' + 1 + 1 + 1)) (λ m m' u v.
@@ -376,7 +385,7 @@ module _ (functions : List ResolvedFunctionTree) (formats locks picks picks' : L
           (twin_here r t (λ r t.
           twin_within r t (λ k. (refl, refl)) (statements_twin items n outer base code code' nowhere nowhere p p')
           (λ m m' r t.
-          twin_jump r t (λ k. ap i.Jump k) (λ r t.
+          twin_jump r t tt (λ k. ap i.Jump k) (λ r t.
           parts_twin rest (behind_all n items) outer base code code' l grab grab' xs ys (m + 1) (m' + 1) q q' r t))))
           (λ g. (
             g.0,

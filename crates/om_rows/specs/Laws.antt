@@ -7,6 +7,7 @@ use Rattle.om_code.specs.declared.fault.CodeFault.{CodeFault}
 use Rattle.om_code.specs.declared.fault.CodeFault.TheVariants.{Memory, TooHigh}
 use Rattle.om_code.specs.declared.raw.Line.{Line}
 use Rattle.om_code.specs.declared.raw.Raw.{Raw}
+use Rattle.om_code.specs.Ways.{Way}
 use Rattle.om_code.specs.Validity.{HasOneHeight, StaysInside, IsLow, IsValid, Breaks}
 use Rattle.om_resolved.specs.Beside.{TreeAtomicsAssign, TreeCopiesBehind}
 use Rattle.om_resolved.specs.ResolvedTree.{ResolvedExpressionTree, ResolvedStatementTree, ResolvedFunctionTree}
@@ -17,12 +18,22 @@ use Rattle.om_rows.specs.Code.{body_row, IsBodyOf, IsCodeOf}
 use Rattle.om_rows.specs.Coded.{ValueIsCoded, EffectIsCoded, StatementIsCoded, TreeHasCode, TreeIsCoded}
 use Rattle.om_rows.specs.Expressions.{value, effect}
 use Rattle.om_rows.specs.Mentions.{format_mention, formats_of, tree_mentioned}
+use Rattle.om_rows.specs.Numbered.{Numbered, site_with}
 use Rattle.om_rows.specs.Rows.{Site}
 use Rattle.om_rows.specs.Statements.{Jumps, statement}
 
 -- A tree has one code.
 abbrev pub OneCode : Type 0
 OneCode = (tree : ResolvedTree) (raw other : Raw) → IsCodeOf tree raw → IsCodeOf tree other → raw ≡ other
+
+-- So has a body, and there is one set of ways through it, whatever lists of PICK the rest of the program has.
+abbrev pub OneBodyCode : Type 0
+OneBodyCode =
+    (names : Numbered) (n : Numbers) (f : ResolvedFunctionTree) (tree : BodyTree) (code other : List Line)
+    (picks others : List (List ℕ)) →
+    body_row (site_with names code picks) n f tree 0 (length code) →
+    body_row (site_with names other others) n f tree 0 (length other) →
+    (code ≡ other) × ((at height : ℕ) → Way picks code at height → Way others other at height)
 
 -- Code keeps to its body and its levels.
 pub record IsLevel (picks : List (List ℕ)) (code : List Line) : Type 0 where

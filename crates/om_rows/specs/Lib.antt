@@ -9,6 +9,7 @@ pub mod Expressions
 pub mod Statements
 pub mod Scopes
 pub mod Code
+pub mod Numbered
 pub mod Laws
 pub mod Coded
 pub mod Worlds
@@ -17,7 +18,6 @@ pub mod Serial
 pub mod Ints
 pub mod Running
 pub mod MeaningLaws
-pub mod Numbered
 pub mod BodyTables
 pub mod Numbering
 pub mod Ends

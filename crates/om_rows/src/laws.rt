@@ -1,10 +1,16 @@
 //! Laws of the code of a tree, whoever made it.
 
-ghost use Rattle.om_rows.specs.Laws.{BodyIsLevel, CodeFaults, CodeIsLevel, CodeIsValid, EffectRowsHaveCode, FormatsAreNumbered, FunctionBodies, OneCode, RowsHaveCode, StatementRowsHaveCode, ValueRowsHaveCode, WholeHasCode};
+ghost use Rattle.om_rows.specs.Laws.{BodyIsLevel, CodeFaults, CodeIsLevel, CodeIsValid, EffectRowsHaveCode, FormatsAreNumbered, FunctionBodies, OneBodyCode, OneCode, RowsHaveCode, StatementRowsHaveCode, ValueRowsHaveCode, WholeHasCode};
 
 /// A tree has one code.
 pub fn one_code()
     ensures { OneCode }
+{}
+
+/// So has one body alone, and the ways through it are the same, whatever lists of PICK the rest of the
+/// program has.
+pub fn one_body_code()
+    ensures { OneBodyCode }
 {}
 
 /// The code of a tree keeps to its bodies and its levels: whichever way an instruction is reached,
