@@ -18,7 +18,8 @@ use Rattle.om_tree.specs.Tree.{UnitTree}
 use Rattle.om_parser.specs.UnitReading.{unit_at}
 use Rattle.om_tree.specs.View.{view_unit}
 use Rattle.om_parts.specs.Outcomes.{ok, ok_is, err_is}
-use Rattle.om_parts.specs.Laws.{IsAnswer}
+use Rattle.om_parts.specs.Laws.{IsAnswer, GlobalsAreReadAgain}
+use Rattle.om_parser.specs.Laws.{BlocksAreReadAgain}
 use Rattle.om_parser.proofs.Forms.{IsKeptItem}
 use Rattle.om_parser.proofs.Given.{ReadingLaws}
 use Rattle.om_parser.proofs.UnitSound.{unit_sound}
@@ -41,6 +42,24 @@ is_one_refusal ts (Ok u) h = tt
 is_one_refusal ts (Err f) (inl memory) = inl memory
 is_one_refusal ts (Err f) (inr e) = inr (ap refused e)
 
+keeps : (u : UnitTree) → IsWithinLimits u → AtomicsHaveForms u → All (IsKeptItem accepted) u.items
+unfolding IsWithinLimits AtomicsHaveForms
+keeps u within forms k d lt = (within k d lt, forms k d lt)
+
+-- a tree with these tokens is read again
+again_with : BlocksAreReadAgain → GlobalsAreReadAgain → (ts : List Token) (u : UnitTree) → IsTreeOf ts u
+    → IsAnswer (All (IsKeptItem accepted) u.items) (unit_at accepted ts) u
+again_with again globals ts u t = subst (λ us. IsAnswer (All (IsKeptItem accepted) u.items) (unit_at accepted us) u)
+    t.spelled (unit_again again globals accepted (omega arith) u t.formed)
+
+-- the tokens of a tree that keeps the limits and has its forms are not refused
+pub has_no_refusal : BlocksAreReadAgain → GlobalsAreReadAgain → (ts : List Token) (u : UnitTree) → IsTreeOf ts u
+    → IsWithinLimits u → AtomicsHaveForms u → refusal_of ts ≡ None
+has_no_refusal again globals ts u t w forms = elim (again_with again globals ts u t) [
+  | inl e ↦ ap refused e
+  | inr (stop, e, never) ↦ absurd (never (keeps u w forms))
+]
+
 module _ (laws : ReadingLaws) (ts : List Token) where
   pub is_found : (r : Result units.Unit SourceFault) → Reads view_unit r (unit_at accepted ts)
       → IfOk r (λ unit. IsTreeOf ts (view_unit unit))
@@ -62,14 +81,8 @@ module _ (laws : ReadingLaws) (ts : List Token) where
       (unit_sound laws.sound laws.globals_sound accepted (omega arith) ts (view_unit u) h).2
   has_forms (Err f) h = tt
 
-  -- a tree with these tokens is read again
   again : (u : UnitTree) → IsTreeOf ts u → IsAnswer (All (IsKeptItem accepted) u.items) (unit_at accepted ts) u
-  again u t = subst (λ us. IsAnswer (All (IsKeptItem accepted) u.items) (unit_at accepted us) u) t.spelled
-      (unit_again laws.again laws.globals_again accepted (omega arith) u t.formed)
-
-  keeps : (u : UnitTree) → IsWithinLimits u → AtomicsHaveForms u → All (IsKeptItem accepted) u.items
-  unfolding IsWithinLimits AtomicsHaveForms
-  keeps u within forms k d lt = (within k d lt, forms k d lt)
+  again u t = again_with laws.again laws.globals_again ts u t
 
   pub is_only : (r : Result units.Unit SourceFault) → Reads view_unit r (unit_at accepted ts) → (u : UnitTree)
       → IsTreeOf ts u → IsWithinLimits u → AtomicsHaveForms u → IsTreeOrMemory u r

@@ -1,8 +1,9 @@
 //! A whole source.
 
-ghost use Rattle.std.specs.Prelude.{◌≡◌, ◌⊎◌, [], IfOk, IfErr, None, Some, length, map, option_map};
+ghost use Rattle.std.specs.Prelude.{◌≡◌, ◌⊎◌, List, [], IfOk, IfErr, None, Some, length, map, option_map};
 ghost use Rattle.om_lexer.specs.Faults.{no_memory};
 ghost use Rattle.om_lexer.specs.declared.fault.FaultCode.TheVariants.{BadClause, Syntax, TooDeep, UnknownDirective};
+ghost use Rattle.om_lexer.specs.declared.token.Token.{Token};
 ghost use Rattle.om_parser.specs.Faults.{IsBadAtomic};
 ghost use Rattle.om_tree.specs.Formed.{IsUnit};
 ghost use Rattle.om_tree.specs.Limits.{accepted};
@@ -96,6 +97,16 @@ pub fn parse(alloc: Global, tokens: &[Token]) -> Result<Unit, SourceFault>
 pub fn one_tree()
     ensures { (unit other : UnitTree) → IsUnit unit → IsUnit other → unit_spelling unit
         ≡ unit_spelling other → unit ≡ other }
+{
+    blocks_are_read_again();
+    globals();
+}
+
+/// The tokens of a well-formed unit have no refusal, where it keeps the limits and each `atomic` has one
+/// of its forms.
+pub fn accepted_units()
+    ensures { (tokens : List Token) (unit : UnitTree) → IsTreeOf tokens unit →
+        IsWithinLimits unit → AtomicsHaveForms unit → refusal_of tokens ≡ None }
 {
     blocks_are_read_again();
     globals();
