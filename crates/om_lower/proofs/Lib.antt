@@ -11,6 +11,7 @@ pub mod High
 pub mod Coding
 pub mod SiteBodies
 pub mod FunctionBodies
+pub mod OneLimit
 pub mod Rounds
 pub mod Knowing
 pub mod Ready
