@@ -7,4 +7,5 @@ mod SessionLaws
 mod Refusals
 mod ServeLaws
 mod RunLaws
+mod OneVerdicts
 mod OneScripts

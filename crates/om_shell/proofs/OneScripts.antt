@@ -1,5 +1,5 @@
--- Where no command is a free run, the list of free runs changes nothing.
-use Rattle.std.specs.Prelude.{◌≡◌, ℕ, cond, List, [], ◌∷◌, Result, Ok, Err, refl}
+-- Where no command is a free run, the list of free runs changes nothing, and so an input has one script.
+use Rattle.std.specs.Prelude.{◌≡◌, ℕ, List, [], ◌∷◌, Result, Ok, Err, refl}
 use Rattle.std.specs.List.{AllByRecursion}
 use Rattle.std.proofs.Common.{◌∙◌, ap, sym}
 use Rattle.om_lexer.specs.declared.fault.SourceFault.{SourceFault}
@@ -8,8 +8,8 @@ use Rattle.om_view.specs.declared.debugger.Debugger.{Debugger}
 use Rattle.om_view.specs.Freed.{FreeRun}
 use Rattle.om_view.specs.Views.{Answer, answered, opened}
 use Rattle.om_view.specs.Answering.{answered_same, none_behind}
-use Rattle.om_shell.specs.Laws.{AsksNoFreeRun}
-use Rattle.om_shell.specs.Script.{transcript_of}
+use Rattle.om_shell.specs.Laws.{AsksNoFreeRun, OneScript, OneVerdict}
+use Rattle.om_shell.specs.Script.{source_of, commands_of, transcript_of}
 use Rattle.om_shell.specs.Sessions.{after_answer, session}
 use Rattle.om_shell.specs.Transcript.{Transcript}
 
@@ -28,3 +28,11 @@ pub one_transcript : (verdict : Result Raw SourceFault) (workers : ℕ) (runs : 
     → transcript_of verdict workers runs source lines ≡ transcript_of verdict workers [] source lines
 one_transcript (Ok program) workers runs source lines h = session_same (opened program workers) runs lines h
 one_transcript (Err fault) workers runs source lines h = refl
+
+pub one_script : OneVerdict → OneScript
+one_script one_verdict workers given input one other h a b =
+    let source = source_of given input in let commands = commands_of given input in
+    let same = one_verdict source a.verdict b.verdict a.judged b.judged in
+    a.is ∙ one_transcript a.verdict workers a.runs source commands h
+    ∙ ap (λ (v : Result Raw SourceFault). transcript_of v workers [] source commands) same
+    ∙ sym (one_transcript b.verdict workers b.runs source commands h) ∙ sym b.is

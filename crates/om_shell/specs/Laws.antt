@@ -1,20 +1,33 @@
--- A law of scripts.
-use Rattle.std.specs.Prelude.{◌≡◌, ℕ, List, [], ◌∷◌, Option, None, Result}
+-- Laws of verdicts and of scripts.
+use Rattle.std.specs.Prelude.{◌≡◌, ℕ, List, [], Option, None, Result}
 use Rattle.std.specs.List.{AllByRecursion}
 use Rattle.om_command.specs.Commands.{request_of}
 use Rattle.om_lexer.specs.declared.fault.SourceFault.{SourceFault}
 use Rattle.om_code.specs.declared.raw.Raw.{Raw}
+use Rattle.om_view.specs.declared.debugger.Debugger.{Debugger}
 use Rattle.om_view.specs.Freed.{FreeRun}
 use Rattle.om_view.specs.Views.{rounds_asked}
-use Rattle.om_shell.specs.Script.{commands_of, script_by}
+use Rattle.om_shell.specs.Script.{commands_of, script_by, IsScript}
+use Rattle.om_shell.specs.Transcript.{Transcript}
+use Rattle.om_shell.specs.Verdict.{IsVerdict}
 
 -- whatever the number of workers, the line asks for no free run
 abbrev pub AsksNoFreeRun : List ℕ → Type 0
 AsksNoFreeRun line = (workers : ℕ) → rounds_asked (request_of workers line) ≡ None
 
--- where no command is a free run, an input has one script: the list of free runs changes nothing
-abbrev pub OneScript : Type 0
-OneScript = (verdict : Result Raw SourceFault) (workers : ℕ) (runs : List FreeRun) (given : Option (List ℕ))
+-- a source has one verdict: one program or one refusal, and not both
+abbrev pub OneVerdict : Type 0
+OneVerdict = (source : List ℕ) (a b : Result Raw SourceFault) → IsVerdict source a → IsVerdict source b → a ≡ b
+
+-- where no command is a free run, a verdict makes one script of an input: the list of free runs changes nothing
+abbrev pub OneScriptByVerdict : Type 0
+OneScriptByVerdict = (verdict : Result Raw SourceFault) (workers : ℕ) (runs : List FreeRun) (given : Option (List ℕ))
     (input : List ℕ)
     → AllByRecursion AsksNoFreeRun (commands_of given input)
     → script_by verdict workers runs given input ≡ script_by verdict workers [] given input
+
+-- so an input has one script then
+abbrev pub OneScript : Type 0
+OneScript = (workers : ℕ) (given : Option (List ℕ)) (input : List ℕ) (one other : Transcript Debugger)
+    → AllByRecursion AsksNoFreeRun (commands_of given input)
+    → IsScript workers given input one → IsScript workers given input other → one ≡ other

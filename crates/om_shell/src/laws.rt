@@ -1,9 +1,30 @@
-//! What is true of every script.
+//! What is true of every source, and of every script.
 
-ghost use Rattle.om_shell.specs.Laws.{OneScript};
+ghost use Rattle.om_shell.specs.Laws.{OneScript, OneScriptByVerdict, OneVerdict};
 
-/// Where no command is a free run, what is written is decided by the bytes that are read and by the
-/// verdict on the source.
+use om_lexer::one_reading;
+use om_lower::laws::one_limit;
+use om_parser::{accepted_units, one_tree};
+use om_rows::laws::one_code;
+
+/// A source has one verdict: one program or one refusal, and not both.
+///
+/// So calls that answer for it by its verdict agree. One that is out of memory says nothing of it.
+pub fn one_verdict()
+    ensures { OneVerdict }
+{
+    one_reading();
+    one_tree();
+    accepted_units();
+    one_code();
+    one_limit();
+}
+
+/// Where no command is a free run, what is written is decided by the bytes that are read: they decide the
+/// verdict on the source, and with it the script.
 pub fn one_script()
-    ensures { OneScript }
-{}
+    ensures by_verdict { OneScriptByVerdict }
+    ensures of_input { OneScript }
+{
+    one_verdict();
+}
