@@ -1,6 +1,5 @@
-use Rattle.std.proofs.Common.{◌≡◌, ◌++◌, ◌∷◌, [], false, true, sym, ap, subst, nat_eq, is_some, ◌∙◌}
+use Rattle.std.proofs.Common.{◌≡◌, ◌++◌, ◌∷◌, [], false, true, sym, ap, subst, is_some, ◌∙◌}
 use Rattle.std.specs.List.{list_any}
-use Rattle.std.specs.Map.{lookup}
 use Rattle.om_rows.specs.Slots.{Extent}
 use Rattle.om_rows.specs.Extents.{extents_in, is_extent_of, with_extent}
 use Rattle.om_rows.specs.Indexes.{AreAlike}
