@@ -10,9 +10,12 @@ pub(crate) fn call_laws() {
     om_pragma::one_answer();
     om_pragma::first_value();
     om_parser::one_tree();
+    om_parser::accepted_units();
     om_rules::laws::numbers_name_globals();
     om_rules::laws::unbroken_trees_resolve();
     om_rules::laws::unbroken_expressions_are_whole();
     om_rules::laws::unbroken_statements_are_whole();
+    om_lower::laws::one_limit();
+    om_shell::laws::one_verdict();
     om_shell::laws::one_script();
 }
