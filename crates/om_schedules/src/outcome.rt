@@ -39,8 +39,8 @@ pub struct Alone {
     pub end: Option<End>,
 }
 
-/// What is wanted, by the book that `run` alone left, and what is bad about that book, if something is. Its only
-/// error is out of memory.
+/// What is wanted, by the book that `run` alone left, and what is bad about that book, if something
+/// is. Its only error is out of memory.
 pub fn alone_of(alloc: Global, book: Book, expected: Option<&[u8]>) -> Result<Alone, AllocError>
     ensures wanted { IfOk result
         (λ alone.
