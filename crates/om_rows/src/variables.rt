@@ -12,11 +12,9 @@ use std::marker::Model;
 
 /// The variables of a function that a body has, each once. Contracts see them in the order of their
 /// slots, which are numbered from 0.
-///
-/// A list with a map beside it: an `IndexSet` in a public type would cost each crate above it half
-/// a minute of proof.
 #[derive(Drop)]
 pub struct Variables {
+    // A list with a map beside it: crates above a public `IndexSet` load all of its library.
     seen: Vec<u32>,
     slots: BTreeMap<u32, usize>,
 }
