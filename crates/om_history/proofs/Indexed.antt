@@ -1,5 +1,5 @@
 -- Records by serial with their touch lists: with one more, without one, and what a search in them finds.
-use Rattle.std.proofs.Common.{◌≡◌, refl, sym, ◌∙◌, ap, subst, false, ℕ, ◌<◌}
+use Rattle.std.proofs.Common.{◌≡◌, refl, sym, ◌∙◌, ap, subst, Bool, true, false, ℕ, ◌<◌}
 use Rattle.std.proofs.Common.{None, Some, List, [], ◌∷◌, ◌++◌, IfSome, cond, nat_eq, ◌&&◌}
 use Rattle.std.specs.Prelude.{slice_get, remove, IsSome}
 use Rattle.std.specs.Ordering.{nat_cmp}
@@ -155,3 +155,16 @@ not_missing es i serial k h at is missing =
   where
     never : {x : UndoRecord} → Some x ≡ None → ⊥
     never e = cc
+
+-- where no record is behind a serial, no later one conflicts
+pub none_behind : (es : List (ℕ × UndoRecord)) (lists : TouchLists) (footprint : List Access) (serial : ℕ)
+    → AreBySerial 0 es → AreListsOf footprint_of (values_of es) lists
+    → ((t : ℕ) → serial < t → lookup (is_at (nat_cmp t)) es ≡ None)
+    → IsFirst (meets (has_touch lists) footprint) serial None
+none_behind es lists footprint serial h are none s behind = go (meets (has_touch lists) footprint s) refl
+  where
+    go : (b : Bool) → meets (has_touch lists) footprint s ≡ b → b ≡ false
+    go false is = refl
+    go true is =
+        let who = found_behind (values_of es) lists footprint s are is in
+        absurd (not_missing es who.who.i s who.who.made h who.who.at who.who.serial_is (none s behind))

@@ -138,6 +138,36 @@ missing low s (x ∷ xs) (suc p) h parts other =
     go (Some k) below rest = ap (λ b. cond b (Some k) (lookup (is_at (nat_cmp s)) (entries_in xs)))
         (at_other s x.serial below) ∙ rest
 
+-- a serial behind the last row has no record
+pub missing-behind : (low s t : ℕ) (rows : List Row) (n : ℕ) (r : Row) → AreRising low rows
+    → slice_get rows n ≡ Some r → suc n ≡ length rows → r.serial ≤ s → s < t
+    → lookup (is_at (nat_cmp t)) (entries_in rows) ≡ None
+missing-behind low s t [] n r h at is le lt = refl
+missing-behind low s t (x ∷ []) zero r h at is le lt = go x.kept
+  where
+    same : x ≡ r
+    same = cc
+
+    below : x.serial < t
+    below = subst (λ (y : Row). y.serial < t) (sym same) (omega (arith, le, lt))
+
+    go : (o : Option UndoRecord) → lookup (is_at (nat_cmp t)) (with_entry x.serial o []) ≡ None
+    go None = refl
+    go (Some k) = ap (λ b. cond b (Some k) None) (at_other t x.serial below)
+missing-behind low s t (x ∷ []) (suc n) r h at is le lt = cc
+missing-behind low s t (x ∷ y ∷ ys) zero r h at is le lt = absurd (omega (arith, is))
+missing-behind low s t (x ∷ y ∷ ys) (suc n) r h at is le lt =
+    go x.kept (missing-behind x.serial s t (y ∷ ys) n r h.1 at (omega (arith, is)) le lt)
+  where
+    above : x.serial < r.serial
+    above = row-above x.serial (y ∷ ys) n r h.1 at
+
+    go : (o : Option UndoRecord) → lookup (is_at (nat_cmp t)) (entries_in (y ∷ ys)) ≡ None
+        → lookup (is_at (nat_cmp t)) (with_entry x.serial o (entries_in (y ∷ ys))) ≡ None
+    go None rest = rest
+    go (Some k) rest = ap (λ b. cond b (Some k) (lookup (is_at (nat_cmp t)) (entries_in (y ∷ ys))))
+        (at_other t x.serial (omega (arith, above, le, lt))) ∙ rest
+
 -- ---- a record is taken out
 
 pub taken-at : (low s : ℕ) (rows : List Row) (i : ℕ) (r gone : Row) → AreRising low rows → slice_get rows i ≡ Some r

@@ -1,6 +1,6 @@
 //! Kept records by serial.
 
-ghost use Rattle.std.specs.Prelude.{◌≡◌, ℕ, ◌<◌, ◌∷◌, ◌++◌, [], Some, None, IfSome, IfNone, OnOk, OnErr, IfErr, slice_get, vec_len, vec_capacity};
+ghost use Rattle.std.specs.Prelude.{◌≡◌, ℕ, true, ◌<◌, ◌∷◌, ◌++◌, [], Some, None, IfSome, IfNone, OnOk, OnErr, IfErr, slice_get, vec_len, vec_capacity};
 ghost use Rattle.std.specs.Ordering.{nat_cmp};
 ghost use Rattle.std.specs.BTreeMap.{is_at};
 ghost use Rattle.std.specs.Map.{lookup, remove_entry};
@@ -11,7 +11,8 @@ use crate::kept::Kept;
 use std::alloc::{AllocError, Global};
 use std::marker::Model;
 
-/// The place of a serial. It stays where its record is taken out, so that no other one moves.
+/// The place of a serial. Where its record is taken out it stays as long as a record is behind it, so that
+/// no other one moves.
 #[derive(Drop)]
 pub(crate) struct Row {
     serial: u64,
@@ -137,6 +138,17 @@ impl BySerial {
         self.rows[at].kept.as_ref()
     }
 
+    /// Whether the last place is that of a serial, or before it: then no record is behind it.
+    pub(crate) fn ends_at(&self, serial: u64) -> bool
+        ensures { result ≡ true
+            → (t : ℕ) → serial < t → lookup (is_at (nat_cmp t)) self.now ≡ None }
+    {
+        let Some(row) = self.rows.last() else {
+            return false;
+        };
+        row.serial <= serial
+    }
+
     /// Adds a record behind all others. When out of memory, no record changes, and this one comes
     /// back.
     pub(crate) fn push(&mut self, made: Kept) -> Result<(), Kept>
@@ -164,6 +176,8 @@ impl BySerial {
         ensures none { IfNone result (lookup (is_at (nat_cmp serial)) self.old ≡ None) }
     {
         let at = place(self.rows.as_slice(), serial)?;
-        self.rows[at].kept.take()
+        let kept = self.rows[at].kept.take();
+        drop_gone(&mut self.rows);
+        kept
     }
 }

@@ -7,7 +7,7 @@ ghost use Rattle.std.specs.BTreeMap.{is_at};
 ghost use Rattle.om_foot.specs.declared.object.Obj.{Obj};
 ghost use Rattle.om_foot.specs.declared.footprint.Mode.{Mode};
 ghost use Rattle.om_foot.specs.Footprint.{conflicts_with_any, conflict_of};
-ghost use Rattle.om_touches.specs.Touches.{has_touch, AreSame, AreWith, AreWithout, SameOwn, WithOwn, WithoutOwn};
+ghost use Rattle.om_touches.specs.Touches.{has_touch, meets, IsFirst, AreSame, AreWith, AreWithout, SameOwn, WithOwn, WithoutOwn};
 ghost use Rattle.om_history.specs.Cones.{meets_one, is_member as is_member_of, cone, taken_of};
 ghost use Rattle.om_history.specs.Runs.{conflict_or};
 ghost use Rattle.om_history.specs.Records.{entries_of, transition_of, transitions_of, kept_reply, LastHasSerial, HasSerial, AreBelow, AreAbove};
@@ -182,10 +182,12 @@ fn conflict(first: &[SharedAccess], others: &[SharedAccess]) -> Option<Obj>
     None
 }
 
-/// The reply that names a record where it conflicts with another one, else the other reply.
-fn refusal(undone: &Kept, made: &Kept, otherwise: UndoReply) -> UndoReply
+/// The reply that names a record where it conflicts with the one of a serial, else that this one is
+/// undone.
+fn refusal(undone: &Kept, serial: u64, made: &Kept) -> UndoReply
     ensures { result ≡ conflict_or made.now.entry
-        (conflict_of undone.now.footprint made.now.footprint) otherwise }
+        (conflict_of undone.now.footprint made.now.footprint)
+        (UndoReply.Undone serial undone.now.entry.line) }
 {
     match conflict(undone.footprint(), made.footprint()) {
         Some(object) => UndoReply::Conflict {
@@ -193,22 +195,39 @@ fn refusal(undone: &Kept, made: &Kept, otherwise: UndoReply) -> UndoReply
             worker: made.worker(),
             object,
         },
-        None => otherwise,
+        None => UndoReply::Undone {
+            serial,
+            line: undone.line(),
+        },
     }
 }
 
-/// The reply that names the record with a serial where it conflicts with another one, else the
-/// other reply.
-fn refusal_by(kept: &BySerial, undone: &Kept, first: u64, otherwise: UndoReply) -> UndoReply
+/// The reply that names the record with the serial `first` where it conflicts with the one of another
+/// serial, else that this one is undone.
+fn refusal_by(kept: &BySerial, undone: &Kept, serial: u64, first: u64) -> UndoReply
     requires { IsSome (lookup (is_at (nat_cmp first)) kept.now) }
     ensures { IfSome (lookup (is_at (nat_cmp first)) kept.now)
         (λ made. result ≡ conflict_or made.entry
-        (conflict_of undone.now.footprint made.footprint) otherwise) }
+        (conflict_of undone.now.footprint made.footprint)
+        (UndoReply.Undone serial undone.now.entry.line)) }
 {
     match kept.get(first) {
-        Some(made) => refusal(undone, made, otherwise),
+        Some(made) => refusal(undone, serial, made),
         None => unreachable!(),
     }
+}
+
+/// The serial of the first record after one that conflicts with its footprint. No list is searched where
+/// none is behind it.
+fn first_conflict(kept: &BySerial, lists: &TouchLists, undone: &Kept, serial: u64) -> Option<u64>
+    requires by_serial { AreBySerial 0 kept.now }
+    requires lists { AreListsOf (λ k. k.footprint) (values_of kept.now) lists.now }
+    ensures { IsFirst (meets (has_touch lists.now) undone.now.footprint) serial result }
+{
+    if kept.ends_at(serial) {
+        return None;
+    }
+    lists.first_conflict(undone.footprint(), serial)
 }
 
 /// What an undo of the entry with a serial answers.
@@ -220,16 +239,13 @@ fn reply_at(kept: &BySerial, lists: &TouchLists, serial: u64) -> UndoReply
         → k.entry.serial ≡ serial → result ≡ kept_reply (values_of kept.now) i }
 {
     match kept.get(serial) {
-        Some(undone) => {
-            let otherwise = UndoReply::Undone {
+        Some(undone) => match first_conflict(kept, lists, undone, serial) {
+            Some(first) => refusal_by(kept, undone, serial, first),
+            None => UndoReply::Undone {
                 serial,
                 line: undone.line(),
-            };
-            match lists.first_conflict(undone.footprint(), serial) {
-                Some(first) => refusal_by(kept, undone, first, otherwise),
-                None => otherwise,
-            }
-        }
+            },
+        },
         None => unreachable!(),
     }
 }

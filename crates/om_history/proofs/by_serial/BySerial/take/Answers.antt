@@ -9,38 +9,44 @@ use Rattle.om_history.specs.Rows.{entries_in}
 use Rattle.om_history.proofs.Rows.{found-at, taken-at, rising-set, remove_missing, told, untold}
 use Rattle.om_history.proofs.by_serial.BySerial.take.Goals as goal
 
-there : (c : goal.After-self-1) → slice_get c.self.inside.rows.items c.in_ok-at.at ≡ Some c.in_ok-at.ensures.found.0
+there : (c : goal.After-drop_gone) → slice_get c.self.inside.rows.items c.in_ok-at.at ≡ Some c.in_ok-at.ensures.found.0
 there c = subst (λ xs. slice_get xs c.in_ok-at.at ≡ Some c.in_ok-at.ensures.found.0) c.as_slice.ensures.value
     c.in_ok-at.ensures.found.1
 
-row_is : (c : goal.After-self-1) → c.index_mut.result.now ≡ c.in_ok-at.ensures.found.0
+row_is : (c : goal.After-drop_gone) → c.index_mut.result.now ≡ c.in_ok-at.ensures.found.0
 row_is c = c.index_mut.ensures.value
     ∙ get_or_from_slice_get c.self.inside.rows.items c.in_ok-at.at c.in_ok-at.ensures.found.0 c.index_mut.result.now (there c)
 
-found : (c : goal.After-self-1) → lookup (is_at (nat_cmp c.args.serial)) c.args.self.now ≡ c.take.result
+found : (c : goal.After-drop_gone) → lookup (is_at (nat_cmp c.args.serial)) c.args.self.now ≡ c.take-kept.result
 found c =
     ap (lookup (is_at (nat_cmp c.args.serial))) (sym c.self.view_is)
     ∙ found-at 0 c.args.serial c.self.inside.rows.items c.in_ok-at.at c.in_ok-at.ensures.found.0 c.self.invariant (there c)
     c.in_ok-at.ensures.found.2
-    ∙ sym (ap (λ (y : Row). y.kept) (row_is c)) ∙ sym c.take.ensures.value
+    ∙ sym (ap (λ (y : Row). y.kept) (row_is c)) ∙ sym c.take-kept.ensures.value
 
-pub invariant_of-self : goal.invariant_of-self
-invariant_of-self c = rising-set 0 c.self.inside.rows.items c.in_ok-at.at c.in_ok-at.ensures.found.0
-    (record { serial = c.index_mut.result.now.serial; kept = c.take.new.self }) c.self.invariant (there c)
-    (ap (λ (y : Row). y.serial) (row_is c))
+pub drop_gone-requires : goal.drop_gone-requires
+drop_gone-requires c =
+    let there = subst (λ xs. slice_get xs c.in_ok-at.at ≡ Some c.in_ok-at.ensures.found.0) c.as_slice.ensures.value
+    c.in_ok-at.ensures.found.1 in
+    rising-set 0 c.self.inside.rows.items c.in_ok-at.at c.in_ok-at.ensures.found.0
+    (record { serial = c.index_mut.result.now.serial; kept = c.take-kept.new.self }) c.self.invariant there
+    (ap (λ (y : Row). y.serial) (c.index_mut.ensures.value
+    ∙ get_or_from_slice_get c.self.inside.rows.items c.in_ok-at.at c.in_ok-at.ensures.found.0 c.index_mut.result.now
+    there))
 
 pub returns-clause-taken : goal.returns-clause-taken
 returns-clause-taken c =
-    taken-at 0 c.args.serial c.self.inside.rows.items c.in_ok-at.at c.in_ok-at.ensures.found.0
-    (record { serial = c.index_mut.result.now.serial; kept = c.take.new.self }) c.self.invariant (there c)
-    c.in_ok-at.ensures.found.2 c.take.ensures.after
+    c.drop_gone.ensures.same
+    ∙ taken-at 0 c.args.serial c.self.inside.rows.items c.in_ok-at.at c.in_ok-at.ensures.found.0
+    (record { serial = c.index_mut.result.now.serial; kept = c.take-kept.new.self }) c.self.invariant (there c)
+    c.in_ok-at.ensures.found.2 c.take-kept.ensures.after
     ∙ ap (remove_entry (is_at (nat_cmp c.args.serial))) c.self.view_is
 
 pub returns-clause-found : goal.returns-clause-found
-returns-clause-found c = told _ c.take.result (found c)
+returns-clause-found c = told _ c.take-kept.result (found c)
 
 pub returns-clause-none : goal.returns-clause-none
-returns-clause-none c = untold _ c.take.result (found c)
+returns-clause-none c = untold _ c.take-kept.result (found c)
 
 pub returns-in_err-at-clause-taken : goal.returns-in_err-at-clause-taken
 returns-in_err-at-clause-taken c = sym (remove_missing (is_at (nat_cmp c.args.serial)) c.args.self.now
