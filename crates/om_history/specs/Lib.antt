@@ -5,6 +5,8 @@ pub mod Runs
 pub mod Cones
 pub mod Commands
 pub mod Records
+pub mod Accesses
+pub mod Choices
 pub mod Replayed
 pub mod Takes
 pub mod Undos

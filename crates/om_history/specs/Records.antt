@@ -2,11 +2,8 @@
 use Rattle.std.specs.Prelude.{◌≡◌, ◌≢◌, Bool, true, false, Option, None, Some, List, [], ◌∷◌, map, All, ℕ, ◌+◌, ◌<◌, drop}
 use Rattle.std.specs.Prelude.{slice_get}
 use Rattle.std.specs.List.{AllByRecursion}
-use Rattle.std.specs.Global.{Box}
 use Rattle.om_foot.specs.declared.footprint.Access.{Access}
 use Rattle.om_foot.specs.Footprint.{conflict_of}
-use Rattle.om_cells.specs.declared.step.Choice.{Choice}
-use Rattle.om_cells.specs.declared.step.Choice.TheVariants.{Next, Start}
 use Rattle.om_cells.specs.declared.step.Update.{Update}
 use Rattle.om_cells.specs.declared.step.Step.{Step}
 use Rattle.om_cells.specs.declared.step.Entry.{Entry}
@@ -20,11 +17,6 @@ use Rattle.om_history.specs.declared.reply.UndoReply.TheVariants.{Undone, Confli
 use Rattle.om_history.specs.Laws.{updates_of}
 use Rattle.om_history.specs.Runs.{label_of, conflict_or}
 use Rattle.om_history.specs.Cones.{Transition}
-
--- the choice that starts the task of this name, if there is one
-abbrev pub choice_of : Option (Box (List ℕ)) → Choice
-choice_of None = Next
-choice_of (Some name) = Start name.value
 
 abbrev pub entries_of : List UndoRecord → List Entry
 entries_of ks = map (λ (k : UndoRecord). k.entry) ks

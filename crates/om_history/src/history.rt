@@ -12,14 +12,18 @@ ghost use Rattle.om_history.specs.Shapes.{IsShaped};
 ghost use Rattle.om_history.specs.Runs.{reply_to_undo, after_undo};
 ghost use Rattle.om_history.specs.Cones.{taken_by_roll, reply_to_roll, after_roll};
 ghost use Rattle.om_history.specs.Commands.{IsGone};
+ghost use Rattle.om_history.specs.Choices.{label_by};
 ghost use Rattle.om_history.specs.Records.{is_undone};
 ghost use Rattle.om_history.specs.Pasts.{past_in, history_in, IsHeld, IsPlanned, step_for, IsReplay, AreNumbered, Replies, RepliesToStep, Becomes, TakesStep, TakesOut, TakesItsCone, Stays};
 
+use crate::choice::start_of;
+use crate::kept::SmallEntry;
 use crate::records::Records;
 use crate::reply::{RollReply, StepReply, Taken, UndoReply};
 use crate::steps::{append, take_out};
 use om_cells::{Change, Edit, Entry, Label};
 use om_code::frame::Fault;
+use om_foot::Name;
 use om_live::{Control, Store, fault_after};
 use om_seq::Seq;
 use std::alloc::{AllocError, Global};
@@ -164,12 +168,41 @@ impl History {
             (TakesStep label.now (step_for label.now change self.old) self.old self.new) }
         ensures unchanged_on_error { OnErr result (Stays self.old self.new) }
     {
-        let reply = self.reply(label.worker, &change);
+        match start_of(alloc, &label.choice) {
+            Ok(start) => self.take_by(alloc, label.worker, start, change),
+            Err(error) => {
+                drop(change);
+                Err(error)
+            }
+        }
+    }
+
+    /// Takes the step of a worker by a choice that is to be kept: what `take` does, whose label holds the
+    /// choice in place.
+    pub fn take_by(
+        &mut self,
+        alloc: Global,
+        worker: u8,
+        start: Option<Box<Name>>,
+        change: Change,
+    ) -> Result<StepReply, AllocError>
+        requires few_made { (past_in self.old).made < 2 ^ 63 }
+        requires room { HaveRoom change.edits
+            (control_in ((past_in self.old).state (obj.Control worker))) }
+        requires planned { (r : Rules) × IsPlanned r self.old (label_by worker start)
+            (step_for (label_by worker start) change self.old) }
+        ensures reply { IfOk result (RepliesToStep (label_by worker start)
+            (step_for (label_by worker start) change self.old) self.old) }
+        ensures after { OnOk result (TakesStep (label_by worker start)
+            (step_for (label_by worker start) change self.old) self.old self.new) }
+        ensures unchanged_on_error { OnErr result (Stays self.old self.new) }
+    {
+        let reply = self.reply(worker, &change);
         let serial = self.made + 1;
-        let entry = Entry {
+        let entry = SmallEntry {
             serial,
-            worker: label.worker,
-            choice: label.choice,
+            worker,
+            start,
             line: change.line,
         };
         match append(&mut self.store, &mut self.records, alloc, entry, change) {

@@ -1,23 +1,42 @@
 //! Undo records as the history keeps them: small, each behind one pointer.
 
 ghost use Rattle.std.specs.Prelude.{◌≡◌, [], IfOk};
-ghost use Rattle.om_history.specs.Records.{choice_of};
 
-use om_cells::{Choice, Entry, Update};
+use crate::accesses::Accesses;
+use crate::choice::choice_of;
+use om_cells::{Choice, Update};
 use om_foot::Name;
 use om_seq::Seq;
 use om_touches::SharedAccess;
 use std::alloc::{AllocError, Global};
 use std::marker::Model;
 
-/// The parts of an undo record. Few choices start a task, so its name lies apart.
+/// An entry, as its record keeps it.
+///
+/// Contracts see the entry alone.
+#[derive(Drop)]
+pub struct SmallEntry {
+    pub(crate) serial: u64,
+    pub(crate) worker: u8,
+    /// The name of the task that its choice starts, if it does.
+    pub(crate) start: Option<Box<Name>>,
+    pub(crate) line: u32,
+}
+
+impl Model for SmallEntry {
+    ghost use Rattle.om_cells.specs.declared.step.Entry.{Entry};
+    ghost use Rattle.om_history.specs.Choices.{choice_of};
+
+    ghost Value = { Entry };
+
+    ghost view = { λ e. record { serial = e.serial; worker = e.worker; choice = choice_of e.start; line = e.line } };
+}
+
+/// The parts of an undo record.
 #[derive(Drop)]
 struct Parts {
-    serial: u64,
-    worker: u8,
-    line: u32,
-    start: Option<Box<Name>>,
-    footprint: Seq<SharedAccess>,
+    entry: SmallEntry,
+    footprint: Accesses,
     back: Seq<Update>,
 }
 
@@ -39,51 +58,26 @@ impl Drop for Kept {
 
 impl Model for Kept {
     ghost use Rattle.om_history.specs.declared.records.UndoRecord.{UndoRecord};
-    ghost use Rattle.om_history.specs.Records.{choice_of};
 
     ghost Value = { UndoRecord };
 
     ghost view = { λ k. record {
-      entry = record { serial = k.parts.value.serial; worker = k.parts.value.worker; choice = choice_of k.parts.value.start; line = k.parts.value.line };
+      entry = k.parts.value.entry;
       footprint = k.parts.value.footprint;
       back = k.parts.value.back;
     } };
 }
 
-/// The name of the task that a choice starts, if it does. Its only error is out of memory.
-fn start(alloc: Global, choice: &Choice) -> Result<Option<Box<Name>>, AllocError>
-    ensures { IfOk result (λ start. choice_of start ≡ choice.now) }
-{
-    let Choice::Start(name) = choice else {
-        return Ok(None);
-    };
-    Ok(Some(Box::new(alloc, *name)?))
-}
-
-/// The choice that starts the task of this name, if there is one.
-fn choice(start: &Option<Box<Name>>) -> Choice
-    ensures { result ≡ choice_of start.now }
-{
-    match start {
-        Some(name) => Choice::Start(**name),
-        None => Choice::Next,
-    }
-}
-
 impl Kept {
     /// The record of an entry with this footprint, without what takes its updates back. Its only
     /// error is out of memory.
-    pub fn of(alloc: Global, entry: Entry, footprint: Vec<SharedAccess>) -> Result<Kept, AllocError>
+    pub fn of(alloc: Global, entry: SmallEntry, footprint: Accesses) -> Result<Kept, AllocError>
         ensures { IfOk result
-            (λ kept. kept ≡ record { entry = entry; footprint = footprint.items; back = [] }) }
+            (λ kept. kept ≡ record { entry = entry; footprint = footprint; back = [] }) }
     {
-        let start = start(alloc, &entry.choice)?;
         let parts = Parts {
-            serial: entry.serial,
-            worker: entry.worker,
-            line: entry.line,
-            start,
-            footprint: Seq::of(footprint),
+            entry,
+            footprint,
             back: Seq::new(alloc),
         };
         Ok(Kept {
@@ -95,28 +89,28 @@ impl Kept {
     pub fn serial(&self) -> u64
         ensures { result ≡ self.now.entry.serial }
     {
-        self.parts.serial
+        self.parts.entry.serial
     }
 
     /// The worker of its entry.
     pub fn worker(&self) -> u8
         ensures { result ≡ self.now.entry.worker }
     {
-        self.parts.worker
+        self.parts.entry.worker
     }
 
     /// The choice of its entry.
     pub fn choice(&self) -> Choice
         ensures { result ≡ self.now.entry.choice }
     {
-        choice(&self.parts.start)
+        choice_of(&self.parts.entry.start)
     }
 
     /// The line of its entry.
     pub fn line(&self) -> u32
         ensures { result ≡ self.now.entry.line }
     {
-        self.parts.line
+        self.parts.entry.line
     }
 
     /// Its footprint.
@@ -127,16 +121,13 @@ impl Kept {
     }
 
     /// Its footprint, and what takes its updates back. It takes no memory.
-    pub fn into_changes(self) -> (Seq<SharedAccess>, Seq<Update>)
+    pub fn into_changes(self) -> (Accesses, Seq<Update>)
         ensures footprint { result.0 ≡ self.footprint }
         ensures back { result.1 ≡ self.back }
     {
         let Kept { parts } = self;
         let Parts {
-            serial: _,
-            worker: _,
-            line: _,
-            start: _,
+            entry: _,
             footprint,
             back,
         } = Box::into_inner(parts);

@@ -2,7 +2,9 @@
 //! they rest on.
 #![tactic(auto)]
 
+mod accesses;
 mod by_serial;
+pub mod choice;
 pub mod history;
 mod kept;
 pub mod laws;

@@ -9,10 +9,10 @@ ghost use Rattle.om_history.specs.Records.{HasRoom, AreBelow, HasSerial};
 ghost use Rattle.om_history.specs.Takes.{updates_by, small_for, CanMake, CanLeave};
 ghost use Rattle.om_history.specs.declared.records.UndoRecord.{UndoRecord};
 
-use crate::kept::Kept;
+use crate::kept::{Kept, SmallEntry};
 use crate::records::Records;
-use crate::updates::{keep_all, make_all, take_back_all};
-use om_cells::{Change, Edit, Entry, Update};
+use crate::updates::{keep_footprint, make_all, take_back_all};
+use om_cells::{Change, Edit, Update};
 use om_live::Store;
 use om_seq::Seq;
 use om_touches::SharedAccess;
@@ -84,7 +84,12 @@ fn make_changes(
 
 /// Makes a change of an entry's worker, and answers the record of it. When out of memory, nothing
 /// changes.
-fn make(store: &mut Store, alloc: Global, entry: Entry, change: Change) -> Result<Kept, AllocError>
+fn make(
+    store: &mut Store,
+    alloc: Global,
+    entry: SmallEntry,
+    change: Change,
+) -> Result<Kept, AllocError>
     requires { CanMake entry.worker change.footprint change.edits change.updates
         (state_of store.old) }
     ensures state { OnOk result (state_of store.new ≡ updated change.footprint
@@ -105,7 +110,7 @@ fn make(store: &mut Store, alloc: Global, entry: Entry, change: Change) -> Resul
         updates,
         line: _,
     } = change;
-    let shared = keep_all(store, alloc, footprint.as_slice())?;
+    let shared = keep_footprint(store, alloc, footprint.as_slice())?;
     let mut made = Kept::of(alloc, entry, shared)?;
     let mut back = updates.into_vec();
     back.shrink_to_fit();
@@ -124,7 +129,7 @@ pub(crate) fn append(
     store: &mut Store,
     records: &mut Records,
     alloc: Global,
-    entry: Entry,
+    entry: SmallEntry,
     change: Change,
 ) -> Result<(), AllocError>
     requires can { CanMake entry.worker change.footprint change.edits change.updates

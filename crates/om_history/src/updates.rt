@@ -1,6 +1,6 @@
 //! Updates of a store, each exchanged for what a small record holds of it.
 
-ghost use Rattle.std.specs.Prelude.{◌≡◌, ◌<◌, ◌≤◌, ◌∷◌, true, false, All, OnOk, OnErr, IfOk, length, take, drop};
+ghost use Rattle.std.specs.Prelude.{◌≡◌, ◌<◌, ◌≤◌, ◌∷◌, [], true, false, All, OnOk, OnErr, IfOk, IfSome, length, take, drop};
 ghost use Rattle.om_foot.specs.declared.object.Obj.{Obj};
 ghost use Rattle.om_foot.specs.declared.object.Obj.TheVariants as obj;
 ghost use Rattle.om_cells.specs.declared.value.Val.TheVariants as value;
@@ -10,6 +10,7 @@ ghost use Rattle.om_history.specs.Bounds.{FitsAt, FitsAtBack, FitsAll};
 ghost use Rattle.om_history.specs.Shapes.{IsShapedAt, AreShaped};
 ghost use Rattle.om_history.specs.Fills.{small_at, noted, small_record, noted_all, filled_at, popped, filled, popped_all, IfControl, CanTakeBack, control_at};
 
+use crate::accesses::Accesses;
 use om_cells::{Control, SharedControl, Update, Val};
 use om_foot::{Access, Mode, Obj};
 use om_live::{Store, worker_of};
@@ -260,7 +261,7 @@ fn keep(store: &mut Store, alloc: Global, access: &Access) -> Result<SharedAcces
 
 /// Keeps each object of a footprint, so that its value can be put back without memory, and answers
 /// the accesses of them, shared. No value changes, also when out of memory.
-pub(crate) fn keep_all(
+fn keep_all(
     store: &mut Store,
     alloc: Global,
     footprint: &[Access],
@@ -276,6 +277,32 @@ pub(crate) fn keep_all(
         shared.push(keep(store, alloc, access)?)?;
     }
     Ok(shared)
+}
+
+/// The only one of these accesses, where there is one and no other.
+fn only(footprint: &[Access]) -> Option<&Access>
+    ensures { IfSome result (λ a. footprint.now ≡ a.now ∷ []) }
+{
+    let (first, rest) = footprint.split_first()?;
+    if rest.is_empty() { Some(first) } else { None }
+}
+
+/// Keeps each object of a footprint, as `keep_all` does. Where there is one, its access takes no memory.
+pub(crate) fn keep_footprint(
+    store: &mut Store,
+    alloc: Global,
+    footprint: &[Access],
+) -> Result<Accesses, AllocError>
+    ensures shared { IfOk result (λ shared. shared ≡ footprint.now) }
+    ensures same { state_of store.new ≡ state_of store.old }
+    ensures same_pasts { pasts_of store.new ≡ pasts_of store.old }
+    ensures kept { OnOk result (All (λ a. is_kept store.new a.object ≡ true) footprint.now) }
+    ensures others_kept { (q : Obj) → is_kept store.old q ≡ true → is_kept store.new q ≡ true }
+{
+    match only(footprint) {
+        Some(access) => Ok(Accesses::one(keep(store, alloc, access)?)),
+        None => Ok(Accesses::many(keep_all(store, alloc, footprint)?)),
+    }
 }
 
 /// Makes the updates of a footprint, and leaves in their place what a small record holds of them.

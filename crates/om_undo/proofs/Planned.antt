@@ -1,9 +1,11 @@
 -- What a plan says of the step that it stands for.
-use Rattle.std.proofs.Common.{◌≡◌, ap, sym, ◌∙◌, subst, ◌+◌, ℕ, true, false}
+use Rattle.std.proofs.Common.{◌≡◌, ap, sym, ◌∙◌, subst, ◌+◌, ℕ, true, false, Option, List}
 use Rattle.std.specs.Prelude.{unwrap_or, Result, Ok, Err, OnOk, OnErr}
+use Rattle.std.specs.Global.{Box}
 use Rattle.om_foot.specs.declared.object.Obj.TheVariants as obj
 use Rattle.om_cells.specs.declared.step.Blocked.{Blocked}
 use Rattle.om_cells.specs.declared.step.Change.{Change}
+use Rattle.om_cells.specs.declared.step.Choice.{Choice}
 use Rattle.om_cells.specs.declared.step.Label.{Label}
 use Rattle.om_cells.specs.declared.step.Outcome.{Outcome}
 use Rattle.om_cells.specs.declared.step.Outcome.TheVariants as outcome
@@ -18,6 +20,7 @@ use Rattle.om_task.specs.Plans.{StandsFor, PlanHasRoom}
 use Rattle.om_history.specs.declared.history.History as kept
 use Rattle.om_history.specs.declared.reply.StepReply.{StepReply}
 use Rattle.om_history.specs.declared.reply.StepReply.TheVariants as step_reply
+use Rattle.om_history.specs.Choices.{choice_of, label_by}
 use Rattle.om_history.specs.Runs.{History, entry_for, reply_for, history_with, reply_to_step, after_step}
 use Rattle.om_history.specs.Runs.{state_of_entries}
 use Rattle.om_history.specs.Pasts.{past_in, history_in, IsHeld, IsPlanned, IsReplay, Stays, step_for}
@@ -104,6 +107,11 @@ plan_of program workers h m l p seen held is =
       replayed = at.planned;
       room = subst (λ (t : State). PlanHasRoom (control_in (t (obj.Control l.worker))) p) (sym same) at.room;
     }
+
+-- a worker's label by a choice that is kept
+pub label_is : (worker : ℕ) (start : Option (Box (List ℕ))) (x : Choice) → choice_of start ≡ x
+    → label_by worker start ≡ record { worker = worker; choice = x }
+label_is worker start x is = ap (λ (y : Choice). let l : Label = record { worker = worker; choice = y } in l) is
 
 -- what was planned at a machine is the plan where its history stands, by a label that is the step's
 pub plan_taken : (program : Raw) (workers : ℕ) (h : kept.History) (m at : MachineView) (l k : Label) (p : Plan)

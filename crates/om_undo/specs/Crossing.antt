@@ -19,8 +19,10 @@ use Rattle.om_touches.specs.contracts.own.OwnEntries as own
 use Rattle.om_touches.specs.contracts.serials.Serials as serials
 use Rattle.om_touches.specs.contracts.shared_access.SharedAccess as shared_access
 use Rattle.om_touches.specs.contracts.touches.TouchLists as lists
+use Rattle.om_history.specs.contracts.accesses.Accesses as accesses
 use Rattle.om_history.specs.contracts.history.History as history
 use Rattle.om_history.specs.contracts.kept.Kept as kept
+use Rattle.om_history.specs.contracts.kept.SmallEntry as small_entry
 use Rattle.om_history.specs.contracts.records.Records as records
 use Rattle.om_undo.specs.contracts.machine.Machine as machine
 use Rattle.om_undo.specs.Lists.{seq_send}
@@ -54,8 +56,14 @@ store_send = search (trail_send, values_send, crosses, sendable) depth 40
 shared_access_send : IsSend shared_access.the_row
 shared_access_send = search (shared_object_send, sendable) depth 40
 
+accesses_send : IsSend accesses.the_row
+accesses_send = search (shared_access_send, seq_send, sendable) depth 40
+
+small_entry_send : IsSend small_entry.the_row
+small_entry_send = search (name_send, crosses, sendable) depth 40
+
 kept_send : IsSend kept.the_row
-kept_send = search (name_send, shared_access_send, update_send, seq_send, crosses, sendable) depth 40
+kept_send = search (small_entry_send, accesses_send, update_send, seq_send, crosses, sendable) depth 40
 
 offsets_send : IsSend offsets.the_row
 offsets_send = search sendable depth 40

@@ -1,16 +1,12 @@
 -- What contracts see of a planned step, and what is true of its fields.
-use Rattle.std.specs.Prelude.{ℕ, Bool, true, false}
+use Rattle.std.specs.Prelude.{Bool, true, false}
 use Rattle.om_foot.specs.declared.object.Obj.TheVariants as obj
 use Rattle.om_cells.specs.Values.{control_in}
-use Rattle.om_cells.specs.declared.step.Choice.{Choice}
-use Rattle.om_cells.specs.declared.step.Choice.TheVariants as choice
 use Rattle.om_cells.specs.declared.step.Label.{Label}
 use Rattle.om_task.specs.declared.planned.Plan.{Plan}
 use Rattle.om_task.specs.Plans.{PlanHasRoom}
 use Rattle.om_history.specs.declared.reply.StepReply.{StepReply}
 use Rattle.om_history.specs.declared.reply.StepReply.TheVariants as step_reply
-use Rattle.om_undo.specs.declared.machine.PlannedChoice.{PlannedChoice}
-use Rattle.om_undo.specs.declared.machine.PlannedChoice.TheVariants as planned_choice
 use Rattle.om_undo.specs.Machines.{MachineView, PlansAt, rules_for, state_in}
 
 -- the machine at which a step was planned, and its label
@@ -20,14 +16,6 @@ pub record PlannedView : Type 0 where
 
 abbrev pub planned_at : MachineView → Label → PlannedView
 planned_at m l = record { machine = m; label = l }
-
--- the choice that is kept
-abbrev pub choice_in : PlannedChoice → Choice
-choice_in planned_choice.Next = choice.Next
-choice_in (planned_choice.Start task) = choice.Start task.value
-
-abbrev pub label_by : ℕ → PlannedChoice → Label
-label_by worker c = record { worker = worker; choice = choice_in c }
 
 -- the plan of a label's step at a machine, whose edits have room
 pub record IsPlanAt (m : MachineView) (l : Label) (p : Plan) : Type 0 where

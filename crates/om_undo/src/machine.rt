@@ -8,18 +8,20 @@ ghost use Rattle.om_cells.specs.Rules.{Rules, replay};
 ghost use Rattle.om_cells.specs.Values.{control_in};
 ghost use Rattle.om_live.specs.Stores.{plain_or_idle};
 ghost use Rattle.om_task.specs.Rules.{rules_of, line_in, is_at_scheduling_point};
+ghost use Rattle.om_history.specs.Choices.{choice_of, label_by};
 ghost use Rattle.om_history.specs.Runs.{no_history, label_of, reply_to_step, after_step, reply_to_undo, after_undo};
 ghost use Rattle.om_history.specs.Cones.{taken_by_roll, reply_to_roll, after_roll};
 ghost use Rattle.om_history.specs.Commands.{IsRun, IsGone, Rise, TakesCone};
 ghost use Rattle.om_history.specs.Pasts.{past_in, IsHeld, Stays};
 ghost use Rattle.om_undo.specs.Headline.{Headline};
 ghost use Rattle.om_undo.specs.Machines.{rules_for, state_in, IsPlan, RepliesToPlan, TakesPlan};
-ghost use Rattle.om_undo.specs.PlannedSteps.{choice_in, is_made, planned_at};
+ghost use Rattle.om_undo.specs.PlannedSteps.{is_made, planned_at};
 
 use crate::laws::{headline, shaped_rules, steady_rules};
 use om_cells::{Entry, Label, Val};
 use om_code::Program;
 use om_foot::{Name, Obj};
+use om_history::choice::{choice_of, start_of};
 use om_history::{History, RollReply, StepReply, Taken, UndoReply};
 use om_live::Control;
 use om_task::laws::low_counters;
@@ -67,13 +69,6 @@ impl Model for Machine {
     ghost invariant = { λ m. IsSound m.program m.workers m.history };
 }
 
-/// A choice as a planned step keeps it: the names of tasks are large, and lie apart.
-#[derive(Drop)]
-enum PlannedChoice {
-    Next,
-    Start(Box<Name>),
-}
-
 /// The step that a worker would take by a choice, as it was planned at a machine.
 ///
 /// Contracts see that machine and the step's label. Its plan is always the one of that label at that
@@ -81,41 +76,21 @@ enum PlannedChoice {
 #[derive(Drop)]
 pub struct PlannedStep {
     worker: u8,
-    choice: PlannedChoice,
+    /// The name of the task that its choice starts, if it does: names are large, so it lies apart.
+    start: Option<Box<Name>>,
     plan: Plan,
     at: Snapshot<Machine>,
 }
 
 impl Model for PlannedStep {
-    ghost use Rattle.om_undo.specs.PlannedSteps.{PlannedView, label_by, IsPlanAt};
+    ghost use Rattle.om_history.specs.Choices.{label_by};
+    ghost use Rattle.om_undo.specs.PlannedSteps.{PlannedView, IsPlanAt};
 
     ghost Value = { PlannedView };
 
-    ghost view = { λ p. record { machine = p.at.value; label = label_by p.worker p.choice } };
+    ghost view = { λ p. record { machine = p.at.value; label = label_by p.worker p.start } };
 
-    ghost invariant = { λ p. IsPlanAt p.at.value (label_by p.worker p.choice) p.plan };
-}
-
-/// A choice, to be kept. Its only error is out of memory.
-fn kept(alloc: Global, choice: &Choice) -> Result<PlannedChoice, AllocError>
-    ensures { IfOk result (λ kept. choice_in kept ≡ choice.now) }
-{
-    match choice {
-        Choice::Next => Ok(PlannedChoice::Next),
-        Choice::Start(task) => Ok(PlannedChoice::Start(Box::new(alloc, *task)?)),
-    }
-}
-
-impl PlannedChoice {
-    /// The choice.
-    fn get(&self) -> Choice
-        ensures { result ≡ choice_in self.now }
-    {
-        match self {
-            PlannedChoice::Next => Choice::Next,
-            PlannedChoice::Start(task) => Choice::Start(**task),
-        }
-    }
+    ghost invariant = { λ p. IsPlanAt p.at.value (label_by p.worker p.start) p.plan };
 }
 
 impl PlannedStep {
@@ -130,7 +105,7 @@ impl PlannedStep {
     pub fn choice(&self) -> Choice
         ensures { result ≡ self.now.label.choice }
     {
-        self.choice.get()
+        choice_of(&self.start)
     }
 
     /// Whether it can be made: it is neither blocked, nor has its worker ended.
@@ -186,22 +161,24 @@ fn replied(history: &History, worker: u8, plan: &Plan) -> StepReply
     }
 }
 
-/// Takes the step of a plan for a label, or says why it can't be taken: the reply of the definition
-/// of a run. When out of memory, nothing changes.
+/// Takes the step of a plan for a worker's label, or says why it can't be taken: the reply of the
+/// definition of a run. When out of memory, nothing changes.
 fn taken(
     history: &mut History,
     alloc: Global,
-    label: &Label,
+    worker: u8,
+    start: Option<Box<Name>>,
     plan: Plan,
 ) -> Result<StepReply, AllocError>
     requires few_made { (past_in history.old).made < 2 ^ 63 }
-    requires planned { (r : Rules) × IsPlan r history.old label.now plan }
-    ensures reply { IfOk result (RepliesToPlan label.now plan history.old) }
-    ensures after { OnOk result (TakesPlan label.now plan history.old history.new) }
+    requires planned { (r : Rules) × IsPlan r history.old (label_by worker start) plan }
+    ensures reply { IfOk result (RepliesToPlan (label_by worker start) plan history.old) }
+    ensures after { OnOk result
+        (TakesPlan (label_by worker start) plan history.old history.new) }
     ensures unchanged_on_error { OnErr result (Stays history.old history.new) }
 {
     match plan {
-        Plan::Updates(change) => history.take(alloc, label, change),
+        Plan::Updates(change) => history.take_by(alloc, worker, start, change),
         Plan::Blocked(why) => Ok(StepReply::Blocked(why)),
         Plan::Ended => Ok(StepReply::Ended),
     }
@@ -248,8 +225,9 @@ impl Machine {
         ensures unchanged_on_error { OnErr result (self.new ≡ self.old) }
     {
         let label = label(worker, &choice);
+        let start = start_of(alloc, &choice)?;
         let plan = planned(alloc, &self.program, self.workers, &self.history, &label)?;
-        taken(&mut self.history, alloc, &label, plan)
+        taken(&mut self.history, alloc, worker, start, plan)
     }
 
     /// What `step` would answer now. Nothing changes; the only error is out of memory.
@@ -278,12 +256,12 @@ impl Machine {
         ensures { IfOk result
             (λ p. p ≡ planned_at self.now (record { worker = worker; choice = choice.now })) }
     {
-        let kept = kept(alloc, choice)?;
+        let start = start_of(alloc, choice)?;
         let label = label(worker, choice);
         let plan = planned(alloc, &self.program, self.workers, &self.history, &label)?;
         Ok(PlannedStep {
             worker,
-            choice: kept,
+            start,
             plan,
             at: Snapshot::of(self),
         })
@@ -305,12 +283,11 @@ impl Machine {
     {
         let PlannedStep {
             worker,
-            choice,
+            start,
             plan,
             at: _,
         } = step;
-        let label = label(worker, &choice.get());
-        taken(&mut self.history, alloc, &label, plan)
+        taken(&mut self.history, alloc, worker, start, plan)
     }
 
     /// Takes a worker's last step out of the history, wherever it stands, unless a later step

@@ -1,56 +1,28 @@
--- What was planned is the step at the replay of the entries.
-use Rattle.std.proofs.Common.{◌∙◌, sym, ap, refl, subst}
-use Rattle.om_live.specs.Stores.{state_of, pasts_of}
-use Rattle.om_history.specs.Commands.{Rise}
-use Rattle.om_history.specs.Fills.{full_all}
-use Rattle.om_history.specs.Takes.{updates_by}
-use Rattle.om_history.specs.Pasts.{past_in, history_in, entries_in, step_for}
-use Rattle.om_history.proofs.Soundness.{pushed_entries}
-use Rattle.om_history.proofs.Removed.{full_entries}
-use Rattle.om_history.proofs.Holding.{can_make, past_with, kept_with, kept-same}
-use Rattle.om_history.proofs.RunLaws.{IsRun-rises}
-use Rattle.om_history.proofs.Rising.{rise_below}
+-- The choice that is kept is the label's.
+use Rattle.std.proofs.Common.{◌≡◌, sym, ap, subst, refl, IfOk, OnOk}
+use Rattle.om_cells.specs.declared.step.Choice.{Choice}
+use Rattle.om_cells.specs.declared.step.Label.{Label}
+use Rattle.om_cells.specs.Rules.{Rules}
+use Rattle.om_history.specs.Pasts.{IsPlanned, RepliesToStep, TakesStep, step_for}
 use Rattle.om_history.proofs.history.History.take.Goals as goal
 
-pub append-requires-clause-can : goal.append-requires-clause-can
-append-requires-clause-can c =
-    can_make c.requires.planned.0 c.args.self.now.store c.args.self.now.records c.args.self.now.made c.args.label.now
-    c.args.change c.requires.planned.1.0 c.requires.room c.requires.planned.1.1
+same : (l : Label) (x : Choice) → x ≡ l.choice → (let m : Label = record { worker = l.worker; choice = x } in m) ≡ l
+same l x is = ap (λ (y : Choice). let m : Label = record { worker = l.worker; choice = y } in m) is
 
-pub append-requires-clause-latest : goal.append-requires-clause-latest
-append-requires-clause-latest c =
-    rise_below 0 c.args.self.now.made c.args.self.now.records
-    (subst (λ es. Rise 0 es c.args.self.now.made)
-    (full_entries (pasts_of c.args.self.now.store) c.args.self.now.records)
-    (IsRun-rises c.requires.planned.0 (history_in c.args.self.now) c.requires.planned.1.0.past.reached))
+pub take_by-requires-clause-planned : goal.take_by-requires-clause-planned
+take_by-requires-clause-planned c =
+    subst (λ (l : Label). (r : Rules) × IsPlanned r c.args.self.now l (step_for l c.args.change c.args.self.now))
+    (sym (same c.args.label.now _ c.in-Ok.ensures)) c.requires.planned
 
 pub returns-in-Ok-clause-reply : goal.returns-in-Ok-clause-reply
-returns-in-Ok-clause-reply c = c.reply-reply.ensures c.args.label.now refl
+returns-in-Ok-clause-reply c =
+    subst (λ (l : Label). IfOk c.take_by.result (RepliesToStep l (step_for l c.args.change c.args.self.now)
+    c.args.self.now)) (same c.args.label.now _ c.in-Ok.ensures) c.take_by.ensures.reply
 
 pub returns-in-Ok-clause-after : goal.returns-in-Ok-clause-after
-returns-in-Ok-clause-after c = λ r next.
-    let can = can_make r c.args.self.now.store c.args.self.now.records c.args.self.now.made c.args.label.now
-    c.args.change next.0 c.requires.room next.1 in (
-      sym (ap entries_in (past_with r c.args.self.now.store c.append.new.store c.args.self.now.records
-          c.append.new.records c.args.self.now.made c.args.label.now c.args.change next.0 c.requires.few_made can next.1
-          c.in-Ok.ensures.state c.in-Ok.ensures.pasts c.in-Ok.ensures.records))
-          ∙ pushed_entries r (past_in c.args.self.now) c.args.label.now (step_for c.args.label.now c.args.change c.args.self.now)
-          (updates_by c.args.label.now.worker c.args.change.edits c.args.change.updates (state_of c.args.self.now.store))
-          next.0.past next.1 refl,
-      kept_with r c.args.self.now.store c.append.new.store c.args.self.now.records
-          c.append.new.records c.args.self.now.made c.args.label.now c.args.change next.0 c.requires.few_made can next.1
-          c.in-Ok.ensures.state c.in-Ok.ensures.pasts c.in-Ok.ensures.records c.in-Ok.ensures.room
-          c.append.ensures.others_kept,
-    )
+returns-in-Ok-clause-after c =
+    subst (λ (l : Label). OnOk c.take_by.result (TakesStep l (step_for l c.args.change c.args.self.now)
+    c.args.self.now c.take_by.new.self)) (same c.args.label.now _ c.in-Ok.ensures) c.take_by.ensures.after
 
 pub returns-in-Err-clause-unchanged_on_error : goal.returns-in-Err-clause-unchanged_on_error
-returns-in-Err-clause-unchanged_on_error c = (
-  (λ j. record {
-    state = c.in-Err.ensures.same_state_on_error j;
-    records = full_all (c.in-Err.ensures.same_pasts_on_error j) (c.in-Err.ensures.same_records_on_error j);
-    made = c.args.self.now.made;
-  }),
-  λ r held. kept-same r c.args.self.now.store c.append.new.store c.args.self.now.records c.append.new.records
-      c.args.self.now.made held c.in-Err.ensures.same_state_on_error c.in-Err.ensures.same_pasts_on_error
-      c.in-Err.ensures.same_records_on_error c.append.ensures.others_kept,
-)
+returns-in-Err-clause-unchanged_on_error c = (refl, λ r held. held)

@@ -1,0 +1,28 @@
+//! Choices as records keep them: few start a task, so its name lies apart.
+
+ghost use Rattle.std.specs.Prelude.{◌≡◌, IfOk};
+ghost use Rattle.om_history.specs.Choices.{choice_of};
+
+use om_cells::Choice;
+use om_foot::Name;
+use std::alloc::{AllocError, Global};
+
+/// The name of the task that a choice starts, if it does. Its only error is out of memory.
+pub fn start_of(alloc: Global, choice: &Choice) -> Result<Option<Box<Name>>, AllocError>
+    ensures { IfOk result (λ start. choice_of start ≡ choice.now) }
+{
+    let Choice::Start(name) = choice else {
+        return Ok(None);
+    };
+    Ok(Some(Box::new(alloc, *name)?))
+}
+
+/// The choice that starts the task of this name, if there is one.
+pub fn choice_of(start: &Option<Box<Name>>) -> Choice
+    ensures { result ≡ choice_of start.now }
+{
+    match start {
+        Some(name) => Choice::Start(**name),
+        None => Choice::Next,
+    }
+}
