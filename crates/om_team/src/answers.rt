@@ -35,7 +35,10 @@ pub fn footprint(worker: u8, names: Seq<Access>) -> Result<Seq<Access>, AllocErr
 {
     let object = Obj::Control(worker);
     let mode = Mode::Write;
-    let mut footprint = names;
+    // Most steps name nothing, and an access is large: there is no room for others.
+    let mut names = names.into_vec();
+    names.reserve_exact(1)?;
+    let mut footprint = Seq::of(names);
     footprint.push_front(Access { object, mode })?;
     Ok(footprint)
 }
