@@ -48,9 +48,9 @@ impl Input {
         ensures pending { self.new.pending.items ≡ drop used self.old.pending.items }
         ensures reads { self.new.reads_left ≡ self.old.reads_left }
     {
-        if used > 0 {
-            self.pending.drain(..used);
-        }
+        let left = self.pending.len() - used;
+        self.pending.copy_within(used.., 0);
+        self.pending.truncate(left);
     }
 
     /// Reads once, and answers whether the input may go on.
