@@ -18,7 +18,8 @@ use Rattle.om_shell.specs.Transcript.{Transcript, after_text}
 use Rattle.om_shell.specs.Progress.{Moment, moment_of, IsBeginning, AppendsPart, AreWholeLines, Advance}
 use Rattle.om_shell.specs.Batch.{Answers, AnswersPart}
 use Rattle.om_shell.specs.Sessions.{over, after_answer, session, due, due_behind, AnswersBatch, AdvancesTo}
-use Rattle.om_shell.proofs.Advances.{after_text-append, Advance_none, Advance_trans, Advance_read, Advance_answers}
+use Rattle.om_shell.proofs.Advances.{AreWholeLines-append, after_text-append, Advance_none, Advance_trans, Advance_read}
+use Rattle.om_shell.proofs.Advances.{Advance_answers}
 use Rattle.om_shell.proofs.LineLaws.{lines_first, only_part}
 use Rattle.om_shell.proofs.SourceLaws.{line_with_end}
 
@@ -27,10 +28,6 @@ rest_due : (quits : Bool) (after : Debugger) (later : List FreeRun) (future : Li
     → cond quits (over after) (due after later future) ≡ due_behind quits after later future
 rest_due true after later future = refl
 rest_due false after later future = refl
-
-session_begins : (d : Debugger) (runs : List FreeRun) (line : List ℕ) (more : List (List ℕ))
-    → IsBeginning (answered d runs line).text (session d runs (line ∷ more)).text
-session_begins d runs line more = record { rest = _; is = refl }
 
 pub beginning_of_beginning : (xs ys zs : List ℕ) → IsBeginning xs ys → IsBeginning ys zs → IsBeginning xs zs
 beginning_of_beginning xs ys zs p q = record {
@@ -129,40 +126,96 @@ Batch_next a b c bytes line at n before d after text quits p e bound same q more
       e bound same (q.is later) more,
 )
 
-Answers_fault : (a b c : Option (List ℕ)) (bytes line : List ℕ) (at n : ℕ) (la : List ℕ → Transcript Debugger)
-    (d : Debugger) (now : List FreeRun) (fault : ShellFault)
-    → Answers a b bytes at la (due d now)
-    → n ≡ position_or_len (λ byte. byte == 10) (drop at bytes) → n < length (drop at bytes)
-    → line ≡ strip_carriage_return (take n (drop at bytes))
-    → AppendsPart b c (answered d now line).text → fault ≢ Read
-    → AnswersPart a c bytes la fault
-Answers_fault a b c bytes line at n la d now fault so_far e bound same part other = record {
-  text = so_far.text ++ part.sent;
-  appends = Appends-trans _ _ _ _ _ so_far.appends part.appends;
-  begins = λ future.
-      let more = drop (at + (n + 1)) bytes ++ future in
-      let whole : la (bytes ++ future) ≡ after_text so_far.text (session d now (line ∷ lines more)) =
-      ap la (ap (λ l. l ++ future) (sym (take-append-drop (at + (n + 1)) bytes))
-      ∙ append_assoc (take (at + (n + 1)) bytes) (drop (at + (n + 1)) bytes) future)
-      ∙ next_line bytes at n so_far.text more la d now e bound so_far.is
-      ∙ ap (λ l. after_text so_far.text (session d now (l ∷ lines more))) (sym same) in
-      let begun = after_beginning so_far.text _ _ (beginning_of_beginning _ _ _ part.begins
-      (session_begins d now line (lines more))) in
-      record { rest = begun.rest; is = ap (λ (t : Transcript Debugger). t.text) whole ∙ begun.is };
-  no_read = other;
+-- behind the bytes of a batch, what is due for them all is what was said and what is due behind
+batch_due : (bytes future : List ℕ) (at : ℕ) (text : List ℕ) (la lb : List ℕ → Transcript Debugger)
+    → ((future : List ℕ) → la (take at bytes ++ future) ≡ after_text text (lb future))
+    → la (bytes ++ future) ≡ after_text text (lb (drop at bytes ++ future))
+batch_due bytes future at text la lb is =
+    ap la (ap (λ l. l ++ future) (sym (take-append-drop at bytes)) ∙ append_assoc (take at bytes) (drop at bytes) future)
+    ∙ is (drop at bytes ++ future)
+
+-- what was said for whole lines is a beginning of what is due
+pub Batch_begins : (a b : Option (List ℕ)) (bytes : List ℕ) (used : ℕ) (before after : Debugger) (quits : Bool)
+    (fault : ShellFault)
+    → AnswersBatch a b bytes used before quits after → fault ≢ Read
+    → (runs : List FreeRun) × AnswersPart a b bytes (due before runs) fault
+Batch_begins a b bytes used before after quits fault p other =
+    let said = p.1 [] in (
+      p.0 ++ [],
+      record {
+        text = said.text;
+        appends = said.appends;
+        begins = λ future. record {
+          rest = _;
+          is = ap (λ (t : Transcript Debugger). t.text) (batch_due bytes future used said.text (due before (p.0 ++ []))
+              (due_behind quits after []) said.is);
+        };
+        no_read = other;
+      },
+    )
+
+Answers_further : (a b c : Option (List ℕ)) (bytes items : List ℕ) (at used : ℕ)
+    (la lb lc : List ℕ → Transcript Debugger)
+    → Answers a b bytes at la lb → Answers (Some []) (Some items) (drop at bytes) used lb lc → Appends b c items
+    → Answers a c bytes (at + used) la lc
+Answers_further a b c bytes items at used la lb lc p q wrote = record {
+  text = p.text ++ items;
+  appends = Appends-trans _ _ _ _ _ p.appends wrote;
+  within = omega (arith, p.within, q.within, length-drop at bytes);
+  whole = subst AreWholeLines (sym (take-add at used bytes))
+      (AreWholeLines-append (take at bytes) (take used (drop at bytes)) p.whole q.whole);
+  is = λ future. ap la (ap (λ l. l ++ future) (take-add at used bytes)
+      ∙ append_assoc (take at bytes) (take used (drop at bytes)) future)
+      ∙ p.is (take used (drop at bytes) ++ future)
+      ∙ ap (after_text p.text) (q.is future ∙ ap (λ text. after_text text (lc future)) (sym q.appends))
+      ∙ sym (after_text-append p.text items (lc future));
 }
 
-pub Batch_fault : (a b c : Option (List ℕ)) (bytes line : List ℕ) (at n : ℕ) (before d : Debugger) (fault : ShellFault)
-    → AnswersBatch a b bytes at before false d
-    → n ≡ position_or_len (λ byte. byte == 10) (drop at bytes) → n < length (drop at bytes)
-    → line ≡ strip_carriage_return (take n (drop at bytes))
-    → ((runs : List FreeRun) × AppendsPart b c (answered d runs line).text) → fault ≢ Read
-    → (runs : List FreeRun) × AnswersPart a c bytes (due before runs) fault
-Batch_fault a b c bytes line at n before d fault p e bound same part other = (
-  p.0 ++ part.0,
-  Answers_fault a b c bytes line at n (due before (p.0 ++ part.0)) d part.0 fault (p.1 part.0) e
-      bound same part.1 other,
+-- a further batch is written
+pub Batch_further : (a b c : Option (List ℕ)) (bytes items : List ℕ) (at used : ℕ) (before d after : Debugger)
+    (quits : Bool)
+    → AnswersBatch a b bytes at before false d → AnswersBatch (Some []) (Some items) (drop at bytes) used d quits after
+    → Appends b c items → AnswersBatch a c bytes (at + used) before quits after
+Batch_further a b c bytes items at used before d after quits p q wrote = (
+  p.0 ++ q.0,
+  λ later. subst (λ (rs : List FreeRun). Answers a c bytes (at + used) (due before rs) (due_behind quits after later))
+      (sym (append_assoc p.0 q.0 later))
+      (Answers_further a b c bytes items at used _ _ _ (p.1 (q.0 ++ later)) (q.1 later) wrote),
 )
+
+-- a beginning of a further batch is written
+pub Batch_breaks : (a b c : Option (List ℕ)) (bytes items : List ℕ) (at : ℕ) (before d : Debugger)
+    (cause fault : ShellFault)
+    → AnswersBatch a b bytes at before false d
+    → ((runs : List FreeRun) × AnswersPart (Some []) (Some items) (drop at bytes) (due d runs) cause)
+    → AppendsPart b c items → fault ≢ Read
+    → (runs : List FreeRun) × AnswersPart a c bytes (due before runs) fault
+Batch_breaks a b c bytes items at before d cause fault p q part other =
+    let so_far = p.1 q.0 in (
+      p.0 ++ q.0,
+      record {
+        text = so_far.text ++ part.sent;
+        appends = Appends-trans _ _ _ _ _ so_far.appends part.appends;
+        begins = λ future.
+            let said = beginning_of_beginning _ _ _ (subst (IsBeginning part.sent) q.1.appends part.begins)
+            (q.1.begins future) in
+            let begun = after_beginning so_far.text _ _ said in
+            record {
+              rest = begun.rest;
+              is = ap (λ (t : Transcript Debugger). t.text) (batch_due bytes future at so_far.text
+                  (due before (p.0 ++ q.0)) (due d q.0) so_far.is)
+                  ∙ begun.is;
+            };
+        no_read = other;
+      },
+    )
+
+pub all_begins : (a b : Option (List ℕ)) (text : List ℕ) → Appends a b text → AppendsPart a b text
+all_begins a b text wrote = record {
+  sent = text;
+  begins = record { rest = []; is = sym (append-nil text) };
+  appends = wrote;
+}
 
 -- the transcript of one answer, and none behind it
 abbrev only_answer : Answer → Transcript Debugger

@@ -8,7 +8,6 @@ ghost use Rattle.om_view.specs.Freed.{FreeRun};
 
 use crate::fault::ShellFault;
 use crate::input::Input;
-use crate::lines::{line_end, without_carriage_return};
 use crate::session::Session;
 use std::io::{Read, Write};
 use std::sync::Wait;
@@ -33,16 +32,19 @@ fn answer_lines<R: Threads + Wait + Sync, W: Write>(
         (due session.old.debugger runs) fault) }
 {
     let mut at = 0;
-    'lines: while let Some(n) = line_end(&bytes[at..], searched) {
-        let line = without_carriage_return(&bytes[at..at + n]);
-        at += n + 1;
+    'batches: loop {
+        let gathered = session.gather(&bytes[at..], searched);
+        session.write(writer)?;
+        let (used, quits) = gathered?;
+        at += used;
         searched = 0;
-        let quits = session.answer(line, writer)?;
         if quits {
             return Ok((at, true));
         }
+        if !session.has_enough() {
+            return Ok((at, false));
+        }
     }
-    Ok((at, false))
 }
 
 /// Answers commands up to a `quit` or the end of the input, each before anything more is read.

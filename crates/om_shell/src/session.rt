@@ -1,12 +1,16 @@
-//! A session: a debugger, what it runs on, and the text of its last answer.
-ghost use Rattle.std.specs.Prelude.{◌≡◌, ◌≢◌, ◌<◌, ◌≤◌, ℕ, List, IfOk, IfErr};
+//! A session: a debugger, what it runs on, and the answers that are not written yet.
+ghost use Rattle.std.specs.Prelude.{◌≡◌, ◌≢◌, ◌<◌, ◌≤◌, ◌++◌, ℕ, List, [], Some, take, drop, length, true, false, nat_le, IfOk, IfErr, OnOk, OnErr};
 ghost use Rattle.std.specs.Io.KnownBytes.{Appends};
+ghost use Rattle.om_shell.specs.Batch.{AnswersPart};
+ghost use Rattle.om_shell.specs.Lines.{HasNoLineEnd};
 ghost use Rattle.om_shell.specs.Progress.{AppendsPart};
+ghost use Rattle.om_shell.specs.Sessions.{due, AnswersBatch};
 ghost use Rattle.om_view.specs.Freed.{FreeRun};
 ghost use Rattle.om_view.specs.Views.{answered, opened, IsAnswered};
 
 use crate::fault::ShellFault;
 use crate::host::Host;
+use crate::lines::{line_end, without_carriage_return};
 use crate::output::send;
 use om_code::Program;
 use om_journal::Book;
@@ -16,12 +20,18 @@ use std::io::Write;
 use std::sync::Wait;
 use std::thread::Threads;
 
-/// A debugger, what it runs on, and the text of its last answer.
+// So many bytes of answers are written before more lines are answered.
+const ENOUGH: usize = 4096;
+
+/// A debugger, what it runs on, and the answers that are not written yet.
+///
+/// An answer that breaks off leaves a part of it in `answer`. So what stands in `text` are whole answers.
 #[derive(Drop)]
 pub(crate) struct Session<'a, R> {
     rt: &'a R,
     alloc: Global,
     pub(crate) debugger: Debugger,
+    answer: Vec<u8>,
     text: Vec<u8>,
 }
 
@@ -36,6 +46,7 @@ impl<'a, R: Threads + Wait + Sync> Session<'a, R> {
             rt: host.rt,
             alloc: host.alloc,
             debugger: Debugger::new(host.alloc, program, host.workers)?,
+            answer: Vec::new(host.alloc),
             text: Vec::new(host.alloc),
         })
     }
@@ -65,19 +76,91 @@ impl<'a, R: Threads + Wait + Sync> Session<'a, R> {
             × ((runs : List FreeRun) × AppendsPart (W.contents writer.old) (W.contents writer.new)
             (answered self.old.debugger runs line.now).text)) }
     {
-        let quits = self.follow(line)?;
-        send(writer, &self.text)?;
+        let quits = self.say(line)?;
+        send(writer, &self.answer)?;
         Ok(quits)
     }
 
-    // Answers one line; the answer is the text then. Says whether the session is over.
-    fn follow(&mut self, line: &[u8]) -> Result<bool, AllocError>
-        ensures { IfOk result
-            (λ quits. IsAnswered self.old.debugger line.now self.new.text.items self.new.debugger
+    // Makes the answer to one line. Says whether the session is over.
+    fn say(&mut self, line: &[u8]) -> Result<bool, AllocError>
+        ensures answered { IfOk result
+            (λ quits. IsAnswered self.old.debugger line.now self.new.answer.items self.new.debugger
             quits) }
+        ensures kept { self.new.text.items ≡ self.old.text.items }
+    {
+        self.answer.clear();
+        self.debugger
+            .answer(self.rt, self.alloc, line, &mut self.answer)
+    }
+
+    // Answers one line, behind the answers that are not written yet. Says whether the session is over.
+    fn follow(&mut self, line: &[u8]) -> Result<bool, AllocError>
+        ensures answered { IfOk result
+            (λ quits. (said : List ℕ) × (self.new.text.items ≡ self.old.text.items ++ said)
+            × IsAnswered self.old.debugger line.now said self.new.debugger quits) }
+        ensures kept { OnErr result (self.new.text.items ≡ self.old.text.items) }
+    {
+        let is_over = self.say(line)?;
+        self.text.extend_from_slice(&self.answer)?;
+        Ok(is_over)
+    }
+
+    /// Whether the answers are written before more lines are answered.
+    pub(crate) fn has_enough(&self) -> bool
+        ensures { result ≡ nat_le 4096 (length self.now.text.items) }
+    {
+        self.text.len() >= ENOUGH
+    }
+
+    /// Answers whole lines at the front of the bytes, up to a `quit` or until the answers are enough. They are not
+    /// written yet. Answers how many bytes the lines take, and whether one was `quit`. The first `searched` bytes are
+    /// known to end no line.
+    pub(crate) fn gather(
+        &mut self,
+        bytes: &[u8],
+        mut searched: usize,
+    ) -> Result<(usize, bool), AllocError>
+        requires within { searched ≤ length bytes.now }
+        requires known { HasNoLineEnd (take searched bytes.now) }
+        ensures answered { IfOk result
+            (λ r. AnswersBatch (Some []) (Some self.new.text.items) bytes.now r.0
+            self.old.debugger r.1 self.new.debugger) }
+        ensures left { IfOk result
+            (λ r. r.1 ≡ false → nat_le 4096 (length self.new.text.items) ≡ false
+            → HasNoLineEnd (drop r.0 bytes.now)) }
+        ensures some { IfOk result
+            (λ r. nat_le 4096 (length self.new.text.items) ≡ true → 0 < r.0) }
+        ensures begun { (runs : List FreeRun)
+            × AnswersPart (Some []) (Some self.new.text.items) bytes.now
+            (due self.old.debugger runs) ShellFault.Memory }
     {
         self.text.clear();
-        self.debugger
-            .answer(self.rt, self.alloc, line, &mut self.text)
+        let mut at = 0;
+        'lines: while let Some(n) = line_end(&bytes[at..], searched) {
+            let line = without_carriage_return(&bytes[at..at + n]);
+            let quits = self.follow(line)?;
+            at += n + 1;
+            searched = 0;
+            if quits {
+                return Ok((at, true));
+            }
+            if self.has_enough() {
+                return Ok((at, false));
+            }
+        }
+        Ok((at, false))
+    }
+
+    /// Writes the answers that were gathered.
+    pub(crate) fn write<W: Write>(&self, writer: &mut W) -> Result<(), ShellFault>
+        ensures written { OnOk result
+            (Appends (W.contents writer.old) (W.contents writer.new) self.now.text.items) }
+        ensures begun_on_error { IfErr result (λ fault. (fault ≢ ShellFault.Read)
+            × AppendsPart (W.contents writer.old) (W.contents writer.new) self.now.text.items) }
+    {
+        if self.text.is_empty() {
+            return Ok(());
+        }
+        send(writer, &self.text)
     }
 }

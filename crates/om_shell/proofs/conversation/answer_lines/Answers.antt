@@ -1,14 +1,14 @@
-use Rattle.std.proofs.Common.{arith, ◌≡◌, ◌+◌, ◌-◌, drop, take, refl, ap, ◌∙◌}
+use Rattle.std.proofs.Common.{arith, rules, ◌≢◌, [], drop, drop-drop, length-drop, true, false, refl, sym, subst, ◌∙◌}
 use Rattle.std.proofs.lemmas.Result.{err_from_is_err_and}
-use Rattle.std.specs.Str.Lines.{strip_carriage_return}
 use Rattle.std.proofs.KnownBytes.{Appends-nil}
+use Rattle.om_shell.specs.declared.fault.ShellFault.TheVariants.{Memory, Read}
+use Rattle.om_shell.specs.Lines.{HasNoLineEnd}
 use Rattle.om_shell.proofs.Bytes.{slice_to_end}
-use Rattle.om_shell.proofs.LineEnds.{position_some, position_none}
-use Rattle.om_shell.proofs.SessionLaws.{Batch_none, Batch_next, Batch_fault, within_next}
+use Rattle.om_shell.proofs.SessionLaws.{Batch_none, Batch_further, Batch_breaks, all_begins}
 use Rattle.om_shell.proofs.conversation.answer_lines.Goals as goal
 
-pub lines-init : goal.lines-init
-lines-init g c = record {
+pub batches-init : goal.batches-init
+batches-init g c = record {
   answered = Batch_none _ _ _ (Appends-nil _);
   at_most = omega arith;
   within =
@@ -16,51 +16,79 @@ lines-init g c = record {
   known = c.requires.known;
 }
 
-pub line_end-requires : goal.line_end-requires
-line_end-requires g c = rw (slice_to_end c.args.bytes.now c.lines.at)
-    (record { within = c.lines.invariant.within; known = c.lines.invariant.known })
+pub gather-gathered-requires : goal.gather-gathered-requires
+gather-gathered-requires g c = rw (slice_to_end c.args.bytes.now c.batches.at)
+    (search rules, (c.batches.invariant.within, c.batches.invariant.known))
 
-pub lines-preserved : goal.lines-preserved
-lines-preserved g c =
+pub returns-in_err-write-clause-begun_on_error : goal.returns-in_err-write-clause-begun_on_error
+returns-in_err-write-clause-begun_on_error g c =
     let bytes = c.args.bytes.now in
-    let at = c.lines.at in
-    let n = c.in-Some.n in
-    let found = position_some _ _ _ (rw (slice_to_end bytes at) at c.in-Some.ensures) in
-    let cut : at + n - at ≡ n = omega arith in
-    let line = c.without_carriage_return-line.ensures ∙ ap (λ k. strip_carriage_return (take k (drop at bytes))) cut in
-    let said = rw c.if-quits.false at c.in_ok-quits.ensures.answered in
-    record {
-      answered = Batch_next _ _ _ bytes c.without_carriage_return-line.result.now at n _ c.lines.session.debugger _
-          _ _ c.lines.invariant.answered found.0 found.1 line said.2 said.1;
-      at_most = within_next bytes at n c.lines.invariant.at_most found.1;
-      within = omega arith;
-      known = refl;
-    }
+    let at = c.batches.at in
+    let p = err_from_is_err_and c.from_residual.result c.from_residual.ensures.1 in
+    let begun = rw (slice_to_end bytes at) at c.gather-gathered.ensures.begun in
+    let part = c.in_err-write.ensures.begun_on_error in
+    rw (p.1, p.2) (Batch_breaks _ _ _ bytes _ at _ c.batches.session.debugger Memory _ c.batches.invariant.answered
+    begun part.1 part.0)
+
+pub returns-in_err-used-clause-begun_on_error : goal.returns-in_err-used-clause-begun_on_error
+returns-in_err-used-clause-begun_on_error g c =
+    let bytes = c.args.bytes.now in
+    let at = c.batches.at in
+    let p = err_from_is_err_and c.from_residual-in_err-used.result c.from_residual-in_err-used.ensures.1 in
+    let begun = rw (slice_to_end bytes at) at c.gather-gathered.ensures.begun in
+    let other : Memory ≢ Read = search rules in
+    rw (p.1, p.2) (Batch_breaks _ _ _ bytes _ at _ c.batches.session.debugger Memory _ c.batches.invariant.answered
+    begun (all_begins _ _ _ c.in_ok-write.ensures.written) other)
+
+pub overflow_add-at : goal.overflow_add-at
+overflow_add-at g c =
+    let bytes = c.args.bytes.now in
+    let at = c.batches.at in
+    let batch = rw (slice_to_end bytes at) at c.in_ok-used.ensures.answered in
+    omega (arith, (batch.1 []).within, length-drop at bytes, c.batches.invariant.at_most)
 
 pub returns-then-quits-clause-answered : goal.returns-then-quits-clause-answered
 returns-then-quits-clause-answered g c =
     let bytes = c.args.bytes.now in
-    let at = c.lines.at in
-    let n = c.in-Some.n in
-    let found = position_some _ _ _ (rw (slice_to_end bytes at) at c.in-Some.ensures) in
-    let cut : at + n - at ≡ n = omega arith in
-    let line = c.without_carriage_return-line.ensures ∙ ap (λ k. strip_carriage_return (take k (drop at bytes))) cut in
-    let said = rw c.if-quits.true at c.in_ok-quits.ensures.answered in
-    Batch_next _ _ _ bytes c.without_carriage_return-line.result.now at n _ c.lines.session.debugger _ _ _
-    c.lines.invariant.answered found.0 found.1 line said.2 said.1
+    let at = c.batches.at in
+    let batch = rw (slice_to_end bytes at, c.if-quits.true) at c.in_ok-used.ensures.answered in
+    Batch_further _ _ _ bytes _ at c.in_ok-used.used _ c.batches.session.debugger
+    c.gather-gathered.new.self.debugger true c.batches.invariant.answered batch c.in_ok-write.ensures.written
 
-pub returns-in_err-quits-clause-begun_on_error : goal.returns-in_err-quits-clause-begun_on_error
-returns-in_err-quits-clause-begun_on_error g c =
+pub returns-then-not-has_enough-clause-answered : goal.returns-then-not-has_enough-clause-answered
+returns-then-not-has_enough-clause-answered g c =
     let bytes = c.args.bytes.now in
-    let at = c.lines.at in
-    let n = c.in-Some.n in
-    let found = position_some _ _ _ (rw (slice_to_end bytes at) at c.in-Some.ensures) in
-    let cut : at + n - at ≡ n = omega arith in
-    let line = c.without_carriage_return-line.ensures ∙ ap (λ k. strip_carriage_return (take k (drop at bytes))) cut in
-    let p = err_from_is_err_and c.from_residual.result c.from_residual.ensures.1 in
-    let fault = c.in_err-quits.ensures.begun_on_error in
-    rw (p.1, p.2) (Batch_fault _ _ _ bytes c.without_carriage_return-line.result.now at n _ c.lines.session.debugger
-    _ c.lines.invariant.answered found.0 found.1 line fault.1 fault.0)
+    let at = c.batches.at in
+    let batch = rw (slice_to_end bytes at, c.if-quits.false) at c.in_ok-used.ensures.answered in
+    Batch_further _ _ _ bytes _ at c.in_ok-used.used _ c.batches.session.debugger
+    c.gather-gathered.new.self.debugger false c.batches.invariant.answered batch c.in_ok-write.ensures.written
 
-pub returns-clause-left : goal.returns-clause-left
-returns-clause-left g c = λ _. position_none _ _ (rw (slice_to_end c.args.bytes.now c.lines.at) at c.in_default.ensures)
+pub returns-then-not-has_enough-clause-left : goal.returns-then-not-has_enough-clause-left
+returns-then-not-has_enough-clause-left g c = λ _.
+    let bytes = c.args.bytes.now in
+    let at = c.batches.at in
+    let left = rw (slice_to_end bytes at) at c.in_ok-used.ensures.left in
+    subst HasNoLineEnd (drop-drop c.in_ok-used.used at bytes)
+    (left c.if-quits.false (sym c.has_enough.ensures ∙ c.if-not-has_enough.true))
+
+pub batches-smaller : goal.batches-smaller
+batches-smaller g c =
+    let bytes = c.args.bytes.now in
+    let at = c.batches.at in
+    let batch = rw (slice_to_end bytes at) at c.in_ok-used.ensures.answered in
+    let some = c.in_ok-used.ensures.some (sym c.has_enough.ensures ∙ c.if-not-has_enough.false) in
+    omega (arith, some, (batch.1 []).within, length-drop at bytes, c.batches.invariant.at_most)
+
+pub batches-preserved : goal.batches-preserved
+batches-preserved g c =
+    let bytes = c.args.bytes.now in
+    let at = c.batches.at in
+    let batch = rw (slice_to_end bytes at, c.if-quits.false) at c.in_ok-used.ensures.answered in
+    record {
+      answered = Batch_further _ _ _ bytes _ at c.in_ok-used.used _ c.batches.session.debugger
+          c.gather-gathered.new.self.debugger false c.batches.invariant.answered batch
+          c.in_ok-write.ensures.written;
+      at_most = omega (arith, (batch.1 []).within, length-drop at bytes, c.batches.invariant.at_most);
+      within = omega arith;
+      known = refl;
+    }
