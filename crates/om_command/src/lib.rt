@@ -5,6 +5,7 @@
 
 mod arguments;
 mod command;
+mod ending;
 mod list;
 mod number;
 mod object;

@@ -15,8 +15,7 @@ use std::alloc::AllocError;
 fn push_entry_line(text: &mut Vec<u8>, entry: &Entry) -> Result<(), AllocError>
     ensures { OnOk result (text.new.items ≡ text.old.items ++ entry_line entry.now) }
 {
-    push_entry(text, entry.serial, entry.worker, entry.line)?;
-    text.extend_from_slice(b"\n")
+    push_entry(text, entry.serial, entry.worker, entry.line, None)
 }
 
 fn push_entries(text: &mut Vec<u8>, entries: &[Entry]) -> Result<(), AllocError>

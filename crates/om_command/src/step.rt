@@ -4,6 +4,7 @@ ghost use Rattle.om_command.specs.Objects.{object_text};
 ghost use Rattle.om_command.specs.Steps.{entry_text, fault_text, blocker_text, step_text, undo_text, command_fault_text, full_text};
 
 use crate::command::CommandFault;
+use crate::ending::{ROOM, put, put_entry, put_fault};
 use crate::number::{push_number, push_numbered};
 use crate::object::push_object;
 use om_cells::Blocked;
@@ -13,28 +14,23 @@ use om_foot::Obj;
 use om_history::{StepReply, UndoReply};
 use std::alloc::AllocError;
 
-// `#S worker W line L`
+// `#S worker W line L`, and the fault that the step came to, on a line.
 pub(crate) fn push_entry(
     text: &mut Vec<u8>,
     serial: u64,
     worker: u8,
     line: u32,
+    fault: Option<Fault>,
 ) -> Result<(), AllocError>
-    ensures { OnOk result (text.new.items ≡ text.old.items ++ entry_text serial worker line) }
+    ensures { OnOk result
+        (text.new.items ≡ text.old.items
+        ++ (entry_text serial worker line ++ fault_text fault ++ codes "\n")) }
 {
-    push_numbered(text, b"#", serial)?;
-    push_numbered(text, b" worker ", worker)?;
-    push_numbered(text, b" line ", line)
-}
-
-// ` fault F1`, where there is a fault.
-pub(crate) fn push_fault(text: &mut Vec<u8>, fault: Option<Fault>) -> Result<(), AllocError>
-    ensures { OnOk result (text.new.items ≡ text.old.items ++ fault_text fault) }
-{
-    let Some(fault) = fault else {
-        return Ok(());
-    };
-    push_numbered(text, b" fault F", fault.number())
+    let mut bytes = [0; ROOM];
+    let line_end = put(&mut bytes, ROOM, b"\n");
+    let fault_at = put_fault(&mut bytes, line_end, fault);
+    let start = put_entry(&mut bytes, fault_at, serial, worker, line);
+    text.extend_from_slice(&bytes[start..])
 }
 
 // The worker that holds the lock, or has to be idle.
@@ -56,11 +52,7 @@ pub fn push_step(text: &mut Vec<u8>, worker: u8, reply: StepReply) -> Result<(),
             serial,
             line,
             fault,
-        } => {
-            push_entry(text, serial, worker, line)?;
-            push_fault(text, fault)?;
-            text.extend_from_slice(b"\n")
-        }
+        } => push_entry(text, serial, worker, line, fault),
         StepReply::Blocked(why) => {
             push_numbered(text, b"blocked B", why.number())?;
             push_blocker(text, why)?;
@@ -103,9 +95,11 @@ pub(crate) fn push_undone(
         (text.new.items ≡ text.old.items
         ++ (codes "undone " ++ entry_text serial worker line ++ codes "\n")) }
 {
-    text.extend_from_slice(b"undone ")?;
-    push_entry(text, serial, worker, line)?;
-    text.extend_from_slice(b"\n")
+    let mut bytes = [0; ROOM];
+    let line_end = put(&mut bytes, ROOM, b"\n");
+    let entry_at = put_entry(&mut bytes, line_end, serial, worker, line);
+    let start = put(&mut bytes, entry_at, b"undone ");
+    text.extend_from_slice(&bytes[start..])
 }
 
 /// Appends the reply to an undo.

@@ -1,0 +1,23 @@
+-- Lines that are written from their end.
+use Rattle.std.proofs.Common.{◌≡◌, ℕ, ◌-◌, List, ◌++◌, length, take, drop, codes, decimal, ap, ◌∙◌, arith, append_assoc}
+use Rattle.std.proofs.Common.{length-drop, take_all}
+use Rattle.om_command.specs.Steps.{entry_text}
+
+-- an entry before what stands behind it, part by part
+pub entry_before : (serial worker line : ℕ) (behind : List ℕ) → entry_text serial worker line ++ behind
+    ≡ codes "#" ++ (decimal serial ++ (codes " worker " ++ (decimal worker ++ (codes " line "
+    ++ (decimal line ++ behind)))))
+entry_before serial worker line behind =
+    let s = decimal serial in
+    let w = decimal worker in
+    let l = decimal line in
+    append_assoc (codes "#" ++ s ++ codes " worker " ++ w ++ codes " line ") l behind
+    ∙ append_assoc (codes "#" ++ s ++ codes " worker " ++ w) (codes " line ") (l ++ behind)
+    ∙ append_assoc (codes "#" ++ s ++ codes " worker ") w (codes " line " ++ (l ++ behind))
+    ∙ append_assoc (codes "#" ++ s) (codes " worker ") (w ++ (codes " line " ++ (l ++ behind)))
+    ∙ append_assoc (codes "#") s (codes " worker " ++ (w ++ (codes " line " ++ (l ++ behind))))
+
+pub slice_to_end : (xs : List ℕ) (at : ℕ) → take (length xs - at) (drop at xs) ≡ drop at xs
+slice_to_end xs at =
+    let long = length-drop at xs in
+    take_all (length xs - at) (drop at xs) (omega arith)
