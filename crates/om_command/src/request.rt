@@ -3,6 +3,7 @@
 ghost use Rattle.std.specs.Prelude.{◌≡◌, map, IfOk, IfSome};
 ghost use Rattle.om_command.specs.Commands.{command_of, start_of, print_of, alone, taken, request_in, request_of, HasWorkerBelow, AsksWorkerBelow};
 ghost use Rattle.om_command.specs.Words.{words_of};
+ghost use Rattle.om_command.specs.declared.command.Request.TheVariants as request;
 
 use crate::arguments::{
     one_count, one_number, one_variable, one_worker, task, variable_of, worker,
@@ -121,6 +122,30 @@ fn request_in(alloc: Global, workers: u8, words: &[&[u8]]) -> Result<Request, Al
     }
 }
 
+// The step or the undo that a line asks for in the plainest way: by the word, one space, and the worker.
+fn plain(workers: u8, line: &[u8]) -> Option<Command>
+    ensures asked { IfSome result
+        (λ command. request_in workers (words_of line.now) ≡ request.Command command) }
+    ensures in_range { IfSome result (HasWorkerBelow workers) }
+{
+    let [a, b, c, d, space, digits @ ..] = line else {
+        return None;
+    };
+    if *space != b' ' {
+        return None;
+    }
+    let Some(worker) = worker(workers, digits) else {
+        return None;
+    };
+    if *a == b's' && *b == b't' && *c == b'e' && *d == b'p' {
+        return Some(Command::Step(worker));
+    }
+    if *a == b'u' && *b == b'n' && *c == b'd' && *d == b'o' {
+        return Some(Command::Undo(worker));
+    }
+    None
+}
+
 /// What a line asks for, where there are so many workers.
 ///
 /// A line has at most 1,024 bytes. Words are parted by spaces, and a number has one to ten digits.
@@ -131,6 +156,9 @@ pub fn request_of(alloc: Global, workers: u8, line: &[u8]) -> Result<Request, Al
 {
     if line.len() > LONGEST_LINE {
         return Ok(Request::Fault(CommandFault::BadArgument));
+    }
+    if let Some(command) = plain(workers, line) {
+        return Ok(Request::Command(command));
     }
     let words = words(alloc, line)?;
     request_in(alloc, workers, &words)

@@ -9,3 +9,7 @@ returns-then-line-gt-LONGEST_LINE-clause-asked c = search rules
 pub returns-clause-asked : goal.returns-clause-asked
 unfolding request_of
 returns-clause-asked c = search rules
+
+pub returns-in-Some-clause-asked : goal.returns-in-Some-clause-asked
+unfolding request_of
+returns-in-Some-clause-asked c = search rules
