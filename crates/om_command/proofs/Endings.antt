@@ -1,5 +1,5 @@
 -- Lines that are written from their end.
-use Rattle.std.proofs.Common.{◌≡◌, ℕ, ◌-◌, List, ◌++◌, length, take, drop, codes, decimal, ap, ◌∙◌, arith, append_assoc}
+use Rattle.std.proofs.Common.{◌≡◌, ℕ, ◌-◌, List, ◌++◌, length, take, drop, codes, decimal, ◌∙◌, arith, append_assoc}
 use Rattle.std.proofs.Common.{length-drop, take_all}
 use Rattle.om_command.specs.Steps.{entry_text}
 

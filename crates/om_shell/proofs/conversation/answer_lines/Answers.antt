@@ -1,4 +1,4 @@
-use Rattle.std.proofs.Common.{arith, rules, ◌≢◌, [], drop, drop-drop, length-drop, true, false, refl, sym, subst, ◌∙◌}
+use Rattle.std.proofs.Common.{arith, rules, ◌≢◌, [], drop-drop, length-drop, true, false, refl, sym, subst, ◌∙◌}
 use Rattle.std.proofs.lemmas.Result.{err_from_is_err_and}
 use Rattle.std.proofs.KnownBytes.{Appends-nil}
 use Rattle.om_shell.specs.declared.fault.ShellFault.TheVariants.{Memory, Read}
