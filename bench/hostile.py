@@ -7,6 +7,8 @@ the last line counts the rows, and the status is 1 where one of them is wrong.
 import os, resource, subprocess, sys, tempfile
 
 SOURCE = b"int x; int main(void){ x = 1; }\n"
+# Where it runs alone it meets a fault, so a hunt tells of no seed.
+FAULTY = b"int main(void){ int x; return x; }\n"
 FULL = "/dev/full"
 
 
@@ -33,6 +35,12 @@ def with_closed_input(command):
         return done.returncode, done.stdout, done.stderr
     finally:
         os.close(folder)
+
+
+def cut_off(got, length):
+    """What came, with a beginning of the output in place of all of it."""
+    status, output, fault = got
+    return status, output[:length], fault
 
 
 def of_debugger(program, folder):
@@ -68,6 +76,10 @@ def of_debugger(program, folder):
 def of_lab(lab, folder):
     """Rows of what is tried with omplab."""
     good = os.path.join(folder, "good.c")
+    cut = os.path.join(folder, "cut.c")
+    faulty = os.path.join(folder, "faulty.c")
+    with open(faulty, "wb") as f:
+        f.write(FAULTY)
     yield "omplab: no subcommand", (2, b"", None), run([lab])
     yield "omplab: a subcommand that there is not", (2, b"", None), run([lab, "look"])
     yield "omplab check: a file that is not there", (3, b"", b"H3\n"), run([lab, "check", os.path.join(folder, "none.c")])
@@ -78,6 +90,18 @@ def of_lab(lab, folder):
     yield "omplab notes: an input that cannot be read", (3, b"", b"H3\n"), with_closed_input([lab, "notes", good])
     yield "omplab script: an input that cannot be read", (3, b"", b"H3\n"), with_closed_input([lab, "script", good])
     yield "omplab draw: an input that cannot be read", (3, b"", b"H3\n"), with_closed_input([lab, "draw", good])
+    yield "omplab hunt: a file that is not there", (3, b"", b"H3\n"), run([lab, "hunt", os.path.join(folder, "none.c")])
+    yield "omplab hunt: no seed", (2, b"", None), run([lab, "hunt", "--seeds", "0", good])
+    yield "omplab hunt: a fault", (1, None, b""), run([lab, "hunt", faulty])
+    for word in "hunt", "script", "draw":
+        yield f"omplab {word}: a pipe that nobody reads", (3, None, b"H4\n"), with_closed_output([lab, word, faulty], b"step 0\n")
+        with open(FULL, "wb") as full:
+            yield f"omplab {word}: a disk that is full", (3, None, b"H4\n"), run([lab, word, faulty], b"step 0\n", stdout=full)
+    for word in "script", "draw":
+        line = b"refused S3 line 1 column 26\n"
+        yield f"omplab {word}: a refused source", (1, line, b""), run([lab, word, cut], b"step 0\n")
+    yield "omplab hunt: a refused source", (1, None, b""), run([lab, "hunt", cut])
+    yield "omplab notes: a refused source", (0, b"blocked B5 | ", b""), cut_off(run([lab, "notes", cut], b"blocked B5\n"), 13)
 
 
 def is_wanted(wanted, got):
