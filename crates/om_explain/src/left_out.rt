@@ -56,7 +56,10 @@ pub(crate) const SYNTAX: [Row; 37] = [
         "an array has one dimension, m[8 * i + k], and is no parameter: make it global",
     ),
     (b"]", "write the length of the array"),
-    (b"{", "the `{` of a construct stands on the next line"),
+    (
+        b"{",
+        "an initial value has no braces, write `int x = 3;`; the `{` of a construct stands on the next line",
+    ),
     (b"}", "a `;` or a statement is missing before it"),
     (b"<", "write `* 8` for `<< 3`"),
     (
