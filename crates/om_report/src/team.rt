@@ -40,7 +40,7 @@ pub(crate) struct Checked<'a> {
 fn push_note(text: &mut Vec<u8>, checked: Checked<'_>, at: u32) -> Result<(), AllocError> {
     push_place(text, checked.file, checked.source, at)?;
     push_numbered(text, b": note: with --threads ", checked.workers)?;
-    push_numbered(text, b" this team has ", checked.workers)?;
+    push_numbered(text, b" this team has at most ", checked.workers)?;
     text.extend_from_slice(b"\n")
 }
 
