@@ -1,7 +1,7 @@
 //! Whether two entries are the same.
 
 use crate::same::Same;
-use om_cells::Entry;
+use om_undo::Entry;
 
 impl Same for Entry {
     fn is_same(&self, other: &Entry) -> bool {

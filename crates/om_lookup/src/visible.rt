@@ -4,9 +4,8 @@ ghost use Rattle.std.specs.Prelude.{◌≡◌, ◌≤◌, ◌<◌, ◌^◌, IfSo
 ghost use Rattle.om_lookup.specs.Visible.{around_below, as_inner, global_named, global_var, holds, innermost, is_slot, meant, slot_var, start_in, starts, starts_body, variable_at};
 
 use crate::look::global_named;
-use om_code::instruction::Instr;
 use om_code::raw::{Line, Scope};
-use om_code::{Body, Program};
+use om_code::{Body, Instr, Program};
 
 /// A variable that a name means.
 #[derive(Clone, Copy, PartialEq, Eq)]

@@ -12,7 +12,7 @@ ghost use Rattle.om_picture.specs.Traces.{CanReplay, CanBeMade, footprint_for, t
 
 use crate::traced::Traced;
 use crate::words::Words;
-use om_cells::{Entry, Label};
+use om_cells::Label;
 use om_code::Program;
 use om_foot::Access;
 use om_history::History;
@@ -20,8 +20,8 @@ use om_seq::Seq;
 use om_task::laws::low_counters;
 use om_task::start::started;
 use om_task::{Plan, plan};
-use om_undo::Machine;
 use om_undo::laws::{shaped_rules, steady_rules};
+use om_undo::{Entry, Machine};
 use std::alloc::{AllocError, Global};
 
 /// The first steps of a machine's history, at most so many, each with what it touched and did at its

@@ -1,14 +1,14 @@
 //! What a step did, in words: its instruction, the variable that it names, and a value.
 
-use om_cells::{Choice, Label, Update, Val};
-use om_code::Program;
+use om_cells::{Label, Update, Val};
 use om_code::frame::{Cell, Operand};
-use om_code::instruction::{Instr, Place};
+use om_code::instruction::Place;
+use om_code::{Instr, Program};
 use om_command::{push_number, push_numbered};
 use om_live::{Control, Frame, Store};
 use om_lookup::{Var, variable_at};
 use om_seq::Seq;
-use om_task::Plan;
+use om_task::{Choice, Plan};
 use std::alloc::{AllocError, Global};
 
 /// The words of a step: its instruction, and the variable and the value that it has.

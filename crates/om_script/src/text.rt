@@ -4,8 +4,9 @@ ghost use Rattle.std.specs.Prelude.{◌≡◌, ◌++◌, IfOk, OnOk};
 ghost use Rattle.om_command.specs.Lists.{joined};
 ghost use Rattle.om_script.specs.Steps.{command_line, script_text};
 
-use om_cells::{Choice, Entry};
+use om_cells::Choice;
 use om_command::push_numbered;
+use om_undo::Entry;
 use std::alloc::{AllocError, Global};
 
 /// The commands that make the steps of entries.

@@ -3,8 +3,8 @@
 ghost use Rattle.std.specs.Prelude.{All};
 ghost use Rattle.om_standing.specs.Ints.{IsInt, HasIntConstant, HasIntConstants, IsOfInts};
 
-use om_code::instruction::Instr;
-use om_code::raw::{Body, GlobalVariable, Line, Raw};
+use om_code::raw::{GlobalVariable, Line};
+use om_code::{Body, Instr, Raw};
 
 /// Each constant and each initial value of a program is an int, whatever the program: their types have
 /// no other values. It only reads.
