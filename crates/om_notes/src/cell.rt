@@ -3,9 +3,8 @@
 use crate::function::function_at;
 use crate::names::Accepted;
 use crate::words::number;
-use om_code::instruction::Instr;
 use om_code::raw::{Scope, Source};
-use om_code::{Body, Program};
+use om_code::{Body, Instr, Program};
 use om_command::push_numbered;
 use std::alloc::{AllocError, Global};
 
@@ -61,8 +60,9 @@ fn has_cell(body: &Body, place: Place) -> bool {
 
 // Whether the cell may be one of the body of this number.
 fn may_be_of(program: &Program, number: usize, place: Place) -> bool {
-    if place.is_main {
-        return number == program.main() as usize;
+    let is_main = number == program.main() as usize;
+    if place.is_main || is_main {
+        return place.is_main && is_main;
     }
     let is_region = is_region(program, number);
     if place.frame == 0 {
