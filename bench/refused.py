@@ -132,16 +132,21 @@ def is_judged_or_wants_memory(_kind, whole, got):
 
 def count_requests(program):
     """Counts what the first load in frame 900 asks for, with its command and its answer; gives 1 where that is too much."""
-    text = RECURSION + b"run %d\nstep 0\n" % INTO_FRAME_900
-    wanted = b"ran %d limit\n#%d worker 0 line 1\n" % (INTO_FRAME_900, INTO_FRAME_900 + 1)
+    ran, stepped = b"ran %d limit\n" % INTO_FRAME_900, b"#%d worker 0 line 1\n" % (INTO_FRAME_900 + 1)
     with tempfile.TemporaryDirectory() as folder:
         compile_shim(folder)
         told = os.path.join(folder, "requests")
-        status, output, _ = run([program], text, {"LD_PRELOAD": os.path.join(folder, "refuse.so"), "REQUESTS": told})
+        environment = {"LD_PRELOAD": os.path.join(folder, "refuse.so"), "REQUESTS": told}
+        with subprocess.Popen([program], stdin=subprocess.PIPE, stdout=subprocess.PIPE, env=environment) as child:
+            child.stdin.write(RECURSION + b"run %d\n" % INTO_FRAME_900)
+            child.stdin.flush()
+            # The answers to all lines of one read are written together, so the step is sent behind the first answer.
+            answers = [child.stdout.readline(), *child.communicate(b"step 0\n", timeout=60)[:1]]
         with open(told) as f:
             counts = [int(line) for line in f]
-    requests = counts[-1] - counts[-2]
-    wrong = (status, output, len(counts)) != (0, wanted, 2) or requests > MOST_REQUESTS
+    is_right = (child.returncode, answers, len(counts)) == (0, [ran, stepped], 2)
+    requests = counts[1] - counts[0] if is_right else None
+    wrong = not is_right or requests > MOST_REQUESTS
     print(f"{requests} requests of the first load in frame 900, {int(wrong)} wrong")
     return int(wrong)
 
