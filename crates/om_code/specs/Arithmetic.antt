@@ -21,7 +21,7 @@ abbrev pub is_int : ℤ → Bool
 is_int (pos n) = nat_lt n (2 ^ 31)
 is_int (negsuc n) = nat_lt n (2 ^ 31)
 
--- C17 6.5 paragraph 5: a result that is no int is undefined
+-- C17 6.5p5: a result that is no int is undefined
 abbrev pub in_range : ℤ → Result ℤ Fault
 in_range z = if is_int z then Ok z else Err fault.Overflow
 
@@ -35,7 +35,7 @@ remaining a b =
     else if is_int (int_div a b) then Ok (int_rem a b)
     else Err fault.Overflow
 
--- C17 6.5.8 paragraph 6: a comparison gives 1 where it holds, and 0 where not
+-- C17 6.5.8p6: a comparison gives 1 where it holds, and 0 where not
 abbrev pub truth : Bool → ℤ
 truth true = pos 1
 truth false = pos 0

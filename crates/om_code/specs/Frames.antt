@@ -75,7 +75,7 @@ abbrev pub gives : ℕ → Result ℤ Fault → Turn
 gives takes (Ok value) = goes takes (Some (operand.Int value))
 gives takes (Err f) = Faults f
 
--- C17 6.3.2.1 paragraph 2 and 6.2.4 paragraph 2: a cell is read that holds a value and lives
+-- C17 6.3.2.1p2 and 6.2.4p2: a cell is read that holds a value and lives
 abbrev pub loaded : ℕ → Cell → Turn
 loaded takes (cell.Int value) = goes takes (Some (operand.Int value))
 loaded takes cell.Unset = Faults fault.Unset
@@ -102,7 +102,7 @@ cells_in raw slots (place.Global number) =
     unwrap_or (option_map (λ global. unwrap_or global.length 1) (slice_get raw.globals number)) 0
 cells_in raw slots (place.Slot number) = unwrap_or (option_map (λ slot. slot.cells) (slice_get slots number)) 0
 
--- C17 6.5.6 paragraph 8: an index lies inside its array
+-- C17 6.5.6p8: an index lies inside its array
 abbrev pub index_in : ℕ → ℤ → Option ℕ
 index_in cells (pos n) = if nat_lt n cells then Some n else None
 index_in cells (negsuc n) = None
@@ -120,7 +120,7 @@ abbrev pub kept : Bool → ℤ → Option Operand
 kept true value = Some (operand.Int value)
 kept false value = None
 
--- C17 6.9.1 paragraph 12: a call's value is used
+-- C17 6.9.1p12: a call's value is used
 abbrev pub used : Operand → Turn
 used (operand.Int value) = goes 0 None
 used operand.NoValue = Faults fault.NoValue

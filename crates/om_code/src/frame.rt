@@ -67,17 +67,17 @@ pub enum Cell {
 /// Why a worker can't go on: a case that C17 or OpenMP 5.2 leaves undefined, or a limit that was met.
 #[derive(Clone, Copy, PartialEq, Eq)]
 pub enum Fault {
-    /// F1: a result that is no `int` (C17 6.5 paragraph 5).
+    /// F1: a result that is no `int` (C17 6.5p5).
     Overflow,
-    /// F2: a divisor that is 0 (C17 6.5.5 paragraph 5).
+    /// F2: a divisor that is 0 (C17 6.5.5p5).
     ZeroDivisor,
-    /// F3: an index outside its array (C17 6.5.6 paragraph 8).
+    /// F3: an index outside its array (C17 6.5.6p8).
     Index,
-    /// F4: a cell is read before anything was put there (C17 6.3.2.1 paragraph 2).
+    /// F4: a cell is read before anything was put there (C17 6.3.2.1p2).
     Unset,
-    /// F5: a cell whose frame has ended (C17 6.2.4 paragraph 2).
+    /// F5: a cell whose frame has ended (C17 6.2.4p2).
     Dead,
-    /// F6: the value of a function that returned none is used (C17 6.9.1 paragraph 12).
+    /// F6: the value of a function that returned none is used (C17 6.9.1p12).
     NoValue,
     /// F7: more than 1,000 frames in a task.
     Frames,

@@ -435,7 +435,7 @@ pub fn cells_in(raw: &Raw, slots: &[Slot], place: Place) -> u32
     }
 }
 
-/// An index that lies inside an array of so many cells (C17 6.5.6 paragraph 8); `None` where it doesn't.
+/// An index that lies inside an array of so many cells (C17 6.5.6p8); `None` where it doesn't.
 pub fn index_in(cells: u32, index: i32) -> Option<u32>
     ensures { result ≡ index_in cells index }
 {

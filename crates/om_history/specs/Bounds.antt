@@ -1,4 +1,4 @@
--- How far steps move counts, and why sums of counts have 128 bits.
+-- How far steps move counts, and when sums of counts fit into 128 bits.
 use Rattle.std.specs.Prelude.{◌≡◌, Bool, true, false, cond, ℕ, pos, neg_ℤ, ◌≤ℤ◌, List, ◌∷◌, length}
 use Rattle.om_foot.specs.declared.object.Obj.{Obj}
 use Rattle.om_foot.specs.declared.footprint.Mode.{Mode}
@@ -59,7 +59,7 @@ abbrev pub SmallCounts : Type 0
 SmallCounts = (r : Rules) → IsSteady r → (cs : List Command)
     → let es = (run r no_history cs).entries in AreSmall (length es) (state_of_entries r es)
 
--- the counts before and after these updates have 128 bits
+-- the counts before and after these updates fit into 128 bits
 abbrev pub FitsAt : Mode → Update → Val → Type 0
 FitsAt mode.Add (update.Add d) v = SumFits v (pos 0) × SumFits v d
 FitsAt _ _ v = Unit {0}

@@ -21,7 +21,8 @@ abbrev pub with_footprints : List Entry → List Step → List Transition
 with_footprints (e ∷ es) (d ∷ ds) = record { entry = e; footprint = d.footprint } ∷ with_footprints es ds
 with_footprints _ _ = []
 
--- the entries of a history, each with the footprint of its step at its place in the replay
+-- the entries of a history, each with the footprint of its step at its place in the replay; entries behind a step
+-- that can't be made would be left out, but after every run there are none (`RemainingSteps`)
 abbrev pub transitions : Rules → List Entry → List Transition
 transitions r es = with_footprints es (steps_from r r.start (map label_of es))
 

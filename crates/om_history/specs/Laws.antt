@@ -18,12 +18,13 @@ use Rattle.om_cells.specs.Values.{value_plus}
 use Rattle.om_cells.specs.State.{State}
 use Rattle.om_cells.specs.Rules.{Rules, step_at, next_state, replay, replay_from}
 
--- two states hold the same at the Read and Write objects of a footprint
+-- something is asked where a mode reads
 abbrev pub IfRead : Mode → Type 0 → Type 0
 IfRead mode.Add P = Unit {0}
 IfRead mode.Read P = P
 IfRead mode.Write P = P
 
+-- two states hold the same at the Read and Write objects of a footprint
 abbrev pub AgreeAt : List Access → State → State → Type 0
 AgreeAt [] s t = Unit {0}
 AgreeAt (a ∷ rest) s t = IfRead a.mode (s a.object ≡ t a.object) × AgreeAt rest s t

@@ -1,5 +1,6 @@
 -- Histories, and what steps and undos reply and leave: the definition of a run. It is written as functions. `Undos` says
--- as relations when an undo is done, when it is refused and when it has nothing to take out: read that first.
+-- as relations when an undo is done, when it is refused and when it has nothing to take out: read that first. What an
+-- undo leaves is `history_without`: the entries before and behind the one that is taken out.
 use Rattle.std.specs.Prelude.{◌≡◌, ◌==◌, Bool, true, false, Option, None, Some, List, [], ◌∷◌, ◌++◌, map, ℕ, ◌+◌}
 use Rattle.std.specs.Prelude.{unwrap_or}
 use Rattle.om_foot.specs.declared.object.Obj.{Obj}
@@ -77,6 +78,7 @@ pub record Place : Type 0 where
 abbrev pub place_behind : Entry → Place → Place
 place_behind e p = record { earlier = e ∷ p.earlier; entry = p.entry; later = p.later }
 
+-- the place found in the rest, else that of the first entry, if it is the worker's
 abbrev pub last_or_first : Option Place → Bool → Entry → List Entry → Option Place
 last_or_first (Some p) is_own e es = Some (place_behind e p)
 last_or_first None true e es = Some (record { earlier = []; entry = e; later = es })
@@ -103,6 +105,7 @@ first_conflict r footprint s (e ∷ es) otherwise =
     conflict_or e (conflict_of footprint (step_at r s (label_of e)).footprint)
     (first_conflict r footprint (state_after_step r s (label_of e)) es otherwise)
 
+-- what an undo replies that would take the entry of this place out
 abbrev pub reply_at : Rules → Option Place → UndoReply
 reply_at r None = Nothing
 reply_at r (Some p) =
@@ -124,7 +127,7 @@ abbrev pub after_undo : Rules → History → ℕ → History
 after_undo r h w = history_without h (last_place w h.entries) (reply_to_undo r h w)
 
 -- a step that is done, and then an undo of its worker: it takes that very step out, and changes nothing else but the
--- number of steps ever made
+-- number of steps ever made; at any history, also one that no commands led to
 pub record Undoes (r : Rules) (h : History) (l : Label) (serial line : ℕ) : Type 0 where
   pub reply : reply_to_undo r (after_step r h l) l.worker ≡ Undone serial line
   pub after : after_undo r (after_step r h l) l.worker ≡ record { entries = h.entries; made = h.made + 1 }

@@ -12,7 +12,7 @@ use Rattle.om_cells.specs.declared.step.Outcome.TheVariants.{Updates}
 use Rattle.om_cells.specs.Rules.{Rules, control_access}
 use Rattle.om_live.specs.Stores.{is_trailed}
 
--- where a control stands a value is one
+-- a value that is put at a control is a control
 abbrev pub IsControl : Val → Bool → Type 0
 IsControl (value.Control c) trailed = Unit {0}
 IsControl v true = ⊥

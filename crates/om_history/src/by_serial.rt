@@ -94,7 +94,7 @@ fn drop_gone(rows: &mut Vec<Row>)
 }
 
 /// Makes room for one more row. Where there is none, all rows without a record go, and then room is
-/// asked for until half of it is free. So the time is a constant for each row that comes, as long as
+/// asked for until half of it is free. So a row that comes costs amortized constant time, as long as
 /// memory is given. When out of memory, the records are the same, and the next call may pass over all
 /// rows again.
 fn make_room(rows: &mut Vec<Row>) -> Result<(), AllocError>

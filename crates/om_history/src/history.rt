@@ -132,8 +132,8 @@ impl History {
         }
     }
 
-    /// What `take` of a change of a worker would answer now: the reply of the definition of a run.
-    /// Nothing changes, and it takes no memory.
+    /// What `take` of a change of a worker would answer now: the reply of the definition of a run, where the
+    /// change is the plan of that worker's step. Nothing changes, and it takes no memory.
     pub fn reply(&self, worker: u8, change: &Change) -> StepReply
         requires { (r : Rules) × IsHeld r self.now }
         ensures { (label : Label) → label.worker ≡ worker
@@ -231,7 +231,8 @@ impl History {
         }
     }
 
-    /// Takes the members of a cone out, which `cone` answered. It takes no memory.
+    /// Takes out the members of a cone, as `cone` answered it; of another list nothing is said. It takes no
+    /// memory.
     pub fn take_out(&mut self, taken: &[Taken])
         requires { (r : Rules) × IsHeld r self.old }
         ensures { TakesOut taken.now self.old self.new }

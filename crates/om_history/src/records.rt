@@ -27,6 +27,7 @@ use std::marker::Model;
 /// An entry, with its footprint and what takes its updates back.
 #[derive(Drop)]
 pub struct UndoRecord {
+    /// The step that it takes back.
     pub entry: Entry,
     /// The objects that the step touched, its worker's control first.
     pub footprint: Seq<Access>,
@@ -332,7 +333,7 @@ impl Records {
         }
     }
 
-    /// The serial of a worker's last entry.
+    /// The serial of a worker's last entry; `None` where it has none. It takes no memory.
     pub fn last(&self, worker: u8) -> Option<u64>
         ensures found { IfSome result (λ s. LastHasSerial worker self.now s) }
         ensures none { IfNone result (All (λ k. k.entry.worker ≢ worker) self.now) }

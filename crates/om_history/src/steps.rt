@@ -44,8 +44,8 @@ fn take_back(store: &mut Store, made: Kept)
 }
 
 /// Makes edits of the control of a record's worker, and then the updates behind its first access,
-/// and leaves in the place of these what the record holds of them. When out of memory, nothing
-/// changes.
+/// and leaves in the place of these what the record holds of them. When out of memory, no value changes.
+/// What the updates are then is not said.
 fn make_changes(
     store: &mut Store,
     alloc: Global,
@@ -82,8 +82,8 @@ fn make_changes(
     }
 }
 
-/// Makes a change of an entry's worker, and answers the record of it. When out of memory, nothing
-/// changes.
+/// Makes a change of an entry's worker, and answers the record of it. When out of memory, no value
+/// changes, but the store may keep more objects.
 fn make(
     store: &mut Store,
     alloc: Global,

@@ -306,7 +306,7 @@ pub(crate) fn keep_footprint(
 }
 
 /// Makes the updates of a footprint, and leaves in their place what a small record holds of them.
-/// When out of memory, what was made is taken back, and nothing changes.
+/// When out of memory, what was made is taken back: no value changes. What the updates are then is not said.
 pub(crate) fn make_all(
     store: &mut Store,
     alloc: Global,

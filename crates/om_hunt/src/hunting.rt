@@ -20,7 +20,9 @@ use std::thread::Threads;
 /// ended, or where that task ends and something else was printed than is wanted: what is expected, or what
 /// `run` alone leads to. Where `run` alone comes to no end within 100,000 steps and nothing is expected, any
 /// output will do. First `run` alone is judged, and then the schedule of each seed; `progress` is told before
-/// each seed. All this is on steps that the debugger makes: what is answered is what it wrote for the script.
+/// each seed. Schedules are tried on a machine. Before one is answered the debugger runs its script, and what
+/// that leaves is judged: the text is what it wrote.
+///
 /// A hunt that finds nothing says that `run` alone is not bad, and nothing of schedules that it did not try.
 /// Faults are those of the debugger, and out of memory is H5.
 pub fn hunt<H: Threads + Wait + Sync, P: Progress>(
@@ -97,7 +99,7 @@ fn find<H: Threads + Wait + Sync, P: Progress>(
     Ok(None)
 }
 
-// What tries schedules over a source that was accepted before.
+// What tries schedules over a source. It was accepted before, so only memory can be short.
 fn chances_over(alloc: Global, source: &[u8], workers: u8) -> Result<Chances, ShellFault>
     requires at_least_one { 1 ≤ workers }
     requires at_most_32 { workers ≤ 32 }

@@ -17,7 +17,7 @@ use Rattle.om_journal.specs.declared.command.Command.TheVariants as command
 use Rattle.om_journal.specs.declared.reply.Reply.{Reply}
 use Rattle.om_journal.specs.declared.book.JournalRecord.{JournalRecord}
 use Rattle.om_journal.specs.AddedRecords.{left_by-snoc}
-use Rattle.om_journal.specs.Runs.{IsReply, after, history_after}
+use Rattle.om_journal.specs.Runs.{IsReply, after, history_behind}
 use Rattle.om_journal.specs.Journals.{IsLegal, IsSound, left_by}
 
 made_with : (h : History) (e : Entry) (o : Outcome) → (history_with h e o).made ≤ h.made + 1
@@ -32,7 +32,7 @@ made_without h (Some p) Nothing = refl
 made_without h None x = refl
 
 -- a command makes one step at most
-made_after : (m : MachineView) (c : Command) → (history_after m c).made ≤ m.history.made + 1
+made_after : (m : MachineView) (c : Command) → (history_behind m c).made ≤ m.history.made + 1
 made_after m (command.Step worker choice) =
     let l : Label = record { worker = worker; choice = choice } in
     let d : Step = step_at (rules_for m) (state_of_entries (rules_for m) m.history.entries) l in

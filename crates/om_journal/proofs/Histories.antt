@@ -7,12 +7,12 @@ use Rattle.om_undo.specs.Machines.{MachineView, rules_for}
 use Rattle.om_journal.specs.declared.book.JournalRecord.{JournalRecord}
 use Rattle.om_journal.specs.declared.command.Command.{Command}
 use Rattle.om_journal.specs.declared.command.Command.TheVariants as command
-use Rattle.om_journal.specs.Runs.{after, history_after}
+use Rattle.om_journal.specs.Runs.{after, history_behind}
 use Rattle.om_journal.specs.Journals.{IsSound, left_by}
 use Rattle.om_journal.specs.Histories.{told_by, told_in}
 
 told_first : (m : MachineView) (c : Command) (cs : List told.Command)
-    → run (rules_for m) (history_after m c) cs ≡ run (rules_for m) m.history (told_by c ++ cs)
+    → run (rules_for m) (history_behind m c) cs ≡ run (rules_for m) m.history (told_by c ++ cs)
 told_first m (command.Step worker choice) cs = refl
 told_first m (command.Undo worker) cs = refl
 told_first m (command.Roll serial) cs = refl

@@ -46,16 +46,17 @@ reply_to m (command.Look question) = answer_to m question
 abbrev pub IsReply : MachineView → Command → Reply → Type 0
 IsReply m c x = x ≡ reply_to m c
 
-abbrev pub history_after : MachineView → Command → History
-history_after m (command.Step worker choice) =
+-- the history that a command leaves
+abbrev pub history_behind : MachineView → Command → History
+history_behind m (command.Step worker choice) =
     after_step (rules_for m) m.history (record { worker = worker; choice = choice })
-history_after m (command.Undo worker) = after_undo (rules_for m) m.history worker
-history_after m (command.Roll serial) = after_roll (rules_for m) m.history serial
-history_after m (command.Look question) = m.history
+history_behind m (command.Undo worker) = after_undo (rules_for m) m.history worker
+history_behind m (command.Roll serial) = after_roll (rules_for m) m.history serial
+history_behind m (command.Look question) = m.history
 
 -- what a command leaves: a question leaves all as it was
 abbrev pub after : MachineView → Command → MachineView
-after m c = record m { history = history_after m c }
+after m c = record m { history = history_behind m c }
 
 -- the reply is that of a step that was made
 abbrev pub is_step_made : Reply → Bool

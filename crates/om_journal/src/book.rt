@@ -27,7 +27,9 @@ pub const MAX_RECORDS: u64 = 200_000;
 pub struct JournalRecord {
     /// The number of the seat that made it, from 0.
     pub seat: u8,
+    /// What was asked.
     pub command: KeptCommand,
+    /// What was answered.
     pub reply: Reply,
 }
 
@@ -52,6 +54,7 @@ const _: () = prove!(size_of::<JournalRecord>() <= 100);
 pub enum CallError {
     /// There are 200,000 records.
     Full,
+    /// There is no memory for the call or its record.
     OutOfMemory,
 }
 

@@ -70,7 +70,7 @@ enum CommandParts {
     Entries,
 }
 
-/// A command that is kept: as small for a command of any kind.
+/// A command that is kept. It is small for a command of every kind.
 ///
 /// Contracts see the command alone.
 pub struct KeptCommand {
@@ -185,7 +185,7 @@ enum UndoParts {
     Nothing,
 }
 
-/// What an undo is answered, to be kept: as small for an undo that is refused.
+/// What an undo is answered, to be kept. It is small also where the undo is refused.
 ///
 /// Contracts see the reply alone.
 #[derive(Drop)]

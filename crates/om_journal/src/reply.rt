@@ -13,8 +13,11 @@ use std::alloc::{AllocError, Global};
 
 /// What is answered to a command: to each kind its own kind of reply.
 pub enum Reply {
+    /// Of a step.
     Step(StepReply),
+    /// Of an undo.
     Undo(KeptUndoReply),
+    /// Of a roll.
     Roll(RollReply),
     /// What the object holds.
     Value(Val),

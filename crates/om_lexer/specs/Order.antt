@@ -52,8 +52,7 @@ GoesOn inside kinds.End last rest = (inside ≡ false) × last
 GoesOn inside _ last rest = rest inside
 
 -- The tokens from a place on, in a directive or outside of one: each directive that begins has its end, with
--- no other in it,
--- and the end of the source stands last, outside, and nowhere else.
+-- no other in it, and the end of the source stands last, outside, and nowhere else.
 unfoldable pub AreWhole : (inside : Bool) → List Token → Type 0
 AreWhole inside [] = ⊥
 AreWhole inside (t ∷ ts) = GoesOn inside t.kind (ts ≡ []) (λ behind. AreWhole behind ts)

@@ -7,11 +7,11 @@ ghost use Rattle.om_lexer.specs.declared.token.TokenKind.TheVariants.{DirectiveE
 ghost use Rattle.om_lexer.specs.Order.{AreInOrder, AreWhole, StandsBefore};
 ghost use Rattle.om_lexer.specs.Sources.{IsTokens, IsFault};
 
-/// A source has one list of tokens or one fault, and not both.
+/// A source has at most one list of tokens and at most one fault, and not both.
 pub fn one_reading()
     ensures one_token_list { (source : List ℕ) (ts us : List Token) → IsTokens source ts →
         IsTokens source us → ts ≡ us }
-    ensures tokens_or_fault { (source : List ℕ) (ts : List Token) (code : FaultCode) (at : ℕ) →
+    ensures tokens_no_fault { (source : List ℕ) (ts : List Token) (code : FaultCode) (at : ℕ) →
         IsTokens source ts → IsFault source code at → ⊥ }
     ensures one_fault { (source : List ℕ) (c d : FaultCode) (a b : ℕ) →
         IsFault source c a → IsFault source d b → (c ≡ d) × (a ≡ b) }

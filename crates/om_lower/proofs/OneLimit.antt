@@ -7,7 +7,7 @@ use Rattle.om_rows.specs.Bodies.{BodySite, Numbers, behind_function, behind_func
 use Rattle.om_rows.specs.Bodies.{function_bodies, variables_of}
 use Rattle.om_rows.specs.Laws.{OneBodyCode}
 use Rattle.om_rows.specs.Numbered.{numbered_in}
-use Rattle.om_lower.specs.Laws.{OneTooMany, WithinOrTooMany}
+use Rattle.om_lower.specs.Laws.{OneTooMany, WithinIsNotTooMany}
 use Rattle.om_lower.specs.Limits.{IsWithin, IsOver, many_slots, many_cells, long, high}
 use Rattle.om_lower.proofs.FunctionBodies.{all_behind, all_front}
 
@@ -71,8 +71,8 @@ module _ (one : OneBodyCode) (tree : ResolvedTree) where
       (all_behind (λ b. IsWithin tree b) (function_bodies n x) (bodies_from (behind_function n x) xs) a.0, a.1)
       (all_behind (λ b. IsWithin tree b) (function_bodies n x) (bodies_from (behind_function n x) ys) moved.0, moved.1)
 
-pub within_or_too_many : OneBodyCode → WithinOrTooMany
-within_or_too_many one tree fault all t =
+pub within_is_not_too_many : OneBodyCode → WithinIsNotTooMany
+within_is_not_too_many one tree fault all t =
     all_or_any one tree (function_bodies (behind_functions first_numbers t.before) t.function)
     (those_within one tree first_numbers t.before t.function t.after
     (subst (λ fs. All (λ b. IsWithin tree b) (bodies_from first_numbers fs)) t.functions all)) t.over

@@ -1,13 +1,13 @@
--- A tree keeps the limits on bodies or passes one.
+-- No tree keeps the limits on bodies and passes one, and at most one function is the first that does.
 use Rattle.std.specs.Prelude.{◌≡◌}
 use Rattle.om_lexer.specs.declared.fault.SourceFault.{SourceFault}
 use Rattle.om_resolved.specs.ResolvedTree.{ResolvedTree}
 use Rattle.om_lower.specs.Limits.{AreWithin, IsTooMany}
 
--- It does not do both.
-abbrev pub WithinOrTooMany : Type 0
-WithinOrTooMany = (tree : ResolvedTree) (fault : SourceFault) → AreWithin tree → IsTooMany tree fault → ⊥
+-- No tree does both.
+abbrev pub WithinIsNotTooMany : Type 0
+WithinIsNotTooMany = (tree : ResolvedTree) (fault : SourceFault) → AreWithin tree → IsTooMany tree fault → ⊥
 
--- And one function is the first that has a body which passes a limit.
+-- And no two functions are both the first that has a body which passes a limit.
 abbrev pub OneTooMany : Type 0
 OneTooMany = (tree : ResolvedTree) (a b : SourceFault) → IsTooMany tree a → IsTooMany tree b → a ≡ b

@@ -1,6 +1,6 @@
 //! Laws of the numbers of lists, and of the limits on bodies.
 
-ghost use Rattle.om_lower.specs.Laws.{OneTooMany, WithinOrTooMany};
+ghost use Rattle.om_lower.specs.Laws.{OneTooMany, WithinIsNotTooMany};
 ghost use Rattle.om_lower.specs.Once.{PicksOfFunctions};
 
 use om_rows::laws::one_body_code;
@@ -10,10 +10,10 @@ pub fn each_once()
     ensures { PicksOfFunctions }
 {}
 
-/// A tree keeps the limits on bodies or passes one, and not both. Where it passes one, one function is
-/// the first that does.
+/// No tree both keeps the limits on bodies and passes one. At most one function is the first that passes
+/// one.
 pub fn one_limit()
-    ensures within_or_too_many { WithinOrTooMany }
+    ensures within_is_not_too_many { WithinIsNotTooMany }
     ensures one_too_many { OneTooMany }
 {
     one_body_code();

@@ -28,6 +28,9 @@ use std::alloc::{AllocError, Global};
 
 /// The program whose bodies are the code of the tree's functions.
 ///
+/// The tree is whole, each `atomic` that reads or writes is about an assignment, and each copy stands behind
+/// where its region begins: `om_scope::resolve` and the laws of om_rules give that.
+///
 /// The body of each function without calls and directives does what the function means: it ends with its
 /// value, its globals and its output exactly where the meaning does, and faults exactly where that does.
 ///

@@ -84,8 +84,7 @@ pub record IsUnknownClause (tokens : List Token) (at : ℕ) : Type 0 where
   pub place : word.span.start ≡ at
 
 -- S6: where a clause is expected, the word of one stands that the directive does not have, or not once more,
--- or behind which
--- nothing stands that makes it a clause.
+-- or behind which nothing stands that makes it a clause.
 pub record IsBadClause (tokens : List Token) (at : ℕ) : Type 0 where
   pub name : DirectiveName
   pub before : List (ClauseItem (List Token))

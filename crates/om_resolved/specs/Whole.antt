@@ -1,6 +1,5 @@
 -- Which resolved trees are whole: what each part names is there and is of the kind that the part needs, and
--- jumps, clauses and values
--- stand only where they may.
+-- jumps, clauses and values stand only where they may.
 use Rattle.std.specs.Prelude.{◌≡◌, ◌≤◌, ◌⊎◌, ◌<ℤ◌, ℕ, ◌+◌, ℤ, pos, List, [], ◌∷◌, ◌++◌, Option, None, Some, Bool, true}
 use Rattle.std.specs.Prelude.{false, All, Any, Contains, IsSomeAnd, IfSome, codes, length, map, option_map, slice_get}
 use Rattle.std.specs.Prelude.{sum_by}
@@ -260,8 +259,7 @@ within around clauses = constructed false (with_locals around (flat_map copies_i
 -- ---- regions
 
 -- A `parallel` or a `task` takes the variables that it uses and that are declared before it begins, each once
--- and in the order of
--- first sight. A variable is known by the byte where it is declared.
+-- and in the order of first sight. A variable is known by the byte where it is declared.
 pub record IsRegion (start : ℕ) (clauses : List ResolvedClauseTree) (captures : List Capture)
     (body : ResolvedStatementTree) : Type 0 where
   pub taken : map captured_variable captures ≡ taken_variables start clauses body

@@ -22,7 +22,7 @@ use Rattle.om_rows.specs.Numbered.{Numbered, site_with}
 use Rattle.om_rows.specs.Rows.{Site}
 use Rattle.om_rows.specs.Statements.{Jumps, statement}
 
--- A tree has one code.
+-- A tree has at most one code.
 abbrev pub OneCode : Type 0
 OneCode = (tree : ResolvedTree) (raw other : Raw) → IsCodeOf tree raw → IsCodeOf tree other → raw ≡ other
 
@@ -55,7 +55,7 @@ BodyIsLevel =
     (at : Site) (n : Numbers) (f : ResolvedFunctionTree) (tree : BodyTree) →
     body_row at n f tree 0 (length at.code) → IsLevel at.picks at.code
 
--- A whole tree has code, if each `atomic` that reads or writes is about an assignment.
+-- Each part of a whole tree has a row, if each `atomic` that reads or writes is about an assignment.
 abbrev pub WholeHasCode : Type 0
 WholeHasCode = (tree : ResolvedTree) → IsWholeTree tree → TreeAtomicsAssign tree → TreeHasCode tree
 

@@ -186,11 +186,12 @@ abbrev pub effect_if_any : Layout → Option ResolvedExpressionTree → World �
 effect_if_any at None w = Onward w
 effect_if_any at (Some e) w = effect_flow at e w
 
--- C17 6.7.9: a declared variable gets its value, or holds none
+-- the number of a slot; what is declared is never a global
 abbrev pub slot_number : Place → ℕ
 slot_number (place.Slot number) = number
 slot_number (place.Global number) = number
 
+-- C17 6.7.9: a declared variable gets its value, or holds none
 abbrev pub declared : Layout → LocalVariable → Option ResolvedExpressionTree → World → Flow
 declared at x None w = Onward (clear (slot_number (at.place (Local x.at))) w)
 declared at x (Some e) w =

@@ -1,15 +1,13 @@
 -- How the table of lowering is written down.
 --
 -- A row says what stands between two places of a finished body. `ins at l i` is an instruction with its line,
--- `part r` the code of
--- a part of the tree, `here f` says that the label f is this place; `▸` puts one behind the other, and `end`
--- closes the row. So
+-- `part r` the code of a part of the tree, and `here f` says that the label f is this place. `▸` puts one behind
+-- the other, and `end` closes the row. So
 --
 --     part (value at l c) ▸ ins at l (i.JumpIfZero f) ▸ part (statement at n s jumps) ▸ here f ▸ end
 --
 -- is the row "c, JZ E, s, E:" of `if (c) s`, where f is the place E. Labels are bound in front of their row.
--- A form that has no code
--- has the row `never`.
+-- A form that has no code has the row `never`.
 use Rattle.std.specs.Prelude.{◌≡◌, ℕ, ◌+◌, List, [], ◌∷◌, Option, None, Some, Bool, true, false, slice_get}
 use Rattle.om_code.specs.declared.instruction.Instr.{Instr}
 use Rattle.om_code.specs.declared.raw.Line.{Line}

@@ -62,7 +62,7 @@ abbrev pub with_held : World → Place → ℕ → Cell → World
 with_held w (place.Global number) index new = record w { globals = with_cell w.globals number index new }
 with_held w (place.Slot number) index new = record w { slots = with_cell w.slots number index new }
 
--- C17 6.3.2.1 paragraph 2 and 6.2.4 paragraph 2: what is read holds a value and lives
+-- C17 6.3.2.1p2 and 6.2.4p2: what is read holds a value and lives
 abbrev pub found : Cell → World → Outcome
 found (cell.Int value) w = Got value w
 found cell.Unset w = Faulty fault.Unset w
@@ -79,12 +79,12 @@ put_into _ at index value w = Got value (with_held w at index (cell.Int value))
 unfoldable pub store : Place → ℕ → ℤ → World → Outcome
 store at index value w = put_into (held w at index) at index value w
 
--- C17 6.5.6 paragraph 8: an index lies inside its array
+-- C17 6.5.6p8: an index lies inside its array
 abbrev pub at_index : Option ℕ → World → (ℕ → Outcome) → Outcome
 at_index None w rest = Faulty fault.Index w
 at_index (Some index) w rest = rest index
 
--- C17 6.2.4 paragraph 6: a variable that is declared without a value holds none
+-- C17 6.2.4p6: a variable that is declared without a value holds none
 unfoldable pub clear : ℕ → World → World
 clear slot w = record w { slots = λ n k. if nat_eq n slot then cell.Unset else w.slots n k }
 

@@ -2,7 +2,7 @@
 
 ghost use Rattle.om_rows.specs.Laws.{BodyIsLevel, CodeFaults, CodeIsLevel, CodeIsValid, EffectRowsHaveCode, FormatsAreNumbered, FunctionBodies, OneBodyCode, OneCode, RowsHaveCode, StatementRowsHaveCode, ValueRowsHaveCode, WholeHasCode};
 
-/// A tree has one code.
+/// A tree has at most one code.
 pub fn one_code()
     ensures { OneCode }
 {}
@@ -24,12 +24,14 @@ pub fn body_is_level()
     ensures { BodyIsLevel }
 {}
 
-/// A whole tree has code, if each `atomic` that reads or writes is about an assignment.
+/// Each part of a whole tree has a row of code, if each `atomic` that reads or writes is about an
+/// assignment. That there is code with these rows is no law: who lowers a tree makes it, or a limit is
+/// passed, or it is out of memory.
 pub fn whole_has_code()
     ensures { WholeHasCode }
 {}
 
-/// Only what has code has rows that hold.
+/// A tree whose rows hold has no part without a row, whatever the numbers of its values and parts.
 pub fn rows_have_code()
     ensures tree { RowsHaveCode }
     ensures value { ValueRowsHaveCode }

@@ -46,8 +46,8 @@ pub struct Found {
 pub enum Hunted {
     /// The source is refused, by this line.
     Refused(Vec<u8>),
-    /// None of the schedules of so many seeds was bad. The text is what ompback answers where `run` makes all
-    /// steps.
+    /// No bad schedule was found in so many seeds. That `run` alone is not bad is proved, and nothing of the
+    /// seeds. The text is what ompback answers where `run` makes all steps.
     Nothing { seeds: u64, printed: Vec<u8> },
     /// This schedule is bad.
     Found(Found),

@@ -9,12 +9,12 @@ use Rattle.om_command.specs.Steps.{entry_text}
 use Rattle.om_undo.specs.Machines.{MachineView, rules_for}
 
 -- a step as `history` has it
-abbrev pub taken_line : Taken → List ℕ
-taken_line t = entry_text t.serial t.worker t.line ++ codes "\n"
+abbrev pub cone_line : Taken → List ℕ
+cone_line t = entry_text t.serial t.worker t.line ++ codes "\n"
 
 -- the steps that a roll would take, the earliest first
 abbrev pub cone_text : List Taken → List ℕ
-cone_text taken = joined taken_line (reverse taken)
+cone_text taken = joined cone_line (reverse taken)
 
 -- no step of the serial stands, and the text is what a roll answers then; or the text has the steps that it would take
 abbrev pub IsConeOf : MachineView → ℕ → List ℕ → Type 0

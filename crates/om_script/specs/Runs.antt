@@ -17,5 +17,6 @@ pub record Leaves (workers : ℕ) (given : Option (List ℕ)) (input text : List
   pub writes : text ≡ transcript.text
   pub leaves : book ≡ book_of transcript.view
 
+-- over a source that is handed in, these commands write this text and leave this book
 abbrev pub IsRun : ℕ → List ℕ → List ℕ → List ℕ → Option BookView → Type 0
 IsRun workers source commands text book = Leaves workers (Some source) commands text book

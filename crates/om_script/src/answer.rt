@@ -1,4 +1,4 @@
-//! What is answered to who asks for a script.
+//! What is answered to whoever asks for a script or a cone.
 
 ghost use Rattle.std.specs.Prelude.{◌≡◌};
 
@@ -9,7 +9,8 @@ use thiserror::Error;
 /// Lines that a session leads to, or why there are none.
 #[derive(Drop)]
 pub enum Script {
-    /// The lines. Of a session without a step that stands there is none.
+    /// The lines. Of `script`: commands, none where no step stands. Of `cone`: steps, or the line that
+    /// `roll` answers where no step has the serial.
     Steps(Vec<u8>),
     /// The one line that is written for a source that is refused.
     Refused(Vec<u8>),

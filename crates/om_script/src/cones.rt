@@ -4,7 +4,7 @@ ghost use Rattle.std.specs.Prelude.{◌≡◌, ◌<◌, ◌≤◌, ◌++◌, Som
 ghost use Rattle.std.specs.Option.{option_copied};
 ghost use Rattle.om_journal.specs.Books.{machine_of};
 ghost use Rattle.om_command.specs.Lists.{joined, roll_text};
-ghost use Rattle.om_script.specs.Cones.{taken_line, cone_text, IsConeOf};
+ghost use Rattle.om_script.specs.Cones.{cone_line, cone_text, IsConeOf};
 ghost use Rattle.om_script.specs.Sessions.{IsConeFor};
 
 use crate::answer::{Script, ScriptFault};
@@ -103,7 +103,7 @@ fn in_order(alloc: Global, taken: &[Taken]) -> Result<Vec<Taken>, AllocError>
 
 // Appends a line for each of some steps.
 fn push_lines(text: &mut Vec<u8>, steps: &[Taken]) -> Result<(), AllocError>
-    ensures { OnOk result (text.new.items ≡ text.old.items ++ joined taken_line steps.now) }
+    ensures { OnOk result (text.new.items ≡ text.old.items ++ joined cone_line steps.now) }
 {
     for step in steps {
         push_line(text, step)?;
@@ -113,7 +113,7 @@ fn push_lines(text: &mut Vec<u8>, steps: &[Taken]) -> Result<(), AllocError>
 
 // Appends a step as `history` has it.
 fn push_line(text: &mut Vec<u8>, step: &Taken) -> Result<(), AllocError>
-    ensures { OnOk result (text.new.items ≡ text.old.items ++ taken_line step.now) }
+    ensures { OnOk result (text.new.items ≡ text.old.items ++ cone_line step.now) }
 {
     push_numbered(text, b"#", step.serial)?;
     push_numbered(text, b" worker ", step.worker)?;

@@ -5,7 +5,7 @@ use Rattle.om_lexer.specs.declared.fault.FaultCode.{FaultCode}
 use Rattle.om_lexer.specs.declared.fault.SourceFault.{SourceFault}
 use Rattle.om_lexer.specs.declared.token.Token.{Token}
 use Rattle.om_lexer.specs.Sources.{IsTokens, IsFault}
-use Rattle.om_lower.specs.Laws.{OneTooMany, WithinOrTooMany}
+use Rattle.om_lower.specs.Laws.{OneTooMany, WithinIsNotTooMany}
 use Rattle.om_lower.specs.Limits.{AreWithin, IsTooMany}
 use Rattle.om_parser.specs.Parsing.{IsTreeOf}
 use Rattle.om_parser.specs.Refusals.{refusal_of}
@@ -26,7 +26,7 @@ use Rattle.om_shell.specs.Verdict.{by_names, by_code}
 -- what the passes promise of each source, of its tokens, and of each tree
 pub record PassLaws : Type 0 where
   pub one_token_list : (source : List ℕ) (ts us : List Token) → IsTokens source ts → IsTokens source us → ts ≡ us
-  pub tokens_or_fault : (source : List ℕ) (ts : List Token) (code : FaultCode) (at : ℕ) → IsTokens source ts
+  pub tokens_no_fault : (source : List ℕ) (ts : List Token) (code : FaultCode) (at : ℕ) → IsTokens source ts
       → IsFault source code at → ⊥
   pub one_fault : (source : List ℕ) (c d : FaultCode) (a b : ℕ) → IsFault source c a → IsFault source d b
       → (c ≡ d) × (a ≡ b)
@@ -34,7 +34,7 @@ pub record PassLaws : Type 0 where
   pub accepted : (tokens : List Token) (unit : UnitTree) → IsTreeOf tokens unit → IsWithinLimits unit
       → AtomicsHaveForms unit → refusal_of tokens ≡ None
   pub one_code : OneCode
-  pub within_or_too_many : WithinOrTooMany
+  pub within_is_not_too_many : WithinIsNotTooMany
   pub one_too_many : OneTooMany
 
 -- what is there is one, and is not none
@@ -62,7 +62,7 @@ module _ (laws : PassLaws) (source : List ℕ) where
   -- ---- a pass that refuses gives nothing to the next one
 
   no_tokens : (f : SourceFault) (ts : List Token) → IsFault source f.code f.at → IsTokens source ts → ⊥
-  no_tokens f ts fault lexed = laws.tokens_or_fault source ts f.code f.at lexed fault
+  no_tokens f ts fault lexed = laws.tokens_no_fault source ts f.code f.at lexed fault
 
   no_tree : (f : SourceFault) (ts : List Token) (t : UnitTree) → IsTokens source ts → refusal_of ts ≡ Some f
       → IsTreeOfSource source t → ⊥
@@ -82,7 +82,7 @@ module _ (laws : PassLaws) (source : List ℕ) where
       → IsProgramOf source p → ⊥
   no_program f r p a over b =
       let same = one_resolution b.resolved r b.has_resolution a in
-      laws.within_or_too_many r f (subst AreWithin same b.within) over
+      laws.within_is_not_too_many r f (subst AreWithin same b.within) over
 
   -- a source with a resolution is not refused before its code
   program_or_refusal : (p : Raw) (f : SourceFault) → IsProgramOf source p → IsRefused source f → ⊥

@@ -15,7 +15,7 @@ use Rattle.om_shell.specs.Verdict.{IsVerdict}
 abbrev pub AsksNoFreeRun : List ℕ → Type 0
 AsksNoFreeRun line = (workers : ℕ) → rounds_asked (request_of workers line) ≡ None
 
--- a source has one verdict: one program or one refusal, and not both
+-- a source has at most one verdict: at most one program, at most one refusal, and not both
 abbrev pub OneVerdict : Type 0
 OneVerdict = (source : List ℕ) (a b : Result Raw SourceFault) → IsVerdict source a → IsVerdict source b → a ≡ b
 
@@ -26,7 +26,7 @@ OneScriptByVerdict = (verdict : Result Raw SourceFault) (workers : ℕ) (runs : 
     → AllByRecursion AsksNoFreeRun (commands_of given input)
     → script_by verdict workers runs given input ≡ script_by verdict workers [] given input
 
--- so an input has one script then
+-- so an input has at most one script then
 abbrev pub OneScript : Type 0
 OneScript = (workers : ℕ) (given : Option (List ℕ)) (input : List ℕ) (one other : Transcript Debugger)
     → AllByRecursion AsksNoFreeRun (commands_of given input)

@@ -7,7 +7,7 @@ use om_lower::laws::one_limit;
 use om_parser::{accepted_units, one_tree};
 use om_rows::laws::one_code;
 
-/// A source has one verdict: one program or one refusal, and not both.
+/// A source has at most one verdict: at most one program, at most one refusal, and not both.
 ///
 /// So calls that answer for it by its verdict agree. One that is out of memory says nothing of it.
 pub fn one_verdict()

@@ -69,6 +69,6 @@ IsApart worker c _ = Unit {0}
 abbrev pub Keeps : ℕ → Context → State → State → Type 0
 Keeps worker c before s = (q : Obj) → IsApart worker c q → s q ≡ before q
 
--- the world of a frame that has ended: its cells are dead (C17 6.2.4 paragraph 2)
+-- the world of a frame that has ended: its cells are dead (C17 6.2.4p2)
 abbrev pub dead : World → World
 dead w = record w { slots = λ slot index. cell.Dead }

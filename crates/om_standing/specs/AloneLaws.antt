@@ -132,7 +132,7 @@ FunctionsRun =
 abbrev pub first_stack : Raw → Stack
 first_stack program = record { top = first_context program; below = [] }
 
--- globals have their initial values (C17 6.7.9 paragraph 10), and nothing is printed
+-- globals have their initial values (C17 6.7.9p10), and nothing is printed
 abbrev pub first_world : Raw → World
 first_world program = record {
   slots = λ slot index. cell.Unset;

@@ -56,7 +56,7 @@ row_of to updates turn.Lacks = Lacks
 row_of to updates (turn.Returns v) = Lacks
 row_of to updates (turn.Finishes n) = Lacks
 
--- C17 6.7.9 paragraph 10: what a declaration without initializer leaves
+-- C17 6.7.9p10: what a declaration without initializer leaves
 abbrev pub unsets : List Access → List Update
 unsets [] = []
 unsets (a ∷ rest) = Put (value.Cell cell.Unset) ∷ unsets rest
@@ -119,7 +119,7 @@ call_row launch body c (Some ns) =
       row = λ _. Goes (BeginFrame launch.to launch.takes launch.body (homes_in c body.slots) ∷ []) (puts ns);
     }
 
--- C17 6.8.6.4: the frame ends, its cells die (6.2.4 paragraph 2), and its value is that of the call
+-- C17 6.8.6.4: the frame ends, its cells die (6.2.4p2), and its value is that of the call
 abbrev pub return_row : Context → List Slot → List Frame → Option Operand → Asked
 return_row c slots callers None = decided Lacks
 return_row c slots [] (Some v) = decided Lacks

@@ -54,7 +54,7 @@ abbrev pub first_control : Raw → ℕ → controls.Control
 first_control program worker = if nat_eq worker 0 then Running (record { top = first_context program; below = [] })
     else Idle
 
--- C17 6.7.9 paragraph 10: a global scalar begins with its initializer, else with 0, and so does each cell of an array
+-- C17 6.7.9p10: a global scalar begins with its initializer, else with 0, and so does each cell of an array
 abbrev pub initial_in : Option GlobalVariable → ℤ
 initial_in None = pos 0
 initial_in (Some global) = unwrap_or (option_map (λ _. pos 0) global.length) global.initial

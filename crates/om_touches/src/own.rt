@@ -87,7 +87,7 @@ impl OwnEntries {
         }
     }
 
-    /// A worker's last entry.
+    /// The serial of a worker's last entry; `None` where it has none. It takes no memory.
     pub fn last(&self, worker: u8) -> Option<u64>
         ensures { IsGreatest (is_own self.now worker) result }
     {

@@ -36,6 +36,7 @@ placed Less name other names further = name ∷ other ∷ names
 placed Equal name other names further = other ∷ names
 placed Greater name other names further = other ∷ further
 
+-- a name put into a list that ascends; one that is there already is not put again
 abbrev pub inserted : List ℕ → List (List ℕ) → List (List ℕ)
 inserted name [] = name ∷ []
 inserted name (other ∷ names) = placed (slice_cmp nat_cmp name other) name other names (inserted name names)
