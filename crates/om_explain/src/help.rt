@@ -2,7 +2,7 @@
 
 use crate::left_out::{BYTES, HASH_LINES, MISUSES, NAMES, SYNTAX};
 use crate::library::LIBRARY;
-use crate::openmp::{CONSTRUCTS, WORDS};
+use crate::openmp::{CONSTRUCTS, LOOPS, WORDS};
 use crate::table::{words_at, words_of};
 use om_lexer::FaultCode;
 
@@ -19,7 +19,8 @@ pub fn help_for(code: FaultCode, token: &[u8], before: &[u8]) -> Option<&'static
         FaultCode::UnknownDirective | FaultCode::BadClause => words_of(&WORDS, token),
         FaultCode::Undeclared => library_words(token),
         FaultCode::Misuse => words_of(&MISUSES, token),
-        FaultCode::LoopForm | FaultCode::LeavesConstruct => words_of(&CONSTRUCTS, token),
+        FaultCode::LoopForm => words_of(&LOOPS, token),
+        FaultCode::LeavesConstruct => words_of(&CONSTRUCTS, token),
         _ => None,
     }
 }

@@ -49,7 +49,7 @@ pub(crate) const SYNTAX: [Row; 37] = [
     ),
     (
         b"=",
-        "an array has no list of initial values: store its elements at the beginning of `main`",
+        "an array has no list of initial values: store its elements in `main`; else on its left stands one variable or element",
     ),
     (
         b"[",
@@ -68,14 +68,17 @@ pub(crate) const SYNTAX: [Row; 37] = [
     ),
     (
         b",",
-        "write two statements, or take the second variable into the body",
+        "before the first clause no comma stands; else write two statements, or take the second variable into the body",
     ),
     (b":", "leave the label out"),
     (b"\"", "a text stands first in `printf` alone, as one piece"),
-    (b"#", "a directive stands in a function"),
+    (
+        b"#",
+        "a `;` is missing before it, or it stands outside of every function",
+    ),
     (
         b"int",
-        "a cast is left out; a declaration stands in the braces of a construct",
+        "a `;` is missing before it, or it is a cast, which is left out; a declaration stands in the braces of a construct",
     ),
 ];
 
@@ -169,7 +172,7 @@ pub(crate) const HASH_LINES: [Row; 10] = [
 pub(crate) const MISUSES: [Row; 2] = [
     (
         b"printf",
-        "it takes a text and one value for each %d; write %d for %f, %c, %s and %ld",
+        "its result is left out; it takes a text and one value for each %d; write %d for %f, %c, %s and %ld",
     ),
     (b"main", "write `int main(void)`"),
 ];

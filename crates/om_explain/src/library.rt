@@ -15,7 +15,10 @@ pub(crate) const LIBRARY: [Row; 42] = [
         b"omp_set_nested",
         "leave it out; an inner team has one thread",
     ),
-    (b"omp_in_parallel", "`omp_get_num_threads() > 1`"),
+    (
+        b"omp_in_parallel",
+        "`omp_get_num_threads() > 1`, where no inner `parallel` stands round it",
+    ),
     (b"omp_get_wtime", "leave it out, with what it measures"),
     (
         b"omp_init_lock",

@@ -3,18 +3,18 @@
 use crate::table::Row;
 
 /// By the word at which S5 or S6 stands.
-pub(crate) const WORDS: [Row; 40] = [
+pub(crate) const WORDS: [Row; 41] = [
     (
         b"depend",
         "put a `taskwait` before the task that needs the result, or a `taskgroup` round those before",
     ),
     (
         b"if",
-        "`num_threads(n > 8 ? 4 : 1)` on a `parallel`; of a task an `if` round it",
+        "`num_threads(n > 8 ? 4 : 1)` on a `parallel`; of a task an `if` round it, with its statement again behind `else`",
     ),
     (
         b"schedule",
-        "`static` or `dynamic`, with a chunk that is a number: write `dynamic` for `guided`",
+        "of `for` alone: `static` or `dynamic`, with a chunk that is a number: write `dynamic` for `guided`",
     ),
     (
         b"collapse",
@@ -22,13 +22,13 @@ pub(crate) const WORDS: [Row; 40] = [
     ),
     (
         b"lastprivate",
-        "the last round stores into a shared variable: `if (i == 7) x = v;`",
+        "the last iteration stores into a shared variable: `if (i == 7) x = v;`",
     ),
     (
         b"ordered",
         "keep the results in an array, and print them behind the loop",
     ),
-    (b"cancel", "a variable that the other rounds look at"),
+    (b"cancel", "a variable that the other iterations look at"),
     (b"cancellation", "leave it out"),
     (b"simd", "leave it out"),
     (
@@ -70,47 +70,54 @@ pub(crate) const WORDS: [Row; 40] = [
     (b"task_reduction", "a sum of your own, under `critical`"),
     (
         b"reduction",
-        "`+`, `*`, `max` or `min`, and no part of an array; `+` stands for `-`",
+        "of `parallel`, `for` and `sections`: `+`, `*`, `max` or `min`, and no part of an array; `+` stands for `-`",
     ),
     (
         b"default",
-        "`shared` or `none`; for `private` list the variables in `private`",
+        "of `parallel` and `task`: `shared` or `none`; for `private` list the variables in `private`",
     ),
     (b"nowait", "leave it out: this construct has its barrier"),
     (
         b"atomic",
-        "write `x += e;` without `x` in `e`, or use `critical`",
+        "`x += e;` without `x` in `e`; `x = e;` is `atomic write`, `v = x;` is `atomic read`; else `critical`",
     ),
-    (b"num_threads", "once, with an expression in parentheses"),
+    (
+        b"num_threads",
+        "of `parallel` alone: once, with an expression in parentheses",
+    ),
     (b"declare", "leave it out"),
+    (
+        b"shared",
+        "of `parallel` and `task`: leave it out elsewhere",
+    ),
 ];
 
-/// By the word at which S12 or S14 stands.
-pub(crate) const CONSTRUCTS: [Row; 8] = [
+/// By the word at which S12 stands.
+pub(crate) const LOOPS: [Row; 2] = [
     (
         b"for",
         "compare from the left by < <= > >=, and step by a constant: `i++`, `i += 2`",
     ),
     (b"{", "the loop has to follow the directive directly"),
+];
+
+/// By the word at which S14 stands.
+pub(crate) const CONSTRUCTS: [Row; 7] = [
     (
         b"break",
-        "let the other rounds do nothing, by a variable that they look at",
+        "outside of a loop take it out; in a `for` directive let the other iterations do nothing, by a variable that they look at",
     ),
     (
         b"continue",
         "a loop has to stand round it, in the construct",
     ),
     (b"return", "set a variable, and return behind the construct"),
-    (
-        b"barrier",
-        "no construct but `parallel` may stand round it: move it out",
-    ),
-    (
-        b"single",
-        "no construct but `parallel` may stand round it: move it out",
-    ),
-    (
-        b"sections",
-        "no construct but `parallel` may stand round it: move it out",
-    ),
+    (b"barrier", IN_ANOTHER),
+    (b"for", IN_ANOTHER),
+    (b"sections", IN_ANOTHER),
+    (b"single", IN_ANOTHER),
 ];
+
+/// Of worksharing and a barrier in a construct that they may not stand in (OpenMP 5.2, 17.1).
+const IN_ANOTHER: &str =
+    "no worksharing, masked, critical or task may stand round it without a parallel between: move it out";

@@ -18,8 +18,9 @@ pub fn refusal_words(code: FaultCode) -> &'static str
         FaultCode::UnknownDirective =>
             "no such directive or clause: the word is mistyped, or left out",
         FaultCode::BadClause =>
-            "this clause is wrong: not of this directive, there already, or wrong inside",
-        FaultCode::Undeclared => "this source does not declare this name before its use",
+            "this clause is wrong: not of this directive, there already, or wrong inside; at atomic, its statement",
+        FaultCode::Undeclared =>
+            "this source does not declare this name before its use, or never defines this function",
         FaultCode::Redeclared =>
             "this name is declared twice; take one of the two out, or rename it",
         FaultCode::Misuse => "this is used as what it is not",
@@ -31,7 +32,7 @@ pub fn refusal_words(code: FaultCode) -> &'static str
         FaultCode::Unlisted =>
             "default(none) asks for this variable: list it in shared, private or another clause",
         FaultCode::LeavesConstruct =>
-            "not allowed in this construct: a jump out of it, or sharing of work inside",
+            "a jump outside of a loop or out of a construct, or worksharing or a barrier where none may stand",
         FaultCode::NoMain => "there is no main: write int main(void) { .. }",
         FaultCode::TooDeep =>
             "too deep in one another, or an expression that is too long: cut it in two",

@@ -25,7 +25,7 @@ pub record IsRun (source : List ℕ) (from to : ℕ) : Type 0 where
   pub run : (k : ℕ) → from ≤ k → k < to → is_word_byte (slice_index source k) ≡ true
   pub ends : to < length source → is_word_byte (slice_index source to) ≡ false
 
--- C17 6.4.2.1: an identifier that is no keyword, of at most 63 bytes
+-- C17 6.4.2.1 and 5.2.4.1p1: an identifier that is no keyword, of at most 63 bytes
 pub record IsName (text : List ℕ) : Type 0 where
   pub word : IsWord text
   pub no_digit_first : is_ascii_digit (slice_index text 0) ≡ false

@@ -37,7 +37,7 @@ pub enum FaultCode {
     LoopForm,
     /// S13: a variable that `default(none)` wants listed.
     Unlisted,
-    /// S14: a jump that leaves a construct, or a construct inside a region that closes it out.
+    /// S14: a jump outside of a loop or out of a construct, or worksharing or a barrier where none may stand.
     LeavesConstruct,
     /// S15: no `main`.
     NoMain,

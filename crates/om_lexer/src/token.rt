@@ -25,7 +25,7 @@ pub struct Token {
 /// What a token is.
 #[derive(Drop)]
 pub enum TokenKind {
-    /// A name (C17 6.4.2): 1 to 63 letters, digits and `_`, and no keyword.
+    /// A name (C17 6.4.2): 1 to 63 letters, digits and `_`, the first no digit, and no keyword.
     Name(Seq<u8>),
     /// An integer constant (C17 6.4.4.1), at most 2147483647.
     Constant(u32),

@@ -14,7 +14,7 @@ use Rattle.om_tree.specs.Spelling.{statement_spelling}
 use Rattle.om_tree.specs.Tree.{ExpressionTree, StatementTree, Construct}
 
 -- The tokens have an `atomic` with its word at this place, and its statement is none of its forms (OpenMP 5.2
--- section 15.8.4).
+-- section 4.3.1.3).
 pub record IsBadAtomic (tokens : List Token) (place : ℕ) : Type 0 where
   pub before : List Token
   pub directive : Directive ExpressionTree

@@ -4,6 +4,6 @@ use Rattle.om_parser.specs.BlockFaults as blocks
 use Rattle.om_lexer.specs.declared.token.Token.{Token}
 
 -- The tokens have an `atomic` with its word at this place, and its statement is none of its forms (OpenMP 5.2
--- section 15.8.4).
+-- section 4.3.1.3).
 abbrev pub IsBadAtomic : List Token → ℕ → Type 0
 IsBadAtomic = blocks.IsBadAtomic

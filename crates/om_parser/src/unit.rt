@@ -37,9 +37,11 @@ pub const STACK_SIZE: usize = 256 << 20;
 
 /// The tree of these tokens, the last of which is the end of the source (C17 6.9).
 ///
-/// The grammar is that of declarations of `int` variables and arrays, of prototypes, and of
-/// functions with every statement of C17 6.8 over the expressions of C17 6.5, and with the
-/// directives of OpenMP API 5.2 that `om_pragma` has before or among them.
+/// The grammar is that of declarations of `int` variables and arrays, of prototypes, and of functions.
+/// Their statements are those of C17 6.8 but labels, `switch` and `goto`. Their expressions are those of
+/// C17 6.5 but casts, `sizeof`, pointers, members, shifts, bit operators and the comma. The directives of
+/// OpenMP API 5.2 that `om_pragma` has stand before or among them.
+///
 /// Refusals:
 /// - S0 at byte 0: no memory.
 /// - S3: no tree of any size has these tokens.
@@ -47,7 +49,7 @@ pub const STACK_SIZE: usize = 256 << 20;
 ///   stand. Its place is that of the word.
 /// - S6: in a directive line the word of a clause stands that the directive does not have, or not
 ///   once more, or behind which nothing stands that makes it a clause; its place is that of the
-///   word. Or the statement of an `atomic` has none of its forms (OpenMP API 5.2, 15.8.4); its
+///   word. Or the statement of an `atomic` has none of its forms (OpenMP API 5.2, 4.3.1.3); its
 ///   place is that of the word `atomic`.
 /// - S16: at this token an expression has more than `TOKEN_LIMIT` tokens, parentheses nest deeper
 ///   than `NESTING_LIMIT` (those of a clause count) or blocks deeper than `BLOCK_LIMIT`, or a

@@ -26,9 +26,11 @@ const LEVELS: usize = 6;
 /// How much of an expression may still be read.
 #[derive(Clone, Copy)]
 pub struct Budget {
-    /// How many tokens must be left behind the last one, since it has too many else.
+    /// How many tokens must be left behind each one that is taken: with fewer, the expression has more than
+    /// `TOKEN_LIMIT`.
     beyond: usize,
-    /// How often operators and brackets may nest.
+    /// How often operators and brackets may still nest. It begins as the number of tokens, so it never runs
+    /// out while one is left: it is there so that reading ends.
     turns: usize,
     /// How many brackets may stand round a part.
     room: usize,

@@ -24,7 +24,7 @@ has_parts kinds.Sections = true
 has_parts kinds.ParallelSections = true
 has_parts _ = false
 
--- OpenMP API 5.2, 15.8.4: its statement has one of certain forms
+-- OpenMP API 5.2, 4.3.1.3: its statement has one of certain forms
 abbrev pub is_of_atomic : DirectiveKind → Bool
 is_of_atomic kinds.Atomic = true
 is_of_atomic _ = false

@@ -147,6 +147,7 @@ fn name_after(
 {
     match kind {
         DirectiveKind::Parallel => Ok(parallel(span, tokens)),
+        // `begun_by` gives neither combined one: both begin as `parallel`.
         DirectiveKind::ParallelFor => Ok(parallel(span, tokens)),
         DirectiveKind::ParallelSections => Ok(parallel(span, tokens)),
         DirectiveKind::For => Ok((DirectiveName::For(span), tokens)),

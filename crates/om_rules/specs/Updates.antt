@@ -1,4 +1,4 @@
--- The updates of `atomic` (OpenMP API 5.2, section 15.8.4): target, operator, side and operand.
+-- The updates of `atomic` (OpenMP API 5.2, section 4.3.1.3): target, operator, side and operand.
 use Rattle.std.specs.Prelude.{pos, Option, None, Some, if◌then◌else◌}
 use Rattle.om_lexer.specs.declared.token.Span.{Span}
 use Rattle.om_resolved.specs.declared.resolved.Side.{Side}

@@ -75,7 +75,8 @@ fn binary_operator(operator: BinaryOperator) -> Option<UpdateOperator>
     })
 }
 
-/// An expression, taken out of its place.
+/// An expression, taken out of its place. A `ThreadNumber` stands there then, which nobody reads: the
+/// caller drops the statement.
 fn taken(expression: &mut ResolvedExpression) -> ResolvedExpression
     ensures { result ≡ expression.old }
 {
@@ -230,7 +231,7 @@ fn expression_update(
 }
 
 /// The update that a statement is, whose target stands on that side of its operator (OpenMP API 5.2,
-/// section 15.8.4); nothing where it is another statement. It takes the operands out of the statement.
+/// section 4.3.1.3); nothing where it is another statement. It takes the operands out of the statement.
 pub fn update_of(side: Side, statement: &mut ResolvedStatement) -> Option<ResolvedUpdate>
     ensures { option_map view_resolved_update result
         ≡ update_of side (view_resolved_statement statement.old) }

@@ -1,4 +1,4 @@
--- Which statements an `atomic` may have (OpenMP API 5.2, 15.8.4).
+-- Which statements an `atomic` may have (OpenMP API 5.2, 4.3.1.3).
 use Rattle.std.specs.Prelude.{Bool, true, false, not, ◌&&◌, ◌||◌, nat_eq, bytes_eq}
 use denote.Enum.Bare.{sameb}
 use Rattle.om_pragma.specs.declared.tree.AtomicKind.{AtomicKind}

@@ -172,7 +172,7 @@ Where true First Second = First
 Where false First Second = Second
 
 unfoldable mutual
-  -- the statement of each outermost `atomic` is one of its forms (OpenMP 5.2 section 15.8.4), if that is checked
+  -- the statement of each outermost `atomic` is one of its forms (OpenMP 5.2 section 4.3.1.3), if that is checked
   pub HasForms : (checked : Bool) → StatementTree → Type 0
   HasForms checked (Block left items right) = HaveForms checked items
   HasForms checked (If at c s) = HasForms checked s

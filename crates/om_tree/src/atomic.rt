@@ -1,4 +1,4 @@
-//! Which statements an `atomic` may have (OpenMP API 5.2, 15.8.4).
+//! Which statements an `atomic` may have (OpenMP API 5.2, 4.3.1.3).
 
 ghost use Rattle.std.specs.Prelude.{◌≡◌, map};
 ghost use Rattle.std.specs.Str.{bytes_eq};
@@ -331,7 +331,7 @@ fn is_write(expression: &Expression) -> bool
     is_place(target)
 }
 
-/// Whether an `atomic` of this kind may have this statement (OpenMP API 5.2, 15.8.4).
+/// Whether an `atomic` of this kind may have this statement (OpenMP API 5.2, 4.3.1.3).
 #[tactic(auto, unfolding(crate::specs::AtomicForms::has_atomic_form))]
 pub fn has_atomic_form(kind: AtomicKind, statement: &Statement) -> bool
     ensures { result ≡ has_atomic_form kind (view_statement statement.now) }

@@ -1,6 +1,6 @@
 //! How large the tree of an accepted source is at most.
 
-/// How deep parentheses may nest in an expression.
+/// How deep parentheses and brackets may nest in an expression, with those of its statement or clause.
 pub const NESTING_LIMIT: usize = 128;
 
 /// How many tokens a whole expression may have.
