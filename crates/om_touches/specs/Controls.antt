@@ -1,6 +1,7 @@
 -- Matter of proofs: the touches of workers' controls, with and without one, apart from those of other objects.
 use Rattle.std.proofs.Common.{◌≡◌, refl, sym, ◌∙◌, ap, Bool, true, false, cond, ◌&&◌, nat_eq, ℕ}
-use Rattle.std.proofs.Common.{None, Some, List, [], ◌∷◌}
+use Rattle.std.proofs.Common.{None, Some, List, [], ◌∷◌, set}
+use Rattle.std.specs.Prelude.{slice_get}
 use Rattle.om_foot.specs.declared.object.Obj.{Obj}
 use Rattle.om_foot.specs.declared.object.Obj.TheVariants as object
 use Rattle.om_foot.specs.declared.footprint.Mode.{Mode}
@@ -14,7 +15,7 @@ use Rattle.om_touches.specs.Touches.{mode_eq, names, list_of, has_in, has_touch,
 use Rattle.om_touches.specs.Touches.{control_of, SameControls, SameObjects, AreSame}
 use Rattle.om_touches.specs.Lists.{AreSet}
 use Rattle.om_touches.specs.Serials.{has}
-use Rattle.om_touches.specs.Workers.{kept_at, Puts, kept-set, kept-unset}
+use Rattle.om_touches.specs.Workers.{kept-set, kept-unset}
 
 -- one touch of a control there, or not there
 abbrev pub ControlsSet : Bool → ℕ → Mode → ℕ → ControlTouches → ControlTouches → Type 0
@@ -35,22 +36,22 @@ turned b false true false x = refl
 turned b false false n x = refl
 
 -- a change of what is kept for a worker is one of the touches of its control
-pub control-set : (b : Bool) (es fs : List (ℕ × Touches)) (worker : ℕ) (mode : Mode) (serial : ℕ) (old x : Touches)
-    → kept_at es worker ≡ Some old → Puts es fs worker x
+pub control-set : (b : Bool) (ts : List Touches) (worker : ℕ) (mode : Mode) (serial : ℕ) (old x : Touches)
+    → slice_get ts worker ≡ Some old
     → ((m : Mode) (s : ℕ) → has (list_of x m) s ≡ cond (mode_eq mode m && nat_eq serial s) b (has (list_of old m) s))
-    → (w : ℕ) (m : Mode) (s : ℕ) → has_in (kept_at fs w) m s
-    ≡ cond (nat_eq serial s && (nat_eq worker w && mode_eq mode m)) b (has_in (kept_at es w) m s)
-control-set b es fs worker mode serial old x there puts changed w m s =
-    kept-set b (mode_eq mode m && nat_eq serial s) (λ o. has_in o m s) es fs worker old x there puts (changed m s) w
-    ∙ turned b (mode_eq mode m) (nat_eq serial s) (nat_eq worker w) (has_in (kept_at es w) m s)
+    → (w : ℕ) (m : Mode) (s : ℕ) → has_in (slice_get (set ts worker x) w) m s
+    ≡ cond (nat_eq serial s && (nat_eq worker w && mode_eq mode m)) b (has_in (slice_get ts w) m s)
+control-set b ts worker mode serial old x there changed w m s =
+    kept-set b (mode_eq mode m && nat_eq serial s) (λ o. has_in o m s) ts worker old x there (changed m s) w
+    ∙ turned b (mode_eq mode m) (nat_eq serial s) (nat_eq worker w) (has_in (slice_get ts w) m s)
 
 -- the control of a worker that is not known has no touch to take out
-pub control-unset : (es : List (ℕ × Touches)) (worker : ℕ) (mode : Mode) (serial : ℕ) → kept_at es worker ≡ None
-    → (w : ℕ) (m : Mode) (s : ℕ) → has_in (kept_at es w) m s
-    ≡ cond (nat_eq serial s && (nat_eq worker w && mode_eq mode m)) false (has_in (kept_at es w) m s)
-control-unset es worker mode serial none w m s =
-    kept-unset (mode_eq mode m && nat_eq serial s) (λ o. has_in o m s) es worker none refl w
-    ∙ turned false (mode_eq mode m) (nat_eq serial s) (nat_eq worker w) (has_in (kept_at es w) m s)
+pub control-unset : (ts : List Touches) (worker : ℕ) (mode : Mode) (serial : ℕ) → slice_get ts worker ≡ None
+    → (w : ℕ) (m : Mode) (s : ℕ) → has_in (slice_get ts w) m s
+    ≡ cond (nat_eq serial s && (nat_eq worker w && mode_eq mode m)) false (has_in (slice_get ts w) m s)
+control-unset ts worker mode serial none w m s =
+    kept-unset (mode_eq mode m && nat_eq serial s) (λ o. has_in o m s) ts worker none refl w
+    ∙ turned false (mode_eq mode m) (nat_eq serial s) (nat_eq worker w) (has_in (slice_get ts w) m s)
 
 -- which object is a control
 

@@ -1,9 +1,7 @@
 -- The touches of objects, kept by object and mode, and each worker's own entries.
-use Rattle.std.specs.Prelude.{◌≡◌, Bool, true, false, cond, nat_eq, ◌&&◌, ℕ, ◌<◌, ◌≤◌, min, is_some, Option, None, Some, List, []}
+use Rattle.std.specs.Prelude.{◌≡◌, Bool, true, false, cond, nat_eq, ◌&&◌, ℕ, ◌<◌, ◌≤◌, min, is_some, Option, None, Some, List, [], slice_get}
 use Rattle.std.specs.Prelude.{◌∷◌}
 use Rattle.std.specs.Map.{lookup}
-use Rattle.std.specs.Ordering.{nat_cmp}
-use Rattle.std.specs.BTreeMap.{get}
 use Rattle.om_foot.specs.declared.object.Obj.{Obj}
 use Rattle.om_foot.specs.declared.object.Obj.TheVariants as object
 use Rattle.om_foot.specs.declared.footprint.Mode.{Mode}
@@ -67,10 +65,7 @@ ObjectsWithout access serial old new = (o : Obj) (m : Mode) (s : ℕ) → has_ob
 -- of workers' controls
 
 abbrev pub control_touches_at : ControlTouches → ℕ → Option Touches
-control_touches_at controls w = get nat_cmp controls.workers w
-
-abbrev pub knows_control : ControlTouches → ℕ → Bool
-knows_control controls w = is_some (control_touches_at controls w)
+control_touches_at controls w = slice_get controls.workers.items w
 
 -- whether there is a touch of a worker's control, with a mode, by the entry of a serial
 abbrev pub has_control_touch : ControlTouches → ℕ → Mode → ℕ → Bool
@@ -146,12 +141,9 @@ abbrev pub is_in : Option Serials → ℕ → Bool
 is_in None s = false
 is_in (Some serials) s = has serials s
 
-abbrev pub knows_worker : OwnEntries → ℕ → Bool
-knows_worker own w = is_some (get nat_cmp own.workers w)
-
 -- whether the entry of a serial is a worker's own
 abbrev pub is_own : OwnEntries → ℕ → ℕ → Bool
-is_own own w s = is_in (get nat_cmp own.workers w) s
+is_own own w s = is_in (slice_get own.workers.items w) s
 
 -- no own entry changes; one comes, or goes
 abbrev pub SameOwn : OwnEntries → OwnEntries → Type 0

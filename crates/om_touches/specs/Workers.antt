@@ -1,29 +1,34 @@
 -- Matter of proofs: what is kept for each worker, with a change at one of them, told by a reading of it.
-use Rattle.std.proofs.Common.{◌≡◌, refl, sym, ◌∙◌, ap, subst, Bool, true, false, cond, ◌&&◌, nat_eq, ℕ, arith}
-use Rattle.std.proofs.Common.{MutBor, Option, None, Some, List}
-use Rattle.std.proofs.lemmas.Bool.Decides.{nat_tests, Decides-eqb}
-use Rattle.std.specs.Prelude.{is_some, IsSome}
-use Rattle.std.specs.Option.{option_copied_mut}
-use Rattle.std.specs.Ordering.{nat_cmp}
-use Rattle.std.specs.BTreeMap.{is_at}
-use Rattle.std.specs.Map.{lookup}
+use Rattle.std.proofs.Common.{◌≡◌, ◌≢◌, refl, sym, ◌∙◌, ap, Bool, true, false, cond, ◌&&◌, nat_eq, ℕ, zero, suc, arith}
+use Rattle.std.proofs.Common.{Option, None, Some, List, [], ◌∷◌, ◌++◌, ◌≤◌, length, set}
+use Rattle.std.proofs.lemmas.Bool.{eqb-false}
+use Rattle.std.proofs.lemmas.Bool.Decides.{Decides-eqb}
+use Rattle.std.specs.Prelude.{slice_get}
 
-abbrev pub kept_at : {X : Type 0} → List (ℕ × X) → ℕ → Option X
-kept_at es w = lookup (is_at (nat_cmp w)) es
+get_put : {X : Type 0} (xs : List X) (worker : ℕ) (old x : X) → slice_get xs worker ≡ Some old
+    → slice_get (set xs worker x) worker ≡ Some x
+get_put [] worker old x h = cc
+get_put (y ∷ ys) zero old x h = refl
+get_put (y ∷ ys) (suc worker) old x h = get_put ys worker old x h
 
--- fs is es with x at a worker
-abbrev pub Puts : {X : Type 0} → List (ℕ × X) → List (ℕ × X) → ℕ → X → Type 0
-Puts es fs worker x = (w : ℕ) → kept_at fs w ≡ cond (is_at (nat_cmp worker) w) (Some x) (kept_at es w)
-
-same_number : (k q : ℕ) → is_at (nat_cmp k) q ≡ nat_eq k q
-same_number k q = grind (arith, nat_tests)
+get_other : {X : Type 0} (xs : List X) (worker w : ℕ) (x : X) → w ≢ worker → slice_get (set xs worker x) w ≡ slice_get xs w
+get_other [] worker w x h = refl
+get_other (y ∷ ys) zero zero x h = absurd (h refl)
+get_other (y ∷ ys) zero (suc w) x h = refl
+get_other (y ∷ ys) (suc worker) zero x h = refl
+get_other (y ∷ ys) (suc worker) (suc w) x h = get_other ys worker w x (λ e. h (ap suc e))
 
 pub number_is : (k q : ℕ) → nat_eq k q ≡ true → k ≡ q
 number_is k q h = (Decides-eqb k q).0 h
 
-puts_at : {X : Type 0} (es fs : List (ℕ × X)) (worker : ℕ) (x : X) → Puts es fs worker x → (w : ℕ)
-    → kept_at fs w ≡ cond (nat_eq worker w) (Some x) (kept_at es w)
-puts_at es fs worker x h w = h w ∙ ap (λ b. cond b (Some x) (kept_at es w)) (same_number worker w)
+-- what is kept for each worker, where x is put at one that has something
+puts_at : {X : Type 0} (xs : List X) (worker : ℕ) (old x : X) → slice_get xs worker ≡ Some old → (w : ℕ)
+    → slice_get (set xs worker x) w ≡ cond (nat_eq worker w) (Some x) (slice_get xs w)
+puts_at xs worker old x there w = go (nat_eq worker w) refl
+  where
+    go : (same : Bool) → nat_eq worker w ≡ same → slice_get (set xs worker x) w ≡ cond same (Some x) (slice_get xs w)
+    go true is = ap (slice_get (set xs worker x)) (sym (number_is worker w is)) ∙ get_put xs worker old x there
+    go false is = get_other xs worker w x (λ e. eqb-false worker w is (sym e))
 
 with_all : (e b x : Bool) → cond e b x ≡ cond (e && true) b x
 with_all true b x = refl
@@ -34,76 +39,58 @@ with_none true b x = refl
 with_none false b x = refl
 
 -- a change of what is kept for a worker
-pub kept-set : {X : Type 0} (b e : Bool) (read : Option X → Bool) (es fs : List (ℕ × X)) (worker : ℕ) (old x : X)
-    → kept_at es worker ≡ Some old → Puts es fs worker x → read (Some x) ≡ cond e b (read (Some old))
-    → (w : ℕ) → read (kept_at fs w) ≡ cond (e && nat_eq worker w) b (read (kept_at es w))
-kept-set b e read es fs worker old x there puts changed w =
-    ap read (puts_at es fs worker x puts w) ∙ go (nat_eq worker w) refl
+pub kept-set : {X : Type 0} (b e : Bool) (read : Option X → Bool) (xs : List X) (worker : ℕ) (old x : X)
+    → slice_get xs worker ≡ Some old → read (Some x) ≡ cond e b (read (Some old))
+    → (w : ℕ) → read (slice_get (set xs worker x) w) ≡ cond (e && nat_eq worker w) b (read (slice_get xs w))
+kept-set b e read xs worker old x there changed w =
+    ap read (puts_at xs worker old x there w) ∙ go (nat_eq worker w) refl
   where
-    go : (same : Bool) → nat_eq worker w ≡ same → read (cond same (Some x) (kept_at es w))
-        ≡ cond (e && same) b (read (kept_at es w))
-    go false is = with_none e b (read (kept_at es w))
+    go : (same : Bool) → nat_eq worker w ≡ same → read (cond same (Some x) (slice_get xs w))
+        ≡ cond (e && same) b (read (slice_get xs w))
+    go false is = with_none e b (read (slice_get xs w))
     go true is =
         changed ∙ with_all e b (read (Some old))
-        ∙ ap (λ o. cond (e && true) b (read o)) (sym there ∙ ap (kept_at es) (number_is worker w is))
+        ∙ ap (λ o. cond (e && true) b (read o)) (sym there ∙ ap (slice_get xs) (number_is worker w is))
 
 -- what reads the same in the place of something else changes nothing
-pub kept-same : {X : Type 0} (read : Option X → Bool) (es fs : List (ℕ × X)) (worker : ℕ) (old x : X)
-    → kept_at es worker ≡ Some old → Puts es fs worker x → read (Some x) ≡ read (Some old)
-    → (w : ℕ) → read (kept_at fs w) ≡ read (kept_at es w)
-kept-same read es fs worker old x there puts same w =
-    ap read (puts_at es fs worker x puts w) ∙ go (nat_eq worker w) refl
+pub kept-same : {X : Type 0} (read : Option X → Bool) (xs : List X) (worker : ℕ) (old x : X)
+    → slice_get xs worker ≡ Some old → read (Some x) ≡ read (Some old)
+    → (w : ℕ) → read (slice_get (set xs worker x) w) ≡ read (slice_get xs w)
+kept-same read xs worker old x there same w =
+    ap read (puts_at xs worker old x there w) ∙ go (nat_eq worker w) refl
   where
-    go : (b : Bool) → nat_eq worker w ≡ b → read (cond b (Some x) (kept_at es w)) ≡ read (kept_at es w)
+    go : (b : Bool) → nat_eq worker w ≡ b → read (cond b (Some x) (slice_get xs w)) ≡ read (slice_get xs w)
     go false is = refl
-    go true is = same ∙ ap read (sym there ∙ ap (kept_at es) (number_is worker w is))
+    go true is = same ∙ ap read (sym there ∙ ap (slice_get xs) (number_is worker w is))
 
--- nor does what reads as nothing, for a worker that gets to be known
-pub kept-known : {X : Type 0} (read : Option X → Bool) (es fs : List (ℕ × X)) (worker : ℕ) (x : X)
-    → is_some (kept_at es worker) ≡ false → Puts es fs worker x → read (Some x) ≡ read None
-    → (w : ℕ) → read (kept_at fs w) ≡ read (kept_at es w)
-kept-known {X = X} read es fs worker x none puts new w =
-    ap read (puts_at es fs worker x puts w) ∙ go (nat_eq worker w) refl
-  where
-    absent : (o : Option X) → is_some o ≡ false → read None ≡ read o
-    absent None e = refl
-    absent (Some y) e = cc
+-- nor does what reads as nothing, behind all others
+pub kept-more : {X : Type 0} (read : Option X → Bool) (xs : List X) (x : X) → read (Some x) ≡ read None
+    → (w : ℕ) → read (slice_get (xs ++ x ∷ []) w) ≡ read (slice_get xs w)
+kept-more read [] x new zero = new
+kept-more read [] x new (suc w) = refl
+kept-more read (y ∷ ys) x new zero = refl
+kept-more read (y ∷ ys) x new (suc w) = kept-more read ys x new w
 
-    go : (b : Bool) → nat_eq worker w ≡ b → read (cond b (Some x) (kept_at es w)) ≡ read (kept_at es w)
-    go false is = refl
-    go true is = new
-        ∙ absent (kept_at es w) (ap (λ n. is_some (kept_at es n)) (sym (number_is worker w is)) ∙ none)
-
--- and then it is known
-pub kept-there : {X : Type 0} (es fs : List (ℕ × X)) (worker : ℕ) (x : X) → Puts es fs worker x
-    → is_some (kept_at fs worker) ≡ true
-kept-there es fs worker x puts =
-    ap is_some (puts_at es fs worker x puts worker)
-    ∙ ap (λ b. is_some (cond b (Some x) (kept_at es worker))) ((Decides-eqb worker worker).1 refl)
-
-pub kept-is_known : {X : Type 0} (es : List (ℕ × X)) (worker : ℕ) (x : X) → Some x ≡ kept_at es worker
-    → IsSome (kept_at es worker)
-kept-is_known es worker x h = subst IsSome h refl
-
-pub kept-not_known : {X : Type 0} (es : List (ℕ × X)) (worker : ℕ) (r : Option (MutBor X))
-    → option_copied_mut r ≡ kept_at es worker → r ≡ None → is_some (kept_at es worker) ≡ true → ⊥
-kept-not_known es worker r h e known = let no : is_some (kept_at es worker) ≡ false =
-    ap is_some (sym h ∙ ap option_copied_mut e) in cc
+-- nothing is kept behind the end
+pub none_behind : {X : Type 0} (xs : List X) (w : ℕ) → length xs ≤ w → slice_get xs w ≡ None
+none_behind [] w h = refl
+none_behind (x ∷ xs) zero h = absurd (omega arith)
+none_behind (x ∷ xs) (suc w) h = none_behind xs w (omega arith)
 
 none_in : (b : Bool) → false ≡ cond b false false
 none_in true = refl
 none_in false = refl
 
--- for a worker that is not known there is nothing to take out
-pub kept-unset : {X : Type 0} (e : Bool) (read : Option X → Bool) (es : List (ℕ × X)) (worker : ℕ)
-    → kept_at es worker ≡ None → read None ≡ false
-    → (w : ℕ) → read (kept_at es w) ≡ cond (e && nat_eq worker w) false (read (kept_at es w))
-kept-unset e read es worker none nothing w = go (nat_eq worker w) refl
+-- for a worker that has nothing there is nothing to take out
+pub kept-unset : {X : Type 0} (e : Bool) (read : Option X → Bool) (xs : List X) (worker : ℕ)
+    → slice_get xs worker ≡ None → read None ≡ false
+    → (w : ℕ) → read (slice_get xs w) ≡ cond (e && nat_eq worker w) false (read (slice_get xs w))
+kept-unset e read xs worker none nothing w = go (nat_eq worker w) refl
   where
     go : (same : Bool) → nat_eq worker w ≡ same
-        → read (kept_at es w) ≡ cond (e && same) false (read (kept_at es w))
-    go false is = with_none e false (read (kept_at es w))
+        → read (slice_get xs w) ≡ cond (e && same) false (read (slice_get xs w))
+    go false is = with_none e false (read (slice_get xs w))
     go true is =
-        let absent : read (kept_at es w) ≡ false =
-        ap read (ap (kept_at es) (sym (number_is worker w is)) ∙ none) ∙ nothing in
+        let absent : read (slice_get xs w) ≡ false =
+        ap read (ap (slice_get xs) (sym (number_is worker w is)) ∙ none) ∙ nothing in
         absent ∙ none_in (e && true) ∙ ap (cond (e && true) false) (sym absent)

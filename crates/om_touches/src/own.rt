@@ -1,18 +1,26 @@
 //! The serials of each worker's own entries, so that its last one is found at once.
 
-ghost use Rattle.std.specs.Prelude.{◌≡◌, ℕ, true, false, OnOk, OnErr};
-ghost use Rattle.om_touches.specs.Touches.{is_own, knows_worker, IsGreatest, SameOwn, WithOwn, WithoutOwn};
+ghost use Rattle.std.specs.Prelude.{◌≡◌, ℕ, ◌<◌, false, length, slice_get, OnOk, OnErr};
+ghost use Rattle.std.specs.Option.{option_copied};
+ghost use Rattle.om_touches.specs.Touches.{is_own, IsGreatest, SameOwn, WithOwn, WithoutOwn};
 
 use crate::serials::Serials;
 use std::alloc::{AllocError, Global};
-use std::collections::BTreeMap;
 
 /// For each worker the serials of its entries. Another worker's step may touch its control too, as
 /// the start of a team does, so the touches of its control don't tell them.
 ///
 /// Contracts see which entry is a worker's own (`is_own`).
 pub struct OwnEntries {
-    workers: BTreeMap<u8, Serials>,
+    /// Those of the first workers; the others have none.
+    workers: Vec<Serials>,
+}
+
+/// The serials of a worker's entries, if it is one of the first workers.
+fn serials_of(workers: &[Serials], worker: u8) -> Option<&Serials>
+    ensures { option_copied result ≡ slice_get workers.now worker }
+{
+    workers.get(worker as usize)
 }
 
 // By hand: crates above call this, and do not prove anew how each part is dropped.
@@ -29,32 +37,28 @@ impl OwnEntries {
         ensures { (w s : ℕ) → is_own result w s ≡ false }
     {
         OwnEntries {
-            workers: BTreeMap::new(alloc),
+            workers: Vec::new(alloc),
         }
     }
 
-    /// Makes a worker known. No entry is added, also when out of memory.
+    /// Has a place for each worker up to this one. No entry is added, also when out of memory.
     fn know(&mut self, worker: u8) -> Result<(), AllocError>
         ensures same { SameOwn self.old self.new }
-        ensures known { OnOk result (knows_worker self.new worker ≡ true) }
+        ensures known { OnOk result (worker < length self.new.workers.items) }
     {
-        if self.workers.contains_key(&worker) {
-            return Ok(());
+        'grow: while self.workers.len() <= worker as usize {
+            self.workers.push(Serials::None)?;
         }
-        drop(self.workers.insert(worker, Serials::None)?);
         Ok(())
     }
 
     /// Adds an entry of a worker that is known. When out of memory, nothing changes.
     fn add_known(&mut self, alloc: Global, worker: u8, serial: u64) -> Result<(), AllocError>
-        requires { knows_worker self.old worker ≡ true }
+        requires { worker < length self.old.workers.items }
         ensures added { OnOk result (WithOwn worker serial self.old self.new) }
         ensures unchanged_on_error { OnErr result (SameOwn self.old self.new) }
     {
-        match self.workers.get_mut(&worker) {
-            Some(serials) => serials.put(alloc, serial),
-            None => unreachable!(),
-        }
+        self.workers[worker as usize].put(alloc, serial)
     }
 
     /// Makes a worker known, and adds its first entry. When out of memory, nothing changes.
@@ -71,19 +75,27 @@ impl OwnEntries {
         ensures added { OnOk result (WithOwn worker serial self.old self.new) }
         ensures unchanged_on_error { OnErr result (SameOwn self.old self.new) }
     {
-        match self.workers.get_mut(&worker) {
-            Some(serials) => serials.put(alloc, serial),
-            None => self.add_first(alloc, worker, serial),
+        if (worker as usize) < self.workers.len() {
+            self.add_known(alloc, worker, serial)
+        } else {
+            self.add_first(alloc, worker, serial)
         }
+    }
+
+    /// Takes an entry of a known worker out, if it is there. It takes no memory.
+    fn remove_known(&mut self, worker: u8, serial: u64)
+        requires { worker < length self.old.workers.items }
+        ensures { WithoutOwn worker serial self.old self.new }
+    {
+        self.workers[worker as usize].take(serial);
     }
 
     /// Takes an entry of a worker out, if it is there. It takes no memory.
     pub fn remove(&mut self, worker: u8, serial: u64)
         ensures { WithoutOwn worker serial self.old self.new }
     {
-        match self.workers.get_mut(&worker) {
-            Some(serials) => serials.take(serial),
-            None => {}
+        if (worker as usize) < self.workers.len() {
+            self.remove_known(worker, serial);
         }
     }
 
@@ -91,6 +103,6 @@ impl OwnEntries {
     pub fn last(&self, worker: u8) -> Option<u64>
         ensures { IsGreatest (is_own self.now worker) result }
     {
-        self.workers.get(&worker)?.last()
+        serials_of(&self.workers, worker)?.last()
     }
 }

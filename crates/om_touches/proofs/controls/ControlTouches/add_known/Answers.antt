@@ -1,33 +1,26 @@
-use Rattle.std.proofs.Common.{true, sym}
+use Rattle.std.proofs.Common.{true, ◌∙◌, ap, sym, Some, arith}
+use Rattle.std.proofs.lemmas.Option.{slice_get-get_or}
 use Rattle.om_touches.specs.Touches.{has_in}
 use Rattle.om_touches.specs.Lists.{on_ok, on_err}
-use Rattle.om_touches.specs.Workers.{kept-same, kept-is_known, kept-not_known}
+use Rattle.om_touches.specs.Workers.{kept-same}
 use Rattle.om_touches.specs.Controls.{control-set}
 use Rattle.om_touches.proofs.controls.ControlTouches.add_known.Goals as goal
 
-pub unreachable-requires : goal.unreachable-requires
-unreachable-requires c = kept-not_known c.args.self.now.workers.entries c.args.worker c.get_mut.result
-    c.get_mut.ensures.value c.in-None.is c.requires
+pub index_mut-requires : goal.index_mut-requires
+index_mut-requires c = omega (arith, c.requires, c.args.self.now.workers.ok)
 
 pub returns-clause-added : goal.returns-clause-added
 returns-clause-added c =
-    let es = c.args.self.now.workers.entries in
-    let x = c.add.new.self in
-    let old = c.in-Some.touches.now in
+    let ts = c.args.self.now.workers.items in
+    let at = slice_get-get_or ts c.args.worker _ c.requires ∙ ap Some (sym c.index_mut.ensures.value) in
     on_ok c.add.result
-    (control-set true es (c.get_mut.follows.lender x).entries c.args.worker c.args.mode c.args.serial old x
-    (sym c.in-Some.ensures.value)
-    ((c.get_mut.follows.holds x).3 (kept-is_known es c.args.worker old c.in-Some.ensures.value)).0)
+    (control-set true ts c.args.worker c.args.mode c.args.serial c.index_mut.result.now c.add.new.self at)
     c.add.ensures.added
 
 pub returns-clause-unchanged_on_error : goal.returns-clause-unchanged_on_error
 returns-clause-unchanged_on_error c =
-    let es = c.args.self.now.workers.entries in
-    let x = c.add.new.self in
-    let old = c.in-Some.touches.now in
+    let ts = c.args.self.now.workers.items in
+    let at = slice_get-get_or ts c.args.worker _ c.requires ∙ ap Some (sym c.index_mut.ensures.value) in
     on_err c.add.result
-    (λ same w m s. kept-same (λ o. has_in o m s) es (c.get_mut.follows.lender x).entries c.args.worker old x
-    (sym c.in-Some.ensures.value)
-    ((c.get_mut.follows.holds x).3 (kept-is_known es c.args.worker old c.in-Some.ensures.value)).0
-    (same m s) w)
+    (λ same w m s. kept-same (λ o. has_in o m s) ts c.args.worker c.index_mut.result.now c.add.new.self at (same m s) w)
     c.add.ensures.unchanged_on_error

@@ -1,14 +1,11 @@
-use Rattle.std.proofs.Common.{◌∙◌, sym}
+use Rattle.std.proofs.Common.{◌∙◌, ap}
+use Rattle.std.specs.Prelude.{slice_get}
 use Rattle.om_touches.specs.Touches.{has_in}
-use Rattle.om_touches.specs.Workers.{kept-known, kept-there}
+use Rattle.om_touches.specs.Workers.{kept-more}
 use Rattle.om_touches.proofs.controls.ControlTouches.know.Goals as goal
 
-pub returns-clause-same : goal.returns-clause-same
-returns-clause-same c w m s = kept-known (λ o. has_in o m s) c.args.self.now.workers.entries
-    c.insert.new.self.entries c.args.worker c.new.result
-    (sym c.contains_key.ensures ∙ c.if-contains_key.false) c.in_ok-insert.ensures.updates.0
-    (c.new.ensures m s) w
-
-pub returns-clause-known : goal.returns-clause-known
-returns-clause-known c = kept-there c.args.self.now.workers.entries c.insert.new.self.entries c.args.worker
-    c.new.result c.in_ok-insert.ensures.updates.0
+pub grow-preserved : goal.grow-preserved
+grow-preserved c w m s =
+    ap (λ ts. has_in (slice_get ts w) m s) c.in_ok-push.ensures.items
+    ∙ kept-more (λ o. has_in o m s) c.grow.self.workers.items c.new.result (c.new.ensures m s) w
+    ∙ c.grow.invariant w m s

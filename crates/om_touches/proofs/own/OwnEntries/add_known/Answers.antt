@@ -1,31 +1,26 @@
-use Rattle.std.proofs.Common.{true, sym, nat_eq}
+use Rattle.std.proofs.Common.{true, ◌∙◌, ap, sym, Some, arith, nat_eq}
+use Rattle.std.proofs.lemmas.Option.{slice_get-get_or}
 use Rattle.om_touches.specs.Touches.{is_in}
 use Rattle.om_touches.specs.Lists.{on_ok, on_err}
-use Rattle.om_touches.specs.Workers.{kept-set, kept-same, kept-is_known, kept-not_known}
+use Rattle.om_touches.specs.Workers.{kept-set, kept-same}
 use Rattle.om_touches.proofs.own.OwnEntries.add_known.Goals as goal
 
-pub unreachable-requires : goal.unreachable-requires
-unreachable-requires c = kept-not_known c.args.self.now.workers.entries c.args.worker c.get_mut.result
-    c.get_mut.ensures.value c.in-None.is c.requires
+pub index_mut-requires : goal.index_mut-requires
+index_mut-requires c = omega (arith, c.requires, c.args.self.now.workers.ok)
 
 pub returns-clause-added : goal.returns-clause-added
 returns-clause-added c =
-    let es = c.args.self.now.workers.entries in
-    let x = c.put.new.self in
-    let old = c.in-Some.serials.now in
+    let ss = c.args.self.now.workers.items in
+    let at = slice_get-get_or ss c.args.worker _ c.requires ∙ ap Some (sym c.index_mut.ensures.value) in
     on_ok c.put.result
-    (λ added w s. kept-set true (nat_eq c.args.serial s) (λ o. is_in o s) es (c.get_mut.follows.lender x).entries
-    c.args.worker old x (sym c.in-Some.ensures.value)
-    ((c.get_mut.follows.holds x).3 (kept-is_known es c.args.worker old c.in-Some.ensures.value)).0 (added s) w)
+    (λ added w s. kept-set true (nat_eq c.args.serial s) (λ o. is_in o s) ss c.args.worker c.index_mut.result.now
+    c.put.new.self at (added s) w)
     c.put.ensures.added
 
 pub returns-clause-unchanged_on_error : goal.returns-clause-unchanged_on_error
 returns-clause-unchanged_on_error c =
-    let es = c.args.self.now.workers.entries in
-    let x = c.put.new.self in
-    let old = c.in-Some.serials.now in
+    let ss = c.args.self.now.workers.items in
+    let at = slice_get-get_or ss c.args.worker _ c.requires ∙ ap Some (sym c.index_mut.ensures.value) in
     on_err c.put.result
-    (λ same w s. kept-same (λ o. is_in o s) es (c.get_mut.follows.lender x).entries c.args.worker old x
-    (sym c.in-Some.ensures.value)
-    ((c.get_mut.follows.holds x).3 (kept-is_known es c.args.worker old c.in-Some.ensures.value)).0 (same s) w)
+    (λ same w s. kept-same (λ o. is_in o s) ss c.args.worker c.index_mut.result.now c.put.new.self at (same s) w)
     c.put.ensures.unchanged_on_error
