@@ -1,14 +1,16 @@
 //! The rows of the frame machine: objects for its variables, updates for what it puts.
 
-ghost use Rattle.std.specs.Prelude.{◌≡◌, ◌++◌, ◌<◌, ◌+◌, ◌^◌, ◌∷◌, [], IfOk, OnOk, slice_get, unwrap_or, option_map};
+ghost use Rattle.std.specs.Prelude.{◌≡◌, ◌++◌, ◌<◌, ◌+◌, ◌^◌, ◌∷◌, [], Some, IfOk, OnOk, slice_get, unwrap_or, option_map};
 ghost use Rattle.om_foot.specs.declared.object.Obj.TheVariants as obj;
+ghost use Rattle.om_code.specs.Frames.{act};
 ghost use Rattle.om_code.specs.Places.{slots_of};
 ghost use Rattle.om_code.specs.Validity.{NamesKnown};
 ghost use Rattle.om_live.specs.Plain.{plain_context};
 ghost use Rattle.om_live.specs.Stores.{state_of};
 ghost use Rattle.om_steps.specs.Rows.{answered};
-ghost use Rattle.om_steps.specs.Objects.{read, write};
-ghost use Rattle.om_steps.specs.SerialRows.{row_of, unsets, cleared, serial_row, slots_in};
+ghost use Rattle.om_cells.specs.Values.{cell_in};
+ghost use Rattle.om_steps.specs.Objects.{read, write, object_of};
+ghost use Rattle.om_steps.specs.SerialRows.{row_of, put_of, unsets, cleared, serial_row, slots_in};
 
 use crate::names::{name, name_slot, object_of, operands_of};
 use crate::parts::name_one;
@@ -16,6 +18,7 @@ use crate::updates::put_cell;
 use crate::{Answer, Row};
 use om_cells::{Edit, Tail, Update, Val};
 use om_code::frame::Cell;
+use om_code::instruction::Place;
 use om_code::print::print_bytes;
 use om_code::raw::Slot;
 use om_code::serial::{Touch, Turn, touch_of, turn_of};
@@ -35,6 +38,17 @@ pub(crate) fn slots_of(raw: &Raw, body: u32) -> &[Slot]
     }
 }
 
+/// A put of an int before these updates. The record of a step keeps them, so there is room for no others.
+fn with_put(updates: Seq<Update>, value: i32) -> Result<Seq<Update>, AllocError>
+    ensures { IfOk result (λ all. all ≡ put_of (Some value) ++ updates) }
+{
+    let mut items = updates.into_vec();
+    items.reserve_exact(1)?;
+    let mut all = Seq::of(items);
+    all.push_front(Update::Put(Val::Cell(Cell::Int(value))))?;
+    Ok(all)
+}
+
 /// What a turn makes of its worker, with these updates behind what it puts.
 fn row_of(alloc: Global, next: u32, updates: Seq<Update>, turn: Turn) -> Result<Row, AllocError>
     requires { next + 1 < 2 ^ 32 }
@@ -47,10 +61,10 @@ fn row_of(alloc: Global, next: u32, updates: Seq<Update>, turn: Turn) -> Result<
             pushed,
             puts,
         } => {
-            let mut updates = updates;
-            if let Some(value) = puts {
-                updates.push_front(Update::Put(Val::Cell(Cell::Int(value))))?;
-            }
+            let updates = match puts {
+                Some(value) => with_put(updates, value)?,
+                None => updates,
+            };
             let to = jump.unwrap_or(next + 1);
             let edits = Seq::one(alloc, Edit::Go { to, takes, pushed })?;
             Ok(Row::Goes { edits, updates })
@@ -80,20 +94,50 @@ fn put_unset(updates: &mut Seq<Update>, cells: &[Access]) -> Result<(), AllocErr
     Ok(())
 }
 
-/// The answer where one object is named, and the turn is this one.
-fn naming(alloc: Global, next: u32, access: &Access, turn: Turn) -> Result<Answer, AllocError>
-    requires { next + 1 < 2 ^ 32 }
-    ensures { IfOk result
-        (λ answer. answer ≡ record { names = access.now ∷ []; row = row_of (next + 1) [] turn }) }
+/// An instruction of the frame machine where it is met: its program, the slots of its body, the context
+/// that runs it, and what the objects hold.
+#[derive(Clone, Copy)]
+struct Met<'a> {
+    raw: &'a Raw,
+    slots: &'a [Slot],
+    store: &'a Store,
+    context: &'a Context,
+    instr: Instr,
+}
+
+/// The answer where one cell of a variable is read, or written. The object is made where it is named,
+/// since it is large.
+#[inline(never)]
+fn at_cell(
+    alloc: Global,
+    met: &Met<'_>,
+    place: Place,
+    index: u32,
+    mode: Mode,
+) -> Result<Answer, AllocError>
+    requires names { NamesKnown met.now.raw.now met.now.slots.now met.now.instr }
+    requires next { (plain_context met.now.context.now).frame.next + 1 < 2 ^ 32 }
+    ensures { IfOk result (λ answer. answer
+        ≡ record {
+          names = record { object = object_of (plain_context met.now.context.now) place index; mode = mode } ∷ [];
+          row = row_of ((plain_context met.now.context.now).frame.next + 1) []
+              ((act met.now.raw.now met.now.slots.now met.now.instr (plain_context met.now.context.now).frame.operands).turn
+              (cell_in (state_of met.now.store.now (object_of (plain_context met.now.context.now) place index))));
+        }) }
 {
+    let object = object_of(met.context, place, index);
+    let cell = met.store.cell(alloc, &object);
     // Room for the worker's control too, which comes before it.
     let mut names = Seq::of(Vec::with_capacity(alloc, 2)?);
-    name(&mut names, access.object, access.mode)?;
-    let row = row_of(alloc, next, Seq::new(alloc), turn)?;
+    name(&mut names, object, mode)?;
+    let operands = &operands_of(met.context);
+    let turn = turn_of(met.raw, met.slots, met.instr, operands, cell);
+    let row = row_of(alloc, met.context.frame.next, Seq::new(alloc), turn)?;
     Ok(Answer { names, row })
 }
 
 /// The answer where a slot becomes unset, and the turn is this one.
+#[inline(never)]
 fn clearing(
     alloc: Global,
     raw: &Raw,
@@ -115,6 +159,7 @@ fn clearing(
 }
 
 /// The answer where bytes are printed, and the turn is this one.
+#[inline(never)]
 fn printing(alloc: Global, next: u32, bytes: Seq<u8>, turn: Turn) -> Result<Answer, AllocError>
     requires { next + 1 < 2 ^ 32 }
     ensures { IfOk result
@@ -149,32 +194,21 @@ pub fn serial(
     let slots = slots_of(raw, context.frame.body);
     let operands = &operands_of(context);
     let next = context.frame.next;
+    let met = &Met {
+        raw,
+        slots,
+        store,
+        context,
+        instr,
+    };
     match touch_of(raw, slots, instr, operands) {
         Touch::Nothing => {
             let turn = turn_of(raw, slots, instr, operands, Cell::Unset);
             let row = row_of(alloc, next, Seq::new(alloc), turn)?;
             Ok(Answer::decided(alloc, row))
         }
-        Touch::Reads { place, index } => {
-            let access = &read(object_of(context, place, index));
-            let cell = store.cell(alloc, &access.object);
-            naming(
-                alloc,
-                next,
-                access,
-                turn_of(raw, slots, instr, operands, cell),
-            )
-        }
-        Touch::Writes { place, index } => {
-            let access = &write(object_of(context, place, index));
-            let cell = store.cell(alloc, &access.object);
-            naming(
-                alloc,
-                next,
-                access,
-                turn_of(raw, slots, instr, operands, cell),
-            )
-        }
+        Touch::Reads { place, index } => at_cell(alloc, met, place, index, Mode::Read),
+        Touch::Writes { place, index } => at_cell(alloc, met, place, index, Mode::Write),
         Touch::Clears(slot) => {
             let turn = turn_of(raw, slots, instr, operands, Cell::Unset);
             clearing(alloc, raw, context, slot, turn)

@@ -28,20 +28,33 @@ pub fn name_events(names: &mut Seq<Access>, worker: u8) -> Result<(), AllocError
     name(names, Obj::Events(worker), Mode::Write)
 }
 
+/// A cell of a task's frame. It stands apart, so that the name in it is copied once.
+#[inline(never)]
+fn cell_at(task: &Name, frame: u64, slot: u32, index: u32) -> Obj
+    ensures { result ≡ obj.Cell task.now frame slot index }
+{
+    Obj::Cell {
+        task: *task,
+        frame,
+        slot,
+        index,
+    }
+}
+
 /// The object of a variable's cell, in the running frame of a context.
 pub fn object_of(context: &Context, place: Place, index: u32) -> Obj
     ensures { result ≡ object_of (plain_context context.now) place index }
 {
     match place {
         Place::Global(variable) => Obj::Global { variable, index },
-        Place::Slot(slot) => {
-            let frame = &context.frame;
-            let task = context.task.get();
-            match frame.homes.get().as_slice().get(slot as usize) {
-                Some(home) => home.cell(task, frame.ordinal, slot, index),
-                None => Home::Own.cell(task, frame.ordinal, slot, index),
+        Place::Slot(slot) => match context.frame.homes.get().as_slice().get(slot as usize) {
+            Some(Home::Elsewhere { task, frame, slot }) => {
+                cell_at(task.get(), *frame, *slot, index)
             }
-        }
+            Some(Home::Own) | None => {
+                cell_at(context.task.get(), context.frame.ordinal, slot, index)
+            }
+        },
     }
 }
 
