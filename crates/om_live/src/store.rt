@@ -13,6 +13,7 @@ ghost use Rattle.om_cells.specs.Ready.{AreReady};
 ghost use Rattle.om_live.specs.Stores.{worker_of, is_trailed, plain_or_idle, state_of, is_kept, pasts_of, noted_at, popped_at, begun_at, first_or, GrowTo};
 
 use crate::control::Control;
+use crate::control_objects::ControlObjects;
 use crate::live::control_of;
 use crate::trail::Trail;
 use om_cells::{
@@ -33,6 +34,8 @@ use std::mem;
 pub struct Store {
     /// The controls of the first workers; the others are idle.
     trails: Vec<Trail>,
+    /// The objects of these controls.
+    controls: ControlObjects,
     /// What the other objects hold.
     values: Values,
 }
@@ -40,8 +43,13 @@ pub struct Store {
 // By hand: crates above call this, and do not prove anew how each part is dropped.
 impl Drop for Store {
     fn drop(self) {
-        let Store { trails, values } = self;
+        let Store {
+            trails,
+            controls,
+            values,
+        } = self;
         drop(trails);
+        drop(controls);
         drop(values);
     }
 }
@@ -83,6 +91,7 @@ impl Store {
     {
         Store {
             trails: Vec::new(alloc),
+            controls: ControlObjects::new(alloc),
             values: Values::new(alloc),
         }
     }
@@ -205,28 +214,21 @@ impl Store {
         ensures others_kept { (q : Obj) → is_kept self.old q ≡ true → is_kept self.new q ≡ true }
     {
         match worker_of(object) {
-            Some(worker) => self.keep_control(alloc, worker, object),
+            Some(worker) => self.keep_control(alloc, worker),
             None => self.values.keep(alloc, object),
         }
     }
 
-    /// Keeps the control of a worker. The values have a place for it too, so that it is shared as
-    /// other objects are; what the worker's trail holds counts.
-    fn keep_control(
-        &mut self,
-        alloc: Global,
-        worker: u8,
-        object: &Obj,
-    ) -> Result<SharedObject, AllocError>
-        requires { object.now ≡ obj.Control worker }
-        ensures shared { IfOk result (λ shared. shared ≡ object.now) }
+    /// Keeps the control of a worker, and answers it, shared. No value changes, also when out of memory.
+    pub fn keep_control(&mut self, alloc: Global, worker: u8) -> Result<SharedObject, AllocError>
+        ensures shared { IfOk result (λ shared. shared ≡ obj.Control worker) }
         ensures state { state_of self.new ≡ state_of self.old }
         ensures pasts { pasts_of self.new ≡ pasts_of self.old }
-        ensures kept { OnOk result (is_kept self.new object.now ≡ true) }
+        ensures kept { OnOk result (is_kept self.new (obj.Control worker) ≡ true) }
         ensures others_kept { (q : Obj) → is_kept self.old q ≡ true → is_kept self.new q ≡ true }
     {
         grow(alloc, &mut self.trails, worker)?;
-        self.values.keep(alloc, object)
+        self.controls.share(alloc, worker)
     }
 
     /// Puts the first control of a worker, which made no step then. When out of memory, nothing
