@@ -13,7 +13,7 @@ ghost use Rattle.om_history.specs.Runs.{reply_to_undo, after_undo};
 ghost use Rattle.om_history.specs.Cones.{taken_by_roll, reply_to_roll, after_roll};
 ghost use Rattle.om_history.specs.Commands.{IsGone};
 ghost use Rattle.om_history.specs.Choices.{label_by};
-ghost use Rattle.om_history.specs.Records.{is_undone};
+ghost use Rattle.om_history.specs.Records.{is_undone, LastHasSerial};
 ghost use Rattle.om_history.specs.Pasts.{past_in, history_in, IsHeld, IsPlanned, step_for, IsReplay, AreNumbered, Replies, RepliesToStep, Becomes, TakesStep, TakesOut, TakesItsCone, Stays};
 
 use crate::choice::start_of;
@@ -110,6 +110,23 @@ impl History {
         self.records.entries(alloc)
     }
 
+    /// Undoes a worker's last entry, which has this serial, by the whole reply to that. A reply may hold an
+    /// object, which is large, so this stands apart: it is needed where a later entry conflicts.
+    #[cold]
+    #[inline(never)]
+    fn undo_by_reply(&mut self, worker: u8, serial: u64) -> UndoReply
+        requires held { (r : Rules) × IsHeld r self.old }
+        requires last { LastHasSerial worker self.old.records serial }
+        ensures reply { Replies (λ r h. reply_to_undo r h worker) self.old result }
+        ensures after { Becomes (λ r h. after_undo r h worker) self.old self.new }
+    {
+        let reply = self.records.reply_to(serial);
+        if is_undone(&reply) {
+            take_out(&mut self.store, &mut self.records, serial);
+        }
+        reply
+    }
+
     /// Takes a worker's last step out, wherever it stands, unless a later step conflicts with it:
     /// the reply of the definition of a run.
     ///
@@ -121,13 +138,13 @@ impl History {
         ensures after { Becomes (λ r h. after_undo r h worker) self.old self.new }
     {
         match self.records.last(worker) {
-            Some(serial) => {
-                let reply = self.records.reply_to(serial);
-                if is_undone(&reply) {
+            Some(serial) => match self.records.free_line(serial) {
+                Some(line) => {
                     take_out(&mut self.store, &mut self.records, serial);
+                    UndoReply::Undone { serial, line }
                 }
-                reply
-            }
+                None => self.undo_by_reply(worker, serial),
+            },
             None => UndoReply::Nothing,
         }
     }

@@ -251,6 +251,24 @@ fn reply_at(kept: &BySerial, lists: &TouchLists, serial: u64) -> UndoReply
     }
 }
 
+/// The line of the entry with a serial, where no later entry conflicts with it.
+fn free_line(kept: &BySerial, lists: &TouchLists, serial: u64) -> Option<u32>
+    requires by_serial { AreBySerial 0 kept.now }
+    requires lists { AreListsOf (λ k. k.footprint) (values_of kept.now) lists.now }
+    requires there { HasSerial serial (values_of kept.now) }
+    ensures { IfSome result (λ line. (i : ℕ) (k : UndoRecord)
+        → slice_get (values_of kept.now) i ≡ Some k → k.entry.serial ≡ serial
+        → kept_reply (values_of kept.now) i ≡ UndoReply.Undone serial line) }
+{
+    match kept.get(serial) {
+        Some(undone) => match first_conflict(kept, lists, undone, serial) {
+            Some(_) => None,
+            None => Some(undone.line()),
+        },
+        None => unreachable!(),
+    }
+}
+
 /// Whether a record conflicts with one of those whose touches these are.
 fn meets(members: &TouchLists, made: &Kept) -> bool
     ensures { (ms : List UndoRecord) → AreListsOf (λ k. k.footprint) ms members.now → AreAbove 0 ms
@@ -339,6 +357,16 @@ impl Records {
         ensures none { IfNone result (All (λ k. k.entry.worker ≢ worker) self.now) }
     {
         self.own.last(worker)
+    }
+
+    /// The line of the entry with a serial, where no later entry conflicts with it.
+    pub(crate) fn free_line(&self, serial: u64) -> Option<u32>
+        requires { HasSerial serial self.now }
+        ensures { IfSome result (λ line. (i : ℕ) (k : UndoRecord)
+            → slice_get self.now i ≡ Some k → k.entry.serial ≡ serial
+            → kept_reply self.now i ≡ UndoReply.Undone serial line) }
+    {
+        free_line(&self.kept, &self.lists, serial)
     }
 
     /// What an undo of the entry with a serial answers.
