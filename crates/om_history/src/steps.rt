@@ -110,7 +110,7 @@ fn make(
         updates,
         line: _,
     } = change;
-    let shared = keep_footprint(store, alloc, footprint.as_slice())?;
+    let shared = keep_footprint(store, alloc, &footprint)?;
     let mut made = Kept::of(alloc, entry, shared)?;
     let mut back = updates.into_vec();
     back.shrink_to_fit();

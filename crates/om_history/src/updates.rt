@@ -11,7 +11,7 @@ ghost use Rattle.om_history.specs.Shapes.{IsShapedAt, AreShaped};
 ghost use Rattle.om_history.specs.Fills.{small_at, noted, small_record, noted_all, filled_at, popped, filled, popped_all, IfControl, CanTakeBack, control_at};
 
 use crate::accesses::Accesses;
-use om_cells::{Control, SharedControl, Update, Val};
+use om_cells::{Control, Footprint, SharedControl, Update, Val};
 use om_foot::{Access, Mode, Obj};
 use om_live::{Store, worker_of};
 use om_touches::SharedAccess;
@@ -259,39 +259,49 @@ fn keep(store: &mut Store, alloc: Global, access: &Access) -> Result<SharedAcces
     Ok(SharedAccess::of(object, access.mode))
 }
 
-/// Keeps each object of a footprint, so that its value can be put back without memory, and answers
-/// the accesses of them, shared. No value changes, also when out of memory.
+/// Keeps a worker's control, and answers that it is written, shared. No value changes, also when out of
+/// memory.
+fn keep_control(store: &mut Store, alloc: Global, worker: u8) -> Result<SharedAccess, AllocError>
+    ensures shared { IfOk result (λ shared. shared ≡ control_at worker Mode.Write) }
+    ensures same { state_of store.new ≡ state_of store.old }
+    ensures same_pasts { pasts_of store.new ≡ pasts_of store.old }
+    ensures kept { OnOk result (is_kept store.new (obj.Control worker) ≡ true) }
+    ensures others_kept { (q : Obj) → is_kept store.old q ≡ true → is_kept store.new q ≡ true }
+{
+    let object = store.keep_control(alloc, worker)?;
+    Ok(SharedAccess::of(object, Mode::Write))
+}
+
+/// Keeps each of these objects, so that its value can be put back without memory, and answers the accesses
+/// of them, shared, behind a first one. No value changes, also when out of memory.
 fn keep_all(
     store: &mut Store,
     alloc: Global,
-    footprint: &[Access],
+    first: SharedAccess,
+    others: &[Access],
 ) -> Result<Vec<SharedAccess>, AllocError>
-    ensures shared { IfOk result (λ shared. shared.items ≡ footprint.now) }
+    requires { is_kept store.old first.object ≡ true }
+    ensures shared { IfOk result (λ shared. shared.items ≡ first ∷ others.now) }
     ensures same { state_of store.new ≡ state_of store.old }
     ensures same_pasts { pasts_of store.new ≡ pasts_of store.old }
-    ensures kept { OnOk result (All (λ a. is_kept store.new a.object ≡ true) footprint.now) }
+    ensures kept { OnOk result (All (λ a. is_kept store.new a.object ≡ true) (first ∷ others.now)) }
     ensures others_kept { (q : Obj) → is_kept store.old q ≡ true → is_kept store.new q ≡ true }
 {
-    let mut shared = Vec::with_capacity(alloc, footprint.len())?;
-    for access in footprint {
+    let mut shared = Vec::with_capacity(alloc, others.len().saturating_add(1))?;
+    shared.push(first)?;
+    for access in others {
         shared.push(keep(store, alloc, access)?)?;
     }
     Ok(shared)
 }
 
-/// The only one of these accesses, where there is one and no other.
-fn only(footprint: &[Access]) -> Option<&Access>
-    ensures { IfSome result (λ a. footprint.now ≡ a.now ∷ []) }
-{
-    let (first, rest) = footprint.split_first()?;
-    if rest.is_empty() { Some(first) } else { None }
-}
-
-/// Keeps each object of a footprint, as `keep_all` does. Where there is one, its access takes no memory.
+/// Keeps each object of a footprint, so that its value can be put back without memory, and answers the
+/// accesses of them, shared. Where there is one, its access takes no memory. No value changes, also when
+/// out of memory.
 pub(crate) fn keep_footprint(
     store: &mut Store,
     alloc: Global,
-    footprint: &[Access],
+    footprint: &Footprint,
 ) -> Result<Accesses, AllocError>
     ensures shared { IfOk result (λ shared. shared ≡ footprint.now) }
     ensures same { state_of store.new ≡ state_of store.old }
@@ -299,10 +309,12 @@ pub(crate) fn keep_footprint(
     ensures kept { OnOk result (All (λ a. is_kept store.new a.object ≡ true) footprint.now) }
     ensures others_kept { (q : Obj) → is_kept store.old q ≡ true → is_kept store.new q ≡ true }
 {
-    match only(footprint) {
-        Some(access) => Ok(Accesses::one(keep(store, alloc, access)?)),
-        None => Ok(Accesses::many(keep_all(store, alloc, footprint)?)),
+    let (worker, others) = footprint.parts();
+    let control = keep_control(store, alloc, worker)?;
+    if others.is_empty() {
+        return Ok(Accesses::one(control));
     }
+    Ok(Accesses::many(keep_all(store, alloc, control, others)?))
 }
 
 /// Makes the updates of a footprint, and leaves in their place what a small record holds of them.

@@ -127,8 +127,8 @@ fn at_cell(
 {
     let object = object_of(met.context, place, index);
     let cell = met.store.cell(alloc, &object);
-    // Room for the worker's control too, which comes before it.
-    let mut names = Seq::of(Vec::with_capacity(alloc, 2)?);
+    // An access is large: there is room for no others.
+    let mut names = Seq::of(Vec::with_capacity(alloc, 1)?);
     name(&mut names, object, mode)?;
     let operands = &operands_of(met.context);
     let turn = turn_of(met.raw, met.slots, met.instr, operands, cell);

@@ -18,7 +18,7 @@ use crate::admit::{admits, instruction, leaving};
 use crate::planned::Plan;
 use crate::table::answer;
 use crate::task_start::{Starting, start};
-use om_cells::{Blocked, Change, Choice, Edit, Label};
+use om_cells::{Blocked, Change, Choice, Edit, Footprint, Label};
 use om_code::Program;
 use om_foot::Access;
 use om_live::{Control, Stack, Store};
@@ -129,7 +129,7 @@ fn planned(
         Row::Blocked(why) => return Ok(Plan::Blocked(why)),
         Row::Lacks => return Ok(Plan::Ended),
     };
-    let footprint = footprint(label.worker, names)?;
+    let footprint = Footprint::of(label.worker, names);
     Ok(Plan::Updates(Change {
         footprint,
         edits,

@@ -8,23 +8,25 @@ use Rattle.om_history.proofs.updates.keep_all.Goals as goal
 
 pub loop-access-preserved : goal.loop-access-preserved
 loop-access-preserved c =
-    let footprint = c.args.footprint.now in
+    let others = c.args.others.now in
     let i = c.loop-access.access-index in
+    let first : Access = c.args.first in
     let a : Access = c.access-item.result in
-    let more : take (i + 1) footprint ≡ take i footprint ++ a ∷ [] =
-    take_more footprint i a c.loop-access-test.true ∙ ap (λ x. take i footprint ++ x ∷ []) (sym c.access-item.is) in
+    let more : first ∷ take (i + 1) others ≡ (first ∷ take i others) ++ a ∷ [] =
+    ap (λ xs. first ∷ xs)
+    (take_more others i a c.loop-access-test.true ∙ ap (λ x. take i others ++ x ∷ []) (sym c.access-item.is)) in
     let x = c.loop-access.invariant in
     record {
-      shared = c.in_ok-push.ensures.items
+      shared = c.in_ok-push-2.ensures.items
           ∙ (λ j. x.shared j ++ c.in_ok-keep.ensures.shared j ∷ [])
           ∙ sym more;
       same = c.keep.ensures.same ∙ x.same;
       same_pasts = c.keep.ensures.same_pasts ∙ x.same_pasts;
       kept = subst (All (λ (b : Access). is_kept c.keep.new.store b.object ≡ true)) (sym more)
-          (All-push (λ (b : Access). is_kept c.keep.new.store b.object ≡ true) (take i footprint) a
+          (All-push (λ (b : Access). is_kept c.keep.new.store b.object ≡ true) (first ∷ take i others) a
           (All-weaker (λ (b : Access). is_kept c.loop-access.store b.object ≡ true)
           (λ (b : Access). is_kept c.keep.new.store b.object ≡ true)
-          (λ b h. c.keep.ensures.others_kept b.object h) (take i footprint) x.kept)
+          (λ b h. c.keep.ensures.others_kept b.object h) (first ∷ take i others) x.kept)
           c.in_ok-keep.ensures.kept);
       others_kept = λ q h. c.keep.ensures.others_kept q (x.others_kept q h);
     }
