@@ -1,5 +1,5 @@
 -- Commands and replies of undos as a journal keeps them.
-use Rattle.std.specs.Prelude.{Bool, true, false}
+use Rattle.std.specs.Prelude.{Bool, true, false, Option, Some, None}
 use Rattle.om_cells.specs.declared.step.Choice.TheVariants as choice
 use Rattle.om_foot.specs.declared.object.Obj.{Obj}
 use Rattle.om_foot.specs.declared.object.Obj.TheVariants as object
@@ -13,6 +13,7 @@ use Rattle.om_journal.specs.declared.kept.ObjectParts.TheVariants as object_part
 use Rattle.om_journal.specs.declared.kept.CommandParts.{CommandParts}
 use Rattle.om_journal.specs.declared.kept.CommandParts.TheVariants as parts
 use Rattle.om_journal.specs.declared.kept.UndoParts.{UndoParts}
+use Rattle.om_journal.specs.declared.kept.UndoneStep.{UndoneStep}
 use Rattle.om_journal.specs.declared.kept.UndoParts.TheVariants as undo_parts
 
 -- the object of these parts
@@ -39,6 +40,12 @@ abbrev pub undo_reply_in : UndoParts → UndoReply
 undo_reply_in (undo_parts.Undone serial line) = undo_reply.Undone serial line
 undo_reply_in (undo_parts.Conflict serial worker q) = undo_reply.Conflict serial worker (object_in q)
 undo_reply_in undo_parts.Nothing = undo_reply.Nothing
+
+-- the step that an undo took out, where it took one out
+abbrev pub undone_in : UndoReply → Option UndoneStep
+undone_in (undo_reply.Undone serial line) = Some (record { serial = serial; line = line })
+undone_in (undo_reply.Conflict serial worker object) = None
+undone_in undo_reply.Nothing = None
 
 -- the undo was refused
 abbrev pub is_conflict : UndoReply → Bool

@@ -11,7 +11,7 @@ ghost use Rattle.om_undo.specs.Machines.{rules_for};
 
 use crate::command::Command;
 use crate::kept::KeptCommand;
-use crate::replies::{done, done_thrice};
+use crate::replies::{done, done_thrice, undo};
 use crate::reply::Reply;
 use om_code::Program;
 use om_undo::{Machine, PlannedStep, StepReply};
@@ -227,6 +227,26 @@ impl Book {
         }
     }
 
+    /// Takes a worker's last step back, and adds the record of that call of a seat to the journal, where its
+    /// reply can be read (`last_reply`): as `call` of the undo's command.
+    ///
+    /// Errors are `Full`, exactly where there are 200,000 records, and out of memory. They
+    /// change nothing.
+    pub fn undo(&mut self, alloc: Global, seat: u8, worker: u8) -> Result<(), CallError>
+        requires { worker < self.old.start.workers }
+        ensures recorded { OnOk result (self.new ≡ with_record self.old seat (Command.Undo worker)
+            (reply_to (machine_of self.old) (Command.Undo worker))) }
+        ensures unchanged_on_error { OnErr result (self.new ≡ self.old) }
+        ensures full { IfErr result (λ e. e ≡ CallError.Full ↔ 200000 ≤ records_of self.old) }
+        ensures room { OnOk result (records_of self.old < 200000) }
+    {
+        self.has_room()?;
+        match append_undo(alloc, &mut self.machine, &mut self.journal, seat, worker) {
+            Ok(()) => Ok(()),
+            Err(AllocError) => Err(CallError::OutOfMemory),
+        }
+    }
+
     /// Does what a seat's command asks, and adds its record to the journal.
     ///
     /// Errors are `Full`, exactly where there are 200,000 records, and out of memory. They
@@ -342,6 +362,35 @@ fn append_step(
         reply: Reply::Step(reply),
     });
     Ok(reply)
+}
+
+/// Takes a worker's last step back, and adds the record of the undo. When out of memory, nothing changes.
+fn append_undo(
+    alloc: Global,
+    machine: &mut Machine,
+    journal: &mut Vec<JournalRecord>,
+    seat: u8,
+    worker: u8,
+) -> Result<(), AllocError>
+    requires in_range { worker < machine.old.workers }
+    ensures machine { OnOk result (machine.new ≡ after machine.old (Command.Undo worker)) }
+    ensures journal { OnOk result (journal.new.items ≡ journal.old.items
+        ++ record {
+          seat = seat;
+          command = Command.Undo worker;
+          reply = reply_to machine.old (Command.Undo worker);
+        } ∷ []) }
+    ensures unchanged_machine { OnErr result (machine.new ≡ machine.old) }
+    ensures unchanged_journal { OnErr result (journal.new.items ≡ journal.old.items) }
+{
+    journal.reserve(1)?;
+    let reply = undo(alloc, machine, worker)?;
+    journal.push_reserved(JournalRecord {
+        seat,
+        command: KeptCommand::of_undo(worker),
+        reply,
+    });
+    Ok(())
 }
 
 /// Does what a command asks, and adds its record; the reply comes twice. When out of memory, nothing

@@ -1,7 +1,7 @@
 //! Commands and replies as a journal keeps them: what is large and rare lies apart, so that records are small.
 
 ghost use Rattle.std.specs.Prelude.{◌≡◌, IfOk, OnErr, true};
-ghost use Rattle.om_journal.specs.Kept.{command_in, object_in, undo_reply_in, is_conflict};
+ghost use Rattle.om_journal.specs.Kept.{command_in, object_in, undo_reply_in, undone_in, is_conflict};
 
 use crate::command::{Command, Query};
 use crate::same::Same;
@@ -142,6 +142,15 @@ impl KeptCommand {
         })
     }
 
+    /// The undo of a worker's last step, to be kept. It takes no memory.
+    pub fn of_undo(worker: u8) -> KeptCommand
+        ensures { result ≡ Command.Undo worker }
+    {
+        KeptCommand {
+            parts: CommandParts::Undo(worker),
+        }
+    }
+
     /// The command.
     pub fn get(&self) -> Command
         ensures { result ≡ self.now }
@@ -168,6 +177,15 @@ impl Same for KeptCommand {
     fn is_same(&self, other: &KeptCommand) -> bool {
         self.get().is_same(&other.get())
     }
+}
+
+/// A step that an undo took out.
+#[derive(Clone, Copy)]
+pub struct UndoneStep {
+    /// Its serial, from 1.
+    pub serial: u64,
+    /// The line in the source of its instruction, from 1.
+    pub line: u32,
 }
 
 /// The parts of what an undo is answered.
@@ -235,6 +253,20 @@ impl KeptUndoReply {
             Ok(parts) => Ok(KeptUndoReply { parts }),
             Err(error) => Err(error),
         }
+    }
+
+    /// The step that was taken out, where one was. It is read where the reply lies, which is large where
+    /// it is made anew.
+    pub fn undone(&self) -> Option<UndoneStep>
+        ensures { result ≡ undone_in self.now }
+    {
+        if let UndoParts::Undone { serial, line } = &self.parts {
+            return Some(UndoneStep {
+                serial: *serial,
+                line: *line,
+            });
+        }
+        None
     }
 
     /// The reply.

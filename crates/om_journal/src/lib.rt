@@ -18,6 +18,6 @@ mod value;
 
 pub use book::{Book, CallError, JournalRecord, MAX_RECORDS};
 pub use command::{Command, Query};
-pub use kept::{KeptCommand, KeptUndoReply};
+pub use kept::{KeptCommand, KeptUndoReply, UndoneStep};
 pub use reply::Reply;
 pub use same::{Same, same_items};

@@ -81,7 +81,7 @@ fn stepped(reply: &StepReply) -> Replies
 
 /// Takes a worker's last step back. Only an undo that is refused, and so changes nothing, asks for memory.
 #[tactic(auto, using(crate::proofs::Undos::refused_same))]
-fn undo(alloc: Global, machine: &mut Machine, worker: u8) -> Result<Reply, AllocError>
+pub(crate) fn undo(alloc: Global, machine: &mut Machine, worker: u8) -> Result<Reply, AllocError>
     requires { worker < machine.old.workers }
     ensures reply { IfOk result (λ x. IsReply machine.old (Command.Undo worker) x) }
     ensures after { OnOk result (machine.new ≡ after machine.old (Command.Undo worker)) }

@@ -1,0 +1,20 @@
+use Rattle.std.proofs.Common.{rules, refl, subst, sym, ◌<◌, length}
+use Rattle.om_journal.specs.Books.{BookView}
+use Rattle.om_journal.specs.Runs.{reply_to}
+use Rattle.om_journal.specs.declared.command.Command.TheVariants as command
+use Rattle.om_journal.proofs.Growing.{sound_next, sound_same}
+use Rattle.om_journal.proofs.book.Book.undo.Goals.{in-Ok, in-Err}
+use Rattle.om_journal.proofs.book.Book.undo.Goals as goal
+
+pub invariant_of-self : goal.invariant_of-self
+invariant_of-self c =
+    let journal = c.self.inside.journal.items in
+    elim c.match-append_undo.branch [
+      | in-Ok w ↦
+          let room : length journal < 200000 = subst (λ (b : BookView). length b.journal < 200000)
+          (sym c.self.view_is) c.in_ok-has_room.ensures.room in
+          sound_next c.self.inside.machine _ _ journal _ c.args.seat (command.Undo c.args.worker)
+          (reply_to c.self.inside.machine (command.Undo c.args.worker)) c.self.invariant room
+          (search rules) refl (search rules)
+      | in-Err w ↦ sound_same c.self.inside.machine _ _ journal _ c.self.invariant (search rules) (search rules)
+    ]
