@@ -1,6 +1,6 @@
 //! The end of a line: it grows towards its front, and is appended to a text at once.
 
-ghost use Rattle.std.specs.Prelude.{◌≡◌, ◌≤◌, ◌+◌, ◌++◌, length, drop};
+ghost use Rattle.std.specs.Prelude.{◌≡◌, ◌≤◌, ◌+◌, ◌++◌, decimal, length, drop};
 ghost use Rattle.om_command.specs.Steps.{entry_text, fault_text};
 
 use itoa::write_digits;
@@ -22,6 +22,19 @@ pub(crate) fn put(line: &mut [u8], end: usize, bytes: &[u8]) -> usize
     start
 }
 
+// Puts a small number before the bytes from `end` on, and answers where it begins. Most have one digit.
+fn put_small(line: &mut [u8], end: usize, number: u8) -> usize
+    requires room { length (decimal number) ≤ end }
+    requires within { end ≤ length line.old }
+    ensures start { result + length (decimal number) ≡ end }
+    ensures written { drop result line.new ≡ decimal number ++ drop end line.old }
+{
+    if number < 10 {
+        return put(line, end, &[b'0' + number]);
+    }
+    write_digits(number as u64, line, end)
+}
+
 /// Puts `#S worker W line L` before the bytes from `end` on, and answers where it begins.
 pub(crate) fn put_entry(line: &mut [u8], end: usize, serial: u64, worker: u8, at: u32) -> usize
     requires room { 75 ≤ end }
@@ -31,7 +44,7 @@ pub(crate) fn put_entry(line: &mut [u8], end: usize, serial: u64, worker: u8, at
 {
     let line_at = write_digits(at as u64, line, end);
     let line_word = put(line, line_at, b" line ");
-    let worker_at = write_digits(worker as u64, line, line_word);
+    let worker_at = put_small(line, line_word, worker);
     let worker_word = put(line, worker_at, b" worker ");
     let serial_at = write_digits(serial, line, worker_word);
     put(line, serial_at, b"#")

@@ -22,7 +22,7 @@ pub use list::{push_events, push_history, push_no_tasks, push_output, push_roll,
 pub use number::{push_number, push_numbered};
 pub use place::push_where;
 pub use request::request_of;
-pub use step::{push_command_fault, push_full, push_step, push_undo};
+pub use step::{push_command_fault, push_full, push_step, push_undo, push_undone};
 pub use stop::{Stop, push_break, push_deleted, push_freed, push_ran, push_watch};
 pub use task::TaskName;
 pub use value::{GlobalCell, push_local, push_print};

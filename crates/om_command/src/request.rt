@@ -146,6 +146,15 @@ fn plain(workers: u8, line: &[u8]) -> Option<Command>
     None
 }
 
+// What the words of a line ask for. It stands apart, as what it builds is large, and few lines need it.
+fn worded(alloc: Global, workers: u8, line: &[u8]) -> Result<Request, AllocError>
+    ensures asked { IfOk result (λ request. request ≡ request_in workers (words_of line.now)) }
+    ensures in_range { IfOk result (AsksWorkerBelow workers) }
+{
+    let words = words(alloc, line)?;
+    request_in(alloc, workers, &words)
+}
+
 /// What a line asks for, where there are so many workers.
 ///
 /// A line has at most 1,024 bytes. Words are parted by spaces, and a number has one to ten digits.
@@ -160,6 +169,5 @@ pub fn request_of(alloc: Global, workers: u8, line: &[u8]) -> Result<Request, Al
     if let Some(command) = plain(workers, line) {
         return Ok(Request::Command(command));
     }
-    let words = words(alloc, line)?;
-    request_in(alloc, workers, &words)
+    worded(alloc, workers, line)
 }

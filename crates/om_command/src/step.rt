@@ -84,13 +84,8 @@ fn push_conflict(
     text.extend_from_slice(b"\n")
 }
 
-/// Appends a step that was taken out, on a line.
-pub(crate) fn push_undone(
-    text: &mut Vec<u8>,
-    serial: u64,
-    worker: u8,
-    line: u32,
-) -> Result<(), AllocError>
+/// Appends a step of a worker that was taken out, on a line: as `push_undo` of that reply.
+pub fn push_undone(text: &mut Vec<u8>, serial: u64, worker: u8, line: u32) -> Result<(), AllocError>
     ensures { OnOk result
         (text.new.items ≡ text.old.items
         ++ (codes "undone " ++ entry_text serial worker line ++ codes "\n")) }
