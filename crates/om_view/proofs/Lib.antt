@@ -1,1 +1,2 @@
 mod Bounded
+mod Undone

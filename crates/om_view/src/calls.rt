@@ -35,6 +35,19 @@ pub(crate) fn call(alloc: Global, book: &mut Book, command: &Command) -> Result<
     }
 }
 
+/// Takes a worker's last step back. What it was answered is told by the book. Its only error is out of memory.
+pub(crate) fn undo(alloc: Global, book: &mut Book, worker: u8) -> Result<(), AllocError>
+    requires in_range { worker < book.old.start.workers }
+    requires room { records_of book.old < 200000 }
+    ensures { OnOk result (book.new ≡ with_call book.old (Command.Undo worker)) }
+{
+    match book.undo(alloc, SEAT, worker) {
+        Ok(()) => Ok(()),
+        Err(CallError::OutOfMemory) => Err(AllocError),
+        Err(CallError::Full) => unreachable!(),
+    }
+}
+
 /// Takes a step that was planned where the book stands.
 pub(crate) fn take(
     alloc: Global,

@@ -11,7 +11,7 @@ use crate::freed::free;
 use crate::local::{Seen, worker_sees};
 use crate::looks::{events, history, output, place, print, print_local, tasks};
 use crate::marks::Marks;
-use crate::moves::{back, next, roll, step, undo};
+use crate::moves::{back, next, roll, start, step, undo};
 use crate::runs::run;
 use crate::variable::cell_of;
 use om_code::Program;
@@ -21,7 +21,6 @@ use om_command::{
 };
 use om_journal::Book;
 use om_seq::Seq;
-use om_task::Choice;
 use std::alloc::{AllocError, Global};
 use std::sync::Wait;
 use std::thread::Threads;
@@ -114,8 +113,29 @@ impl Debugger {
         }
     }
 
-    // Carries a command out, and appends its answer.
+    // Carries a command out, and appends its answer. The two that come most are taken here, so that they do
+    // without the frame of all.
     fn obey(
+        &mut self,
+        alloc: Global,
+        command: &Command,
+        text: &mut Vec<u8>,
+    ) -> Result<(), AllocError>
+        requires in_range { HasWorkerBelow self.old.book.start.workers command.now }
+        requires no_free_run { rounds_asked (request.Command command.now) ≡ None }
+        ensures text { OnOk result
+            (text.new.items ≡ text.old.items ++ (obeyed self.old no_run command.now).text) }
+        ensures view { OnOk result (self.new ≡ (obeyed self.old no_run command.now).view) }
+    {
+        match command {
+            Command::Step(worker) => step(alloc, &mut self.book, *worker, text),
+            Command::Undo(worker) => undo(alloc, &mut self.book, *worker, text),
+            _ => self.obey_any(alloc, command, text),
+        }
+    }
+
+    // Carries any command out, and appends its answer.
+    fn obey_any(
         &mut self,
         alloc: Global,
         command: &Command,
@@ -129,10 +149,8 @@ impl Debugger {
     {
         let book = &mut self.book;
         match command {
-            Command::Step(worker) => step(alloc, book, *worker, Choice::Next, text),
-            Command::Start { worker, task } => {
-                step(alloc, book, *worker, Choice::Start(task.name()), text)
-            }
+            Command::Step(worker) => step(alloc, book, *worker, text),
+            Command::Start { worker, task } => start(alloc, book, *worker, task, text),
             Command::Undo(worker) => undo(alloc, book, *worker, text),
             Command::Next(worker) => next(alloc, book, *worker, text),
             Command::Back(worker) => back(alloc, book, *worker, text),

@@ -1,6 +1,8 @@
 //! The commands of one worker's steps and undos, and rolls.
 
 ghost use Rattle.std.specs.Prelude.{◌≡◌, ◌<◌, ◌++◌, ◌&&◌, nat_eq, true, OnOk};
+ghost use Rattle.om_cells.specs.declared.step.Choice.TheVariants as choices;
+ghost use Rattle.om_command.specs.Steps.{undo_text};
 ghost use Rattle.om_view.specs.Looks.{line_at};
 ghost use Rattle.om_journal.specs.declared.reply.Reply.TheVariants as replies;
 ghost use Rattle.om_journal.specs.Books.{machine_of};
@@ -8,10 +10,11 @@ ghost use Rattle.om_journal.specs.Runs.{is_step_made};
 ghost use Rattle.om_view.specs.Moves.{goes_on, is_undone, step_said, undo_said, next_within, next_said, back_within, back_said, roll_said};
 
 use crate::calls;
-use om_command::{push_full, push_roll, push_step, push_undo};
-use om_journal::{Book, Command};
+use om_code::Program;
+use om_command::{TaskName, push_full, push_roll, push_step, push_undo, push_undone};
+use om_journal::{Book, Command, KeptUndoReply};
 use om_task::Choice;
-use om_undo::{Machine, StepReply, UndoReply};
+use om_undo::{Machine, StepReply};
 use std::alloc::{AllocError, Global};
 
 // How many steps or undos `next` and `back` make at most, besides the last one.
@@ -24,24 +27,85 @@ struct Stay {
     line: u32,
 }
 
-/// Answers `step W`, and `start W NAME`.
-pub(crate) fn step(
+// Takes a worker's step by a choice, and appends its reply.
+fn step_by(
     alloc: Global,
     book: &mut Book,
     worker: u8,
-    choice: Choice,
+    choice: &Choice,
     text: &mut Vec<u8>,
 ) -> Result<(), AllocError>
     requires { worker < book.old.start.workers }
     ensures text { OnOk result
-        (text.new.items ≡ text.old.items ++ (step_said worker choice book.old).text) }
-    ensures after { OnOk result (book.new ≡ (step_said worker choice book.old).book) }
+        (text.new.items ≡ text.old.items ++ (step_said worker choice.now book.old).text) }
+    ensures after { OnOk result (book.new ≡ (step_said worker choice.now book.old).book) }
 {
     if book.is_full() {
         return push_full(text);
     }
-    let reply = calls::step(alloc, book, worker, &choice)?;
+    let reply = calls::step(alloc, book, worker, choice)?;
     push_step(text, worker, reply)
+}
+
+/// Answers `step W`.
+pub(crate) fn step(
+    alloc: Global,
+    book: &mut Book,
+    worker: u8,
+    text: &mut Vec<u8>,
+) -> Result<(), AllocError>
+    requires { worker < book.old.start.workers }
+    ensures text { OnOk result
+        (text.new.items ≡ text.old.items ++ (step_said worker choices.Next book.old).text) }
+    ensures after { OnOk result (book.new ≡ (step_said worker choices.Next book.old).book) }
+{
+    step_by(alloc, book, worker, &Choice::Next, text)
+}
+
+/// Answers `start W NAME`. It stands apart, as names are large.
+pub(crate) fn start(
+    alloc: Global,
+    book: &mut Book,
+    worker: u8,
+    task: &TaskName,
+    text: &mut Vec<u8>,
+) -> Result<(), AllocError>
+    requires { worker < book.old.start.workers }
+    ensures text { OnOk result (text.new.items
+        ≡ text.old.items ++ (step_said worker (choices.Start task.now) book.old).text) }
+    ensures after { OnOk result
+        (book.new ≡ (step_said worker (choices.Start task.now) book.old).book) }
+{
+    step_by(alloc, book, worker, &Choice::Start(task.name()), text)
+}
+
+// Appends an undo that took nothing out. It stands apart, as a reply that names an object is large.
+fn push_refused(
+    text: &mut Vec<u8>,
+    program: &Program,
+    worker: u8,
+    reply: &KeptUndoReply,
+) -> Result<(), AllocError>
+    ensures { OnOk result
+        (text.new.items ≡ text.old.items ++ undo_text program.now worker reply.now) }
+{
+    push_undo(text, program, worker, &reply.get())
+}
+
+// Appends the reply to an undo, as the journal keeps it.
+fn push_kept(
+    text: &mut Vec<u8>,
+    program: &Program,
+    worker: u8,
+    reply: &KeptUndoReply,
+) -> Result<(), AllocError>
+    ensures { OnOk result
+        (text.new.items ≡ text.old.items ++ undo_text program.now worker reply.now) }
+{
+    match reply.undone() {
+        Some(step) => push_undone(text, step.serial, worker, step.line),
+        None => push_refused(text, program, worker, reply),
+    }
 }
 
 /// Answers `undo W`.
@@ -59,9 +123,13 @@ pub(crate) fn undo(
     if book.is_full() {
         return push_full(text);
     }
-    calls::call(alloc, book, &Command::Undo(worker))?;
-    let reply = calls::undo_told(book).get();
-    push_undo(text, book.machine().program(), worker, &reply)
+    calls::undo(alloc, book, worker)?;
+    push_kept(
+        text,
+        book.machine().program(),
+        worker,
+        calls::undo_told(book),
+    )
 }
 
 /// Whether a step was made.
@@ -72,10 +140,10 @@ pub(crate) fn is_step_made(reply: &StepReply) -> bool
 }
 
 // Whether a step was taken out.
-fn is_undone(reply: &UndoReply) -> bool
+fn is_undone(reply: &KeptUndoReply) -> bool
     ensures { result ≡ is_undone reply.now }
 {
-    matches!(reply, UndoReply::Undone { .. })
+    reply.undone().is_some()
 }
 
 // Whether a worker still is at the line.
@@ -97,7 +165,7 @@ fn steps_on(machine: &Machine, reply: &StepReply, stay: Stay, further: u32) -> b
 }
 
 // Whether a step was taken out, which left its worker at the line, and a further one may be.
-fn undoes_on(machine: &Machine, reply: &UndoReply, stay: Stay, further: u32) -> bool
+fn undoes_on(machine: &Machine, reply: &KeptUndoReply, stay: Stay, further: u32) -> bool
     requires { stay.worker < machine.now.workers }
     ensures on { result ≡ goes_on further
         (is_undone reply.now && nat_eq (line_at machine.now stay.worker) stay.line) }
@@ -170,10 +238,10 @@ fn back_within(
         if book.is_full() {
             return push_full(text);
         }
-        calls::call(alloc, book, &Command::Undo(stay.worker))?;
-        let reply = calls::undo_told(book).get();
-        if !undoes_on(book.machine(), &reply, stay, further) {
-            return push_undo(text, book.machine().program(), stay.worker, &reply);
+        calls::undo(alloc, book, stay.worker)?;
+        let reply = calls::undo_told(book);
+        if !undoes_on(book.machine(), reply, stay, further) {
+            return push_kept(text, book.machine().program(), stay.worker, reply);
         }
         further -= 1;
     }

@@ -3,8 +3,8 @@ use Rattle.std.proofs.lemmas.Result.{on_ok_weaker}
 use Rattle.om_view.proofs.Bounded.{back_full, back_stops, back_goes_on}
 use Rattle.om_view.proofs.moves.back_within.Goals as goal
 
-pub undo_told-requires : goal.undo_told-requires
-undo_told-requires c = (_, _, c.in_ok-call.ensures)
+pub undo_told-reply-requires : goal.undo_told-reply-requires
+undo_told-reply-requires c = (_, _, c.in_ok-undo.ensures)
 
 pub returns-then-is_full-clause-text : goal.returns-then-is_full-clause-text
 returns-then-is_full-clause-text c =
@@ -19,34 +19,34 @@ returns-then-is_full-clause-after c =
 pub returns-then-not-undoes_on-clause-text : goal.returns-then-not-undoes_on-clause-text
 returns-then-not-undoes_on-clause-text c =
     let room = sym c.is_full.ensures ∙ c.if-is_full.false in
-    let reply = c.get-reply.ensures ∙ c.undo_told.ensures _ _ c.in_ok-call.ensures in
-    let stops = rw (reply, c.machine.ensures.left, c.in_ok-call.ensures) at
+    let reply = c.undo_told-reply.ensures _ _ c.in_ok-undo.ensures in
+    let stops = rw (reply, c.machine.ensures.left, c.in_ok-undo.ensures) at
     (sym c.undoes_on.ensures.on ∙ c.if-not-undoes_on.true) in
     let said = sym c.undos.invariant.said ∙ back_stops _ _ _ _ room stops in
     rw said (rw (
       c.program.ensures,
       c.machine-then-not-undoes_on.ensures.program,
-      c.in_ok-call.ensures,
+      c.in_ok-undo.ensures,
       reply,
       c.undos.invariant.text,
-    ) at c.push_undo.ensures)
+    ) at c.push_kept.ensures)
 
 pub returns-then-not-undoes_on-clause-after : goal.returns-then-not-undoes_on-clause-after
 returns-then-not-undoes_on-clause-after c =
     let room = sym c.is_full.ensures ∙ c.if-is_full.false in
-    let reply = c.get-reply.ensures ∙ c.undo_told.ensures _ _ c.in_ok-call.ensures in
-    let stops = rw (reply, c.machine.ensures.left, c.in_ok-call.ensures) at
+    let reply = c.undo_told-reply.ensures _ _ c.in_ok-undo.ensures in
+    let stops = rw (reply, c.machine.ensures.left, c.in_ok-undo.ensures) at
     (sym c.undoes_on.ensures.on ∙ c.if-not-undoes_on.true) in
     let said = sym c.undos.invariant.said ∙ back_stops _ _ _ _ room stops in
-    rw said (on_ok_weaker c.push_undo.result (λ _. c.in_ok-call.ensures) c.push_undo.ensures)
+    rw said (on_ok_weaker c.push_kept.result (λ _. c.in_ok-undo.ensures) c.push_kept.ensures)
 
 pub undos-preserved : goal.undos-preserved
 undos-preserved c =
     let room = sym c.is_full.ensures ∙ c.if-is_full.false in
-    let reply = c.get-reply.ensures ∙ c.undo_told.ensures _ _ c.in_ok-call.ensures in
-    let on = rw (reply, c.machine.ensures.left, c.in_ok-call.ensures) at
+    let reply = c.undo_told-reply.ensures _ _ c.in_ok-undo.ensures in
+    let on = rw (reply, c.machine.ensures.left, c.in_ok-undo.ensures) at
     (sym c.undoes_on.ensures.on ∙ c.if-not-undoes_on.false) in
-    rw c.in_ok-call.ensures (record {
+    rw c.in_ok-undo.ensures (record {
       said = back_goes_on _ _ _ _ room on ∙ c.undos.invariant.said;
       text = c.undos.invariant.text;
       in_range = c.undos.invariant.in_range;
