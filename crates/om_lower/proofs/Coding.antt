@@ -13,10 +13,9 @@ use Rattle.om_code.specs.declared.raw.Names as raws
 use Rattle.om_code.specs.declared.raw.Slot.{Slot}
 use Rattle.om_lower.specs.Frames.{FitsFrame}
 use Rattle.om_lower.specs.Limits.{AreScopesAt, HasFewSlots, HasManySlots, IsCodeAt, IsOver, long, many_cells, many_slots}
-use Rattle.om_lower.specs.Made.{AddsBody, AddsFunction, AreFunctions, AreListsOf, AreMade, FitsBody, FitsCode}
+use Rattle.om_lower.specs.Made.{AddsBody, AddsFunction, AreFunctions, AreListsOf, AreMade, FitsCode}
 use Rattle.om_lower.specs.Made.{FitsFunction, IsGathered, IsMade}
 use Rattle.om_lower.specs.declared.bodies.Bodies.{Bodies}
-use Rattle.om_lower.specs.declared.bodies.LoweredBody.{LoweredBody}
 use Rattle.om_lower.specs.declared.functions.Lowered.{Lowered}
 use Rattle.om_lower.proofs.Ascending.{body_table}
 use Rattle.om_lower.specs.Once.{site_picks}
@@ -98,25 +97,19 @@ pub over_code : (tree : ResolvedTree) (b : BodySite) → FitsCode tree b None �
 over_code tree b fits = long fits.0 fits.1 fits.2 fits.3
 
 -- or none does
-pub made_body : (tree : ResolvedTree) (b : BodySite) (made : Emitted) (body : LoweredBody) (slots : List Slot)
+pub made_body : (tree : ResolvedTree) (b : BodySite) (made : Emitted) (slots : List Slot)
     (given : List ℕ) (names : raws.Names)
     → FitsFrame (variables_of b) (slots_of b) (Some slots) → FitsCode tree b (Some made)
     → given ≡ given_of b → names ≡ names_with (variables_of b) b.outer made.scopes.items
-    → body.body ≡ record { code = made.code; slots = slots; given = given; names = names } → body.lists.items
-    ≡ made.lists.items
-    → FitsBody tree b (Some body)
-made_body tree b made body slots given names frame fits same named is lists = (
-  subst (λ all. IsMade tree all b body.body) (sym lists)
-      (subst (λ x. IsMade tree made.lists.items b x) (sym is) (record {
-        code = fits.0;
-        slots = frame.0;
-        given = same;
-        names = record { scopes = made.scopes.items; stand = fits.3; named = named };
-        room = record { slots = frame.1; cells = frame.2 };
-        short = fits.1;
-      })),
-  ap (map number_of) lists ∙ fits.2,
-)
+    → IsMade tree made.lists.items b (record { code = made.code; slots = slots; given = given; names = names })
+made_body tree b made slots given names frame fits same named = record {
+  code = fits.0;
+  slots = frame.0;
+  given = same;
+  names = record { scopes = made.scopes.items; stand = fits.3; named = named };
+  room = record { slots = frame.1; cells = frame.2 };
+  short = fits.1;
+}
 
 -- ---- the limits on slots and instructions
 
@@ -216,25 +209,25 @@ listed_on xs ys some more one other =
 
 -- one body more
 pub body_more : (tree : ResolvedTree) (sites : List BodySite) (k : ℕ) (b : BodySite) (lists grown : List PickList)
-    (bodies new : List Body) (body : LoweredBody)
-    → slice_get sites k ≡ Some b → new ≡ bodies ++ body.body ∷ [] → grown ≡ lists ++ body.lists.items
-    → AreMade tree lists (take k sites) bodies → AreListsOf (take k sites) lists → FitsBody tree b (Some body)
+    (bodies new : List Body) (body : Body) (more : List PickList)
+    → slice_get sites k ≡ Some b → new ≡ bodies ++ body ∷ [] → grown ≡ lists ++ more
+    → AreMade tree lists (take k sites) bodies → AreListsOf (take k sites) lists → IsMade tree more b body
+    → map number_of more ≡ site_picks b
     → AreMade tree grown (take (k + 1) sites) new × AreListsOf (take (k + 1) sites) grown
-body_more tree sites k b lists grown bodies new body at added joined made listed fits =
-    let more = body.lists.items in
+body_more tree sites k b lists grown bodies new body more at added joined made listed fits picks_of =
     let before = wider_made tree lists (lists ++ more) (take k sites) bodies
     (λ picks stand. stand_front lists more picks stand) made in
-    let mine = wider_made tree more (lists ++ more) (b ∷ []) (body.body ∷ [])
-    (λ picks stand. stand_behind lists more picks stand) (fits.0, tt) in
+    let mine = wider_made tree more (lists ++ more) (b ∷ []) (body ∷ [])
+    (λ picks stand. stand_behind lists more picks stand) (fits, tt) in
     let next : suc k ≡ k + 1 = omega arith in
     let sites_next : take k sites ++ b ∷ [] ≡ take (k + 1) sites =
     sym (take_pushed sites k b at) ∙ ap (λ i. take i sites) next in (
       subst (λ ls. AreMade tree ls (take (k + 1) sites) new) (sym joined)
-          (zip_pushed (λ b body. IsMade tree (lists ++ more) b body) sites bodies new k b body.body at added before
+          (zip_pushed (λ b body. IsMade tree (lists ++ more) b body) sites bodies new k b body at added before
           mine.0),
       subst (λ ls. AreListsOf (take (k + 1) sites) ls) (sym joined)
           (subst (λ all. AreListsOf all (lists ++ more)) sites_next
-          (listed_on (take k sites) (b ∷ []) lists more listed (fits.1 ∙ sym (append-nil (site_picks b))))),
+          (listed_on (take k sites) (b ∷ []) lists more listed (picks_of ∙ sym (append-nil (site_picks b))))),
     )
 
 -- the same, as a function adds it
@@ -244,7 +237,8 @@ pub body_added : (tree : ResolvedTree) (sites : List BodySite) (k : ℕ) (b : Bo
     → AddsBody tree b old new true
     → AreMade tree new.lists (take (k + 1) sites) new.bodies × AreListsOf (take (k + 1) sites) new.lists
 body_added tree sites k b old new at made adds =
-    body_more tree sites k b old.lists new.lists old.bodies new.bodies adds.0 at adds.2 adds.3 made.0 made.1 adds.1
+    body_more tree sites k b old.lists new.lists old.bodies new.bodies adds.0 adds.1 at adds.4 adds.5
+    made.0 made.1 adds.2 adds.3
 
 pub one_more : (tree : ResolvedTree) (lists grown : List PickList) (functions new : List (List Body)) (k : ℕ)
     (f : ResolvedFunctionTree)

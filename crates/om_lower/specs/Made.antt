@@ -9,7 +9,6 @@ use Rattle.om_code.specs.declared.raw.Names.{Names}
 use Rattle.om_emit.specs.declared.draft.PickList.{PickList}
 use Rattle.om_emit.specs.Settled.{ListsStand, number_of}
 use Rattle.om_lower.specs.declared.bodies.Bodies.{Bodies}
-use Rattle.om_lower.specs.declared.bodies.LoweredBody.{LoweredBody}
 use Rattle.om_lower.specs.declared.functions.Lowered.{Lowered}
 use Rattle.om_lower.specs.declared.functions.Next.{Next}
 use Rattle.om_lower.specs.Heights.{AreLow, IsFirst}
@@ -69,16 +68,12 @@ FitsCode tree b (Some made) = ((picks : List (List ℕ)) → ListsStand made.lis
     × ((picks : List (List ℕ)) → ListsStand made.lists.items picks → AreScopesAt tree picks b made.code
     made.scopes.items)
 
--- a body, if it passes no limit
-abbrev pub FitsBody : ResolvedTree → BodySite → Option LoweredBody → Type 0
-FitsBody tree b None = IsOver tree b
-FitsBody tree b (Some made) = IsMade tree made.lists.items b made.body × (map number_of made.lists.items ≡ site_picks b)
-
--- a body that is put behind others, unless it passes a limit
+-- a body that is put behind others with the lists of the PICKs in it, unless it passes a limit
 abbrev pub AddsBody : ResolvedTree → BodySite → Bodies → Bodies → (fits : Bool) → Type 0
 AddsBody tree b old new false = IsOver tree b
-AddsBody tree b old new true = (body : LoweredBody) × FitsBody tree b (Some body)
-    × (new.bodies ≡ old.bodies ++ body.body ∷ []) × (new.lists ≡ old.lists ++ body.lists.items)
+AddsBody tree b old new true = (body : Body) × (lists : List PickList) × IsMade tree lists b body
+    × (map number_of lists ≡ site_picks b)
+    × (new.bodies ≡ old.bodies ++ body ∷ []) × (new.lists ≡ old.lists ++ lists)
 
 -- bodies, if none passes a limit
 abbrev pub FitsBodies : ResolvedTree → List BodySite → Option Bodies → Type 0

@@ -1,20 +1,11 @@
 -- What is known of a body that is lowered next.
 use Rattle.std.specs.Prelude.{◌≡◌, ◌≤◌, ◌-◌, ℕ, List, Some, length, slice_get}
 use Rattle.om_lower.specs.Limits.{HasFewSlots}
-use Rattle.om_lower.specs.declared.bodies.Known.{Known}
-use Rattle.om_lower.specs.declared.bodies.SeenBody.{SeenBody}
 use Rattle.om_rows.specs.Bodies.{BodySite, variables_of}
 use Rattle.om_rows.specs.Coded.{BodyHasCode}
 use Rattle.om_rows.specs.Mentions.{extents_of}
 use Rattle.om_rows.specs.Slots.{Extent, cells_in}
-use Rattle.om_sights.specs.Sites.{body_in}
 use Rattle.om_rows.specs.Ends.{HasBodyEnds, KnownBodies}
-use Rattle.om_rows.specs.declared.tables.Tables.{Tables}
-use Rattle.om_rows.specs.ProgramTables.{known_of}
-
--- a body, once its variables are known and those of the body round it
-abbrev pub seen_body : SeenBody → BodySite
-seen_body seen = body_in seen.outer.now seen.site.now
 
 -- the variables of a body stand in a table of those of bodies, at its number: the one before those at its begin
 pub record IsListed (slots : List (List ℕ)) (b : BodySite) : Type 0 where
@@ -25,10 +16,6 @@ pub record IsListed (slots : List (List ℕ)) (b : BodySite) : Type 0 where
 pub record IsPlaced (known : KnownBodies) (b : BodySite) : Type 0 where
   pub listed : IsListed known.slots b
   pub regions : HasBodyEnds known b.numbers b.function b.tree
-
--- what is known of bodies, by the tables of their program
-abbrev pub known_with : Tables → Known → KnownBodies
-known_with tables known = known_of tables known.slots.now
 
 -- a body can be lowered, with what is known of bodies and how many cells the variables of its function have
 pub record IsReady (known : KnownBodies) (extents : List Extent) (b : BodySite) : Type 0 where

@@ -1,8 +1,15 @@
 -- Why a resolved tree has no program.
+use Rattle.std.specs.Prelude.{◌≢◌}
+use Rattle.om_lexer.specs.Faults.{no_memory}
 use Rattle.om_lexer.specs.declared.fault.FaultCode.TheVariants.{TooMany}
 use Rattle.om_lexer.specs.declared.fault.SourceFault.{SourceFault}
-use Rattle.om_resolved.specs.ResolvedTree.{ResolvedFunctionTree}
+use Rattle.om_lower.specs.Limits.{IsTooMany}
+use Rattle.om_resolved.specs.ResolvedTree.{ResolvedFunctionTree, ResolvedTree}
 
 -- S11 at the function's name
 abbrev pub too_many : ResolvedFunctionTree → SourceFault
 too_many function = record { code = TooMany; at = function.name_at }
+
+-- a fault that is not for want of memory names the first function that passes a limit
+abbrev pub IsRefusal : ResolvedTree → SourceFault → Type 0
+IsRefusal tree fault = fault ≢ no_memory → IsTooMany tree fault

@@ -2,29 +2,29 @@
 
 ghost use Rattle.std.specs.Prelude.{◌≡◌, ◌≤◌, ◌∷◌, ◌++◌, [], All, Any, IfOk, OnOk, Some, false, length, map, true};
 ghost use Rattle.om_lower.specs.Frames.{FitsFrame};
+ghost use Rattle.om_lower.specs.Inputs.{IsInput, IsSeen, known_bodies, seen_body, seen_tree, tree_of};
 ghost use Rattle.om_lower.specs.Limits.{HasFewSlots, HasManySlots, HasSlots};
-ghost use Rattle.om_lower.specs.Made.{AddsBody, FitsBodies, FitsBody, FitsCode};
-ghost use Rattle.om_lower.specs.Ready.{IsListed, IsReady, known_with, seen_body};
+ghost use Rattle.om_lower.specs.Made.{AddsBody, FitsBodies, FitsCode};
+ghost use Rattle.om_lower.specs.Ready.{IsListed, IsReady};
+ghost use Rattle.om_sights.specs.Regions.{statement_of};
 ghost use Rattle.om_sights.specs.Sites.{bodies_in, body_in, body_round, innermost, part_tree, round_with, variables_at};
-ghost use Rattle.om_resolved.specs.ResolvedView.{view_resolved, view_resolved_clause, view_resolved_function, view_resolved_statement};
+ghost use Rattle.om_resolved.specs.ResolvedView.{view_resolved_clause, view_resolved_function};
 ghost use Rattle.om_rows.specs.Bodies.{region_variables, variables_of};
 ghost use Rattle.om_rows.specs.Code.{captures_of, given_of, slots_of};
-ghost use Rattle.om_rows.specs.Coded.{BodyHasCode};
 ghost use Rattle.om_rows.specs.Slots.{slot_of};
 ghost use Rattle.om_rows.specs.Statements.{given_copies};
-ghost use Rattle.om_rows.specs.Ends.{HasBodyEnds};
-ghost use Rattle.om_rows.specs.ProgramTables.{IsTablesOf};
 
 use crate::body::emitted_in;
 use crate::emitted::Emitted;
 use crate::frames::{SLOT_LIMIT, frame_of};
-use crate::functions::{INSTRUCTION_LIMIT, Whole, is_main};
+use crate::functions::{INSTRUCTION_LIMIT, is_main};
+use crate::input::{Known, SeenBody};
 use crate::names::names_with;
 use om_code::Body;
 use om_code::raw::Slot;
 use om_emit::draft::PickList;
 use om_resolved::Capture;
-use om_rows::{BodyTables, Extents, Region, Variables, copy_slots, given_copies, parameter_slots};
+use om_rows::{BodyTables, Region, Variables, copy_slots, given_copies, parameter_slots};
 use om_seq::Seq;
 use om_sights::{BodyPart, Site, function_variables, region_variables};
 use std::alloc::{AllocError, Global};
@@ -65,6 +65,19 @@ fn add_variables(
     Ok(few)
 }
 
+/// The variables of a body, by their slots.
+fn variables_in(alloc: Global, site: &Site<'_>) -> Result<Variables, AllocError>
+    ensures { let f = view_resolved_function site.now.function.now in
+        IfOk result (λ made. made ≡ variables_at f site.now.part) }
+{
+    match &site.part {
+        BodyPart::Function => function_variables(alloc, site.function),
+        BodyPart::Parallel(region) | BodyPart::Task(region) => {
+            region_variables(alloc, region.clauses, region.statement)
+        }
+    }
+}
+
 /// Bodies, and the lists of the PICKs in them.
 #[derive(Drop)]
 pub(crate) struct Bodies {
@@ -72,50 +85,24 @@ pub(crate) struct Bodies {
     pub(crate) lists: Seq<PickList>,
 }
 
-/// A body, and the lists of the PICKs in it.
-#[derive(Drop)]
-pub(crate) struct LoweredBody {
-    pub(crate) body: Body,
-    pub(crate) lists: Vec<PickList>,
-}
-
-/// What the bodies of a function are lowered with, besides the tables of their program.
-#[derive(Clone, Copy)]
-pub(crate) struct Known<'a> {
-    /// The variables of the first bodies of the program by their numbers, these bodies among them.
-    pub(crate) slots: &'a [Variables],
-    /// How many cells the variables of the function have.
-    pub(crate) extents: &'a Extents,
-}
-
-/// A body that is lowered, with its variables and those of the body round it; a function's own body
-/// has none round it.
-#[derive(Clone, Copy)]
-pub(crate) struct SeenBody<'a> {
-    pub(crate) site: &'a Site<'a>,
-    pub(crate) variables: &'a Variables,
-    pub(crate) outer: &'a Variables,
-}
-
 /// These bodies of a function; `None` where one passes a limit on cells or instructions.
 pub(crate) fn lower_bodies<'a>(
-    whole: &Whole<'_>,
-    known: &Known<'a>,
+    known: &'a Known<'a>,
     sites: &'a [Site<'a>],
 ) -> Result<Option<Bodies>, AllocError>
-    requires tables { IsTablesOf (view_resolved whole.now.resolved.now) whole.now.tables.now }
-    requires ready { All (IsReady (known_with whole.now.tables.now known.now) known.now.extents.now)
-        (bodies_in [] sites.now) }
-    ensures { let tree = view_resolved whole.now.resolved.now in
+    requires given { IsInput known.now.input.now }
+    requires ready { All (IsReady (known_bodies known.now) known.now.extents.now) (bodies_in [] sites.now) }
+    ensures { let tree = tree_of known.now.input.now in
         IfOk result (λ made. FitsBodies tree (bodies_in [] sites.now) made) }
 {
+    let alloc = known.input.alloc;
     let mut made = Bodies {
-        bodies: Seq::new(whole.alloc),
-        lists: Seq::new(whole.alloc),
+        bodies: Seq::new(alloc),
+        lists: Seq::new(alloc),
     };
-    let mut round = Vec::new(whole.alloc);
+    let mut round = Vec::new(alloc);
     for site in sites {
-        if !add_next(&mut made, &mut round, whole, known, site)? {
+        if !add_next(&mut made, &mut round, known, site)? {
             return Ok(None);
         }
     }
@@ -127,30 +114,29 @@ pub(crate) fn lower_bodies<'a>(
 fn add_next<'a>(
     made: &mut Bodies,
     round: &mut Vec<&'a Variables>,
-    whole: &Whole<'_>,
-    known: &Known<'a>,
+    known: &'a Known<'a>,
     site: &'a Site<'a>,
 ) -> Result<bool, AllocError>
-    requires tables { IsTablesOf (view_resolved whole.now.resolved.now) whole.now.tables.now }
-    requires ready { let b = body_round (map (λ one. one.now) round.old.items) site.now in
-        IsReady (known_with whole.now.tables.now known.now) known.now.extents.now b }
-    ensures adds { let tree = view_resolved whole.now.resolved.now in
-        let b = body_round (map (λ one. one.now) round.old.items) site.now in
-        IfOk result (λ fits. AddsBody tree b made.old made.new fits) }
+    requires given { IsInput known.now.input.now }
+    requires ready { IsReady (known_bodies known.now) known.now.extents.now
+        (body_round (map (λ one. one.now) round.old.items) site.now) }
+    ensures adds { let b = body_round (map (λ one. one.now) round.old.items) site.now in
+        IfOk result (λ fits. AddsBody (tree_of known.now.input.now) b made.old made.new fits) }
     ensures round { OnOk result (map (λ one. one.now) round.new.items
         ≡ round_with (map (λ one. one.now) round.old.items) site.now) }
 {
     round.truncate(site.depth);
     let variables = own_variables(known, site);
     let added = {
-        let none = Variables::new(whole.alloc);
+        let none = Variables::new(known.input.alloc);
         let outer = innermost(round.as_slice(), &none);
         let seen = SeenBody {
+            known,
             site,
             variables,
             outer,
         };
-        add_body(made, whole, known, &seen)
+        add_body(made, &seen)
     };
     let fits = added?;
     round.push(variables)?;
@@ -178,104 +164,32 @@ fn own_variables<'a>(known: &Known<'a>, site: &Site<'_>) -> &'a Variables
 }
 
 /// Adds a body; false where it passes a limit on cells or instructions.
-fn add_body(
-    made: &mut Bodies,
-    whole: &Whole<'_>,
-    known: &Known<'_>,
-    seen: &SeenBody<'_>,
-) -> Result<bool, AllocError>
-    requires tables { IsTablesOf (view_resolved whole.now.resolved.now) whole.now.tables.now }
-    requires ready { IsReady (known_with whole.now.tables.now known.now) known.now.extents.now
-        (seen_body seen.now) }
-    requires variables { seen.now.variables.now ≡ variables_of (seen_body seen.now) }
-    ensures { let tree = view_resolved whole.now.resolved.now in
-        IfOk result (λ fits. AddsBody tree (seen_body seen.now) made.old made.new fits) }
+fn add_body(made: &mut Bodies, seen: &SeenBody<'_>) -> Result<bool, AllocError>
+    requires seen { IsSeen seen.now }
+    ensures { let b = seen_body seen.now in
+        IfOk result (λ fits. AddsBody (seen_tree seen.now) b made.old made.new fits) }
 {
-    match lower_body(whole, known, seen)? {
-        None => Ok(false),
-        Some(body) => {
-            put_body(made, body)?;
-            Ok(true)
-        }
-    }
-}
-
-/// Puts a body and its lists behind those that are there.
-fn put_body(made: &mut Bodies, lowered: LoweredBody) -> Result<(), AllocError>
-    ensures bodies { OnOk result (made.new.bodies ≡ made.old.bodies ++ lowered.body ∷ []) }
-    ensures lists { OnOk result (made.new.lists ≡ made.old.lists ++ lowered.lists.items) }
-{
-    let LoweredBody { body, lists } = lowered;
-    made.lists.append(Seq::of(lists))?;
-    made.bodies.push(body)
-}
-
-/// A body; `None` where it passes a limit on cells or instructions.
-fn lower_body(
-    whole: &Whole<'_>,
-    known: &Known<'_>,
-    seen: &SeenBody<'_>,
-) -> Result<Option<LoweredBody>, AllocError>
-    requires tables { IsTablesOf (view_resolved whole.now.resolved.now) whole.now.tables.now }
-    requires ready { IsReady (known_with whole.now.tables.now known.now) known.now.extents.now
-        (seen_body seen.now) }
-    requires variables { seen.now.variables.now ≡ variables_of (seen_body seen.now) }
-    ensures { let tree = view_resolved whole.now.resolved.now in
-        IfOk result (λ made. FitsBody tree (seen_body seen.now) made) }
-{
-    let Some(slots) = frame_in(whole, known, seen)? else {
-        return Ok(None);
+    let Some(slots) = frame_in(seen)? else {
+        return Ok(false);
     };
-    body_on(whole, known, seen, slots)
+    add_with(made, seen, slots)
 }
 
-/// The same, where its slots are made.
-fn body_on(
-    whole: &Whole<'_>,
-    known: &Known<'_>,
-    seen: &SeenBody<'_>,
-    slots: Seq<Slot>,
-) -> Result<Option<LoweredBody>, AllocError>
-    requires tables { IsTablesOf (view_resolved whole.now.resolved.now) whole.now.tables.now }
-    requires code { BodyHasCode (seen_body seen.now).function (seen_body seen.now).tree }
-    requires regions { let b = seen_body seen.now in
-        HasBodyEnds (known_with whole.now.tables.now known.now) b.numbers b.function b.tree }
-    requires slots { FitsFrame (variables_of (seen_body seen.now)) (slots_of (seen_body seen.now))
-        (Some slots) }
-    requires round { length seen.now.outer.now ≤ 256 }
-    requires variables { seen.now.variables.now ≡ variables_of (seen_body seen.now) }
-    ensures { let tree = view_resolved whole.now.resolved.now in
-        IfOk result (λ made. FitsBody tree (seen_body seen.now) made) }
+/// The slots of a body; `None` where it passes a limit.
+fn frame_in(seen: &SeenBody<'_>) -> Result<Option<Seq<Slot>>, AllocError>
+    requires seen { IsSeen seen.now }
+    ensures { let b = seen_body seen.now in
+        IfOk result (λ frame. FitsFrame (variables_of b) (slots_of b) frame) }
 {
-    let Some(emitted) = code_in(whole, known, seen)? else {
-        return Ok(None);
-    };
-    let given = given_in(whole.alloc, seen)?;
-    let Emitted {
-        code,
-        lists,
-        scopes,
-    } = emitted;
-    let names = names_with(whole.alloc, scopes, seen.variables, seen.outer)?;
-    let body = Body {
-        code,
-        slots,
-        given,
-        names,
-    };
-    Ok(Some(LoweredBody { body, lists }))
-}
-
-/// The variables of a body, by their slots.
-fn variables_in(alloc: Global, site: &Site<'_>) -> Result<Variables, AllocError>
-    ensures { let f = view_resolved_function site.now.function.now in
-        IfOk result (λ made. made ≡ variables_at f site.now.part) }
-{
-    match &site.part {
-        BodyPart::Function => function_variables(alloc, site.function),
-        BodyPart::Parallel(region) => region_variables(alloc, region.clauses, region.statement),
-        BodyPart::Task(region) => region_variables(alloc, region.clauses, region.statement),
-    }
+    let captures = captures_in(&seen.site.part);
+    let known = seen.known;
+    frame_of(
+        known.input.alloc,
+        known.extents,
+        seen.outer,
+        captures,
+        seen.variables,
+    )
 }
 
 /// What a body takes from the body round it.
@@ -284,56 +198,63 @@ fn captures_in<'a>(part: &BodyPart<'a>) -> &'a [Capture]
 {
     match part {
         BodyPart::Function => &[],
-        BodyPart::Parallel(region) => region.captures,
-        BodyPart::Task(region) => region.captures,
+        BodyPart::Parallel(region) | BodyPart::Task(region) => region.captures,
     }
 }
 
-/// The slots of a body; `None` where it passes a limit.
-fn frame_in(
-    whole: &Whole<'_>,
-    known: &Known<'_>,
-    seen: &SeenBody<'_>,
-) -> Result<Option<Seq<Slot>>, AllocError>
-    requires ready { IsReady (known_with whole.now.tables.now known.now) known.now.extents.now
-        (seen_body seen.now) }
-    requires variables { seen.now.variables.now ≡ variables_of (seen_body seen.now) }
+/// Adds a body that has these slots; false where it has too many instructions.
+fn add_with(made: &mut Bodies, seen: &SeenBody<'_>, slots: Seq<Slot>) -> Result<bool, AllocError>
+    requires seen { IsSeen seen.now }
+    requires slots { FitsFrame (variables_of (seen_body seen.now)) (slots_of (seen_body seen.now))
+        (Some slots) }
     ensures { let b = seen_body seen.now in
-        IfOk result (λ frame. FitsFrame (variables_of b) (slots_of b) frame) }
+        IfOk result (λ fits. AddsBody (seen_tree seen.now) b made.old made.new fits) }
 {
-    frame_of(
-        whole.alloc,
-        known.extents,
-        seen.outer,
-        captures_in(&seen.site.part),
-        seen.variables,
-    )
+    let Some(emitted) = code_in(seen)? else {
+        return Ok(false);
+    };
+    let given = given_in(seen)?;
+    let Emitted {
+        code,
+        lists,
+        scopes,
+    } = emitted;
+    let names = names_with(seen.known.input.alloc, scopes, seen.variables, seen.outer)?;
+    let body = Body {
+        code,
+        slots,
+        given,
+        names,
+    };
+    put_body(made, body, lists)?;
+    Ok(true)
+}
+
+/// Puts a body and its lists behind those that are there.
+fn put_body(made: &mut Bodies, body: Body, lists: Vec<PickList>) -> Result<(), AllocError>
+    ensures bodies { OnOk result (made.new.bodies ≡ made.old.bodies ++ body ∷ []) }
+    ensures lists { OnOk result (made.new.lists ≡ made.old.lists ++ lists.items) }
+{
+    made.lists.append(Seq::of(lists))?;
+    made.bodies.push(body)
 }
 
 /// The code of a body; `None` where it has too many instructions.
-fn code_in(
-    whole: &Whole<'_>,
-    known: &Known<'_>,
-    seen: &SeenBody<'_>,
-) -> Result<Option<Emitted>, AllocError>
-    requires tables { IsTablesOf (view_resolved whole.now.resolved.now) whole.now.tables.now }
-    requires code { BodyHasCode (seen_body seen.now).function (seen_body seen.now).tree }
-    requires regions { let b = seen_body seen.now in
-        HasBodyEnds (known_with whole.now.tables.now known.now) b.numbers b.function b.tree }
-    requires few { HasFewSlots (seen_body seen.now) }
-    requires variables { seen.now.variables.now ≡ variables_of (seen_body seen.now) }
-    ensures { let tree = view_resolved whole.now.resolved.now in
-        IfOk result (λ code. FitsCode tree (seen_body seen.now) code) }
+fn code_in(seen: &SeenBody<'_>) -> Result<Option<Emitted>, AllocError>
+    requires seen { IsSeen seen.now }
+    ensures { IfOk result (λ code. FitsCode (seen_tree seen.now) (seen_body seen.now) code) }
 {
+    let known = seen.known;
+    let input = known.input;
     let is_main = is_main(seen.site.function);
-    let body_tables = BodyTables::new(
-        whole.resolved,
-        whole.tables,
+    let tables = BodyTables::new(
+        input.resolved,
+        input.tables,
         known.slots,
         seen.variables,
         is_main,
     );
-    let emitted = emitted_in(whole.alloc, &body_tables, seen.site)?;
+    let emitted = emitted_in(input.alloc, &tables, seen.site)?;
     if emitted.code.len() > INSTRUCTION_LIMIT {
         return Ok(None);
     }
@@ -341,18 +262,19 @@ fn code_in(
 }
 
 /// The slots that the values go to with which a frame of a body begins.
-fn given_in(alloc: Global, seen: &SeenBody<'_>) -> Result<Seq<u32>, AllocError>
-    requires few { HasFewSlots (seen_body seen.now) }
-    requires variables { seen.now.variables.now ≡ variables_of (seen_body seen.now) }
+fn given_in(seen: &SeenBody<'_>) -> Result<Seq<u32>, AllocError>
+    requires seen { IsSeen seen.now }
     ensures { IfOk result (λ slots. slots ≡ given_of (seen_body seen.now)) }
 {
+    let alloc = seen.known.input.alloc;
     let site = seen.site;
     match &site.part {
         BodyPart::Function => {
             parameter_slots(alloc, seen.variables, site.function.parameters.as_slice())
         }
-        BodyPart::Parallel(region) => copies_given(alloc, region, seen.variables),
-        BodyPart::Task(region) => copies_given(alloc, region, seen.variables),
+        BodyPart::Parallel(region) | BodyPart::Task(region) => {
+            copies_given(alloc, region, seen.variables)
+        }
     }
 }
 
@@ -364,11 +286,9 @@ fn copies_given(
 ) -> Result<Seq<u32>, AllocError>
     requires few { length variables.now ≤ 256 }
     requires variables { let clauses = map view_resolved_clause region.now.clauses.now in
-        let statement = view_resolved_statement region.now.statement.now in
-        variables.now ≡ region_variables clauses statement }
+        variables.now ≡ region_variables clauses (statement_of region.now) }
     ensures { let clauses = map view_resolved_clause region.now.clauses.now in
-        let statement = view_resolved_statement region.now.statement.now in
-        let copies = given_copies clauses region.now.captures.now statement in
+        let copies = given_copies clauses region.now.captures.now (statement_of region.now) in
         IfOk result (λ slots. slots
         ≡ map (slot_of variables.now) (map (λ copy. copy.variable) copies)) }
 {

@@ -1,35 +1,28 @@
 //! The bodies of functions, each within its limits.
 
 ghost use Rattle.std.specs.Prelude.{◌≡◌, ◌<◌, ◌∷◌, ◌++◌, [], All, IfOk, OnOk, Some, length, slice_get, true};
+ghost use Rattle.om_lower.specs.Inputs.{IsInput, known_bodies, tree_of};
 ghost use Rattle.om_lower.specs.Made.{AddsFunction, AddsSlots, IsGathered, IsNext, next_function, next_numbers};
 ghost use Rattle.om_lower.specs.Ready.{IsReady};
 ghost use Rattle.om_sights.specs.Sites.{bodies_in};
-ghost use Rattle.om_resolved.specs.ResolvedView.{view_resolved, view_resolved_function};
+ghost use Rattle.om_resolved.specs.ResolvedView.{view_resolved_function};
 ghost use Rattle.om_resolved.specs.Uses.{is_main_function};
 ghost use Rattle.om_rows.specs.Bodies.{function_bodies};
-ghost use Rattle.om_rows.specs.Coded.{TreeHasCode};
 ghost use Rattle.om_rows.specs.Numbering.{numbers_of};
-ghost use Rattle.om_rows.specs.ProgramTables.{IsTablesOf, ends_in, known_of};
+ghost use Rattle.om_rows.specs.ProgramTables.{ends_in};
 
-use crate::bodies::{Bodies, Known, add_slots, lower_bodies};
+use crate::bodies::{Bodies, add_slots, lower_bodies};
+use crate::input::{Input, Known};
 use om_code::Body;
 use om_emit::draft::PickList;
-use om_resolved::{Resolved, ResolvedFunction};
+use om_resolved::ResolvedFunction;
 use om_rows::{Extents, Numbers, Tables, Variables};
 use om_seq::Seq;
 use om_sights::{Site, sites_of};
-use std::alloc::{AllocError, Global};
+use std::alloc::AllocError;
 
 /// How many instructions a body may have.
 pub const INSTRUCTION_LIMIT: usize = 65_536;
-
-/// A program that is lowered: its tree, and the tables of that.
-#[derive(Drop)]
-pub(crate) struct Whole<'a> {
-    pub(crate) alloc: Global,
-    pub(crate) resolved: &'a Resolved,
-    pub(crate) tables: &'a Tables,
-}
 
 /// The bodies of functions, function by function, up to the first function that passes a limit.
 #[derive(Drop)]
@@ -56,20 +49,19 @@ pub(crate) struct Placed {
 
 /// The bodies of all functions, or of those before the first that passes a limit on slots, cells or
 /// instructions.
-pub(crate) fn lower_functions(whole: &Whole<'_>) -> Result<Lowered, AllocError>
-    requires tables { IsTablesOf (view_resolved whole.now.resolved.now) whole.now.tables.now }
-    requires has_code { TreeHasCode (view_resolved whole.now.resolved.now) }
-    ensures { let tree = view_resolved whole.now.resolved.now in
+pub(crate) fn lower_functions(input: &Input<'_>) -> Result<Lowered, AllocError>
+    requires given { IsInput input.now }
+    ensures { let tree = tree_of input.now in
         IfOk result (λ made. IsGathered tree made.lists made.count made.functions made.is_whole) }
 {
     let mut lowered = Lowered {
-        functions: Seq::new(whole.alloc),
-        lists: Seq::new(whole.alloc),
+        functions: Seq::new(input.alloc),
+        lists: Seq::new(input.alloc),
         count: 0,
         is_whole: true,
     };
-    let mut slots = Vec::new(whole.alloc);
-    add_functions(&mut lowered, &mut slots, whole)?;
+    let mut slots = Vec::new(input.alloc);
+    add_functions(&mut lowered, &mut slots, input)?;
     Ok(lowered)
 }
 
@@ -86,31 +78,29 @@ pub(crate) struct Next<'a> {
 fn add_functions(
     lowered: &mut Lowered,
     slots: &mut Vec<Variables>,
-    whole: &Whole<'_>,
+    input: &Input<'_>,
 ) -> Result<(), AllocError>
-    requires tables { IsTablesOf (view_resolved whole.now.resolved.now) whole.now.tables.now }
-    requires has_code { TreeHasCode (view_resolved whole.now.resolved.now) }
+    requires given { IsInput input.now }
     requires functions { lowered.old.functions ≡ [] }
     requires lists { lowered.old.lists ≡ [] }
     requires slots { slots.old.items ≡ [] }
-    ensures { let tree = view_resolved whole.now.resolved.now in
+    ensures { let made = lowered.new in
         OnOk result
-        (IsGathered tree lowered.new.lists lowered.new.count lowered.new.functions
-        lowered.new.is_whole) }
+        (IsGathered (tree_of input.now) made.lists made.count made.functions made.is_whole) }
 {
     let mut numbers = Numbers::first();
-    for (index, function) in whole.resolved.functions.as_slice().iter().enumerate() {
+    for (index, function) in input.resolved.functions.as_slice().iter().enumerate() {
         let next = Next {
             function,
-            extents: extents_at(whole.tables, index),
+            extents: extents_at(input.tables, index),
             numbers,
         };
-        if !add_function(lowered, slots, whole, &next)? {
+        if !add_function(lowered, slots, input, &next)? {
             lowered.count = numbers.picks;
             lowered.is_whole = false;
             return Ok(());
         }
-        numbers = numbers_behind(whole.tables, numbers.bodies);
+        numbers = numbers_behind(input.tables, numbers.bodies);
     }
     lowered.count = numbers.picks;
     lowered.is_whole = true;
@@ -137,46 +127,46 @@ fn numbers_behind(tables: &Tables, body: u32) -> Numbers
 fn add_function(
     lowered: &mut Lowered,
     slots: &mut Vec<Variables>,
-    whole: &Whole<'_>,
+    input: &Input<'_>,
     next: &Next<'_>,
 ) -> Result<bool, AllocError>
-    requires tables { IsTablesOf (view_resolved whole.now.resolved.now) whole.now.tables.now }
-    requires next { IsNext whole.now.tables.now slots.old.items next.now }
-    ensures adds { let tree = view_resolved whole.now.resolved.now in
+    requires given { IsInput input.now }
+    requires next { IsNext input.now.tables.now slots.old.items next.now }
+    ensures adds { let tree = tree_of input.now in
         IfOk result (λ fits. AddsFunction tree (next_numbers next.now) (next_function next.now)
         lowered.old lowered.new fits) }
     ensures slots { IfOk result (λ fits. fits ≡ true →
         AddsSlots (next_numbers next.now) (next_function next.now) slots.old.items slots.new.items) }
 {
-    let sites = sites_of(whole.alloc, next.function, next.numbers)?;
-    if !add_slots(slots, whole.alloc, sites.as_slice())? {
+    let sites = sites_of(input.alloc, next.function, next.numbers)?;
+    if !add_slots(slots, input.alloc, sites.as_slice())? {
         return Ok(false);
     }
-    add_bodies(lowered, slots.as_slice(), whole, next, sites.as_slice())
+    let known = Known {
+        input,
+        slots: slots.as_slice(),
+        extents: next.extents,
+    };
+    add_bodies(lowered, &known, next, sites.as_slice())
 }
 
 /// The same, where the function's bodies are found and none has too many slots.
 fn add_bodies<'a>(
     lowered: &mut Lowered,
-    slots: &'a [Variables],
-    whole: &Whole<'_>,
+    known: &'a Known<'a>,
     next: &Next<'a>,
     sites: &'a [Site<'a>],
 ) -> Result<bool, AllocError>
-    requires tables { IsTablesOf (view_resolved whole.now.resolved.now) whole.now.tables.now }
+    requires given { IsInput known.now.input.now }
     requires sites { bodies_in [] sites.now
         ≡ function_bodies (next_numbers next.now) (next_function next.now) }
-    requires ready { All (IsReady (known_of whole.now.tables.now slots.now) next.now.extents.now)
+    requires ready { All (IsReady (known_bodies known.now) known.now.extents.now)
         (function_bodies (next_numbers next.now) (next_function next.now)) }
-    ensures { let tree = view_resolved whole.now.resolved.now in
+    ensures { let tree = tree_of known.now.input.now in
         IfOk result (λ fits. AddsFunction tree (next_numbers next.now) (next_function next.now)
         lowered.old lowered.new fits) }
 {
-    let known = Known {
-        slots,
-        extents: next.extents,
-    };
-    match lower_bodies(whole, &known, sites)? {
+    match lower_bodies(known, sites)? {
         None => Ok(false),
         Some(bodies) => {
             put_function(lowered, bodies)?;

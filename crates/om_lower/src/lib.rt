@@ -9,6 +9,7 @@ mod emitted;
 mod frames;
 mod functions;
 mod heights;
+mod input;
 pub mod laws;
 mod lists;
 mod lowering;

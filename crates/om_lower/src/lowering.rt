@@ -2,19 +2,20 @@
 
 ghost use Rattle.std.specs.Prelude.{◌≡◌, ◌≢◌, ◌<◌, IfErr, IfOk, IfSome, OnOk, None, length};
 ghost use Rattle.om_lexer.specs.Faults.{no_memory};
+ghost use Rattle.om_lower.specs.Inputs.{IsInput, tree_of};
 ghost use Rattle.om_lower.specs.Limits.{AreWithin, IsTooMany};
 ghost use Rattle.om_lower.specs.Made.{IsLowered, IsOverAt};
-ghost use Rattle.om_lower.specs.Refusals.{too_many};
+ghost use Rattle.om_lower.specs.Refusals.{IsRefusal, too_many};
 ghost use Rattle.om_rows.specs.MeaningLaws.{KeepsMeaning};
 ghost use Rattle.om_resolved.specs.Beside.{TreeAtomicsAssign, TreeCopiesBehind};
 ghost use Rattle.om_resolved.specs.ResolvedView.{view_resolved, view_resolved_function};
 ghost use Rattle.om_resolved.specs.Whole.{IsWholeTree};
 ghost use Rattle.om_rows.specs.Code.{IsCodeOf};
 ghost use Rattle.om_rows.specs.Coded.{TreeHasCode};
-ghost use Rattle.om_rows.specs.ProgramTables.{IsTablesOf};
 
-use crate::functions::{Lowered, Placed, Whole, lower_functions};
+use crate::functions::{Lowered, Placed, lower_functions};
 use crate::heights::first_high;
+use crate::input::Input;
 use crate::laws::each_once;
 use crate::lists::joined;
 use crate::program::program_of;
@@ -61,11 +62,10 @@ fn lower_tree(alloc: Global, resolved: &Resolved) -> Result<Program, SourceFault
     requires copies { TreeCopiesBehind (view_resolved resolved.now) }
     ensures code { IfOk result (λ program. IsCodeOf (view_resolved resolved.now) program) }
     ensures within { OnOk result (AreWithin (view_resolved resolved.now)) }
-    ensures refused { let tree = view_resolved resolved.now in
-        IfErr result (λ fault. fault ≢ no_memory → IsTooMany tree fault) }
+    ensures refused { IfErr result (IsRefusal (view_resolved resolved.now)) }
 {
     let tables = tables_of(alloc, resolved)?;
-    lower_whole(&Whole {
+    lower_input(&Input {
         alloc,
         resolved,
         tables: &tables,
@@ -73,55 +73,31 @@ fn lower_tree(alloc: Global, resolved: &Resolved) -> Result<Program, SourceFault
 }
 
 /// The same, where its tables are made.
-fn lower_whole(whole: &Whole<'_>) -> Result<Program, SourceFault>
-    requires tables { IsTablesOf (view_resolved whole.now.resolved.now) whole.now.tables.now }
-    requires whole { IsWholeTree (view_resolved whole.now.resolved.now) }
-    requires has_code { TreeHasCode (view_resolved whole.now.resolved.now) }
-    requires copies { TreeCopiesBehind (view_resolved whole.now.resolved.now) }
-    ensures code { let tree = view_resolved whole.now.resolved.now in
-        IfOk result (λ program. IsCodeOf tree program) }
-    ensures within { OnOk result (AreWithin (view_resolved whole.now.resolved.now)) }
-    ensures refused { let tree = view_resolved whole.now.resolved.now in
-        IfErr result (λ fault. fault ≢ no_memory → IsTooMany tree fault) }
+fn lower_input(input: &Input<'_>) -> Result<Program, SourceFault>
+    requires given { IsInput input.now }
+    ensures code { IfOk result (λ program. IsCodeOf (tree_of input.now) program) }
+    ensures within { OnOk result (AreWithin (tree_of input.now)) }
+    ensures refused { IfErr result (IsRefusal (tree_of input.now)) }
 {
-    let placed = placed_functions(whole)?;
-    program_within(whole, placed)
-}
-
-/// The same, where the bodies of its functions are made.
-fn program_within(whole: &Whole<'_>, placed: Placed) -> Result<Program, SourceFault>
-    requires tables { IsTablesOf (view_resolved whole.now.resolved.now) whole.now.tables.now }
-    requires whole { IsWholeTree (view_resolved whole.now.resolved.now) }
-    requires has_code { TreeHasCode (view_resolved whole.now.resolved.now) }
-    requires copies { TreeCopiesBehind (view_resolved whole.now.resolved.now) }
-    requires lowered { let tree = view_resolved whole.now.resolved.now in
-        IsLowered tree placed.picks placed.functions placed.is_whole }
-    ensures code { let tree = view_resolved whole.now.resolved.now in
-        IfOk result (λ program. IsCodeOf tree program) }
-    ensures within { OnOk result (AreWithin (view_resolved whole.now.resolved.now)) }
-    ensures refused { let tree = view_resolved whole.now.resolved.now in
-        IfErr result (λ fault. fault ≢ no_memory → IsTooMany tree fault) }
-{
-    within_limits(whole, &placed)?;
-    program_of(whole, placed)
+    let placed = placed_functions(input)?;
+    within_limits(input, &placed)?;
+    program_of(input, placed)
 }
 
 /// The bodies of functions, with the lists of all PICKs in them at their numbers.
-fn placed_functions(whole: &Whole<'_>) -> Result<Placed, AllocError>
-    requires tables { IsTablesOf (view_resolved whole.now.resolved.now) whole.now.tables.now }
-    requires has_code { TreeHasCode (view_resolved whole.now.resolved.now) }
-    ensures { let tree = view_resolved whole.now.resolved.now in
+fn placed_functions(input: &Input<'_>) -> Result<Placed, AllocError>
+    requires given { IsInput input.now }
+    ensures { let tree = tree_of input.now in
         IfOk result (λ placed. IsLowered tree placed.picks placed.functions placed.is_whole) }
 {
     each_once();
-    let lowered = lower_functions(whole)?;
     let Lowered {
         functions,
         lists,
         count,
         is_whole,
-    } = lowered;
-    let picks = joined(whole.alloc, count, lists.into_vec())?;
+    } = lower_functions(input)?;
+    let picks = joined(input.alloc, count, lists.into_vec())?;
     Ok(Placed {
         functions,
         picks,
@@ -130,32 +106,31 @@ fn placed_functions(whole: &Whole<'_>) -> Result<Placed, AllocError>
 }
 
 /// S11 at the name of the first function that passes a limit, if one does.
-fn within_limits(whole: &Whole<'_>, placed: &Placed) -> Result<(), SourceFault>
-    requires lowered { let tree = view_resolved whole.now.resolved.now in
-        IsLowered tree placed.now.picks placed.now.functions placed.now.is_whole }
+fn within_limits(input: &Input<'_>, placed: &Placed) -> Result<(), SourceFault>
+    requires lowered { let made = placed.now in
+        IsLowered (tree_of input.now) made.picks made.functions made.is_whole }
     ensures low { OnOk result
         (IsOverAt placed.now.picks placed.now.functions placed.now.is_whole None) }
-    ensures refused { let tree = view_resolved whole.now.resolved.now in
-        IfErr result (λ fault. fault ≢ no_memory → IsTooMany tree fault) }
+    ensures refused { IfErr result (IsRefusal (tree_of input.now)) }
 {
-    let Some(index) = over_at(whole, placed)? else {
+    let Some(index) = over_at(input, placed)? else {
         return Ok(());
     };
-    Err(too_many(&whole.resolved.functions.as_slice()[index]))
+    Err(too_many(&input.resolved.functions.as_slice()[index]))
 }
 
 /// The first function that passes a limit, if one does.
-fn over_at(whole: &Whole<'_>, placed: &Placed) -> Result<Option<usize>, AllocError>
-    requires { let tree = view_resolved whole.now.resolved.now in
-        IsLowered tree placed.now.picks placed.now.functions placed.now.is_whole }
+fn over_at(input: &Input<'_>, placed: &Placed) -> Result<Option<usize>, AllocError>
+    requires { let made = placed.now in
+        IsLowered (tree_of input.now) made.picks made.functions made.is_whole }
     ensures over { IfOk result
         (λ index. IsOverAt placed.now.picks placed.now.functions placed.now.is_whole index) }
-    ensures within { let count = length whole.now.resolved.now.functions.items in
+    ensures within { let count = length input.now.resolved.now.functions.items in
         IfOk result (λ index. IfSome index (λ index. index < count)) }
 {
     body_is_level();
     let functions = placed.functions.as_slice();
-    if let Some(index) = first_high(whole.alloc, placed.picks.as_slice(), functions)? {
+    if let Some(index) = first_high(input.alloc, placed.picks.as_slice(), functions)? {
         return Ok(Some(index));
     }
     if placed.is_whole {

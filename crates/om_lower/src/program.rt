@@ -4,19 +4,17 @@ ghost use Rattle.std.specs.Prelude.{◌≡◌, ◌<◌, All, Any, IfErr, IfOk, I
 ghost use Rattle.std.specs.List.{AllZip, flat_map};
 ghost use Rattle.om_lexer.specs.Faults.{no_memory};
 ghost use Rattle.om_lower.specs.Heights.{AreLow};
+ghost use Rattle.om_lower.specs.Inputs.{IsInput, tree_of};
 ghost use Rattle.om_lower.specs.Made.{IsLowered};
-ghost use Rattle.om_resolved.specs.Beside.{TreeCopiesBehind};
 ghost use Rattle.om_resolved.specs.Formats.{pieces_of};
 ghost use Rattle.om_resolved.specs.ResolvedView.{view_resolved, view_resolved_function};
 ghost use Rattle.om_resolved.specs.Uses.{is_main_function};
-ghost use Rattle.om_resolved.specs.Whole.{IsWholeTree};
 ghost use Rattle.om_rows.specs.Bodies.{called_body};
 ghost use Rattle.om_rows.specs.Code.{IsCodeOf, global_of};
-ghost use Rattle.om_rows.specs.Coded.{TreeHasCode};
 ghost use Rattle.om_rows.specs.Mentions.{IsTextOf};
-ghost use Rattle.om_rows.specs.ProgramTables.{IsTablesOf};
 
-use crate::functions::{Placed, Whole, is_main};
+use crate::functions::{Placed, is_main};
+use crate::input::Input;
 use crate::texts::text_of;
 use om_code::raw::{self, Piece};
 use om_code::{Body, Program, Raw};
@@ -30,45 +28,38 @@ use std::alloc::{AllocError, Global};
 /// The program of a tree, whose functions have these bodies.
 ///
 /// Its only refusal is out of memory.
-pub(crate) fn program_of(whole: &Whole<'_>, placed: Placed) -> Result<Program, SourceFault>
-    requires tables { IsTablesOf (view_resolved whole.now.resolved.now) whole.now.tables.now }
-    requires whole { IsWholeTree (view_resolved whole.now.resolved.now) }
-    requires has_code { TreeHasCode (view_resolved whole.now.resolved.now) }
-    requires copies { TreeCopiesBehind (view_resolved whole.now.resolved.now) }
-    requires lowered { IsLowered (view_resolved whole.now.resolved.now) placed.picks
-        placed.functions true }
+pub(crate) fn program_of(input: &Input<'_>, placed: Placed) -> Result<Program, SourceFault>
+    requires given { IsInput input.now }
+    requires lowered { IsLowered (tree_of input.now) placed.picks placed.functions true }
     requires low { All (λ bodies. AreLow placed.picks bodies) placed.functions }
-    ensures code { IfOk result
-        (λ program. IsCodeOf (view_resolved whole.now.resolved.now) program) }
+    ensures code { IfOk result (λ program. IsCodeOf (tree_of input.now) program) }
     ensures refused { IfErr result (λ fault. fault ≡ no_memory) }
 {
     code_is_valid();
-    let raw = raw_of(whole, placed)?;
+    let raw = raw_of(input, placed)?;
     Ok(Program::of(raw))
 }
 
 /// The code of a program, in one value.
-fn raw_of(whole: &Whole<'_>, placed: Placed) -> Result<Raw, AllocError>
-    requires tables { IsTablesOf (view_resolved whole.now.resolved.now) whole.now.tables.now }
-    requires has_code { TreeHasCode (view_resolved whole.now.resolved.now) }
-    requires lowered { IsLowered (view_resolved whole.now.resolved.now) placed.picks
-        placed.functions true }
-    ensures code { IfOk result (λ raw. IsCodeOf (view_resolved whole.now.resolved.now) raw) }
+fn raw_of(input: &Input<'_>, placed: Placed) -> Result<Raw, AllocError>
+    requires given { IsInput input.now }
+    requires lowered { IsLowered (tree_of input.now) placed.picks placed.functions true }
+    ensures code { IfOk result (λ raw. IsCodeOf (tree_of input.now) raw) }
     ensures bodies { IfOk result
         (λ raw. raw.bodies ≡ flat_map (λ bodies. bodies) placed.functions) }
     ensures picks { IfOk result (λ raw. raw.picks ≡ placed.picks) }
 {
-    let alloc = whole.alloc;
+    let alloc = input.alloc;
     let Placed {
         functions,
         picks,
         ..
     } = placed;
     let bodies = flattened(alloc, functions)?;
-    let globals = copy_globals(alloc, whole.resolved.globals.as_slice())?;
-    let texts = texts_of(alloc, &whole.tables.formats)?;
-    let locks = copy_texts(alloc, &whole.tables.locks)?;
-    let main = main_body(whole);
+    let globals = copy_globals(alloc, input.resolved.globals.as_slice())?;
+    let texts = texts_of(alloc, &input.tables.formats)?;
+    let locks = copy_texts(alloc, &input.tables.locks)?;
+    let main = main_body(input);
     Ok(Raw {
         globals,
         bodies,
@@ -169,17 +160,14 @@ fn copy_global(alloc: Global, global: &GlobalVariable) -> Result<raw::GlobalVari
 }
 
 /// The number of the body of `main`.
-fn main_body(whole: &Whole<'_>) -> u32
-    requires tables { IsTablesOf (view_resolved whole.now.resolved.now) whole.now.tables.now }
-    requires main { let tree = view_resolved whole.now.resolved.now in
-        Any (λ function. is_main_function function ≡ true) tree.functions }
-    ensures { let tree = view_resolved whole.now.resolved.now in
-        option_map (called_body tree.functions) (position is_main_function tree.functions)
-        ≡ Some result }
+fn main_body(input: &Input<'_>) -> u32
+    requires given { IsInput input.now }
+    ensures { let functions = (tree_of input.now).functions in
+        option_map (called_body functions) (position is_main_function functions) ≡ Some result }
 {
-    let main = main_of(whole.resolved);
-    let variables = Variables::new(whole.alloc);
-    let body_tables = BodyTables::new(whole.resolved, whole.tables, &[], &variables, true);
+    let main = main_of(input.resolved);
+    let variables = Variables::new(input.alloc);
+    let body_tables = BodyTables::new(input.resolved, input.tables, &[], &variables, true);
     body_tables.called_body(main)
 }
 

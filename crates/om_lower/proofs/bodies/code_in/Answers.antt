@@ -1,14 +1,13 @@
 use Rattle.std.proofs.Common.{rules, ℕ, List}
 use Rattle.om_emit.specs.Settled.{ListsStand}
+use Rattle.om_lower.specs.Inputs.{seen_body, seen_tree}
 use Rattle.om_lower.specs.Limits.{IsCodeAt}
-use Rattle.om_lower.specs.Ready.{seen_body}
 use Rattle.om_lower.proofs.Coding.{code_at, over_limit, too_long}
-use Rattle.om_resolved.specs.ResolvedView.{view_resolved}
 use Rattle.om_lower.proofs.bodies.code_in.Goals as goal
 
 pub returns-then-len-gt-INSTRUCTION_LIMIT : goal.returns-then-len-gt-INSTRUCTION_LIMIT
 returns-then-len-gt-INSTRUCTION_LIMIT c =
-    let tree = view_resolved c.args.whole.now.resolved.now in
+    let tree = seen_tree c.args.seen.now in
     let b = seen_body c.args.seen.now in
     let made = c.in_ok-emitted.emitted in
     let stands : (picks : List (List ℕ)) → ListsStand made.lists.items picks → IsCodeAt tree picks b made.code =

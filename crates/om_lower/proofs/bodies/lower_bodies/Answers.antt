@@ -1,19 +1,19 @@
 use Rattle.std.proofs.Common.{[], ap, sym, subst, take, ◌∙◌}
+use Rattle.om_lower.specs.Inputs.{known_bodies, tree_of}
 use Rattle.om_lower.specs.Limits.{IsOver}
 use Rattle.om_lower.specs.Made.{AddsBody, AreListsOf, AreMade}
-use Rattle.om_lower.specs.Ready.{IsReady, known_with}
+use Rattle.om_lower.specs.Ready.{IsReady}
 use Rattle.om_sights.specs.Sites.{bodies_in, body_round, round_behind, round_with}
 use Rattle.om_lower.proofs.Items.{all_at, any_at}
 use Rattle.om_lower.proofs.Coding.{body_added}
 use Rattle.om_lower.proofs.SiteBodies.{adds_round, round_next, site_at, taken_bodies}
-use Rattle.om_resolved.specs.ResolvedView.{view_resolved}
 use Rattle.om_lower.proofs.bodies.lower_bodies.Goals as goal
 
 pub add_next-requires-clause-ready : goal.add_next-requires-clause-ready
 add_next-requires-clause-ready c =
     let sites = c.args.sites.now in
     let round = round_behind [] (take c.loop-site.site-index sites) in
-    let known = known_with c.args.whole.now.tables.now c.args.known.now in
+    let known = known_bodies c.args.known.now in
     subst (λ all. IsReady known c.args.known.now.extents.now (body_round all c.site-item.result))
     (sym c.loop-site.invariant.2)
     (all_at (IsReady known c.args.known.now.extents.now) (bodies_in [] sites) c.loop-site.site-index
@@ -22,7 +22,7 @@ add_next-requires-clause-ready c =
 
 pub returns-then-not-branch : goal.returns-then-not-branch
 returns-then-not-branch c =
-    let tree = view_resolved c.args.whole.now.resolved.now in
+    let tree = tree_of c.args.known.now.input.now in
     let sites = c.args.sites.now in
     let b = body_round (round_behind [] (take c.loop-site.site-index sites)) c.site-item.result in
     any_at (λ b. IsOver tree b) (bodies_in [] sites) c.loop-site.site-index b
@@ -33,7 +33,7 @@ returns-then-not-branch c =
 
 pub loop-site-preserved : goal.loop-site-preserved
 loop-site-preserved c =
-    let tree = view_resolved c.args.whole.now.resolved.now in
+    let tree = tree_of c.args.known.now.input.now in
     let sites = c.args.sites.now in
     let site = c.site-item.result in
     let round = round_behind [] (take c.loop-site.site-index sites) in
@@ -52,7 +52,7 @@ loop-site-preserved c =
 
 pub returns : goal.returns
 returns c =
-    let tree = view_resolved c.args.whole.now.resolved.now in
+    let tree = tree_of c.args.known.now.input.now in
     let all = taken_bodies c.args.sites.now c.loop-site.site-index c.loop-site-test.false in (
       subst (λ sites. AreMade tree c.loop-site.made.lists sites c.loop-site.made.bodies) all c.loop-site.invariant.0,
       subst (λ sites. AreListsOf sites c.loop-site.made.lists) all c.loop-site.invariant.1,

@@ -1,6 +1,7 @@
 use Rattle.std.proofs.Common.{◌≡◌, All, Some, ap, map, slice_get, subst, sym, ◌∙◌}
+use Rattle.om_lower.specs.Inputs.{tree_of}
 use Rattle.om_lower.specs.Made.{AddsFunction}
-use Rattle.om_resolved.specs.ResolvedView.{view_resolved, view_resolved_function}
+use Rattle.om_resolved.specs.ResolvedView.{view_resolved_function}
 use Rattle.om_rows.specs.Bodies.{first_numbers, function_bodies}
 use Rattle.om_rows.specs.Coded.{BodyHasCode}
 use Rattle.om_rows.specs.Numbering.{numbers_of}
@@ -13,8 +14,8 @@ use Rattle.om_lower.proofs.functions.add_functions.Goals as goal
 
 pub extents_at-requires : goal.extents_at-requires
 extents_at-requires c =
-    let tree = view_resolved c.args.whole.now.resolved.now in
-    let tables = c.args.whole.now.tables.now in
+    let tree = tree_of c.args.input.now in
+    let tables = c.args.input.now.tables.now in
     let f = view_resolved_function c.function-item.result in
     let n = numbers_of c.loop-index.numbers in
     let there : slice_get tree.functions c.loop-index.index ≡ Some f =
@@ -22,12 +23,12 @@ extents_at-requires c =
     c.as_slice-function-items.ensures.value
     (item_at view_resolved_function c.as_slice-function-items.result.now c.loop-index.index c.function-item.result
     c.loop-index-test.true c.function-item.is) in
-    extents_there tree.functions tables.extents.items c.loop-index.index f c.requires.tables.cells there
+    extents_there tree.functions tables.extents.items c.loop-index.index f c.requires.given.tables.cells there
 
 pub add_function-requires-clause-next : goal.add_function-requires-clause-next
 add_function-requires-clause-next c =
-    let tree = view_resolved c.args.whole.now.resolved.now in
-    let tables = c.args.whole.now.tables.now in
+    let tree = tree_of c.args.input.now in
+    let tables = c.args.input.now.tables.now in
     let f = view_resolved_function c.function-item.result in
     let n = numbers_of c.loop-index.numbers in
     let there : slice_get tree.functions c.loop-index.index ≡ Some f =
@@ -36,21 +37,21 @@ add_function-requires-clause-next c =
     (item_at view_resolved_function c.as_slice-function-items.result.now c.loop-index.index c.function-item.result
     c.loop-index-test.true c.function-item.is) in
     record {
-      cells = zip_at AreCellsOf tree.functions tables.extents.items c.loop-index.index f _ c.requires.tables.cells there
+      cells = zip_at AreCellsOf tree.functions tables.extents.items c.loop-index.index f _ c.requires.given.tables.cells there
           c.extents_at.ensures;
       code = subst (λ m. All (λ b. BodyHasCode b.function b.tree) (function_bodies m f))
           (sym c.loop-index.invariant.0.numbers)
           (function_holds (λ b. BodyHasCode b.function b.tree) first_numbers tree.functions c.loop-index.index f
-          c.requires.has_code.bodies there);
-      ends = ends_stand (ends_in tables) tree.functions c.loop-index.index f n c.requires.tables.ends there
+          c.requires.given.has_code.bodies there);
+      ends = ends_stand (ends_in tables) tree.functions c.loop-index.index f n c.requires.given.tables.ends there
           c.loop-index.invariant.0.numbers;
       before = c.loop-index.invariant.1;
     }
 
 pub returns-then-not-branch : goal.returns-then-not-branch
 returns-then-not-branch c =
-    let tree = view_resolved c.args.whole.now.resolved.now in
-    let tables = c.args.whole.now.tables.now in
+    let tree = tree_of c.args.input.now in
+    let tables = c.args.input.now.tables.now in
     let f = view_resolved_function c.function-item.result in
     let n = numbers_of c.loop-index.numbers in
     let there : slice_get tree.functions c.loop-index.index ≡ Some f =
@@ -65,8 +66,8 @@ returns-then-not-branch c =
 
 pub numbers_behind-numbers-requires : goal.numbers_behind-numbers-requires
 numbers_behind-numbers-requires c =
-    let tree = view_resolved c.args.whole.now.resolved.now in
-    let tables = c.args.whole.now.tables.now in
+    let tree = tree_of c.args.input.now in
+    let tables = c.args.input.now.tables.now in
     let f = view_resolved_function c.function-item.result in
     let n = numbers_of c.loop-index.numbers in
     let there : slice_get tree.functions c.loop-index.index ≡ Some f =
@@ -74,14 +75,14 @@ numbers_behind-numbers-requires c =
     c.as_slice-function-items.ensures.value
     (item_at view_resolved_function c.as_slice-function-items.result.now c.loop-index.index c.function-item.result
     c.loop-index-test.true c.function-item.is) in
-    let stand = ends_stand (ends_in tables) tree.functions c.loop-index.index f n c.requires.tables.ends there
+    let stand = ends_stand (ends_in tables) tree.functions c.loop-index.index f n c.requires.given.tables.ends there
     c.loop-index.invariant.0.numbers in
     end_there (ends_in tables) n f stand
 
 pub loop-index-preserved : goal.loop-index-preserved
 loop-index-preserved c =
-    let tree = view_resolved c.args.whole.now.resolved.now in
-    let tables = c.args.whole.now.tables.now in
+    let tree = tree_of c.args.input.now in
+    let tables = c.args.input.now.tables.now in
     let f = view_resolved_function c.function-item.result in
     let n = numbers_of c.loop-index.numbers in
     let there : slice_get tree.functions c.loop-index.index ≡ Some f =
@@ -89,7 +90,7 @@ loop-index-preserved c =
     c.as_slice-function-items.ensures.value
     (item_at view_resolved_function c.as_slice-function-items.result.now c.loop-index.index c.function-item.result
     c.loop-index-test.true c.function-item.is) in
-    let stand = ends_stand (ends_in tables) tree.functions c.loop-index.index f n c.requires.tables.ends there
+    let stand = ends_stand (ends_in tables) tree.functions c.loop-index.index f n c.requires.given.tables.ends there
     c.loop-index.invariant.0.numbers in
     let behind = end_is (ends_in tables) n f (numbers_of c.numbers_behind-numbers.result) stand
     c.numbers_behind-numbers.ensures in (

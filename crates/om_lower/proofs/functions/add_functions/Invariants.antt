@@ -1,12 +1,12 @@
 use Rattle.std.proofs.Common.{◌≡◌, length}
+use Rattle.om_lower.specs.Inputs.{tree_of}
 use Rattle.om_lower.proofs.Coding.{IsBehind}
-use Rattle.om_resolved.specs.ResolvedView.{view_resolved}
 use Rattle.om_rows.specs.Numbering.{numbers_of}
 use Rattle.om_lower.proofs.functions.add_functions.Given as goal
 
 -- the variables of all bodies behind which it stands are there
 abbrev pub invariant-loop-index : goal.invariant-loop-index
 invariant-loop-index l =
-    IsBehind (view_resolved l.whole.resolved.now) l.lowered.lists l.lowered.functions l.index
+    IsBehind (tree_of l.input) l.lowered.lists l.lowered.functions l.index
     (numbers_of l.numbers)
     × (length l.slots.items ≡ l.numbers.bodies)

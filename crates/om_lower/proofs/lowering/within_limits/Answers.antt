@@ -1,16 +1,17 @@
 use Rattle.std.proofs.Common.{◌≡◌, ◌<◌, IfSome, Some, length, map, slice_get, sym, subst}
+use Rattle.om_lower.specs.Inputs.{tree_of}
 use Rattle.om_lower.specs.Limits.{IsTooMany}
 use Rattle.om_lower.specs.Made.{IsOverAt}
-use Rattle.om_resolved.specs.ResolvedView.{view_resolved, view_resolved_function}
+use Rattle.om_resolved.specs.ResolvedView.{view_resolved_function}
 use Rattle.om_lower.proofs.Items.{item_at}
 use Rattle.om_lower.proofs.Refusing.{refused}
 use Rattle.om_lower.proofs.lowering.within_limits.Goals as goal
 
 pub returns-clause-refused : goal.returns-clause-refused
 returns-clause-refused c =
-    let tree = view_resolved c.args.whole.now.resolved.now in
+    let tree = tree_of c.args.input.now in
     let placed = c.args.placed.now in
-    let items = c.args.whole.now.resolved.now.functions.items in
+    let items = c.args.input.now.resolved.now.functions.items in
     let index = c.in-Some.index in
     let function = view_resolved_function c.index-as_slice-index.result in
     let within = subst (λ found.

@@ -1,7 +1,7 @@
 use Rattle.std.proofs.Common.{map, sym, ap, subst, ◌∙◌}
 use Rattle.std.specs.List.{AllZip}
+use Rattle.om_lower.specs.Inputs.{tree_of}
 use Rattle.om_lower.specs.Made.{AreMade}
-use Rattle.om_resolved.specs.ResolvedView.{view_resolved}
 use Rattle.om_rows.specs.Bodies.{bodies_of}
 use Rattle.om_rows.specs.Code.{global_of}
 use Rattle.om_rows.specs.Mentions.{IsTextOf}
@@ -10,7 +10,7 @@ use Rattle.om_lower.proofs.program.raw_of.Goals as goal
 
 pub returns-clause-code : goal.returns-clause-code
 returns-clause-code c =
-    let tree = view_resolved c.args.whole.now.resolved.now in
+    let tree = tree_of c.args.input.now in
     let made = subst (λ bodies. AreMade tree c.requires.lowered.lists (bodies_of tree) bodies)
     (sym c.in_ok-bodies.ensures)
     (made_bodies tree c.args.placed.picks c.args.placed.functions c.requires.lowered) in
@@ -20,7 +20,7 @@ returns-clause-code c =
           c.requires.lowered.stand made;
       main = c.main_body-main.ensures;
       texts = subst (λ formats.
-          AllZip IsTextOf formats c.in_ok-texts.texts) c.requires.tables.formats c.in_ok-texts.ensures;
+          AllZip IsTextOf formats c.in_ok-texts.texts) c.requires.given.tables.formats c.in_ok-texts.ensures;
       picks = all_lists tree c.args.placed.picks c.args.placed.functions c.requires.lowered;
-      locks = c.in_ok-locks.ensures ∙ c.requires.tables.locks;
+      locks = c.in_ok-locks.ensures ∙ c.requires.given.tables.locks;
     }

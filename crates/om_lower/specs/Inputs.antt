@@ -1,0 +1,42 @@
+-- What is lowered, as a tree and the bodies in it, and what is known of it.
+use Rattle.std.specs.Prelude.{◌≡◌}
+use Rattle.om_lower.specs.declared.input.Input.{Input}
+use Rattle.om_lower.specs.declared.input.Known.{Known}
+use Rattle.om_lower.specs.declared.input.SeenBody.{SeenBody}
+use Rattle.om_lower.specs.Ready.{IsReady}
+use Rattle.om_resolved.specs.Beside.{TreeCopiesBehind}
+use Rattle.om_resolved.specs.ResolvedTree.{ResolvedTree}
+use Rattle.om_resolved.specs.ResolvedView.{view_resolved}
+use Rattle.om_resolved.specs.Whole.{IsWholeTree}
+use Rattle.om_rows.specs.Bodies.{BodySite, variables_of}
+use Rattle.om_rows.specs.Coded.{TreeHasCode}
+use Rattle.om_rows.specs.Ends.{KnownBodies}
+use Rattle.om_rows.specs.ProgramTables.{IsTablesOf, known_of}
+use Rattle.om_sights.specs.Sites.{body_in}
+
+abbrev pub tree_of : Input → ResolvedTree
+tree_of input = view_resolved input.resolved.now
+
+-- its tree is whole and has code, and the tables are those of the tree
+pub record IsInput (input : Input) : Type 0 where
+  pub tables : IsTablesOf (tree_of input) input.tables.now
+  pub whole : IsWholeTree (tree_of input)
+  pub has_code : TreeHasCode (tree_of input)
+  pub copies : TreeCopiesBehind (tree_of input)
+
+-- what is known of bodies, by the tables of their program
+abbrev pub known_bodies : Known → KnownBodies
+known_bodies known = known_of known.input.now.tables.now known.slots.now
+
+-- a body, once its variables are known and those of the body round it
+abbrev pub seen_body : SeenBody → BodySite
+seen_body seen = body_in seen.outer.now seen.site.now
+
+abbrev pub seen_tree : SeenBody → ResolvedTree
+seen_tree seen = tree_of seen.known.now.input.now
+
+-- it can be lowered, with its variables
+pub record IsSeen (seen : SeenBody) : Type 0 where
+  pub input : IsInput seen.known.now.input.now
+  pub ready : IsReady (known_bodies seen.known.now) seen.known.now.extents.now (seen_body seen)
+  pub variables : seen.variables.now ≡ variables_of (seen_body seen)
