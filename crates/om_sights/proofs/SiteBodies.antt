@@ -4,13 +4,15 @@ use Rattle.std.proofs.Common.{refl, sym, ap, ◌∙◌, arith}
 use Rattle.std.specs.Prelude.{unwrap_or}
 use Rattle.std.proofs.Math.Nat.{min-le_right}
 use Rattle.std.proofs.Math.Seq.{take-append_seam}
-use Rattle.std.proofs.lemmas.List.{length-append, length-take, length-take-le}
+use Rattle.std.proofs.lemmas.List.{append_assoc, length-append, length-take, length-take-le}
 use Rattle.std.proofs.lemmas.Option.{slice_get_within}
 use Rattle.om_sights.specs.declared.sites.Site.{Site}
 use Rattle.om_sights.specs.Sites.{IsRound, KeepsRound, bodies_in, body_in, body_round, innermost, part_tree}
-use Rattle.om_sights.specs.Sites.{round_behind, round_with, variables_at}
+use Rattle.om_sights.specs.Sites.{AddsBodies, IsOpen, function_of, round_behind, round_with, site_variables}
+use Rattle.om_sights.specs.Sites.{variables_at}
+use Rattle.om_resolved.specs.ResolvedTree.{ResolvedStatementTree}
 use Rattle.om_resolved.specs.ResolvedView.{view_resolved_function}
-use Rattle.om_rows.specs.Bodies.{BodySite, Numbers}
+use Rattle.om_rows.specs.Bodies.{BodySite, Numbers, regions}
 use Rattle.om_rows.specs.Numbering.{numbers_of}
 
 -- ---- lists
@@ -80,7 +82,7 @@ kept_innermost round d v open_at =
     ∙ ap (λ n. unwrap_or (slice_get (take (d + 1) round) n) []) last
     ∙ ap (λ x. unwrap_or x []) (get_take (d + 1) round d (omega arith) ∙ open_at)
 
-pub region_bodies : (old new : List Site) (site : Site) (d : ℕ) (v : List ℕ) (n : Numbers)
+pub region_pushed : (old new : List Site) (site : Site) (d : ℕ) (v : List ℕ) (n : Numbers)
     → new ≡ old ++ site ∷ [] → IsRound d v old → site.depth ≡ d + 1 → numbers_of site.numbers ≡ n
     → bodies_in [] new ≡ bodies_in [] old ++ record {
       function = view_resolved_function site.function.now;
@@ -88,7 +90,7 @@ pub region_bodies : (old new : List Site) (site : Site) (d : ℕ) (v : List ℕ)
       outer = v;
       numbers = n;
     } ∷ []
-region_bodies old new site d v n same open_at deep is =
+region_pushed old new site d v n same open_at deep is =
     let round = round_behind [] old in
     ap (λ sites. bodies_in [] sites) same ∙ bodies_append [] old (site ∷ [])
     ∙ ap (λ outer. bodies_in [] old ++ body_in outer site ∷ [])
@@ -143,3 +145,21 @@ kept_outer a b c d e deep first second =
     let le : d + 1 ≤ e + 1 = omega (arith, deep) in
     sym (take_less (d + 1) (e + 1) (round_behind [] c) le) ∙ ap (λ round. take (d + 1) round) second
     ∙ take_less (d + 1) (e + 1) (round_behind [] b) le ∙ first
+
+-- the body of a region and those in it have been added
+pub region_added : (old pushed new : List Site) (round site : Site) (n : Numbers) (s : ResolvedStatementTree)
+    → pushed ≡ old ++ site ∷ [] → IsOpen round old → site.depth ≡ round.depth + 1 → numbers_of site.numbers ≡ n
+    → AddsBodies site (regions (function_of site) (site_variables site) (numbers_of site.numbers) s) pushed new
+    → AddsBodies round (numbered (site_variables round) site n ∷ regions (function_of site) (site_variables site) n s)
+    old new
+region_added old pushed new round site n s same open_at deep is added =
+    let outer = site_variables round in
+    let f = function_of site in
+    let all = site_variables site in
+    let first = region_pushed old pushed site round.depth outer n same open_at deep is in
+    let kept = region_keeps old pushed site round.depth outer open_at deep same in (
+      added.0 ∙ ap (λ bodies. bodies ++ regions f all (numbers_of site.numbers) s) first
+          ∙ append_assoc (bodies_in [] old) (numbered outer site n ∷ []) (regions f all (numbers_of site.numbers) s)
+          ∙ ap (λ m. bodies_in [] old ++ numbered outer site n ∷ regions f all m s) is,
+      kept_outer old pushed new round.depth site.depth deep kept added.1,
+    )

@@ -4,9 +4,9 @@ use Rattle.om_sights.specs.Regions.{parallel_tree, task_tree}
 use Rattle.om_sights.specs.declared.sites.BodyPart.{BodyPart}
 use Rattle.om_sights.specs.declared.sites.BodyPart.TheVariants as parts
 use Rattle.om_sights.specs.declared.sites.Site.{Site}
-use Rattle.om_resolved.specs.ResolvedTree.{ResolvedFunctionTree}
+use Rattle.om_resolved.specs.ResolvedTree.{ResolvedFunctionTree, ResolvedStatementTree}
 use Rattle.om_resolved.specs.ResolvedView.{view_resolved_function}
-use Rattle.om_rows.specs.Bodies.{BodySite, BodyTree, FunctionBody, variables_in}
+use Rattle.om_rows.specs.Bodies.{BodySite, BodyTree, FunctionBody, Numbers, regions, variables_in}
 use Rattle.om_rows.specs.Numbering.{numbers_of}
 
 abbrev pub part_tree : BodyPart → BodyTree
@@ -26,6 +26,12 @@ body_in outer site = record {
   outer = outer;
   numbers = numbers_of site.numbers;
 }
+
+abbrev pub function_of : Site → ResolvedFunctionTree
+function_of site = view_resolved_function site.function.now
+
+abbrev pub site_variables : Site → List ℕ
+site_variables site = variables_at (function_of site) site.part
 
 -- ---- the bodies round the next one, from the outermost in, by their variables
 
@@ -60,3 +66,18 @@ IsRound depth variables sites = slice_get (round_behind [] sites) depth ≡ Some
 -- it is so behind further ones, with all that it stands in
 abbrev pub KeepsRound : (depth : ℕ) → List Site → List Site → Type 0
 KeepsRound depth old new = take (depth + 1) (round_behind [] new) ≡ take (depth + 1) (round_behind [] old)
+
+-- a body is still open behind these
+abbrev pub IsOpen : Site → List Site → Type 0
+IsOpen site sites = IsRound site.depth (site_variables site) sites
+
+-- bodies have been added in an open one, which is open again behind them, with all that it stands in
+abbrev pub AddsBodies : Site → List BodySite → (old new : List Site) → Type 0
+AddsBodies round added old new = (bodies_in [] new ≡ bodies_in [] old ++ added) × KeepsRound round.depth old new
+
+-- the body of a region with this statement, in an open body, and the bodies in it
+abbrev pub region_bodies : Site → BodyPart → Numbers → ResolvedStatementTree → List BodySite
+region_bodies round part n s =
+    let f = function_of round in
+    record { function = f; tree = part_tree part; outer = site_variables round; numbers = n }
+    ∷ regions f (variables_at f part) n s

@@ -1,13 +1,13 @@
 //! The slots of a body: its variables are numbered as its text is read.
 
-ghost use Rattle.std.specs.Prelude.{◌≡◌, ◌++◌, ◌∷◌, [], OnOk, IfOk, map, option_map};
+ghost use Rattle.std.specs.Prelude.{◌≡◌, ◌++◌, OnOk, IfOk, map, option_map};
 ghost use Rattle.std.specs.List.{flat_map};
 ghost use Rattle.om_resolved.specs.Captures.{perhaps_uses};
 ghost use Rattle.om_resolved.specs.ResolvedTree as trees;
 ghost use Rattle.om_resolved.specs.ResolvedView.{view_resolved_clause, view_resolved_declarator, view_resolved_expression, view_resolved_function, view_resolved_loop, view_resolved_part, view_resolved_start, view_resolved_statement};
 ghost use Rattle.om_rows.specs.Bodies as bodies;
-ghost use Rattle.om_rows.specs.Slots.{clause_sights, combined_sights, declarator_sights, loop_sights, original_sights, parameter_sight, parts_sights, region_clause_sights, start_sights, statement_sights, statements_sights};
-ghost use Rattle.om_sights.specs.Sighted.{sighted};
+ghost use Rattle.om_rows.specs.Slots.{clause_sights, combined_sights, declarator_sights, loop_sights, parameter_sight, parts_sights, region_clause_sights, start_sights, statement_sights, statements_sights};
+ghost use Rattle.om_sights.specs.Sighted.{Sees};
 
 use crate::uses::{
     take_expression, take_original, take_perhaps, take_region, take_stand_alone, take_update,
@@ -50,213 +50,152 @@ pub fn region_variables(
 }
 
 /// Sees parameters.
-fn see_parameters(variables: &mut Variables, parameters: &[LocalVariable]) -> Result<(), AllocError>
-    ensures { OnOk result
-        (variables.new ≡ sighted variables.old (map parameter_sight parameters.now)) }
+fn see_parameters(seen: &mut Variables, parameters: &[LocalVariable]) -> Result<(), AllocError>
+    ensures { OnOk result (Sees (map parameter_sight parameters.now) seen.old seen.new) }
 {
     for parameter in parameters {
-        variables.add(parameter.at)?;
+        seen.add(parameter.at)?;
     }
     Ok(())
 }
 
-/// Sees a declared name, and then what it begins as.
-fn see_declarator(
-    variables: &mut Variables,
-    declarator: &ResolvedDeclarator,
-) -> Result<(), AllocError>
-    ensures { let tree = view_resolved_declarator declarator.now in
-        OnOk result (variables.new ≡ sighted variables.old (declarator_sights tree)) }
-{
-    variables.add(declarator.variable.at)?;
-    take_perhaps(variables, &declarator.initial)
-}
-
-/// Sees declarations.
+/// Sees declared names, and after each what it begins as.
 fn see_declarators(
-    variables: &mut Variables,
+    seen: &mut Variables,
     declarators: &[ResolvedDeclarator],
 ) -> Result<(), AllocError>
     ensures { let trees = map view_resolved_declarator declarators.now in
-        OnOk result (variables.new ≡ sighted variables.old (flat_map declarator_sights trees)) }
+        OnOk result (Sees (flat_map declarator_sights trees) seen.old seen.new) }
 {
     for declarator in declarators {
-        see_declarator(variables, declarator)?;
+        seen.add(declarator.variable.at)?;
+        take_perhaps(seen, &declarator.initial)?;
     }
     Ok(())
 }
 
 /// Sees the beginning of a `for`.
-fn see_start(variables: &mut Variables, start: &ResolvedStart) -> Result<(), AllocError>
-    ensures { OnOk result
-        (variables.new ≡ sighted variables.old (start_sights (view_resolved_start start.now))) }
+fn see_start(seen: &mut Variables, start: &ResolvedStart) -> Result<(), AllocError>
+    ensures { OnOk result (Sees (start_sights (view_resolved_start start.now)) seen.old seen.new) }
 {
     match start {
         ResolvedStart::Nothing => Ok(()),
-        ResolvedStart::Expression(expression) => take_expression(variables, expression),
-        ResolvedStart::Declaration(declarators) => {
-            see_declarators(variables, declarators.as_slice())
-        }
+        ResolvedStart::Expression(expression) => take_expression(seen, expression),
+        ResolvedStart::Declaration(declarators) => { see_declarators(seen, declarators.as_slice()) }
     }
 }
 
-/// Sees an original, unless its copy is private, and then that copy.
-#[tactic(auto, using(crate::proofs::Copied::original_seen))]
-fn see_copy(
-    variables: &mut Variables,
-    kind: CopyKind,
-    original: Variable,
-    copy: &LocalVariable,
-) -> Result<(), AllocError>
-    ensures { let sights = original_sights kind original ++ copy.now.at ∷ [] in
-        OnOk result (variables.new ≡ sighted variables.old sights) }
-{
-    take_original(variables, kind, original)?;
-    variables.add(copy.at)
-}
-
 /// Sees a clause of a construct in whose body it stands.
-fn see_clause(variables: &mut Variables, clause: &ResolvedClause) -> Result<(), AllocError>
-    ensures { OnOk result
-        (variables.new ≡ sighted variables.old (clause_sights (view_resolved_clause clause.now))) }
+#[tactic(auto, using(crate::proofs::Copied::original_seen))]
+fn see_clause(seen: &mut Variables, clause: &ResolvedClause) -> Result<(), AllocError>
+    ensures { OnOk result (Sees (clause_sights (view_resolved_clause clause.now)) seen.old seen.new) }
 {
     match clause {
-        ResolvedClause::Value { value, .. } => take_expression(variables, value),
-        ResolvedClause::Shared(variable) => variables.sight(*variable),
+        ResolvedClause::Value { value, .. } => take_expression(seen, value),
+        ResolvedClause::Shared(variable) => seen.sight(*variable),
         ResolvedClause::Copied {
             kind,
             original,
             copy,
-        } => see_copy(variables, *kind, *original, copy),
+        } => {
+            take_original(seen, *kind, *original)?;
+            seen.add(copy.at)
+        }
     }
 }
 
 /// Sees clauses of a construct in whose body they stand.
-fn see_clauses(variables: &mut Variables, clauses: &[ResolvedClause]) -> Result<(), AllocError>
+fn see_clauses(seen: &mut Variables, clauses: &[ResolvedClause]) -> Result<(), AllocError>
     ensures { let trees = map view_resolved_clause clauses.now in
-        OnOk result (variables.new ≡ sighted variables.old (flat_map clause_sights trees)) }
+        OnOk result (Sees (flat_map clause_sights trees) seen.old seen.new) }
 {
     for clause in clauses {
-        see_clause(variables, clause)?;
+        see_clause(seen, clause)?;
     }
     Ok(())
 }
 
 /// Sees the original that a copy of a region is combined into.
-fn see_combined(
-    variables: &mut Variables,
-    kind: CopyKind,
-    original: Variable,
-) -> Result<(), AllocError>
-    ensures { OnOk result (variables.new ≡ sighted variables.old (combined_sights kind original)) }
+fn see_combined(seen: &mut Variables, kind: CopyKind, original: Variable) -> Result<(), AllocError>
+    ensures { OnOk result (Sees (combined_sights kind original) seen.old seen.new) }
 {
     let CopyKind::Reduction(_) = kind else {
         return Ok(());
     };
-    variables.sight(original)
-}
-
-/// Sees, in the body of a region, what is combined and then its copy.
-fn see_region_copy(
-    variables: &mut Variables,
-    kind: CopyKind,
-    original: Variable,
-    copy: &LocalVariable,
-) -> Result<(), AllocError>
-    ensures { let sights = combined_sights kind original ++ copy.now.at ∷ [] in
-        OnOk result (variables.new ≡ sighted variables.old sights) }
-{
-    see_combined(variables, kind, original)?;
-    variables.add(copy.at)
+    seen.sight(original)
 }
 
 /// Sees a clause of a `parallel` or a `task`, in its body.
-fn see_region_clause(variables: &mut Variables, clause: &ResolvedClause) -> Result<(), AllocError>
+fn see_region_clause(seen: &mut Variables, clause: &ResolvedClause) -> Result<(), AllocError>
     ensures { let sights = region_clause_sights (view_resolved_clause clause.now) in
-        OnOk result (variables.new ≡ sighted variables.old sights) }
+        OnOk result (Sees sights seen.old seen.new) }
 {
     match clause {
         ResolvedClause::Value { .. } => Ok(()),
-        ResolvedClause::Shared(variable) => variables.sight(*variable),
+        ResolvedClause::Shared(variable) => seen.sight(*variable),
         ResolvedClause::Copied {
             kind,
             original,
             copy,
-        } => { see_region_copy(variables, *kind, *original, copy) }
+        } => {
+            see_combined(seen, *kind, *original)?;
+            seen.add(copy.at)
+        }
     }
 }
 
 /// Sees the clauses of a `parallel` or a `task`, in its body.
-fn see_region_clauses(
-    variables: &mut Variables,
-    clauses: &[ResolvedClause],
-) -> Result<(), AllocError>
+fn see_region_clauses(seen: &mut Variables, clauses: &[ResolvedClause]) -> Result<(), AllocError>
     ensures { let trees = map view_resolved_clause clauses.now in
-        OnOk result (variables.new ≡ sighted variables.old (flat_map region_clause_sights trees)) }
+        OnOk result (Sees (flat_map region_clause_sights trees) seen.old seen.new) }
 {
     for clause in clauses {
-        see_region_clause(variables, clause)?;
+        see_region_clause(seen, clause)?;
     }
     Ok(())
 }
 
 /// Sees the iteration variable of a canonical loop and then its bounds.
-fn see_loop(variables: &mut Variables, repeated: &ResolvedLoop) -> Result<(), AllocError>
-    ensures { OnOk result
-        (variables.new ≡ sighted variables.old (loop_sights (view_resolved_loop repeated.now))) }
+fn see_loop(seen: &mut Variables, repeated: &ResolvedLoop) -> Result<(), AllocError>
+    ensures { OnOk result (Sees (loop_sights (view_resolved_loop repeated.now)) seen.old seen.new) }
 {
-    variables.add(repeated.variable.at)?;
-    take_expression(variables, &repeated.from)?;
-    take_expression(variables, &repeated.to)
-}
-
-/// Sees the clauses of a worksharing-loop construct, its iteration variable and its bounds.
-fn see_loop_head(
-    variables: &mut Variables,
-    clauses: &[ResolvedClause],
-    repeated: &ResolvedLoop,
-) -> Result<(), AllocError>
-    ensures { let trees = map view_resolved_clause clauses.now in
-        let sights = flat_map clause_sights trees
-        ++ loop_sights (view_resolved_loop repeated.now) in
-        OnOk result (variables.new ≡ sighted variables.old sights) }
-{
-    see_clauses(variables, clauses)?;
-    see_loop(variables, repeated)
+    seen.add(repeated.variable.at)?;
+    take_expression(seen, &repeated.from)?;
+    take_expression(seen, &repeated.to)
 }
 
 /// Sees the head of a `for`.
-fn see_head(variables: &mut Variables, head: &ResolvedHead) -> Result<(), AllocError>
+fn see_head(seen: &mut Variables, head: &ResolvedHead) -> Result<(), AllocError>
     ensures { let test = option_map view_resolved_expression head.now.condition in
         let step_tree = option_map view_resolved_expression head.now.step in
         let sights = start_sights (view_resolved_start head.now.start)
         ++ (perhaps_uses test ++ perhaps_uses step_tree) in
-        OnOk result (variables.new ≡ sighted variables.old sights) }
+        OnOk result (Sees sights seen.old seen.new) }
 {
-    see_start(variables, &head.start)?;
-    take_perhaps(variables, &head.condition)?;
-    take_perhaps(variables, &head.step)
+    see_start(seen, &head.start)?;
+    take_perhaps(seen, &head.condition)?;
+    take_perhaps(seen, &head.step)
 }
 
 /// Sees a statement. The bodies of regions in it have slots of their own.
 #[tactic(auto, unfolding(om_rows::specs::Slots::statement_sights))]
 #[cycle(statement)]
-fn see_statement(variables: &mut Variables, statement: &ResolvedStatement) -> Result<(), AllocError>
+fn see_statement(seen: &mut Variables, statement: &ResolvedStatement) -> Result<(), AllocError>
     ensures { let sights = statement_sights (view_resolved_statement statement.now) in
-        OnOk result (variables.new ≡ sighted variables.old sights) }
+        OnOk result (Sees sights seen.old seen.new) }
 {
     match statement {
         ResolvedStatement::Declaration { declarators, .. } => {
-            see_declarators(variables, declarators.as_slice())
+            see_declarators(seen, declarators.as_slice())
         }
-        ResolvedStatement::Block { items, .. } => see_statements(variables, items.as_slice()),
+        ResolvedStatement::Block { items, .. } => see_statements(seen, items.as_slice()),
         ResolvedStatement::Empty(_)
         | ResolvedStatement::Break(_)
         | ResolvedStatement::Continue(_) => Ok(()),
         ResolvedStatement::Expression {
             value: expression,
             ..
-        } => take_expression(variables, expression),
+        } => take_expression(seen, expression),
         ResolvedStatement::If {
             condition: test,
             then: body,
@@ -267,8 +206,8 @@ fn see_statement(variables: &mut Variables, statement: &ResolvedStatement) -> Re
             body,
             ..
         } => {
-            take_expression(variables, test)?;
-            see_statement(variables, body)
+            take_expression(seen, test)?;
+            see_statement(seen, body)
         }
         ResolvedStatement::IfElse {
             condition,
@@ -276,23 +215,23 @@ fn see_statement(variables: &mut Variables, statement: &ResolvedStatement) -> Re
             other,
             ..
         } => {
-            take_expression(variables, condition)?;
-            see_statement(variables, then)?;
-            see_statement(variables, other)
+            take_expression(seen, condition)?;
+            see_statement(seen, then)?;
+            see_statement(seen, other)
         }
         ResolvedStatement::Do {
             body,
             condition,
             ..
         } => {
-            see_statement(variables, body)?;
-            take_expression(variables, condition)
+            see_statement(seen, body)?;
+            take_expression(seen, condition)
         }
         ResolvedStatement::For { head, body, .. } => {
-            see_head(variables, head)?;
-            see_statement(variables, body)
+            see_head(seen, head)?;
+            see_statement(seen, body)
         }
-        ResolvedStatement::Return { value, .. } => take_perhaps(variables, value),
+        ResolvedStatement::Return { value, .. } => take_perhaps(seen, value),
         ResolvedStatement::Parallel {
             clauses,
             captures,
@@ -302,38 +241,39 @@ fn see_statement(variables: &mut Variables, statement: &ResolvedStatement) -> Re
             clauses,
             captures,
             ..
-        } => { take_region(variables, clauses.as_slice(), captures.as_slice()) }
+        } => { take_region(seen, clauses.as_slice(), captures.as_slice()) }
         ResolvedStatement::Loop {
             clauses,
             repeated,
             body,
             ..
         } => {
-            see_loop_head(variables, clauses.as_slice(), repeated)?;
-            see_statement(variables, body)
+            see_clauses(seen, clauses.as_slice())?;
+            see_loop(seen, repeated)?;
+            see_statement(seen, body)
         }
         ResolvedStatement::Sections { clauses, parts, .. } => {
-            see_clauses(variables, clauses.as_slice())?;
-            see_parts(variables, parts.as_slice())
+            see_clauses(seen, clauses.as_slice())?;
+            see_parts(seen, parts.as_slice())
         }
         ResolvedStatement::Construct { clauses, body, .. } => {
-            see_clauses(variables, clauses.as_slice())?;
-            see_statement(variables, body)
+            see_clauses(seen, clauses.as_slice())?;
+            see_statement(seen, body)
         }
-        ResolvedStatement::Update { update, .. } => take_update(variables, update),
-        ResolvedStatement::StandAlone { directive, .. } => take_stand_alone(variables, directive),
+        ResolvedStatement::Update { update, .. } => take_update(seen, update),
+        ResolvedStatement::StandAlone { directive, .. } => take_stand_alone(seen, directive),
     }
 }
 
 /// Sees statements.
 #[tactic(auto, unfolding(om_rows::specs::Slots::statements_sights))]
 #[cycle(statement)]
-fn see_statements(variables: &mut Variables, items: &[ResolvedStatement]) -> Result<(), AllocError>
+fn see_statements(seen: &mut Variables, items: &[ResolvedStatement]) -> Result<(), AllocError>
     ensures { let tree = trees.statements (map view_resolved_statement items.now) in
-        OnOk result (variables.new ≡ sighted variables.old (statements_sights tree)) }
+        OnOk result (Sees (statements_sights tree) seen.old seen.new) }
 {
     for item in items {
-        see_statement(variables, item)?;
+        see_statement(seen, item)?;
     }
     Ok(())
 }
@@ -341,12 +281,12 @@ fn see_statements(variables: &mut Variables, items: &[ResolvedStatement]) -> Res
 /// Sees the parts of `sections`.
 #[tactic(auto, unfolding(om_rows::specs::Slots::parts_sights))]
 #[cycle(statement)]
-fn see_parts(variables: &mut Variables, parts: &[ResolvedPart]) -> Result<(), AllocError>
+fn see_parts(seen: &mut Variables, parts: &[ResolvedPart]) -> Result<(), AllocError>
     ensures { let tree = trees.parts (map view_resolved_part parts.now) in
-        OnOk result (variables.new ≡ sighted variables.old (parts_sights tree)) }
+        OnOk result (Sees (parts_sights tree) seen.old seen.new) }
 {
     for part in parts {
-        see_statements(variables, part.items.as_slice())?;
+        see_statements(seen, part.items.as_slice())?;
     }
     Ok(())
 }

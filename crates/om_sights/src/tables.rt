@@ -10,136 +10,135 @@ ghost use Rattle.om_sights.specs.Noted.{AddsCells, AreNoted, noted};
 ghost use Rattle.om_rows.specs.Numbering.{function_numbers, numbers_of};
 ghost use Rattle.om_rows.specs.ProgramTables.{AreCellsOf, IsTablesOf};
 
-use crate::mentions::{Mentions, note_statements, put_end};
+use crate::mentions::{Mentions, Walk, note_statements, put_end};
 use om_resolved::{Resolved, ResolvedFunction};
-use om_rows::{Extents, Numbers, Tables};
+use om_rows::{Extents, Numbers, Tables, Texts};
 use std::alloc::{AllocError, Global};
 
-/// What functions have each, and the numbers behind each body of theirs.
+/// A walk over functions, and what each of them has.
 #[derive(Drop)]
 struct Functions {
+    walk: Walk,
     extents: Vec<Extents>,
     bodies: Vec<u32>,
-    ends: Vec<Numbers>,
 }
 
 /// The tables of a tree: one walk over it finds them all.
 pub fn tables_of(alloc: Global, resolved: &Resolved) -> Result<Tables, AllocError>
     ensures { IfOk result (λ tables. IsTablesOf (view_resolved resolved.now) tables) }
 {
-    let mut found = Mentions::new(alloc);
-    let mut made = Functions {
-        extents: Vec::new(alloc),
-        bodies: Vec::new(alloc),
+    let found = Mentions {
+        alloc,
+        formats: Texts::new(alloc),
+        locks: Texts::new(alloc),
+        extents: Extents::new(alloc),
+    };
+    let walk = Walk {
+        found,
+        numbers: Numbers::first(),
         ends: Vec::new(alloc),
     };
-    let behind = note_functions(&mut found, &mut made, alloc, resolved.functions.as_slice())?;
-    let Mentions { formats, locks, .. } = found;
+    let mut made = Functions {
+        walk,
+        extents: Vec::new(alloc),
+        bodies: Vec::new(alloc),
+    };
+    note_functions(&mut made, resolved.functions.as_slice())?;
     let Functions {
+        walk,
         extents,
         bodies,
-        ends,
     } = made;
+    let Walk {
+        found,
+        numbers,
+        ends,
+    } = walk;
+    let Mentions { formats, locks, .. } = found;
     Ok(Tables {
         formats,
         locks,
         extents,
         bodies,
-        behind,
+        behind: numbers,
         ends,
     })
 }
 
-/// Notes functions, and answers the numbers behind them.
+/// Walks over all functions, from the first numbers on.
 #[tactic(auto, using(crate::proofs::Noting::cells_next, crate::proofs::Noting::cells_done))]
-fn note_functions(
-    found: &mut Mentions,
-    made: &mut Functions,
-    alloc: Global,
-    functions: &[ResolvedFunction],
-) -> Result<Numbers, AllocError>
-    requires empty { found.old.extents ≡ [] }
+fn note_functions(made: &mut Functions, functions: &[ResolvedFunction]) -> Result<(), AllocError>
+    requires numbers { numbers_of made.old.walk.numbers ≡ bodies.first_numbers }
+    requires empty { made.old.walk.found.extents ≡ [] }
     requires none { made.old.extents.items ≡ [] }
-    ensures behind { let trees = map view_resolved_function functions.now in
-        IfOk result (λ behind. numbers_of behind ≡ bodies.behind_functions bodies.first_numbers trees) }
+    ensures behind { OnOk result (numbers_of made.new.walk.numbers
+        ≡ bodies.behind_functions bodies.first_numbers (map view_resolved_function functions.now)) }
     ensures formats { let trees = map view_resolved_function functions.now in
         let sights = flat_map (function_mentioned format_mention) trees in
-        OnOk result (found.new.formats ≡ noted found.old.formats sights) }
+        OnOk result (made.new.walk.found.formats ≡ noted made.old.walk.found.formats sights) }
     ensures locks { let trees = map view_resolved_function functions.now in
         let sights = flat_map (function_mentioned lock_mention) trees in
-        OnOk result (found.new.locks ≡ noted found.old.locks sights) }
-    ensures bodies { let trees = map view_resolved_function functions.now in
-        let numbers = function_numbers bodies.first_numbers trees in
-        OnOk result (made.new.bodies.items ≡ made.old.bodies.items ++ numbers) }
-    ensures ends { let trees = map view_resolved_function functions.now in
-        OnOk result (map numbers_of made.new.ends.items
-        ≡ map numbers_of made.old.ends.items ++ ends_from bodies.first_numbers trees) }
-    ensures cells { let trees = map view_resolved_function functions.now in
-        OnOk result (AllZip AreCellsOf trees made.new.extents.items) }
+        OnOk result (made.new.walk.found.locks ≡ noted made.old.walk.found.locks sights) }
+    ensures bodies { OnOk result (made.new.bodies.items ≡ made.old.bodies.items
+        ++ function_numbers bodies.first_numbers (map view_resolved_function functions.now)) }
+    ensures ends { OnOk result (map numbers_of made.new.walk.ends.items
+        ≡ map numbers_of made.old.walk.ends.items
+        ++ ends_from bodies.first_numbers (map view_resolved_function functions.now)) }
+    ensures cells { OnOk result
+        (AllZip AreCellsOf (map view_resolved_function functions.now) made.new.extents.items) }
 {
-    let mut numbers = Numbers::first();
     for function in functions {
-        numbers = note_function(found, made, alloc, numbers, function)?;
+        note_function(made, function)?;
     }
-    Ok(numbers)
+    Ok(())
 }
 
-/// Notes a function, and answers the numbers behind it.
+/// Walks over a function.
 #[tactic(auto, using(crate::proofs::Cells::cells_measured))]
-fn note_function(
-    found: &mut Mentions,
-    made: &mut Functions,
-    alloc: Global,
-    numbers: Numbers,
-    function: &ResolvedFunction,
-) -> Result<Numbers, AllocError>
-    requires { found.old.extents ≡ [] }
+fn note_function(made: &mut Functions, function: &ResolvedFunction) -> Result<(), AllocError>
+    requires { made.old.walk.found.extents ≡ [] }
     ensures behind { let tree = view_resolved_function function.now in
-        IfOk result (λ behind. numbers_of behind ≡ bodies.behind_function (numbers_of numbers) tree) }
+        let behind = bodies.behind_function (numbers_of made.old.walk.numbers) tree in
+        OnOk result (numbers_of made.new.walk.numbers ≡ behind) }
     ensures formats { let tree = view_resolved_function function.now in
         let sights = function_mentioned format_mention tree in
-        OnOk result (found.new.formats ≡ noted found.old.formats sights) }
+        OnOk result (made.new.walk.found.formats ≡ noted made.old.walk.found.formats sights) }
     ensures locks { let tree = view_resolved_function function.now in
         let sights = function_mentioned lock_mention tree in
-        OnOk result (found.new.locks ≡ noted found.old.locks sights) }
-    ensures empty { OnOk result (found.new.extents ≡ []) }
-    ensures bodies { OnOk result
-        (made.new.bodies.items ≡ made.old.bodies.items ++ numbers.bodies ∷ []) }
-    ensures ends { let tree = view_resolved_function function.now in
-        OnOk result (map numbers_of made.new.ends.items
-        ≡ map numbers_of made.old.ends.items ++ function_ends (numbers_of numbers) tree) }
+        OnOk result (made.new.walk.found.locks ≡ noted made.old.walk.found.locks sights) }
+    ensures empty { OnOk result (made.new.walk.found.extents ≡ []) }
+    ensures bodies { OnOk result (made.new.bodies.items
+        ≡ made.old.bodies.items ++ made.old.walk.numbers.bodies ∷ []) }
+    ensures ends { let ends = function_ends (numbers_of made.old.walk.numbers) in
+        OnOk result (map numbers_of made.new.walk.ends.items
+        ≡ map numbers_of made.old.walk.ends.items ++ ends (view_resolved_function function.now)) }
     ensures cells { let tree = view_resolved_function function.now in
         OnOk result (AddsCells tree made.old.extents.items made.new.extents.items) }
 {
-    let behind = note_body(found, &mut made.ends, alloc, numbers, function)?;
-    let extents = std::mem::replace(&mut found.extents, Extents::new(alloc));
+    made.bodies.push(made.walk.numbers.bodies)?;
+    note_body(&mut made.walk, function)?;
+    let none = Extents::new(made.walk.found.alloc);
+    let extents = std::mem::replace(&mut made.walk.found.extents, none);
     made.extents.push(extents)?;
-    made.bodies.push(numbers.bodies)?;
-    Ok(behind)
+    Ok(())
 }
 
-/// Notes what the body of a function mentions and the numbers behind each body in it, and answers those behind
-/// it.
+/// Walks over the body of a function.
 #[tactic(auto, using(crate::proofs::Ending::end_placed))]
-fn note_body(
-    found: &mut Mentions,
-    ends: &mut Vec<Numbers>,
-    alloc: Global,
-    numbers: Numbers,
-    function: &ResolvedFunction,
-) -> Result<Numbers, AllocError>
+fn note_body(walk: &mut Walk, function: &ResolvedFunction) -> Result<(), AllocError>
     ensures behind { let tree = view_resolved_function function.now in
-        IfOk result (λ behind. numbers_of behind ≡ bodies.behind_function (numbers_of numbers) tree) }
+        OnOk result (numbers_of walk.new.numbers ≡ bodies.behind_function (numbers_of walk.old.numbers) tree) }
     ensures ends { let tree = view_resolved_function function.now in
-        OnOk result (map numbers_of ends.new.items
-        ≡ map numbers_of ends.old.items ++ function_ends (numbers_of numbers) tree) }
+        OnOk result (map numbers_of walk.new.ends.items
+        ≡ map numbers_of walk.old.ends.items ++ function_ends (numbers_of walk.old.numbers) tree) }
     ensures noted { let tree = view_resolved_function function.now in
-        OnOk result (AreNoted (λ A m. function_mentioned m tree) found.old found.new) }
+        OnOk result (AreNoted (λ A m. function_mentioned m tree) walk.old.found walk.new.found) }
 {
-    let inner = numbers.next_body()?;
-    let index = ends.len();
-    ends.push(inner)?;
-    let behind = note_statements(found, ends, alloc, inner, function.body.as_slice())?;
-    put_end(ends, index, behind);
-    Ok(behind)
+    let inner = walk.numbers.next_body()?;
+    let index = walk.ends.len();
+    walk.ends.push(inner)?;
+    walk.numbers = inner;
+    note_statements(walk, function.body.as_slice())?;
+    put_end(&mut walk.ends, index, walk.numbers);
+    Ok(())
 }

@@ -12,16 +12,18 @@ abbrev pub invariant-note_statements-loop-item : goal.invariant-note_statements-
 invariant-note_statements-loop-item l =
     let left = trees.statements (map view_resolved_statement (drop l.item-index l.items)) in
     let all = trees.statements (map view_resolved_statement l.items) in
-    (bodies.behind_all (numbers_of l.numbers) left ≡ bodies.behind_all (numbers_of l.fn.numbers) all)
-    × (map numbers_of l.ends.items ++ all_region_ends (numbers_of l.numbers) left
-    ≡ map numbers_of l.fn.ends.items ++ all_region_ends (numbers_of l.fn.numbers) all)
-    × AreLeft (λ A m. all_mentioned m left) (λ A m. all_mentioned m all) l.found l.fn.found
+    (bodies.behind_all (numbers_of l.walk.numbers) left ≡ bodies.behind_all (numbers_of l.fn.walk.numbers) all)
+    × (map numbers_of l.walk.ends.items ++ all_region_ends (numbers_of l.walk.numbers) left
+    ≡ map numbers_of l.fn.walk.ends.items ++ all_region_ends (numbers_of l.fn.walk.numbers) all)
+    × AreLeft (λ A m. all_mentioned m left) (λ A m. all_mentioned m all) l.walk.found
+    l.fn.walk.found
 
 abbrev pub invariant-note_parts-loop-part : goal.invariant-note_parts-loop-part
 invariant-note_parts-loop-part l =
     let left = trees.parts (map view_resolved_part (drop l.part-index l.parts)) in
     let all = trees.parts (map view_resolved_part l.parts) in
-    (bodies.behind_parts (numbers_of l.numbers) left ≡ bodies.behind_parts (numbers_of l.fn.numbers) all)
-    × (map numbers_of l.ends.items ++ parts_region_ends (numbers_of l.numbers) left
-    ≡ map numbers_of l.fn.ends.items ++ parts_region_ends (numbers_of l.fn.numbers) all)
-    × AreLeft (λ A m. parts_mentioned m left) (λ A m. parts_mentioned m all) l.found l.fn.found
+    (bodies.behind_parts (numbers_of l.walk.numbers) left ≡ bodies.behind_parts (numbers_of l.fn.walk.numbers) all)
+    × (map numbers_of l.walk.ends.items ++ parts_region_ends (numbers_of l.walk.numbers) left
+    ≡ map numbers_of l.fn.walk.ends.items ++ parts_region_ends (numbers_of l.fn.walk.numbers) all)
+    × AreLeft (λ A m. parts_mentioned m left) (λ A m. parts_mentioned m all) l.walk.found
+    l.fn.walk.found

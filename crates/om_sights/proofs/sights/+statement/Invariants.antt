@@ -7,11 +7,11 @@ use Rattle.om_sights.proofs.sights.+statement.Given as goal
 
 abbrev pub invariant-see_statements-loop-item : goal.invariant-see_statements-loop-item
 invariant-see_statements-loop-item l =
-    sighted l.variables (statements_sights
-    (trees.statements (map view_resolved_statement (drop l.item-index l.items)))) ≡ sighted l.fn.variables
+    sighted l.seen (statements_sights
+    (trees.statements (map view_resolved_statement (drop l.item-index l.items)))) ≡ sighted l.fn.seen
     (statements_sights (trees.statements (map view_resolved_statement l.items)))
 
 abbrev pub invariant-see_parts-loop-part : goal.invariant-see_parts-loop-part
 invariant-see_parts-loop-part l =
-    sighted l.variables (parts_sights (trees.parts (map view_resolved_part (drop l.part-index l.parts))))
-    ≡ sighted l.fn.variables (parts_sights (trees.parts (map view_resolved_part l.parts)))
+    sighted l.seen (parts_sights (trees.parts (map view_resolved_part (drop l.part-index l.parts))))
+    ≡ sighted l.fn.seen (parts_sights (trees.parts (map view_resolved_part l.parts)))

@@ -7,5 +7,5 @@ use Rattle.om_sights.proofs.sights.see_clauses.Given as goal
 
 abbrev pub invariant-loop-clause : goal.invariant-loop-clause
 invariant-loop-clause l =
-    sighted l.variables (flat_map clause_sights (map view_resolved_clause (drop l.clause-index l.clauses)))
-    ≡ sighted l.fn.variables (flat_map clause_sights (map view_resolved_clause l.clauses))
+    sighted l.seen (flat_map clause_sights (map view_resolved_clause (drop l.clause-index l.clauses)))
+    ≡ sighted l.fn.seen (flat_map clause_sights (map view_resolved_clause l.clauses))

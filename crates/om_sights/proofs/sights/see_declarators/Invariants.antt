@@ -7,6 +7,6 @@ use Rattle.om_sights.proofs.sights.see_declarators.Given as goal
 
 abbrev pub invariant-loop-declarator : goal.invariant-loop-declarator
 invariant-loop-declarator l =
-    sighted l.variables (flat_map declarator_sights
-    (map view_resolved_declarator (drop l.declarator-index l.declarators))) ≡ sighted l.fn.variables
+    sighted l.seen (flat_map declarator_sights
+    (map view_resolved_declarator (drop l.declarator-index l.declarators))) ≡ sighted l.fn.seen
     (flat_map declarator_sights (map view_resolved_declarator l.declarators))

@@ -5,5 +5,5 @@ use Rattle.om_sights.proofs.sights.see_parameters.Given as goal
 
 abbrev pub invariant-loop-parameter : goal.invariant-loop-parameter
 invariant-loop-parameter l =
-    sighted l.variables (map parameter_sight (drop l.parameter-index l.parameters)) ≡ sighted l.fn.variables
+    sighted l.seen (map parameter_sight (drop l.parameter-index l.parameters)) ≡ sighted l.fn.seen
     (map parameter_sight l.parameters)

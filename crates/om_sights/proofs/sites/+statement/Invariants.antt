@@ -1,7 +1,7 @@
 use Rattle.std.proofs.Common.{◌≡◌, ◌++◌, [], map, drop}
-use Rattle.om_sights.specs.Sites.{KeepsRound, bodies_in, variables_at}
+use Rattle.om_sights.specs.Sites.{KeepsRound, bodies_in, function_of, site_variables}
 use Rattle.om_resolved.specs.ResolvedTree as trees
-use Rattle.om_resolved.specs.ResolvedView.{view_resolved_function, view_resolved_part, view_resolved_statement}
+use Rattle.om_resolved.specs.ResolvedView.{view_resolved_part, view_resolved_statement}
 use Rattle.om_rows.specs.Bodies as bodies
 use Rattle.om_rows.specs.Numbering.{numbers_of}
 use Rattle.om_sights.proofs.sites.+statement.Given as goal
@@ -10,20 +10,18 @@ abbrev pub invariant-see_statements-loop-item : goal.invariant-see_statements-lo
 invariant-see_statements-loop-item l =
     let left = trees.statements (map view_resolved_statement (drop l.item-index l.items)) in
     let all = trees.statements (map view_resolved_statement l.items) in
-    let f = view_resolved_function l.round.function.now in
-    let outer = variables_at f l.round.part in
+    let regions = bodies.all_regions (function_of l.round) (site_variables l.round) in
     (bodies.behind_all (numbers_of l.behind) left ≡ bodies.behind_all (numbers_of l.fn.numbers) all)
-    × (bodies_in [] l.sites.items ++ bodies.all_regions f outer (numbers_of l.behind) left
-    ≡ bodies_in [] l.fn.sites.items ++ bodies.all_regions f outer (numbers_of l.fn.numbers) all)
+    × (bodies_in [] l.sites.items ++ regions (numbers_of l.behind) left
+    ≡ bodies_in [] l.fn.sites.items ++ regions (numbers_of l.fn.numbers) all)
     × KeepsRound l.round.depth l.fn.sites.items l.sites.items
 
 abbrev pub invariant-see_parts-loop-part : goal.invariant-see_parts-loop-part
 invariant-see_parts-loop-part l =
     let left = trees.parts (map view_resolved_part (drop l.part-index l.parts)) in
     let all = trees.parts (map view_resolved_part l.parts) in
-    let f = view_resolved_function l.round.function.now in
-    let outer = variables_at f l.round.part in
+    let regions = bodies.parts_regions (function_of l.round) (site_variables l.round) in
     (bodies.behind_parts (numbers_of l.behind) left ≡ bodies.behind_parts (numbers_of l.fn.numbers) all)
-    × (bodies_in [] l.sites.items ++ bodies.parts_regions f outer (numbers_of l.behind) left
-    ≡ bodies_in [] l.fn.sites.items ++ bodies.parts_regions f outer (numbers_of l.fn.numbers) all)
+    × (bodies_in [] l.sites.items ++ regions (numbers_of l.behind) left
+    ≡ bodies_in [] l.fn.sites.items ++ regions (numbers_of l.fn.numbers) all)
     × KeepsRound l.round.depth l.fn.sites.items l.sites.items

@@ -14,14 +14,14 @@ abbrev pub invariant-loop-function : goal.invariant-loop-function
 invariant-loop-function l =
     let left = map view_resolved_function (drop l.function-index l.functions) in
     let all = map view_resolved_function l.functions in
-    (behind_functions (numbers_of l.numbers) left ≡ behind_functions first_numbers all)
-    × (noted l.found.formats (flat_map (function_mentioned format_mention) left)
-    ≡ noted l.fn.found.formats (flat_map (function_mentioned format_mention) all))
-    × (noted l.found.locks (flat_map (function_mentioned lock_mention) left)
-    ≡ noted l.fn.found.locks (flat_map (function_mentioned lock_mention) all))
-    × (l.found.extents ≡ [])
-    × (l.made.bodies.items ++ function_numbers (numbers_of l.numbers) left ≡ l.fn.made.bodies.items
+    (behind_functions (numbers_of l.made.walk.numbers) left ≡ behind_functions first_numbers all)
+    × (noted l.made.walk.found.formats (flat_map (function_mentioned format_mention) left)
+    ≡ noted l.fn.made.walk.found.formats (flat_map (function_mentioned format_mention) all))
+    × (noted l.made.walk.found.locks (flat_map (function_mentioned lock_mention) left)
+    ≡ noted l.fn.made.walk.found.locks (flat_map (function_mentioned lock_mention) all))
+    × (l.made.walk.found.extents ≡ [])
+    × (l.made.bodies.items ++ function_numbers (numbers_of l.made.walk.numbers) left ≡ l.fn.made.bodies.items
     ++ function_numbers first_numbers all)
-    × (map numbers_of l.made.ends.items ++ ends_from (numbers_of l.numbers) left
-    ≡ map numbers_of l.fn.made.ends.items ++ ends_from first_numbers all)
+    × (map numbers_of l.made.walk.ends.items ++ ends_from (numbers_of l.made.walk.numbers) left
+    ≡ map numbers_of l.fn.made.walk.ends.items ++ ends_from first_numbers all)
     × ((rest : List (List Extent)) → AllZip AreCellsOf left rest → AllZip AreCellsOf all (l.made.extents.items ++ rest))

@@ -7,5 +7,5 @@ use Rattle.om_sights.proofs.uses.+expression.Given as goal
 
 abbrev pub invariant-take_values-loop-value : goal.invariant-take_values-loop-value
 invariant-take_values-loop-value l =
-    sighted l.variables (values_uses (trees.values (map view_resolved_expression (drop l.value-index l.values))))
-    ≡ sighted l.fn.variables (values_uses (trees.values (map view_resolved_expression l.values)))
+    sighted l.seen (values_uses (trees.values (map view_resolved_expression (drop l.value-index l.values))))
+    ≡ sighted l.fn.seen (values_uses (trees.values (map view_resolved_expression l.values)))

@@ -6,5 +6,5 @@ use Rattle.om_sights.proofs.uses.take_variables.Given as goal
 
 abbrev pub invariant-loop-variable : goal.invariant-loop-variable
 invariant-loop-variable l =
-    sighted l.variables (flat_map variable_uses (drop l.variable-index l.listed)) ≡ sighted l.fn.variables
+    sighted l.seen (flat_map variable_uses (drop l.variable-index l.listed)) ≡ sighted l.fn.seen
     (flat_map variable_uses l.listed)
