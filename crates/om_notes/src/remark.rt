@@ -40,9 +40,19 @@ fn code_behind(words: &[&[u8]], wanted: &[u8]) -> Option<&'static str> {
     code_words(word_behind(words, wanted)?)
 }
 
-// The source line that an answer names, by `line L` or `break L`.
+// The line that an answer means: where a step was made or taken out, where a worker or a task is, where a break
+// is set, or where one stopped a run. `no break 3` means no line: nothing is set there.
+fn line_in(words: &[&[u8]]) -> Option<u64> {
+    match words {
+        [set, line] if is_word(set, b"break") => number(line),
+        [ran, _, stop, line, ..] if is_word(ran, b"ran") && is_word(stop, b"break") => number(line),
+        _ => number_behind(words, b"line"),
+    }
+}
+
+// The source line that an answer means.
 fn source_line<'a>(names: &'a Names<'_>, words: &[&[u8]]) -> &'a [u8] {
-    match number_behind(words, b"line").or(number_behind(words, b"break")) {
+    match line_in(words) {
         Some(line) => names.source_line(line),
         None => &[],
     }
