@@ -1,5 +1,5 @@
 -- What a page has of a session.
-use Rattle.std.proofs.Common.{◌≡◌, ◌∙◌, ap, subst, ℕ, List, [], ◌++◌, Option, take, ◌↔◌}
+use Rattle.std.proofs.Common.{◌≡◌, ◌∙◌, ap, subst, ℕ, List, [], ◌++◌, Option, ◌↔◌}
 use Rattle.std.specs.Prelude.{map, codes, Contains}
 use Rattle.om_code.specs.declared.raw.Raw.{Raw}
 use Rattle.om_history.specs.Cones.{transitions}
@@ -19,7 +19,7 @@ use Rattle.om_shell.specs.Files.{ReadsAll}
 -- the picture of a machine's steps, and the page with it
 pub drawing_of : (m seen : MachineView) (program : Raw) (steps ts : List Traced) (boxes : List StepBox)
     (arrows : List Arrow) (scale : Scale) (front behind bytes : List ℕ) → seen ≡ m → program ≡ seen.program
-    → ts ≡ steps → map transition_of steps ≡ transitions (rules_for seen) (take 5000 seen.history.entries)
+    → ts ≡ steps → map transition_of steps ≡ transitions (rules_for seen) seen.history.entries
     → boxes ≡ map box_of ts → ((x : Arrow) → Contains arrows x ↔ IsArrow ts x)
     → bytes ≡ front ++ arrows_text program (codes "arrow") scale arrows ++ boxes_text (codes "step") scale boxes
     ++ behind → IsDrawing m bytes
@@ -29,7 +29,7 @@ drawing_of m seen program steps ts boxes arrows scale front behind bytes same p 
     record {
       steps = steps;
       traced =
-          subst (λ (x : MachineView). map transition_of steps ≡ transitions (rules_for x) (take 5000 x.history.entries))
+          subst (λ (x : MachineView). map transition_of steps ≡ transitions (rules_for x) x.history.entries)
           same traced;
       arrows = arrows;
       exactly = subst (λ (l : List Traced). (x : Arrow) → Contains arrows x ↔ IsArrow l x) same_steps exactly;

@@ -18,6 +18,15 @@ abbrev pub cell_words : List ℕ → ℕ → ℕ → ℕ → List ℕ
 cell_words task frame slot index = named_text (codes "cell ") task ++ (codes "/" ++ decimal frame)
     ++ (codes "/" ++ decimal slot) ++ (codes "/" ++ decimal index)
 
+-- what stands round it where the name of the variable is known: `x (cell 0.1.0/0/2/0)`
+abbrev pub before_cell : List ℕ → List ℕ
+before_cell [] = []
+before_cell (c ∷ cs) = escaped (c ∷ cs) ++ codes " ("
+
+abbrev pub behind_cell : List ℕ → List ℕ
+behind_cell [] = []
+behind_cell (c ∷ cs) = codes ")"
+
 -- the index of a cell is shown of an array alone
 abbrev pub index_words : Option ℕ → ℕ → List ℕ
 index_words None index = []
@@ -42,16 +51,18 @@ name_of_lock program lock = name_in (slice_get program.locks lock)
 abbrev pub lock_words : Raw → ℕ → List ℕ
 lock_words program lock = codes "lock of critical " ++ escaped (name_of_lock program lock)
 
-abbrev pub object_words : Raw → Obj → List ℕ
-object_words program (object.Control worker) = codes "control of worker " ++ decimal worker
-object_words program (object.Cell task frame slot index) = cell_words task frame slot index
-object_words program (object.Global variable index) = variable_words program variable index
-object_words program (object.Task task) = named_text (codes "task ") task
-object_words program (object.Kids task) = named_text (codes "children of task ") task
-object_words program (object.Pending team phase) = numbered_text (codes "tasks of team ") team phase
-object_words program (object.Arrived team number) = numbered_text (codes "barriers of team ") team number
-object_words program (object.Work team region) = numbered_text (codes "shares of team ") team region
-object_words program (object.Lock lock) = lock_words program lock
-object_words program (object.Group group) = named_text (codes "task group ") group
-object_words program object.Output = codes "output"
-object_words program (object.Events worker) = codes "events of worker " ++ decimal worker
+-- an object, and the name of the local variable if it is a cell of one; no bytes where that is not known
+abbrev pub object_words : Raw → List ℕ → Obj → List ℕ
+object_words program name (object.Control worker) = codes "control of worker " ++ decimal worker
+object_words program name (object.Cell task frame slot index) =
+    before_cell name ++ cell_words task frame slot index ++ behind_cell name
+object_words program name (object.Global variable index) = variable_words program variable index
+object_words program name (object.Task task) = named_text (codes "task ") task
+object_words program name (object.Kids task) = named_text (codes "children of task ") task
+object_words program name (object.Pending team phase) = numbered_text (codes "tasks of team ") team phase
+object_words program name (object.Arrived team number) = numbered_text (codes "barriers of team ") team number
+object_words program name (object.Work team region) = numbered_text (codes "shares of team ") team region
+object_words program name (object.Lock lock) = lock_words program lock
+object_words program name (object.Group group) = named_text (codes "task group ") group
+object_words program name object.Output = codes "output"
+object_words program name (object.Events worker) = codes "events of worker " ++ decimal worker

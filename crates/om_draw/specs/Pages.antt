@@ -1,5 +1,5 @@
 -- The page of a session.
-use Rattle.std.specs.Prelude.{◌≡◌, ◌↔◌, ◌++◌, ℕ, List, [], Option, None, Some, map, take, codes, Contains}
+use Rattle.std.specs.Prelude.{◌≡◌, ◌↔◌, ◌++◌, ℕ, List, [], Option, None, Some, map, codes, Contains}
 use Rattle.om_history.specs.Cones.{transitions}
 use Rattle.om_undo.specs.Machines.{MachineView, rules_for}
 use Rattle.om_journal.specs.Books.{BookView, machine_of}
@@ -21,12 +21,12 @@ Leaves input old new workers given status book =
     (left : Option (List ℕ))
     × RunsToEnd (moment_of (Some input) (Some old) []) (moment_of left (Some new) []) workers given status book
 
--- A page has the picture of the first 5,000 entries of a machine's history: the texts of its arrows and of its boxes.
--- The boxes are those of the steps, and an arrow is there exactly where the steps have one.
+-- A page has the picture of a machine's history: the texts of its arrows and of its boxes. There is a box for each entry
+-- of the history, and for nothing else. An arrow is there exactly where the steps have one.
 pub record IsDrawing (m : MachineView) (bytes : List ℕ) : Type 0 where
   -- the entries with the footprints of their steps in the replay
   pub steps : List Traced
-  pub traced : map transition_of steps ≡ transitions (rules_for m) (take 5000 m.history.entries)
+  pub traced : map transition_of steps ≡ transitions (rules_for m) m.history.entries
   pub arrows : List Arrow
   pub exactly : (x : Arrow) → Contains arrows x ↔ IsArrow steps x
   pub scale : Scale

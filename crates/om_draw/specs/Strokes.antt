@@ -13,7 +13,7 @@ use Rattle.om_draw.specs.Objects.{object_words}
 -- what is shown of an arrow when it is pointed at
 abbrev pub name_text : Raw → Arrow → List ℕ
 name_text program x = codes "<title>#" ++ decimal x.from.serial ++ codes " to #" ++ decimal x.to.serial ++ codes ": "
-    ++ object_words program x.object ++ codes "</title>"
+    ++ object_words program x.variable x.object ++ codes "</title>"
 
 abbrev pub line_text : Scale → End → End → List ℕ
 line_text scale from to = attribute_text (codes "<line x1='") (middle_of scale from.serial)
@@ -24,7 +24,7 @@ line_text scale from to = attribute_text (codes "<line x1='") (middle_of scale f
 -- the words at its head
 abbrev pub label_text : Raw → Scale → Arrow → List ℕ
 label_text program scale x = attribute_text (codes "<text x='") (label_left scale x.to.serial)
-    ++ attribute_text (codes " y='") (label_base x.from x.to) ++ codes ">" ++ object_words program x.object
+    ++ attribute_text (codes " y='") (label_base x.from x.to) ++ codes ">" ++ object_words program x.variable x.object
     ++ codes "</text>"
 
 -- an arrow at a worker's control is of one more class

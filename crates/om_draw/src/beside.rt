@@ -1,14 +1,14 @@
 //! What is drawn beside the steps that stand: how large the picture is, what was taken out, and the undos
 //! that were refused.
 
-use crate::front::{Counts, Extent};
+use crate::front::Extent;
 use crate::marks::push_box;
 use crate::scale::Scale;
 use crate::story::{Story, story_of};
-use crate::strokes::push_arrows;
+use crate::strokes::push_arrow;
 use om_code::Program;
 use om_journal::Book;
-use om_picture::{Picture, StepBox};
+use om_picture::{Picture, StepBox, Traced};
 use std::alloc::{AllocError, Global};
 
 /// How many columns a picture has at most whose boxes have words in them.
@@ -16,40 +16,29 @@ const MOST_CARDS: u64 = 400;
 
 /// What is drawn beside the steps that stand.
 #[derive(Drop)]
-pub(crate) struct Beside {
-    story: Story,
-    pub(crate) counts: Counts,
+pub(crate) struct Beside<'a> {
+    story: Story<'a>,
     pub(crate) extent: Extent,
 }
 
 /// What is drawn beside the steps of a picture, by the book of its session. The only error is out of
 /// memory.
-pub(crate) fn beside_of(
+pub(crate) fn beside_of<'a>(
     alloc: Global,
     book: &Book,
+    steps: &'a [Traced],
     picture: &Picture,
-) -> Result<Beside, AllocError> {
-    let counts = Counts {
-        drawn: picture.boxes.len(),
-        all: book.machine().history(alloc)?.len(),
-    };
-    let story = story_of(alloc, book.journal())?;
-    let extent = extent_of(picture, &story, counts, book.machine().workers());
-    Ok(Beside {
-        story,
-        counts,
-        extent,
-    })
+) -> Result<Beside<'a>, AllocError> {
+    let story = story_of(alloc, book.journal(), steps)?;
+    let extent = extent_of(picture, &story, book.machine().workers());
+    Ok(Beside { story, extent })
 }
 
 /// How large a picture is, by its first and its last step. Steps that were taken out before the first
 /// one that stands have no column.
-fn extent_of(picture: &Picture, story: &Story, counts: Counts, workers: u8) -> Extent {
+fn extent_of(picture: &Picture, story: &Story<'_>, workers: u8) -> Extent {
     let first = picture.boxes.first().map_or(1, |step| step.serial);
-    let mut last = last_serial(&picture.boxes, first);
-    if counts.drawn == counts.all {
-        last = last_serial(&story.gone, last);
-    }
+    let last = last_serial(&story.gone, last_serial(&picture.boxes, first));
     let scale = Scale {
         first,
         is_small: last.saturating_sub(first) >= MOST_CARDS,
@@ -74,7 +63,7 @@ fn last_serial(boxes: &[StepBox], least: u64) -> u64 {
 pub(crate) fn push_beside(
     text: &mut Vec<u8>,
     program: &Program,
-    beside: &Beside,
+    beside: &Beside<'_>,
 ) -> Result<(), AllocError> {
     let extent = beside.extent;
     for step in &beside.story.gone {
@@ -84,7 +73,7 @@ pub(crate) fn push_beside(
     }
     for arrow in &beside.story.refused {
         if extent.has(arrow.from.serial) && extent.has(arrow.to.serial) {
-            push_arrows(text, program, b"refused", extent.scale, &[*arrow])?;
+            push_arrow(text, program, b"refused", extent.scale, arrow)?;
         }
     }
     Ok(())

@@ -22,16 +22,13 @@ use std::io::Read;
 use std::sync::Wait;
 use std::thread::Threads;
 
-/// How many entries of a history are drawn at most.
-const MOST_DRAWN: usize = 5_000;
-
 /// The page of a session: its source beside its causal history.
 ///
 /// The reader is read to its end. It holds commands, behind a source and a line `%%` unless the options
-/// have the source. The session runs, and its replies are not shown. Of the history that it leaves the
-/// first 5,000 entries are drawn: each has a box, each box is an entry's, and an arrow stands exactly
-/// where an entry conflicts with the last one of another worker that does. What was taken out is grey,
-/// and an undo that was refused is red.
+/// have the source. The session runs, and its replies are not shown. The history that it leaves is drawn,
+/// however long it is: each entry has a box, each box is an entry's, and an arrow stands exactly where an
+/// entry conflicts with the last one of another worker that does. What was taken out is grey, and an undo
+/// that was refused is red.
 ///
 /// Errors are `Read` (H3), where a read fails, and `Memory` (H5).
 pub fn page<H: Threads + Wait + Sync, R: Read>(
@@ -91,9 +88,9 @@ fn drawn(alloc: Global, source: &[u8], book: &Book) -> Result<Vec<u8>, AllocErro
     ensures { IfOk result (λ page. IsDrawing (machine_of book.now) page.items) }
 {
     let machine = book.machine();
-    let steps = trace(alloc, machine, MOST_DRAWN)?;
+    let steps = trace(alloc, machine)?;
     let picture = picture_of(alloc, &steps)?;
-    let beside = beside_of(alloc, book, &picture)?;
+    let beside = beside_of(alloc, book, &steps, &picture)?;
     let front = front_of(alloc, machine.program(), source, &picture, &beside)?;
     with_elements(front, machine.program(), beside.extent.scale, &picture)
 }
@@ -104,16 +101,10 @@ fn front_of(
     program: &Program,
     source: &[u8],
     picture: &Picture,
-    beside: &Beside,
+    beside: &Beside<'_>,
 ) -> Result<Vec<u8>, AllocError> {
     let mut text = Vec::new(alloc);
-    push_front(
-        &mut text,
-        source,
-        &picture.boxes,
-        beside.counts,
-        beside.extent,
-    )?;
+    push_front(&mut text, source, &picture.boxes, beside.extent)?;
     push_beside(&mut text, program, beside)?;
     Ok(text)
 }

@@ -3,7 +3,7 @@
 use crate::escape::{push_attribute, push_escaped};
 use crate::marks::push_hue;
 use crate::scale::Scale;
-use crate::style::{HEAD, HEADS, LEGEND};
+use crate::style::{FEWER, HEAD, HEADS, LEGEND, WORDS_END};
 use om_command::push_numbered;
 use om_picture::StepBox;
 use std::alloc::AllocError;
@@ -34,39 +34,33 @@ impl Extent {
     }
 }
 
-/// How many entries of a history there are, and how many of them are drawn.
-#[derive(Clone, Copy)]
-pub(crate) struct Counts {
-    pub(crate) drawn: usize,
-    pub(crate) all: usize,
-}
+/// From how many steps on a page says how fewer are drawn.
+const MANY: usize = 5_000;
 
 /// Appends all that stands before the elements of the picture.
 pub(crate) fn push_front(
     text: &mut Vec<u8>,
     source: &[u8],
     boxes: &[StepBox],
-    counts: Counts,
     extent: Extent,
 ) -> Result<(), AllocError> {
     text.extend_from_slice(HEAD)?;
     push_source(text, source, boxes)?;
     text.extend_from_slice(b"<main>\n")?;
-    push_words(text, counts)?;
+    push_words(text, boxes.len())?;
     push_lane_names(text, extent)?;
     push_picture_begin(text, extent)?;
     push_lanes(text, extent)
 }
 
 /// Appends how many steps there are.
-fn push_words(text: &mut Vec<u8>, counts: Counts) -> Result<(), AllocError> {
-    if counts.drawn < counts.all {
-        push_numbered(text, b"<p>The first ", counts.drawn)?;
-        push_numbered(text, b" of ", counts.all)?;
-    } else {
-        push_numbered(text, b"<p>", counts.all)?;
+fn push_words(text: &mut Vec<u8>, steps: usize) -> Result<(), AllocError> {
+    push_numbered(text, b"<p>", steps)?;
+    text.extend_from_slice(LEGEND)?;
+    if steps >= MANY {
+        text.extend_from_slice(FEWER)?;
     }
-    text.extend_from_slice(LEGEND)
+    text.extend_from_slice(WORDS_END)
 }
 
 /// Appends the source, each line with its number, and those that have a box in its hue.

@@ -2,7 +2,7 @@
 
 ghost use Rattle.std.specs.Prelude.{◌≡◌, ◌++◌, OnOk};
 ghost use Rattle.om_foot.specs.Names.{name_text};
-ghost use Rattle.om_draw.specs.Objects.{named_text, numbered_text, cell_words, index_words, variable_words, name_of_lock, lock_words, object_words};
+ghost use Rattle.om_draw.specs.Objects.{named_text, numbered_text, before_cell, behind_cell, cell_words, index_words, variable_words, name_of_lock, lock_words, object_words};
 
 use crate::escape::{push_after, push_escaped};
 use om_code::Program;
@@ -10,13 +10,16 @@ use om_command::push_numbered;
 use om_foot::{Name, Obj};
 use std::alloc::AllocError;
 
-/// Appends the words for an object: a global variable has its name in the source.
+/// Appends the words for an object: a global variable has its name in the source. `variable` is the name
+/// of the local variable if the object is a cell of one; it is empty where that is not known.
 pub(crate) fn push_object(
     text: &mut Vec<u8>,
     program: &Program,
+    variable: &[u8],
     object: &Obj,
 ) -> Result<(), AllocError>
-    ensures { OnOk result (text.new.items ≡ text.old.items ++ object_words program.now object.now) }
+    ensures { OnOk result
+        (text.new.items ≡ text.old.items ++ object_words program.now variable.now object.now) }
 {
     match object {
         Obj::Control(worker) => push_numbered(text, b"control of worker ", *worker),
@@ -25,7 +28,11 @@ pub(crate) fn push_object(
             frame,
             slot,
             index,
-        } => push_cell(text, task, *frame, *slot, *index),
+        } => {
+            push_before_cell(text, variable)?;
+            push_cell(text, task, *frame, *slot, *index)?;
+            push_behind_cell(text, variable)
+        }
         Obj::Global { variable, index } => push_variable(text, program, *variable, *index),
         Obj::Task(task) => push_named(text, b"task ", task),
         Obj::Kids(task) => push_named(text, b"children of task ", task),
@@ -61,6 +68,29 @@ fn push_in_team(
 {
     push_named(text, before, team)?;
     push_numbered(text, b" number ", number)
+}
+
+/// Appends what stands before a cell: the name of its variable, if it is known.
+fn push_before_cell(text: &mut Vec<u8>, name: &[u8]) -> Result<(), AllocError>
+    ensures { OnOk result (text.new.items ≡ text.old.items ++ before_cell name.now) }
+{
+    match name {
+        [] => Ok(()),
+        [_, ..] => {
+            push_escaped(text, name)?;
+            text.extend_from_slice(b" (")
+        }
+    }
+}
+
+/// Appends what stands behind it.
+fn push_behind_cell(text: &mut Vec<u8>, name: &[u8]) -> Result<(), AllocError>
+    ensures { OnOk result (text.new.items ≡ text.old.items ++ behind_cell name.now) }
+{
+    match name {
+        [] => Ok(()),
+        [_, ..] => text.extend_from_slice(b")"),
+    }
 }
 
 /// Appends the words for a cell of a local variable.

@@ -3,29 +3,39 @@
 use om_foot::Obj;
 use om_history::{RollReply, StepReply, Taken, UndoReply};
 use om_journal::{Command, JournalRecord, Reply};
-use om_picture::{Arrow, End, StepBox};
+use om_picture::{Arrow, End, StepBox, Traced};
 use om_seq::Seq;
 use std::alloc::{AllocError, Global};
 use std::collections::BTreeMap;
 
 /// What a session did beside the steps that stand.
 #[derive(Drop)]
-pub(crate) struct Story {
+pub(crate) struct Story<'a> {
     /// The steps that `undo` and `roll` took out.
     pub(crate) gone: Vec<StepBox>,
     /// For each undo that was refused an arrow from the step in the way to the one that stayed.
     pub(crate) refused: Vec<Arrow>,
-    /// The worker of each step that stands, by its serial.
-    standing: BTreeMap<u64, u8>,
+    /// The serials of each worker's steps that stand, the last one last.
+    standing: Vec<Vec<u64>>,
+    /// The steps that stand at the end, by their serials.
+    steps: BTreeMap<u64, &'a Traced>,
 }
 
-/// The story of the calls of a journal. The only error is out of memory.
-pub(crate) fn story_of(alloc: Global, journal: &[JournalRecord]) -> Result<Story, AllocError> {
+/// The story of the calls of a journal that leave these steps. The only error is out of memory.
+pub(crate) fn story_of<'a>(
+    alloc: Global,
+    journal: &[JournalRecord],
+    steps: &'a [Traced],
+) -> Result<Story<'a>, AllocError> {
     let mut story = Story {
         gone: Vec::new(alloc),
         refused: Vec::new(alloc),
-        standing: BTreeMap::new(alloc),
+        standing: Vec::new(alloc),
+        steps: BTreeMap::new(alloc),
     };
+    for step in steps {
+        let _ = story.steps.insert(step.entry.serial, step)?;
+    }
     for record in journal {
         story.follow(alloc, record)?;
     }
@@ -41,12 +51,12 @@ fn worker_of(command: &Command) -> Option<u8> {
     }
 }
 
-impl Story {
+impl Story<'_> {
     /// Takes one more call in.
     fn follow(&mut self, alloc: Global, record: &JournalRecord) -> Result<(), AllocError> {
         match &record.reply {
             Reply::Step(StepReply::Done { serial, .. }) => {
-                self.stand(*serial, worker_of(&record.command.get()))
+                self.stand(alloc, *serial, worker_of(&record.command.get()))
             }
             Reply::Undo(reply) => {
                 self.undo(alloc, worker_of(&record.command.get()), &reply.get())
@@ -57,11 +67,16 @@ impl Story {
     }
 
     /// A step was made.
-    fn stand(&mut self, serial: u64, worker: Option<u8>) -> Result<(), AllocError> {
+    fn stand(&mut self, alloc: Global, serial: u64, worker: Option<u8>) -> Result<(), AllocError> {
         let Some(worker) = worker else {
             return Ok(());
         };
-        let _ = self.standing.insert(serial, worker)?;
+        for _ in self.standing.len()..usize::from(worker) + 1 {
+            self.standing.push(Vec::new(alloc))?;
+        }
+        if let Some(serials) = self.standing.get_mut(usize::from(worker)) {
+            serials.push(serial)?;
+        }
         Ok(())
     }
 
@@ -89,6 +104,7 @@ impl Story {
                 worker: other,
                 object,
             } => self.refuse(
+                alloc,
                 worker,
                 End {
                     serial: *serial,
@@ -108,9 +124,11 @@ impl Story {
         Ok(())
     }
 
-    /// A step was taken out.
+    /// A step was taken out: the last one of its worker.
     fn leave(&mut self, alloc: Global, taken: &Taken) -> Result<(), AllocError> {
-        let _ = self.standing.remove(&taken.serial);
+        if let Some(serials) = self.standing.get_mut(usize::from(taken.worker)) {
+            let _ = serials.pop();
+        }
         let value = Seq::of(Vec::from_slice(alloc, b"taken out")?);
         self.gone.push(StepBox {
             serial: taken.serial,
@@ -122,21 +140,44 @@ impl Story {
         Ok(())
     }
 
-    /// An undo of a worker's last step was refused, for a step in the way.
-    fn refuse(&mut self, worker: u8, in_the_way: End, object: &Obj) -> Result<(), AllocError> {
-        let mut last = None;
-        for (serial, owner) in self.standing.iter() {
-            if *owner == worker {
-                last = Some(*serial);
-            }
+    /// The local variable that a step names, if it stands at the end and names one.
+    fn variable_of(&self, serial: u64) -> &[u8] {
+        match self.steps.get(&serial) {
+            Some(step) => step.variable.as_slice(),
+            None => &[],
         }
-        let Some(serial) = last else {
+    }
+
+    /// The local variable that the first of two steps names, or else the second.
+    fn variable_between(&self, from: u64, to: u64) -> &[u8] {
+        match self.variable_of(from) {
+            [] => self.variable_of(to),
+            named => named,
+        }
+    }
+
+    /// An undo of a worker's last step was refused, for a step in the way.
+    fn refuse(
+        &mut self,
+        alloc: Global,
+        worker: u8,
+        in_the_way: End,
+        object: &Obj,
+    ) -> Result<(), AllocError> {
+        let Some(serials) = self.standing.get(usize::from(worker)) else {
             return Ok(());
         };
+        let Some(serial) = serials.last() else {
+            return Ok(());
+        };
+        let serial = *serial;
+        let variable = self.variable_between(in_the_way.serial, serial);
+        let variable = Seq::of(Vec::from_slice(alloc, variable)?);
         self.refused.push(Arrow {
             from: in_the_way,
             to: End { serial, worker },
             object: *object,
+            variable,
         })?;
         Ok(())
     }

@@ -19,7 +19,7 @@ fn push_name(text: &mut Vec<u8>, program: &Program, arrow: &Arrow) -> Result<(),
     push_numbered(text, b"<title>#", arrow.from.serial)?;
     push_numbered(text, b" to #", arrow.to.serial)?;
     text.extend_from_slice(b": ")?;
-    push_object(text, program, &arrow.object)?;
+    push_object(text, program, arrow.variable.as_slice(), &arrow.object)?;
     text.extend_from_slice(b"</title>")
 }
 
@@ -47,7 +47,7 @@ fn push_label(
     push_attribute(text, b"<text x='", scale.label_left(arrow.to.serial))?;
     push_attribute(text, b" y='", label_base(arrow.from, arrow.to))?;
     text.extend_from_slice(b">")?;
-    push_object(text, program, &arrow.object)?;
+    push_object(text, program, arrow.variable.as_slice(), &arrow.object)?;
     text.extend_from_slice(b"</text>")
 }
 
@@ -64,7 +64,7 @@ fn push_class(text: &mut Vec<u8>, class: &[u8], object: &Obj) -> Result<(), Allo
 }
 
 /// Appends an arrow of a class.
-fn push_arrow(
+pub(crate) fn push_arrow(
     text: &mut Vec<u8>,
     program: &Program,
     class: &[u8],

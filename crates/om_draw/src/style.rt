@@ -52,7 +52,15 @@ pub(crate) const LEGEND: &[u8] =
     b" steps that stand. An arrow goes from a step to a later one of another \
 worker that conflicts with it, and names the object. Those at a worker's control, as from a fork to each \
 step of a new worker, are faint, and not shown among marks. Grey: taken out. Red, broken: an undo that was \
-refused.</p>\n<div>\n";
+refused.";
+
+/// What stands behind the legend of a page with many steps.
+pub(crate) const FEWER: &[u8] =
+    b" So many steps are slow to open and hard to survey, and all of them are \
+here. A shorter session draws fewer, and so do `undo` and `roll`.";
+
+/// What ends the words above the picture.
+pub(crate) const WORDS_END: &[u8] = b"</p>\n<div>\n";
 
 /// What stands in the picture before its lanes: the heads of arrows.
 pub(crate) const HEADS: &[u8] = b"<defs><marker id='head' viewBox='0 0 8 8' refX='8' refY='4' \

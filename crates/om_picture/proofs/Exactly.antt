@@ -12,7 +12,7 @@ use Rattle.om_foot.specs.Footprint.{conflict_of}
 use Rattle.om_picture.specs.declared.traced.Traced.{Traced}
 use Rattle.om_picture.specs.declared.picture.Arrow.{Arrow}
 use Rattle.om_picture.specs.Pictures.{end_of, hides, is_hidden, object_between, arrow_at, arrow_if, arrow_between, arrows_into}
-use Rattle.om_picture.specs.Pictures.{arrows_behind, arrows_of, IsFreeOf, IsArrow}
+use Rattle.om_picture.specs.Pictures.{arrows_behind, arrows_of, variable_of, IsFreeOf, IsArrow}
 
 -- ---- what hides an arrow
 
@@ -90,6 +90,7 @@ record IsInto (us : List Traced) (b : Traced) (x : Arrow) : Type 0 where
   last : AllByRecursion (IsFreeOf a.entry.worker b) between
   from_is : x.from ≡ end_of a
   to_is : x.to ≡ end_of b
+  variable_is : x.variable ≡ variable_of a b
 
 nothing : {X : Type 0} (x : X) → Contains [] x → ⊥
 nothing x h = omega (arith, h.1)
@@ -115,6 +116,7 @@ first_by a rest b x (Some q) e h =
       last = none_hides a.entry.worker rest b parts.seen;
       from_is = sym (ap (λ (y : Arrow). y.from) is);
       to_is = sym (ap (λ (y : Arrow). y.to) is);
+      variable_is = sym (ap (λ (y : Arrow). y.variable) is);
     }
 
 behind_one : (a : Traced) (us : List Traced) (b : Traced) (x : Arrow) → IsInto us b x → IsInto (a ∷ us) b x
@@ -128,6 +130,7 @@ behind_one a us b x y = record {
   last = y.last;
   from_is = y.from_is;
   to_is = y.to_is;
+  variable_is = y.variable_is;
 }
 
 into_sound : (us : List Traced) (b : Traced) (x : Arrow) → Contains (arrows_into us b) x → IsInto us b x
@@ -137,17 +140,17 @@ into_sound (a ∷ rest) b x h =
     (λ r. behind_one a rest b x (into_sound rest b x r))
     (Contains-append_cases (arrow_between a rest b) (arrows_into rest b) x h)
 
-arrow_there : (a b : Traced) (x : Arrow) → x.from ≡ end_of a → x.to ≡ end_of b
+arrow_there : (a b : Traced) (x : Arrow) → x.from ≡ end_of a → x.to ≡ end_of b → x.variable ≡ variable_of a b
     → Contains (arrow_if a b (Some x.object)) x
-arrow_there a b x from_is to_is =
+arrow_there a b x from_is to_is variable_is =
     let is : arrow_at a b x.object ≡ x =
-    λ i. record { from = sym from_is i; to = sym to_is i; object = x.object } in
+    λ i. record { from = sym from_is i; to = sym to_is i; object = x.object; variable = sym variable_is i } in
     subst (λ y. Contains (y ∷ []) x) (sym is) (Contains-push [] x)
 
 here : (a : Traced) (between : List Traced) (b : Traced) (x : Arrow) → object_between a between b ≡ Some x.object
-    → x.from ≡ end_of a → x.to ≡ end_of b → Contains (arrow_between a between b) x
-here a between b x e from_is to_is =
-    subst (λ o. Contains (arrow_if a b o) x) (sym e) (arrow_there a b x from_is to_is)
+    → x.from ≡ end_of a → x.to ≡ end_of b → x.variable ≡ variable_of a b → Contains (arrow_between a between b) x
+here a between b x e from_is to_is variable_is =
+    subst (λ o. Contains (arrow_if a b o) x) (sym e) (arrow_there a b x from_is to_is variable_is)
 
 into_at : (before : List Traced) (a : Traced) (between : List Traced) (b : Traced) (x : Arrow)
     → Contains (arrow_between a between b) x → Contains (arrows_into (before ++ a ∷ between) b) x
@@ -164,7 +167,7 @@ into_complete us b x y =
     (is_false _ (λ e. y.other_worker ((Decides-eqb y.a.entry.worker b.entry.worker).0 e)))
     (not_hidden y.a.entry.worker y.between b y.last) y.conflict in
     subst (λ l. Contains (arrows_into l b) x) (sym y.place)
-    (into_at y.before y.a y.between b x (here y.a y.between b x object y.from_is y.to_is))
+    (into_at y.before y.a y.between b x (here y.a y.between b x object y.from_is y.to_is y.variable_is))
 
 -- ---- the arrows into all steps
 
@@ -224,6 +227,7 @@ sound ts x h =
       last = z.last;
       from_is = z.from_is;
       to_is = z.to_is;
+      variable_is = z.variable_is;
     }
 
 complete : (ts : List Traced) (x : Arrow) → IsArrow ts x → Contains (arrows_of ts) x
@@ -239,6 +243,7 @@ complete ts x y =
       last = y.last;
       from_is = y.from_is;
       to_is = y.to_is;
+      variable_is = y.variable_is;
     }))
 
 -- what the list has is an arrow, and each arrow is in the list

@@ -1,3 +1,4 @@
+pub mod Apart
+pub mod Entries
 pub mod Exactly
 pub mod Replays
-pub mod Firsts

@@ -1,5 +1,5 @@
 -- A history that is made again from its entries.
-use Rattle.std.proofs.Common.{◌≡◌, refl, ap, sym, ◌∙◌, subst, ℕ, zero, suc, ◌+◌, ◌<◌, Option, None, Some, List, [], ◌∷◌, ◌++◌}
+use Rattle.std.proofs.Common.{◌≡◌, refl, ap, sym, ◌∙◌, subst, ℕ, suc, ◌+◌, ◌<◌, Option, None, Some, List, [], ◌∷◌, ◌++◌}
 use Rattle.std.proofs.Common.{length, take, drop, get_or, arith, length-append, take-append-drop}
 use Rattle.std.specs.Prelude.{map, unwrap_or}
 use Rattle.std.proofs.lemmas.List.{map-append, take_more}
@@ -195,16 +195,3 @@ split_at es i e less is =
 pub taken_more : (es : List Entry) (i : ℕ) (e : Entry) → i < length es → e ≡ get_or es i e
     → take (i + 1) es ≡ take i es ++ e ∷ []
 taken_more es i e less is = take_more es i e less ∙ ap (λ x. take i es ++ x ∷ []) (sym is)
-
--- ---- the first of the entries
-
--- where entries can be made in turn, so can the first of them
-pub front_replays : (r : Rules) (from last : State) (n : ℕ) (es : List Entry)
-    → replay_from r from (map label_of es) ≡ Some last
-    → (t : State) × (replay_from r from (map label_of (take n es)) ≡ Some t)
-front_replays r from last zero es h = (from, refl)
-front_replays r from last (suc n) [] h = (last, h)
-front_replays r from last (suc n) (x ∷ xs) h =
-    let y = then_by r (next_state r from (label_of x)) (λ t. replay_from r t (map label_of xs)) last h in
-    let z = front_replays r y.mid last n xs y.rest in
-    (z.0, ap (λ o. and_then o (λ t. replay_from r t (map label_of (take n xs)))) y.first ∙ z.1)

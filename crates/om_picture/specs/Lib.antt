@@ -1,2 +1,3 @@
 pub mod Pictures
+pub mod Sets
 pub mod Traces

@@ -1,5 +1,5 @@
 -- The picture of a history: its boxes and its arrows.
-use Rattle.std.specs.Prelude.{◌≡◌, ◌≢◌, ◌==◌, ◌&&◌, ◌||◌, ℕ, Bool, true, false, cond, is_some, Option, None, Some, List}
+use Rattle.std.specs.Prelude.{◌≡◌, ◌≢◌, ◌==◌, ◌&&◌, ◌||◌, ℕ, Bool, true, false, cond, not, is_some, Option, None, Some, List}
 use Rattle.std.specs.Prelude.{[], ◌∷◌, ◌++◌}
 use Rattle.std.specs.List.{AllByRecursion}
 use Rattle.om_foot.specs.declared.object.Obj.{Obj}
@@ -35,13 +35,26 @@ abbrev pub is_hidden : ℕ → List Traced → Traced → Bool
 is_hidden w [] b = false
 is_hidden w (c ∷ rest) b = cond (hides w c b) true (is_hidden w rest b)
 
+-- a step conflicts with a later one of another worker
+abbrev pub meets_other : Traced → Traced → Bool
+meets_other a b = not (a.entry.worker == b.entry.worker) && is_some (conflict_of a.footprint b.footprint)
+
 -- the object that an arrow from one step to a later one names, if there is such an arrow
 abbrev pub object_between : Traced → List Traced → Traced → Option Obj
 object_between a between b = cond ((a.entry.worker == b.entry.worker) || is_hidden a.entry.worker between b) None
     (conflict_of a.footprint b.footprint)
 
+-- the first of two names that has bytes
+abbrev pub first_named : List ℕ → List ℕ → List ℕ
+first_named [] later = later
+first_named (c ∷ cs) later = c ∷ cs
+
+-- the local variable that the earlier step named, or else the later one
+abbrev pub variable_of : Traced → Traced → List ℕ
+variable_of a b = first_named a.variable b.variable
+
 abbrev pub arrow_at : Traced → Traced → Obj → Arrow
-arrow_at a b q = record { from = end_of a; to = end_of b; object = q }
+arrow_at a b q = record { from = end_of a; to = end_of b; object = q; variable = variable_of a b }
 
 abbrev pub arrow_if : Traced → Traced → Option Obj → List Arrow
 arrow_if a b None = []
@@ -81,3 +94,4 @@ pub record IsArrow (ts : List Traced) (x : Arrow) : Type 0 where
   pub last : AllByRecursion (IsFreeOf a.entry.worker b) between
   pub from_is : x.from ≡ end_of a
   pub to_is : x.to ≡ end_of b
+  pub variable_is : x.variable ≡ variable_of a b

@@ -35,12 +35,15 @@ pub struct End {
 }
 
 /// An arrow from a step to a later one of another worker that conflicts with it.
-#[derive(Clone, Copy)]
+#[derive(Drop)]
 pub struct Arrow {
     pub from: End,
     pub to: End,
     /// The first object of the earlier step's footprint at which the two conflict.
     pub object: Obj,
+    /// The cell of a local variable that the earlier step named, or else that the later one named, as
+    /// the source has it; no bytes where neither named one. Where the object is a cell, it is this one.
+    pub variable: Seq<u8>,
 }
 
 /// The picture of a history.

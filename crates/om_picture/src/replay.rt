@@ -1,6 +1,6 @@
 //! The steps of a history, made again one by one, with what each touched and did.
 
-ghost use Rattle.std.specs.Prelude.{◌≡◌, ◌≤◌, ◌<◌, ◌^◌, map, take, length, IfOk, OnOk};
+ghost use Rattle.std.specs.Prelude.{◌≡◌, ◌≤◌, ◌<◌, ◌^◌, map, length, IfOk, OnOk};
 ghost use Rattle.om_cells.specs.Rules.{Rules};
 ghost use Rattle.om_task.specs.Rules.{rules_of};
 ghost use Rattle.om_history.specs.Runs.{label_of};
@@ -11,7 +11,7 @@ ghost use Rattle.om_picture.specs.Pictures.{transition_of};
 ghost use Rattle.om_picture.specs.Traces.{CanReplay, CanBeMade, footprint_for, transition_for, IsLonger};
 
 use crate::traced::Traced;
-use crate::words::Words;
+use crate::words::{Spoken, Words};
 use om_cells::Label;
 use om_code::Program;
 use om_foot::Access;
@@ -24,32 +24,14 @@ use om_undo::laws::{shaped_rules, steady_rules};
 use om_undo::{Entry, Machine};
 use std::alloc::{AllocError, Global};
 
-/// The first steps of a machine's history, at most so many, each with what it touched and did at its
-/// place in the replay. They are made again, each once. The only error is out of memory.
-pub fn trace(alloc: Global, machine: &Machine, most: usize) -> Result<Vec<Traced>, AllocError>
-    requires { most < 2 ^ 63 }
+/// The steps of a machine's history, each with what it touched and did at its place in the replay.
+/// They are made again, each once. The only error is out of memory.
+pub fn trace(alloc: Global, machine: &Machine) -> Result<Vec<Traced>, AllocError>
     ensures { IfOk result (λ steps. map transition_of steps.items
-        ≡ transitions (rules_for machine.now) (take most machine.now.history.entries)) }
+        ≡ transitions (rules_for machine.now) machine.now.history.entries) }
 {
     let entries = machine.history(alloc)?;
-    retraced(
-        alloc,
-        machine.program(),
-        machine.workers(),
-        first_of(&entries, most),
-    )
-}
-
-/// The first entries, at most so many.
-fn first_of(entries: &[Entry], most: usize) -> &[Entry]
-    ensures first { result.now ≡ take most entries.now }
-    ensures few { length result.now ≤ most }
-{
-    if most < entries.len() {
-        &entries[..most]
-    } else {
-        entries
-    }
+    retraced(alloc, machine.program(), machine.workers(), &entries)
 }
 
 /// The steps of entries that can be made in turn from the start of a program with so many workers. The
@@ -100,11 +82,16 @@ fn traced(
     let words = Words::of(alloc, program, history.store(), &label, &plan)?;
     match remade(alloc, history, &label, plan) {
         Ok(footprint) => {
-            let (instruction, value) = words.behind(history.store(), label.worker)?;
+            let Spoken {
+                instruction,
+                variable,
+                value,
+            } = words.behind(history.store(), label.worker)?;
             Ok(Traced {
                 entry: *entry,
                 footprint,
                 instruction,
+                variable,
                 value,
             })
         }

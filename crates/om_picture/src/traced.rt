@@ -12,6 +12,9 @@ pub struct Traced {
     pub footprint: Seq<Access>,
     /// The name of its instruction.
     pub instruction: Seq<u8>,
+    /// The cell of a local variable that the instruction names, as `x` or `a[2]`; no bytes where it
+    /// names none.
+    pub variable: Seq<u8>,
     /// The variable that the instruction names and a value, as far as it has them, as `x = 1`: what the
     /// step put there, or else what it left on its stack.
     pub value: Seq<u8>,

@@ -1,20 +1,32 @@
 //! What a step did, in words: its instruction, the variable that it names, and a value.
 
+use crate::variable::{local_at, place_of, push_variable};
 use om_cells::{Label, Update, Val};
 use om_code::frame::{Cell, Operand};
 use om_code::instruction::Place;
 use om_code::{Instr, Program};
 use om_command::{push_number, push_numbered};
 use om_live::{Control, Frame, Store};
-use om_lookup::{Var, variable_at};
 use om_seq::Seq;
 use om_task::{Choice, Plan};
 use std::alloc::{AllocError, Global};
+
+/// What is said of a step that was made.
+#[derive(Drop)]
+pub(crate) struct Spoken {
+    /// The name of its instruction.
+    pub(crate) instruction: Seq<u8>,
+    /// The cell of a local variable that it names.
+    pub(crate) variable: Seq<u8>,
+    /// The variable and a value.
+    pub(crate) value: Seq<u8>,
+}
 
 /// The words of a step: its instruction, and the variable and the value that it has.
 #[derive(Drop)]
 pub(crate) struct Words {
     name: Vec<u8>,
+    variable: Vec<u8>,
     value: Vec<u8>,
     /// Whether the step puts a value into a variable, which stands in the words.
     is_put: bool,
@@ -31,12 +43,14 @@ impl Words {
         plan: &Plan,
     ) -> Result<Words, AllocError> {
         let mut name = Vec::new(alloc);
+        let mut variable = Vec::new(alloc);
         let mut value = Vec::new(alloc);
         if let Choice::Start(task) = &label.choice {
             name.extend_from_slice(b"START")?;
             task.text(&mut value)?;
         } else if let Some(Control::Running(stack)) = store.control(label.worker) {
             push_instruction(&mut name, &mut value, program, &stack.top.frame)?;
+            push_variable(&mut variable, program, &stack.top.frame, plan)?;
         }
         let number = number_put(plan);
         if let Some(number) = number {
@@ -44,28 +58,29 @@ impl Words {
         }
         Ok(Words {
             name,
+            variable,
             value,
             is_put: number.is_some(),
         })
     }
 
-    /// The instruction, and the variable and the value: the one that the step put into a variable, or
-    /// else the one that it left on its worker's stack in the store behind it. The only error is out
-    /// of memory.
-    pub(crate) fn behind(
-        self,
-        store: &Store,
-        worker: u8,
-    ) -> Result<(Seq<u8>, Seq<u8>), AllocError> {
+    /// What is said of the step, by the store behind it: its value is the one that it put into a
+    /// variable, or else the one that it left on its worker's stack. The only error is out of memory.
+    pub(crate) fn behind(self, store: &Store, worker: u8) -> Result<Spoken, AllocError> {
         let Words {
             name,
+            variable,
             mut value,
             is_put,
         } = self;
         if !is_put {
             push_top(&mut value, store, worker)?;
         }
-        Ok((Seq::of(name), Seq::of(value)))
+        Ok(Spoken {
+            instruction: Seq::of(name),
+            variable: Seq::of(variable),
+            value: Seq::of(value),
+        })
     }
 }
 
@@ -82,14 +97,10 @@ fn push_instruction(
     if let Some(word) = name_in_sequence(instruction).or(name_in_construct(instruction)) {
         name.extend_from_slice(word)?;
     }
+    if let Some(place) = place_of(instruction) {
+        return push_place(value, program, frame, place);
+    }
     match instruction {
-        Instr::Load(place)
-        | Instr::Store { place, .. }
-        | Instr::LoadElement(place)
-        | Instr::StoreElement { place, .. }
-        | Instr::Atomic { place, .. }
-        | Instr::AtomicElement { place, .. }
-        | Instr::Reduce { place, .. } => push_place(value, program, frame, place),
         Instr::AskCritical(lock) | Instr::EnterCritical(lock) | Instr::LeaveCritical(lock) => {
             push_lock(value, program, lock)
         }
@@ -122,29 +133,11 @@ fn push_place(
 ) -> Result<(), AllocError> {
     match place {
         Place::Global(variable) => push_global(text, program, variable),
-        Place::Slot(slot) => match name_at(program, frame, slot) {
-            Some(name) => text.extend_from_slice(name),
+        Place::Slot(slot) => match local_at(program, frame, slot) {
+            Some(local) => text.extend_from_slice(local.name),
             None => push_numbered(text, b"slot ", slot),
         },
     }
-}
-
-/// The name of a local variable where a frame is: the one that means this slot there.
-fn name_at<'a>(program: &'a Program, frame: &Frame, slot: u32) -> Option<&'a [u8]> {
-    for body in program.bodies() {
-        for scope in body.names.scopes.as_slice() {
-            let name = scope.name.as_slice();
-            if is_slot(variable_at(program, frame.body, frame.next, name), slot) {
-                return Some(name);
-            }
-        }
-    }
-    None
-}
-
-/// Whether a variable is in a slot.
-fn is_slot(variable: Option<Var>, slot: u32) -> bool {
-    matches!(variable, Some(Var::Slot { slot: other, .. }) if other == slot)
 }
 
 /// The number that the step of a plan puts into a variable, if it puts one.

@@ -1,10 +1,10 @@
-use Rattle.std.proofs.Common.{◌∙◌, ap, take}
-use Rattle.om_picture.proofs.Firsts.{first_replays}
+use Rattle.std.proofs.Common.{◌∙◌}
+use Rattle.om_picture.proofs.Entries.{all_replay}
 use Rattle.om_picture.proofs.replay.trace.Goals as goal
 
 pub retraced-requires-clause-replayed : goal.retraced-requires-clause-replayed
 retraced-requires-clause-replayed c =
-    first_replays c.args.machine.now c.program.result.now c.workers.result c.args.most c.first_of.result.now
+    all_replay c.args.machine.now c.program.result.now c.workers.result c.deref.result.now
     c.program.ensures c.workers.ensures.same
-    (c.first_of.ensures.first ∙ ap (take c.args.most) (c.deref.ensures.value ∙ c.in_ok-entries.ensures.entries))
+    (c.deref.ensures.value ∙ c.in_ok-entries.ensures.entries)
     c.history.ensures.replayed

@@ -1,0 +1,114 @@
+//! The variable that an instruction names, as the source has it.
+
+use om_code::instruction::Place;
+use om_code::{Instr, Program};
+use om_command::push_numbered;
+use om_foot::Obj;
+use om_live::Frame;
+use om_lookup::{Var, variable_at};
+use om_task::Plan;
+use std::alloc::AllocError;
+
+/// A local variable, as its function has it.
+#[derive(Clone, Copy)]
+pub(crate) struct Local<'a> {
+    pub(crate) name: &'a [u8],
+    pub(crate) is_array: bool,
+}
+
+/// The place of the variable that an instruction names, if it names one. A reduction into a local
+/// variable names its copy, which has the variable's name where the two are combined.
+pub(crate) fn place_of(instruction: Instr) -> Option<Place> {
+    match instruction {
+        Instr::Reduce {
+            copy,
+            place: Place::Slot(_),
+            ..
+        } => Some(Place::Slot(copy)),
+        Instr::Load(place)
+        | Instr::Store { place, .. }
+        | Instr::LoadElement(place)
+        | Instr::StoreElement { place, .. }
+        | Instr::Atomic { place, .. }
+        | Instr::AtomicElement { place, .. }
+        | Instr::Reduce { place, .. } => Some(place),
+        _ => None,
+    }
+}
+
+/// The local variable of this name where a frame is, if it is in this slot.
+fn local_named<'a>(
+    program: &Program,
+    frame: &Frame,
+    name: &'a [u8],
+    slot: u32,
+) -> Option<Local<'a>> {
+    let Some(
+        Var::Slot {
+            slot: found,
+            length,
+        },
+    ) = variable_at(program, frame.body, frame.next, name)
+    else {
+        return None;
+    };
+    if found != slot {
+        return None;
+    }
+    Some(Local {
+        name,
+        is_array: length.is_some(),
+    })
+}
+
+/// The local variable that means this slot where a frame is.
+pub(crate) fn local_at<'a>(program: &'a Program, frame: &Frame, slot: u32) -> Option<Local<'a>> {
+    for body in program.bodies() {
+        for scope in body.names.scopes.as_slice() {
+            let local = local_named(program, frame, scope.name.as_slice(), slot);
+            if local.is_some() {
+                return local;
+            }
+        }
+    }
+    None
+}
+
+/// The index of the first cell of a local variable that the step of a plan touches, 0 where it touches
+/// none.
+fn index_touched(plan: &Plan) -> u32 {
+    let Plan::Updates(change) = plan else {
+        return 0;
+    };
+    for access in change.footprint.as_slice() {
+        if let Obj::Cell { index, .. } = &access.object {
+            return *index;
+        }
+    }
+    0
+}
+
+/// Appends the cell of a local variable that the instruction of a frame names, as `x` or `a[2]`, by the
+/// plan of its step; nothing where it names none.
+pub(crate) fn push_variable(
+    text: &mut Vec<u8>,
+    program: &Program,
+    frame: &Frame,
+    plan: &Plan,
+) -> Result<(), AllocError> {
+    let Some(instruction) = program.instruction(frame.body, frame.next) else {
+        return Ok(());
+    };
+    let Some(Place::Slot(slot)) = place_of(instruction) else {
+        return Ok(());
+    };
+    let Some(local) = local_at(program, frame, slot) else {
+        return Ok(());
+    };
+    text.extend_from_slice(local.name)?;
+    if local.is_array {
+        push_numbered(text, b"[", index_touched(plan))?;
+        text.extend_from_slice(b"]")?;
+    }
+    Ok(())
+}
