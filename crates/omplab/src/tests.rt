@@ -41,6 +41,14 @@ fn accepts_a_source(rt: HostRuntime) {
     let done = check(rt.alloc(), "a.c", options(RACE), &mut text);
     assert_eq!(rt; text_of(&text), "a.c: accepted\n");
     assert!(rt; matches!(done, Ok(0)));
+    let mut text = Vec::new(rt.alloc());
+    let source = options("int main(void)\n{\n#pragma omp parallel num_threads(3)\n    ;\n}\n");
+    let done = check(rt.alloc(), "a.c", source, &mut text);
+    let wanted = "a.c: accepted
+a.c:3:22: note: with --threads 2 this team has at most 2
+";
+    assert_eq!(rt; text_of(&text), wanted);
+    assert!(rt; matches!(done, Ok(0)));
 }
 
 #[test]
@@ -100,6 +108,9 @@ fn puts_words_behind_answers(rt: HostRuntime) {
     let mut text = Vec::new(rt.alloc());
     let answers = "#4 worker 0 line 6
 blocked B1
+break 6
+no break 6
+ran 9 break 6 worker 0
 refused by #11 worker 1 on global x
 output 2 bytes
 1
@@ -114,6 +125,9 @@ x = 1
     );
     let wanted = "#4 worker 0 line 6 | x = x + 1;
 blocked B1 | it waits at a barrier: step the other threads, and begin what `tasks` lists
+break 6 | x = x + 1;
+no break 6
+ran 9 break 6 worker 0 | x = x + 1;
 refused by #11 worker 1 on global x | a global variable
 output 2 bytes
 1
