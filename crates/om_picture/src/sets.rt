@@ -7,6 +7,7 @@ ghost use Rattle.om_foot.specs.Footprint.{conflict_of};
 ghost use Rattle.om_picture.specs.Sets.{mixed, set_of_numbers, set_behind_controls, set_in, set_of, sets_behind, sets_of};
 
 use om_foot::{Access, Name, Obj, conflict};
+use om_seq::Seq;
 
 /// How many sets there are.
 const SETS: u64 = 64;
@@ -94,12 +95,13 @@ pub(crate) fn sets_of(footprint: &[Access]) -> u64
     sets
 }
 
-/// Whether two footprints conflict, by their sets.
+/// Whether two footprints conflict, by their sets. Where these have none in common, the footprints are
+/// not looked at.
 pub(crate) fn is_conflict_by_sets(
     sets: u64,
-    footprint: &[Access],
+    footprint: &Seq<Access>,
     other_sets: u64,
-    others: &[Access],
+    others: &Seq<Access>,
 ) -> bool
     requires sets { sets ≡ sets_of footprint.now }
     requires other_sets { other_sets ≡ sets_of others.now }
@@ -108,5 +110,5 @@ pub(crate) fn is_conflict_by_sets(
     if sets & other_sets == 0 {
         return false;
     }
-    conflict(footprint, others).is_some()
+    conflict(footprint.as_slice(), others.as_slice()).is_some()
 }

@@ -63,9 +63,9 @@ impl<'a> Sketch<'a> {
     {
         is_conflict_by_sets(
             self.sets,
-            self.step.footprint.as_slice(),
+            &self.step.footprint,
             later.sets,
-            later.step.footprint.as_slice(),
+            &later.step.footprint,
         )
     }
 }
