@@ -52,6 +52,6 @@ pub fn command_words(fault: CommandFault) -> &'static str
     match fault {
         CommandFault::UnknownCommand => "the first word is no command: `ompback --help` lists them",
         CommandFault::BadArgument =>
-            "a word is missing, wrong or one too many, or there is no such worker or variable",
+            "a word is missing, wrong or one too many, or there is no such worker or variable here: one of a caller is hidden",
     }
 }

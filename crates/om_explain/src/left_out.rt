@@ -37,7 +37,10 @@ pub(crate) const SYNTAX: [Row; 37] = [
         "one array for each member; a pointer to an element becomes its index",
     ),
     (b"union", "one variable for each member"),
-    (b"typedef", "leave it out, and write `int` for its name"),
+    (
+        b"typedef",
+        "leave it out, and write `int` for its name; a struct becomes one array for each member",
+    ),
     (b"enum", "a `#define` for each name"),
     (b"switch", "a chain of `if`"),
     (b"case", "a chain of `if`"),
@@ -64,7 +67,7 @@ pub(crate) const SYNTAX: [Row; 37] = [
     (b"<", "write `* 8` for `<< 3`"),
     (
         b">",
-        "write `/ 8` for `>> 3`, where the value is not negative",
+        "no `->`: one array for each member, `balance[a]` for `a->balance`; `/ 8` for `>> 3`, where the value is not negative",
     ),
     (
         b",",
@@ -113,7 +116,7 @@ pub(crate) const NAMES: [Row; 11] = [
 pub(crate) const BYTES: [Row; 11] = [
     (
         b".",
-        "write an `int` in smaller units: 0.25 becomes 25, in hundredths",
+        "a number is an `int` in smaller units: 0.25 becomes 25, in hundredths; a member becomes an array, `balance[a]` for `a.balance`",
     ),
     (b"'", "write its number: 10 for '\\n', 97 for 'a'"),
     (

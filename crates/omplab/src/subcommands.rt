@@ -124,14 +124,17 @@ fn report_on<W: Write>(
     writer: &mut W,
 ) -> Result<u8, ShellFault> {
     let mut text = Vec::new(alloc);
-    push_report(&mut text, hunted)?;
-    if let Hunted::Nothing { printed, .. } = hunted {
-        if is_by_run && !has_ended(printed) {
-            text.extend_from_slice(NOT_COMPARED)?;
+    let status = match hunted {
+        Hunted::Nothing { printed, .. } => {
+            if is_by_run && !has_ended(printed) {
+                text.extend_from_slice(NOT_COMPARED)?;
+            }
+            DONE
         }
-        return written(writer, &text, DONE);
-    }
-    written(writer, &text, REFUSED)
+        _ => REFUSED,
+    };
+    push_report(&mut text, hunted)?;
+    written(writer, &text, status)
 }
 
 // Whether the first answer says that the program ended.

@@ -178,6 +178,8 @@ fn says_that_nothing_was_compared(rt: HostRuntime) {
         expected: None,
     };
     let done = hunt(&host, search, &mut text);
-    assert!(rt; text_of(&text).ends_with("say by --expect what is to be printed\n"));
+    assert!(rt;
+        text_of(&text).starts_with("`run` came to no end, so no output was compared: say by")
+    );
     assert!(rt; matches!(done, Ok(0)));
 }
