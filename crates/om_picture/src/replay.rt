@@ -12,9 +12,9 @@ ghost use Rattle.om_picture.specs.Traces.{CanReplay, CanBeMade, footprint_for, t
 
 use crate::traced::Traced;
 use crate::words::{Spoken, Words};
-use om_cells::Label;
+use om_cells::{Footprint, Label};
 use om_code::Program;
-use om_foot::Access;
+use om_foot::{Access, Mode, Obj};
 use om_history::History;
 use om_seq::Seq;
 use om_task::laws::low_counters;
@@ -125,6 +125,20 @@ fn planned(
     plan(alloc, program, history.store(), workers, label)
 }
 
+/// The accesses of a footprint, that of its worker's control first. The only error is out of memory.
+fn listed(alloc: Global, footprint: &Footprint) -> Result<Seq<Access>, AllocError>
+    ensures { IfOk result (λ accesses. accesses ≡ footprint.now) }
+{
+    let (worker, others) = footprint.parts();
+    let mut accesses = Vec::new(alloc);
+    accesses.push(Access {
+        object: Obj::Control(worker),
+        mode: Mode::Write,
+    })?;
+    accesses.extend_from_slice(others)?;
+    Ok(Seq::of(accesses))
+}
+
 /// Takes the step of a plan, and answers what it touches. When out of memory, the history may be longer
 /// or not.
 fn remade(
@@ -143,9 +157,9 @@ fn remade(
 {
     match plan {
         Plan::Updates(change) => {
-            let copy = Vec::from_slice(alloc, change.footprint.as_slice())?;
+            let footprint = listed(alloc, &change.footprint)?;
             let _reply = history.take(alloc, label, change)?;
-            Ok(Seq::of(copy))
+            Ok(footprint)
         }
         Plan::Blocked(_) => unreachable!(),
         Plan::Ended => unreachable!(),

@@ -80,7 +80,8 @@ fn index_touched(plan: &Plan) -> u32 {
     let Plan::Updates(change) = plan else {
         return 0;
     };
-    for access in change.footprint.as_slice() {
+    let (_, others) = change.footprint.parts();
+    for access in others {
         if let Obj::Cell { index, .. } = &access.object {
             return *index;
         }
