@@ -1,13 +1,12 @@
 """The commands of the model's debugger, with their answers: docs/COMMANDS.md."""
 import re
 from history import ENDED
-from values import Blocked, Done, SCHEDULING_POINTS, name_text
+from values import Blocked, Done, LONGEST_NAME, SCHEDULING_POINTS, name_text
 
 LONGEST_LINE = 1024
 MOST_RECORDS = 200000
 MOST_REPEATS = 10000
 MOST_STEPS = 100000
-LONGEST_NAME = 64
 # How many words each command has behind its own, where it is not one.
 NUMBERS_OF_WORDS = {"print": (1, 2), "start": (2,), "history": (0,), "output": (0,), "tasks": (0,)}
 
