@@ -6,9 +6,10 @@ sessions have teams, worksharing, tasks, locks, reductions, recursion and faults
 commands have steps of the workers in any order, starts of tasks, undos in the middle and at the end, rolls, runs, all looks, and
 malformed lines. A changed source is one of examples/ or a random one, with one to three changes; where it is accepted, it is run
 for 300 steps. The output and the status have to be the same. Each difference is printed with its number and the seed, the first
-line that differs, the command and the source, then the sums. The status is 1 where one differs, or where nothing was compared.
+line that differs, the command and the source, then the sums. A turn that takes more than a minute is left out, and told. The
+status is 1 where one differs, or where nothing was compared.
 """
-import collections, glob, os, random, subprocess, sys, tempfile
+import collections, glob, json, os, random, subprocess, sys, tempfile
 
 HERE = os.path.dirname(os.path.abspath(__file__))
 sys.path.insert(0, os.path.join(HERE, "model"))
@@ -117,6 +118,20 @@ def sources_of_examples():
     return [open(file, encoding="latin-1").read() for file in files]
 
 
+def one_turn(program, seed, turn):
+    """Compares the session and the source of a turn, and prints what differs, then the sums as a line for `main`."""
+    counts, lines = collections.Counter(), 0
+    both = random_session(seed, turn), changed_source(seed, turn, sources_of_examples())
+    with tempfile.TemporaryDirectory() as folder:
+        wrong = sum(not compare(program, asked, folder) for asked in both)
+    for asked in both:
+        answered = b"".join(asked.answers)
+        counts[answered.split()[1].decode() if asked.status else "accepted"] += 1
+        lines += answered.count(b"\n")
+    print(json.dumps([counts, lines, wrong]))
+    return 0
+
+
 def main():
     words = sys.argv[1:]
     if not 1 <= len(words) <= 3:
@@ -124,23 +139,27 @@ def main():
         return 2
     program = os.path.abspath(words[0])
     number, seed = (int(word) for word in (words[1:] + ["200", "1"][len(words) - 1:]))
-    examples, counts, lines, wrong = sources_of_examples(), collections.Counter(), 0, 0
-    with tempfile.TemporaryDirectory() as folder:
-        for turn in range(number):
-            try:
-                both = random_session(seed, turn), changed_source(seed, turn, examples)
-                wrong += sum(not compare(program, asked, folder) for asked in both)
-            except Exception:
-                print(f"turn {turn} of seed {seed} broke off", flush=True)
-                raise
-            for asked in both:
-                answered = b"".join(asked.answers)
-                counts[answered.split()[1].decode() if asked.status else "accepted"] += 1
-                lines += answered.count(b"\n")
+    counts, lines, wrong, slow = collections.Counter(), 0, 0, 0
+    for turn in range(number):
+        # A turn of its own process, since the model replays at each undo and may take long.
+        command = [sys.executable, os.path.abspath(__file__), program, "--turn", str(seed), str(turn)]
+        try:
+            done = subprocess.run(command, stdout=subprocess.PIPE, timeout=SECONDS, check=True)
+        except subprocess.TimeoutExpired:
+            slow += 1
+            print(f"turn {turn} of seed {seed} took more than {SECONDS} seconds", flush=True)
+            continue
+        *said, sums = done.stdout.decode("latin-1").splitlines()
+        for line in said:
+            print(line, flush=True)
+        more, compared, differ = json.loads(sums)
+        counts, lines, wrong = counts + collections.Counter(more), lines + compared, wrong + differ
     print(", ".join(f"{code} {count}" for code, count in sorted(counts.items())))
-    print(f"{number} sessions and {number} changed sources of seed {seed}, {lines} lines compared, {wrong} differ")
+    both = f"{number - slow} sessions and as many changed sources of seed {seed}"
+    print(f"{both}, {lines} lines compared, {wrong} differ, {slow} turns took too long")
     return 1 if wrong or not lines else 0
 
 
 if __name__ == "__main__":
-    sys.exit(run_deep(main))
+    is_turn = sys.argv[2:3] == ["--turn"]
+    sys.exit(run_deep(lambda: one_turn(sys.argv[1], int(sys.argv[3]), int(sys.argv[4])) if is_turn else main()))
