@@ -8,8 +8,8 @@ use om_foot::Access;
 use om_seq::Seq;
 use std::marker::Model;
 
-/// What a step touches. Each step writes its worker's control, and an access is large, so that one takes
-/// no room here.
+/// What a step touches. The first access is always the write of the worker's control. An access is
+/// large, so only the worker's number is kept for it.
 ///
 /// Contracts see the accesses, that of the control first.
 #[derive(Drop)]

@@ -51,7 +51,8 @@ name_of_lock program lock = name_in (slice_get program.locks lock)
 abbrev pub lock_words : Raw → ℕ → List ℕ
 lock_words program lock = codes "lock of critical " ++ escaped (name_of_lock program lock)
 
--- an object, and the name of the local variable if it is a cell of one; no bytes where that is not known
+-- The words for an object. Where it is a cell of a local variable, `name` is that variable's name, or has no bytes where
+-- it is not known.
 abbrev pub object_words : Raw → List ℕ → Obj → List ℕ
 object_words program name (object.Control worker) = codes "control of worker " ++ decimal worker
 object_words program name (object.Cell task frame slot index) =

@@ -21,10 +21,12 @@ Leaves input old new workers given status book =
     (left : Option (List ℕ))
     × RunsToEnd (moment_of (Some input) (Some old) []) (moment_of left (Some new) []) workers given status book
 
--- A page has the picture of a machine's history: the texts of its arrows and of its boxes. There is a box for each entry
--- of the history, and for nothing else. An arrow is there exactly where the steps have one.
+-- A page has a stretch that is the picture of a machine's history: the texts of its arrows, and then of its boxes. In
+-- this stretch there is a box for each entry of the history, and for nothing else, and an arrow exactly where the steps
+-- have one. Of what stands before and behind it nothing is said: there are steps that were taken out, and undos that
+-- were refused.
 pub record IsDrawing (m : MachineView) (bytes : List ℕ) : Type 0 where
-  -- the entries with the footprints of their steps in the replay
+  -- the entries with the footprints of their steps in the replay; their instruction, variable and value are any bytes
   pub steps : List Traced
   pub traced : map transition_of steps ≡ transitions (rules_for m) m.history.entries
   pub arrows : List Arrow

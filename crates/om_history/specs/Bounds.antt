@@ -68,7 +68,7 @@ abbrev pub FitsAll : List Access → List Update → State → Type 0
 FitsAll (a ∷ rest) (u ∷ us) s = FitsAt a.mode u (s a.object) × FitsAll rest us (state_after a u s)
 FitsAll _ _ s = Unit {0}
 
--- and so have the counts after they are taken back
+-- and so do the counts after they are taken back
 abbrev pub FitsAtBack : Mode → Update → Val → Type 0
 FitsAtBack mode.Add (update.Add d) v = SumFits v (neg_ℤ d)
 FitsAtBack _ _ v = Unit {0}

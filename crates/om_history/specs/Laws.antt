@@ -18,7 +18,7 @@ use Rattle.om_cells.specs.Values.{value_plus}
 use Rattle.om_cells.specs.State.{State}
 use Rattle.om_cells.specs.Rules.{Rules, step_at, next_state, replay, replay_from}
 
--- something is asked where a mode reads
+-- P is asked at the modes Read and Write, and nothing at Add
 abbrev pub IfRead : Mode → Type 0 → Type 0
 IfRead mode.Add P = Unit {0}
 IfRead mode.Read P = P

@@ -28,7 +28,7 @@ pub record FindsBad (workers : ℕ) (source : List ℕ) (expected : Option (List
   pub runs : RunsAlone workers source text (Some alone)
   pub is : IsFound workers source (wanted_by expected (machine_of alone)) found
 
--- nothing is bad where `run` makes all steps, of which this is what ompback writes
+-- Nothing is bad where `run` makes all steps. The text is what ompback writes there.
 pub record FindsNothing (workers : ℕ) (source : List ℕ) (expected : Option (List ℕ)) (printed : List ℕ) : Type 0 where
   pub alone : BookView
   pub runs : RunsAlone workers source printed (Some alone)

@@ -17,7 +17,8 @@ use Rattle.om_sights.specs.Sites.{body_in}
 abbrev pub tree_of : Input → ResolvedTree
 tree_of input = view_resolved input.resolved.now
 
--- its tree is whole and has code, and the tables are those of the tree
+-- Its tree is whole, each part of it has a row, and each copy of a region stands behind where the region begins. The
+-- tables are those of the tree.
 pub record IsInput (input : Input) : Type 0 where
   pub tables : IsTablesOf (tree_of input) input.tables.now
   pub whole : IsWholeTree (tree_of input)
@@ -35,7 +36,8 @@ seen_body seen = body_in seen.outer.now seen.site.now
 abbrev pub seen_tree : SeenBody → ResolvedTree
 seen_tree seen = tree_of seen.known.now.input.now
 
--- it can be lowered, with its variables
+-- A body can be lowered: what is lowered is an input, what has to be known of the body is known, and its variables are
+-- these.
 pub record IsSeen (seen : SeenBody) : Type 0 where
   pub input : IsInput seen.known.now.input.now
   pub ready : IsReady (known_bodies seen.known.now) seen.known.now.extents.now (seen_body seen)

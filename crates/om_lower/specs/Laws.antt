@@ -1,4 +1,4 @@
--- No tree keeps the limits on bodies and passes one, and at most one function is the first that does.
+-- No tree keeps the limits on bodies and passes one, and it has at most one fault by such a limit.
 use Rattle.std.specs.Prelude.{◌≡◌}
 use Rattle.om_lexer.specs.declared.fault.SourceFault.{SourceFault}
 use Rattle.om_resolved.specs.ResolvedTree.{ResolvedTree}
@@ -8,6 +8,6 @@ use Rattle.om_lower.specs.Limits.{AreWithin, IsTooMany}
 abbrev pub WithinIsNotTooMany : Type 0
 WithinIsNotTooMany = (tree : ResolvedTree) (fault : SourceFault) → AreWithin tree → IsTooMany tree fault → ⊥
 
--- And no two functions are both the first that has a body which passes a limit.
+-- A tree has at most one fault by a limit on bodies.
 abbrev pub OneTooMany : Type 0
 OneTooMany = (tree : ResolvedTree) (a b : SourceFault) → IsTooMany tree a → IsTooMany tree b → a ≡ b

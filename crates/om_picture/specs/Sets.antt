@@ -1,4 +1,5 @@
--- Sets of objects: the same object is always in the same set.
+-- Matter of the code: which of 64 sets an object is in, and the sets of a footprint, as bits of one number. Footprints
+-- that have no set in common do not conflict; others may conflict or not.
 use Rattle.std.specs.Prelude.{ℕ, ◌+◌, ◌*◌, ◌%◌, ◌^◌, List, [], ◌∷◌}
 use Rattle.std.specs.Int.Bits.{bit_or}
 use Rattle.om_foot.specs.declared.footprint.Access.{Access}
@@ -35,7 +36,7 @@ set_of (object.Group group) = set_behind_controls (set_in group 3)
 set_of object.Output = set_behind_controls 0
 set_of (object.Events worker) = set_behind_controls worker
 
--- sets, a bit for each, and those that the objects of a footprint are in
+-- these sets, and those that the objects of a footprint are in: a bit for each
 abbrev pub sets_behind : ℕ → List Access → ℕ
 sets_behind sets [] = sets
 sets_behind sets (a ∷ rest) = sets_behind (bit_or sets (2 ^ (set_of a.object % 64))) rest

@@ -42,7 +42,8 @@ pub struct Arrow {
     /// The first object of the earlier step's footprint at which the two conflict.
     pub object: Obj,
     /// The cell of a local variable that the earlier step named, or else that the later one named, as
-    /// the source has it; no bytes where neither named one. Where the object is a cell, it is this one.
+    /// the source has it; no bytes where the name of neither is known. Where the object is a cell and there
+    /// are bytes, they name that cell.
     pub variable: Seq<u8>,
 }
 
@@ -51,7 +52,7 @@ pub struct Arrow {
 pub struct Picture {
     /// The steps that stand, in the order of the history.
     pub boxes: Vec<StepBox>,
-    /// Why a step waited for one of another worker, in the order of the later steps.
+    /// The arrows between them, in the order of the later steps.
     pub arrows: Vec<Arrow>,
 }
 

@@ -8,15 +8,15 @@ use Rattle.std.specs.Str.{bytes_eq}
 use Rattle.std.specs.declared.alloc.Global.{Global}
 use Rattle.om_rows.specs.Tables.{found_in}
 
--- each variable's number in a table
+-- the map has at each variable its number in the table, and nothing where it is not there
 abbrev pub AreNumbers : List ℕ → List (ℕ × ℕ) → Type 0
 AreNumbers table numbers = (x : ℕ) → lookup (is_at (nat_cmp x)) numbers ≡ found_in (nat_eq x) table
 
--- what a table of pairs has at each variable
+-- the map has at each variable what the table of pairs has
 abbrev pub AreAlike : List (ℕ × ℕ) → List (ℕ × ℕ) → Type 0
 AreAlike table values = (x : ℕ) → lookup (is_at (nat_cmp x)) values ≡ lookup (nat_eq x) table
 
--- each text's number in a table
+-- the map has at each text its number in the table, and nothing where it is not there
 abbrev pub AreTextNumbers : List (List ℕ) → List (Vec ℕ Global × ℕ) → Type 0
 AreTextNumbers table numbers =
     (text : List ℕ) → lookup (is_at (λ key. slice_cmp nat_cmp text key.items)) numbers ≡ found_in (bytes_eq text) table

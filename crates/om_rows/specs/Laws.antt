@@ -26,7 +26,8 @@ use Rattle.om_rows.specs.Statements.{Jumps, statement}
 abbrev pub OneCode : Type 0
 OneCode = (tree : ResolvedTree) (raw other : Raw) → IsCodeOf tree raw → IsCodeOf tree other → raw ≡ other
 
--- So has a body, and there is one set of ways through it, whatever lists of PICK the rest of the program has.
+-- A body has at most one code, and that code has one set of ways through it, whatever lists of PICK the rest of its
+-- program has.
 abbrev pub OneBodyCode : Type 0
 OneBodyCode =
     (names : Numbered) (n : Numbers) (f : ResolvedFunctionTree) (tree : BodyTree) (code other : List Line)

@@ -34,8 +34,8 @@ run raw body (suc n) f = on_from (frame_turn raw body f) (run raw body n)
 abbrev pub with_int : ℤ → List Operand → List Operand
 with_int v s = operand.Int v ∷ s
 
--- how a function ends with a value or without: `main` ends the program, where no value is 0 (C17 5.1.2.2.3p1
--- of the brace; of `return;`, which 6.8.6.4p1 forbids there, an own choice)
+-- How a function ends, with a value or without. `main` ends the program. At its closing brace the value is 0
+-- (C17 5.1.2.2.3p1). So it is at `return;`, which C17 6.8.6.4p1 forbids there: an own choice.
 abbrev pub ended : (is_main : Bool) → Option ℤ → Frame → FrameTurn
 ended true None f = Finished (pos 0) f
 ended true (Some v) f = Finished v f

@@ -155,7 +155,8 @@ barrier at l kind = ins at l (i.Arrive kind) ▸ ins at l (i.Depart kind) ▸ en
 abbrev pub worksharing_end : Site → ℕ → (nowait : Bool) → Row
 worksharing_end at l nowait = ins at l i.EndWorksharing ▸ unless nowait (barrier at l barriers.Worksharing)
 
--- what stands behind a worksharing loop, or the parts of `sections`: RED each, and that end
+-- what stands behind a worksharing loop, or behind the parts of `sections`: RED each, ENDW, and without `nowait`
+-- ARRIVE 8 and DEPART 8
 abbrev pub closes : Site → ℕ → List ResolvedClauseTree → (nowait : Bool) → Row
 closes at l clauses nowait = part (reductions at l clauses) ▸ worksharing_end at l nowait
 

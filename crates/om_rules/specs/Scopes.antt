@@ -106,7 +106,7 @@ with_name names name = if list_any (bytes_eq name) names then names else names +
 abbrev pub with_defined : Scopes → List ℕ → Scopes
 with_defined scopes name = record scopes { defined = with_name scopes.defined name }
 
--- the scopes in a construct that has these declarations so far; the copies that its clauses make are some
+-- the scopes in a construct that has these declarations so far; the copies that its clauses make are among these
 -- (OpenMP API 5.2, section 5.3)
 abbrev pub within : Scope → Region → Scopes → Scopes
 within inner region scopes =

@@ -67,7 +67,7 @@ pub record IsEnd (m : MachineView) (wanted : Option (List ℕ)) (output : List �
   pub printed : output ≡ output_of m
   pub bad : IsBad m wanted why
 
--- this is what a session came to that is bad, or nothing is
+-- what was printed and what is bad where a session came to its end; None says that nothing is bad there
 abbrev pub EndsWith : MachineView → Option (List ℕ) → Option End → Type 0
 EndsWith m wanted (Some end) = IsEnd m wanted end.output.items end.why
 EndsWith m wanted None = NothingIsBad m wanted

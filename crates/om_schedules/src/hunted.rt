@@ -12,7 +12,8 @@ pub struct Aims<'a> {
     pub seeds: u64,
     /// How many steps chance makes at most, before `run` makes the others.
     pub steps: u64,
-    /// What the program has to print; where there is none, what it prints where `run` makes all steps.
+    /// What the program has to print; where there is none, what it prints where `run` makes all steps, if
+    /// it ends there.
     pub expected: Option<&'a [u8]>,
 }
 

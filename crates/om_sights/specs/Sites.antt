@@ -63,7 +63,7 @@ bodies_in round (site ∷ sites) = body_round round site ∷ bodies_in (round_wi
 abbrev pub IsRound : (depth : ℕ) → List ℕ → List Site → Type 0
 IsRound depth variables sites = slice_get (round_behind [] sites) depth ≡ Some variables
 
--- it is so behind further ones, with all that it stands in
+-- the body that is open at this depth, and all in which it stands, are open again behind further bodies
 abbrev pub KeepsRound : (depth : ℕ) → List Site → List Site → Type 0
 KeepsRound depth old new = take (depth + 1) (round_behind [] new) ≡ take (depth + 1) (round_behind [] old)
 

@@ -5,7 +5,7 @@ use Rattle.std.specs.Map.{lookup}
 use Rattle.std.specs.BTreeMap.{is_at}
 use Rattle.om_touches.specs.Offsets.{has_offset}
 
--- blocks by number: each number with its block, in order
+-- blocks: each block's number, and its bits
 abbrev pub Numbered : Type 0
 Numbered = List (ℕ × ℕ)
 
@@ -36,7 +36,7 @@ pub record BlocksView : Type 0 where
 abbrev pub AreBefore : ℕ → Numbered → Type 0
 AreBefore number older = (q : ℕ) → nat_lt q number ≡ false → block_of older q ≡ None
 
--- where the newest block is empty, there is no other one
+-- where there is no newest block, there is no older one
 abbrev pub IsApart : Option ℕ → Numbered → Type 0
 IsApart None older = (q : ℕ) → block_of older q ≡ None
 IsApart (Some bits) older = Unit {0}

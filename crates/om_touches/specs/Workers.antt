@@ -63,7 +63,7 @@ kept-same read xs worker old x there same w =
     go false is = refl
     go true is = same ∙ ap read (sym there ∙ ap (slice_get xs) (number_is worker w is))
 
--- nor does what reads as nothing, behind all others
+-- one more item, behind all others, changes nothing where it reads as nothing does
 pub kept-more : {X : Type 0} (read : Option X → Bool) (xs : List X) (x : X) → read (Some x) ≡ read None
     → (w : ℕ) → read (slice_get (xs ++ x ∷ []) w) ≡ read (slice_get xs w)
 kept-more read [] x new zero = new
