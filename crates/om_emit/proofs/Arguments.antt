@@ -3,7 +3,7 @@ use Rattle.std.proofs.Common.{◌≡◌, ◌≤◌, ◌<◌, ℕ, zero, suc, ◌
 use Rattle.std.proofs.Common.{drop-cons, add-one, refl, sym, ap, ◌∙◌, subst, arith}
 use denote.Param.Weighed.{at_most, most}
 use Rattle.om_emit.specs.Drafts.{Written}
-use Rattle.om_emit.specs.Emits.{site, Goes, EmitsValue}
+use Rattle.om_emit.specs.Emits.{site, Goes, EmitsValue, listed}
 use Rattle.om_emit.specs.Writing.{goes_part}
 use Rattle.om_resolved.specs.declared.resolved.ResolvedExpression.{ResolvedExpression}
 use Rattle.om_resolved.specs.ResolvedTree as trees
@@ -11,10 +11,6 @@ use Rattle.om_resolved.specs.ResolvedView.{view_resolved_expression}
 use Rattle.om_rows.specs.Coded.{CallHasCode, ValueHasCode, ValuesHaveCode}
 use Rattle.om_rows.specs.Expressions.{value, values, value_count}
 use Rattle.om_rows.specs.Numbered.{Numbered}
-
--- the values of expressions of the program
-abbrev pub listed : List ResolvedExpression → trees.ValuesTree
-listed es = trees.values (map view_resolved_expression es)
 
 pub counted : (es : List ResolvedExpression) → length es ≡ value_count (listed es)
 counted [] = refl

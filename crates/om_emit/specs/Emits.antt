@@ -1,13 +1,22 @@
 -- What is promised of code that is written: whatever finished program agrees with it, the row of the part
 -- stands there.
-use Rattle.std.specs.Prelude.{◌≡◌, ◌<◌, ◌≤◌, ℕ, List, Some, length, map, slice_get}
+use Rattle.std.specs.Prelude.{◌≡◌, ◌<◌, ◌≤◌, ℕ, List, OnOk, Result, Some, length, map, slice_get}
+use Rattle.om_code.specs.declared.instruction.Instr.{Instr}
+use Rattle.om_code.specs.declared.instruction.Place.{Place}
 use Rattle.om_code.specs.declared.raw.Line.{Line}
+use Rattle.om_resolved.specs.declared.resolved.ResolvedExpression.{ResolvedExpression}
+use Rattle.om_resolved.specs.declared.resolved.Variable.{Variable}
+use Rattle.om_resolved.specs.ResolvedTree as trees
 use Rattle.om_resolved.specs.ResolvedTree.{ResolvedExpressionTree, ValuesTree}
+use Rattle.om_resolved.specs.ResolvedView.{view_resolved_expression}
+use Rattle.om_rows.specs.BodyTables.{numbered_by}
 use Rattle.om_rows.specs.Expressions.{value, values, effect}
 use Rattle.om_rows.specs.Rows.{Site, Row}
 use Rattle.om_rows.specs.Numbered.{Numbered, site_with}
+use Rattle.om_rows.specs.Slots.{place_of}
 use Rattle.om_emit.specs.declared.draft.Pick.{Pick}
-use Rattle.om_emit.specs.Drafts.{Labels, Written, settled}
+use Rattle.om_emit.specs.declared.here.Here.{Here}
+use Rattle.om_emit.specs.Drafts.{Labels, Puts, Written, settled}
 
 -- ---- where code is written
 
@@ -77,3 +86,25 @@ EmitsValues names l es = EmitsRow names (λ at. values at l es)
 
 abbrev pub EmitsEffect : Numbered → ℕ → ResolvedExpressionTree → Written → Written → Type 0
 EmitsEffect names l e = EmitsRow names (λ at. effect at l e)
+
+-- the values of a call, as a tree
+abbrev pub listed : List ResolvedExpression → ValuesTree
+listed es = trees.values (map view_resolved_expression es)
+
+-- ---- what a function writes, unless memory runs out
+
+-- what instructions name by numbers there, and a variable as they name it
+abbrev pub names_at : Here → Numbered
+names_at here = numbered_by here.tables.now
+
+abbrev pub place_at : Here → Variable → Place
+place_at here x = place_of (names_at here).slots x
+
+-- an instruction, behind what stood there
+abbrev pub Adds : {T E : Type 0} → Result T E → Here → Instr → Written → Written → Type 0
+Adds result here x old new = OnOk result (Puts here.at.line x old new)
+
+-- the row of x, behind what stood there
+abbrev pub Appends : {T E X : Type 0} → Result T E → Here → (row : Site → ℕ → X → Row) → (x : X)
+    → Written → Written → Type 0
+Appends result here row x old new = OnOk result (EmitsRow (names_at here) (λ at. row at here.at.line x) old new)

@@ -4,6 +4,7 @@ ghost use Rattle.std.specs.Prelude.{◌≡◌, IfOk, OnOk, None, Some, length, s
 ghost use Rattle.om_emit.specs.Drafts.{Defines, Fresh, FreshLabels, FreshList, Puts, PutsAll, moved, nothing, place_in, settled, settled_code};
 ghost use Rattle.om_emit.specs.Settled.{settled_list, settled_lists};
 
+use crate::here::Done;
 use om_code::Instr;
 use om_code::raw::Line;
 use om_seq::Seq;
@@ -70,7 +71,7 @@ impl Draft {
     }
 
     /// Adds an instruction, with its line. The target of a jump is a label.
-    pub fn put(&mut self, line: u32, instruction: Instr) -> Result<(), AllocError>
+    pub fn put(&mut self, line: u32, instruction: Instr) -> Done
         ensures { OnOk result (Puts line instruction self.old self.new) }
     {
         if self.code.len() >= u32::MAX as usize {
@@ -81,7 +82,7 @@ impl Draft {
     }
 
     /// Adds instructions of one line, one behind the other. The target of a jump is a label.
-    pub fn put_all(&mut self, line: u32, instructions: &[Instr]) -> Result<(), AllocError>
+    pub fn put_all(&mut self, line: u32, instructions: &[Instr]) -> Done
         ensures { OnOk result (PutsAll line instructions.now self.old self.new) }
     {
         for instruction in instructions {

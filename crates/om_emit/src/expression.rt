@@ -1,25 +1,23 @@
 //! The code of expressions (C17 6.5).
 
-ghost use Rattle.std.specs.Prelude.{◌≡◌, ◌≤◌, OnOk, length, map, true};
-ghost use Rattle.om_emit.specs.Emits.{EmitsRow, EmitsValue, EmitsValues};
+ghost use Rattle.std.specs.Prelude.{◌≡◌, ◌≤◌, length};
+ghost use Rattle.om_emit.specs.Emits.{Appends, listed};
 ghost use Rattle.om_emit.specs.Rests as rows;
 ghost use Rattle.om_resolved.specs.ResolvedTree as trees;
 ghost use Rattle.om_resolved.specs.ResolvedView.{view_resolved_expression};
 ghost use Rattle.om_rows.specs.Coded.{CallHasCode, ValueHasCode, ValuesHaveCode};
+ghost use Rattle.om_rows.specs.Expressions.{value, values};
 ghost use Rattle.om_rows.specs.Operators.{Both, Either, form_of};
-ghost use Rattle.om_rows.specs.Rows.{Site};
-ghost use Rattle.om_rows.specs.BodyTables.{numbered_by};
 
 use crate::draft::Draft;
+use crate::here::{Done, Here};
 use crate::operator::{Form, compound_of, form_of};
 use crate::single::{
     load, load_element, postfix, postfix_element, store, store_element, truth, unary_end,
 };
 use om_code::Instr;
 use om_resolved::{ResolvedExpression, UnaryOperator, Variable};
-use om_rows::BodyTables;
 use om_tree::AssignOperator;
-use std::alloc::AllocError;
 
 /// What is assigned to, a variable or an element of it, and how.
 #[derive(Clone, Copy)]
@@ -34,37 +32,31 @@ pub(crate) struct Target {
 ///
 /// Its only error is out of memory.
 #[cycle(expression)]
-pub fn value(
-    draft: &mut Draft,
-    tables: &BodyTables<'_>,
-    line: u32,
-    e: &ResolvedExpression,
-) -> Result<(), AllocError>
+pub fn value(draft: &mut Draft, here: &Here<'_>, e: &ResolvedExpression) -> Done
     requires coded { ValueHasCode (view_resolved_expression e.now) }
-    ensures { let tree = view_resolved_expression e.now in
-        OnOk result (EmitsValue (numbered_by tables.now) line tree draft.old draft.new) }
+    ensures { Appends result here.now value (view_resolved_expression e.now) draft.old draft.new }
 {
     match e {
-        ResolvedExpression::Constant(number) => draft.put(line, Instr::Constant(*number)),
-        ResolvedExpression::Variable(variable) => load(draft, tables, line, *variable),
-        ResolvedExpression::Element { array, index } => element(draft, tables, line, *array, index),
+        ResolvedExpression::Constant(number) => draft.put(here.at.line, Instr::Constant(*number)),
+        ResolvedExpression::Variable(variable) => load(draft, here, *variable),
+        ResolvedExpression::Element { array, index } => element(draft, here, *array, index),
         ResolvedExpression::Call {
             function,
             values: arguments,
-        } => { used_call(draft, tables, line, *function, arguments.as_slice()) }
-        ResolvedExpression::ThreadNumber => draft.put(line, Instr::ThreadNumber),
-        ResolvedExpression::TeamSize => draft.put(line, Instr::TeamSize),
+        } => { used_call(draft, here, *function, arguments.as_slice()) }
+        ResolvedExpression::ThreadNumber => draft.put(here.at.line, Instr::ThreadNumber),
+        ResolvedExpression::TeamSize => draft.put(here.at.line, Instr::TeamSize),
         ResolvedExpression::Print { .. } => unreachable!(),
         ResolvedExpression::Unary { operator, operand } => {
-            unary(draft, tables, line, *operator, operand)
+            unary(draft, here, *operator, operand)
         }
         ResolvedExpression::Binary {
             left,
             operator,
             right,
         } => {
-            value(draft, tables, line, left)?;
-            binary_end(draft, tables, line, *operator, right)
+            value(draft, here, left)?;
+            binary_end(draft, here, *operator, right)
         }
         ResolvedExpression::Conditional {
             condition,
@@ -73,12 +65,12 @@ pub fn value(
         } => {
             let otherwise = draft.fresh()?;
             let end = draft.fresh()?;
-            value(draft, tables, line, condition)?;
-            draft.put(line, Instr::JumpIfZero(otherwise))?;
-            value(draft, tables, line, then)?;
-            draft.put(line, Instr::Jump(end))?;
+            value(draft, here, condition)?;
+            draft.put(here.at.line, Instr::JumpIfZero(otherwise))?;
+            value(draft, here, then)?;
+            draft.put(here.at.line, Instr::Jump(end))?;
             draft.define(otherwise);
-            value(draft, tables, line, other)?;
+            value(draft, here, other)?;
             draft.define(end);
             Ok(())
         }
@@ -86,74 +78,62 @@ pub fn value(
             variable,
             operator,
             value: e,
-        } => { assign(draft, tables, line, kept(*variable, *operator), e) }
+        } => { assign(draft, here, assigned(*variable, *operator, true), e) }
         ResolvedExpression::AssignElement {
             array,
             index,
             operator,
             value: e,
         } => {
-            value(draft, tables, line, index)?;
-            assign_element(draft, tables, line, kept(*array, *operator), e)
+            value(draft, here, index)?;
+            assign_element(draft, here, assigned(*array, *operator, true), e)
         }
         ResolvedExpression::Postfix { variable, operator } => {
-            postfix(draft, tables, line, *variable, *operator)
+            postfix(draft, here, *variable, *operator)
         }
         ResolvedExpression::PostfixElement {
             array,
             index,
             operator,
         } => {
-            value(draft, tables, line, index)?;
-            postfix_element(draft, tables, line, *array, *operator)
+            value(draft, here, index)?;
+            postfix_element(draft, here, *array, *operator)
         }
     }
 }
 
-/// An assignment whose value is left.
-fn kept(variable: Variable, operator: AssignOperator) -> Target
-    ensures { result ≡ record { variable = variable; operator = operator; keeps = true } }
+/// What is assigned to, and how.
+pub(crate) fn assigned(variable: Variable, operator: AssignOperator, keeps: bool) -> Target
+    ensures { result ≡ record { variable = variable; operator = operator; keeps = keeps } }
 {
     Target {
         variable,
         operator,
-        keeps: true,
+        keeps,
     }
 }
 
 /// Writes expressions from left to right, each of which leaves its value.
 #[cycle(expression)]
-pub fn values(
-    draft: &mut Draft,
-    tables: &BodyTables<'_>,
-    line: u32,
-    es: &[ResolvedExpression],
-) -> Result<(), AllocError>
-    requires { ValuesHaveCode (trees.values (map view_resolved_expression es.now)) }
-    ensures { let tree = trees.values (map view_resolved_expression es.now) in
-        OnOk result (EmitsValues (numbered_by tables.now) line tree draft.old draft.new) }
+pub fn values(draft: &mut Draft, here: &Here<'_>, es: &[ResolvedExpression]) -> Done
+    requires { ValuesHaveCode (listed es.now) }
+    ensures { Appends result here.now values (listed es.now) draft.old draft.new }
 {
     for e in es {
-        value(draft, tables, line, e)?;
+        value(draft, here, e)?;
     }
     Ok(())
 }
 
 /// Writes the element of an array (C17 6.5.2.1).
 #[cycle(expression)]
-fn element(
-    draft: &mut Draft,
-    tables: &BodyTables<'_>,
-    line: u32,
-    array: Variable,
-    index: &ResolvedExpression,
-) -> Result<(), AllocError>
+fn element(draft: &mut Draft, here: &Here<'_>, array: Variable, index: &ResolvedExpression) -> Done
     requires { ValueHasCode (view_resolved_expression index.now) }
-    ensures { let tree = trees.Element array (view_resolved_expression index.now) in
-        OnOk result (EmitsValue (numbered_by tables.now) line tree draft.old draft.new) }
+    ensures { Appends result here.now value
+        (trees.Element array (view_resolved_expression index.now)) draft.old draft.new }
 {
-    value(draft, tables, line, index)?;
-    load_element(draft, tables, line, array)
+    value(draft, here, index)?;
+    load_element(draft, here, array)
 }
 
 /// How many values a call has.
@@ -168,114 +148,95 @@ pub(crate) fn count_of(arguments: &[ResolvedExpression]) -> u16
 #[cycle(expression)]
 pub(crate) fn call(
     draft: &mut Draft,
-    tables: &BodyTables<'_>,
-    line: u32,
+    here: &Here<'_>,
     function: usize,
     arguments: &[ResolvedExpression],
-) -> Result<(), AllocError>
-    requires { CallHasCode (trees.values (map view_resolved_expression arguments.now)) }
-    ensures { let tree = trees.values (map view_resolved_expression arguments.now) in
-        let row = λ (at : Site). rows.call at line function tree in
-        OnOk result (EmitsRow (numbered_by tables.now) row draft.old draft.new) }
+) -> Done
+    requires { CallHasCode (listed arguments.now) }
+    ensures { Appends result here.now (λ at l. rows.call at l function) (listed arguments.now)
+        draft.old draft.new }
 {
-    let body = tables.called_body(function);
+    let body = here.tables.called_body(function);
     let count = count_of(arguments);
-    values(draft, tables, line, arguments)?;
+    values(draft, here, arguments)?;
     let values = count;
-    draft.put(line, Instr::Call { body, values })
+    draft.put(here.at.line, Instr::Call { body, values })
 }
 
 /// Writes a call whose value is used.
 #[cycle(expression)]
 fn used_call(
     draft: &mut Draft,
-    tables: &BodyTables<'_>,
-    line: u32,
+    here: &Here<'_>,
     function: usize,
     arguments: &[ResolvedExpression],
-) -> Result<(), AllocError>
-    requires { CallHasCode (trees.values (map view_resolved_expression arguments.now)) }
-    ensures { let tree = trees.Call function
-        (trees.values (map view_resolved_expression arguments.now)) in
-        OnOk result (EmitsValue (numbered_by tables.now) line tree draft.old draft.new) }
+) -> Done
+    requires { CallHasCode (listed arguments.now) }
+    ensures { Appends result here.now value (trees.Call function (listed arguments.now)) draft.old
+        draft.new }
 {
-    call(draft, tables, line, function, arguments)?;
-    draft.put(line, Instr::Use)
+    call(draft, here, function, arguments)?;
+    draft.put(here.at.line, Instr::Use)
 }
 
 /// Writes an operator before its operand (C17 6.5.3.3).
 #[cycle(expression)]
 fn unary(
     draft: &mut Draft,
-    tables: &BodyTables<'_>,
-    line: u32,
+    here: &Here<'_>,
     operator: UnaryOperator,
     operand: &ResolvedExpression,
-) -> Result<(), AllocError>
+) -> Done
     requires { ValueHasCode (view_resolved_expression operand.now) }
-    ensures { let tree = trees.Unary operator (view_resolved_expression operand.now) in
-        OnOk result (EmitsValue (numbered_by tables.now) line tree draft.old draft.new) }
+    ensures { Appends result here.now value
+        (trees.Unary operator (view_resolved_expression operand.now)) draft.old draft.new }
 {
-    value(draft, tables, line, operand)?;
-    unary_end(draft, line, operator)
+    value(draft, here, operand)?;
+    unary_end(draft, here, operator)
 }
 
 /// Writes what stands behind the left operand of an operator between two (C17 6.5.5 to 6.5.14).
 #[cycle(expression)]
 fn binary_end(
     draft: &mut Draft,
-    tables: &BodyTables<'_>,
-    line: u32,
+    here: &Here<'_>,
     operator: om_tree::BinaryOperator,
     right: &ResolvedExpression,
-) -> Result<(), AllocError>
+) -> Done
     requires { ValueHasCode (view_resolved_expression right.now) }
-    ensures { let tree = view_resolved_expression right.now in
-        let row = λ (at : Site). rows.binary_rest at line (form_of operator) tree in
-        OnOk result (EmitsRow (numbered_by tables.now) row draft.old draft.new) }
+    ensures { Appends result here.now (λ at l. rows.binary_rest at l (form_of operator))
+        (view_resolved_expression right.now) draft.old draft.new }
 {
     match form_of(operator) {
-        Form::Both => both_end(draft, tables, line, right),
-        Form::Either => either_end(draft, tables, line, right),
+        Form::Both => both_end(draft, here, right),
+        Form::Either => either_end(draft, here, right),
         Form::Plain(operator) => {
-            value(draft, tables, line, right)?;
-            draft.put(line, Instr::Binary(operator))
+            value(draft, here, right)?;
+            draft.put(here.at.line, Instr::Binary(operator))
         }
     }
 }
 
 /// Writes what stands behind the left operand of `a && b` (C17 6.5.13).
 #[cycle(expression)]
-fn both_end(
-    draft: &mut Draft,
-    tables: &BodyTables<'_>,
-    line: u32,
-    right: &ResolvedExpression,
-) -> Result<(), AllocError>
+fn both_end(draft: &mut Draft, here: &Here<'_>, right: &ResolvedExpression) -> Done
     requires { ValueHasCode (view_resolved_expression right.now) }
-    ensures { let row = λ (at : Site).
-        rows.binary_rest at line Both (view_resolved_expression right.now) in
-        OnOk result (EmitsRow (numbered_by tables.now) row draft.old draft.new) }
+    ensures { Appends result here.now (λ at l. rows.binary_rest at l Both)
+        (view_resolved_expression right.now) draft.old draft.new }
 {
     let not_both = draft.fresh()?;
     let end = draft.fresh()?;
-    draft.put(line, Instr::JumpIfZero(not_both))?;
-    value(draft, tables, line, right)?;
-    truth(draft, line, not_both, end)
+    draft.put(here.at.line, Instr::JumpIfZero(not_both))?;
+    value(draft, here, right)?;
+    truth(draft, here.at.line, not_both, end)
 }
 
 /// Writes what stands behind the left operand of `a || b` (C17 6.5.14).
 #[cycle(expression)]
-fn either_end(
-    draft: &mut Draft,
-    tables: &BodyTables<'_>,
-    line: u32,
-    right: &ResolvedExpression,
-) -> Result<(), AllocError>
+fn either_end(draft: &mut Draft, here: &Here<'_>, right: &ResolvedExpression) -> Done
     requires { ValueHasCode (view_resolved_expression right.now) }
-    ensures { let row = λ (at : Site).
-        rows.binary_rest at line Either (view_resolved_expression right.now) in
-        OnOk result (EmitsRow (numbered_by tables.now) row draft.old draft.new) }
+    ensures { Appends result here.now (λ at l. rows.binary_rest at l Either)
+        (view_resolved_expression right.now) draft.old draft.new }
 {
     let next = draft.fresh()?;
     let neither = draft.fresh()?;
@@ -285,41 +246,37 @@ fn either_end(
         Instr::Constant(1),
         Instr::Jump(end),
     ];
-    draft.put_all(line, &left)?;
+    draft.put_all(here.at.line, &left)?;
     draft.define(next);
-    value(draft, tables, line, right)?;
-    truth(draft, line, neither, end)
+    value(draft, here, right)?;
+    truth(draft, here.at.line, neither, end)
 }
 
 /// Writes an assignment to a variable (C17 6.5.16).
 #[cycle(expression)]
 pub(crate) fn assign(
     draft: &mut Draft,
-    tables: &BodyTables<'_>,
-    line: u32,
+    here: &Here<'_>,
     target: Target,
     e: &ResolvedExpression,
-) -> Result<(), AllocError>
+) -> Done
     requires { ValueHasCode (view_resolved_expression e.now) }
-    ensures { let tree = view_resolved_expression e.now in
-        let row = λ (at : Site). rows.assignment at line target.keeps target.variable
-        target.operator tree in
-        OnOk result (EmitsRow (numbered_by tables.now) row draft.old draft.new) }
+    ensures { Appends result here.now
+        (λ at l. rows.assignment at l target.keeps target.variable target.operator)
+        (view_resolved_expression e.now) draft.old draft.new }
 {
     match compound_of(target.operator) {
         None => {
-            value(draft, tables, line, e)?;
-            store(draft, tables, line, target.variable, target.keeps)
+            value(draft, here, e)?;
+            store(draft, here, target.variable, target.keeps)
         }
         Some(operator) => {
-            load(draft, tables, line, target.variable)?;
-            value(draft, tables, line, e)?;
-            let place = tables.place(target.variable);
+            load(draft, here, target.variable)?;
+            value(draft, here, e)?;
+            let place = here.tables.place(target.variable);
             let keeps = target.keeps;
-            draft.put_all(
-                line,
-                &[Instr::Binary(operator), Instr::Store { place, keeps }],
-            )
+            let stored = [Instr::Binary(operator), Instr::Store { place, keeps }];
+            draft.put_all(here.at.line, &stored)
         }
     }
 }
@@ -328,35 +285,28 @@ pub(crate) fn assign(
 #[cycle(expression)]
 pub(crate) fn assign_element(
     draft: &mut Draft,
-    tables: &BodyTables<'_>,
-    line: u32,
+    here: &Here<'_>,
     target: Target,
     e: &ResolvedExpression,
-) -> Result<(), AllocError>
+) -> Done
     requires { ValueHasCode (view_resolved_expression e.now) }
-    ensures { let tree = view_resolved_expression e.now in
-        let row =
-        λ (at : Site). rows.assignment_rest at line target.keeps target.variable target.operator
-        tree in
-        OnOk result (EmitsRow (numbered_by tables.now) row draft.old draft.new) }
+    ensures { Appends result here.now
+        (λ at l. rows.assignment_rest at l target.keeps target.variable target.operator)
+        (view_resolved_expression e.now) draft.old draft.new }
 {
     match compound_of(target.operator) {
         None => {
-            value(draft, tables, line, e)?;
-            store_element(draft, tables, line, target.variable, target.keeps)
+            value(draft, here, e)?;
+            store_element(draft, here, target.variable, target.keeps)
         }
         Some(operator) => {
-            let place = tables.place(target.variable);
+            let place = here.tables.place(target.variable);
             let keeps = target.keeps;
+            let line = here.at.line;
             draft.put_all(line, &[Instr::Duplicate, Instr::LoadElement(place)])?;
-            value(draft, tables, line, e)?;
-            draft.put_all(
-                line,
-                &[
-                    Instr::Binary(operator),
-                    Instr::StoreElement { place, keeps },
-                ],
-            )
+            value(draft, here, e)?;
+            let store = Instr::StoreElement { place, keeps };
+            draft.put_all(line, &[Instr::Binary(operator), store])
         }
     }
 }

@@ -6,10 +6,12 @@
 
 pub mod draft;
 mod expression;
+pub mod here;
 mod operator;
 mod single;
 mod unused;
 
 pub use expression::{value, values};
+pub use here::{Done, Here};
 pub use single::{load, store};
 pub use unused::effect;

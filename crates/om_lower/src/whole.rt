@@ -15,6 +15,7 @@ ghost use Rattle.om_rows.specs.ProgramTables.{known_in};
 
 use om_code::Instr;
 use om_code::instruction::Barrier;
+use om_emit::Here;
 use om_resolved::ResolvedFunction;
 use om_rows::{BodyTables, Numbers, Region};
 use om_statements::clause::{parameters, reduction_starts, reductions, task_copies};
@@ -72,13 +73,15 @@ pub(crate) fn write_parallel(
     ensures scopes { let tree = parallel_tree region.now in
         OnOk result (EmitsRegionScopes (numbered_by tables.now) tree writing.old writing.new) }
 {
-    let line = region.at.line;
+    let at = region.at;
+    let here = Here { tables, at };
+    let line = at.line;
     let height = writing.scopes.height();
     writing.draft.put(line, Instr::Begin)?;
-    reduction_starts(writing, tables, line, region.clauses)?;
+    reduction_starts(writing, &here, region.clauses)?;
     let spot = Spot::outside(numbers);
     inner(alloc, writing, tables, spot, region.statement)?;
-    reductions(&mut writing.draft, tables, line, region.clauses)?;
+    reductions(&mut writing.draft, &here, region.clauses)?;
     writing.draft.put(line, Instr::Arrive(Barrier::Parallel))?;
     writing.draft.put(line, Instr::Leave)?;
     let to = writing.draft.place();

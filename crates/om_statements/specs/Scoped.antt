@@ -1,7 +1,8 @@
 -- What is promised of the scopes of names in code that is written.
-use Rattle.std.specs.Prelude.{◌≡◌, ℕ, List, [], ◌∷◌, ◌++◌, Option, None, drop, length, map, reverse, take}
+use Rattle.std.specs.Prelude.{◌≡◌, ℕ, List, [], ◌∷◌, ◌++◌, OnOk, Option, None, Result, drop, length, map, reverse, take}
 use Rattle.om_emit.specs.Drafts.{Labels, Written}
-use Rattle.om_emit.specs.Emits.{Finished, Fits, Grows, site}
+use Rattle.om_emit.specs.declared.here.Here.{Here}
+use Rattle.om_emit.specs.Emits.{Finished, Fits, Grows, names_at, site}
 use Rattle.om_resolved.specs.declared.resolved.CopyKind.TheVariants as copies
 use Rattle.om_resolved.specs.declared.resolved.LocalVariable.{LocalVariable}
 use Rattle.om_resolved.specs.ResolvedTree.{ResolvedClauseTree, Copied}
@@ -52,3 +53,9 @@ pub record ScopesStand (names : Numbered) (row : Site → Scoping) (a : Written)
 
 abbrev pub EmitsScopes : Numbered → (Site → Scoping) → Writing → Writing → Type 0
 EmitsScopes names row old new = ScopesStand names row old.draft old.scopes new.draft new.scopes
+
+-- the scopes of x begin and end in what a function writes there, unless memory runs out
+abbrev pub AppendsScopes : {T E X : Type 0} → Result T E → Here → (row : Site → ℕ → X → Scoping) → (x : X)
+    → Writing → Writing → Type 0
+AppendsScopes result here row x old new =
+    OnOk result (EmitsScopes (names_at here) (λ at. row at here.at.line x) old new)

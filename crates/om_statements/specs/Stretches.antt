@@ -1,13 +1,14 @@
 -- Stretches of rows: what stands before the statement of a form, and what stands behind it.
-use Rattle.std.specs.Prelude.{◌≡◌, ◌≤◌, ◌<◌, ℕ, ◌+◌, pos, List, Option, Some, None, Bool, false, IfSome, length}
-use Rattle.std.specs.Prelude.{option_map, slice_get}
+use Rattle.std.specs.Prelude.{◌≡◌, ◌≤◌, ◌<◌, ℕ, ◌+◌, pos, List, Option, Some, None, Bool, false, IfOk, IfSome, length}
+use Rattle.std.specs.Prelude.{OnOk, Result, option_map, slice_get}
 use Rattle.om_code.specs.declared.instruction.Instr.TheVariants as i
 use Rattle.om_code.specs.declared.instruction.Comparison.{Comparison}
 use Rattle.om_statements.specs.declared.labels.LoopLabels.{LoopLabels}
 use Rattle.om_statements.specs.declared.labels.TurnLabels.{TurnLabels}
 use Rattle.om_statements.specs.declared.worksharing.Parts.{Parts}
 use Rattle.om_emit.specs.Drafts.{Written, Fresh}
-use Rattle.om_emit.specs.Emits.{Part, site, Goes, Emits, EmitsRow}
+use Rattle.om_emit.specs.declared.here.Here.{Here}
+use Rattle.om_emit.specs.Emits.{Part, names_at, site, Goes, Emits, EmitsRow}
 use Rattle.om_pragma.specs.declared.clause.ReductionOperator.{ReductionOperator}
 use Rattle.om_resolved.specs.declared.resolved.ConstructKind.{ConstructKind}
 use Rattle.om_resolved.specs.declared.resolved.ConstructKind.TheVariants as constructs
@@ -32,12 +33,12 @@ abbrev pub EmitsAnywhere : (Site → Row) → Written → Written → Type 0
 EmitsAnywhere row old new = (names : Numbered) → EmitsRow names row old new
 
 -- a copy of a reduction begins with the operator's identity, and a firstprivate one with its original's value
-abbrev pub identity_start : ℕ → ReductionOperator → LocalVariable → Site → Row
-identity_start l operator copy at =
+abbrev pub identity_start : Site → ℕ → ReductionOperator → LocalVariable → Row
+identity_start at l operator copy =
     ins at l (i.Constant (identity_of operator)) ▸ ins at l (i.Store (place at (named.Local copy.at)) false) ▸ end
 
-abbrev pub original_start : ℕ → variables.Variable → LocalVariable → Site → Row
-original_start l original copy at =
+abbrev pub original_start : Site → ℕ → variables.Variable → LocalVariable → Row
+original_start at l original copy =
     ins at l (i.Load (place at original)) ▸ ins at l (i.Store (place at (named.Local copy.at)) false) ▸ end
 
 -- the bounds of a worksharing loop, and what its copies begin with
@@ -73,6 +74,18 @@ pub record BeginsTurn (labels : TurnLabels) (r : Part) (old new : Written) : Typ
 -- a stretch is written, which places this label and perhaps some above it
 abbrev pub Ends : ℕ → Part → Written → Written → Type 0
 Ends label r old new = Goes label r old new
+
+-- a function writes the head of a loop there, unless memory runs out, and then the label behind the loop is still
+-- to be placed
+abbrev pub AppendsHead : {E X : Type 0} → Result LoopLabels E → Here → (Numbered → ℕ → X → LoopLabels → Part)
+    → X → Written → Written → Type 0
+AppendsHead result here head x old new =
+    IfOk result (λ labels. Begins labels.over (head (names_at here) here.at.line x labels) old new)
+
+-- a function writes what ends a form there, unless memory runs out, and places this label and perhaps some above it
+abbrev pub AppendsEnd : {T E X : Type 0} → Result T E → Here → (label : ℕ) → (Numbered → ℕ → X → Part) → X
+    → Written → Written → Type 0
+AppendsEnd result here label row x old new = OnOk result (Ends label (row (names_at here) here.at.line x) old new)
 
 -- three labels are new
 pub record FreshTurn (labels : TurnLabels) (old new : Written) : Type 0 where

@@ -1,33 +1,32 @@
 //! The heads of `if`, and of its `else`.
 
 ghost use Rattle.std.specs.Prelude.{◌≡◌, IfOk, None, Some, slice_get};
-ghost use Rattle.om_statements.specs.Stretches.{Begins, Opens, else_begin, test_at};
+ghost use Rattle.om_emit.specs.Emits.{names_at};
 ghost use Rattle.om_resolved.specs.ResolvedView.{view_resolved_expression};
 ghost use Rattle.om_rows.specs.Coded.{ValueHasCode};
-ghost use Rattle.om_rows.specs.BodyTables.{numbered_by};
 ghost use Rattle.om_rows.specs.Numbered.{Numbered};
+ghost use Rattle.om_statements.specs.Stretches.{Begins, Opens, else_begin, test_at};
 
 use crate::declaration::test;
 use om_code::Instr;
+use om_emit::Here;
 use om_emit::draft::Draft;
 use om_resolved::ResolvedExpression;
-use om_rows::BodyTables;
 use std::alloc::AllocError;
 
 /// Writes the head of an `if` (C17 6.8.4.1). The label is to be placed behind what it guards.
 pub fn begin_if(
     draft: &mut Draft,
-    tables: &BodyTables<'_>,
-    line: u32,
+    here: &Here<'_>,
     condition: &ResolvedExpression,
 ) -> Result<u32, AllocError>
     requires { ValueHasCode (view_resolved_expression condition.now) }
-    ensures { let names = numbered_by tables.now in
-        let tree = view_resolved_expression condition.now in
-        IfOk result (λ label. Begins label (test_at names line label tree) draft.old draft.new) }
+    ensures { let tree = view_resolved_expression condition.now in
+        IfOk result (λ label. Begins label (test_at (names_at here.now) here.now.at.line label tree)
+        draft.old draft.new) }
 {
     let label = draft.fresh()?;
-    test(draft, tables, line, condition, label)?;
+    test(draft, here, condition, label)?;
     Ok(label)
 }
 

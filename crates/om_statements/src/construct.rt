@@ -1,45 +1,36 @@
 //! The begins and the ends of constructs round a statement.
 
-ghost use Rattle.std.specs.Prelude.{◌≡◌, IfOk, IfSome, None, OnOk, Some, map, slice_get};
-ghost use Rattle.om_emit.specs.Emits.{EmitsRow};
-ghost use Rattle.om_rows.specs.Scopes.{construct_head};
-ghost use Rattle.om_statements.specs.Scoped.{EmitsScopes};
-ghost use Rattle.om_statements.specs.Stretches.{Begins, Ends, construct_begin, construct_end, BeginHasCode, IsNoAtomic};
+ghost use Rattle.std.specs.Prelude.{◌≡◌, IfOk, IfSome, None, Some, map, slice_get};
+ghost use Rattle.om_emit.specs.Emits.{Appends, names_at};
 ghost use Rattle.om_resolved.specs.ResolvedView.{view_resolved_clause};
 ghost use Rattle.om_rows.specs.Coded.{ValueHasCode};
+ghost use Rattle.om_rows.specs.Scopes.{construct_head};
 ghost use Rattle.om_rows.specs.Statements as rows;
-ghost use Rattle.om_rows.specs.Statements.{filter_row};
-ghost use Rattle.om_rows.specs.BodyTables.{numbered_by};
+ghost use Rattle.om_statements.specs.Scoped.{AppendsScopes};
+ghost use Rattle.om_statements.specs.Stretches.{AppendsEnd, BeginHasCode, Begins, IsNoAtomic, construct_begin, construct_end};
 
 use crate::barrier::worksharing_end;
 use crate::clause::{clause_value, starts};
 use crate::writing::Writing;
 use om_code::Instr;
 use om_emit::draft::Draft;
-use om_emit::value;
+use om_emit::{Done, Here, value};
 use om_resolved::{ConstructKind, ResolvedClause};
-use om_rows::BodyTables;
 use std::alloc::AllocError;
 
 /// Writes the thread number that a `masked` asks for: 0 where no clause says another (OpenMP API 5.2,
 /// section 10.5.1).
-fn filter(
-    draft: &mut Draft,
-    tables: &BodyTables<'_>,
-    line: u32,
-    clauses: &[ResolvedClause],
-) -> Result<(), AllocError>
+fn filter(draft: &mut Draft, here: &Here<'_>, clauses: &[ResolvedClause]) -> Done
     requires { IfSome (rows.clause_value (map view_resolved_clause clauses.now)) ValueHasCode }
-    ensures { let tree = rows.clause_value (map view_resolved_clause clauses.now) in
-        OnOk result
-        (EmitsRow (numbered_by tables.now) (λ at. filter_row at line tree) draft.old draft.new) }
+    ensures { Appends result here.now rows.filter_row
+        (rows.clause_value (map view_resolved_clause clauses.now)) draft.old draft.new }
 {
     match clause_value(clauses) {
         None => {
-            draft.put(line, Instr::Constant(0))?;
+            draft.put(here.at.line, Instr::Constant(0))?;
             Ok(())
         }
-        Some(number) => value(draft, tables, line, number),
+        Some(number) => value(draft, here, number),
     }
 }
 
@@ -47,32 +38,31 @@ fn filter(
 /// some threads run; `critical` and `taskgroup` have no such place.
 pub fn begin_construct(
     writing: &mut Writing,
-    tables: &BodyTables<'_>,
-    line: u32,
+    here: &Here<'_>,
     kind: &ConstructKind,
     clauses: &[ResolvedClause],
 ) -> Result<u32, AllocError>
     requires { BeginHasCode kind.now (map view_resolved_clause clauses.now) }
-    ensures code { let begin = construct_begin (numbered_by tables.now) line kind.now
+    ensures code { let begin = construct_begin (names_at here.now) here.now.at.line kind.now
         (map view_resolved_clause clauses.now) in
         IfOk result
         (λ label. Begins label (begin label) writing.old.draft writing.new.draft) }
-    ensures scopes { let trees = map view_resolved_clause clauses.now in
-        OnOk result (EmitsScopes (numbered_by tables.now) (λ at. construct_head at line kind.now trees)
-        writing.old writing.new) }
+    ensures scopes { AppendsScopes result here.now (λ at l. construct_head at l kind.now)
+        (map view_resolved_clause clauses.now) writing.old writing.new }
 {
+    let line = here.at.line;
     let label = writing.draft.fresh()?;
     match kind {
         ConstructKind::Single { .. } => {
             writing.draft.put(line, Instr::Single(label))?;
-            starts(writing, tables, line, clauses)?;
+            starts(writing, here, clauses)?;
         }
         ConstructKind::Masked => {
-            filter(&mut writing.draft, tables, line, clauses)?;
+            filter(&mut writing.draft, here, clauses)?;
             writing.draft.put(line, Instr::Masked(label))?;
         }
         ConstructKind::Critical { name } => {
-            let lock = tables.lock_number(name);
+            let lock = here.tables.lock_number(name);
             writing.draft.put(line, Instr::AskCritical(lock))?;
             writing.draft.put(line, Instr::EnterCritical(lock))?;
         }
@@ -83,18 +73,13 @@ pub fn begin_construct(
 }
 
 /// Writes the end of a construct that is no `atomic`.
-pub fn end_construct(
-    draft: &mut Draft,
-    tables: &BodyTables<'_>,
-    line: u32,
-    kind: &ConstructKind,
-    label: u32,
-) -> Result<(), AllocError>
+pub fn end_construct(draft: &mut Draft, here: &Here<'_>, kind: &ConstructKind, label: u32) -> Done
     requires free { slice_get draft.old.places label ≡ Some None }
     requires kind { IsNoAtomic kind.now }
-    ensures { OnOk result
-        (Ends label (construct_end (numbered_by tables.now) line kind.now label) draft.old draft.new) }
+    ensures { AppendsEnd result here.now label (λ names l. construct_end names l kind.now) label
+        draft.old draft.new }
 {
+    let line = here.at.line;
     match kind {
         ConstructKind::Single { nowait } => {
             draft.define(label);
@@ -107,7 +92,7 @@ pub fn end_construct(
             Ok(())
         }
         ConstructKind::Critical { name } => {
-            let lock = tables.lock_number(name);
+            let lock = here.tables.lock_number(name);
             draft.put(line, Instr::LeaveCritical(lock))?;
             Ok(())
         }

@@ -5,11 +5,11 @@ ghost use Rattle.om_statements.specs.Stretches.{EmitsJump};
 
 use crate::labels::JumpLabels;
 use om_code::Instr;
+use om_emit::Done;
 use om_emit::draft::Draft;
-use std::alloc::AllocError;
 
 /// Writes a `break` (C17 6.8.6.3).
-pub fn leave_loop(draft: &mut Draft, line: u32, jumps: JumpLabels) -> Result<(), AllocError>
+pub fn leave_loop(draft: &mut Draft, line: u32, jumps: JumpLabels) -> Done
     requires { is_some jumps.over ≡ true }
     ensures { OnOk result (EmitsJump line jumps.over draft.old draft.new) }
 {
@@ -17,7 +17,7 @@ pub fn leave_loop(draft: &mut Draft, line: u32, jumps: JumpLabels) -> Result<(),
 }
 
 /// Writes a `continue` (C17 6.8.6.2).
-pub fn go_on(draft: &mut Draft, line: u32, jumps: JumpLabels) -> Result<(), AllocError>
+pub fn go_on(draft: &mut Draft, line: u32, jumps: JumpLabels) -> Done
     requires { is_some jumps.next ≡ true }
     ensures { OnOk result (EmitsJump line jumps.next draft.old draft.new) }
 {
@@ -25,7 +25,7 @@ pub fn go_on(draft: &mut Draft, line: u32, jumps: JumpLabels) -> Result<(), Allo
 }
 
 /// Writes a jump to a label that is there (C17 6.8.6.2, 6.8.6.3).
-fn jump(draft: &mut Draft, line: u32, label: Option<u32>) -> Result<(), AllocError>
+fn jump(draft: &mut Draft, line: u32, label: Option<u32>) -> Done
     requires { is_some label ≡ true }
     ensures { OnOk result (EmitsJump line label draft.old draft.new) }
 {

@@ -16,6 +16,7 @@ ghost use Rattle.om_rows.specs.Numbering.{numbers_of};
 ghost use Rattle.om_rows.specs.ProgramTables.{known_in};
 
 use crate::stand_in::{fork, load_originals, spawn, team_size};
+use om_emit::Here;
 use om_emit::draft::Draft;
 use om_rows::{BodyTables, Numbers, Region, Variables, given_copies};
 use std::alloc::{AllocError, Global};
@@ -44,11 +45,11 @@ pub(crate) fn parallel(
         OnOk result ((jumps : JumpLabels)
         → EmitsStatement (numbered_by tables.now) (numbers_of numbers) tree jumps draft.old draft.new) }
 {
-    let line = region.at.line;
-    let sized = team_size(draft, tables, line, region.clauses)?;
+    let at = region.at;
+    let sized = team_size(draft, &Here { tables, at }, region.clauses)?;
     let variables = tables.region_variables(numbers.bodies);
     let count = load_given(alloc, draft, tables, region, variables)?;
-    fork(draft, line, numbers.bodies, sized, count)?;
+    fork(draft, at.line, numbers.bodies, sized, count)?;
     Ok(tables.behind_region(numbers.bodies))
 }
 
@@ -105,6 +106,7 @@ fn load_given(
         draft.old draft.new) }
 {
     let copies = given_copies(alloc, region.clauses, region.captures, variables)?;
-    load_originals(draft, tables, region.at.line, copies.as_slice())?;
+    let at = region.at;
+    load_originals(draft, &Here { tables, at }, copies.as_slice())?;
     Ok(copies.len())
 }

@@ -1,22 +1,22 @@
 //! The begin of a `sections`, before its parts.
 
-ghost use Rattle.std.specs.Prelude.{◌≤◌, IfOk, OnOk, length, map};
+ghost use Rattle.std.specs.Prelude.{◌≤◌, IfOk, length, map};
+ghost use Rattle.om_emit.specs.Emits.{names_at};
 ghost use Rattle.om_resolved.specs.ResolvedView.{view_resolved_clause};
 ghost use Rattle.om_rows.specs.Scopes.{sections_head};
-ghost use Rattle.om_statements.specs.Scoped.{EmitsScopes};
 ghost use Rattle.om_statements.specs.Parts.{OpensParts, part_head};
-ghost use Rattle.om_rows.specs.BodyTables.{numbered_by};
+ghost use Rattle.om_statements.specs.Scoped.{AppendsScopes};
 
 use crate::worksharing::{Parts, begin_sections};
 use crate::writing::Writing;
+use om_emit::Here;
 use om_resolved::{ResolvedClause, ResolvedPart};
-use om_rows::{BodyTables, Numbers};
+use om_rows::Numbers;
 use std::alloc::{AllocError, Global};
 
 /// A `sections`, where it stands: the numbers of the next body and of its own list of PICK.
 #[derive(Clone, Copy)]
 pub struct SectionsHead<'a> {
-    pub line: u32,
     pub numbers: Numbers,
     pub clauses: &'a [ResolvedClause],
 }
@@ -40,27 +40,26 @@ pub struct PartsSpot {
 pub fn begin_parts(
     alloc: Global,
     writing: &mut Writing,
-    tables: &BodyTables<'_>,
+    here: &Here<'_>,
     head: &SectionsHead<'_>,
     parts: &[ResolvedPart],
 ) -> Result<PartsSpot, AllocError>
     requires { length parts.now ≤ 256 }
-    ensures code { let begin = part_head head.now.line head.now.numbers
+    ensures code { let begin = part_head here.now.at.line head.now.numbers
         (map view_resolved_clause head.now.clauses.now) (length parts.now) in
-        IfOk result (λ spot. OpensParts (numbered_by tables.now) begin spot writing.old.draft
+        IfOk result (λ spot. OpensParts (names_at here.now) begin spot writing.old.draft
         writing.new.draft) }
-    ensures scopes { let trees = map view_resolved_clause head.now.clauses.now in
-        OnOk result (EmitsScopes (numbered_by tables.now) (λ at. sections_head at head.now.line trees)
-        writing.old writing.new) }
+    ensures scopes { AppendsScopes result here.now sections_head
+        (map view_resolved_clause head.now.clauses.now) writing.old writing.new }
 {
     let count = parts.len() as u32;
     let number = head.numbers.picks;
     let list = Parts { number, count };
-    let labels = begin_sections(writing, tables, head.line, head.clauses, list)?;
+    let labels = begin_sections(writing, here, head.clauses, list)?;
     let first = writing.draft.fresh_list(alloc, number, count)?;
     let numbers = head.numbers.next_pick()?;
     Ok(PartsSpot {
-        line: head.line,
+        line: here.at.line,
         numbers,
         again: labels.again,
         over: labels.over,

@@ -14,18 +14,20 @@ pub struct Spot {
 }
 
 impl Spot {
+    /// With these labels for `break` and `continue`.
+    fn with(numbers: Numbers, over: Option<u32>, next: Option<u32>) -> Spot
+        ensures { result ≡ record { numbers = numbers; jumps = record { over = over; next = next } } }
+    {
+        let jumps = JumpLabels { over, next };
+        Spot { numbers, jumps }
+    }
+
     /// Outside of loops.
     pub fn outside(numbers: Numbers) -> Spot
         ensures { result
             ≡ record { numbers = numbers; jumps = record { over = None; next = None } } }
     {
-        Spot {
-            numbers,
-            jumps: JumpLabels {
-                over: None,
-                next: None,
-            },
-        }
+        Spot::with(numbers, None, None)
     }
 
     /// In a loop.
@@ -33,13 +35,7 @@ impl Spot {
         ensures { result
             ≡ record { numbers = numbers; jumps = record { over = Some over; next = Some next } } }
     {
-        Spot {
-            numbers,
-            jumps: JumpLabels {
-                over: Some(over),
-                next: Some(next),
-            },
-        }
+        Spot::with(numbers, Some(over), Some(next))
     }
 
     /// In the body of a worksharing loop, which no `break` leaves.
@@ -47,22 +43,14 @@ impl Spot {
         ensures { result
             ≡ record { numbers = numbers; jumps = record { over = None; next = Some next } } }
     {
-        Spot {
-            numbers,
-            jumps: JumpLabels {
-                over: None,
-                next: Some(next),
-            },
-        }
+        Spot::with(numbers, None, Some(next))
     }
 
     /// Behind a statement that ends with these numbers.
     pub fn behind(self, numbers: Numbers) -> Spot
         ensures { result ≡ record { numbers = numbers; jumps = self.jumps } }
     {
-        Spot {
-            numbers,
-            jumps: self.jumps,
-        }
+        let jumps = self.jumps;
+        Spot { numbers, jumps }
     }
 }

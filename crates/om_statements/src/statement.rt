@@ -26,7 +26,7 @@ use crate::spot::Spot;
 use crate::worksharing::{begin_worksharing, end_worksharing};
 use crate::writing::Writing;
 use om_code::Instr;
-use om_emit::effect;
+use om_emit::{Here, effect};
 use om_resolved::{ConstructKind, ResolvedHead, ResolvedPart, ResolvedStatement};
 use om_rows::{BodyTables, Numbers, Region};
 use std::alloc::{AllocError, Global};
@@ -58,12 +58,14 @@ pub fn statement(
         (EmitsScopes (numbered_by tables.now) (λ at. scopes at seen) writing.old writing.new) }
 {
     let numbers = spot.numbers;
+    // Lent again, since each arm lends them for less long.
+    let tables = &*tables;
     match tree {
         ResolvedStatement::Declaration {
             at,
             declarators: declared,
         } => {
-            declarators(writing, tables, at.line, declared.as_slice())?;
+            declarators(writing, &Here { tables, at: *at }, declared.as_slice())?;
             Ok(numbers)
         }
         ResolvedStatement::Block { items, .. } => {
@@ -78,7 +80,7 @@ pub fn statement(
             at,
             value: expression,
         } => {
-            effect(&mut writing.draft, tables, at.line, expression)?;
+            effect(&mut writing.draft, &Here { tables, at: *at }, expression)?;
             Ok(numbers)
         }
         ResolvedStatement::If {
@@ -86,7 +88,7 @@ pub fn statement(
             condition,
             then,
         } => {
-            let end = begin_if(&mut writing.draft, tables, at.line, condition)?;
+            let end = begin_if(&mut writing.draft, &Here { tables, at: *at }, condition)?;
             let after = inner(alloc, writing, tables, spot, then)?;
             writing.draft.define(end);
             Ok(after)
@@ -97,7 +99,7 @@ pub fn statement(
             then,
             other,
         } => {
-            let head = begin_if(&mut writing.draft, tables, at.line, condition)?;
+            let head = begin_if(&mut writing.draft, &Here { tables, at: *at }, condition)?;
             let between = inner(alloc, writing, tables, spot, then)?;
             let end = begin_else(&mut writing.draft, at.line, head)?;
             let after = inner(alloc, writing, tables, spot.behind(between), other)?;
@@ -109,7 +111,7 @@ pub fn statement(
             condition,
             body,
         } => {
-            let labels = begin_while(&mut writing.draft, tables, at.line, condition)?;
+            let labels = begin_while(&mut writing.draft, &Here { tables, at: *at }, condition)?;
             let inside = Spot::in_loop(numbers, labels.over, labels.again);
             let after = inner(alloc, writing, tables, inside, body)?;
             end_loop(&mut writing.draft, at.line, labels)?;
@@ -123,22 +125,28 @@ pub fn statement(
             let labels = begin_do(&mut writing.draft)?;
             let inside = Spot::in_loop(numbers, labels.over, labels.next);
             let after = inner(alloc, writing, tables, inside, body)?;
-            end_do(&mut writing.draft, tables, at.line, labels, condition)?;
+            end_do(
+                &mut writing.draft,
+                &Here { tables, at: *at },
+                labels,
+                condition,
+            )?;
             Ok(after)
         }
         ResolvedStatement::For { at, head, body } => {
             let head: &ResolvedHead = head;
+            let here = Here { tables, at: *at };
             let height = writing.scopes.height();
-            let labels = begin_for(writing, tables, at.line, &head.start, &head.condition)?;
+            let labels = begin_for(writing, &here, &head.start, &head.condition)?;
             let inside = Spot::in_loop(numbers, labels.over, labels.next);
             let after = inner(alloc, writing, tables, inside, body)?;
-            end_for(&mut writing.draft, tables, at.line, labels, &head.step)?;
+            end_for(&mut writing.draft, &here, labels, &head.step)?;
             let to = writing.draft.place();
             writing.scopes.end(height, to)?;
             Ok(after)
         }
         ResolvedStatement::Return { at, value: answer } => {
-            returned(&mut writing.draft, tables, at.line, answer)?;
+            returned(&mut writing.draft, &Here { tables, at: *at }, answer)?;
             Ok(numbers)
         }
         ResolvedStatement::Break(at) => {
@@ -186,18 +194,13 @@ pub fn statement(
             repeated,
             body,
         } => {
+            let here = Here { tables, at: *at };
             let height = writing.scopes.height();
-            let labels = begin_worksharing(writing, tables, at.line, clauses.as_slice(), repeated)?;
+            let labels = begin_worksharing(writing, &here, clauses.as_slice(), repeated)?;
             let inside = Spot::in_iteration(numbers, labels.again);
             let after = inner(alloc, writing, tables, inside, body)?;
             end_loop(&mut writing.draft, at.line, labels)?;
-            end_worksharing(
-                &mut writing.draft,
-                tables,
-                at.line,
-                clauses.as_slice(),
-                *nowait,
-            )?;
+            end_worksharing(&mut writing.draft, &here, clauses.as_slice(), *nowait)?;
             let to = writing.draft.place();
             writing.scopes.end(height, to)?;
             Ok(after)
@@ -208,22 +211,16 @@ pub fn statement(
             nowait,
             parts: sections,
         } => {
+            let here = Here { tables, at: *at };
             let head = SectionsHead {
-                line: at.line,
                 numbers,
                 clauses: clauses.as_slice(),
             };
             let height = writing.scopes.height();
-            let inside = begin_parts(alloc, writing, tables, &head, sections.as_slice())?;
+            let inside = begin_parts(alloc, writing, &here, &head, sections.as_slice())?;
             let after = parts(alloc, writing, tables, inside, sections.as_slice())?;
             writing.draft.define(inside.over);
-            end_worksharing(
-                &mut writing.draft,
-                tables,
-                at.line,
-                clauses.as_slice(),
-                *nowait,
-            )?;
+            end_worksharing(&mut writing.draft, &here, clauses.as_slice(), *nowait)?;
             let to = writing.draft.place();
             writing.scopes.end(height, to)?;
             Ok(after)
@@ -234,15 +231,16 @@ pub fn statement(
             clauses,
             body,
         } => {
+            let here = Here { tables, at: *at };
             if let ConstructKind::Atomic = kind {
-                assignment(&mut writing.draft, tables, at.line, body)?;
+                assignment(&mut writing.draft, &here, body)?;
                 return Ok(numbers);
             }
             let height = writing.scopes.height();
-            let label = begin_construct(writing, tables, at.line, kind, clauses.as_slice())?;
+            let label = begin_construct(writing, &here, kind, clauses.as_slice())?;
             let inside = Spot::outside(numbers);
             let after = inner(alloc, writing, tables, inside, body)?;
-            end_construct(&mut writing.draft, tables, at.line, kind, label)?;
+            end_construct(&mut writing.draft, &here, kind, label)?;
             let to = writing.draft.place();
             writing.scopes.end(height, to)?;
             Ok(after)
@@ -251,7 +249,7 @@ pub fn statement(
             at,
             update: updated,
         } => {
-            update(&mut writing.draft, tables, at.line, updated)?;
+            update(&mut writing.draft, &Here { tables, at: *at }, updated)?;
             Ok(numbers)
         }
         ResolvedStatement::StandAlone { at, directive } => {

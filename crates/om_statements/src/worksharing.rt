@@ -1,14 +1,13 @@
 //! The begins and the ends of worksharing loops and of `sections`.
 
-ghost use Rattle.std.specs.Prelude.{IfOk, OnOk, map};
-ghost use Rattle.om_emit.specs.Emits.{EmitsRow};
-ghost use Rattle.om_rows.specs.Scopes.{bounds_scopes, loop_head, sections_head};
-ghost use Rattle.om_statements.specs.Scoped.{EmitsScopes};
-ghost use Rattle.om_statements.specs.Stretches.{Begins, bounds_row, sections_begin, worksharing_begin};
+ghost use Rattle.std.specs.Prelude.{map};
+ghost use Rattle.om_emit.specs.Emits.{Appends};
 ghost use Rattle.om_resolved.specs.ResolvedView.{view_resolved_clause, view_resolved_loop};
 ghost use Rattle.om_rows.specs.Coded.{LoopHasCode};
+ghost use Rattle.om_rows.specs.Scopes.{bounds_scopes, loop_head, sections_head};
 ghost use Rattle.om_rows.specs.Statements.{closes};
-ghost use Rattle.om_rows.specs.BodyTables.{numbered_by};
+ghost use Rattle.om_statements.specs.Scoped.{AppendsScopes};
+ghost use Rattle.om_statements.specs.Stretches.{AppendsHead, bounds_row, sections_begin, worksharing_begin};
 
 use crate::barrier::worksharing_end;
 use crate::clause::{reductions, starts};
@@ -17,9 +16,8 @@ use crate::operator::{comparison_of, form_with};
 use crate::writing::Writing;
 use om_code::Instr;
 use om_emit::draft::Draft;
-use om_emit::value;
+use om_emit::{Done, Here, value};
 use om_resolved::{ResolvedClause, ResolvedLoop};
-use om_rows::BodyTables;
 use std::alloc::AllocError;
 
 /// The list of a PICK, and how many parts it has.
@@ -34,23 +32,24 @@ pub struct Parts {
 /// Writes the bounds of a loop, on the line of its `for`, and what its copies begin with.
 fn bounds(
     writing: &mut Writing,
-    tables: &BodyTables<'_>,
-    line: u32,
+    here: &Here<'_>,
     clauses: &[ResolvedClause],
     repeated: &ResolvedLoop,
-) -> Result<(), AllocError>
+) -> Done
     requires { LoopHasCode (view_resolved_loop repeated.now) }
-    ensures code { let row = bounds_row line (map view_resolved_clause clauses.now)
-        (view_resolved_loop repeated.now) in
-        OnOk result (EmitsRow (numbered_by tables.now) row writing.old.draft writing.new.draft) }
-    ensures scopes { let trees = map view_resolved_clause clauses.now in
-        let loop = view_resolved_loop repeated.now in
-        OnOk result (EmitsScopes (numbered_by tables.now) (λ at. bounds_scopes at line trees loop)
-        writing.old writing.new) }
+    ensures code { Appends result here.now
+        (λ at l loop. bounds_row l (map view_resolved_clause clauses.now) loop at)
+        (view_resolved_loop repeated.now) writing.old.draft writing.new.draft }
+    ensures scopes { AppendsScopes result here.now
+        (λ at l. bounds_scopes at l (map view_resolved_clause clauses.now))
+        (view_resolved_loop repeated.now) writing.old writing.new }
 {
-    value(&mut writing.draft, tables, repeated.at.line, &repeated.from)?;
-    value(&mut writing.draft, tables, repeated.at.line, &repeated.to)?;
-    starts(writing, tables, line, clauses)?;
+    let at = repeated.at;
+    let tables = here.tables;
+    let head = Here { tables, at };
+    value(&mut writing.draft, &head, &repeated.from)?;
+    value(&mut writing.draft, &head, &repeated.to)?;
+    starts(writing, here, clauses)?;
     Ok(())
 }
 
@@ -58,29 +57,26 @@ fn bounds(
 /// taken, and each iteration puts its value into the loop's variable, which is in scope from there on.
 pub fn begin_worksharing(
     writing: &mut Writing,
-    tables: &BodyTables<'_>,
-    line: u32,
+    here: &Here<'_>,
     clauses: &[ResolvedClause],
     repeated: &ResolvedLoop,
 ) -> Result<LoopLabels, AllocError>
     requires { LoopHasCode (view_resolved_loop repeated.now) }
-    ensures code { let trees = map view_resolved_clause clauses.now in
-        let begin = worksharing_begin (numbered_by tables.now) line trees
-        (view_resolved_loop repeated.now) in
-        IfOk result
-        (λ labels. Begins labels.over (begin labels) writing.old.draft writing.new.draft) }
-    ensures scopes { let trees = map view_resolved_clause clauses.now in
-        let loop = view_resolved_loop repeated.now in
-        OnOk result (EmitsScopes (numbered_by tables.now) (λ at. loop_head at line trees loop)
-        writing.old writing.new) }
+    ensures code { AppendsHead result here.now
+        (λ names l. worksharing_begin names l (map view_resolved_clause clauses.now))
+        (view_resolved_loop repeated.now) writing.old.draft writing.new.draft }
+    ensures scopes { AppendsScopes result here.now
+        (λ at l. loop_head at l (map view_resolved_clause clauses.now))
+        (view_resolved_loop repeated.now) writing.old writing.new }
 {
     let Some(comparison) = comparison_of(repeated.comparison) else {
         unreachable!();
     };
+    let line = here.at.line;
     let chunk = writing.draft.fresh()?;
     let again = writing.draft.fresh()?;
     let over = writing.draft.fresh()?;
-    bounds(writing, tables, line, clauses, repeated)?;
+    bounds(writing, here, clauses, repeated)?;
     let from = writing.draft.place();
     writing.scopes.begin(from, None, &repeated.variable)?;
     let draft = &mut writing.draft;
@@ -88,14 +84,9 @@ pub fn begin_worksharing(
     draft.define(chunk);
     draft.put(line, Instr::Grab(over))?;
     draft.define(again);
-    let slot = tables.slot(&repeated.variable);
-    draft.put(
-        line,
-        Instr::Iterate {
-            slot,
-            otherwise: chunk,
-        },
-    )?;
+    let slot = here.tables.slot(&repeated.variable);
+    let otherwise = chunk;
+    draft.put(line, Instr::Iterate { slot, otherwise })?;
     Ok(LoopLabels { again, over })
 }
 
@@ -103,22 +94,20 @@ pub fn begin_worksharing(
 /// gone to.
 pub fn begin_sections(
     writing: &mut Writing,
-    tables: &BodyTables<'_>,
-    line: u32,
+    here: &Here<'_>,
     clauses: &[ResolvedClause],
     parts: Parts,
 ) -> Result<LoopLabels, AllocError>
-    ensures code { let begin = sections_begin (numbered_by tables.now) line
-        (map view_resolved_clause clauses.now) parts in
-        IfOk result
-        (λ labels. Begins labels.over (begin labels) writing.old.draft writing.new.draft) }
-    ensures scopes { let trees = map view_resolved_clause clauses.now in
-        OnOk result (EmitsScopes (numbered_by tables.now) (λ at. sections_head at line trees)
-        writing.old writing.new) }
+    ensures code { AppendsHead result here.now
+        (λ names l. sections_begin names l (map view_resolved_clause clauses.now)) parts
+        writing.old.draft writing.new.draft }
+    ensures scopes { AppendsScopes result here.now sections_head
+        (map view_resolved_clause clauses.now) writing.old writing.new }
 {
+    let line = here.at.line;
     let again = writing.draft.fresh()?;
     let over = writing.draft.fresh()?;
-    starts(writing, tables, line, clauses)?;
+    starts(writing, here, clauses)?;
     let draft = &mut writing.draft;
     draft.put(line, Instr::Sections(parts.count))?;
     draft.define(again);
@@ -131,16 +120,14 @@ pub fn begin_sections(
 /// are combined, and all threads wait for each other, unless it is `nowait`.
 pub fn end_worksharing(
     draft: &mut Draft,
-    tables: &BodyTables<'_>,
-    line: u32,
+    here: &Here<'_>,
     clauses: &[ResolvedClause],
     nowait: bool,
-) -> Result<(), AllocError>
-    ensures { let trees = map view_resolved_clause clauses.now in
-        OnOk result
-        (EmitsRow (numbered_by tables.now) (λ at. closes at line trees nowait) draft.old draft.new) }
+) -> Done
+    ensures { Appends result here.now (λ at l clauses. closes at l clauses nowait)
+        (map view_resolved_clause clauses.now) draft.old draft.new }
 {
-    reductions(draft, tables, line, clauses)?;
-    worksharing_end(draft, line, nowait)?;
+    reductions(draft, here, clauses)?;
+    worksharing_end(draft, here.at.line, nowait)?;
     Ok(())
 }

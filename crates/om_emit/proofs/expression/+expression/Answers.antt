@@ -1,9 +1,10 @@
 use Rattle.std.proofs.Common.{◌≡◌, ◌≤◌, get_or, rules, ap, sym, ◌∙◌, arith, true}
 use Rattle.std.proofs.lemmas.Result.{on_ok_weaker}
 use Rattle.om_code.specs.declared.instruction.Instr.TheVariants as i
+use Rattle.om_emit.specs.Emits.{listed, names_at}
 use Rattle.om_emit.specs.Forms.{form}
 use Rattle.om_emit.specs.Writing.{fresh_length, free_new, free_fresh, free_put, free_put_all, free_part, free_define}
-use Rattle.om_emit.proofs.Arguments.{listed, counted, few, with_depth, has_code, emits_next}
+use Rattle.om_emit.proofs.Arguments.{counted, few, with_depth, has_code, emits_next}
 use Rattle.om_emit.proofs.Expressions.{emits_element, emits_used_call, emits_right, emits_unary, emits_set}
 use Rattle.om_emit.proofs.Expressions.{emits_compound, emits_set_element, emits_compound_element, emits_call}
 use Rattle.om_emit.proofs.Expressions.{emits_binary, rest_is, emits_element_assigned, emits_postfix_element, value_is}
@@ -17,20 +18,19 @@ use Rattle.om_resolved.specs.ResolvedView.{view_resolved_expression}
 use Rattle.om_rows.specs.Expressions.{value}
 use Rattle.om_rows.specs.Operators.{Both, Either, Plain, form_of, compound_of}
 use Rattle.om_rows.specs.Slots.{place_of}
-use Rattle.om_rows.specs.BodyTables.{numbered_by}
 use Rattle.om_emit.proofs.expression.+expression.Goals as goal
 
 pub element-returns : goal.element-returns
 element-returns t c =
     on_ok_weaker c.load_element.result
-    (λ h. emits_element (numbered_by c.args.tables.now) c.args.line c.args.array
+    (λ h. emits_element (names_at c.args.here.now) c.args.here.now.at.line c.args.array
     (view_resolved_expression c.args.index.now) _ _ _ c.in_ok-value.ensures h)
     c.load_element.ensures
 
 pub call-returns : goal.call-returns
 call-returns t c =
     on_ok_weaker c.put.result
-    (λ h. emits_call (numbered_by c.args.tables.now) c.args.line c.args.function
+    (λ h. emits_call (names_at c.args.here.now) c.args.here.now.at.line c.args.function
     (listed c.args.arguments.now) c.called_body-body.result c.count_of-count.result _ _ _
     c.called_body-body.ensures (c.count_of-count.ensures
     ∙ counted c.args.arguments.now) c.in_ok-values.ensures h)
@@ -42,23 +42,23 @@ call-count_of-count-requires t c = few c.args.arguments.now c.requires
 pub used_call-returns : goal.used_call-returns
 used_call-returns t c =
     on_ok_weaker c.put.result
-    (λ h. emits_used_call (numbered_by c.args.tables.now) c.args.line c.args.function
+    (λ h. emits_used_call (names_at c.args.here.now) c.args.here.now.at.line c.args.function
     (listed c.args.arguments.now) _ _ _ c.in_ok-call.ensures h)
     c.put.ensures
 
 pub unary-returns : goal.unary-returns
 unary-returns t c =
     on_ok_weaker c.unary_end.result
-    (λ h. emits_unary (numbered_by c.args.tables.now) c.args.line c.args.operator
+    (λ h. emits_unary (names_at c.args.here.now) c.args.here.now.at.line c.args.operator
     (view_resolved_expression c.args.operand.now) _ _ _ c.in_ok-value.ensures h)
-    (c.unary_end.ensures (numbered_by c.args.tables.now))
+    c.unary_end.ensures
 
 -- ---- operators between two operands
 
 pub binary_end-returns-in-Both : goal.binary_end-returns-in-Both
 binary_end-returns-in-Both t c =
     on_ok_weaker c.both_end.result
-    (rest_is (numbered_by c.args.tables.now) c.args.line Both (form_of c.args.operator)
+    (rest_is (names_at c.args.here.now) c.args.here.now.at.line Both (form_of c.args.operator)
     (view_resolved_expression c.args.right.now) _ _
     (ap form (sym c.in-Both.is) ∙ c.form_of.ensures))
     c.both_end.ensures
@@ -66,7 +66,7 @@ binary_end-returns-in-Both t c =
 pub binary_end-returns-in-Either : goal.binary_end-returns-in-Either
 binary_end-returns-in-Either t c =
     on_ok_weaker c.either_end.result
-    (rest_is (numbered_by c.args.tables.now) c.args.line Either (form_of c.args.operator)
+    (rest_is (names_at c.args.here.now) c.args.here.now.at.line Either (form_of c.args.operator)
     (view_resolved_expression c.args.right.now) _ _
     (ap form (sym c.in-Either.is) ∙ c.form_of.ensures))
     c.either_end.ensures
@@ -74,10 +74,10 @@ binary_end-returns-in-Either t c =
 pub binary_end-returns-in_ok-value-in-Plain : goal.binary_end-returns-in_ok-value-in-Plain
 binary_end-returns-in_ok-value-in-Plain t c =
     on_ok_weaker c.put.result
-    (λ h. rest_is (numbered_by c.args.tables.now) c.args.line (Plain c.in-Plain.operator) (form_of c.args.operator)
+    (λ h. rest_is (names_at c.args.here.now) c.args.here.now.at.line (Plain c.in-Plain.operator) (form_of c.args.operator)
     (view_resolved_expression c.args.right.now) _ _
     (ap form (sym c.in-Plain.is) ∙ c.form_of.ensures)
-    (emits_right (numbered_by c.args.tables.now) c.args.line c.in-Plain.operator
+    (emits_right (names_at c.args.here.now) c.args.here.now.at.line c.in-Plain.operator
     (view_resolved_expression c.args.right.now) _ _ _
     c.in_ok-value-in-Plain.ensures h))
     c.put.ensures
@@ -97,9 +97,9 @@ both_end-truth-requires t c =
 
 pub both_end-returns : goal.both_end-returns
 both_end-returns t c =
-    let names = numbered_by c.args.tables.now in
+    let names = names_at c.args.here.now in
     on_ok_weaker c.truth.result
-    (λ h. emits_both names c.args.line (view_resolved_expression c.args.right.now)
+    (λ h. emits_both names c.args.here.now.at.line (view_resolved_expression c.args.right.now)
     c.in_ok-not_both.not_both c.in_ok-end.end _ _ _ _ _ _
     c.in_ok-not_both.ensures c.in_ok-end.ensures c.in_ok-put.ensures c.in_ok-value.ensures h)
     (c.truth.ensures names)
@@ -132,9 +132,9 @@ either_end-truth-requires t c =
 
 pub either_end-returns : goal.either_end-returns
 either_end-returns t c =
-    let names = numbered_by c.args.tables.now in
+    let names = names_at c.args.here.now in
     on_ok_weaker c.truth.result
-    (λ h. emits_either names c.args.line (view_resolved_expression c.args.right.now)
+    (λ h. emits_either names c.args.here.now.at.line (view_resolved_expression c.args.right.now)
     c.in_ok-next.next c.in_ok-neither.neither c.in_ok-end.end _ _ _ _ _ _ _ _
     c.in_ok-next.ensures c.in_ok-neither.ensures c.in_ok-end.ensures c.in_ok-put_all.ensures c.define.ensures
     c.in_ok-value.ensures h)
@@ -145,7 +145,7 @@ either_end-returns t c =
 pub assign-returns-in_ok-value-in-None : goal.assign-returns-in_ok-value-in-None
 assign-returns-in_ok-value-in-None t c =
     on_ok_weaker c.store.result
-    (λ h. emits_set (numbered_by c.args.tables.now) c.args.line c.args.target.keeps c.args.target.variable
+    (λ h. emits_set (names_at c.args.here.now) c.args.here.now.at.line c.args.target.keeps c.args.target.variable
     c.args.target.operator (view_resolved_expression c.args.e.now) _ _ _ (sym c.in-None.is ∙ c.compound_of.ensures)
     c.in_ok-value-in-None.ensures h)
     c.store.ensures
@@ -153,7 +153,7 @@ assign-returns-in_ok-value-in-None t c =
 pub assign-returns-in_ok-value-in-Some : goal.assign-returns-in_ok-value-in-Some
 assign-returns-in_ok-value-in-Some t c =
     on_ok_weaker c.put_all.result
-    (λ h. emits_compound (numbered_by c.args.tables.now) c.args.line c.args.target.keeps c.args.target.variable
+    (λ h. emits_compound (names_at c.args.here.now) c.args.here.now.at.line c.args.target.keeps c.args.target.variable
     c.args.target.operator _ _ (view_resolved_expression c.args.e.now) _ _ _ _
     (sym c.in-Some.is ∙ c.compound_of.ensures) c.place-place.ensures c.in_ok-load-in-Some.ensures
     c.in_ok-value-in-Some.ensures h)
@@ -162,7 +162,7 @@ assign-returns-in_ok-value-in-Some t c =
 pub assign_element-returns-in_ok-value-in-None : goal.assign_element-returns-in_ok-value-in-None
 assign_element-returns-in_ok-value-in-None t c =
     on_ok_weaker c.store_element.result
-    (λ h. emits_set_element (numbered_by c.args.tables.now) c.args.line c.args.target.keeps c.args.target.variable
+    (λ h. emits_set_element (names_at c.args.here.now) c.args.here.now.at.line c.args.target.keeps c.args.target.variable
     c.args.target.operator (view_resolved_expression c.args.e.now) _ _ _ (sym c.in-None.is ∙ c.compound_of.ensures)
     c.in_ok-value-in-None.ensures h)
     c.store_element.ensures
@@ -170,7 +170,7 @@ assign_element-returns-in_ok-value-in-None t c =
 pub assign_element-returns-in_ok-value-in-Some : goal.assign_element-returns-in_ok-value-in-Some
 assign_element-returns-in_ok-value-in-Some t c =
     on_ok_weaker c.put_all-in-Some.result
-    (λ h. emits_compound_element (numbered_by c.args.tables.now) c.args.line c.args.target.keeps
+    (λ h. emits_compound_element (names_at c.args.here.now) c.args.here.now.at.line c.args.target.keeps
     c.args.target.variable c.args.target.operator _ _ (view_resolved_expression c.args.e.now) _ _ _ _
     (sym c.in-Some.is ∙ c.compound_of.ensures) c.place-place.ensures c.in_ok-put_all-in-Some.ensures
     c.in_ok-value-in-Some.ensures h)
@@ -238,55 +238,55 @@ values-loop-e-preserved t c = (
 
 pub value-returns-in-Constant : goal.value-returns-in-Constant
 value-returns-in-Constant t c =
-    let names = numbered_by c.args.tables.now in
+    let names = names_at c.args.here.now in
     let is = ap view_resolved_expression c.in-Constant.is ∙ view_constant c.in-Constant.number in
     on_ok_weaker c.put.result
-    (λ h. value_is names c.args.line (trees.Constant c.in-Constant.number)
+    (λ h. value_is names c.args.here.now.at.line (trees.Constant c.in-Constant.number)
     (view_resolved_expression c.args.e.now) _ _ (sym is)
-    (emits_constant names c.args.line c.in-Constant.number _ _ _ (search rules) h))
+    (emits_constant names c.args.here.now.at.line c.in-Constant.number _ _ _ (search rules) h))
     c.put.ensures
 
 pub value-returns-in-Variable : goal.value-returns-in-Variable
 value-returns-in-Variable t c =
-    let names = numbered_by c.args.tables.now in
+    let names = names_at c.args.here.now in
     let is = ap view_resolved_expression c.in-Variable.is ∙ view_variable c.in-Variable.variable in
     on_ok_weaker c.load.result
-    (λ h. value_is names c.args.line (trees.Variable c.in-Variable.variable)
+    (λ h. value_is names c.args.here.now.at.line (trees.Variable c.in-Variable.variable)
     (view_resolved_expression c.args.e.now) _ _ (sym is)
-    (emits_one names c.args.line (i.Load (place_of names.slots c.in-Variable.variable)) _ _ h))
+    (emits_one names c.args.here.now.at.line (i.Load (place_of names.slots c.in-Variable.variable)) _ _ h))
     c.load.ensures
 
 pub value-returns-in-ThreadNumber : goal.value-returns-in-ThreadNumber
 value-returns-in-ThreadNumber t c =
-    let names = numbered_by c.args.tables.now in
+    let names = names_at c.args.here.now in
     let is = ap view_resolved_expression c.in-ThreadNumber.is ∙ view_thread_number in
     on_ok_weaker c.put-in-ThreadNumber.result
-    (λ h. value_is names c.args.line trees.ThreadNumber (view_resolved_expression c.args.e.now) _ _ (sym is)
-    (emits_one names c.args.line i.ThreadNumber _ _ h))
+    (λ h. value_is names c.args.here.now.at.line trees.ThreadNumber (view_resolved_expression c.args.e.now) _ _ (sym is)
+    (emits_one names c.args.here.now.at.line i.ThreadNumber _ _ h))
     c.put-in-ThreadNumber.ensures
 
 pub value-returns-in-TeamSize : goal.value-returns-in-TeamSize
 value-returns-in-TeamSize t c =
-    let names = numbered_by c.args.tables.now in
+    let names = names_at c.args.here.now in
     let is = ap view_resolved_expression c.in-TeamSize.is ∙ view_team_size in
     on_ok_weaker c.put-in-TeamSize.result
-    (λ h. value_is names c.args.line trees.TeamSize (view_resolved_expression c.args.e.now) _ _ (sym is)
-    (emits_one names c.args.line i.TeamSize _ _ h))
+    (λ h. value_is names c.args.here.now.at.line trees.TeamSize (view_resolved_expression c.args.e.now) _ _ (sym is)
+    (emits_one names c.args.here.now.at.line i.TeamSize _ _ h))
     c.put-in-TeamSize.ensures
 
 pub value-returns-in-Call : goal.value-returns-in-Call
 value-returns-in-Call t c =
-    let names = numbered_by c.args.tables.now in
+    let names = names_at c.args.here.now in
     let is = ap view_resolved_expression c.in-Call.is ∙ view_call c.in-Call.function c.in-Call.arguments in
     let same = ap (λ es. trees.Call c.in-Call.function (listed es)) c.as_slice.ensures.value in
     on_ok_weaker c.used_call.result
-    (λ h. value_is names c.args.line (trees.Call c.in-Call.function (listed c.as_slice.result.now))
+    (λ h. value_is names c.args.here.now.at.line (trees.Call c.in-Call.function (listed c.as_slice.result.now))
     (view_resolved_expression c.args.e.now) _ _ (same ∙ sym is) h)
     c.used_call.ensures
 
 pub value-returns-in_ok-value-in-Binary : goal.value-returns-in_ok-value-in-Binary
 value-returns-in_ok-value-in-Binary t c =
-    let names = numbered_by c.args.tables.now in
+    let names = names_at c.args.here.now in
     let left = c.deref-in-Binary.result.now in
     let right = c.deref-in-Binary-2.result.now in
     let is = ap view_resolved_expression c.in-Binary.is
@@ -297,10 +297,10 @@ value-returns-in_ok-value-in-Binary t c =
     ∙ ap (λ e. trees.Binary (view_resolved_expression c.in-Binary.left.value) c.in-Binary.operator
     (view_resolved_expression e)) c.deref-in-Binary-2.ensures in
     on_ok_weaker c.binary_end.result
-    (λ h. value_is names c.args.line (trees.Binary (view_resolved_expression left) c.in-Binary.operator
+    (λ h. value_is names c.args.here.now.at.line (trees.Binary (view_resolved_expression left) c.in-Binary.operator
     (view_resolved_expression right)) (view_resolved_expression c.args.e.now)
     _ _ (same ∙ sym is)
-    (emits_binary names c.args.line c.in-Binary.operator (view_resolved_expression left)
+    (emits_binary names c.args.here.now.at.line c.in-Binary.operator (view_resolved_expression left)
     (view_resolved_expression right) _ _ _
     c.in_ok-value-in-Binary.ensures h))
     c.binary_end.ensures
@@ -332,7 +332,7 @@ value-define-requires-in-Conditional t c =
 
 pub value-returns-in_ok-value-in-Conditional-3 : goal.value-returns-in_ok-value-in-Conditional-3
 value-returns-in_ok-value-in-Conditional-3 t c =
-    let names = numbered_by c.args.tables.now in
+    let names = names_at c.args.here.now in
     let a = c.deref-in-Conditional.result.now in
     let b = c.deref-in-Conditional-2.result.now in
     let d = c.deref-in-Conditional-3.result.now in
@@ -347,10 +347,10 @@ value-returns-in_ok-value-in-Conditional-3 t c =
     (view_resolved_expression d)) c.deref-in-Conditional-2.ensures
     ∙ ap (λ e. trees.Conditional (view_resolved_expression at_a.value) (view_resolved_expression at_b.value)
     (view_resolved_expression e)) c.deref-in-Conditional-3.ensures in
-    value_is names c.args.line (trees.Conditional (view_resolved_expression a) (view_resolved_expression b)
+    value_is names c.args.here.now.at.line (trees.Conditional (view_resolved_expression a) (view_resolved_expression b)
     (view_resolved_expression d)) (view_resolved_expression c.args.e.now)
     _ _ (same ∙ sym is)
-    (emits_conditional names c.args.line (view_resolved_expression a) (view_resolved_expression b)
+    (emits_conditional names c.args.here.now.at.line (view_resolved_expression a) (view_resolved_expression b)
     (view_resolved_expression d)
     c.in_ok-otherwise-in-Conditional.otherwise c.in_ok-end-in-Conditional.end _ _ _ _ _ _ _ _ _ _
     c.in_ok-otherwise-in-Conditional.ensures c.in_ok-end-in-Conditional.ensures c.in_ok-value-in-Conditional.ensures
@@ -361,7 +361,7 @@ value-returns-in_ok-value-in-Conditional-3 t c =
 
 pub value-returns-in_ok-value-in-AssignElement : goal.value-returns-in_ok-value-in-AssignElement
 value-returns-in_ok-value-in-AssignElement t c =
-    let names = numbered_by c.args.tables.now in
+    let names = names_at c.args.here.now in
     let j = c.deref-in-AssignElement.result.now in
     let e = c.deref-in-AssignElement-2.result.now in
     let x = c.in-AssignElement.array in
@@ -374,24 +374,24 @@ value-returns-in_ok-value-in-AssignElement t c =
     ∙ ap (λ z. trees.AssignElement x (view_resolved_expression c.in-AssignElement.index.value) o
     (view_resolved_expression z)) c.deref-in-AssignElement-2.ensures in
     on_ok_weaker c.assign_element.result
-    (λ h. value_is names c.args.line (trees.AssignElement x (view_resolved_expression j) o (view_resolved_expression e))
+    (λ h. value_is names c.args.here.now.at.line (trees.AssignElement x (view_resolved_expression j) o (view_resolved_expression e))
     (view_resolved_expression c.args.e.now)
     _ _ (same ∙ sym is)
-    (emits_element_assigned names c.args.line true x (view_resolved_expression j) (compound_of o)
-    (λ at. value at c.args.line (view_resolved_expression e)) _ _ _
+    (emits_element_assigned names c.args.here.now.at.line true x (view_resolved_expression j) (compound_of o)
+    (λ at. value at c.args.here.now.at.line (view_resolved_expression e)) _ _ _
     c.in_ok-value-in-AssignElement.ensures
-    (target_is names c.args.line (view_resolved_expression e) c.kept-in-AssignElement.result (record {
+    (target_is names c.args.here.now.at.line (view_resolved_expression e) c.assigned-in-AssignElement.result (record {
       variable =
           x;
       operator = o;
       keeps = true;
     }) _ _
-    c.kept-in-AssignElement.ensures h)))
+    c.assigned-in-AssignElement.ensures h)))
     c.assign_element.ensures
 
 pub value-returns-in_ok-value-in-PostfixElement : goal.value-returns-in_ok-value-in-PostfixElement
 value-returns-in_ok-value-in-PostfixElement t c =
-    let names = numbered_by c.args.tables.now in
+    let names = names_at c.args.here.now in
     let j = c.deref-in-PostfixElement.result.now in
     let x = c.in-PostfixElement.array in
     let o = c.in-PostfixElement.operator in
@@ -399,8 +399,8 @@ value-returns-in_ok-value-in-PostfixElement t c =
     ∙ view_postfix_element x c.in-PostfixElement.index o in
     let same = ap (λ z. trees.PostfixElement x (view_resolved_expression z) o) c.deref-in-PostfixElement.ensures in
     on_ok_weaker c.postfix_element.result
-    (λ h. value_is names c.args.line (trees.PostfixElement x (view_resolved_expression j) o)
+    (λ h. value_is names c.args.here.now.at.line (trees.PostfixElement x (view_resolved_expression j) o)
     (view_resolved_expression c.args.e.now) _ _ (same ∙ sym is)
-    (emits_postfix_element names c.args.line x (view_resolved_expression j) o _ _ _
+    (emits_postfix_element names c.args.here.now.at.line x (view_resolved_expression j) o _ _ _
     c.in_ok-value-in-PostfixElement.ensures h))
     c.postfix_element.ensures

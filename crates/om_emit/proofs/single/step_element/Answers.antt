@@ -1,11 +1,11 @@
 use Rattle.std.proofs.lemmas.Result.{on_ok_weaker}
+use Rattle.om_emit.specs.Emits.{names_at}
 use Rattle.om_emit.proofs.Singles.{emits_stepped_element}
-use Rattle.om_rows.specs.BodyTables.{numbered_by}
 use Rattle.om_emit.proofs.single.step_element.Goals as goal
 
 pub returns : goal.returns
 returns c =
     on_ok_weaker c.put_all.result
-    (λ h. emits_stepped_element (numbered_by c.args.tables.now) c.args.line c.args.target.keeps
+    (λ h. emits_stepped_element (names_at c.args.here.now) c.args.here.now.at.line c.args.target.keeps
     c.args.target.variable c.args.target.operator _ _ _ _ c.step_of.ensures c.place-place.ensures h)
     c.put_all.ensures

@@ -1,14 +1,14 @@
 use Rattle.std.proofs.Common.{◌∙◌}
 use Rattle.std.proofs.lemmas.Result.{on_ok_weaker}
-use Rattle.om_emit.proofs.Arguments.{listed, counted, few}
+use Rattle.om_emit.specs.Emits.{listed, names_at}
+use Rattle.om_emit.proofs.Arguments.{counted, few}
 use Rattle.om_emit.proofs.Expressions.{emits_print}
-use Rattle.om_rows.specs.BodyTables.{numbered_by}
 use Rattle.om_emit.proofs.unused.print.Goals as goal
 
 pub returns : goal.returns
 returns c =
     on_ok_weaker c.put.result
-    (λ h. emits_print (numbered_by c.args.tables.now) c.args.line c.args.format.now
+    (λ h. emits_print (names_at c.args.here.now) c.args.here.now.at.line c.args.format.now
     (listed c.args.arguments.now) c.format_number-text.result c.count_of-count.result _ _ _
     c.format_number-text.ensures (c.count_of-count.ensures
     ∙ counted c.args.arguments.now) c.in_ok-values.ensures h)

@@ -2,11 +2,11 @@ use Rattle.std.proofs.Common.{ap, ◌∙◌}
 use Rattle.om_resolved.specs.ResolvedView.{view_resolved_clause}
 use Rattle.om_statements.proofs.Scoped.{team_stands}
 use Rattle.om_statements.specs.Scoped.{team_from}
-use Rattle.om_rows.specs.BodyTables.{numbered_by}
+use Rattle.om_emit.specs.Emits.{names_at}
 use Rattle.om_statements.proofs.clause.clause_reduction_start.Goals as goal
 
 pub returns-clause-scopes : goal.returns-clause-scopes
 returns-clause-scopes c =
-    team_stands (numbered_by c.args.tables.now) c.args.line (view_resolved_clause c.args.clause.now) _ _ _ _ _
+    team_stands (names_at c.args.here.now) c.args.here.now.at.line (view_resolved_clause c.args.clause.now) _ _ _ _ _
     (c.team_from-from.ensures ∙ ap (λ p. team_from p (view_resolved_clause c.args.clause.now)) c.place.ensures)
     c.in_ok-begin_scope.ensures c.in_ok-begin_reduction.ensures.writes

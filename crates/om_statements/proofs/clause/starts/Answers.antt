@@ -5,7 +5,7 @@ use Rattle.om_rows.specs.Scopes.{clause_scope}
 use Rattle.om_statements.proofs.Leaves.{begin_each, end_each, next_each}
 use Rattle.om_statements.proofs.ScopeStacks.{left_one}
 use Rattle.om_statements.specs.Scoping.{each_end, each_next, scopes_begin}
-use Rattle.om_rows.specs.BodyTables.{numbered_by}
+use Rattle.om_emit.specs.Emits.{names_at}
 use Rattle.om_statements.proofs.clause.starts.Goals as goal
 
 pub loop-clause-init : goal.loop-clause-init
@@ -15,7 +15,7 @@ pub loop-clause-preserved : goal.loop-clause-preserved
 loop-clause-preserved c = (
   next_each _ _ _ _ _ _ _ _ _ _ c.loop-clause-test.true c.clause-item.is c.loop-clause.invariant.0
       c.in_ok-clause_start.ensures.code,
-  each_next (numbered_by c.args.tables.now) (λ at. clause_scope at c.args.line) _ _
+  each_next (names_at c.args.here.now) (λ at. clause_scope at c.args.here.now.at.line) _ _
       (map view_resolved_clause (drop (c.loop-clause.clause-index + 1) c.args.clauses.now)) _ _ _ _ _ _ _
       (ap (map view_resolved_clause) (left_one c.args.clauses.now c.loop-clause.clause-index c.clause-item.result
       c.loop-clause-test.true c.clause-item.is))
@@ -28,6 +28,6 @@ returns-clause-code c = end_each _ _ _ _ _ _ _ _ (drop_all c.loop-clause.clause-
 
 pub returns-clause-scopes : goal.returns-clause-scopes
 returns-clause-scopes c =
-    each_end (numbered_by c.args.tables.now) (λ at. clause_scope at c.args.line) _ _ _ _ _ _
+    each_end (names_at c.args.here.now) (λ at. clause_scope at c.args.here.now.at.line) _ _ _ _ _ _
     (ap (map view_resolved_clause) (drop_all c.loop-clause.clause-index c.args.clauses.now c.loop-clause-test.false))
     c.loop-clause.invariant.1

@@ -6,7 +6,7 @@ use Rattle.om_rows.specs.Scopes.{declarator_scope}
 use Rattle.om_statements.proofs.Leaves.{all_item, begin_each, end_each, next_each}
 use Rattle.om_statements.proofs.ScopeStacks.{left_one}
 use Rattle.om_statements.specs.Scoping.{each_end, each_next, scopes_begin}
-use Rattle.om_rows.specs.BodyTables.{numbered_by}
+use Rattle.om_emit.specs.Emits.{names_at}
 use Rattle.om_statements.proofs.declaration.declarators.Goals as goal
 
 pub loop-one-init : goal.loop-one-init
@@ -20,7 +20,7 @@ pub loop-one-preserved : goal.loop-one-preserved
 loop-one-preserved c = (
   next_each _ _ _ _ _ _ _ _ _ _ c.loop-one-test.true c.one-item.is c.loop-one.invariant.0
       c.in_ok-declarator.ensures.code,
-  each_next (numbered_by c.args.tables.now) (λ at. declarator_scope at c.args.line) _ _
+  each_next (names_at c.args.here.now) (λ at. declarator_scope at c.args.here.now.at.line) _ _
       (map view_resolved_declarator (drop (c.loop-one.one-index + 1) c.args.declared.now)) _ _ _ _ _ _ _
       (ap (map view_resolved_declarator) (left_one c.args.declared.now c.loop-one.one-index c.one-item.result
       c.loop-one-test.true c.one-item.is))
@@ -33,6 +33,6 @@ returns-clause-code c = end_each _ _ _ _ _ _ _ _ (drop_all c.loop-one.one-index 
 
 pub returns-clause-scopes : goal.returns-clause-scopes
 returns-clause-scopes c =
-    each_end (numbered_by c.args.tables.now) (λ at. declarator_scope at c.args.line) _ _ _ _ _ _
+    each_end (names_at c.args.here.now) (λ at. declarator_scope at c.args.here.now.at.line) _ _ _ _ _ _
     (ap (map view_resolved_declarator) (drop_all c.loop-one.one-index c.args.declared.now c.loop-one-test.false))
     c.loop-one.invariant.1

@@ -3,14 +3,14 @@ use Rattle.om_resolved.specs.ResolvedView.{view_resolved_expression}
 use Rattle.om_rows.specs.Expressions.{effect}
 use Rattle.om_rows.specs.Rows.{end}
 use Rattle.om_statements.specs.Scoping.{stand_plain}
-use Rattle.om_rows.specs.BodyTables.{numbered_by}
+use Rattle.om_emit.specs.Emits.{names_at}
 use Rattle.om_statements.proofs.declaration.start.Goals as goal
 
 pub returns-in-Nothing-clause-scopes : goal.returns-in-Nothing-clause-scopes
-returns-in-Nothing-clause-scopes c = rw c.in-Nothing.is (stand_plain (numbered_by c.args.tables.now) (λ at. end) _ _ _
+returns-in-Nothing-clause-scopes c = rw c.in-Nothing.is (stand_plain (names_at c.args.here.now) (λ at. end) _ _ _
     (goes_end 0 _).writes)
 
 pub returns-in_ok-effect-in-Expression-clause-scopes : goal.returns-in_ok-effect-in-Expression-clause-scopes
-returns-in_ok-effect-in-Expression-clause-scopes c = rw c.in-Expression.is (stand_plain (numbered_by c.args.tables.now)
-    (λ at. effect at c.args.line (view_resolved_expression c.in-Expression.expression)) _ _ _
+returns-in_ok-effect-in-Expression-clause-scopes c = rw c.in-Expression.is (stand_plain (names_at c.args.here.now)
+    (λ at. effect at c.args.here.now.at.line (view_resolved_expression c.in-Expression.expression)) _ _ _
     c.in_ok-effect-in-Expression.ensures.writes)

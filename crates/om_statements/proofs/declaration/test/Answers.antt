@@ -1,6 +1,6 @@
-use Rattle.om_rows.specs.BodyTables.{numbered_by}
+use Rattle.om_emit.specs.Emits.{names_at}
 use Rattle.om_statements.proofs.Leaves.{emits_then_one}
 use Rattle.om_statements.proofs.declaration.test.Goals as goal
 
 pub returns : goal.returns
-returns c = emits_then_one (numbered_by c.args.tables.now) _ _ _ _ _ _ c.in_ok-value.ensures c.in_ok-put.ensures
+returns c = emits_then_one (names_at c.args.here.now) _ _ _ _ _ _ c.in_ok-value.ensures c.in_ok-put.ensures

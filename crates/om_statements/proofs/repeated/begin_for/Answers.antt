@@ -2,7 +2,7 @@ use Rattle.std.proofs.Common.{option_map}
 use Rattle.om_resolved.specs.ResolvedView.{view_resolved_expression, view_resolved_start}
 use Rattle.om_statements.proofs.Opened.{begins_turn}
 use Rattle.om_statements.proofs.Scoped.{for_begins}
-use Rattle.om_rows.specs.BodyTables.{numbered_by}
+use Rattle.om_emit.specs.Emits.{names_at}
 use Rattle.om_statements.proofs.repeated.begin_for.Goals as goal
 
 pub returns-clause-code : goal.returns-clause-code
@@ -11,6 +11,6 @@ returns-clause-code c = begins_turn _ _ _ _ _ _ _ _ c.in_ok-labels.ensures c.in_
 
 pub returns-clause-scopes : goal.returns-clause-scopes
 returns-clause-scopes c =
-    for_begins (numbered_by c.args.tables.now) c.args.line (view_resolved_start c.args.begin.now)
+    for_begins (names_at c.args.here.now) c.args.here.now.at.line (view_resolved_start c.args.begin.now)
     (option_map view_resolved_expression c.args.condition.now) _ _ _ _ _ _ _ _
     c.in_ok-labels.ensures c.in_ok-start.ensures.scopes c.define.ensures c.in_ok-perhaps_test.ensures
