@@ -7,8 +7,10 @@ the last line counts the rows, and the status is 1 where one of them is wrong.
 import os, resource, subprocess, sys, tempfile
 
 SOURCE = b"int x; int main(void){ x = 1; }\n"
-# Where it runs alone it meets a fault, so a hunt tells of no seed.
+# Where it runs alone it meets a fault.
 FAULTY = b"int main(void){ int x; return x; }\n"
+# Where it runs alone nothing is bad, so a hunt tries seeds.
+RACY = b"#include <stdio.h>\nint x; int main(void){\n#pragma omp parallel\nx = x + 1;\nprintf(\"%d\\n\", x); }\n"
 FULL = "/dev/full"
 
 
@@ -80,6 +82,9 @@ def of_lab(lab, folder):
     faulty = os.path.join(folder, "faulty.c")
     with open(faulty, "wb") as f:
         f.write(FAULTY)
+    racy = os.path.join(folder, "racy.c")
+    with open(racy, "wb") as f:
+        f.write(RACY)
     yield "omplab: no subcommand", (2, b"", None), run([lab])
     yield "omplab: a subcommand that there is not", (2, b"", None), run([lab, "look"])
     yield "omplab check: a file that is not there", (3, b"", b"H3\n"), run([lab, "check", os.path.join(folder, "none.c")])
@@ -93,10 +98,11 @@ def of_lab(lab, folder):
     yield "omplab hunt: a file that is not there", (3, b"", b"H3\n"), run([lab, "hunt", os.path.join(folder, "none.c")])
     yield "omplab hunt: no seed", (2, b"", None), run([lab, "hunt", "--seeds", "0", good])
     yield "omplab hunt: a fault", (1, None, b""), run([lab, "hunt", faulty])
+    yield "omplab hunt: a race, and a standard error that is no terminal", (1, None, b""), run([lab, "hunt", racy])
     for word in "hunt", "script", "draw":
-        yield f"omplab {word}: a pipe that nobody reads", (3, None, b"H4\n"), with_closed_output([lab, word, faulty], b"step 0\n")
+        yield f"omplab {word}: a pipe that nobody reads", (3, None, b"H4\n"), with_closed_output([lab, word, racy], b"step 0\n")
         with open(FULL, "wb") as full:
-            yield f"omplab {word}: a disk that is full", (3, None, b"H4\n"), run([lab, word, faulty], b"step 0\n", stdout=full)
+            yield f"omplab {word}: a disk that is full", (3, None, b"H4\n"), run([lab, word, racy], b"step 0\n", stdout=full)
     for word in "script", "draw":
         line = b"refused S3 line 1 column 26\n"
         yield f"omplab {word}: a refused source", (1, line, b""), run([lab, word, cut], b"step 0\n")

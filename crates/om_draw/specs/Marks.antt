@@ -1,5 +1,5 @@
 -- The text of boxes.
-use Rattle.std.specs.Prelude.{ℕ, ◌*◌, ◌%◌, cond, List, [], ◌∷◌, ◌++◌, codes, decimal}
+use Rattle.std.specs.Prelude.{ℕ, ◌*◌, ◌%◌, Bool, cond, List, [], ◌∷◌, ◌++◌, codes, decimal}
 use Rattle.om_picture.specs.declared.picture.StepBox.{StepBox}
 use Rattle.om_draw.specs.declared.scale.Scale.{Scale}
 use Rattle.om_draw.specs.Places.{left_of, top_of}
@@ -40,13 +40,20 @@ value_words b = codes "<text x='5' y='28'>" ++ escaped b.value
 abbrev pub lines_text : StepBox → List ℕ
 lines_text b = upper_text b ++ value_words b ++ codes "</text>"
 
+-- a step that met a fault is of one more class
+abbrev pub fault_text : Bool → List ℕ
+fault_text is_fault = cond is_fault (codes " fault") []
+
+abbrev pub class_text : List ℕ → StepBox → List ℕ
+class_text class b = class ++ fault_text b.is_fault
+
 -- a small box, and a large one
 abbrev pub mark_text : List ℕ → Scale → StepBox → List ℕ
-mark_text class scale b = codes "<rect class='" ++ class ++ codes "' width='6' height='6'" ++ corner_text scale b
+mark_text class scale b = codes "<rect class='" ++ class_text class b ++ codes "' width='6' height='6'" ++ corner_text scale b
     ++ hue_text b.line ++ codes ">" ++ title_text b ++ codes "</rect>\n"
 
 abbrev pub card_begin : List ℕ → Scale → StepBox → List ℕ
-card_begin class scale b = codes "<svg class='" ++ class ++ codes "' width='92' height='34'" ++ corner_text scale b
+card_begin class scale b = codes "<svg class='" ++ class_text class b ++ codes "' width='92' height='34'" ++ corner_text scale b
     ++ hue_text b.line ++ codes ">"
 
 abbrev pub card_text : List ℕ → Scale → StepBox → List ℕ

@@ -1,7 +1,7 @@
 //! The text of boxes: one element for each.
 
 ghost use Rattle.std.specs.Prelude.{◌≡◌, ◌++◌, OnOk};
-ghost use Rattle.om_draw.specs.Marks.{hue_of, corner_text, title_text, hue_text, upper_text, lines_text, mark_text, card_begin, card_text, box_text, boxes_text};
+ghost use Rattle.om_draw.specs.Marks.{hue_of, corner_text, title_text, hue_text, upper_text, lines_text, class_text, mark_text, card_begin, card_text, box_text, boxes_text};
 
 use crate::escape::{push_after, push_attribute};
 use crate::scale::Scale;
@@ -63,6 +63,18 @@ fn push_lines(text: &mut Vec<u8>, step: &StepBox) -> Result<(), AllocError>
     text.extend_from_slice(b"</text>")
 }
 
+/// Appends the class of a box. That of a step that met a fault is of a class of its own too, so that it is
+/// found at a glance.
+fn push_class(text: &mut Vec<u8>, class: &[u8], step: &StepBox) -> Result<(), AllocError>
+    ensures { OnOk result (text.new.items ≡ text.old.items ++ class_text class.now step.now) }
+{
+    text.extend_from_slice(class)?;
+    if step.is_fault {
+        text.extend_from_slice(b" fault")?;
+    }
+    Ok(())
+}
+
 /// Appends a box of 6 by 6 points, of a class.
 fn push_mark(
     text: &mut Vec<u8>,
@@ -73,7 +85,7 @@ fn push_mark(
     ensures { OnOk result (text.new.items ≡ text.old.items ++ mark_text class.now scale step.now) }
 {
     text.extend_from_slice(b"<rect class='")?;
-    text.extend_from_slice(class)?;
+    push_class(text, class, step)?;
     text.extend_from_slice(b"' width='6' height='6'")?;
     push_corner(text, scale, step)?;
     push_hue(text, step.line)?;
@@ -93,7 +105,7 @@ fn push_card_begin(
         (text.new.items ≡ text.old.items ++ card_begin class.now scale step.now) }
 {
     text.extend_from_slice(b"<svg class='")?;
-    text.extend_from_slice(class)?;
+    push_class(text, class, step)?;
     text.extend_from_slice(b"' width='92' height='34'")?;
     push_corner(text, scale, step)?;
     push_hue(text, step.line)?;

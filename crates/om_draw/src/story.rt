@@ -136,6 +136,7 @@ impl Story<'_> {
             line: taken.line,
             instruction: Seq::new(alloc),
             value,
+            is_fault: false,
         })?;
         Ok(())
     }

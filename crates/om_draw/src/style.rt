@@ -27,6 +27,8 @@ text{font-size:11px;fill:var(--ink)}
 .at{text-anchor:end;fill:var(--dim)}
 .lane{stroke:var(--rule)}
 .step rect,rect.step{fill:hsl(var(--h) var(--soft) var(--fill));stroke:hsl(var(--h) var(--soft) var(--edge))}
+.step.fault rect,rect.step.fault{stroke:var(--refused);stroke-width:5}
+.step text:last-child{font-size:9.5px}
 .gone rect,rect.gone{fill:none;stroke:var(--gone);stroke-dasharray:3 2}
 .gone text{fill:var(--dim)}
 .arrow line,.refused line{stroke:var(--arrow);stroke-width:1.3;marker-end:url(#head)}
@@ -51,8 +53,8 @@ text{font-size:11px;fill:var(--ink)}
 pub(crate) const LEGEND: &[u8] =
     b" steps that stand. An arrow goes from a step to a later one of another \
 worker that conflicts with it, and names the object. Those at a worker's control, as from a fork to each \
-step of a new worker, are faint, and not shown among marks. Grey: taken out. Red, broken: an undo that was \
-refused.";
+step of a new worker, are faint, and not shown among marks. Grey: taken out. Outlined in red: a step that \
+met a fault. Red, broken: an undo that was refused.";
 
 /// What stands behind the legend of a page with many steps.
 pub(crate) const FEWER: &[u8] =

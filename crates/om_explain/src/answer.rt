@@ -25,7 +25,11 @@ const ANSWERS: [Row; 8] = [
     (b"dead", "its frame has ended"),
 ];
 
-const STOPS: [Row; 3] = [
+const STOPS: [Row; 4] = [
+    (
+        b"watch",
+        "the value has changed: the last line of `history` is the step that did it, and `print` has the value",
+    ),
     (b"limit", "so many steps were asked for"),
     (b"ended", "no worker has a move, and main has ended"),
     (

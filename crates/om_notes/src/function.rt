@@ -81,12 +81,16 @@ pub(crate) fn functions_of(alloc: Global, tokens: &[Token]) -> Result<Vec<Functi
     Ok(functions)
 }
 
-/// The name of the function that takes a line.
+/// The name of the function that takes a line; `None` where several do, or none.
 pub(crate) fn function_at(functions: &[Function], line: u32) -> Option<&[u8]> {
+    let mut found = None;
     for function in functions {
         if function.first <= line && line <= function.last {
-            return Some(function.name.as_slice());
+            if found.is_some() {
+                return None;
+            }
+            found = Some(function.name.as_slice());
         }
     }
-    None
+    found
 }

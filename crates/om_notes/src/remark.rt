@@ -76,12 +76,12 @@ fn command_fault_of(line: &[u8]) -> Option<&'static str> {
     }
 }
 
-// What an answer without a code means: the whole of it, `no step #99`, or the last word of `ran 12 stuck` and
-// `x = unset`.
+// What an answer without a code means: the whole of it, `no step #99`, the third word of `ran 12 stuck` and
+// `ran 12 watch x worker 0`, or the last one of `x = unset`.
 fn answer_of(line: &[u8], words: &[&[u8]]) -> Option<&'static str> {
     match words {
         [no, step, _] if is_word(no, b"no") && is_word(step, b"step") => answer_words(b"no step"),
-        [ran, _, stop] if is_word(ran, b"ran") => stop_words(stop),
+        [ran, _, stop, ..] if is_word(ran, b"ran") => stop_words(stop),
         [_, sign, value] if is_word(sign, b"=") => answer_words(value),
         _ => answer_words(line),
     }

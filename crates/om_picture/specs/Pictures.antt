@@ -21,6 +21,7 @@ box_of t = record {
   line = t.entry.line;
   instruction = t.instruction;
   value = t.value;
+  is_fault = t.is_fault;
 }
 
 abbrev pub end_of : Traced → End

@@ -21,8 +21,10 @@ pub struct StepBox {
     pub line: u32,
     /// The name of its instruction.
     pub instruction: Seq<u8>,
-    /// The variable that it named and a value, as far as it has them.
+    /// The variable that it named and a value or a fault, as far as it has them.
     pub value: Seq<u8>,
+    /// Whether it met a fault.
+    pub is_fault: bool,
 }
 
 /// An end of an arrow: the step with this serial, in the lane of its worker.
@@ -78,6 +80,7 @@ fn box_of(alloc: Global, step: &Traced) -> Result<StepBox, AllocError>
         line: step.entry.line,
         instruction: Seq::of(instruction),
         value: Seq::of(value),
+        is_fault: step.is_fault,
     })
 }
 

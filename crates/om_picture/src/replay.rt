@@ -86,6 +86,7 @@ fn traced(
                 instruction,
                 variable,
                 value,
+                is_fault,
             } = words.behind(history.store(), label.worker)?;
             Ok(Traced {
                 entry: *entry,
@@ -93,6 +94,7 @@ fn traced(
                 instruction,
                 variable,
                 value,
+                is_fault,
             })
         }
         Err(error) => Err(error),

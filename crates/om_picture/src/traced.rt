@@ -15,7 +15,10 @@ pub struct Traced {
     /// The cell of a local variable that the instruction names, as `x` or `a[2]`; no bytes where it
     /// names none.
     pub variable: Seq<u8>,
-    /// The variable that the instruction names and a value, as far as it has them, as `x = 1`: what the
-    /// step put there, or else what it left on its stack.
+    /// The variable that the instruction names and a value, as far as it has them, as `x = 1` or
+    /// `a[2] = 1`: what the step put there, or else what it left on its stack. Where it met a fault, that
+    /// stands in place of the value, as `x: F4 a variable is read in which nothing was stored`.
     pub value: Seq<u8>,
+    /// Whether it met a fault.
+    pub is_fault: bool,
 }

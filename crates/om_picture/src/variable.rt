@@ -74,19 +74,36 @@ pub(crate) fn local_at<'a>(program: &'a Program, frame: &Frame, slot: u32) -> Op
     None
 }
 
-/// The index of the first cell of a local variable that the step of a plan touches, 0 where it touches
-/// none.
-fn index_touched(plan: &Plan) -> u32 {
+/// The index of the first cell of a variable that the step of a plan touches, if it touches one. A step
+/// that meets a fault at an index outside of its array touches none.
+fn index_touched(plan: &Plan) -> Option<u32> {
     let Plan::Updates(change) = plan else {
-        return 0;
+        return None;
     };
     let (_, others) = change.footprint.parts();
     for access in others {
-        if let Obj::Cell { index, .. } = &access.object {
-            return *index;
+        match &access.object {
+            Obj::Cell { index, .. } | Obj::Global { index, .. } => return Some(*index),
+            _ => {}
         }
     }
-    0
+    None
+}
+
+/// Appends the index of the element that the step of a plan touches, behind the name of an array.
+pub(crate) fn push_index(
+    text: &mut Vec<u8>,
+    is_array: bool,
+    plan: &Plan,
+) -> Result<(), AllocError> {
+    if !is_array {
+        return Ok(());
+    }
+    let Some(index) = index_touched(plan) else {
+        return Ok(());
+    };
+    push_numbered(text, b"[", index)?;
+    text.extend_from_slice(b"]")
 }
 
 /// Appends the cell of a local variable that the instruction of a frame names, as `x` or `a[2]`, by the
@@ -107,9 +124,5 @@ pub(crate) fn push_variable(
         return Ok(());
     };
     text.extend_from_slice(local.name)?;
-    if local.is_array {
-        push_numbered(text, b"[", index_touched(plan))?;
-        text.extend_from_slice(b"]")?;
-    }
-    Ok(())
+    push_index(text, local.is_array, plan)
 }

@@ -1,11 +1,12 @@
 //! What a step did, in words: its instruction, the variable that it names, and a value.
 
-use crate::variable::{local_at, place_of, push_variable};
+use crate::variable::{local_at, place_of, push_index, push_variable};
 use om_cells::{Label, Update, Val};
-use om_code::frame::{Cell, Operand};
+use om_code::frame::{Cell, Fault, Operand};
 use om_code::instruction::Place;
 use om_code::{Instr, Program};
 use om_command::{push_number, push_numbered};
+use om_explain::fault_words;
 use om_live::{Control, Frame, Store};
 use om_seq::Seq;
 use om_task::{Choice, Plan};
@@ -18,8 +19,10 @@ pub(crate) struct Spoken {
     pub(crate) instruction: Seq<u8>,
     /// The cell of a local variable that it names.
     pub(crate) variable: Seq<u8>,
-    /// The variable and a value.
+    /// The variable and a value, or the fault that the step met.
     pub(crate) value: Seq<u8>,
+    /// Whether it met a fault.
+    pub(crate) is_fault: bool,
 }
 
 /// The words of a step: its instruction, and the variable and the value that it has.
@@ -49,7 +52,7 @@ impl Words {
             name.extend_from_slice(b"START")?;
             task.text(&mut value)?;
         } else if let Some(Control::Running(stack)) = store.control(label.worker) {
-            push_instruction(&mut name, &mut value, program, &stack.top.frame)?;
+            push_instruction(&mut name, &mut value, program, &stack.top.frame, plan)?;
             push_variable(&mut variable, program, &stack.top.frame, plan)?;
         }
         let number = number_put(plan);
@@ -64,8 +67,9 @@ impl Words {
         })
     }
 
-    /// What is said of the step, by the store behind it: its value is the one that it put into a
-    /// variable, or else the one that it left on its worker's stack. The only error is out of memory.
+    /// What is said of the step, by the store behind it: the fault that it met, or else its value, which
+    /// is the one that it put into a variable, or else the one that it left on its worker's stack. The
+    /// only error is out of memory.
     pub(crate) fn behind(self, store: &Store, worker: u8) -> Result<Spoken, AllocError> {
         let Words {
             name,
@@ -73,23 +77,47 @@ impl Words {
             mut value,
             is_put,
         } = self;
-        if !is_put {
+        let fault = fault_met(store, worker);
+        if let Some(fault) = fault {
+            push_fault(&mut value, fault)?;
+        } else if !is_put {
             push_top(&mut value, store, worker)?;
         }
         Ok(Spoken {
             instruction: Seq::of(name),
             variable: Seq::of(variable),
             value: Seq::of(value),
+            is_fault: fault.is_some(),
         })
     }
 }
 
-/// Appends the name of the instruction that a frame is at, and the variable or region that it names.
+/// The fault that a worker met, if it did.
+fn fault_met(store: &Store, worker: u8) -> Option<Fault> {
+    let Some(Control::Faulted(fault, _)) = store.control(worker) else {
+        return None;
+    };
+    Some(*fault)
+}
+
+/// Appends a fault in words, behind a name with `: ` between them.
+fn push_fault(text: &mut Vec<u8>, fault: Fault) -> Result<(), AllocError> {
+    if !text.is_empty() {
+        text.extend_from_slice(b": ")?;
+    }
+    push_numbered(text, b"F", fault.number())?;
+    text.extend_from_slice(b" ")?;
+    text.extend_from_slice(fault_words(fault).as_bytes())
+}
+
+/// Appends the name of the instruction that a frame is at, and the variable or region that it names, by
+/// the plan of its step.
 fn push_instruction(
     name: &mut Vec<u8>,
     value: &mut Vec<u8>,
     program: &Program,
     frame: &Frame,
+    plan: &Plan,
 ) -> Result<(), AllocError> {
     let Some(instruction) = program.instruction(frame.body, frame.next) else {
         return Ok(());
@@ -98,7 +126,7 @@ fn push_instruction(
         name.extend_from_slice(word)?;
     }
     if let Some(place) = place_of(instruction) {
-        return push_place(value, program, frame, place);
+        return push_place(value, program, frame, place, plan);
     }
     match instruction {
         Instr::AskCritical(lock) | Instr::EnterCritical(lock) | Instr::LeaveCritical(lock) => {
@@ -116,25 +144,37 @@ fn push_lock(text: &mut Vec<u8>, program: &Program, lock: u32) -> Result<(), All
     Ok(())
 }
 
-/// Appends the name of a global variable, where there is one of this number.
-fn push_global(text: &mut Vec<u8>, program: &Program, variable: u32) -> Result<(), AllocError> {
-    if let Some(global) = program.globals().get(variable as usize) {
-        text.extend_from_slice(global.name.as_slice())?;
-    }
-    Ok(())
+/// Appends the name of a global variable, where there is one of this number, and the index that the step
+/// of a plan has there.
+fn push_global(
+    text: &mut Vec<u8>,
+    program: &Program,
+    variable: u32,
+    plan: &Plan,
+) -> Result<(), AllocError> {
+    let Some(global) = program.globals().get(variable as usize) else {
+        return Ok(());
+    };
+    text.extend_from_slice(global.name.as_slice())?;
+    push_index(text, global.length.is_some(), plan)
 }
 
-/// Appends the name of a variable where a frame is, or the number of its slot.
+/// Appends the name of a variable where a frame is, or the number of its slot. An array's has the index
+/// that the step of a plan has there.
 fn push_place(
     text: &mut Vec<u8>,
     program: &Program,
     frame: &Frame,
     place: Place,
+    plan: &Plan,
 ) -> Result<(), AllocError> {
     match place {
-        Place::Global(variable) => push_global(text, program, variable),
+        Place::Global(variable) => push_global(text, program, variable, plan),
         Place::Slot(slot) => match local_at(program, frame, slot) {
-            Some(local) => text.extend_from_slice(local.name),
+            Some(local) => {
+                text.extend_from_slice(local.name)?;
+                push_index(text, local.is_array, plan)
+            }
             None => push_numbered(text, b"slot ", slot),
         },
     }

@@ -7,8 +7,8 @@ use Rattle.om_schedules.specs.Bad.{IsBad, IsFaulted, NoneFaulted, NoneMoves, con
 use Rattle.om_undo.specs.Machines.{MachineView}
 use Rattle.om_view.specs.Runs.{has_ended}
 
-none_faulted : (m : MachineView) (fault : Fault) (worker : ℕ) → NoneFaulted m → IsFaulted m fault worker → ⊥
-none_faulted m fault worker none bad =
+none_faulted : (m : MachineView) (fault : Fault) (worker line : ℕ) → NoneFaulted m → IsFaulted m fault worker line → ⊥
+none_faulted m fault worker line none bad =
     let e = none worker bad.is_worker in
     cc
 
@@ -17,5 +17,6 @@ pub good_before_end : (m : MachineView) (wanted : Option (List ℕ)) → NoneFau
     → has_ended (control_of m 0) ≡ false → (NoneMoves m → ⊥) → (why : Badness) → IsBad m wanted why → ⊥
 good_before_end m None none going moves badness.Output bad = bad
 good_before_end m (Some text) none going moves badness.Output bad = cc
-good_before_end m wanted none going moves (badness.Fault fault worker) bad = none_faulted m fault worker none bad
+good_before_end m wanted none going moves (badness.Fault fault worker line) bad =
+    none_faulted m fault worker line none bad
 good_before_end m wanted none going moves badness.Stuck bad = moves bad.no_move

@@ -9,6 +9,7 @@ use Rattle.om_schedules.specs.declared.judge.Badness.{Badness}
 use Rattle.om_schedules.specs.declared.judge.Badness.TheVariants as badness
 use Rattle.om_schedules.specs.declared.outcome.End.{End}
 use Rattle.om_undo.specs.Machines.{MachineView, state_in}
+use Rattle.om_view.specs.Looks.{line_at}
 use Rattle.om_view.specs.Runs.{has_ended, move_of}
 
 -- what a worker is doing
@@ -29,10 +30,11 @@ pub record PrintsOther (m : MachineView) (wanted : List ℕ) : Type 0 where
   pub ended : has_ended (control_of m 0) ≡ true
   pub other : output_of m ≢ wanted
 
--- this worker met this fault
-pub record IsFaulted (m : MachineView) (fault : Fault) (worker : ℕ) : Type 0 where
+-- this worker met this fault, at an instruction of this line
+pub record IsFaulted (m : MachineView) (fault : Fault) (worker line : ℕ) : Type 0 where
   pub is_worker : worker < m.workers
   pub met : fault_of (control_of m worker) ≡ Some fault
+  pub line_is : line ≡ line_at m worker
 
 -- no worker met a fault
 abbrev pub NoneFaulted : MachineView → Type 0
@@ -50,7 +52,7 @@ pub record IsStuck (m : MachineView) : Type 0 where
 -- this is bad about where a machine stands; where it is not known what is wanted, no output is
 abbrev pub IsBad : MachineView → Option (List ℕ) → Badness → Type 0
 IsBad m wanted badness.Output = IsSomeAnd wanted (PrintsOther m)
-IsBad m wanted (badness.Fault fault worker) = IsFaulted m fault worker
+IsBad m wanted (badness.Fault fault worker line) = IsFaulted m fault worker line
 IsBad m wanted badness.Stuck = IsStuck m
 
 -- nothing is bad there

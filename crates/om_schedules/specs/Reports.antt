@@ -1,5 +1,5 @@
 -- The text of a report.
-use Rattle.std.specs.Prelude.{ℕ, List, [], ◌∷◌, ◌++◌, ◌==◌, Option, None, Some, if◌then◌else◌, codes, decimal, length}
+use Rattle.std.specs.Prelude.{ℕ, Bool, List, [], ◌∷◌, ◌++◌, ◌==◌, Option, None, Some, if◌then◌else◌, codes, decimal, length}
 use Rattle.om_code.specs.declared.frame.Fault.{Fault}
 use Rattle.om_code.specs.Faults.{fault_number}
 use Rattle.om_foot.specs.Names.{name_text}
@@ -29,25 +29,32 @@ quoted bytes = (34 ∷ []) ++ joined byte_text bytes ++ (34 ∷ [])
 abbrev pub seed_text : ℕ → List ℕ
 seed_text seed = if seed == 0 then codes "run: " else codes "seed " ++ decimal seed ++ codes ": "
 
--- what was wanted, where that is known
-abbrev pub wanted_text : Option (List ℕ) → List ℕ
-wanted_text (Some wanted) = codes ", wanted " ++ quoted wanted
-wanted_text None = []
+-- what stands before what was wanted: that `run` prints it, or that it was told
+abbrev pub before_wanted : Bool → List ℕ
+before_wanted by_run = if by_run then codes ", where `run` prints " else codes ", wanted "
 
-abbrev pub outputs_text : List ℕ → Option (List ℕ) → List ℕ
-outputs_text output wanted = codes "printed " ++ quoted output ++ wanted_text wanted
+-- what was wanted, where that is known
+abbrev pub wanted_text : Bool → Option (List ℕ) → List ℕ
+wanted_text by_run (Some wanted) = before_wanted by_run ++ quoted wanted
+wanted_text by_run None = []
+
+abbrev pub outputs_text : Bool → List ℕ → Option (List ℕ) → List ℕ
+outputs_text by_run output wanted = codes "printed " ++ quoted output ++ wanted_text by_run wanted
 
 abbrev pub of_worker : ℕ → List ℕ
 of_worker worker = codes " of worker " ++ decimal worker
 
-abbrev pub fault_words : Fault → ℕ → List ℕ
-fault_words fault worker = codes "fault F" ++ decimal (fault_number fault) ++ of_worker worker
+abbrev pub in_line : ℕ → List ℕ
+in_line line = codes " in line " ++ decimal line
+
+abbrev pub fault_words : Fault → ℕ → ℕ → List ℕ
+fault_words fault worker line = codes "fault F" ++ decimal (fault_number fault) ++ of_worker worker ++ in_line line
 
 -- what is bad, by what was printed and what was wanted
-abbrev pub badness_text : Badness → List ℕ → Option (List ℕ) → List ℕ
-badness_text badness.Output output wanted = outputs_text output wanted
-badness_text (badness.Fault fault worker) output wanted = fault_words fault worker
-badness_text badness.Stuck output wanted = codes "stuck: no worker has a move"
+abbrev pub badness_text : Bool → Badness → List ℕ → Option (List ℕ) → List ℕ
+badness_text by_run badness.Output output wanted = outputs_text by_run output wanted
+badness_text by_run (badness.Fault fault worker line) output wanted = fault_words fault worker line
+badness_text by_run badness.Stuck output wanted = codes "stuck: no worker has a move"
 
 abbrev pub block_words : Block → List ℕ
 block_words (block.Steps worker count) = decimal count ++ codes " of worker " ++ decimal worker ++ codes ", "
@@ -59,13 +66,13 @@ length_text blocks = codes "shortened to " ++ decimal (length blocks) ++ codes "
     ++ joined block_words blocks ++ codes "then `run`\n"
 
 -- what was found, in words
-abbrev pub words_text : Found → List ℕ
-words_text found = seed_text found.seed ++ badness_text found.why found.output.items (text_in found.wanted)
+abbrev pub words_text : Bool → Found → List ℕ
+words_text by_run found = seed_text found.seed ++ badness_text by_run found.why found.output.items (text_in found.wanted)
     ++ codes "\n" ++ length_text found.blocks.items
 
 -- the words, an empty line, and the script
-abbrev pub found_text : Found → List ℕ
-found_text found = words_text found ++ codes "\n" ++ found.script.items
+abbrev pub found_text : Bool → Found → List ℕ
+found_text by_run found = words_text by_run found ++ codes "\n" ++ found.script.items
 
 abbrev pub limits_text : List ℕ
 limits_text = codes "These are not all schedules, " ++ codes "and this is no race detector.\n"
@@ -73,7 +80,8 @@ limits_text = codes "These are not all schedules, " ++ codes "and this is no rac
 abbrev pub nothing_text : ℕ → List ℕ
 nothing_text seeds = codes "nothing bad in the schedules of " ++ decimal seeds ++ codes " seeds\n" ++ limits_text
 
-abbrev pub report_text : Hunted → List ℕ
-report_text (hunted.Refused line) = line.items
-report_text (hunted.Nothing seeds printed) = nothing_text seeds
-report_text (hunted.Found found) = found_text found
+-- what came of a hunt in which what is wanted is what `run` prints, or what was told
+abbrev pub report_text : Bool → Hunted → List ℕ
+report_text by_run (hunted.Refused line) = line.items
+report_text by_run (hunted.Nothing seeds printed) = nothing_text seeds
+report_text by_run (hunted.Found found) = found_text by_run found

@@ -23,8 +23,8 @@ use std::alloc::{AllocError, Global};
 pub enum Badness {
     /// The program ended, and printed something else than was wanted.
     Output,
-    /// This worker met this fault.
-    Fault { fault: Fault, worker: u8 },
+    /// This worker met this fault, at an instruction of this line of the source.
+    Fault { fault: Fault, worker: u8, line: u32 },
     /// The initial task has not ended, and no worker has a move.
     Stuck,
 }
@@ -111,7 +111,11 @@ fn first_fault(machine: &Machine) -> Option<Badness>
 {
     for worker in 0..machine.workers() {
         if let Some(fault) = fault_in(machine.control(worker)) {
-            return Some(Badness::Fault { fault, worker });
+            return Some(Badness::Fault {
+                fault,
+                worker,
+                line: machine.line(worker),
+            });
         }
     }
     None

@@ -2,7 +2,7 @@
 
 ghost use Rattle.std.specs.Prelude.{◌≡◌, ◌++◌, OnOk, Some};
 ghost use Rattle.om_command.specs.Lists.{joined};
-ghost use Rattle.om_schedules.specs.Reports.{byte_text, quoted, seed_text, wanted_text, outputs_text, fault_words, badness_text, block_words, length_text, words_text, found_text, limits_text, nothing_text, report_text};
+ghost use Rattle.om_schedules.specs.Reports.{byte_text, quoted, seed_text, before_wanted, wanted_text, outputs_text, fault_words, badness_text, block_words, length_text, words_text, found_text, limits_text, nothing_text, report_text};
 ghost use Rattle.om_schedules.specs.Texts.{text_in};
 
 use crate::block::Block;
@@ -16,14 +16,15 @@ use std::alloc::AllocError;
 /// Appends what came of a hunt.
 ///
 /// Of a bad schedule it is what was found, in words, each on a line that is not empty; then an empty line,
-/// and then the script and nothing else. Of a refused source it is the line that ompback writes.
-pub fn push_report(text: &mut Vec<u8>, hunted: &Hunted) -> Result<(), AllocError>
-    ensures { OnOk result (text.new.items ≡ text.old.items ++ report_text hunted.now) }
+/// and then the script and nothing else. Of a refused source it is the line that ompback writes. `by_run` says
+/// that what is wanted is what `run` alone printed, and was not told.
+pub fn push_report(text: &mut Vec<u8>, hunted: &Hunted, by_run: bool) -> Result<(), AllocError>
+    ensures { OnOk result (text.new.items ≡ text.old.items ++ report_text by_run hunted.now) }
 {
     match hunted {
         Hunted::Refused(line) => text.extend_from_slice(line.as_slice()),
         Hunted::Nothing { seeds, .. } => push_nothing(text, *seeds),
-        Hunted::Found(found) => push_found(text, found),
+        Hunted::Found(found) => push_found(text, found, by_run),
     }
 }
 
@@ -44,19 +45,19 @@ fn push_limits(text: &mut Vec<u8>) -> Result<(), AllocError>
     text.extend_from_slice(b"and this is no race detector.\n")
 }
 
-fn push_found(text: &mut Vec<u8>, found: &Found) -> Result<(), AllocError>
-    ensures { OnOk result (text.new.items ≡ text.old.items ++ found_text found.now) }
+fn push_found(text: &mut Vec<u8>, found: &Found, by_run: bool) -> Result<(), AllocError>
+    ensures { OnOk result (text.new.items ≡ text.old.items ++ found_text by_run found.now) }
 {
-    push_words(text, found)?;
+    push_words(text, found, by_run)?;
     text.extend_from_slice(b"\n")?;
     text.extend_from_slice(found.script.as_slice())
 }
 
-fn push_words(text: &mut Vec<u8>, found: &Found) -> Result<(), AllocError>
-    ensures { OnOk result (text.new.items ≡ text.old.items ++ words_text found.now) }
+fn push_words(text: &mut Vec<u8>, found: &Found, by_run: bool) -> Result<(), AllocError>
+    ensures { OnOk result (text.new.items ≡ text.old.items ++ words_text by_run found.now) }
 {
     push_seed(text, found.seed)?;
-    push_badness(text, found)?;
+    push_badness(text, found, by_run)?;
     text.extend_from_slice(b"\n")?;
     push_length(text, found.blocks.as_slice())?;
     Ok(())
@@ -72,44 +73,61 @@ fn push_seed(text: &mut Vec<u8>, seed: u64) -> Result<(), AllocError>
     text.extend_from_slice(b": ")
 }
 
-fn push_badness(text: &mut Vec<u8>, found: &Found) -> Result<(), AllocError>
+fn push_badness(text: &mut Vec<u8>, found: &Found, by_run: bool) -> Result<(), AllocError>
     ensures { OnOk result
         (text.new.items ≡ text.old.items
-        ++ badness_text found.now.why found.now.output.items (text_in found.now.wanted)) }
+        ++ badness_text by_run found.now.why found.now.output.items (text_in found.now.wanted)) }
 {
     match found.why {
-        Badness::Output => push_outputs(text, found),
-        Badness::Fault { fault, worker } => push_fault(text, fault, worker),
+        Badness::Output => push_outputs(text, found, by_run),
+        Badness::Fault {
+            fault,
+            worker,
+            line,
+        } => push_fault(text, fault, worker, line),
         Badness::Stuck => text.extend_from_slice(b"stuck: no worker has a move"),
     }
 }
 
-fn push_fault(text: &mut Vec<u8>, fault: Fault, worker: u8) -> Result<(), AllocError>
-    ensures { OnOk result (text.new.items ≡ text.old.items ++ fault_words fault worker) }
+fn push_fault(text: &mut Vec<u8>, fault: Fault, worker: u8, line: u32) -> Result<(), AllocError>
+    ensures { OnOk result (text.new.items ≡ text.old.items ++ fault_words fault worker line) }
 {
     push_numbered(text, b"fault F", fault.number())?;
     push_numbered(text, b" of worker ", worker)?;
+    push_numbered(text, b" in line ", line)?;
     Ok(())
 }
 
-fn push_outputs(text: &mut Vec<u8>, found: &Found) -> Result<(), AllocError>
+fn push_outputs(text: &mut Vec<u8>, found: &Found, by_run: bool) -> Result<(), AllocError>
     ensures { OnOk result
         (text.new.items ≡ text.old.items
-        ++ outputs_text found.now.output.items (text_in found.now.wanted)) }
+        ++ outputs_text by_run found.now.output.items (text_in found.now.wanted)) }
 {
     text.extend_from_slice(b"printed ")?;
     push_quoted(text, found.output.as_slice())?;
     match &found.wanted {
-        Some(wanted) => push_wanted(text, wanted.as_slice()),
+        Some(wanted) => push_wanted(text, wanted.as_slice(), by_run),
         None => Ok(()),
     }
 }
 
-fn push_wanted(text: &mut Vec<u8>, wanted: &[u8]) -> Result<(), AllocError>
-    ensures { OnOk result (text.new.items ≡ text.old.items ++ wanted_text (Some wanted.now)) }
+fn push_wanted(text: &mut Vec<u8>, wanted: &[u8], by_run: bool) -> Result<(), AllocError>
+    ensures { OnOk result
+        (text.new.items ≡ text.old.items ++ wanted_text by_run (Some wanted.now)) }
 {
-    text.extend_from_slice(b", wanted ")?;
+    text.extend_from_slice(before_wanted(by_run))?;
     push_quoted(text, wanted)
+}
+
+// What stands before what was wanted.
+fn before_wanted(by_run: bool) -> &'static [u8]
+    ensures { result.now ≡ before_wanted by_run }
+{
+    if by_run {
+        b", where `run` prints "
+    } else {
+        b", wanted "
+    }
 }
 
 // Appends bytes in quotes, on one line.

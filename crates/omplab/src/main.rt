@@ -13,7 +13,7 @@ use om_parser::STACK_SIZE;
 use om_shell::{Options, Outcome, ShellFault, read_named, status, words_of};
 use om_subcommands::{Asked, Words, words_in};
 use std::alloc::{AllocError, Global};
-use std::io;
+use std::io::{self, IsTerminal};
 use std::process::ExitCode;
 use std::rt::{Files, Runtime};
 use std::sync::Wait;
@@ -71,6 +71,7 @@ fn outcome_of<R: Runtime + Threads + Wait + Sync>(
     rt: &R,
     alloc: Global,
     words: Words<'_>,
+    is_watched: bool,
 ) -> Outcome
     requires least { 0 < words.workers }
     requires most { words.workers ≤ 32 }
@@ -83,7 +84,12 @@ fn outcome_of<R: Runtime + Threads + Wait + Sync>(
         workers: words.workers,
         source: source.as_ref().map(|bytes| bytes.as_slice()),
     };
-    let host = Host { rt, alloc, options };
+    let host = Host {
+        rt,
+        alloc,
+        options,
+        is_watched,
+    };
     match done(&host, words.asked) {
         Ok(status) => Outcome::Ran(status),
         Err(fault) => Outcome::Fault(fault),
@@ -95,9 +101,10 @@ fn outcome_for<R: Runtime + AllocGlobal + Threads + Wait + Sync>(
     rt: &R,
     alloc: Global,
     words: &[&str],
+    is_watched: bool,
 ) -> Result<Outcome, AllocError> {
     match words_in(alloc, words) {
-        Ok(words) => Ok(outcome_of(rt, alloc, words)),
+        Ok(words) => Ok(outcome_of(rt, alloc, words, is_watched)),
         Err(error) if error.kind() == clap::error::ErrorKind::OutOfMemory => Err(AllocError),
         Err(error) => {
             let _ = rt.eprint(&error);
@@ -110,19 +117,21 @@ fn outcome_for<R: Runtime + AllocGlobal + Threads + Wait + Sync>(
 fn program<R: Runtime + AllocGlobal + Threads + Wait + Sync>(
     rt: &R,
     alloc: Global,
+    is_watched: bool,
 ) -> Result<Outcome, AllocError> {
     let Some(words) = words_of(rt, alloc)? else {
         return Ok(Outcome::Words);
     };
     let words: Vec<&str> = words.iter().map(|word| word.as_str()).collect(alloc)?;
-    outcome_for(rt, alloc, words.as_slice())
+    outcome_for(rt, alloc, words.as_slice(), is_watched)
 }
 
 fn main(rt: HostRuntime) -> ExitCode {
     let alloc = rt.alloc();
+    let is_watched = rt.stderr().is_terminal();
     let thread = Builder::new()
         .stack_size(STACK_SIZE)
-        .spawn(&rt, move || program(&rt, alloc));
+        .spawn(&rt, move || program(&rt, alloc, is_watched));
     let outcome = match thread.map(|thread| thread.join(&rt)) {
         Ok(Ok(outcome)) => outcome,
         _ => Outcome::Fault(ShellFault::Memory),

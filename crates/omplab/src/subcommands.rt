@@ -29,6 +29,8 @@ pub(crate) struct Host<'a, 'b, H> {
     pub(crate) rt: &'a H,
     pub(crate) alloc: Global,
     pub(crate) options: Options<'b>,
+    /// Whether standard error is a terminal, so that somebody sees how far a hunt is.
+    pub(crate) is_watched: bool,
 }
 
 /// Says whether a source is accepted, and else why not.
@@ -105,7 +107,7 @@ pub(crate) fn hunt<H: Runtime + Threads + Wait + Sync, W: Write>(
         steps: search.steps,
         expected: wanted.as_ref().map(|bytes| bytes.as_slice()),
     };
-    let mut meter = Meter::new(host.rt);
+    let mut meter = Meter::new(host.rt, host.is_watched);
     let source = options.source.unwrap_or(&[]);
     let hunted = om_hunt::hunt(host.rt, host.alloc, source, &aims, &mut meter);
     meter.end();
@@ -133,7 +135,7 @@ fn report_on<W: Write>(
         }
         _ => REFUSED,
     };
-    push_report(&mut text, hunted)?;
+    push_report(&mut text, hunted, is_by_run)?;
     written(writer, &text, status)
 }
 

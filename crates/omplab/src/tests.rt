@@ -4,7 +4,6 @@ ghost use Rattle.std.specs.Prelude.{◌≡◌};
 
 use crate::subcommands::{Host, Search, check, explain, hunt, keep};
 use om_shell::Options;
-use std::test::Fail;
 
 /// Two threads add to one variable, and nothing orders them.
 const RACE: &str = "#include <stdio.h>
@@ -72,6 +71,7 @@ fn keeps_the_steps_of_a_session(rt: HostRuntime) {
         rt: &rt,
         alloc,
         options: options(RACE),
+        is_watched: false,
     };
     let mut text = Vec::new(alloc);
     let mut reader = LOST.as_bytes();
@@ -89,6 +89,7 @@ fn lists_a_cone(rt: HostRuntime) {
         rt: &rt,
         alloc,
         options: options(RACE),
+        is_watched: false,
     };
     let mut text = Vec::new(alloc);
     let mut reader = LOST.as_bytes();
@@ -111,6 +112,7 @@ blocked B1
 break 6
 no break 6
 ran 9 break 6 worker 0
+ran 2 watch x worker 1
 refused by #11 worker 1 on global x
 output 2 bytes
 1
@@ -128,6 +130,7 @@ blocked B1 | it waits at a barrier: step the other threads, and begin what `task
 break 6 | x = x + 1;
 no break 6
 ran 9 break 6 worker 0 | x = x + 1;
+ran 2 watch x worker 1 | the value has changed: the last line of `history` is the step that did it, and `print` has the value
 refused by #11 worker 1 on global x | a global variable
 output 2 bytes
 1
@@ -139,12 +142,26 @@ x = 1
 }
 
 #[test]
-fn finds_a_lost_update(rt: HostRuntime) -> Result<(), Fail> {
+fn names_no_function_where_two_stand_on_a_line(rt: HostRuntime) {
+    let source = options("int f(int y) { return y; } int main(void) { int x; x = 1; }\n");
+    let mut text = Vec::new(rt.alloc());
+    let mut answer: &[u8] = b"refused by #3 worker 1 on cell 0/0/0/0\n";
+    let done = explain(rt.alloc(), source, &mut answer, &mut text);
+    assert_eq!(rt;
+        text_of(&text),
+        "refused by #3 worker 1 on cell 0/0/0/0 | x\n"
+    );
+    assert!(rt; matches!(done, Ok(0)));
+}
+
+#[test]
+fn finds_a_lost_update(rt: HostRuntime) {
     let alloc = rt.alloc();
     let host = Host {
         rt: &rt,
         alloc,
         options: options(RACE),
+        is_watched: false,
     };
     let mut text = Vec::new(alloc);
     let search = Search {
@@ -154,12 +171,74 @@ fn finds_a_lost_update(rt: HostRuntime) -> Result<(), Fail> {
         expected: Some("2\\n"),
     };
     let done = hunt(&host, search, &mut text);
-    let (_, script) = text_of(&text)
-        .split_once("\n\n")
-        .unwrap_or(("nothing was found", ""));
-    assert_eq!(rt; script, "step 0\nstep 1\nstep 1\nrun 100000\noutput\n");
+    let wanted = "seed 5: printed \"1\\n\", wanted \"2\\n\"
+shortened to 2 blocks: 1 of worker 0, 2 of worker 1, then `run`
+
+step 0
+step 1
+step 1
+run 100000
+output
+";
+    assert_eq!(rt; text_of(&text), wanted);
     assert!(rt; matches!(done, Ok(1)));
-    Ok(())
+}
+
+#[test]
+fn tells_what_run_prints(rt: HostRuntime) {
+    let alloc = rt.alloc();
+    let host = Host {
+        rt: &rt,
+        alloc,
+        options: options(RACE),
+        is_watched: false,
+    };
+    let mut text = Vec::new(alloc);
+    let search = Search {
+        file: "a.c",
+        seeds: 20,
+        steps: 1_000,
+        expected: None,
+    };
+    let done = hunt(&host, search, &mut text);
+    let wanted = "seed 5: printed \"1\\n\", where `run` prints \"2\\n\"
+shortened to 2 blocks: 1 of worker 0, 2 of worker 1, then `run`
+
+step 0
+step 1
+step 1
+run 100000
+output
+";
+    assert_eq!(rt; text_of(&text), wanted);
+    assert!(rt; matches!(done, Ok(1)));
+}
+
+#[test]
+fn tells_the_line_of_a_fault(rt: HostRuntime) {
+    let alloc = rt.alloc();
+    let host = Host {
+        rt: &rt,
+        alloc,
+        options: options("int main(void)\n{\n    int x;\n    return x;\n}\n"),
+        is_watched: false,
+    };
+    let mut text = Vec::new(alloc);
+    let search = Search {
+        file: "a.c",
+        seeds: 1,
+        steps: 10,
+        expected: None,
+    };
+    let done = hunt(&host, search, &mut text);
+    let wanted = "run: fault F4 of worker 0 in line 4
+shortened to 0 blocks: then `run`
+
+run 100000
+output
+";
+    assert_eq!(rt; text_of(&text), wanted);
+    assert!(rt; matches!(done, Ok(1)));
 }
 
 #[test]
@@ -169,6 +248,7 @@ fn says_that_nothing_was_compared(rt: HostRuntime) {
         rt: &rt,
         alloc,
         options: options("int main(void){ while (1) ; }"),
+        is_watched: false,
     };
     let mut text = Vec::new(alloc);
     let search = Search {

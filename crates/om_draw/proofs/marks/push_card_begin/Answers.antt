@@ -3,7 +3,7 @@ use Rattle.std.specs.Prelude.{codes}
 use Rattle.std.proofs.lemmas.Result.{on_ok_weaker}
 use Rattle.om_picture.specs.declared.picture.StepBox.{StepBox}
 use Rattle.om_draw.specs.declared.scale.Scale.{Scale}
-use Rattle.om_draw.specs.Marks.{corner_text, hue_text}
+use Rattle.om_draw.specs.Marks.{class_text, corner_text, hue_text}
 use Rattle.om_draw.proofs.Appending.{then_more, on_ok_is}
 use Rattle.om_draw.proofs.marks.push_card_begin.Goals as goal
 
@@ -13,16 +13,16 @@ returns c =
     let s : Scale = c.args.scale in
     let start : List ℕ = c.args.text.now.items in
     let p1 : List ℕ = codes "<svg class='" in
-    let p2 : List ℕ = c.args.class.now in
+    let p2 : List ℕ = class_text c.args.class.now b in
     let p3 : List ℕ = codes "' width='92' height='34'" in
-    let two = then_more start _ c.extend_from_slice-2.new.self.items p1 p2 c.in_ok-extend_from_slice.ensures.items
+    let two = then_more start _ c.push_class.new.text.items p1 p2 c.in_ok-extend_from_slice.ensures.items
+    c.in_ok-push_class.ensures in
+    let three = then_more start _ c.extend_from_slice-2.new.self.items (p1 ++ p2) p3 two
     c.in_ok-extend_from_slice-2.ensures.items in
-    let three = then_more start _ c.extend_from_slice-3.new.self.items (p1 ++ p2) p3 two
-    c.in_ok-extend_from_slice-3.ensures.items in
     let four = then_more start _ c.push_corner.new.text.items (p1 ++ p2 ++ p3) (corner_text s b) three
     c.in_ok-push_corner.ensures in
     let five = then_more start _ c.push_hue.new.text.items (p1 ++ p2 ++ p3 ++ corner_text s b) (hue_text b.line) four
     c.in_ok-push_hue.ensures in
-    on_ok_weaker c.extend_from_slice-4.result
-    (λ e. then_more start _ c.extend_from_slice-4.new.self.items (p1 ++ p2 ++ p3 ++ corner_text s b ++ hue_text b.line)
-    (codes ">") five e) (on_ok_is c.extend_from_slice-4.result _ _ _ c.extend_from_slice-4.ensures.items)
+    on_ok_weaker c.extend_from_slice-3.result
+    (λ e. then_more start _ c.extend_from_slice-3.new.self.items (p1 ++ p2 ++ p3 ++ corner_text s b ++ hue_text b.line)
+    (codes ">") five e) (on_ok_is c.extend_from_slice-3.result _ _ _ c.extend_from_slice-3.ensures.items)
