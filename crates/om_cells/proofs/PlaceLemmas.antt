@@ -12,19 +12,16 @@ use Rattle.std.specs.Cmp.Lexicographic.{slice_cmp, texts_ties}
 use Rattle.om_foot.specs.declared.object.Obj.{Obj}
 use Rattle.om_foot.specs.declared.object.Obj.TheVariants as obj
 use Rattle.om_foot.specs.Footprint.{obj_eq}
-use Rattle.om_foot.specs.Objects.{cmp-is_eq, obj_eq-true}
+use Rattle.om_foot.specs.Objects.{cmp-is_eq}
 use Rattle.om_foot.specs.Below.{same_list}
 use Rattle.om_cells.specs.declared.part.Part.{Part}
 use Rattle.om_cells.specs.contracts.part.PartOrd.TheImpl.{cmp-value}
-use Rattle.om_cells.specs.declared.places.Places.{Places}
 use Rattle.om_cells.specs.declared.value.Val.{Val}
 use Rattle.om_cells.specs.Parts.{name_of, part_of}
-use Rattle.om_cells.specs.Places.{value_at, PutsAt, StaysAt}
+use Rattle.om_cells.specs.Places.{Places, value_at, PutsAt, StaysAt}
 use Rattle.om_cells.specs.declared.store.Store.{Store}
-use Rattle.om_cells.specs.Stores.{places_in, value_among, value_named, kept_in, kept_at}
-
-abbrev pub Named : Type 0
-Named = List (List ℕ × Places)
+use Rattle.om_cells.specs.Named.{Named, value_among, value_of, PutsOf, StaysOf}
+use Rattle.om_cells.specs.Stores.{places_in, kept_in, kept_at}
 
 abbrev pub same_name : List ℕ → List ℕ → Bool
 same_name m n = is_at (slice_cmp nat_cmp m) n
@@ -108,13 +105,9 @@ stay_unnamed u w es stays q = stay_at u w es stays (name_of q) (part_of q)
 abbrev pub Renames : Named → Named → List ℕ → Places → Type 0
 Renames es fs n w = (m : List ℕ) → lookup (same_name m) fs ≡ cond (same_name n m) (Some w) (lookup (same_name m) es)
 
-named_at : (u : Places) (es fs : Named) (n : List ℕ) (p : Part) (v : Option Val) (old w : Places)
-    → lookup (same_name n) es ≡ Some old → Renames es fs n w → PutsAt p v old w → (o : Option (List ℕ)) (r : Part)
-    → value_among (places_in u fs o) r
-    ≡ cond (same_names (Some n) o && same_part p r) v (value_among (places_in u es o) r)
-named_at u es fs n p v old w there renames puts None r = refl
-named_at u es fs n p v old w there renames puts (Some m) r =
-    ap (λ x. value_among x r) (renames m) ∙ go (same_name n m) refl
+pub puts_of : (es fs : Named) (n : List ℕ) (p : Part) (v : Option Val) (old w : Places)
+    → lookup (same_name n) es ≡ Some old → Renames es fs n w → PutsAt p v old w → PutsOf n p v es fs
+puts_of es fs n p v old w there renames puts m r = ap (λ x. value_among x r) (renames m) ∙ go (same_name n m) refl
   where
     go : (b : Bool) → same_name n m ≡ b → value_among (cond b (Some w) (lookup (same_name m) es)) r
         ≡ cond (b && same_part p r) v (value_among (lookup (same_name m) es) r)
@@ -122,21 +115,9 @@ named_at u es fs n p v old w there renames puts (Some m) r =
     go true is = puts r ∙ ap (λ x. cond (same_part p r) v (value_among x r))
         (sym there ∙ ap (λ j. lookup (same_name j) es) (name_is n m is))
 
-pub put_named : (u : Places) (es fs : Named) (n : List ℕ) (p : Part) (v : Option Val) (old w : Places)
-    → lookup (same_name n) es ≡ Some old → Renames es fs n w → PutsAt p v old w
-    → (k : Obj) → name_of k ≡ Some n → part_of k ≡ p
-    → (q : Obj) → kept_in u fs q ≡ cond (obj_eq k q) v (kept_in u es q)
-put_named u es fs n p v old w there renames puts k named parted q =
-    named_at u es fs n p v old w there renames puts (name_of q) (part_of q)
-    ∙ (λ i. cond (same_names (sym named i) (name_of q) && same_part (sym parted i) (part_of q)) v (kept_in u es q))
-    ∙ ap (λ b. cond b v (kept_in u es q)) (same_object k q)
-
-still_at : (u : Places) (es fs : Named) (n : List ℕ) (old w : Places) → lookup (same_name n) es ≡ Some old
-    → Renames es fs n w → StaysAt old w → (o : Option (List ℕ)) (r : Part)
-    → value_among (places_in u fs o) r ≡ value_among (places_in u es o) r
-still_at u es fs n old w there renames stays None r = refl
-still_at u es fs n old w there renames stays (Some m) r =
-    ap (λ x. value_among x r) (renames m) ∙ go (same_name n m) refl
+pub stays_of : (es fs : Named) (n : List ℕ) (old w : Places) → lookup (same_name n) es ≡ Some old
+    → Renames es fs n w → StaysAt old w → StaysOf es fs
+stays_of es fs n old w there renames stays m r = ap (λ x. value_among x r) (renames m) ∙ go (same_name n m) refl
   where
     go : (b : Bool) → same_name n m ≡ b → value_among (cond b (Some w) (lookup (same_name m) es)) r
         ≡ value_among (lookup (same_name m) es) r
@@ -144,17 +125,10 @@ still_at u es fs n old w there renames stays (Some m) r =
     go true is = stays r ∙ ap (λ x. value_among x r)
         (sym there ∙ ap (λ j. lookup (same_name j) es) (name_is n m is))
 
-pub stay_named : (u : Places) (es fs : Named) (n : List ℕ) (old w : Places) → lookup (same_name n) es ≡ Some old
-    → Renames es fs n w → StaysAt old w → (q : Obj) → kept_in u fs q ≡ kept_in u es q
-stay_named u es fs n old w there renames stays q = still_at u es fs n old w there renames stays (name_of q) (part_of q)
-
 -- a name that gets to be known has no value
-known_at : (u : Places) (es fs : Named) (n : List ℕ) (w : Places) → is_some (lookup (same_name n) es) ≡ false
-    → Renames es fs n w → ((r : Part) → value_at w r ≡ None) → (o : Option (List ℕ)) (r : Part)
-    → value_among (places_in u fs o) r ≡ value_among (places_in u es o) r
-known_at u es fs n w none renames new None r = refl
-known_at u es fs n w none renames new (Some m) r =
-    ap (λ x. value_among x r) (renames m) ∙ go (same_name n m) refl
+pub known_of : (es fs : Named) (n : List ℕ) (w : Places) → is_some (lookup (same_name n) es) ≡ false
+    → Renames es fs n w → ((r : Part) → value_at w r ≡ None) → StaysOf es fs
+known_of es fs n w none renames new m r = ap (λ x. value_among x r) (renames m) ∙ go (same_name n m) refl
   where
     absent : (o : Option Places) → is_some o ≡ false → value_among o r ≡ None
     absent None e = refl
@@ -166,9 +140,42 @@ known_at u es fs n w none renames new (Some m) r =
     go true is = new r ∙ sym (absent (lookup (same_name m) es)
         (ap (λ j. is_some (lookup (same_name j) es)) (sym (name_is n m is)) ∙ none))
 
-pub known_same : (u : Places) (es fs : Named) (n : List ℕ) (w : Places) → is_some (lookup (same_name n) es) ≡ false
-    → Renames es fs n w → ((r : Part) → value_at w r ≡ None) → (q : Obj) → kept_in u fs q ≡ kept_in u es q
-known_same u es fs n w none renames new q = known_at u es fs n w none renames new (name_of q) (part_of q)
+-- where a name is not known, nothing is kept at its parts
+pub none_of : (es : Named) (n : List ℕ) (p : Part) → lookup (same_name n) es ≡ None → PutsOf n p None es es
+none_of es n p absent m r = go (same_name n m) refl
+  where
+    none : (b : Bool) (o : Option Val) → o ≡ None → o ≡ cond b None o
+    none true o h = h
+    none false o h = refl
+
+    go : (b : Bool) → same_name n m ≡ b → value_of es m r ≡ cond (b && same_part p r) None (value_of es m r)
+    go false is = refl
+    go true is = none (same_part p r) (value_of es m r)
+        (ap (λ o. value_among o r) (ap (λ j. lookup (same_name j) es) (sym (name_is n m is)) ∙ absent))
+
+-- and so at the objects of a name
+
+puts_at : (u : Places) (es fs : Named) (n : List ℕ) (p : Part) (v : Option Val) → PutsOf n p v es fs
+    → (o : Option (List ℕ)) (r : Part)
+    → value_among (places_in u fs o) r
+    ≡ cond (same_names (Some n) o && same_part p r) v (value_among (places_in u es o) r)
+puts_at u es fs n p v puts None r = refl
+puts_at u es fs n p v puts (Some m) r = puts m r
+
+pub put_named : (u : Places) (es fs : Named) (n : List ℕ) (p : Part) (v : Option Val) → PutsOf n p v es fs
+    → (k : Obj) → name_of k ≡ Some n → p ≡ part_of k
+    → (q : Obj) → kept_in u fs q ≡ cond (obj_eq k q) v (kept_in u es q)
+put_named u es fs n p v puts k named parted q =
+    puts_at u es fs n p v puts (name_of q) (part_of q)
+    ∙ (λ i. cond (same_names (sym named i) (name_of q) && same_part (parted i) (part_of q)) v (kept_in u es q))
+    ∙ ap (λ b. cond b v (kept_in u es q)) (same_object k q)
+
+pub stay_named : (u : Places) (es fs : Named) → StaysOf es fs → (q : Obj) → kept_in u fs q ≡ kept_in u es q
+stay_named u es fs stays q = go (name_of q) (part_of q)
+  where
+    go : (o : Option (List ℕ)) (r : Part) → value_among (places_in u fs o) r ≡ value_among (places_in u es o) r
+    go None r = refl
+    go (Some m) r = stays m r
 
 pub known_there : (es fs : Named) (n : List ℕ) (w : Places) → Renames es fs n w
     → is_some (lookup (same_name n) fs) ≡ true
@@ -224,18 +231,18 @@ owner_some r o n h e = sym h ∙ ap option_copied e
 pub kept_unnamed : (s : Store) (q : Obj) (p : Part) → name_of q ≡ None → p ≡ part_of q
     → value_at s.unnamed p ≡ kept_at s q
 kept_unnamed s q p none parted =
-    (λ i. value_among (places_in s.unnamed s.named.entries (sym none i)) (parted i))
+    (λ i. value_among (places_in s.unnamed s.named (sym none i)) (parted i))
 
 pub kept_named : (s : Store) (q : Obj) (n : List ℕ) (p : Part) → name_of q ≡ Some n → p ≡ part_of q
-    → value_named s n p ≡ kept_at s q
+    → value_of s.named n p ≡ kept_at s q
 kept_named s q n p named parted =
-    (λ i. value_among (places_in s.unnamed s.named.entries (sym named i)) (parted i))
+    (λ i. value_among (places_in s.unnamed s.named (sym named i)) (parted i))
 
 pub puts_part : (p r : Part) (v : Option Val) (u w : Places) → p ≡ r → PutsAt p v u w → PutsAt r v u w
 puts_part p r v u w e h = subst (λ x. PutsAt x v u w) e h
 
 -- the same entries in their places
-pub stays_as : {T E : Type 0} (r : Result T E) (old new : Places) → new.places.entries ≡ old.places.entries
+pub stays_as : {T E : Type 0} (r : Result T E) (old new : Places) → new ≡ old
     → OnErr r (StaysAt old new)
 stays_as (Ok v) old new same = tt
 stays_as (Err e) old new same = λ q. ap (lookup (same_part q)) same
@@ -243,26 +250,14 @@ stays_as (Err e) old new same = λ q. ap (lookup (same_part q)) same
 -- what a look-up of the places of a name found, or not
 
 pub value_through : (s : Store) (q : Obj) (r : Option (Bor Places)) (ps : Bor Places) (p : Part) (o : Option (List ℕ))
-    → option_copied r ≡ places_in s.unnamed s.named.entries o → r ≡ Some ps → o ≡ name_of q → p ≡ part_of q
+    → option_copied r ≡ places_in s.unnamed s.named o → r ≡ Some ps → o ≡ name_of q → p ≡ part_of q
     → value_at ps.now p ≡ kept_at s q
 value_through s q r ps p o found is named parted =
     ap (λ x. value_among x p) (sym (ap option_copied is) ∙ found)
-    ∙ (λ i. value_among (places_in s.unnamed s.named.entries (named i)) (parted i))
+    ∙ (λ i. value_among (places_in s.unnamed s.named (named i)) (parted i))
 
 pub none_through : (s : Store) (q : Obj) (r : Option (Bor Places)) (o : Option (List ℕ))
-    → option_copied r ≡ places_in s.unnamed s.named.entries o → r ≡ None → o ≡ name_of q → None ≡ kept_at s q
+    → option_copied r ≡ places_in s.unnamed s.named o → r ≡ None → o ≡ name_of q → None ≡ kept_at s q
 none_through s q r o found is named =
     ap (λ x. value_among x (part_of q)) (sym (ap option_copied is) ∙ found)
-    ∙ ap (λ x. value_among (places_in s.unnamed s.named.entries x) (part_of q)) named
-
--- where a name is not known, nothing is kept at its parts
-none_there : (b : Bool) (o : Option Val) → (b ≡ true → o ≡ None) → o ≡ cond b None o
-none_there true o h = h refl
-none_there false o h = refl
-
-pub none_named : (s : Store) (n : List ℕ) (p : Part) → lookup (same_name n) s.named.entries ≡ None
-    → (k : Obj) → name_of k ≡ Some n → part_of k ≡ p → (q : Obj) → kept_at s q ≡ cond (obj_eq k q) None (kept_at s q)
-none_named s n p absent k named parted q = none_there (obj_eq k q) (kept_at s q) (λ same.
-    ap (kept_at s) (sym (obj_eq-true k q same))
-    ∙ ap (λ o. value_among (places_in s.unnamed s.named.entries o) (part_of k)) named
-    ∙ ap (λ o. value_among o (part_of k)) absent)
+    ∙ ap (λ x. value_among (places_in s.unnamed s.named x) (part_of q)) named

@@ -1,23 +1,24 @@
 -- The names of the ready tasks among kept values: all of them, ascending.
 use Rattle.std.proofs.Common.{◌≡◌, refl, sym, ◌∙◌, ap, subst, Bool, true, false, cond, None, Some, List, [], ◌∷◌, ◌++◌}
 use Rattle.std.proofs.Common.{ℕ, ⊎_elim, arith}
-use Rattle.std.specs.Prelude.{All, Contains, option_to_list, map}
+use Rattle.std.specs.Prelude.{All, Contains, Option, option_to_list, map, slice_get, ◌&&◌}
 use Rattle.std.specs.List.{AllByRecursion}
 use Rattle.std.specs.List.Sorted.{IsStrictlySortedBy}
 use Rattle.std.specs.Map.{lookup}
+use Rattle.std.specs.BTreeMap.Range.{entries_between, range_contains}
+use Rattle.std.specs.declared.ops.Bound.TheVariants.{Excluded, Unbounded}
 use Rattle.std.specs.Ordering.{nat_cmp}
 use Rattle.std.specs.Cmp.Lexicographic.{slice_cmp}
 use Rattle.std.specs.declared.cmp.Ordering.TheVariants.{Less}
 use Rattle.std.proofs.lemmas.List.Elements.{All-head, All-tail, Contains-append_left, Contains-append_right}
 use Rattle.std.proofs.lemmas.List.Elements.{Contains-append_cases, Contains-push, Contains-push_cases}
 use Rattle.om_cells.specs.declared.part.Part.TheVariants as part
-use Rattle.om_cells.specs.declared.places.Places.{Places}
-use Rattle.om_cells.specs.Places.{value_at}
-use Rattle.om_cells.specs.Stores.{value_among, kept_in}
-use Rattle.om_cells.specs.Ready.{AreReady}
-use Rattle.om_cells.specs.ReadyEntries.{is_ready_task, name_if_ready, names_ready}
-use Rattle.om_cells.proofs.StoreLemmas.{held}
-use Rattle.om_cells.proofs.PlaceLemmas.{Named, same_name, name_is}
+use Rattle.om_cells.specs.Places.{Places, value_at}
+use Rattle.om_cells.specs.Named.{Named, value_among}
+use Rattle.om_cells.specs.Ready.{AreAll, IsNext, is_behind, names_behind}
+use Rattle.om_cells.specs.NextNames.{next_of_all}
+use Rattle.om_cells.specs.ReadyEntries.{is_ready_task, is_ready_in, name_if_ready, names_ready}
+use Rattle.om_cells.proofs.PlaceLemmas.{same_name, name_is}
 
 abbrev keys : Named → List (List ℕ)
 keys es = map (λ (e : List ℕ × Places). e.0) es
@@ -104,10 +105,57 @@ all_there : (es : Named) (n : List ℕ) → IsHeldReady es n → Contains (names
 all_there [] n h = cc
 all_there (e ∷ es) n h = either_there n e.0 e.1 es (same_name n e.0) refl h (all_there es n)
 
-pub are_ready : (unnamed : Places) (es : Named) → Ascend (keys es)
-    → All (λ (e : List ℕ × Places). lookup (same_name e.0) es ≡ Some e.1) es
-    → AreReady (held (kept_in unnamed es)) (names_ready es)
-are_ready unnamed es sorted found = record {
+pub are_ready : (es : Named) → Ascend (keys es)
+    → All (λ (e : List ℕ × Places). lookup (same_name e.0) es ≡ Some e.1) es → AreAll (is_ready_in es) (names_ready es)
+are_ready es sorted found = record {
   ascending = names_ascend es sorted;
   members = λ n. (each_ready es es n found, all_there es n);
 }
+
+-- those of the entries behind a name are those of the names behind it
+
+abbrev pub between : List ℕ → Named → Named
+between after es = entries_between (slice_cmp nat_cmp) (Excluded after) Unbounded es
+
+within : (after n : List ℕ) → range_contains (slice_cmp nat_cmp) (Excluded after) Unbounded n ≡ is_behind (Some after) n
+within after n = go (is_behind (Some after) n)
+  where
+    go : (b : Bool) → b && true ≡ b
+    go true = refl
+    go false = refl
+
+ready_between : (after : List ℕ) (es : Named) → names_ready (between after es)
+    ≡ names_behind (Some after) (names_ready es)
+ready_between after [] = refl
+ready_between after (e ∷ es) =
+    ap (λ b. names_ready (cond b (e ∷ between after es) (between after es))) (within after e.0)
+    ∙ inside (is_behind (Some after) e.0)
+    ∙ go (is_behind (Some after) e.0) (is_ready_task (value_at e.1 part.Task)) refl (ready_between after es)
+  where
+    inside : (b : Bool) → names_ready (cond b (e ∷ between after es) (between after es))
+        ≡ cond b (option_to_list (name_if_ready e.0 e.1) ++ names_ready (between after es))
+        (names_ready (between after es))
+    inside true = refl
+    inside false = refl
+
+    go : (b c : Bool) → is_behind (Some after) e.0 ≡ b
+        → names_ready (between after es) ≡ names_behind (Some after) (names_ready es)
+        → cond b (option_to_list (cond c (Some e.0) None) ++ names_ready (between after es))
+        (names_ready (between after es))
+        ≡ names_behind (Some after) (option_to_list (cond c (Some e.0) None) ++ names_ready es)
+    go true true is rest = ap (λ names. e.0 ∷ names) rest
+        ∙ ap (λ b. cond b (e.0 ∷ names_behind (Some after) (names_ready es))
+        (names_behind (Some after) (names_ready es))) (sym is)
+    go true false is rest = rest
+    go false true is rest = rest
+        ∙ ap (λ b. cond b (e.0 ∷ names_behind (Some after) (names_ready es))
+        (names_behind (Some after) (names_ready es))) (sym is)
+    go false false is rest = rest
+
+pub next_between : (es : Named) → Ascend (keys es)
+    → All (λ (e : List ℕ × Places). lookup (same_name e.0) es ≡ Some e.1) es → (after : List ℕ)
+    → (found : Option (List ℕ)) → found ≡ slice_get (names_ready (between after es)) 0
+    → IsNext (is_ready_in es) (Some after) found
+next_between es sorted there after found is = subst (IsNext (is_ready_in es) (Some after))
+    (sym (is ∙ ap (λ names. slice_get names 0) (ready_between after es)))
+    (next_of_all (is_ready_in es) (names_ready es) (are_ready es sorted there) (Some after))

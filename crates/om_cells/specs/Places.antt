@@ -1,15 +1,18 @@
 -- What is kept of the objects of one name.
-use Rattle.std.specs.Prelude.{◌≡◌, cond, Option}
+use Rattle.std.specs.Prelude.{◌≡◌, cond, Option, List}
 use Rattle.std.specs.Map.{lookup}
 use Rattle.std.specs.BTreeMap.{is_at}
 use Rattle.om_cells.specs.declared.part.Part.{Part}
 use Rattle.om_cells.specs.contracts.part.PartOrd.TheImpl.{cmp-value}
 use Rattle.om_cells.specs.declared.value.Val.{Val}
-use Rattle.om_cells.specs.declared.places.Places.{Places}
+
+-- the parts at which a value is kept, with it
+abbrev pub Places : Type 0
+Places = List (Part × Val)
 
 -- the value that is kept at a part
 abbrev pub value_at : Places → Part → Option Val
-value_at ps p = lookup (is_at (cmp-value.it p)) ps.places.entries
+value_at ps p = lookup (is_at (cmp-value.it p)) ps
 
 -- another value, or none, is kept at a part, and the others stay
 abbrev pub PutsAt : Part → Option Val → Places → Places → Type 0

@@ -10,6 +10,7 @@ use crate::place::Place;
 use crate::value::Val;
 use std::alloc::{AllocError, Global};
 use std::collections::BTreeMap;
+use std::marker::Model;
 
 /// The places that are kept of the objects of one name, or of those without a name.
 ///
@@ -17,6 +18,14 @@ use std::collections::BTreeMap;
 #[derive(Drop)]
 pub struct Places {
     places: BTreeMap<Part, Place>,
+}
+
+impl Model for Places {
+    ghost use Rattle.om_cells.specs.Places.{Places};
+
+    ghost Value = { Places };
+
+    ghost view = { λ p. p.places.entries };
 }
 
 impl Places {

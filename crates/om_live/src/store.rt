@@ -9,7 +9,7 @@ ghost use Rattle.om_cells.specs.declared.value.Task.TheVariants as task;
 ghost use Rattle.om_cells.specs.Edits.{changed, HaveRoom};
 ghost use Rattle.om_cells.specs.Values.{default_of, control_in, is_idle, cell_in, task_in, number_in, holder_in, count_of, items_of, value_plus, value_with, value_cut, SumFits};
 ghost use Rattle.om_cells.specs.State.{with_value};
-ghost use Rattle.om_cells.specs.Ready.{AreReady};
+ghost use Rattle.om_cells.specs.Ready.{is_ready_at, AreReady, IsNext};
 ghost use Rattle.om_live.specs.Stores.{worker_of, is_trailed, plain_or_idle, state_of, is_kept, pasts_of, noted_at, popped_at, begun_at, first_or, GrowTo};
 
 use crate::control::Control;
@@ -141,6 +141,14 @@ impl Store {
         ensures { IfOk result (λ v. AreReady (state_of self.now) v.items) }
     {
         self.values.ready(alloc)
+    }
+
+    /// The least name behind another one, or of all, whose task is ready to be begun; `None` where
+    /// there is none.
+    pub fn next_ready(&self, after: Option<&Name>) -> Option<Name>
+        ensures { IsNext (is_ready_at (state_of self.now)) (option_copied after.entry) result }
+    {
+        self.values.next_ready(after)
     }
 
     /// The number that an object holds, or 0.

@@ -90,31 +90,40 @@ impl Player {
         }
     }
 
+    // Whether a worker may start a task.
+    fn may_start(&self, worker: u8) -> bool {
+        worker < self.machine.workers() && self.machine.is_at_scheduling_point(worker)
+    }
+
     /// The names of the tasks that are ready, where a worker may start one; else none.
     pub(crate) fn ready(&self, alloc: Global, worker: u8) -> Result<Vec<Name>, AllocError> {
-        if worker < self.machine.workers() && self.machine.is_at_scheduling_point(worker) {
+        if self.may_start(worker) {
             self.machine.ready(alloc)
         } else {
             Ok(Vec::new(alloc))
         }
     }
 
-    // Starts the first of the tasks that a worker can begin.
-    fn start_first(
-        &mut self,
-        alloc: Global,
-        worker: u8,
-        names: &[Name],
-    ) -> Result<Attempt, AllocError> {
-        for name in names {
+    // Starts the least ready task that a worker can begin. Each start that is tried takes one of the
+    // steps that there may be.
+    fn start_first(&mut self, alloc: Global, worker: u8) -> Result<Attempt, AllocError> {
+        if !self.may_start(worker) {
+            return Ok(Attempt::Not);
+        }
+        let mut after = None;
+        for _ in 0..self.left {
+            let Some(name) = self.machine.next_ready(after.as_ref()) else {
+                return Ok(Attempt::Not);
+            };
             let label = Label {
                 worker,
-                choice: Choice::Start(*name),
+                choice: Choice::Start(name),
             };
             let attempt = self.attempt(alloc, &label)?;
             if attempt != Attempt::Not {
                 return Ok(attempt);
             }
+            after = Some(name);
         }
         Ok(Attempt::Not)
     }
@@ -129,8 +138,7 @@ impl Player {
         if attempt != Attempt::Not {
             return Ok(attempt);
         }
-        let names = self.ready(alloc, worker)?;
-        self.start_first(alloc, worker, &names)
+        self.start_first(alloc, worker)
     }
 
     // Makes the move of the least worker that has one.

@@ -3,7 +3,7 @@
 ghost use Rattle.std.specs.Prelude.{◌≡◌, ◌<◌, ◌≤◌, ◌^◌, ℕ, IfOk, OnOk, OnErr, IsNone, IfSome, ◌↔◌, Some, map};
 ghost use Rattle.std.specs.Option.{option_copied};
 ghost use Rattle.om_foot.specs.declared.object.Obj.TheVariants as obj;
-ghost use Rattle.om_cells.specs.Ready.{AreReady};
+ghost use Rattle.om_cells.specs.Ready.{first_behind, AreReady};
 ghost use Rattle.om_cells.specs.Rules.{Rules, replay};
 ghost use Rattle.om_cells.specs.Values.{control_in};
 ghost use Rattle.om_live.specs.Stores.{plain_or_idle};
@@ -16,6 +16,7 @@ ghost use Rattle.om_history.specs.Pasts.{past_in, IsHeld, Stays};
 ghost use Rattle.om_undo.specs.Headline.{Headline};
 ghost use Rattle.om_undo.specs.Machines.{rules_for, state_in, IsPlan, RepliesToPlan, TakesPlan};
 ghost use Rattle.om_undo.specs.PlannedSteps.{is_made, planned_at};
+ghost use Rattle.om_undo.specs.ReadyNames.{ready_names};
 
 use crate::laws::{headline, shaped_rules, steady_rules};
 use om_cells::{Entry, Label, Val};
@@ -365,6 +366,14 @@ impl Machine {
         ensures { IfOk result (λ v. AreReady (state_in self.now) v.items) }
     {
         self.history.store().ready(alloc)
+    }
+
+    /// The least name behind another one, or of all, whose task is ready to be begun at the replay
+    /// of the entries; `None` where there is none. It takes no memory.
+    pub fn next_ready(&self, after: Option<&Name>) -> Option<Name>
+        ensures { result ≡ first_behind (option_copied after.entry) (ready_names self.now) }
+    {
+        self.history.store().next_ready(after)
     }
 
     /// A copy of the entries that stand, in their order. Their serials rise, to the number of steps

@@ -13,12 +13,11 @@ ghost use Rattle.om_view.specs.Runs.{can_step, planned_if, planned_for, planned_
 use crate::marks::Marks;
 use crate::stops::step_and_stop;
 use om_command::{Stop, push_full, push_ran};
-use om_foot::Name;
 use om_journal::Book;
 use om_live::Control;
 use om_task::Choice;
 use om_task::laws::starts_at_scheduling_points;
-use om_undo::laws::{one_ready_list, ready_names_are_ready};
+use om_undo::laws::ready_names_are_ready;
 use om_undo::{Machine, PlannedStep};
 use std::alloc::{AllocError, Global};
 
@@ -42,37 +41,8 @@ fn planned(
     Ok(None)
 }
 
-// The names of the tasks that are ready, ascending.
-fn ready_in(alloc: Global, machine: &Machine) -> Result<Vec<Name>, AllocError>
-    ensures { IfOk result (λ names. names.items ≡ ready_names machine.now) }
-{
-    one_ready_list();
-    ready_names_are_ready();
-    machine.ready(alloc)
-}
-
-// The start of the first of the tasks that a worker can begin.
-fn start_among(
-    alloc: Global,
-    machine: &Machine,
-    worker: u8,
-    names: &[Name],
-) -> Result<Option<PlannedStep>, AllocError>
-    requires { worker < machine.now.workers }
-    ensures { IfOk result
-        (λ step. step ≡ planned_for machine.now worker (start_among machine.now worker names.now)) }
-{
-    for name in names {
-        match planned(alloc, machine, worker, &Choice::Start(*name))? {
-            Some(step) => return Ok(Some(step)),
-            None => {}
-        }
-    }
-    Ok(None)
-}
-
 // The start of the least ready task that a worker can begin. Only at a scheduling point is it asked
-// which tasks are ready.
+// which tasks are ready, one after the other.
 fn first_start(
     alloc: Global,
     machine: &Machine,
@@ -83,11 +53,19 @@ fn first_start(
         (start_among machine.now worker (ready_names machine.now))) }
 {
     starts_at_scheduling_points();
+    ready_names_are_ready();
     if !machine.is_at_scheduling_point(worker) {
         return Ok(None);
     }
-    let names = ready_in(alloc, machine)?;
-    start_among(alloc, machine, worker, &names)
+    let mut after = None;
+    'names: while let Some(name) = machine.next_ready(after.as_ref()) {
+        match planned(alloc, machine, worker, &Choice::Start(name))? {
+            Some(step) => return Ok(Some(step)),
+            None => {}
+        }
+        after = Some(name);
+    }
+    Ok(None)
 }
 
 // A worker's move: its next step, else the start of the least task that it can begin.

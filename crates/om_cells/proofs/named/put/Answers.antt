@@ -1,10 +1,10 @@
 use Rattle.std.proofs.Common.{◌∙◌, sym, ap}
 use Rattle.std.specs.Prelude.{is_some}
-use Rattle.om_cells.proofs.PlaceLemmas.{put_named, name_found, name_missing, value_known, value_in}
-use Rattle.om_cells.proofs.store.Store.put_named.Goals as goal
+use Rattle.om_cells.proofs.PlaceLemmas.{puts_of, name_found, name_missing, value_known, value_in}
+use Rattle.om_cells.proofs.named.put.Goals as goal
 
 pub unreachable-requires : goal.unreachable-requires
-unreachable-requires c = name_missing c.args.self.now.named.entries c.args.name.now c.get_mut.result
+unreachable-requires c = name_missing c.args.places.now.entries c.args.name.now c.get_mut.result
     c.get_mut.ensures.value c.in-None.is (value_known _ c.args.part.now c.requires)
 
 pub put-requires : goal.put-requires
@@ -16,10 +16,9 @@ returns-clause-before c = c.put.ensures.before
 
 pub returns-clause-after : goal.returns-clause-after
 returns-clause-after c =
-    let es = c.args.self.now.named.entries in
+    let es = c.args.places.now.entries in
     let n = c.args.name.now in
     let w = c.put.new.self in
     let old = c.in-Some.places.now in
-    λ k named parted q. put_named c.args.self.now.unnamed es (c.get_mut.follows.lender w).entries n c.args.part.now _
-    old w (sym c.in-Some.ensures.value)
-    ((c.get_mut.follows.holds w).3 (name_found es n old c.in-Some.ensures.value)).0 c.put.ensures.after k named parted q
+    puts_of es (c.get_mut.follows.lender w).entries n c.args.part.now _ old w (sym c.in-Some.ensures.value)
+    ((c.get_mut.follows.holds w).3 (name_found es n old c.in-Some.ensures.value)).0 c.put.ensures.after

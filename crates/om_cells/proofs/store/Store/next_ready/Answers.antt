@@ -1,0 +1,6 @@
+use Rattle.om_cells.specs.Stores.{state_of}
+use Rattle.om_cells.proofs.store.Store.next_ready.Goals as goal
+
+pub returns : goal.returns
+unfolding state_of
+returns c = c.next_ready.ensures

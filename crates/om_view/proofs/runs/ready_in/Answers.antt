@@ -1,6 +1,0 @@
-use Rattle.std.proofs.lemmas.Result.{IfOk-weaker}
-use Rattle.om_view.proofs.runs.ready_in.Goals as goal
-
-pub returns : goal.returns
-returns c = IfOk-weaker c.ready.result _ _
-    (λ names ready. c.one_ready_list.ensures _ _ _ ready (c.ready_names_are_ready.ensures _)) c.ready.ensures
