@@ -49,12 +49,12 @@ class_text class b = class ++ fault_text b.is_fault
 
 -- a small box, and a large one
 abbrev pub mark_text : List ℕ → Scale → StepBox → List ℕ
-mark_text class scale b = codes "<rect class='" ++ class_text class b ++ codes "' width='6' height='6'" ++ corner_text scale b
-    ++ hue_text b.line ++ codes ">" ++ title_text b ++ codes "</rect>\n"
+mark_text class scale b = codes "<rect class='" ++ class_text class b ++ codes "' width='6' height='6'"
+    ++ corner_text scale b ++ hue_text b.line ++ codes ">" ++ title_text b ++ codes "</rect>\n"
 
 abbrev pub card_begin : List ℕ → Scale → StepBox → List ℕ
-card_begin class scale b = codes "<svg class='" ++ class_text class b ++ codes "' width='92' height='34'" ++ corner_text scale b
-    ++ hue_text b.line ++ codes ">"
+card_begin class scale b = codes "<svg class='" ++ class_text class b ++ codes "' width='92' height='34'"
+    ++ corner_text scale b ++ hue_text b.line ++ codes ">"
 
 abbrev pub card_text : List ℕ → Scale → StepBox → List ℕ
 card_text class scale b = card_begin class scale b ++ title_text b

@@ -1,5 +1,6 @@
 -- The text of a report.
-use Rattle.std.specs.Prelude.{ℕ, Bool, List, [], ◌∷◌, ◌++◌, ◌==◌, Option, None, Some, if◌then◌else◌, codes, decimal, length}
+use Rattle.std.specs.Prelude.{Bool}
+use Rattle.std.specs.Prelude.{ℕ, List, [], ◌∷◌, ◌++◌, ◌==◌, Option, None, Some, if◌then◌else◌, codes, decimal, length}
 use Rattle.om_code.specs.declared.frame.Fault.{Fault}
 use Rattle.om_code.specs.Faults.{fault_number}
 use Rattle.om_foot.specs.Names.{name_text}
@@ -67,8 +68,8 @@ length_text blocks = codes "shortened to " ++ decimal (length blocks) ++ codes "
 
 -- what was found, in words
 abbrev pub words_text : Bool → Found → List ℕ
-words_text by_run found = seed_text found.seed ++ badness_text by_run found.why found.output.items (text_in found.wanted)
-    ++ codes "\n" ++ length_text found.blocks.items
+words_text by_run found = seed_text found.seed
+    ++ badness_text by_run found.why found.output.items (text_in found.wanted) ++ codes "\n" ++ length_text found.blocks.items
 
 -- the words, an empty line, and the script
 abbrev pub found_text : Bool → Found → List ℕ
