@@ -10,19 +10,20 @@ use std::alloc::{AllocError, Global};
 // How often all changes are tried at most.
 const MOST_ROUNDS: u32 = 100;
 
-// How many schedules are played at most.
-const MOST_TRIES: u32 = 20_000;
+// How many steps the schedules that are played make at most, all together.
+const MOST_WORK: u64 = 20_000_000;
 
-// From so many steps on a schedule counts as one of so many.
-const FAR: u64 = 20_000;
+// From so many steps on a schedule counts as one of so many. Behind it `run` makes 100,000 steps then, as the
+// script does.
+const FAR: u64 = 24_750;
 
 /// A bad schedule that is made short.
 #[derive(Drop)]
 pub(crate) struct Search<'a> {
     pub(crate) wanted: &'a Wanted,
     pub(crate) blocks: Vec<Block>,
-    // How many further schedules may be played.
-    tries: u32,
+    // How many further steps may be made.
+    left: u64,
     // How many steps `run` makes behind a schedule, at most.
     more: u32,
 }
@@ -35,7 +36,7 @@ impl<'a> Search<'a> {
         Search {
             wanted,
             blocks,
-            tries: MOST_TRIES,
+            left: MOST_WORK,
             more: steps as u32 * 4 + 1000,
         }
     }
@@ -62,11 +63,12 @@ impl<'a> Search<'a> {
         player: &mut Player,
         blocks: Vec<Block>,
     ) -> Result<bool, AllocError> {
-        if self.tries == 0 {
+        if self.left == 0 {
             return Ok(false);
         }
-        self.tries -= 1;
         let played = play(alloc, player, self.wanted, &blocks, self.more)?;
+        let made = player.steps() as u64;
+        self.left = self.left.saturating_sub(made).saturating_sub(1);
         let is_better = played.bad.is_some() && is_shorter(&played.blocks, &self.blocks);
         if is_better {
             self.blocks = played.blocks;
@@ -82,8 +84,8 @@ impl<'a> Search<'a> {
         size: usize,
     ) -> Result<(), AllocError> {
         let mut end = self.blocks.len();
-        'pieces: for _ in 0..self.tries {
-            if end == 0 {
+        'pieces: for _ in 0..self.left {
+            if end == 0 || self.left == 0 {
                 return Ok(());
             }
             let start = end.saturating_sub(size);
@@ -134,6 +136,9 @@ impl<'a> Search<'a> {
         one: usize,
     ) -> Result<(), AllocError> {
         'others: for two in one..self.blocks.len() {
+            if self.left == 0 {
+                return Ok(());
+            }
             self.join_two(alloc, player, one, two)?;
         }
         Ok(())
@@ -176,7 +181,7 @@ impl<'a> Search<'a> {
         at: usize,
         fewer: u32,
     ) -> Result<(), AllocError> {
-        'tries: for _ in 0..self.tries {
+        'tries: for _ in 0..self.left {
             let shorter = shrunk(alloc, &self.blocks, at, fewer)?;
             if !self.accept(alloc, player, shorter)? {
                 return Ok(());
@@ -188,6 +193,9 @@ impl<'a> Search<'a> {
     // Takes steps off each block.
     fn shrink(&mut self, alloc: Global, player: &mut Player) -> Result<(), AllocError> {
         'blocks: for at in 0..self.blocks.len() {
+            if self.left == 0 {
+                return Ok(());
+            }
             self.shrink_one(alloc, player, at)?;
         }
         Ok(())
