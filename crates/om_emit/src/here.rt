@@ -7,9 +7,11 @@ use std::alloc::AllocError;
 /// Whether all is written. The only error is out of memory.
 pub type Done = Result<(), AllocError>;
 
-/// Where code is written: in a body with these tables, for what stands there in the source.
+/// Where code is written, and for what.
 #[derive(Clone, Copy)]
 pub struct Here<'a> {
+    /// The tables of the body that is written.
     pub tables: &'a BodyTables<'a>,
+    /// The place in the source of what is written. Its line is that of the instructions.
     pub at: Span,
 }

@@ -1,4 +1,5 @@
-//! The arrows of a history: to each step from the last earlier step of each other worker that conflicts with it.
+//! The arrows of a history: to each step from the last earlier step of each other worker that conflicts
+//! with it.
 
 ghost use Rattle.std.specs.Prelude.{◌≡◌, ◌++◌, IfOk, OnOk};
 ghost use Rattle.om_picture.specs.Pictures.{hides, is_hidden, meets_other, object_between, first_named, arrow_at, arrow_between, arrows_into, arrows_of};
