@@ -5,3 +5,4 @@ pub mod Captures
 pub mod Whole
 pub mod Uses
 pub mod Beside
+pub mod Weights
