@@ -1,10 +1,14 @@
 -- Code that is being written: a jump names a label, and a label's place comes to be known once its code is
 -- reached.
 use Rattle.std.specs.Prelude.{◌≡◌, ◌≤◌, ◌<◌, ◌+◌, ◌^◌, ℕ, zero, suc, List, [], ◌∷◌, ◌++◌, Option, Some, None, length}
-use Rattle.std.specs.Prelude.{map, slice_get, slice_set}
+use Rattle.std.specs.Prelude.{All, map, slice_get, slice_set}
 use Rattle.om_code.specs.declared.instruction.Instr.{Instr}
 use Rattle.om_code.specs.declared.instruction.Instr.TheVariants as i
 use Rattle.om_code.specs.declared.raw.Line.{Line}
+use Rattle.om_emit.specs.declared.draft.DraftLine.{DraftLine}
+use Rattle.om_emit.specs.declared.draft.DraftLine.TheVariants as lines
+use Rattle.om_emit.specs.declared.draft.Jump.{Jump}
+use Rattle.om_emit.specs.declared.draft.Jump.TheVariants as jumps
 use Rattle.om_emit.specs.declared.draft.Pick.{Pick}
 
 -- what is written so far
@@ -47,6 +51,41 @@ place_in places label = known (slice_get places label)
 abbrev pub settled_code : Written → List Line
 settled_code d = map (settled (place_in d.places)) d.code
 
+-- ---- how it is written down
+
+abbrev pub jump_to : Jump → (target : ℕ) → Instr
+jump_to jumps.Always target = i.Jump target
+jump_to jumps.IfZero target = i.JumpIfZero target
+jump_to jumps.Grab target = i.Grab target
+jump_to (jumps.Iterate slot) target = i.Iterate slot target
+jump_to jumps.Single target = i.Single target
+jump_to jumps.Masked target = i.Masked target
+
+abbrev pub line_in : DraftLine → Line
+line_in (lines.Plain line) = line
+line_in (lines.Jump line jump label) = record { instruction = jump_to jump label; line = line }
+
+-- an instruction that is no jump
+abbrev pub HasNoTarget : Instr → Type 0
+HasNoTarget instruction = (at : Labels) → moved at instruction ≡ instruction
+
+abbrev pub HaveNoTarget : List Instr → Type 0
+HaveNoTarget [] = Unit {0}
+HaveNoTarget (x ∷ xs) = HasNoTarget x × HaveNoTarget xs
+
+abbrev pub IsPlain : DraftLine → Type 0
+IsPlain (lines.Plain line) = HasNoTarget line.instruction
+IsPlain (lines.Jump line jump label) = Unit {0}
+
+-- all places that are known have 32 bits
+abbrev pub AreShort : List (Option ℕ) → Type 0
+AreShort places = (label place : ℕ) → slice_get places label ≡ Some (Some place) → place < 2 ^ 32
+
+-- only jumps have targets, and labels stand in the code or at its end
+pub record IsDraft (code : List DraftLine) (places : List (Option ℕ)) : Type 0 where
+  pub plain : All IsPlain code
+  pub within : (label place : ℕ) → slice_get places label ≡ Some (Some place) → place ≤ length code
+
 -- ---- what is added
 
 -- an instruction
@@ -69,7 +108,7 @@ pub record PutsAll (line : ℕ) (instructions : List Instr) (old new : Written) 
 pub record Fresh (label : ℕ) (old new : Written) : Type 0 where
   pub code : new.code ≡ old.code
   pub is : label ≡ length old.places
-  pub fits : label < 2 ^ 32
+  pub fits : label < 2 ^ 64
   pub places : new.places ≡ old.places ++ None ∷ []
   pub picks : new.picks ≡ old.picks
 
@@ -93,7 +132,7 @@ labels_from first (suc count) = first ∷ labels_from (first + 1) count
 pub record FreshLabels (labels : List ℕ) (count : ℕ) (old new : Written) : Type 0 where
   pub code : new.code ≡ old.code
   pub are : labels ≡ labels_from (length old.places) count
-  pub fit : 0 < count → length old.places + count ≤ 2 ^ 32
+  pub fit : 0 < count → length old.places + count ≤ 2 ^ 64
   pub places : new.places ≡ old.places ++ unplaced count
   pub picks : new.picks ≡ old.picks
 
@@ -101,6 +140,6 @@ pub record FreshLabels (labels : List ℕ) (count : ℕ) (old new : Written) : T
 pub record FreshList (number first count : ℕ) (old new : Written) : Type 0 where
   pub code : new.code ≡ old.code
   pub is : first ≡ length old.places
-  pub fit : first + count ≤ 2 ^ 32
+  pub fit : first + count ≤ 2 ^ 64
   pub places : new.places ≡ old.places ++ unplaced count
   pub picks : new.picks ≡ old.picks ++ record { number = number; labels = labels_from first count } ∷ []

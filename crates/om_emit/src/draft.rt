@@ -1,7 +1,7 @@
 //! Code that is being written, with labels in place of the targets of jumps.
 
-ghost use Rattle.std.specs.Prelude.{◌≡◌, IfOk, OnOk, None, Some, length, slice_get};
-ghost use Rattle.om_emit.specs.Drafts.{Defines, Fresh, FreshLabels, FreshList, Puts, PutsAll, moved, nothing, place_in, settled, settled_code};
+ghost use Rattle.std.specs.Prelude.{◌≡◌, ◌<◌, ◌^◌, IfOk, OnOk, None, Some, length, slice_get};
+ghost use Rattle.om_emit.specs.Drafts.{AreShort, Defines, Fresh, FreshLabels, FreshList, HasNoTarget, HaveNoTarget, IsPlain, Puts, PutsAll, jump_to, line_in, nothing, place_in, settled, settled_code};
 ghost use Rattle.om_emit.specs.Settled.{settled_list, settled_lists};
 
 use crate::here::Done;
@@ -17,7 +17,7 @@ pub struct Pick {
     /// The number of its list in the program.
     pub number: u32,
     /// A label for each part, in the order of the text.
-    pub labels: Seq<u32>,
+    pub labels: Seq<usize>,
 }
 
 /// The list of a PICK: where the parts of a `sections` begin in the code of their body.
@@ -29,26 +29,50 @@ pub struct PickList {
     pub places: Seq<u32>,
 }
 
+/// An instruction that has a target, without it.
+#[derive(Clone, Copy)]
+pub enum Jump {
+    /// JMP
+    Always,
+    /// JZ
+    IfZero,
+    /// GRAB
+    Grab,
+    /// ITER
+    Iterate { slot: u32 },
+    /// SINGLE
+    Single,
+    /// MASKED
+    Masked,
+}
+
+/// An instruction with its line. A label stands for the target of a jump.
+#[derive(Clone, Copy)]
+pub enum DraftLine {
+    Plain(Line),
+    Jump { line: u32, jump: Jump, label: usize },
+}
+
 /// The code of one body, as far as it is written.
 ///
-/// The target of each jump in it is a label, and `settle` gives the code with places in their stead.
-/// It has room for 2^32 - 1 instructions and 2^32 labels; past that it is out of memory.
+/// Contracts see the target of each jump in it as a label, and `settle` gives the code with places
+/// in their stead. A label is the place of its entry in `places`.
 #[derive(Drop)]
 pub struct Draft {
-    code: Vec<Line>,
-    places: Vec<Option<u32>>,
+    code: Vec<DraftLine>,
+    places: Vec<Option<usize>>,
     picks: Vec<Pick>,
 }
 
 impl Model for Draft {
-    ghost use Rattle.std.specs.Prelude.{◌<◌, ◌^◌, length};
-    ghost use Rattle.om_emit.specs.Drafts.{Written};
+    ghost use Rattle.std.specs.Prelude.{map};
+    ghost use Rattle.om_emit.specs.Drafts.{IsDraft, Written, line_in};
 
     ghost Value = { Written };
 
-    ghost view = { λ d. record { code = d.code.items; places = d.places.items; picks = d.picks.items } };
+    ghost view = { λ d. record { code = map line_in d.code.items; places = d.places.items; picks = d.picks.items } };
 
-    ghost invariant = { λ d. length d.code.items < 2 ^ 32 };
+    ghost invariant = { λ d. IsDraft d.code.items d.places.items };
 }
 
 impl Draft {
@@ -64,25 +88,25 @@ impl Draft {
     }
 
     /// The place of the next instruction.
-    pub fn place(&self) -> u32
+    pub fn place(&self) -> usize
         ensures { result ≡ length self.now.code }
     {
-        self.code.len() as u32
+        self.code.len()
     }
 
-    /// Adds an instruction, with its line. The target of a jump is a label.
+    /// Adds an instruction that has no target, with its line.
     pub fn put(&mut self, line: u32, instruction: Instr) -> Done
+        requires { HasNoTarget instruction }
         ensures { OnOk result (Puts line instruction self.old self.new) }
     {
-        if self.code.len() >= u32::MAX as usize {
-            return Err(AllocError);
-        }
-        self.code.push(Line { instruction, line })?;
+        self.code
+            .push(DraftLine::Plain(Line { instruction, line }))?;
         Ok(())
     }
 
-    /// Adds instructions of one line, one behind the other. The target of a jump is a label.
+    /// Adds instructions of one line that have no targets, one behind the other.
     pub fn put_all(&mut self, line: u32, instructions: &[Instr]) -> Done
+        requires { HaveNoTarget instructions.now }
         ensures { OnOk result (PutsAll line instructions.now self.old self.new) }
     {
         for instruction in instructions {
@@ -91,33 +115,42 @@ impl Draft {
         Ok(())
     }
 
+    /// Adds an instruction whose target is a label, with its line.
+    pub fn put_jump(&mut self, line: u32, jump: Jump, label: usize) -> Done
+        ensures { OnOk result (Puts line (jump_to jump label) self.old self.new) }
+    {
+        self.code.push(DraftLine::Jump { line, jump, label })?;
+        Ok(())
+    }
+
     /// A new label, which has no place yet.
-    pub fn fresh(&mut self) -> Result<u32, AllocError>
+    pub fn fresh(&mut self) -> Result<usize, AllocError>
         ensures { IfOk result (λ label. Fresh label self.old self.new) }
     {
-        let Ok(label) = u32::try_from(self.places.len()) else {
-            return Err(AllocError);
-        };
+        let label = self.places.len();
         self.places.push(None)?;
         Ok(label)
     }
 
     /// Gives a label that has no place the one of the next instruction.
-    pub fn define(&mut self, label: u32)
+    pub fn define(&mut self, label: usize)
         requires { slice_get self.old.places label ≡ Some None }
         ensures { Defines label self.old self.new }
     {
-        self.places[label as usize] = Some(self.code.len() as u32);
+        self.places[label] = Some(self.code.len());
     }
 
     /// A new label for each part of a `sections`, one behind the other, and the list of its PICK with
     /// this number in the program. The first label is answered; none has a place yet.
-    pub fn fresh_list(&mut self, alloc: Global, number: u32, count: u32) -> Result<u32, AllocError>
+    pub fn fresh_list(
+        &mut self,
+        alloc: Global,
+        number: u32,
+        count: u32,
+    ) -> Result<usize, AllocError>
         ensures { IfOk result (λ first. FreshList number first count self.old self.new) }
     {
-        let Ok(first) = u32::try_from(self.places.len()) else {
-            return Err(AllocError);
-        };
+        let first = self.places.len();
         let labels = self.fresh_labels(alloc, count)?;
         self.picks.push(Pick {
             number,
@@ -127,7 +160,7 @@ impl Draft {
     }
 
     /// So many new labels, one behind the other, which have no place yet.
-    fn fresh_labels(&mut self, alloc: Global, count: u32) -> Result<Vec<u32>, AllocError>
+    fn fresh_labels(&mut self, alloc: Global, count: u32) -> Result<Vec<usize>, AllocError>
         ensures { IfOk result (λ labels. FreshLabels labels.items count self.old self.new) }
     {
         let mut labels = Vec::new(alloc);
@@ -138,8 +171,9 @@ impl Draft {
         Ok(labels)
     }
 
-    /// The code, with the place of each label in its stead.
+    /// The code, with the place of each label in its stead: a place in it has 32 bits.
     pub fn settle(&self, alloc: Global) -> Result<Seq<Line>, AllocError>
+        requires { length self.now.code < 2 ^ 32 }
         ensures { IfOk result (λ code. code ≡ settled_code self.now) }
     {
         let places = self.places.as_slice();
@@ -152,6 +186,7 @@ impl Draft {
 
     /// The lists of the PICKs in the code, with the place of each label in its stead.
     pub fn lists(&self, alloc: Global) -> Result<Vec<PickList>, AllocError>
+        requires { length self.now.code < 2 ^ 32 }
         ensures { IfOk result (λ lists. lists.items ≡ settled_lists self.now) }
     {
         let places = self.places.as_slice();
@@ -164,42 +199,55 @@ impl Draft {
 }
 
 /// Where a label stands; the begin of the body until that is known.
-fn place_in(places: &[Option<u32>], label: u32) -> u32
+fn place_in(places: &[Option<usize>], label: usize) -> u32
+    requires { AreShort places.now }
     ensures { result ≡ place_in places.now label }
 {
-    places.get(label as usize).copied().flatten().unwrap_or(0)
-}
-
-/// An instruction, with the place of its target.
-fn moved(places: &[Option<u32>], instruction: Instr) -> Instr
-    ensures { result ≡ moved (place_in places.now) instruction }
-{
-    match instruction {
-        Instr::Jump(label) => Instr::Jump(place_in(places, label)),
-        Instr::JumpIfZero(label) => Instr::JumpIfZero(place_in(places, label)),
-        Instr::Grab(label) => Instr::Grab(place_in(places, label)),
-        Instr::Iterate { slot, otherwise } => Instr::Iterate {
-            slot,
-            otherwise: place_in(places, otherwise),
-        },
-        Instr::Single(label) => Instr::Single(place_in(places, label)),
-        Instr::Masked(label) => Instr::Masked(place_in(places, label)),
-        _ => instruction,
+    match places.get(label) {
+        Some(Some(place)) => *place as u32,
+        _ => 0,
     }
 }
 
-/// A line, with the place of its instruction's target.
-fn settled(places: &[Option<u32>], line: Line) -> Line
-    ensures { result ≡ settled (place_in places.now) line }
+/// A jump to a place.
+fn jump_to(jump: Jump, target: u32) -> Instr
+    ensures { result ≡ jump_to jump target }
 {
-    Line {
-        instruction: moved(places, line.instruction),
-        line: line.line,
+    match jump {
+        Jump::Always => Instr::Jump(target),
+        Jump::IfZero => Instr::JumpIfZero(target),
+        Jump::Grab => Instr::Grab(target),
+        Jump::Iterate { slot } => Instr::Iterate {
+            slot,
+            otherwise: target,
+        },
+        Jump::Single => Instr::Single(target),
+        Jump::Masked => Instr::Masked(target),
+    }
+}
+
+/// A line, with the place of its jump's target.
+fn settled(places: &[Option<usize>], line: DraftLine) -> Line
+    requires places { AreShort places.now }
+    requires plain { IsPlain line }
+    ensures { result ≡ settled (place_in places.now) (line_in line) }
+{
+    match line {
+        DraftLine::Plain(line) => line,
+        DraftLine::Jump { line, jump, label } => Line {
+            instruction: jump_to(jump, place_in(places, label)),
+            line,
+        },
     }
 }
 
 /// The list of a PICK, with the place of each label.
-fn settled_list(alloc: Global, places: &[Option<u32>], pick: &Pick) -> Result<PickList, AllocError>
+fn settled_list(
+    alloc: Global,
+    places: &[Option<usize>],
+    pick: &Pick,
+) -> Result<PickList, AllocError>
+    requires { AreShort places.now }
     ensures { IfOk result (λ list. list ≡ settled_list (place_in places.now) pick.now) }
 {
     let mut targets = Vec::new(alloc);

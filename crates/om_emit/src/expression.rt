@@ -9,11 +9,12 @@ ghost use Rattle.om_rows.specs.Coded.{CallHasCode, ValueHasCode, ValuesHaveCode}
 ghost use Rattle.om_rows.specs.Expressions.{value, values};
 ghost use Rattle.om_rows.specs.Operators.{Both, Either, form_of};
 
-use crate::draft::Draft;
+use crate::draft::{Draft, Jump};
 use crate::here::{Done, Here};
 use crate::operator::{Form, compound_of, form_of};
 use crate::single::{
-    load, load_element, postfix, postfix_element, store, store_element, truth, unary_end,
+    load, load_element, one_unless_zero, postfix, postfix_element, store, store_element, truth,
+    unary_end,
 };
 use om_code::Instr;
 use om_resolved::{ResolvedExpression, UnaryOperator, Variable};
@@ -66,9 +67,9 @@ pub fn value(draft: &mut Draft, here: &Here<'_>, e: &ResolvedExpression) -> Done
             let otherwise = draft.fresh()?;
             let end = draft.fresh()?;
             value(draft, here, condition)?;
-            draft.put(here.at.line, Instr::JumpIfZero(otherwise))?;
+            draft.put_jump(here.at.line, Jump::IfZero, otherwise)?;
             value(draft, here, then)?;
-            draft.put(here.at.line, Instr::Jump(end))?;
+            draft.put_jump(here.at.line, Jump::Always, end)?;
             draft.define(otherwise);
             value(draft, here, other)?;
             draft.define(end);
@@ -226,7 +227,7 @@ fn both_end(draft: &mut Draft, here: &Here<'_>, right: &ResolvedExpression) -> D
 {
     let not_both = draft.fresh()?;
     let end = draft.fresh()?;
-    draft.put(here.at.line, Instr::JumpIfZero(not_both))?;
+    draft.put_jump(here.at.line, Jump::IfZero, not_both)?;
     value(draft, here, right)?;
     truth(draft, here.at.line, not_both, end)
 }
@@ -241,12 +242,7 @@ fn either_end(draft: &mut Draft, here: &Here<'_>, right: &ResolvedExpression) ->
     let next = draft.fresh()?;
     let neither = draft.fresh()?;
     let end = draft.fresh()?;
-    let left = [
-        Instr::JumpIfZero(next),
-        Instr::Constant(1),
-        Instr::Jump(end),
-    ];
-    draft.put_all(here.at.line, &left)?;
+    one_unless_zero(draft, here.at.line, next, end)?;
     draft.define(next);
     value(draft, here, right)?;
     truth(draft, here.at.line, neither, end)

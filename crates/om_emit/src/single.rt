@@ -1,7 +1,8 @@
 //! The code of what no expression stands in.
 
-ghost use Rattle.std.specs.Prelude.{◌≡◌, ◌<◌, None, OnOk, Some, slice_get};
+ghost use Rattle.std.specs.Prelude.{◌≡◌, ◌<◌, ◌∷◌, [], None, OnOk, Some, pos, slice_get};
 ghost use Rattle.om_code.specs.declared.instruction.Instr.TheVariants as i;
+ghost use Rattle.om_emit.specs.Drafts.{PutsAll};
 ghost use Rattle.om_emit.specs.Emits.{Adds, Appends, Goes, place_at, site};
 ghost use Rattle.om_emit.specs.Rests as rows;
 ghost use Rattle.om_resolved.specs.ResolvedTree as trees;
@@ -9,7 +10,7 @@ ghost use Rattle.om_rows.specs.Expressions.{stepped_back, value};
 ghost use Rattle.om_rows.specs.Numbered.{Numbered};
 ghost use Rattle.om_rows.specs.Operators.{inverse_step_of};
 
-use crate::draft::Draft;
+use crate::draft::{Draft, Jump};
 use crate::here::{Done, Here};
 use crate::operator::{inverse_step_of, step_of};
 use om_code::{Instr, instruction};
@@ -75,9 +76,19 @@ pub(crate) fn unary_end(draft: &mut Draft, here: &Here<'_>, operator: UnaryOpera
     draft.put(here.at.line, Instr::Unary(operator))
 }
 
+/// Jumps to `otherwise` where the value on top is 0, and pushes 1 and jumps to `over` where it is not.
+pub(crate) fn one_unless_zero(draft: &mut Draft, line: u32, otherwise: usize, over: usize) -> Done
+    ensures { OnOk result (PutsAll line
+        (i.JumpIfZero otherwise ∷ i.Constant (pos 1) ∷ i.Jump over ∷ []) draft.old draft.new) }
+{
+    draft.put_jump(line, Jump::IfZero, otherwise)?;
+    draft.put(line, Instr::Constant(1))?;
+    draft.put_jump(line, Jump::Always, over)
+}
+
 /// Writes 1 where the value on top is not 0, and 0 where it is. What jumped to `otherwise` gets the
 /// 0, and what jumped to `over` goes on behind it. So `&&` and `||` end (C17 6.5.13p3, 6.5.14p3).
-pub(crate) fn truth(draft: &mut Draft, line: u32, otherwise: u32, over: u32) -> Done
+pub(crate) fn truth(draft: &mut Draft, line: u32, otherwise: usize, over: usize) -> Done
     requires otherwise { slice_get draft.old.places otherwise ≡ Some None }
     requires over { slice_get draft.old.places over ≡ Some None }
     requires apart { otherwise < over }
@@ -85,12 +96,7 @@ pub(crate) fn truth(draft: &mut Draft, line: u32, otherwise: u32, over: u32) -> 
         (Goes otherwise (λ done at. rows.truth_row (site names done) line (at otherwise) (at over))
         draft.old draft.new) }
 {
-    let nonzero = [
-        Instr::JumpIfZero(otherwise),
-        Instr::Constant(1),
-        Instr::Jump(over),
-    ];
-    draft.put_all(line, &nonzero)?;
+    one_unless_zero(draft, line, otherwise, over)?;
     draft.define(otherwise);
     draft.put(line, Instr::Constant(0))?;
     draft.define(over);

@@ -88,9 +88,9 @@ both_end-truth-requires t c =
     let e = c.in_ok-end.end in
     let past = fresh_length _ _ _ c.in_ok-not_both.ensures in
     record {
-      otherwise = free_part f _ _ _ c.in_ok-value.ensures (free_put f _ _ _ _ c.in_ok-put.ensures
+      otherwise = free_part f _ _ _ c.in_ok-value.ensures (free_put f _ _ _ _ c.in_ok-put_jump.ensures
           (free_fresh f _ _ _ c.in_ok-end.ensures (free_new f _ _ c.in_ok-not_both.ensures)));
-      over = free_part e _ _ _ c.in_ok-value.ensures (free_put e _ _ _ _ c.in_ok-put.ensures
+      over = free_part e _ _ _ c.in_ok-value.ensures (free_put e _ _ _ _ c.in_ok-put_jump.ensures
           (free_new e _ _ c.in_ok-end.ensures));
       apart = omega (arith, c.in_ok-not_both.ensures.is, c.in_ok-end.ensures.is, past);
     }
@@ -101,13 +101,13 @@ both_end-returns t c =
     on_ok_weaker c.truth.result
     (λ h. emits_both names c.args.here.now.at.line (view_resolved_expression c.args.right.now)
     c.in_ok-not_both.not_both c.in_ok-end.end _ _ _ _ _ _
-    c.in_ok-not_both.ensures c.in_ok-end.ensures c.in_ok-put.ensures c.in_ok-value.ensures h)
+    c.in_ok-not_both.ensures c.in_ok-end.ensures c.in_ok-put_jump.ensures c.in_ok-value.ensures h)
     (c.truth.ensures names)
 
 pub either_end-define-requires : goal.either_end-define-requires
 either_end-define-requires t c =
     let l = c.in_ok-next.next in
-    free_put_all l _ _ _ _ c.in_ok-put_all.ensures
+    free_put_all l _ _ _ _ c.in_ok-one_unless_zero.ensures
     (free_fresh l _ _ _ c.in_ok-end.ensures (free_fresh l _ _ _ c.in_ok-neither.ensures
     (free_new l _ _ c.in_ok-next.ensures)))
 
@@ -121,12 +121,12 @@ either_end-truth-requires t c =
     record {
       otherwise = free_part f _ _ _ c.in_ok-value.ensures
           (free_define f n _ _ (λ same. omega (arith, c.in_ok-next.ensures.is, c.in_ok-neither.ensures.is, past, same))
-          c.define.ensures (free_put_all f _ _ _ _ c.in_ok-put_all.ensures
+          c.define.ensures (free_put_all f _ _ _ _ c.in_ok-one_unless_zero.ensures
           (free_fresh f _ _ _ c.in_ok-end.ensures (free_new f _ _ c.in_ok-neither.ensures))));
       over = free_part e _ _ _ c.in_ok-value.ensures
           (free_define e n _ _ (λ same. omega
           (arith, c.in_ok-next.ensures.is, c.in_ok-end.ensures.is, past, beyond, same))
-          c.define.ensures (free_put_all e _ _ _ _ c.in_ok-put_all.ensures (free_new e _ _ c.in_ok-end.ensures)));
+          c.define.ensures (free_put_all e _ _ _ _ c.in_ok-one_unless_zero.ensures (free_new e _ _ c.in_ok-end.ensures)));
       apart = omega (arith, c.in_ok-neither.ensures.is, c.in_ok-end.ensures.is, beyond);
     }
 
@@ -136,7 +136,7 @@ either_end-returns t c =
     on_ok_weaker c.truth.result
     (λ h. emits_either names c.args.here.now.at.line (view_resolved_expression c.args.right.now)
     c.in_ok-next.next c.in_ok-neither.neither c.in_ok-end.end _ _ _ _ _ _ _ _
-    c.in_ok-next.ensures c.in_ok-neither.ensures c.in_ok-end.ensures c.in_ok-put_all.ensures c.define.ensures
+    c.in_ok-next.ensures c.in_ok-neither.ensures c.in_ok-end.ensures c.in_ok-one_unless_zero.ensures c.define.ensures
     c.in_ok-value.ensures h)
     (c.truth.ensures names)
 
@@ -308,8 +308,8 @@ value-returns-in_ok-value-in-Binary t c =
 pub value-define-requires : goal.value-define-requires
 value-define-requires t c =
     let l = c.in_ok-otherwise-in-Conditional.otherwise in
-    free_put l _ _ _ _ c.in_ok-put-in-Conditional-2.ensures (free_part l _ _ _ c.in_ok-value-in-Conditional-2.ensures
-    (free_put l _ _ _ _ c.in_ok-put-in-Conditional.ensures (free_part l _ _ _ c.in_ok-value-in-Conditional.ensures
+    free_put l _ _ _ _ c.in_ok-put_jump-in-Conditional-2.ensures (free_part l _ _ _ c.in_ok-value-in-Conditional-2.ensures
+    (free_put l _ _ _ _ c.in_ok-put_jump-in-Conditional.ensures (free_part l _ _ _ c.in_ok-value-in-Conditional.ensures
     (free_fresh l _ _ _ c.in_ok-end-in-Conditional.ensures
     (free_new l _ _ c.in_ok-otherwise-in-Conditional.ensures)))))
 
@@ -326,8 +326,8 @@ value-define-requires-in-Conditional t c =
       past,
       same,
     )) c.define.ensures
-    (free_put l _ _ _ _ c.in_ok-put-in-Conditional-2.ensures (free_part l _ _ _ c.in_ok-value-in-Conditional-2.ensures
-    (free_put l _ _ _ _ c.in_ok-put-in-Conditional.ensures (free_part l _ _ _ c.in_ok-value-in-Conditional.ensures
+    (free_put l _ _ _ _ c.in_ok-put_jump-in-Conditional-2.ensures (free_part l _ _ _ c.in_ok-value-in-Conditional-2.ensures
+    (free_put l _ _ _ _ c.in_ok-put_jump-in-Conditional.ensures (free_part l _ _ _ c.in_ok-value-in-Conditional.ensures
     (free_new l _ _ c.in_ok-end-in-Conditional.ensures))))))
 
 pub value-returns-in_ok-value-in-Conditional-3 : goal.value-returns-in_ok-value-in-Conditional-3
@@ -354,8 +354,8 @@ value-returns-in_ok-value-in-Conditional-3 t c =
     (view_resolved_expression d)
     c.in_ok-otherwise-in-Conditional.otherwise c.in_ok-end-in-Conditional.end _ _ _ _ _ _ _ _ _ _
     c.in_ok-otherwise-in-Conditional.ensures c.in_ok-end-in-Conditional.ensures c.in_ok-value-in-Conditional.ensures
-    c.in_ok-put-in-Conditional.ensures
-    c.in_ok-value-in-Conditional-2.ensures c.in_ok-put-in-Conditional-2.ensures c.define.ensures
+    c.in_ok-put_jump-in-Conditional.ensures
+    c.in_ok-value-in-Conditional-2.ensures c.in_ok-put_jump-in-Conditional-2.ensures c.define.ensures
     c.in_ok-value-in-Conditional-3.ensures
     c.define-in-Conditional.ensures)
 
