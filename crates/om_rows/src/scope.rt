@@ -1,4 +1,4 @@
-//! Scopes of names in a body, before the slots of its variables are known.
+//! Scopes of names in a body, before the slots of its variables are known and all of its code is written.
 
 use om_seq::Seq;
 
@@ -12,7 +12,7 @@ pub struct VariableScope {
     /// How many elements the variable has, where it is an array.
     pub length: Option<u32>,
     /// The place of the first instruction in the stretch.
-    pub from: u32,
+    pub from: usize,
     /// The place behind the last one; that of the first one while the scope is open.
-    pub to: u32,
+    pub to: usize,
 }

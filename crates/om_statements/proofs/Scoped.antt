@@ -102,9 +102,9 @@ module _ (names : Numbered) where
   team_stands l (Shared v) from a b x y here same w =
       subst (λ z. Stand (λ at. plain end) a x b z) (sym same) (stand_plain names (λ at. end) a b x w)
   team_stands l (Copied copies.Private v copy) from a b x y here begun w =
-      stand_opens_at names 0 None copy (λ at. end) a b x y (subst (λ p. BeginsScope p None copy x y) here begun) w
+      stand_opens_at names 0 None copy (λ at. end) a b x y (omega arith) (subst (λ p. BeginsScope p None copy x y) here begun) w
   team_stands l (Copied copies.Firstprivate v copy) from a b x y here begun w =
-      stand_opens_at names 0 None copy (λ at. end) a b x y (subst (λ p. BeginsScope p None copy x y) here begun) w
+      stand_opens_at names 0 None copy (λ at. end) a b x y (omega arith) (subst (λ p. BeginsScope p None copy x y) here begun) w
   team_stands l (Copied (copies.Reduction o) v copy) from a b x y here begun w =
       stand_opens names from None copy (λ at. clause_reduction_start at l (Copied (copies.Reduction o) v copy)) a b x y
       here begun w
@@ -116,7 +116,7 @@ module _ (names : Numbered) where
   task_stands (Shared v) a x y same =
       subst (λ z. Stand (λ at. plain end) a x a z) (sym same) (stand_plain names (λ at. end) a a x (goes_end 0 a).writes)
   task_stands (Copied kind v copy) a x y begun =
-      stand_opens_at names 0 None copy (λ at. end) a a x y begun (goes_end 0 a).writes
+      stand_opens_at names 0 None copy (λ at. end) a a x y (omega arith) begun (goes_end 0 a).writes
 
   -- ---- begins
 

@@ -47,7 +47,7 @@ pub record OpensParts (names : Numbered) (head : PartHead) (spot : PartsSpot) (o
   pub below : spot.over < spot.first
   pub over : slice_get new.places spot.over ≡ Some None
   pub free : AreFree spot.first head.count new
-  pub fit : spot.first + head.count ≤ 2 ^ 32
+  pub fit : spot.first + head.count ≤ 2 ^ 64
 
 -- ---- the parts
 

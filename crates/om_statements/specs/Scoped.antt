@@ -1,5 +1,5 @@
 -- What is promised of the scopes of names in code that is written.
-use Rattle.std.specs.Prelude.{◌≡◌, ℕ, List, [], ◌∷◌, ◌++◌, OnOk, Option, None, Result, drop, length, map, reverse, take}
+use Rattle.std.specs.Prelude.{◌≡◌, ◌≤◌, ℕ, All, List, [], ◌∷◌, ◌++◌, OnOk, Option, None, Result, drop, length, map, reverse, take}
 use Rattle.om_emit.specs.Drafts.{Labels, Written}
 use Rattle.om_emit.specs.declared.here.Here.{Here}
 use Rattle.om_emit.specs.Emits.{Finished, Fits, Grows, names_at, site}
@@ -40,6 +40,14 @@ pub record EndsLast (to : ℕ) (old new : ScopeStack) : Type 0 where
   pub opened : old.opened.items ≡ new.opened.items ++ last ∷ []
   pub closed : new.closed.items ≡ old.closed.items ++ closed_at to last ∷ []
 
+-- a scope begins and ends at places up to this one
+pub record IsInside (place : ℕ) (v : VariableScope) : Type 0 where
+  pub from : v.from ≤ place
+  pub to : v.to ≤ place
+
+abbrev pub AreInside : (place : ℕ) → List VariableScope → Type 0
+AreInside place scopes = All (IsInside place) scopes
+
 -- scopes begin and end in code that is written: whatever finished program agrees with it, they are those of
 -- this row
 pub record ScopesStand (names : Numbered) (row : Site → Scoping) (a : Written) (x : ScopeStack) (b : Written)
@@ -47,6 +55,8 @@ pub record ScopesStand (names : Numbered) (row : Site → Scoping) (a : Written)
   pub found : Found
   pub opened : y.opened.items ≡ x.opened.items ++ found.opened
   pub closed : y.closed.items ≡ x.closed.items ++ found.closed
+  pub begun : AreInside (length b.code) found.opened
+  pub ended : AreInside (length b.code) found.closed
   pub grows : Grows a b
   pub stands : (done : Finished) (at : Labels) → Fits done at (length a.code) b
       → row (site names done) (length a.code) (length b.code) found

@@ -1,8 +1,9 @@
 -- How the scopes of stretches are written one behind the other.
-use Rattle.std.proofs.Common.{◌≡◌, ℕ, ◌+◌, ◌<◌, ◌≤◌, List, [], ◌∷◌, ◌++◌, Option, length, map, drop, take, refl, sym, ap, subst, ◌∙◌}
+use Rattle.std.proofs.Common.{◌≡◌, ℕ, suc, ◌+◌, ◌<◌, ◌≤◌, List, [], ◌∷◌, ◌++◌, Option, length, map, drop, take, refl, sym, ap, subst, ◌∙◌}
 use Rattle.std.proofs.Common.{arith, length-append}
 use Rattle.std.specs.Prelude.{reverse}
-use Rattle.std.proofs.lemmas.List.{append_assoc, append-nil}
+use Rattle.std.proofs.lemmas.List.{append_assoc, append-nil, reverse-append}
+use Rattle.std.proofs.lemmas.List.Elements.{All-append, All-cons, All-map, All-nil, All-weaker}
 use Rattle.std.proofs.Math.Seq.{drop-append_seam, take-append_seam}
 use Rattle.om_code.specs.declared.instruction.Instr.{Instr}
 use Rattle.om_emit.specs.Drafts.{Labels, Written, Defines, Fresh, Puts, moved}
@@ -10,11 +11,12 @@ use Rattle.om_emit.specs.Emits.{Finished, Part, Writes, site}
 use Rattle.om_emit.specs.Writing.{fits_back, fits_from, goes_end, goes_fresh, goes_here, goes_put, grows_on}
 use Rattle.om_resolved.specs.declared.resolved.LocalVariable.{LocalVariable}
 use Rattle.om_rows.specs.Rows.{Site, Row, end, ins, part, here}
+use Rattle.om_rows.specs.declared.scope.VariableScope.{VariableScope}
 use Rattle.om_rows.specs.Scopes.{Found, nothing, opening, ◌then◌, ending, closed_at, opened_with, Scoping, plain, after}
 use Rattle.om_rows.specs.Scopes.{before, both, each_scope, opens_at, opens, block, instructions}
 use Rattle.om_statements.specs.declared.writing.ScopeStack.{ScopeStack}
 use Rattle.om_statements.specs.Going.{writes_then}
-use Rattle.om_statements.specs.Scoped.{BeginsScope, EndsScopes, ScopesStand}
+use Rattle.om_statements.specs.Scoped.{AreInside, BeginsScope, EndsScopes, IsInside, ScopesStand}
 use Rattle.om_rows.specs.Numbered.{Numbered}
 
 -- ---- code
@@ -50,6 +52,29 @@ writes_before r a b c w g =
     writes_as (λ done at. part (r done at) end) r a c (λ done at p q x. subst (λ z. r done at p z) x.2 x.1)
     (writes_then r (λ done at. end) a b c w g)
 
+-- ---- where scopes begin and end
+
+pub inside_more : (m n : ℕ) (vs : List VariableScope) → m ≤ n → AreInside m vs → AreInside n vs
+inside_more m n vs le h =
+    All-weaker (IsInside m) (IsInside n) (λ v i. record {
+      from = omega (arith, le, i.from);
+      to = omega (arith, le, i.to);
+    }) vs h
+
+reverse_inside : (n : ℕ) (vs : List VariableScope) → AreInside n vs → AreInside n (reverse vs)
+reverse_inside n [] h = h
+reverse_inside n (v ∷ vs) h =
+    subst (AreInside n) (sym (reverse-append (v ∷ []) vs))
+    (All-append (IsInside n) (reverse vs) (v ∷ []) (reverse_inside n vs (λ k d lt. h (suc k) d (omega arith)))
+    (All-cons (IsInside n) v [] (h 0 v (omega arith)) (All-nil (IsInside n))))
+
+closed_inside : (n : ℕ) (vs : List VariableScope) → AreInside n vs
+    → AreInside n (map (closed_at n) (reverse vs))
+closed_inside n vs h =
+    All-map (IsInside n) (closed_at n) (reverse vs)
+    (All-weaker (IsInside n) (λ v. IsInside n (closed_at n v)) (λ v i. record { from = i.from; to = omega arith })
+    (reverse vs) (reverse_inside n vs h))
+
 -- ---- scopes
 
 module _ (names : Numbered) where
@@ -66,6 +91,8 @@ module _ (names : Numbered) where
     found = h.found;
     opened = h.opened;
     closed = h.closed;
+    begun = h.begun;
+    ended = h.ended;
     grows = h.grows;
     stands = λ done at fits. f (site names done) _ _ h.found (h.stands done at fits);
   }
@@ -77,6 +104,8 @@ module _ (names : Numbered) where
     found = nothing;
     opened = sym (append-nil x.opened.items);
     closed = sym (append-nil x.closed.items);
+    begun = All-nil (IsInside (length b.code));
+    ended = All-nil (IsInside (length b.code));
     grows = w.grows;
     stands = λ done at fits. (w.stands done at fits, refl);
   }
@@ -87,6 +116,8 @@ module _ (names : Numbered) where
     found = h.found;
     opened = h.opened;
     closed = h.closed;
+    begun = h.begun;
+    ended = h.ended;
     grows = grows_on a b c w.grows h.grows;
     stands = λ done at fits. (
       length b.code,
@@ -101,6 +132,8 @@ module _ (names : Numbered) where
     found = h.found;
     opened = h.opened;
     closed = h.closed;
+    begun = inside_more (length b.code) (length c.code) h.found.opened w.grows.longer h.begun;
+    ended = inside_more (length b.code) (length c.code) h.found.closed w.grows.longer h.ended;
     grows = grows_on a b c h.grows w.grows;
     stands = λ done at fits. (
       length b.code,
@@ -118,6 +151,10 @@ module _ (names : Numbered) where
     found = h.found then g.found;
     opened = grown _ _ _ _ _ h.opened g.opened;
     closed = grown _ _ _ _ _ h.closed g.closed;
+    begun = All-append (IsInside (length c.code)) h.found.opened g.found.opened
+        (inside_more (length b.code) (length c.code) h.found.opened g.grows.longer h.begun) g.begun;
+    ended = All-append (IsInside (length c.code)) h.found.closed g.found.closed
+        (inside_more (length b.code) (length c.code) h.found.closed g.grows.longer h.ended) g.ended;
     grows = grows_on a b c h.grows g.grows;
     stands = λ done at fits. (
       length b.code,
@@ -144,12 +181,17 @@ module _ (names : Numbered) where
 
   -- a scope begins
   pub stand_opens_at : (from : ℕ) (length' : Option ℕ) (variable : LocalVariable) (row : Site → Row) (a b : Written)
-      (x y : ScopeStack) → BeginsScope from length' variable x y → Codes row a b
+      (x y : ScopeStack) → from ≤ length a.code → BeginsScope from length' variable x y → Codes row a b
       → Stand (λ at. opens_at from length' variable (row at)) a x b y
-  stand_opens_at from length' variable row a b x y h w = record {
+  stand_opens_at from length' variable row a b x y early h w = record {
     found = opening (opened_with length' from variable ∷ []);
     opened = h.opened;
     closed = h.closed ∙ sym (append-nil x.closed.items);
+    begun = All-cons (IsInside (length b.code)) (opened_with length' from variable) [] (record {
+      from = omega (arith, early, w.grows.longer);
+      to = omega (arith, early, w.grows.longer);
+    }) (All-nil (IsInside (length b.code)));
+    ended = All-nil (IsInside (length b.code));
     grows = w.grows;
     stands = λ done at fits. (w.stands done at fits, refl);
   }
@@ -158,12 +200,14 @@ module _ (names : Numbered) where
       (x y : ScopeStack) → from ≡ length a.code → BeginsScope from length' variable x y → Codes row a b
       → Stand (λ at. opens length' variable (row at)) a x b y
   stand_opens from length' variable row a b x y here h w =
-      let moved = stand_opens_at (length a.code) length' variable row a b x y
+      let moved = stand_opens_at (length a.code) length' variable row a b x y (omega arith)
       (subst (λ p. BeginsScope p length' variable x y) here h) w in
       record {
         found = moved.found;
         opened = moved.opened;
         closed = moved.closed;
+        begun = moved.begun;
+        ended = moved.ended;
         grows = moved.grows;
         stands = moved.stands;
       }
@@ -180,6 +224,9 @@ module _ (names : Numbered) where
         (reverse (drop (length x.opened.items) y.opened.items))) h.closed
         ∙ append_assoc x.closed.items h.found.closed _
         ∙ ap (λ xs. x.closed.items ++ (h.found.closed ++ map (closed_at (length b.code)) (reverse xs))) since;
+    begun = All-nil (IsInside (length b.code));
+    ended = All-append (IsInside (length b.code)) h.found.closed _ h.ended
+        (closed_inside (length b.code) h.found.opened h.begun);
     grows = h.grows;
     stands = λ done at fits. (h.found, h.stands done at fits, refl);
   }

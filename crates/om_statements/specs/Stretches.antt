@@ -1,5 +1,5 @@
 -- Stretches of rows: what stands before the statement of a form, and what stands behind it.
-use Rattle.std.specs.Prelude.{◌≡◌, ◌≤◌, ◌<◌, ℕ, ◌+◌, pos, List, Option, Some, None, Bool, false, IfOk, IfSome, length}
+use Rattle.std.specs.Prelude.{◌≡◌, ◌≤◌, ◌<◌, ℕ, List, Option, Some, None, Bool, false, IfOk, IfSome, length}
 use Rattle.std.specs.Prelude.{OnOk, Result, option_map, slice_get}
 use Rattle.om_code.specs.declared.instruction.Instr.TheVariants as i
 use Rattle.om_code.specs.declared.instruction.Comparison.{Comparison}

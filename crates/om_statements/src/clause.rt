@@ -42,7 +42,7 @@ fn set_identity(
         draft.new }
 {
     let identity = identity_of(operator);
-    draft.put(here.at.line, identity)?;
+    draft.put(here.at.line, Instr::Constant(identity))?;
     store(draft, here, Variable::Local(copy.at), false)?;
     Ok(())
 }
@@ -92,7 +92,7 @@ fn begin_copy(draft: &mut Draft, here: &Here<'_>, clause: &ResolvedClause) -> Do
 }
 
 /// Begins the scope of the copy that a clause makes, if it makes one, at this place.
-fn begin_scope(scopes: &mut ScopeStack, from: u32, clause: &ResolvedClause) -> Done
+fn begin_scope(scopes: &mut ScopeStack, from: usize, clause: &ResolvedClause) -> Done
     ensures { OnOk result
         (BeginsCopy from (view_resolved_clause clause.now) scopes.old scopes.new) }
 {
@@ -148,7 +148,7 @@ fn begin_reduction(draft: &mut Draft, here: &Here<'_>, clause: &ResolvedClause) 
 
 /// Where the scope of a region's copy begins: that of a reduction at its start, which is at this place,
 /// and that of another one with the body.
-fn team_from(place: u32, clause: &ResolvedClause) -> u32
+fn team_from(place: usize, clause: &ResolvedClause) -> usize
     ensures { result ≡ team_from place (view_resolved_clause clause.now) }
 {
     let ResolvedClause::Copied { kind, .. } = clause else {

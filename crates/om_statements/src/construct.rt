@@ -13,7 +13,7 @@ use crate::barrier::worksharing_end;
 use crate::clause::{clause_value, starts};
 use crate::writing::Writing;
 use om_code::Instr;
-use om_emit::draft::Draft;
+use om_emit::draft::{Draft, Jump};
 use om_emit::{Done, Here, value};
 use om_resolved::{ConstructKind, ResolvedClause};
 use std::alloc::AllocError;
@@ -41,7 +41,7 @@ pub fn begin_construct(
     here: &Here<'_>,
     kind: &ConstructKind,
     clauses: &[ResolvedClause],
-) -> Result<u32, AllocError>
+) -> Result<usize, AllocError>
     requires { BeginHasCode kind.now (map view_resolved_clause clauses.now) }
     ensures code { let begin = construct_begin (names_at here.now) here.now.at.line kind.now
         (map view_resolved_clause clauses.now) in
@@ -54,12 +54,12 @@ pub fn begin_construct(
     let label = writing.draft.fresh()?;
     match kind {
         ConstructKind::Single { .. } => {
-            writing.draft.put(line, Instr::Single(label))?;
+            writing.draft.put_jump(line, Jump::Single, label)?;
             starts(writing, here, clauses)?;
         }
         ConstructKind::Masked => {
             filter(&mut writing.draft, here, clauses)?;
-            writing.draft.put(line, Instr::Masked(label))?;
+            writing.draft.put_jump(line, Jump::Masked, label)?;
         }
         ConstructKind::Critical { name } => {
             let lock = here.tables.lock_number(name);
@@ -73,7 +73,7 @@ pub fn begin_construct(
 }
 
 /// Writes the end of a construct that is no `atomic`.
-pub fn end_construct(draft: &mut Draft, here: &Here<'_>, kind: &ConstructKind, label: u32) -> Done
+pub fn end_construct(draft: &mut Draft, here: &Here<'_>, kind: &ConstructKind, label: usize) -> Done
     requires free { slice_get draft.old.places label ≡ Some None }
     requires kind { IsNoAtomic kind.now }
     ensures { AppendsEnd result here.now label (λ names l. construct_end names l kind.now) label

@@ -1,6 +1,7 @@
 //! Declarations, tests, and what leaves a function.
 
 ghost use Rattle.std.specs.Prelude.{◌≡◌, All, IfSome, OnOk, map, option_map};
+ghost use Rattle.om_emit.specs.Drafts.{HasNoTarget};
 ghost use Rattle.om_emit.specs.Emits.{Appends, names_at};
 ghost use Rattle.om_resolved.specs.ResolvedView.{view_resolved_declarator, view_resolved_expression, view_resolved_start};
 ghost use Rattle.om_rows.specs.Coded.{DeclaratorHasCode, EffectHasCode, StartHasCode, ValueHasCode};
@@ -13,7 +14,7 @@ ghost use Rattle.om_statements.specs.Stretches.{EmitsPerhapsTest, EmitsTest};
 
 use crate::writing::Writing;
 use om_code::Instr;
-use om_emit::draft::Draft;
+use om_emit::draft::{Draft, Jump};
 use om_emit::{Done, Here, effect, store, value};
 use om_resolved::{ResolvedDeclarator, ResolvedExpression, ResolvedStart, Variable};
 
@@ -92,14 +93,14 @@ pub fn test(
     draft: &mut Draft,
     here: &Here<'_>,
     condition: &ResolvedExpression,
-    otherwise: u32,
+    otherwise: usize,
 ) -> Done
     requires { ValueHasCode (view_resolved_expression condition.now) }
     ensures { OnOk result (EmitsTest (names_at here.now) here.now.at.line otherwise
         (view_resolved_expression condition.now) draft.old draft.new) }
 {
     value(draft, here, condition)?;
-    draft.put(here.at.line, Instr::JumpIfZero(otherwise))?;
+    draft.put_jump(here.at.line, Jump::IfZero, otherwise)?;
     Ok(())
 }
 
@@ -108,7 +109,7 @@ pub fn perhaps_test(
     draft: &mut Draft,
     here: &Here<'_>,
     condition: &Option<ResolvedExpression>,
-    otherwise: u32,
+    otherwise: usize,
 ) -> Done
     requires { IfSome (option_map view_resolved_expression condition.now) ValueHasCode }
     ensures { OnOk result (EmitsPerhapsTest (names_at here.now) here.now.at.line otherwise
@@ -160,7 +161,8 @@ pub fn returned(draft: &mut Draft, here: &Here<'_>, answer: &Option<ResolvedExpr
 
 /// What ends the frame of a function, with a value or without.
 pub fn last_instruction(is_main: bool, has_value: bool) -> Instr
-    ensures { result ≡ rows.last_instruction is_main has_value }
+    ensures last { result ≡ rows.last_instruction is_main has_value }
+    ensures plain { HasNoTarget result }
 {
     if is_main {
         Instr::Finish { has_value }

@@ -4,9 +4,8 @@ ghost use Rattle.std.specs.Prelude.{◌≡◌, OnOk, Some, is_some, true};
 ghost use Rattle.om_statements.specs.Stretches.{EmitsJump};
 
 use crate::labels::JumpLabels;
-use om_code::Instr;
 use om_emit::Done;
-use om_emit::draft::Draft;
+use om_emit::draft::{Draft, Jump};
 
 /// Writes a `break` (C17 6.8.6.3).
 pub fn leave_loop(draft: &mut Draft, line: u32, jumps: JumpLabels) -> Done
@@ -25,13 +24,13 @@ pub fn go_on(draft: &mut Draft, line: u32, jumps: JumpLabels) -> Done
 }
 
 /// Writes a jump to a label that is there (C17 6.8.6.2, 6.8.6.3).
-fn jump(draft: &mut Draft, line: u32, label: Option<u32>) -> Done
+fn jump(draft: &mut Draft, line: u32, label: Option<usize>) -> Done
     requires { is_some label ≡ true }
     ensures { OnOk result (EmitsJump line label draft.old draft.new) }
 {
     let Some(label) = label else {
         unreachable!();
     };
-    draft.put(line, Instr::Jump(label))?;
+    draft.put_jump(line, Jump::Always, label)?;
     Ok(())
 }

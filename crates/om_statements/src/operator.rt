@@ -1,11 +1,9 @@
 //! The operators, comparisons and schedules of the language as those of instructions.
 
 ghost use Rattle.std.specs.Prelude.{◌≡◌};
-ghost use Rattle.om_code.specs.declared.instruction.Instr.TheVariants as i;
 ghost use Rattle.om_resolved.specs.ResolvedView.{view_resolved_loop};
 ghost use Rattle.om_rows.specs.Operators.{comparison_of, form_with, identity_of, reduction_of, schedule_in, schedule_of, side_of, update_of};
 
-use om_code::Instr;
 use om_code::instruction::{AtomicOperator, Comparison, LoopForm, Reduction, Schedule};
 use om_pragma::{ReductionOperator, ScheduleKind};
 use om_resolved::{ResolvedLoop, ResolvedSchedule, Side, UpdateOperator};
@@ -23,15 +21,15 @@ pub(crate) fn reduction_of(operator: ReductionOperator) -> Reduction
     }
 }
 
-/// Pushes what the copies of a reduction begin with (OpenMP API 5.2, section 5.5.3).
-pub(crate) fn identity_of(operator: ReductionOperator) -> Instr
-    ensures { result ≡ i.Constant (identity_of operator) }
+/// What the copies of a reduction begin with (OpenMP API 5.2, section 5.5.3).
+pub(crate) fn identity_of(operator: ReductionOperator) -> i32
+    ensures { result ≡ identity_of operator }
 {
     match operator {
-        ReductionOperator::Add => Instr::Constant(0),
-        ReductionOperator::Multiply => Instr::Constant(1),
-        ReductionOperator::Max => Instr::Constant(i32::MIN),
-        ReductionOperator::Min => Instr::Constant(i32::MAX),
+        ReductionOperator::Add => 0,
+        ReductionOperator::Multiply => 1,
+        ReductionOperator::Max => i32::MIN,
+        ReductionOperator::Min => i32::MAX,
     }
 }
 

@@ -13,8 +13,7 @@ ghost use Rattle.om_statements.specs.Stretches.{do_begin, do_end, for_begin, for
 use crate::declaration::{perhaps_effect, perhaps_test, start, test};
 use crate::labels::{LoopLabels, TurnLabels};
 use crate::writing::Writing;
-use om_code::Instr;
-use om_emit::draft::Draft;
+use om_emit::draft::{Draft, Jump};
 use om_emit::{Done, Here};
 use om_resolved::{ResolvedExpression, ResolvedStart};
 use std::alloc::AllocError;
@@ -42,7 +41,7 @@ pub fn end_loop(draft: &mut Draft, line: u32, labels: LoopLabels) -> Done
     ensures { OnOk result
         ((names : Numbered) → Ends labels.over (loop_end names line labels) draft.old draft.new) }
 {
-    draft.put(line, Instr::Jump(labels.again))?;
+    draft.put_jump(line, Jump::Always, labels.again)?;
     draft.define(labels.over);
     Ok(())
 }

@@ -28,11 +28,11 @@ pub struct PartsSpot {
     /// The numbers of the next body and of the next list of PICK.
     pub numbers: Numbers,
     /// The label at which the next part is taken.
-    pub again: u32,
+    pub again: usize,
     /// The label behind all parts.
-    pub over: u32,
+    pub over: usize,
     /// The label of the first part. Those of the others follow it.
-    pub first: u32,
+    pub first: usize,
 }
 
 /// Writes what stands before the parts of a `sections` (OpenMP API 5.2, section 11.3), and makes the

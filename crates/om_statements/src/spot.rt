@@ -15,7 +15,7 @@ pub struct Spot {
 
 impl Spot {
     /// With these labels for `break` and `continue`.
-    fn with(numbers: Numbers, over: Option<u32>, next: Option<u32>) -> Spot
+    fn with(numbers: Numbers, over: Option<usize>, next: Option<usize>) -> Spot
         ensures { result ≡ record { numbers = numbers; jumps = record { over = over; next = next } } }
     {
         let jumps = JumpLabels { over, next };
@@ -31,7 +31,7 @@ impl Spot {
     }
 
     /// In a loop.
-    pub fn in_loop(numbers: Numbers, over: u32, next: u32) -> Spot
+    pub fn in_loop(numbers: Numbers, over: usize, next: usize) -> Spot
         ensures { result
             ≡ record { numbers = numbers; jumps = record { over = Some over; next = Some next } } }
     {
@@ -39,7 +39,7 @@ impl Spot {
     }
 
     /// In the body of a worksharing loop, which no `break` leaves.
-    pub fn in_iteration(numbers: Numbers, next: u32) -> Spot
+    pub fn in_iteration(numbers: Numbers, next: usize) -> Spot
         ensures { result
             ≡ record { numbers = numbers; jumps = record { over = None; next = Some next } } }
     {

@@ -25,7 +25,7 @@ use crate::sections::{PartsSpot, SectionsHead, begin_parts};
 use crate::spot::Spot;
 use crate::worksharing::{begin_worksharing, end_worksharing};
 use crate::writing::Writing;
-use om_code::Instr;
+use om_emit::draft::Jump;
 use om_emit::{Here, effect};
 use om_resolved::{ConstructKind, ResolvedHead, ResolvedPart, ResolvedStatement};
 use om_rows::{BodyTables, Numbers, Region};
@@ -337,7 +337,7 @@ pub fn parts(
     requires ends { HasPartsEnds (known_in tables.now) (numbers_of spot.numbers)
         (trees.parts (map view_resolved_part sections.now)) }
     requires free { AreFree spot.first (length sections.now) writing.old.draft }
-    requires fit { spot.first + length sections.now ≤ 2 ^ 32 }
+    requires fit { spot.first + length sections.now ≤ 2 ^ 64 }
     ensures behind { let all = trees.parts (map view_resolved_part sections.now) in
         IfOk result (λ after. numbers_of after ≡ rows.behind_parts (numbers_of spot.numbers) all) }
     ensures emitted { let all = trees.parts (map view_resolved_part sections.now) in
@@ -350,13 +350,13 @@ pub fn parts(
 {
     let mut numbers = spot.numbers;
     for (index, section) in sections.iter().enumerate() {
-        writing.draft.define(spot.first + index as u32);
+        writing.draft.define(spot.first + index);
         let inside = Spot::outside(numbers);
         let height = writing.scopes.height();
         let after = statements(alloc, writing, tables, inside, section.items.as_slice())?;
         let to = writing.draft.place();
         writing.scopes.end(height, to)?;
-        writing.draft.put(spot.line, Instr::Jump(spot.again))?;
+        writing.draft.put_jump(spot.line, Jump::Always, spot.again)?;
         numbers = after;
     }
     Ok(numbers)

@@ -15,7 +15,7 @@ use crate::labels::LoopLabels;
 use crate::operator::{comparison_of, form_with};
 use crate::writing::Writing;
 use om_code::Instr;
-use om_emit::draft::Draft;
+use om_emit::draft::{Draft, Jump};
 use om_emit::{Done, Here, value};
 use om_resolved::{ResolvedClause, ResolvedLoop};
 use std::alloc::AllocError;
@@ -82,11 +82,10 @@ pub fn begin_worksharing(
     let draft = &mut writing.draft;
     draft.put(line, Instr::Loop(form_with(repeated, comparison)))?;
     draft.define(chunk);
-    draft.put(line, Instr::Grab(over))?;
+    draft.put_jump(line, Jump::Grab, over)?;
     draft.define(again);
     let slot = here.tables.slot(&repeated.variable);
-    let otherwise = chunk;
-    draft.put(line, Instr::Iterate { slot, otherwise })?;
+    draft.put_jump(line, Jump::Iterate { slot }, chunk)?;
     Ok(LoopLabels { again, over })
 }
 
@@ -111,7 +110,7 @@ pub fn begin_sections(
     let draft = &mut writing.draft;
     draft.put(line, Instr::Sections(parts.count))?;
     draft.define(again);
-    draft.put(line, Instr::Grab(over))?;
+    draft.put_jump(line, Jump::Grab, over)?;
     draft.put(line, Instr::Pick(parts.number))?;
     Ok(LoopLabels { again, over })
 }

@@ -57,7 +57,7 @@ impl ScopeStack {
     /// Begins the scope of a variable at this place. Its only error is out of memory.
     pub fn begin(
         &mut self,
-        from: u32,
+        from: usize,
         length: Option<u32>,
         variable: &LocalVariable,
     ) -> Result<(), AllocError>
@@ -76,7 +76,7 @@ impl ScopeStack {
 
     /// Ends all scopes but the first `height` of those that have begun, the last one first, at this
     /// place. Its only error is out of memory.
-    pub fn end(&mut self, height: usize, to: u32) -> Result<(), AllocError>
+    pub fn end(&mut self, height: usize, to: usize) -> Result<(), AllocError>
         ensures { OnOk result
             (height ≤ length self.old.opened.items → EndsScopes height to self.old self.new) }
     {
@@ -87,7 +87,7 @@ impl ScopeStack {
     }
 
     /// Ends the last scope that has begun, if there is one.
-    fn end_last(&mut self, to: u32) -> Result<(), AllocError>
+    fn end_last(&mut self, to: usize) -> Result<(), AllocError>
         ensures { OnOk result (0 < length self.old.opened.items → EndsLast to self.old self.new) }
     {
         let Some(opened) = self.opened.pop() else {
@@ -99,7 +99,7 @@ impl ScopeStack {
 }
 
 /// A scope that ends at this place.
-fn closed_at(opened: VariableScope, to: u32) -> VariableScope
+fn closed_at(opened: VariableScope, to: usize) -> VariableScope
     ensures { result ≡ closed_at to opened }
 {
     VariableScope { to, ..opened }

@@ -1,4 +1,4 @@
-use Rattle.std.proofs.Common.{◌+◌, None, drop}
+use Rattle.std.proofs.Common.{◌+◌, None, arith, drop}
 use Rattle.std.proofs.lemmas.List.{drop_all}
 use Rattle.om_emit.specs.Writing.{goes_end}
 use Rattle.om_rows.specs.Rows.{end}
@@ -16,7 +16,7 @@ loop-variable-preserved c = λ names d.
     (left_one c.args.variables.now c.loop-variable.variable-index c.variable-item.result
     c.loop-variable-test.true c.variable-item.is)
     (c.loop-variable.invariant names d)
-    (stand_opens_at names 0 None c.variable-item.result (λ at. end) d d _ _ c.in_ok-begin.ensures (goes_end 0 d).writes)
+    (stand_opens_at names 0 None c.variable-item.result (λ at. end) d d _ _ (omega arith) c.in_ok-begin.ensures (goes_end 0 d).writes)
 
 pub returns : goal.returns
 returns c = λ names d.

@@ -9,13 +9,13 @@ use Rattle.om_statements.proofs.construct.begin_construct.Goals as goal
 
 pub returns-in_ok-starts-in-Single-clause-code : goal.returns-in_ok-starts-in-Single-clause-code
 returns-in_ok-starts-in-Single-clause-code c = rw c.in-Single.is (begins _ _ _ _ _ c.in_ok-label.ensures
-    (emits_put_then (names_at c.args.here.now) _ _ _ _ _ _ c.in_ok-put-in-Single.ensures
+    (emits_put_then (names_at c.args.here.now) _ _ _ _ _ _ c.in_ok-put_jump-in-Single.ensures
     c.in_ok-starts-in-Single.ensures.code))
 
-pub returns-in_ok-put-in-Masked-clause-code : goal.returns-in_ok-put-in-Masked-clause-code
-returns-in_ok-put-in-Masked-clause-code c = rw c.in-Masked.is (begins _ _ _ _ _ c.in_ok-label.ensures
+pub returns-in_ok-put_jump-in-Masked-clause-code : goal.returns-in_ok-put_jump-in-Masked-clause-code
+returns-in_ok-put_jump-in-Masked-clause-code c = rw c.in-Masked.is (begins _ _ _ _ _ c.in_ok-label.ensures
     (emits_then_one (names_at c.args.here.now) _ _ _ _ _ _ c.in_ok-filter-in-Masked.ensures
-    c.in_ok-put-in-Masked.ensures))
+    c.in_ok-put_jump-in-Masked.ensures))
 
 pub returns-in_ok-put-in-Critical-2-clause-code : goal.returns-in_ok-put-in-Critical-2-clause-code
 returns-in_ok-put-in-Critical-2-clause-code c = rw c.in-Critical.is (begins _ _ _ _ _ c.in_ok-label.ensures
@@ -30,12 +30,12 @@ returns-in_ok-put-in-Taskgroup-clause-code c = rw c.in-Taskgroup.is (begins _ _ 
 pub returns-in_ok-starts-in-Single-clause-scopes : goal.returns-in_ok-starts-in-Single-clause-scopes
 returns-in_ok-starts-in-Single-clause-scopes c = rw c.in-Single.is (single_begins (names_at c.args.here.now)
     c.args.here.now.at.line c.in-Single.nowait (map view_resolved_clause c.args.clauses.now) _ _ _ _ _ _ _ _ c.in_ok-label.ensures
-    c.in_ok-put-in-Single.ensures c.in_ok-starts-in-Single.ensures.scopes)
+    c.in_ok-put_jump-in-Single.ensures c.in_ok-starts-in-Single.ensures.scopes)
 
-pub returns-in_ok-put-in-Masked-clause-scopes : goal.returns-in_ok-put-in-Masked-clause-scopes
-returns-in_ok-put-in-Masked-clause-scopes c = rw c.in-Masked.is (masked_begins (names_at c.args.here.now)
+pub returns-in_ok-put_jump-in-Masked-clause-scopes : goal.returns-in_ok-put_jump-in-Masked-clause-scopes
+returns-in_ok-put_jump-in-Masked-clause-scopes c = rw c.in-Masked.is (masked_begins (names_at c.args.here.now)
     c.args.here.now.at.line (map view_resolved_clause c.args.clauses.now) _ _ _ _ _ _ _ c.in_ok-label.ensures
-    c.in_ok-filter-in-Masked.ensures c.in_ok-put-in-Masked.ensures)
+    c.in_ok-filter-in-Masked.ensures c.in_ok-put_jump-in-Masked.ensures)
 
 pub returns-in_ok-put-in-Critical-2-clause-scopes : goal.returns-in_ok-put-in-Critical-2-clause-scopes
 returns-in_ok-put-in-Critical-2-clause-scopes c = rw c.in-Critical.is (critical_begins (names_at c.args.here.now)

@@ -7,10 +7,10 @@ use Rattle.om_statements.proofs.declaration.returned.Goals as goal
 
 pub returns-in_ok-put-in-None : goal.returns-in_ok-put-in-None
 returns-in_ok-put-in-None c = rw c.in-None.is
-    (returned_none (names_at c.args.here.now) _ _ _ _ _ (c.last_instruction-last.ensures
+    (returned_none (names_at c.args.here.now) _ _ _ _ _ (c.last_instruction-last.ensures.last
     ∙ ap (λ m. last_instruction m false) c.is_main-is_main.ensures) c.in_ok-put-in-None.ensures)
 
 pub returns-in_ok-put-in-Some : goal.returns-in_ok-put-in-Some
 returns-in_ok-put-in-Some c = rw c.in-Some.is
-    (returned_some (names_at c.args.here.now) _ _ _ (view_resolved_expression c.in-Some.answer) _ _ _ (c.last_instruction-last-in-Some.ensures
+    (returned_some (names_at c.args.here.now) _ _ _ (view_resolved_expression c.in-Some.answer) _ _ _ (c.last_instruction-last-in-Some.ensures.last
     ∙ ap (λ m. last_instruction m true) c.is_main-is_main.ensures) c.in_ok-value-in-Some.ensures c.in_ok-put-in-Some.ensures)

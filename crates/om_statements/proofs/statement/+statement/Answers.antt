@@ -454,7 +454,7 @@ parts-loop-index-preserved t c =
     (omega arith) (omega arith) c.define.ensures
     (items_are (numbered_by c.args.tables.now) _ _ _ items _ _ c.outside-inside.ensures c.as_slice.ensures.value
     c.in_ok-after.ensures.emitted)
-    c.in_ok-put.ensures c.loop-index.invariant.0 c.loop-index.invariant.1
+    c.in_ok-put_jump.ensures c.loop-index.invariant.0 c.loop-index.invariant.1
     (subst (λ n. AreFree label n c.loop-index.writing.draft) left c.loop-index.invariant.2) c.loop-index.invariant.3 in (
       written.0,
       written.1,
@@ -465,7 +465,7 @@ parts-loop-index-preserved t c =
           (part_stands (numbered_by c.args.tables.now) c.args.spot.line _ _ seen _ _ _ _ _ _ _ _ _ c.height-height.ensures
           c.place-to.ensures c.define.ensures
           (item_scopes_are (numbered_by c.args.tables.now) _ _ _ _ _ _ c.as_slice.ensures.value
-          c.in_ok-after.ensures.scopes) c.in_ok-end.ensures c.in_ok-put.ensures),
+          c.in_ok-after.ensures.scopes) c.in_ok-end.ensures c.in_ok-put_jump.ensures),
     )
 
 pub parts-returns-clause-emitted : goal.parts-returns-clause-emitted
@@ -483,7 +483,7 @@ statement-parts-requires t c =
     c.in-Sections.sections c.in-Sections.is c.as_slice-in-Sections-3.ensures.value opened.numbers c.requires.code
     c.requires.ends in
     let free = subst (λ n. AreFree c.in_ok-inside-in-Sections.inside.first n c.begin_parts.new.writing.draft) same opened.free in
-    let fit = subst (λ n. c.in_ok-inside-in-Sections.inside.first + n ≤ 2 ^ 32) same opened.fit in
+    let fit = subst (λ n. c.in_ok-inside-in-Sections.inside.first + n ≤ 2 ^ 64) same opened.fit in
     (omega (arith, part.0, c.decreases), (part.1, (part.2, (free, fit))))
 
 pub statement-returns-in_ok-end-in-Sections-clause-emitted :

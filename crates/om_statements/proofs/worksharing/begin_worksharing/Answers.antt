@@ -11,13 +11,13 @@ pub returns-clause-code : goal.returns-clause-code
 returns-clause-code c = begins_worksharing (names_at c.args.here.now) _ _ (view_resolved_loop c.args.repeated.now) _
     _ _ _ _ _ _ _ _ _ _ _ _ _ (sym c.comparison_of.ensures ∙ c.in-Some.is) (λ done. sym c.slot-slot.ensures)
     c.in_ok-chunk.ensures c.in_ok-again.ensures c.in_ok-over.ensures c.in_ok-bounds.ensures.code
-    (puts_is _ _ _ _ _ (ap i.Loop c.form_with.ensures) c.in_ok-put.ensures) c.define.ensures c.in_ok-put-2.ensures
-    c.define-2.ensures c.in_ok-put-3.ensures
+    (puts_is _ _ _ _ _ (ap i.Loop c.form_with.ensures) c.in_ok-put.ensures) c.define.ensures c.in_ok-put_jump.ensures
+    c.define-2.ensures c.in_ok-put_jump-2.ensures
 
 pub returns-clause-scopes : goal.returns-clause-scopes
 returns-clause-scopes c =
     loop_begins (names_at c.args.here.now) c.args.here.now.at.line (map view_resolved_clause c.args.clauses.now)
     (view_resolved_loop c.args.repeated.now) _ _ _ _ _ _ _ _ _ _ _ _ _ _ _ _ _ _ _ _
     c.in_ok-chunk.ensures c.in_ok-again.ensures c.in_ok-over.ensures c.in_ok-bounds.ensures.scopes c.place-from.ensures
-    c.in_ok-begin.ensures c.in_ok-put.ensures c.define.ensures c.in_ok-put-2.ensures c.define-2.ensures
-    c.in_ok-put-3.ensures
+    c.in_ok-begin.ensures c.in_ok-put.ensures c.define.ensures c.in_ok-put_jump.ensures c.define-2.ensures
+    c.in_ok-put_jump-2.ensures
