@@ -74,23 +74,21 @@ fn push_in_team(
 fn push_before_cell(text: &mut Vec<u8>, name: &[u8]) -> Result<(), AllocError>
     ensures { OnOk result (text.new.items ≡ text.old.items ++ before_cell name.now) }
 {
-    match name {
-        [] => Ok(()),
-        [_, ..] => {
-            push_escaped(text, name)?;
-            text.extend_from_slice(b" (")
-        }
-    }
+    let [_, ..] = name else {
+        return Ok(());
+    };
+    push_escaped(text, name)?;
+    text.extend_from_slice(b" (")
 }
 
 /// Appends what stands behind it.
 fn push_behind_cell(text: &mut Vec<u8>, name: &[u8]) -> Result<(), AllocError>
     ensures { OnOk result (text.new.items ≡ text.old.items ++ behind_cell name.now) }
 {
-    match name {
-        [] => Ok(()),
-        [_, ..] => text.extend_from_slice(b")"),
-    }
+    let [_, ..] = name else {
+        return Ok(());
+    };
+    text.extend_from_slice(b")")
 }
 
 /// Appends the words for a cell of a local variable.

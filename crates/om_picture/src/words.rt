@@ -128,12 +128,12 @@ fn push_instruction(
     if let Some(place) = place_of(instruction) {
         return push_place(value, program, frame, place, plan);
     }
-    match instruction {
-        Instr::AskCritical(lock) | Instr::EnterCritical(lock) | Instr::LeaveCritical(lock) => {
-            push_lock(value, program, lock)
-        }
-        _ => Ok(()),
-    }
+    let (Instr::AskCritical(lock) | Instr::EnterCritical(lock) | Instr::LeaveCritical(lock)) =
+        instruction
+    else {
+        return Ok(());
+    };
+    push_lock(value, program, lock)
 }
 
 /// Appends the name of a critical region, where it has one.

@@ -29,10 +29,10 @@ impl Block {
 
     // The worker whose next steps it is, if it is such a block.
     pub(crate) fn stepper(&self) -> Option<u8> {
-        match self {
-            Block::Steps { worker, .. } => Some(*worker),
-            Block::Start { .. } => None,
-        }
+        let Block::Steps { worker, .. } = self else {
+            return None;
+        };
+        Some(*worker)
     }
 }
 

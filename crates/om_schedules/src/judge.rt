@@ -58,10 +58,10 @@ impl Wanted {
     pub fn copy(&self) -> Result<Option<Vec<u8>>, AllocError>
         ensures { IfOk result (λ text. text_in text ≡ text_in self.now.text) }
     {
-        match &self.text {
-            Some(text) => Ok(Some(text.clone()?)),
-            None => Ok(None),
-        }
+        let Some(text) = &self.text else {
+            return Ok(None);
+        };
+        Ok(Some(text.clone()?))
     }
 
     /// What is bad about where a machine stands, if something is: a fault, else the output of a program that

@@ -105,10 +105,10 @@ fn push_outputs(text: &mut Vec<u8>, found: &Found, by_run: bool) -> Result<(), A
 {
     text.extend_from_slice(b"printed ")?;
     push_quoted(text, found.output.as_slice())?;
-    match &found.wanted {
-        Some(wanted) => push_wanted(text, wanted.as_slice(), by_run),
-        None => Ok(()),
-    }
+    let Some(wanted) = &found.wanted else {
+        return Ok(());
+    };
+    push_wanted(text, wanted.as_slice(), by_run)
 }
 
 fn push_wanted(text: &mut Vec<u8>, wanted: &[u8], by_run: bool) -> Result<(), AllocError>

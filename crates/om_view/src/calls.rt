@@ -28,10 +28,12 @@ pub(crate) fn call(alloc: Global, book: &mut Book, command: &Command) -> Result<
     requires room { records_of book.old < 200000 }
     ensures { OnOk result (book.new ≡ with_call book.old command.now) }
 {
-    match book.call(alloc, SEAT, command) {
-        Ok(()) => Ok(()),
-        Err(CallError::OutOfMemory) => Err(AllocError),
-        Err(CallError::Full) => unreachable!(),
+    let Err(error) = book.call(alloc, SEAT, command) else {
+        return Ok(());
+    };
+    match error {
+        CallError::OutOfMemory => Err(AllocError),
+        CallError::Full => unreachable!(),
     }
 }
 
@@ -41,10 +43,12 @@ pub(crate) fn undo(alloc: Global, book: &mut Book, worker: u8) -> Result<(), All
     requires room { records_of book.old < 200000 }
     ensures { OnOk result (book.new ≡ with_call book.old (Command.Undo worker)) }
 {
-    match book.undo(alloc, SEAT, worker) {
-        Ok(()) => Ok(()),
-        Err(CallError::OutOfMemory) => Err(AllocError),
-        Err(CallError::Full) => unreachable!(),
+    let Err(error) = book.undo(alloc, SEAT, worker) else {
+        return Ok(());
+    };
+    match error {
+        CallError::OutOfMemory => Err(AllocError),
+        CallError::Full => unreachable!(),
     }
 }
 

@@ -5,8 +5,6 @@ ghost use Rattle.std.specs.Prelude.{◌<◌, ◌≤◌};
 
 mod meter;
 mod subcommands;
-#[cfg(test)]
-mod tests;
 
 use crate::subcommands::{Host, Search, check, draw, explain, hunt, keep};
 use om_parser::STACK_SIZE;

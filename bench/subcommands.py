@@ -1,0 +1,129 @@
+#!/usr/bin/env python3
+"""subcommands.py LAB: each subcommand of the program `omplab` but `draw` over a source, and what it writes.
+
+LAB is the program `omplab`. Each row says what is tried; the last line counts the rows, and the status is 1 where one of them
+is wrong. What is wanted was written by hand from docs/, but for the numbers of seeds, which only the generator gives.
+The run that is stored in crates/omplab draws a session, and pages.py nine more.
+"""
+import os, subprocess, sys, tempfile
+
+# Two threads add to one variable, and nothing orders them.
+RACE = r"""#include <stdio.h>
+int x;
+int main(void)
+{
+#pragma omp parallel
+    x = x + 1;
+    printf("%d\n", x);
+}
+"""
+
+# Commands by which one of the two additions is lost, and an undo that is refused.
+LOST = "step 0\nstep 0\nstep 1\nstep 0\nstep 1\nnext 0\nnext 1\nundo 0\n"
+
+ANSWERS = """#4 worker 0 line 6
+blocked B1
+break 6
+no break 6
+ran 9 break 6 worker 0
+ran 2 watch x worker 1
+refused by #11 worker 1 on global x
+output 2 bytes
+1
+
+x = 1
+#"""
+
+NOTED = """#4 worker 0 line 6 | x = x + 1;
+blocked B1 | it waits at a barrier: step the other threads, and begin what `tasks` lists
+break 6 | x = x + 1;
+no break 6
+ran 9 break 6 worker 0 | x = x + 1;
+ran 2 watch x worker 1 | the value has changed: the last line of `history` is the step that did it, and `print` has the value
+refused by #11 worker 1 on global x | a global variable
+output 2 bytes
+1
+
+x = 1
+#"""
+
+SCRIPT = "step 0\nstep 0\nstep 1\nstep 0\nstep 1\nstep 0\nstep 0\nstep 0\nstep 1\nstep 1\nstep 1\n"
+
+CONE = "#5 worker 1 line 6\n#8 worker 0 line 6\n#9 worker 1 line 6\n#10 worker 1 line 6\n#11 worker 1 line 6\n"
+
+SHORTENED = """shortened to 2 blocks: 1 of worker 0, 2 of worker 1, then `run`
+
+step 0
+step 1
+step 1
+run 100000
+output
+"""
+
+FAULT = """run: fault F4 of worker 0 in line 4
+shortened to 0 blocks: then `run`
+
+run 100000
+output
+"""
+
+LEFT_OUT = """a.c:3:2: error: S3: 'static' is left out of this C
+ 3 | \tstatic int x;
+   | \t^~~~~~
+help: leave it out; a variable of a function becomes a global
+"""
+
+THREE = "int main(void)\n{\n#pragma omp parallel num_threads(3)\n    ;\n}\n"
+STATIC = "int main(void)\n{\n\tstatic int x;\n}\n"
+ON_A_LINE = "int f(int y) { return y; } int main(void) { int x; x = 1; }\n"
+FAULTY = "int main(void)\n{\n    int x;\n    return x;\n}\n"
+ENDLESS = "int main(void){ while (1) ; }"
+HUNT = ["hunt", "--seeds", "20", "--steps", "1000"]
+
+# What is tried, its words, its source, its input, the status and the text that are wanted.
+ROWS = [
+    ("a source is accepted", ["check"], RACE, "", 0, "a.c: accepted\n"),
+    ("a team is smaller than asked for", ["check"], THREE, "", 0, "a.c: accepted\na.c:3:22: note: with --threads 2 this team has at most 2\n"),
+    ("a source is refused", ["check"], STATIC, "", 1, LEFT_OUT),
+    ("the steps of a session are kept", ["script"], RACE, LOST, 0, SCRIPT),
+    ("a cone is listed", ["script", "--cone", "5"], RACE, LOST, 0, CONE),
+    ("words stand behind answers", ["notes"], RACE, ANSWERS, 0, NOTED),
+    ("no function is named where two stand on a line", ["notes"], ON_A_LINE, "refused by #3 worker 1 on cell 0/0/0/0\n", 0, "refused by #3 worker 1 on cell 0/0/0/0 | x\n"),
+    ("a lost update is found", [*HUNT, "--expect", "2\\n"], RACE, "", 1, 'seed 5: printed "1\\n", wanted "2\\n"\n' + SHORTENED),
+    ("what `run` prints is told", HUNT, RACE, "", 1, 'seed 5: printed "1\\n", where `run` prints "2\\n"\n' + SHORTENED),
+    ("the line of a fault is told", ["hunt", "--seeds", "1", "--steps", "10"], FAULTY, "", 1, FAULT),
+]
+
+# The same, where the beginning of the text is wanted.
+BEGUN = [
+    ("nothing was compared", ["hunt", "--seeds", "1", "--steps", "10"], ENDLESS, "", 0, "`run` came to no end, so no output was compared: say by"),
+]
+
+
+def written(lab, folder, words, source, text):
+    """The status, and what is written to standard output and to standard error."""
+    with open(os.path.join(folder, "a.c"), "w", newline="") as f:
+        f.write(source)
+    done = subprocess.run([lab, words[0], *words[1:], "a.c"], cwd=folder, input=text.encode(), capture_output=True, timeout=60)
+    return done.returncode, done.stdout.decode(), done.stderr.decode()
+
+
+def is_as_wanted(lab, folder, row, is_begun):
+    title, words, source, text, status, wanted = row
+    got_status, got, fault = written(lab, folder, words, source, text)
+    is_right = got_status == status and fault == "" and (got.startswith(wanted) if is_begun else got == wanted)
+    print(f"{title}: {'as it is wanted' if is_right else f'WRONG, status {got_status}, {got!r}, {fault!r}'}")
+    return is_right
+
+
+def main():
+    if len(sys.argv) != 2:
+        sys.exit(__doc__)
+    lab = os.path.abspath(sys.argv[1])
+    with tempfile.TemporaryDirectory() as folder:
+        right = [is_as_wanted(lab, folder, row, False) for row in ROWS] + [is_as_wanted(lab, folder, row, True) for row in BEGUN]
+    print(f"{len(right)} rows, {right.count(False)} wrong")
+    sys.exit(0 if all(right) else 1)
+
+
+main()
