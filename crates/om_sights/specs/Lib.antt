@@ -2,3 +2,4 @@ pub mod Sighted
 pub mod Noted
 pub mod Regions
 pub mod Sites
+pub mod Room
