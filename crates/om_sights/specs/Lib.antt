@@ -3,3 +3,4 @@ pub mod Noted
 pub mod Regions
 pub mod Sites
 pub mod Room
+pub mod Weighed
