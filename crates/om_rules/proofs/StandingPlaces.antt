@@ -13,7 +13,7 @@ use Rattle.om_resolved.specs.declared.resolved.LocalVariable.{LocalVariable}
 
 module _ (source : List ℕ) where
   -- tokens in order end where the source does, or before
-  within : (from : ℕ) (ts : List Token) → AreInOrder source from ts → from ≤ length source
+  pub within : (from : ℕ) (ts : List Token) → AreInOrder source from ts → from ≤ length source
   unfolding AreInOrder
   within from [] order = order
   within from (t ∷ ts) order =

@@ -38,7 +38,7 @@ head_among h =
     (before places (parameters_spelling given_name h.parameters) _ (parameters_among h.parameters))))
 
 -- the tokens of a list of statements
-spelled : (items : List StatementTree) → statements_spelling (statements items) ≡ flat_map statement_spelling items
+pub spelled : (items : List StatementTree) → statements_spelling (statements items) ≡ flat_map statement_spelling items
 unfolding statements_spelling
 spelled [] = refl
 spelled (s ∷ rest) = ap (λ ts. statement_spelling s ++ ts) (spelled rest)

@@ -25,5 +25,6 @@ pub mod WholeLaws
 pub mod Behind
 pub mod TreePlaces
 pub mod PlaceLaws
+pub mod WeightLaws
 pub mod LoopViews
 pub mod UpdateViews

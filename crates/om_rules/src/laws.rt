@@ -3,6 +3,7 @@
 
 ghost use Rattle.om_rules.specs.PlaceLaws.{CopiesStandBehind, NamesStandBehind};
 ghost use Rattle.om_rules.specs.PlaceLaws.{PlacesHaveTokens, PlacesRise, PlacesStandThere, SourcesHaveCopiesBehind};
+ghost use Rattle.om_rules.specs.WeightLaws.{SourcesHaveSmallWeight};
 ghost use Rattle.om_rules.specs.WholeLaws.{AtomicsAssign, NumbersNameGlobals, UnbrokenExpressionsAreWhole};
 ghost use Rattle.om_rules.specs.WholeLaws.{UnbrokenStatementsAreWhole, UnbrokenTreesAreResolved};
 ghost use Rattle.om_rules.specs.WholeLaws.{UnbrokenTreesAreWhole, UnbrokenTreesResolve};
@@ -78,6 +79,14 @@ pub fn places_stand_in_order()
     ensures rise { PlacesRise }
     ensures stand { PlacesStandThere }
     ensures at_tokens { PlacesHaveTokens }
+{
+    tokens_in_order();
+}
+
+/// In the resolution of a source so few parts get a number when it is lowered that 32 bits are enough
+/// for it: each of them has a token of its own.
+pub fn sources_have_small_weight()
+    ensures { SourcesHaveSmallWeight }
 {
     tokens_in_order();
 }
