@@ -1,6 +1,6 @@
 -- The numbers behind each body of a program, in the order of the bodies, and what is known of bodies by their
 -- numbers.
-use Rattle.std.specs.Prelude.{◌≡◌, ◌≤◌, ℕ, List, [], ◌∷◌, ◌++◌, Some, length, slice_get}
+use Rattle.std.specs.Prelude.{◌≡◌, ◌<◌, ◌≤◌, ℕ, List, [], ◌∷◌, ◌++◌, Some, length, slice_get}
 use Rattle.om_resolved.specs.ResolvedTree.{ResolvedStatementTree, Declaration, Block, Empty, Expression, If, IfElse}
 use Rattle.om_resolved.specs.ResolvedTree.{While, Do, For, Return, Break, Continue, Parallel, Task, Loop, Sections}
 use Rattle.om_resolved.specs.ResolvedTree.{Construct, Update, StandAlone, ResolvedStatementsTree, NoStatements}
@@ -64,7 +64,8 @@ pub record IsKnown (known : KnownBodies) (body : ℕ) (numbers : Numbers) (varia
   pub slots : slice_get known.slots body ≡ Some variables
   pub few : length variables ≤ 256
 
--- each region in a part of a body is known; the regions in it are bodies of their own
+-- each region in a part of a body is known, and behind each list of PICK there is a number of 32 bits; the
+-- regions in a region are bodies of their own
 abbrev mutual
   pub HasEnds : (known : KnownBodies) → Numbers → ResolvedStatementTree → Type 0
   HasEnds known n (Declaration at ds) = Unit {0}
@@ -84,7 +85,8 @@ abbrev mutual
   HasEnds known n (Task at clauses captures s) =
       IsKnown known n.bodies (behind (next_body n) s) (region_variables clauses s)
   HasEnds known n (Loop at clauses nowait l s) = HasEnds known n s
-  HasEnds known n (Sections at clauses nowait parts) = HasPartsEnds known (next_pick n) parts
+  HasEnds known n (Sections at clauses nowait parts) =
+      (n.picks < 4294967295) × HasPartsEnds known (next_pick n) parts
   HasEnds known n (Construct at kind clauses s) = HasEnds known n s
   HasEnds known n (Update at u) = Unit {0}
   HasEnds known n (StandAlone at directive) = Unit {0}

@@ -1,10 +1,8 @@
 //! The numbers of bodies and of lists of PICK.
 
-ghost use Rattle.std.specs.Prelude.{◌≡◌, IfOk};
+ghost use Rattle.std.specs.Prelude.{◌≡◌, ◌<◌};
 ghost use Rattle.om_rows.specs.Bodies as bodies;
 ghost use Rattle.om_rows.specs.Numbering.{numbers_of};
-
-use std::alloc::AllocError;
 
 /// The numbers that the next body, and the next list of PICK, get.
 #[derive(Clone, Copy)]
@@ -24,29 +22,25 @@ impl Numbers {
         }
     }
 
-    /// Behind one more body. There is no memory for 2^32 of them.
-    pub fn next_body(self) -> Result<Numbers, AllocError>
-        ensures { IfOk result (λ next. numbers_of next ≡ bodies.next_body (numbers_of self)) }
+    /// Behind one more body.
+    pub fn next_body(self) -> Numbers
+        requires { self.bodies < 4294967295 }
+        ensures { numbers_of result ≡ bodies.next_body (numbers_of self) }
     {
-        let Some(bodies) = self.bodies.checked_add(1) else {
-            return Err(AllocError);
-        };
-        Ok(Numbers {
-            bodies,
+        Numbers {
+            bodies: self.bodies + 1,
             picks: self.picks,
-        })
+        }
     }
 
-    /// Behind one more list of PICK. There is no memory for 2^32 of them.
-    pub fn next_pick(self) -> Result<Numbers, AllocError>
-        ensures { IfOk result (λ next. numbers_of next ≡ bodies.next_pick (numbers_of self)) }
+    /// Behind one more list of PICK.
+    pub fn next_pick(self) -> Numbers
+        requires { self.picks < 4294967295 }
+        ensures { numbers_of result ≡ bodies.next_pick (numbers_of self) }
     {
-        let Some(picks) = self.picks.checked_add(1) else {
-            return Err(AllocError);
-        };
-        Ok(Numbers {
+        Numbers {
             bodies: self.bodies,
-            picks,
-        })
+            picks: self.picks + 1,
+        }
     }
 }

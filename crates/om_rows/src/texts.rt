@@ -1,15 +1,12 @@
 //! Texts by numbers: formats, and names of critical regions.
 
-ghost use Rattle.std.specs.Prelude.{◌≡◌, ◌≤◌, [], OnOk, length, option_map, slice_get};
+ghost use Rattle.std.specs.Prelude.{◌≡◌, ◌<◌, ◌≤◌, [], OnOk, length, option_map, slice_get};
 ghost use Rattle.std.specs.Str.{bytes_eq};
 ghost use Rattle.om_rows.specs.Tables.{number_in, with_sight};
 
 use std::alloc::{AllocError, Global};
 use std::collections::BTreeMap;
 use std::marker::Model;
-
-/// How many texts have numbers of 32 bits, the number behind all of them included.
-const TEXT_LIMIT: usize = 0xffff_ffff;
 
 /// Texts, each once. Contracts see them in the order of their numbers, which count from 0.
 #[derive(Drop)]
@@ -65,15 +62,13 @@ impl Texts {
         number.unwrap_or(self.texts.len()) as u32
     }
 
-    /// Gives a text the next number, unless it has one. There is no memory for 2^32 of them.
+    /// Gives a text the next number, unless it has one. The number behind all of them has 32 bits too.
     pub fn note(&mut self, alloc: Global, text: &[u8]) -> Result<(), AllocError>
+        requires { length self.old < 4294967295 }
         ensures { OnOk result (self.new ≡ with_sight bytes_eq self.old text.now) }
     {
         if self.numbers.contains_key(text) {
             return Ok(());
-        }
-        if self.texts.len() >= TEXT_LIMIT {
-            return Err(AllocError);
         }
         self.texts.reserve(1)?;
         let key = Vec::from_slice(alloc, text)?;

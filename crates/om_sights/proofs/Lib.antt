@@ -3,3 +3,6 @@ pub mod Copied
 pub mod Noting
 pub mod Ending
 pub mod SiteBodies
+pub mod Noted
+pub mod Rooms
+pub mod Weights

@@ -10,9 +10,10 @@ use Rattle.om_sights.specs.declared.sites.Site.{Site}
 use Rattle.om_sights.specs.Sites.{IsRound, KeepsRound, bodies_in, body_in, body_round, innermost, part_tree}
 use Rattle.om_sights.specs.Sites.{AddsBodies, IsOpen, function_of, round_behind, round_with, site_variables}
 use Rattle.om_sights.specs.Sites.{variables_at}
-use Rattle.om_resolved.specs.ResolvedTree.{ResolvedStatementTree}
+use Rattle.om_resolved.specs.ResolvedTree.{ResolvedFunctionTree, ResolvedPartsTree, ResolvedStatementTree, IfElse}
+use Rattle.om_resolved.specs.ResolvedTree.{ResolvedStatementsTree, Part, Statement}
 use Rattle.om_resolved.specs.ResolvedView.{view_resolved_function}
-use Rattle.om_rows.specs.Bodies.{BodySite, Numbers, regions}
+use Rattle.om_rows.specs.Bodies.{BodySite, Numbers, all_regions, behind, behind_all, parts_regions, regions}
 use Rattle.om_rows.specs.Numbering.{numbers_of}
 
 -- ---- lists
@@ -163,3 +164,45 @@ region_added old pushed new round site n s same open_at deep is added =
           ∙ ap (λ m. bodies_in [] old ++ numbered outer site n ∷ regions f all m s) is,
       kept_outer old pushed new round.depth site.depth deep kept added.1,
     )
+
+-- ---- bodies that have been added, one part behind the other
+
+pub two_added : (round : Site) (first second : List BodySite) (old mid new : List Site)
+    → AddsBodies round first old mid → AddsBodies round second mid new → AddsBodies round (first ++ second) old new
+two_added round first second old mid new one other = (
+  other.0 ∙ ap (λ bodies. bodies ++ second) one.0 ∙ append_assoc (bodies_in [] old) first second,
+  kept_then old mid new round.depth one.1 other.1,
+)
+
+-- what is left to add, behind what has been added, is all
+pub left_added : (round : Site) (first rest left all : List BodySite) (old mid new : List Site)
+    → left ≡ first ++ rest → AddsBodies round first mid new
+    → bodies_in [] mid ++ left ≡ bodies_in [] old ++ all → KeepsRound round.depth old mid
+    → (bodies_in [] new ++ rest ≡ bodies_in [] old ++ all) × KeepsRound round.depth old new
+left_added round first rest left all old mid new here added is kept = (
+  ap (λ bodies. bodies ++ rest) added.0 ∙ append_assoc (bodies_in [] mid) first rest
+      ∙ ap (λ bodies. bodies_in [] mid ++ bodies) (sym here) ∙ is,
+  kept_then old mid new round.depth kept added.1,
+)
+
+pub if_else_regions : (f : ResolvedFunctionTree) (outer : List ℕ) (n m : Numbers) (tree : ResolvedStatementTree)
+    (at : _) (c : _) (s : _) (t : _) → tree ≡ IfElse at c s t → m ≡ behind n s
+    → regions f outer n tree ≡ regions f outer n s ++ regions f outer m t
+unfolding regions
+if_else_regions f outer n m tree at c s t is next =
+    ap (λ x. regions f outer n x) is ∙ ap (λ k. regions f outer n s ++ regions f outer k t) (sym next)
+
+pub items_regions : (f : ResolvedFunctionTree) (outer : List ℕ) (n m : Numbers) (left rest : ResolvedStatementsTree)
+    (s : ResolvedStatementTree) → left ≡ Statement s rest → m ≡ behind n s
+    → all_regions f outer n left ≡ regions f outer n s ++ all_regions f outer m rest
+unfolding all_regions
+items_regions f outer n m left rest s is next =
+    ap (λ x. all_regions f outer n x) is ∙ ap (λ k. regions f outer n s ++ all_regions f outer k rest) (sym next)
+
+pub part_regions : (f : ResolvedFunctionTree) (outer : List ℕ) (n m : Numbers) (left rest : ResolvedPartsTree)
+    (items : ResolvedStatementsTree) → left ≡ Part items rest → m ≡ behind_all n items
+    → parts_regions f outer n left ≡ all_regions f outer n items ++ parts_regions f outer m rest
+unfolding parts_regions
+part_regions f outer n m left rest items is next =
+    ap (λ x. parts_regions f outer n x) is
+    ∙ ap (λ k. all_regions f outer n items ++ parts_regions f outer k rest) (sym next)

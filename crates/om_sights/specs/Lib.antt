@@ -2,3 +2,5 @@ pub mod Sighted
 pub mod Noted
 pub mod Regions
 pub mod Sites
+pub mod Room
+pub mod Weighed

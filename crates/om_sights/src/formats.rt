@@ -1,10 +1,12 @@
 //! The formats of `printf` in an expression.
 
-ghost use Rattle.std.specs.Prelude.{◌≡◌, OnOk, map};
+ghost use Rattle.std.specs.Prelude.{◌≡◌, OnOk, length, map};
 ghost use Rattle.om_resolved.specs.ResolvedTree as trees;
 ghost use Rattle.om_resolved.specs.ResolvedView.{view_resolved_expression};
+ghost use Rattle.om_resolved.specs.Weights.{expression_weight, values_weight};
 ghost use Rattle.om_rows.specs.Mentions.{expression_formats, values_formats};
 ghost use Rattle.om_sights.specs.Noted.{noted};
+ghost use Rattle.om_sights.specs.Room.{IsRoomFor};
 
 use om_resolved::ResolvedExpression;
 use om_rows::Texts;
@@ -18,6 +20,7 @@ pub(crate) fn note_expression(
     alloc: Global,
     expression: &ResolvedExpression,
 ) -> Result<(), AllocError>
+    requires room { IsRoomFor (expression_weight (view_resolved_expression expression.now)) (length formats.old) }
     ensures { let tree = view_resolved_expression expression.now in
         OnOk result (formats.new ≡ noted formats.old (expression_formats tree)) }
 {
@@ -66,6 +69,8 @@ fn note_values(
     alloc: Global,
     values: &[ResolvedExpression],
 ) -> Result<(), AllocError>
+    requires room { let tree = trees.values (map view_resolved_expression values.now) in
+        IsRoomFor (values_weight tree) (length formats.old) }
     ensures { let tree = trees.values (map view_resolved_expression values.now) in
         OnOk result (formats.new ≡ noted formats.old (values_formats tree)) }
 {

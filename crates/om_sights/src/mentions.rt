@@ -1,16 +1,18 @@
 //! What a program mentions, its regions too: formats, names of critical regions, declared variables. The same walk
 //! numbers the regions.
 
-ghost use Rattle.std.specs.Prelude.{◌≡◌, ◌<◌, ◌++◌, OnOk, length, map, option_map, set};
+ghost use Rattle.std.specs.Prelude.{◌≡◌, ◌<◌, ◌+◌, ◌++◌, OnOk, length, map, option_map, set, sum};
 ghost use Rattle.std.specs.List.{flat_map};
 ghost use Rattle.om_resolved.specs.ResolvedTree as trees;
 ghost use Rattle.om_resolved.specs.ResolvedView.{view_resolved_clause, view_resolved_declarator, view_resolved_expression, view_resolved_loop, view_resolved_part, view_resolved_start, view_resolved_statement, view_resolved_update};
+ghost use Rattle.om_resolved.specs.Weights.{clause_weight, declarator_weight, expression_weight, loop_weight, parts_weight, perhaps_weight, start_weight, statement_weight, statements_weight, update_weight};
 ghost use Rattle.om_rows.specs.Mentions.{all_mentioned, clause_mentioned, declarator_mentioned, loop_mentioned, mentioned, parts_mentioned, perhaps_mentioned, start_mentioned, update_mentioned};
 ghost use Rattle.om_rows.specs.Slots.{cells_of_length};
 ghost use Rattle.om_rows.specs.Bodies as bodies;
 ghost use Rattle.om_rows.specs.Ends.{all_region_ends, body_ends, parts_region_ends, region_ends};
 ghost use Rattle.om_rows.specs.Numbering.{numbers_of};
 ghost use Rattle.om_sights.specs.Noted.{AreNoted};
+ghost use Rattle.om_sights.specs.Room.{HasRoom, HasTextRoom};
 
 use crate::formats::note_expression;
 use om_resolved::{
@@ -43,7 +45,9 @@ pub(crate) struct Walk {
 }
 
 /// Notes the formats of an expression.
+#[tactic(auto, unfolding(crate::specs::Room::IsRoomFor))]
 fn note_value(found: &mut Mentions, value: &ResolvedExpression) -> Result<(), AllocError>
+    requires room { HasTextRoom (expression_weight (view_resolved_expression value.now)) found.old }
     ensures { let tree = view_resolved_expression value.now in
         OnOk result (AreNoted (λ A m. m.in_expression tree) found.old found.new) }
 {
@@ -55,6 +59,8 @@ fn note_perhaps(
     found: &mut Mentions,
     expression: &Option<ResolvedExpression>,
 ) -> Result<(), AllocError>
+    requires room { let tree = option_map view_resolved_expression expression.now in
+        HasTextRoom (perhaps_weight tree) found.old }
     ensures { let tree = option_map view_resolved_expression expression.now in
         OnOk result (AreNoted (λ A m. perhaps_mentioned m tree) found.old found.new) }
 {
@@ -72,10 +78,13 @@ fn cells_of(length: Option<u32>) -> u32
 }
 
 /// Notes declared variables.
+#[tactic(auto, unfolding(crate::specs::Room::IsRoomFor))]
 fn note_declarators(
     found: &mut Mentions,
     declarators: &[ResolvedDeclarator],
 ) -> Result<(), AllocError>
+    requires room { let tree = map view_resolved_declarator declarators.now in
+        HasTextRoom (sum (map declarator_weight tree)) found.old }
     ensures { let tree = map view_resolved_declarator declarators.now in
         OnOk result (AreNoted (λ A m. flat_map (declarator_mentioned m) tree) found.old found.new) }
 {
@@ -89,6 +98,7 @@ fn note_declarators(
 
 /// Notes the beginning of a `for`.
 fn note_start(found: &mut Mentions, start: &ResolvedStart) -> Result<(), AllocError>
+    requires room { HasTextRoom (start_weight (view_resolved_start start.now)) found.old }
     ensures { let tree = view_resolved_start start.now in
         OnOk result (AreNoted (λ A m. start_mentioned m tree) found.old found.new) }
 {
@@ -101,6 +111,7 @@ fn note_start(found: &mut Mentions, start: &ResolvedStart) -> Result<(), AllocEr
 
 /// Notes a clause.
 fn note_clause(found: &mut Mentions, clause: &ResolvedClause) -> Result<(), AllocError>
+    requires room { HasTextRoom (clause_weight (view_resolved_clause clause.now)) found.old }
     ensures { let tree = view_resolved_clause clause.now in
         OnOk result (AreNoted (λ A m. clause_mentioned m tree) found.old found.new) }
 {
@@ -112,6 +123,8 @@ fn note_clause(found: &mut Mentions, clause: &ResolvedClause) -> Result<(), Allo
 
 /// Notes clauses.
 fn note_clauses(found: &mut Mentions, clauses: &[ResolvedClause]) -> Result<(), AllocError>
+    requires room { let tree = map view_resolved_clause clauses.now in
+        HasTextRoom (sum (map clause_weight tree)) found.old }
     ensures { let tree = map view_resolved_clause clauses.now in
         OnOk result (AreNoted (λ A m. flat_map (clause_mentioned m) tree) found.old found.new) }
 {
@@ -122,7 +135,9 @@ fn note_clauses(found: &mut Mentions, clauses: &[ResolvedClause]) -> Result<(), 
 }
 
 /// Notes the bounds of a canonical loop.
+#[tactic(auto, unfolding(crate::specs::Room::IsRoomFor))]
 fn note_loop(found: &mut Mentions, repeated: &ResolvedLoop) -> Result<(), AllocError>
+    requires room { HasTextRoom (loop_weight (view_resolved_loop repeated.now)) found.old }
     ensures { let tree = view_resolved_loop repeated.now in
         OnOk result (AreNoted (λ A m. loop_mentioned m tree) found.old found.new) }
 {
@@ -131,7 +146,9 @@ fn note_loop(found: &mut Mentions, repeated: &ResolvedLoop) -> Result<(), AllocE
 }
 
 /// Notes an atomic update.
+#[tactic(auto, unfolding(crate::specs::Room::IsRoomFor))]
 fn note_update(found: &mut Mentions, update: &ResolvedUpdate) -> Result<(), AllocError>
+    requires room { HasTextRoom (update_weight (view_resolved_update update.now)) found.old }
     ensures { let tree = view_resolved_update update.now in
         OnOk result (AreNoted (λ A m. update_mentioned m tree) found.old found.new) }
 {
@@ -140,7 +157,9 @@ fn note_update(found: &mut Mentions, update: &ResolvedUpdate) -> Result<(), Allo
 }
 
 /// Notes the name of a critical region.
+#[tactic(auto, unfolding(crate::specs::Room::IsRoomFor))]
 fn note_construct(found: &mut Mentions, kind: &ConstructKind) -> Result<(), AllocError>
+    requires room { HasTextRoom 1 found.old }
     ensures { OnOk result (AreNoted (λ A m. m.by_construct kind.now) found.old found.new) }
 {
     let ConstructKind::Critical { name } = kind else {
@@ -153,7 +172,12 @@ fn note_construct(found: &mut Mentions, kind: &ConstructKind) -> Result<(), Allo
 }
 
 /// Notes the head of a `for`.
+#[tactic(auto, unfolding(crate::specs::Room::IsRoomFor))]
 fn note_head(found: &mut Mentions, head: &ResolvedHead) -> Result<(), AllocError>
+    requires room { let first = view_resolved_start head.now.start in
+        let test = option_map view_resolved_expression head.now.condition in
+        let after = option_map view_resolved_expression head.now.step in
+        HasTextRoom (start_weight first + (perhaps_weight test + perhaps_weight after)) found.old }
     ensures { let first = view_resolved_start head.now.start in
         let test = option_map view_resolved_expression head.now.condition in
         let after = option_map view_resolved_expression head.now.step in
@@ -178,6 +202,7 @@ pub(crate) fn put_end(ends: &mut Vec<Numbers>, index: usize, behind: Numbers)
 #[tactic(auto, using(crate::proofs::Ending::end_placed, crate::proofs::Ending::end_there))]
 #[cycle(statement)]
 fn note_region(walk: &mut Walk, body: &ResolvedStatement) -> Result<(), AllocError>
+    requires room { HasRoom (1 + statement_weight (view_resolved_statement body.now)) walk.old }
     ensures behind { let tree = view_resolved_statement body.now in
         OnOk result (numbers_of walk.new.numbers ≡ bodies.behind (bodies.next_body (numbers_of walk.old.numbers)) tree) }
     ensures ends { let tree = view_resolved_statement body.now in
@@ -186,7 +211,7 @@ fn note_region(walk: &mut Walk, body: &ResolvedStatement) -> Result<(), AllocErr
     ensures noted { let tree = view_resolved_statement body.now in
         OnOk result (AreNoted (λ A m. mentioned m tree) walk.old.found walk.new.found) }
 {
-    let inner = walk.numbers.next_body()?;
+    let inner = walk.numbers.next_body();
     let index = walk.ends.len();
     walk.ends.push(inner)?;
     walk.numbers = inner;
@@ -199,6 +224,7 @@ fn note_region(walk: &mut Walk, body: &ResolvedStatement) -> Result<(), AllocErr
 #[tactic(auto, unfolding(om_rows::specs::Mentions::mentioned))]
 #[cycle(statement)]
 fn note_statement(walk: &mut Walk, statement: &ResolvedStatement) -> Result<(), AllocError>
+    requires room { HasRoom (statement_weight (view_resolved_statement statement.now)) walk.old }
     ensures behind { let tree = view_resolved_statement statement.now in
         OnOk result (numbers_of walk.new.numbers ≡ bodies.behind (numbers_of walk.old.numbers) tree) }
     ensures ends { let tree = view_resolved_statement statement.now in
@@ -270,7 +296,7 @@ fn note_statement(walk: &mut Walk, statement: &ResolvedStatement) -> Result<(), 
         }
         ResolvedStatement::Sections { clauses, parts, .. } => {
             note_clauses(&mut walk.found, clauses.as_slice())?;
-            walk.numbers = walk.numbers.next_pick()?;
+            walk.numbers = walk.numbers.next_pick();
             note_parts(walk, parts.as_slice())
         }
         ResolvedStatement::Construct {
@@ -294,6 +320,8 @@ pub(crate) fn note_statements(
     walk: &mut Walk,
     items: &[ResolvedStatement],
 ) -> Result<(), AllocError>
+    requires room { let tree = trees.statements (map view_resolved_statement items.now) in
+        HasRoom (statements_weight tree) walk.old }
     ensures behind { let tree = trees.statements (map view_resolved_statement items.now) in
         OnOk result (numbers_of walk.new.numbers ≡ bodies.behind_all (numbers_of walk.old.numbers) tree) }
     ensures ends { let tree = trees.statements (map view_resolved_statement items.now) in
@@ -312,6 +340,8 @@ pub(crate) fn note_statements(
 #[tactic(auto, unfolding(om_rows::specs::Mentions::parts_mentioned))]
 #[cycle(statement)]
 fn note_parts(walk: &mut Walk, parts: &[ResolvedPart]) -> Result<(), AllocError>
+    requires room { let tree = trees.parts (map view_resolved_part parts.now) in
+        HasRoom (parts_weight tree) walk.old }
     ensures behind { let tree = trees.parts (map view_resolved_part parts.now) in
         OnOk result (numbers_of walk.new.numbers ≡ bodies.behind_parts (numbers_of walk.old.numbers) tree) }
     ensures ends { let tree = trees.parts (map view_resolved_part parts.now) in

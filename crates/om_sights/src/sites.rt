@@ -2,8 +2,10 @@
 
 ghost use Rattle.std.specs.Prelude.{◌≡◌, ◌<◌, ◌+◌, [], OnOk, IfOk, length, map};
 ghost use Rattle.om_sights.specs.Sites.{AddsBodies, IsOpen, bodies_in, function_of, region_bodies, site_variables};
+ghost use Rattle.om_sights.specs.Room.{HasNumbers};
 ghost use Rattle.om_resolved.specs.ResolvedTree as trees;
 ghost use Rattle.om_resolved.specs.ResolvedView.{view_resolved_function, view_resolved_part, view_resolved_statement};
+ghost use Rattle.om_resolved.specs.Weights.{function_weight, parts_weight, statement_weight, statements_weight};
 ghost use Rattle.om_rows.specs.Bodies as bodies;
 ghost use Rattle.om_rows.specs.Numbering.{numbers_of};
 
@@ -35,12 +37,13 @@ pub fn sites_of<'a>(
     function: &'a ResolvedFunction,
     numbers: Numbers,
 ) -> Result<Vec<Site<'a>>, AllocError>
+    requires room { HasNumbers (function_weight (view_resolved_function function.now)) numbers }
     ensures { let tree = view_resolved_function function.now in
         IfOk result (λ sites.
         bodies_in [] sites.items ≡ bodies.function_bodies (numbers_of numbers) tree) }
 {
     let mut sites = Vec::new(alloc);
-    let numbers = numbers.next_body()?;
+    let numbers = numbers.next_body();
     let own = Site {
         function,
         part: BodyPart::Function,
@@ -72,6 +75,7 @@ fn see_region<'a>(
     body: &'a ResolvedStatement,
 ) -> Result<Numbers, AllocError>
     requires round { IsOpen round.now sites.old.items }
+    requires room { HasNumbers (1 + statement_weight (view_resolved_statement body.now)) numbers }
     ensures behind { let n = bodies.next_body (numbers_of numbers) in
         let tree = view_resolved_statement body.now in
         IfOk result (λ behind. numbers_of behind ≡ bodies.behind n tree) }
@@ -79,7 +83,7 @@ fn see_region<'a>(
         let added = region_bodies round.now part.now n (view_resolved_statement body.now) in
         OnOk result (AddsBodies round.now added sites.old.items sites.new.items) }
 {
-    let inner = numbers.next_body()?;
+    let inner = numbers.next_body();
     let depth = depth_in(sites.as_slice(), round.depth);
     let site = Site {
         function: round.function,
@@ -101,6 +105,7 @@ fn see_statement<'a>(
     statement: &'a ResolvedStatement,
 ) -> Result<Numbers, AllocError>
     requires round { IsOpen round.now sites.old.items }
+    requires room { HasNumbers (statement_weight (view_resolved_statement statement.now)) numbers }
     ensures behind { let tree = view_resolved_statement statement.now in
         IfOk result (λ behind. numbers_of behind ≡ bodies.behind (numbers_of numbers) tree) }
     ensures sites { let regions = bodies.regions (function_of round.now) (site_variables round.now) in
@@ -150,7 +155,7 @@ fn see_statement<'a>(
             see_region(sites, round, numbers, &part, body)
         }
         ResolvedStatement::Sections { parts, .. } => {
-            see_parts(sites, round, numbers.next_pick()?, parts.as_slice())
+            see_parts(sites, round, numbers.next_pick(), parts.as_slice())
         }
         ResolvedStatement::Declaration { .. }
         | ResolvedStatement::Empty(_)
@@ -173,6 +178,8 @@ fn see_statements<'a>(
     items: &'a [ResolvedStatement],
 ) -> Result<Numbers, AllocError>
     requires round { IsOpen round.now sites.old.items }
+    requires room { let tree = trees.statements (map view_resolved_statement items.now) in
+        HasNumbers (statements_weight tree) numbers }
     ensures behind { let tree = trees.statements (map view_resolved_statement items.now) in
         IfOk result (λ behind. numbers_of behind ≡ bodies.behind_all (numbers_of numbers) tree) }
     ensures sites { let tree = trees.statements (map view_resolved_statement items.now) in
@@ -197,6 +204,8 @@ fn see_parts<'a>(
     parts: &'a [ResolvedPart],
 ) -> Result<Numbers, AllocError>
     requires round { IsOpen round.now sites.old.items }
+    requires room { let tree = trees.parts (map view_resolved_part parts.now) in
+        HasNumbers (parts_weight tree) numbers }
     ensures behind { let tree = trees.parts (map view_resolved_part parts.now) in
         IfOk result (λ behind. numbers_of behind ≡ bodies.behind_parts (numbers_of numbers) tree) }
     ensures sites { let tree = trees.parts (map view_resolved_part parts.now) in

@@ -1,12 +1,14 @@
 //! The tables of a program, found by one walk over its tree.
 
-ghost use Rattle.std.specs.Prelude.{◌≡◌, ◌++◌, ◌∷◌, [], OnOk, IfOk, map};
+ghost use Rattle.std.specs.Prelude.{◌≡◌, ◌++◌, ◌∷◌, [], OnOk, IfOk, map, sum};
 ghost use Rattle.std.specs.List.{AllZip, flat_map};
 ghost use Rattle.om_resolved.specs.ResolvedView.{view_resolved, view_resolved_function};
+ghost use Rattle.om_resolved.specs.Weights.{HasSmallWeight, function_weight};
 ghost use Rattle.om_rows.specs.Bodies as bodies;
 ghost use Rattle.om_rows.specs.Mentions.{format_mention, function_mentioned, lock_mention};
 ghost use Rattle.om_rows.specs.Ends.{ends_from, function_ends};
 ghost use Rattle.om_sights.specs.Noted.{AddsCells, AreNoted, noted};
+ghost use Rattle.om_sights.specs.Room.{HasRoom};
 ghost use Rattle.om_rows.specs.Numbering.{function_numbers, numbers_of};
 ghost use Rattle.om_rows.specs.ProgramTables.{AreCellsOf, IsTablesOf};
 
@@ -25,6 +27,7 @@ struct Functions {
 
 /// The tables of a tree: one walk over it finds them all.
 pub fn tables_of(alloc: Global, resolved: &Resolved) -> Result<Tables, AllocError>
+    requires small { HasSmallWeight (view_resolved resolved.now) }
     ensures { IfOk result (λ tables. IsTablesOf (view_resolved resolved.now) tables) }
 {
     let found = Mentions {
@@ -71,6 +74,8 @@ fn note_functions(made: &mut Functions, functions: &[ResolvedFunction]) -> Resul
     requires numbers { numbers_of made.old.walk.numbers ≡ bodies.first_numbers }
     requires empty { made.old.walk.found.extents ≡ [] }
     requires none { made.old.extents.items ≡ [] }
+    requires room { let trees = map view_resolved_function functions.now in
+        HasRoom (sum (map function_weight trees)) made.old.walk }
     ensures behind { OnOk result (numbers_of made.new.walk.numbers
         ≡ bodies.behind_functions bodies.first_numbers (map view_resolved_function functions.now)) }
     ensures formats { let trees = map view_resolved_function functions.now in
@@ -96,7 +101,8 @@ fn note_functions(made: &mut Functions, functions: &[ResolvedFunction]) -> Resul
 /// Walks over a function.
 #[tactic(auto, using(crate::proofs::Cells::cells_measured))]
 fn note_function(made: &mut Functions, function: &ResolvedFunction) -> Result<(), AllocError>
-    requires { made.old.walk.found.extents ≡ [] }
+    requires empty { made.old.walk.found.extents ≡ [] }
+    requires room { HasRoom (function_weight (view_resolved_function function.now)) made.old.walk }
     ensures behind { let tree = view_resolved_function function.now in
         let behind = bodies.behind_function (numbers_of made.old.walk.numbers) tree in
         OnOk result (numbers_of made.new.walk.numbers ≡ behind) }
@@ -126,6 +132,7 @@ fn note_function(made: &mut Functions, function: &ResolvedFunction) -> Result<()
 /// Walks over the body of a function.
 #[tactic(auto, using(crate::proofs::Ending::end_placed))]
 fn note_body(walk: &mut Walk, function: &ResolvedFunction) -> Result<(), AllocError>
+    requires room { HasRoom (function_weight (view_resolved_function function.now)) walk.old }
     ensures behind { let tree = view_resolved_function function.now in
         OnOk result (numbers_of walk.new.numbers ≡ bodies.behind_function (numbers_of walk.old.numbers) tree) }
     ensures ends { let tree = view_resolved_function function.now in
@@ -134,7 +141,7 @@ fn note_body(walk: &mut Walk, function: &ResolvedFunction) -> Result<(), AllocEr
     ensures noted { let tree = view_resolved_function function.now in
         OnOk result (AreNoted (λ A m. function_mentioned m tree) walk.old.found walk.new.found) }
 {
-    let inner = walk.numbers.next_body()?;
+    let inner = walk.numbers.next_body();
     let index = walk.ends.len();
     walk.ends.push(inner)?;
     walk.numbers = inner;

@@ -99,10 +99,10 @@ pub(crate) fn take_perhaps(
     ensures { let tree = option_map view_resolved_expression expression.now in
         OnOk result (Sees (perhaps_uses tree) seen.old seen.new) }
 {
-    match expression {
-        None => Ok(()),
-        Some(expression) => take_expression(seen, expression),
-    }
+    let Some(expression) = expression else {
+        return Ok(());
+    };
+    take_expression(seen, expression)
 }
 
 /// Notes the original of a copy, unless that is private.

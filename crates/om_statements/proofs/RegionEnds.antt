@@ -1,5 +1,5 @@
 -- The numbers behind the regions in a statement are those behind the regions in its parts.
-use Rattle.std.proofs.Common.{◌≡◌, List, map, sym, ap, ◌∙◌, subst}
+use Rattle.std.proofs.Common.{◌≡◌, ◌<◌, List, map, sym, ap, ◌∙◌, subst}
 use Rattle.om_resolved.specs.declared.resolved.ResolvedStatement.{ResolvedStatement}
 use Rattle.om_resolved.specs.declared.resolved.ResolvedStatement.TheVariants as v
 use Rattle.om_resolved.specs.ResolvedTree as trees
@@ -60,7 +60,7 @@ construct_ends ends n tree at kind clauses s is has =
 pub sections_ends : (ends : KnownBodies) (n : Numbers) (tree : ResolvedStatement) (at : _) (clauses : _)
     (nowait : _) (parts : _) → tree ≡ v.Sections at clauses nowait parts
     → HasEnds ends n (view_resolved_statement tree)
-    → HasPartsEnds ends (next_pick n) (trees.parts (map view_resolved_part parts.items))
+    → (n.picks < 4294967295) × HasPartsEnds ends (next_pick n) (trees.parts (map view_resolved_part parts.items))
 sections_ends ends n tree at clauses nowait parts is has =
     subst (λ z. HasEnds ends n z) (ap view_resolved_statement is ∙ view_sections at clauses nowait parts) has
 

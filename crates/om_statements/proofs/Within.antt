@@ -169,7 +169,7 @@ parts_within ends m y tree xs at clauses nowait parts is same begun code has =
       subst (λ z. PartsHaveCode z) listed (sections_code _ _ tree at clauses nowait parts is code).1,
       subst (λ k. HasPartsEnds ends k (trees.parts (map view_resolved_part xs))) (sym begun)
           (subst (λ z. HasPartsEnds ends (next_pick (numbers_of y.numbers)) z) listed
-          (sections_ends ends (numbers_of y.numbers) tree at clauses nowait parts is has)),
+          (sections_ends ends (numbers_of y.numbers) tree at clauses nowait parts is has).1),
     )
 
 -- an item is no larger than the largest one; `size` is the one by which the call of the loop's function is measured

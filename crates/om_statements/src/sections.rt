@@ -1,6 +1,6 @@
 //! The begin of a `sections`, before its parts.
 
-ghost use Rattle.std.specs.Prelude.{◌≤◌, IfOk, length, map};
+ghost use Rattle.std.specs.Prelude.{◌<◌, ◌≤◌, IfOk, length, map};
 ghost use Rattle.om_emit.specs.Emits.{names_at};
 ghost use Rattle.om_resolved.specs.ResolvedView.{view_resolved_clause};
 ghost use Rattle.om_rows.specs.Scopes.{sections_head};
@@ -44,7 +44,8 @@ pub fn begin_parts(
     head: &SectionsHead<'_>,
     parts: &[ResolvedPart],
 ) -> Result<PartsSpot, AllocError>
-    requires { length parts.now ≤ 256 }
+    requires few { length parts.now ≤ 256 }
+    requires numbered { head.now.numbers.picks < 4294967295 }
     ensures code { let begin = part_head here.now.at.line head.now.numbers
         (map view_resolved_clause head.now.clauses.now) (length parts.now) in
         IfOk result (λ spot. OpensParts (names_at here.now) begin spot writing.old.draft
@@ -57,7 +58,7 @@ pub fn begin_parts(
     let list = Parts { number, count };
     let labels = begin_sections(writing, here, head.clauses, list)?;
     let first = writing.draft.fresh_list(alloc, number, count)?;
-    let numbers = head.numbers.next_pick()?;
+    let numbers = head.numbers.next_pick();
     Ok(PartsSpot {
         line: here.at.line,
         numbers,

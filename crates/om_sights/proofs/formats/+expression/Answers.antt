@@ -1,12 +1,22 @@
-use Rattle.std.proofs.Common.{ap, arith}
+use Rattle.std.proofs.Common.{map, ap, arith}
+use Rattle.std.proofs.lemmas.Grind.{common_steps}
 use denote.Param.Weighed.{most}
 use Rattle.om_resolved.specs.declared.resolved.ResolvedExpression.TheViews.{size-ResolvedExpression}
 use Rattle.om_resolved.specs.declared.resolved.ResolvedExpression.TheViews.{sized-AssignElement, sized-Binary}
 use Rattle.om_resolved.specs.declared.resolved.ResolvedExpression.TheViews.{sized-Call, sized-Conditional}
 use Rattle.om_resolved.specs.declared.resolved.ResolvedExpression.TheViews.{sized-Print}
+use Rattle.om_resolved.specs.ResolvedTree as trees
+use Rattle.om_resolved.specs.ResolvedView.{view_resolved_expression}
+use Rattle.om_resolved.specs.Weights.{values_weight}
+use Rattle.om_sights.specs.Room.{IsRoomFor}
+use Rattle.om_sights.proofs.Rooms.{formats_behind, text_behind}
+use Rattle.om_sights.proofs.Weights.{weight_assign_element, weight_binary, weight_call, weight_conditional, weight_of}
+use Rattle.om_rows.specs.Mentions.{values_formats}
+use Rattle.om_sights.proofs.Weights.{smaller_inner, value_left, weight_inner, weight_print, with_depth}
 use Rattle.om_sights.proofs.formats.+expression.Goals as goal
 
 pub note_expression-note_values-requires : goal.note_expression-note_values-requires
+unfolding IsRoomFor
 note_expression-note_values-requires t c = (
   omega (
     arith,
@@ -15,10 +25,16 @@ note_expression-note_values-requires t c = (
     ap (most size-ResolvedExpression) c.as_slice.ensures.value,
     c.decreases,
   ),
-  tt,
+  omega (
+    arith,
+    weight_call _ _ _ c.in-Call.is,
+    ap (λ es. values_weight (trees.values (map view_resolved_expression es))) c.as_slice.ensures.value,
+    c.requires.room,
+  ),
 )
 
 pub note_expression-note_values-requires-in-Print : goal.note_expression-note_values-requires-in-Print
+unfolding IsRoomFor
 note_expression-note_values-requires-in-Print t c = (
   omega (
     arith,
@@ -27,10 +43,17 @@ note_expression-note_values-requires-in-Print t c = (
     ap (most size-ResolvedExpression) c.as_slice-in-Print-2.ensures.value,
     c.decreases,
   ),
-  tt,
+  omega (
+    arith,
+    weight_print _ _ _ c.in-Print.is,
+    ap (λ es. values_weight (trees.values (map view_resolved_expression es))) c.as_slice-in-Print-2.ensures.value,
+    text_behind c.as_slice-in-Print.result.now _ _ c.in_ok-note-in-Print.ensures,
+    c.requires.room,
+  ),
 )
 
 pub note_expression-note_expression-requires : goal.note_expression-note_expression-requires
+unfolding IsRoomFor
 note_expression-note_expression-requires t c = (
   omega (
     arith,
@@ -39,10 +62,16 @@ note_expression-note_expression-requires t c = (
     ap size-ResolvedExpression c.deref.ensures,
     c.decreases,
   ),
-  tt,
+  omega (
+    arith,
+    weight_binary _ _ _ _ c.in-Binary.is,
+    ap weight_of c.deref.ensures,
+    c.requires.room,
+  ),
 )
 
 pub note_expression-note_expression-requires-in-Binary : goal.note_expression-note_expression-requires-in-Binary
+unfolding IsRoomFor
 note_expression-note_expression-requires-in-Binary t c = (
   omega (
     arith,
@@ -51,11 +80,19 @@ note_expression-note_expression-requires-in-Binary t c = (
     ap size-ResolvedExpression c.deref-in-Binary.ensures,
     c.decreases,
   ),
-  tt,
+  omega (
+    arith,
+    weight_binary _ _ _ _ c.in-Binary.is,
+    ap weight_of c.deref.ensures,
+    ap weight_of c.deref-in-Binary.ensures,
+    formats_behind _ _ _ c.in_ok-note_expression-in-Binary.ensures,
+    c.requires.room,
+  ),
 )
 
 pub note_expression-note_expression-requires-in-Conditional :
     goal.note_expression-note_expression-requires-in-Conditional
+unfolding IsRoomFor
 note_expression-note_expression-requires-in-Conditional t c = (
   omega (
     arith,
@@ -64,11 +101,17 @@ note_expression-note_expression-requires-in-Conditional t c = (
     ap size-ResolvedExpression c.deref-in-Conditional.ensures,
     c.decreases,
   ),
-  tt,
+  omega (
+    arith,
+    weight_conditional _ _ _ _ c.in-Conditional.is,
+    ap weight_of c.deref-in-Conditional.ensures,
+    c.requires.room,
+  ),
 )
 
 pub note_expression-note_expression-requires-in-Conditional-2 :
     goal.note_expression-note_expression-requires-in-Conditional-2
+unfolding IsRoomFor
 note_expression-note_expression-requires-in-Conditional-2 t c = (
   omega (
     arith,
@@ -77,11 +120,19 @@ note_expression-note_expression-requires-in-Conditional-2 t c = (
     ap size-ResolvedExpression c.deref-in-Conditional-2.ensures,
     c.decreases,
   ),
-  tt,
+  omega (
+    arith,
+    weight_conditional _ _ _ _ c.in-Conditional.is,
+    ap weight_of c.deref-in-Conditional.ensures,
+    ap weight_of c.deref-in-Conditional-2.ensures,
+    formats_behind _ _ _ c.in_ok-note_expression-in-Conditional.ensures,
+    c.requires.room,
+  ),
 )
 
 pub note_expression-note_expression-requires-in-Conditional-3 :
     goal.note_expression-note_expression-requires-in-Conditional-3
+unfolding IsRoomFor
 note_expression-note_expression-requires-in-Conditional-3 t c = (
   omega (
     arith,
@@ -90,11 +141,21 @@ note_expression-note_expression-requires-in-Conditional-3 t c = (
     ap size-ResolvedExpression c.deref-in-Conditional-3.ensures,
     c.decreases,
   ),
-  tt,
+  omega (
+    arith,
+    weight_conditional _ _ _ _ c.in-Conditional.is,
+    ap weight_of c.deref-in-Conditional.ensures,
+    ap weight_of c.deref-in-Conditional-2.ensures,
+    ap weight_of c.deref-in-Conditional-3.ensures,
+    formats_behind _ _ _ c.in_ok-note_expression-in-Conditional.ensures,
+    formats_behind _ _ _ c.in_ok-note_expression-in-Conditional-2.ensures,
+    c.requires.room,
+  ),
 )
 
 pub note_expression-note_expression-requires-in-AssignElement :
     goal.note_expression-note_expression-requires-in-AssignElement
+unfolding IsRoomFor
 note_expression-note_expression-requires-in-AssignElement t c = (
   omega (
     arith,
@@ -104,11 +165,17 @@ note_expression-note_expression-requires-in-AssignElement t c = (
     ap size-ResolvedExpression c.deref-in-AssignElement.ensures,
     c.decreases,
   ),
-  tt,
+  omega (
+    arith,
+    weight_assign_element _ _ _ _ _ c.in-AssignElement.is,
+    ap weight_of c.deref-in-AssignElement.ensures,
+    c.requires.room,
+  ),
 )
 
 pub note_expression-note_expression-requires-in-AssignElement-2 :
     goal.note_expression-note_expression-requires-in-AssignElement-2
+unfolding IsRoomFor
 note_expression-note_expression-requires-in-AssignElement-2 t c = (
   omega (
     arith,
@@ -118,5 +185,53 @@ note_expression-note_expression-requires-in-AssignElement-2 t c = (
     ap size-ResolvedExpression c.deref-in-AssignElement-2.ensures,
     c.decreases,
   ),
-  tt,
+  omega (
+    arith,
+    weight_assign_element _ _ _ _ _ c.in-AssignElement.is,
+    ap weight_of c.deref-in-AssignElement.ensures,
+    ap weight_of c.deref-in-AssignElement-2.ensures,
+    formats_behind _ _ _ c.in_ok-note_expression-in-AssignElement.ensures,
+    c.requires.room,
+  ),
+)
+
+pub note_values-loop-value-preserved : goal.note_values-loop-value-preserved
+unfolding values_formats IsRoomFor
+note_values-loop-value-preserved t c = (
+  grind (arith, common_steps),
+  omega (
+    arith,
+    value_left c.args.values.now c.loop-value.value-index c.value-item.result c.loop-value-test.true c.value-item.is,
+    formats_behind (view_resolved_expression c.value-item.result) c.loop-value.formats c.note_expression.new.formats
+        c.in_ok-note_expression.ensures,
+    c.loop-value.invariant.1,
+  ),
+)
+
+pub note_expression-note-requires : goal.note_expression-note-requires
+unfolding IsRoomFor
+note_expression-note-requires t c = omega (arith, weight_print _ _ _ c.in-Print.is, c.requires.room)
+
+pub note_expression-note_expression-requires-in-Element : goal.note_expression-note_expression-requires-in-Element
+unfolding IsRoomFor
+note_expression-note_expression-requires-in-Element t c = (
+  omega (
+    arith,
+    smaller_inner _ _ c.in-Element.is,
+    ap size-ResolvedExpression c.deref-in-Element.ensures,
+    c.decreases,
+  ),
+  omega (arith, weight_inner _ _ c.in-Element.is, ap weight_of c.deref-in-Element.ensures, c.requires.room),
+)
+
+pub note_values-note_expression-requires : goal.note_values-note_expression-requires
+unfolding IsRoomFor
+note_values-note_expression-requires t c = (
+  with_depth _ _ _ c.args.values.now c.loop-value.value-index c.value-item.result c.loop-value-test.true
+      c.value-item.is c.decreases (λ deep. omega (arith, deep, c.decreases)),
+  omega (
+    arith,
+    value_left c.args.values.now c.loop-value.value-index c.value-item.result c.loop-value-test.true c.value-item.is,
+    c.loop-value.invariant.1,
+  ),
 )

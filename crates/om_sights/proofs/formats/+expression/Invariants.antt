@@ -1,11 +1,15 @@
-use Rattle.std.proofs.Common.{◌≡◌, map, drop}
+use Rattle.std.proofs.Common.{◌≡◌, length, map, drop}
 use Rattle.om_resolved.specs.ResolvedTree as trees
 use Rattle.om_resolved.specs.ResolvedView.{view_resolved_expression}
+use Rattle.om_resolved.specs.Weights.{values_weight}
 use Rattle.om_rows.specs.Mentions.{values_formats}
 use Rattle.om_sights.specs.Noted.{noted}
+use Rattle.om_sights.specs.Room.{IsRoomFor}
 use Rattle.om_sights.proofs.formats.+expression.Given as goal
 
 abbrev pub invariant-note_values-loop-value : goal.invariant-note_values-loop-value
 invariant-note_values-loop-value l =
-    noted l.formats (values_formats (trees.values (map view_resolved_expression (drop l.value-index l.values))))
-    ≡ noted l.fn.formats (values_formats (trees.values (map view_resolved_expression l.values)))
+    let left = trees.values (map view_resolved_expression (drop l.value-index l.values)) in
+    let all = trees.values (map view_resolved_expression l.values) in
+    (noted l.formats (values_formats left) ≡ noted l.fn.formats (values_formats all))
+    × IsRoomFor (values_weight left) (length l.formats)

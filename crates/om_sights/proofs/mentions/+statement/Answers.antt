@@ -1,12 +1,31 @@
-use Rattle.std.proofs.Common.{ap, arith}
+use Rattle.std.proofs.Common.{◌+◌, map, option_map, drop, ap, arith, sym, ◌∙◌}
+use Rattle.std.specs.Prelude.{sum}
+use Rattle.std.proofs.lemmas.Grind.{common_steps}
 use denote.Param.Weighed.{most}
 use Rattle.om_resolved.specs.declared.resolved.ResolvedStatement.TheViews.{size-ResolvedPart, size-ResolvedStatement}
 use Rattle.om_resolved.specs.declared.resolved.ResolvedStatement.TheViews.{sized-Block, sized-Construct, sized-Do}
 use Rattle.om_resolved.specs.declared.resolved.ResolvedStatement.TheViews.{sized-For, sized-IfElse, sized-Loop}
-use Rattle.om_resolved.specs.declared.resolved.ResolvedStatement.TheViews.{sized-Sections}
+use Rattle.om_resolved.specs.declared.resolved.ResolvedStatement.TheViews.{size_is-ResolvedPart, sized-Sections}
+use Rattle.om_resolved.specs.ResolvedTree as trees
+use Rattle.om_resolved.specs.ResolvedView.{view_resolved_clause, view_resolved_expression, view_resolved_loop, view_resolved_part}
+use Rattle.om_resolved.specs.ResolvedView.{view_resolved_declarator, view_resolved_start, view_resolved_statement, view_resolved_update}
+use Rattle.om_resolved.specs.Weights.{clause_weight, declarator_weight, loop_weight, parts_weight, statements_weight, update_weight}
+use Rattle.om_rows.specs.Mentions.{all_mentioned}
+use Rattle.om_rows.specs.Numbering.{numbers_of}
+use Rattle.om_sights.specs.Room.{IsRoomFor}
+use Rattle.om_sights.proofs.Rooms.{clauses_behind, construct_behind, given, head_behind, loop_behind, statement_behind}
+use Rattle.om_sights.proofs.Rooms.{statements_behind}
+use Rattle.om_sights.proofs.Rooms.{value_behind}
+use Rattle.om_sights.proofs.Weights.{all_weight_of, weight_block, weight_construct, weight_do, weight_for}
+use Rattle.om_sights.proofs.Noting.{parts_next}
+use Rattle.om_sights.proofs.Weights.{next_part, smaller_region, smaller_tested}
+use Rattle.om_sights.proofs.Weights.{head_weight, item_left, part_left, weight_declaration, weight_expression}
+use Rattle.om_sights.proofs.Weights.{weight_return, weight_update, weight_tested, weight_region, with_depth}
+use Rattle.om_sights.proofs.Weights.{weight_if_else, weight_loop, weight_sections}
 use Rattle.om_sights.proofs.mentions.+statement.Goals as goal
 
 pub note_statement-note_statements-requires : goal.note_statement-note_statements-requires
+unfolding IsRoomFor
 note_statement-note_statements-requires t c = (
   omega (
     arith,
@@ -15,10 +34,16 @@ note_statement-note_statements-requires t c = (
     ap (most size-ResolvedStatement) c.as_slice-in-Block.ensures.value,
     c.decreases,
   ),
-  tt,
+  omega (
+    arith,
+    weight_block _ _ _ c.in-Block.is,
+    ap (λ xs. statements_weight (trees.statements (map view_resolved_statement xs))) c.as_slice-in-Block.ensures.value,
+    c.requires.room,
+  ),
 )
 
 pub note_statement-note_statement-requires : goal.note_statement-note_statement-requires
+unfolding IsRoomFor
 note_statement-note_statement-requires t c = (
   omega (
     arith,
@@ -27,10 +52,17 @@ note_statement-note_statement-requires t c = (
     ap size-ResolvedStatement c.deref.ensures,
     c.decreases,
   ),
-  tt,
+  omega (
+    arith,
+    weight_if_else _ _ _ _ _ c.in-IfElse.is,
+    ap all_weight_of c.deref.ensures,
+    value_behind (view_resolved_expression c.in-IfElse.condition) c.args.walk.now.found c.note_value-in-IfElse.new.found c.in_ok-note_value-in-IfElse.ensures,
+    c.requires.room,
+  ),
 )
 
 pub note_statement-note_statement-requires-in-IfElse : goal.note_statement-note_statement-requires-in-IfElse
+unfolding IsRoomFor
 note_statement-note_statement-requires-in-IfElse t c = (
   omega (
     arith,
@@ -39,10 +71,19 @@ note_statement-note_statement-requires-in-IfElse t c = (
     ap size-ResolvedStatement c.deref-in-IfElse.ensures,
     c.decreases,
   ),
-  tt,
+  omega (
+    arith,
+    weight_if_else _ _ _ _ _ c.in-IfElse.is,
+    ap all_weight_of c.deref.ensures,
+    ap all_weight_of c.deref-in-IfElse.ensures,
+    value_behind (view_resolved_expression c.in-IfElse.condition) c.args.walk.now.found c.note_value-in-IfElse.new.found c.in_ok-note_value-in-IfElse.ensures,
+    statement_behind (view_resolved_statement c.deref.result.now) (numbers_of c.args.walk.now.numbers) c.note_statement.new.walk.numbers c.note_value-in-IfElse.new.found c.note_statement.new.walk.found c.in_ok-note_statement-in-IfElse.ensures.behind c.in_ok-note_statement-in-IfElse.ensures.noted,
+    c.requires.room,
+  ),
 )
 
 pub note_statement-note_statement-requires-in-Do : goal.note_statement-note_statement-requires-in-Do
+unfolding IsRoomFor
 note_statement-note_statement-requires-in-Do t c = (
   omega (
     arith,
@@ -51,10 +92,16 @@ note_statement-note_statement-requires-in-Do t c = (
     ap size-ResolvedStatement c.deref-in-Do.ensures,
     c.decreases,
   ),
-  tt,
+  omega (
+    arith,
+    weight_do _ _ _ _ c.in-Do.is,
+    ap all_weight_of c.deref-in-Do.ensures,
+    c.requires.room,
+  ),
 )
 
 pub note_statement-note_statement-requires-in-For : goal.note_statement-note_statement-requires-in-For
+unfolding IsRoomFor
 note_statement-note_statement-requires-in-For t c = (
   omega (
     arith,
@@ -63,10 +110,18 @@ note_statement-note_statement-requires-in-For t c = (
     ap size-ResolvedStatement c.deref-in-For-2.ensures,
     c.decreases,
   ),
-  tt,
+  omega (
+    arith,
+    weight_for _ _ _ _ c.in-For.is,
+    ap all_weight_of c.deref-in-For-2.ensures,
+    ap head_weight c.deref-in-For.ensures,
+    head_behind (view_resolved_start c.deref-in-For.result.now.start) (option_map view_resolved_expression c.deref-in-For.result.now.condition) (option_map view_resolved_expression c.deref-in-For.result.now.step) c.args.walk.now.found c.note_head.new.found c.in_ok-note_head-in-For.ensures,
+    c.requires.room,
+  ),
 )
 
 pub note_statement-note_statement-requires-in-Loop : goal.note_statement-note_statement-requires-in-Loop
+unfolding IsRoomFor
 note_statement-note_statement-requires-in-Loop t c = (
   omega (
     arith,
@@ -75,10 +130,20 @@ note_statement-note_statement-requires-in-Loop t c = (
     ap size-ResolvedStatement c.deref-in-Loop-2.ensures,
     c.decreases,
   ),
-  tt,
+  omega (
+    arith,
+    weight_loop _ _ _ _ _ _ c.in-Loop.is,
+    ap all_weight_of c.deref-in-Loop-2.ensures,
+    ap (λ xs. sum (map clause_weight (map view_resolved_clause xs))) c.as_slice-in-Loop.ensures.value,
+    clauses_behind (map view_resolved_clause c.as_slice-in-Loop.result.now) c.args.walk.now.found c.note_clauses.new.found c.in_ok-note_clauses-in-Loop.ensures,
+    ap (λ l. loop_weight (view_resolved_loop l)) c.deref-in-Loop.ensures,
+    loop_behind (view_resolved_loop c.deref-in-Loop.result.now) c.note_clauses.new.found c.note_loop.new.found c.in_ok-note_loop-in-Loop.ensures,
+    c.requires.room,
+  ),
 )
 
 pub note_statement-note_parts-requires : goal.note_statement-note_parts-requires
+unfolding IsRoomFor
 note_statement-note_parts-requires t c = (
   omega (
     arith,
@@ -87,10 +152,19 @@ note_statement-note_parts-requires t c = (
     ap (most size-ResolvedPart) c.as_slice-in-Sections-2.ensures.value,
     c.decreases,
   ),
-  tt,
+  omega (
+    arith,
+    weight_sections _ _ _ _ _ c.in-Sections.is,
+    ap (λ xs. sum (map clause_weight (map view_resolved_clause xs))) c.as_slice-in-Sections.ensures.value,
+    ap (λ xs. parts_weight (trees.parts (map view_resolved_part xs))) c.as_slice-in-Sections-2.ensures.value,
+    clauses_behind (map view_resolved_clause c.as_slice-in-Sections.result.now) c.args.walk.now.found c.note_clauses-in-Sections.new.found c.in_ok-note_clauses-in-Sections.ensures,
+    ap given c.next_pick-walk.ensures,
+    c.requires.room,
+  ),
 )
 
 pub note_statement-note_statement-requires-in-Construct : goal.note_statement-note_statement-requires-in-Construct
+unfolding IsRoomFor
 note_statement-note_statement-requires-in-Construct t c = (
   omega (
     arith,
@@ -99,8 +173,280 @@ note_statement-note_statement-requires-in-Construct t c = (
     ap size-ResolvedStatement c.deref-in-Construct.ensures,
     c.decreases,
   ),
-  tt,
+  omega (
+    arith,
+    weight_construct _ _ _ _ _ c.in-Construct.is,
+    ap (λ xs. sum (map clause_weight (map view_resolved_clause xs))) c.as_slice-in-Construct.ensures.value,
+    ap all_weight_of c.deref-in-Construct.ensures,
+    construct_behind c.in-Construct.kind c.args.walk.now.found c.note_construct.new.found c.in_ok-note_construct-in-Construct.ensures,
+    clauses_behind (map view_resolved_clause c.as_slice-in-Construct.result.now) c.note_construct.new.found c.note_clauses-in-Construct.new.found c.in_ok-note_clauses-in-Construct.ensures,
+    c.requires.room,
+  ),
 )
 
 pub note_region-note_statement-requires : goal.note_region-note_statement-requires
-note_region-note_statement-requires t c = (omega (arith, c.decreases), tt)
+unfolding IsRoomFor
+note_region-note_statement-requires t c = (
+  omega (arith, c.decreases),
+  omega (arith, ap given c.next_body-inner.ensures, c.requires.room),
+)
+
+pub note_statement-note_value-requires-in-Do : goal.note_statement-note_value-requires-in-Do
+unfolding IsRoomFor
+note_statement-note_value-requires-in-Do t c =
+    omega (
+      arith,
+      weight_do _ _ _ _ c.in-Do.is,
+      ap all_weight_of c.deref-in-Do.ensures,
+      statement_behind (view_resolved_statement c.deref-in-Do.result.now) (numbers_of c.args.walk.now.numbers) c.note_statement-in-Do.new.walk.numbers c.args.walk.now.found c.note_statement-in-Do.new.walk.found c.in_ok-note_statement-in-Do.ensures.behind c.in_ok-note_statement-in-Do.ensures.noted,
+      c.requires.room,
+    )
+
+pub note_statement-note_loop-requires : goal.note_statement-note_loop-requires
+unfolding IsRoomFor
+note_statement-note_loop-requires t c =
+    omega (
+      arith,
+      weight_loop _ _ _ _ _ _ c.in-Loop.is,
+      ap (λ l. loop_weight (view_resolved_loop l)) c.deref-in-Loop.ensures,
+      ap (λ xs. sum (map clause_weight (map view_resolved_clause xs))) c.as_slice-in-Loop.ensures.value,
+      clauses_behind (map view_resolved_clause c.as_slice-in-Loop.result.now) c.args.walk.now.found c.note_clauses.new.found c.in_ok-note_clauses-in-Loop.ensures,
+      c.requires.room,
+    )
+
+pub note_statement-note_clauses-requires-in-Construct : goal.note_statement-note_clauses-requires-in-Construct
+unfolding IsRoomFor
+note_statement-note_clauses-requires-in-Construct t c =
+    omega (
+      arith,
+      weight_construct _ _ _ _ _ c.in-Construct.is,
+      ap (λ xs. sum (map clause_weight (map view_resolved_clause xs))) c.as_slice-in-Construct.ensures.value,
+      construct_behind c.in-Construct.kind c.args.walk.now.found c.note_construct.new.found c.in_ok-note_construct-in-Construct.ensures,
+      c.requires.room,
+    )
+
+pub note_statement-note_declarators-requires : goal.note_statement-note_declarators-requires
+unfolding IsRoomFor
+note_statement-note_declarators-requires t c =
+    omega (
+      arith,
+      weight_declaration _ _ _ c.in-Declaration.is,
+      ap (λ xs. sum (map declarator_weight (map view_resolved_declarator xs))) c.as_slice.ensures.value,
+      c.requires.room,
+    )
+
+pub note_statement-note_value-requires : goal.note_statement-note_value-requires
+unfolding IsRoomFor
+note_statement-note_value-requires t c =
+    omega (
+      arith,
+      weight_expression _ _ _ c.in-Expression.is,
+      c.requires.room,
+    )
+
+pub note_statement-note_value-requires-in-IfElse : goal.note_statement-note_value-requires-in-IfElse
+unfolding IsRoomFor
+note_statement-note_value-requires-in-IfElse t c =
+    omega (
+      arith,
+      weight_if_else _ _ _ _ _ c.in-IfElse.is,
+      c.requires.room,
+    )
+
+pub note_statement-note_head-requires : goal.note_statement-note_head-requires
+unfolding IsRoomFor
+note_statement-note_head-requires t c =
+    omega (
+      arith,
+      weight_for _ _ _ _ c.in-For.is,
+      ap head_weight c.deref-in-For.ensures,
+      c.requires.room,
+    )
+
+pub note_statement-note_perhaps-requires : goal.note_statement-note_perhaps-requires
+unfolding IsRoomFor
+note_statement-note_perhaps-requires t c =
+    omega (
+      arith,
+      weight_return _ _ _ c.in-Return.is,
+      c.requires.room,
+    )
+
+pub note_statement-note_clauses-requires : goal.note_statement-note_clauses-requires
+unfolding IsRoomFor
+note_statement-note_clauses-requires t c =
+    omega (
+      arith,
+      weight_loop _ _ _ _ _ _ c.in-Loop.is,
+      ap (λ xs. sum (map clause_weight (map view_resolved_clause xs))) c.as_slice-in-Loop.ensures.value,
+      c.requires.room,
+    )
+
+pub note_statement-note_clauses-requires-in-Sections : goal.note_statement-note_clauses-requires-in-Sections
+unfolding IsRoomFor
+note_statement-note_clauses-requires-in-Sections t c =
+    omega (
+      arith,
+      weight_sections _ _ _ _ _ c.in-Sections.is,
+      ap (λ xs. sum (map clause_weight (map view_resolved_clause xs))) c.as_slice-in-Sections.ensures.value,
+      c.requires.room,
+    )
+
+pub note_statement-next_pick-walk-requires : goal.note_statement-next_pick-walk-requires
+unfolding IsRoomFor
+note_statement-next_pick-walk-requires t c =
+    omega (
+      arith,
+      weight_sections _ _ _ _ _ c.in-Sections.is,
+      c.requires.room,
+    )
+
+pub note_statement-note_construct-requires : goal.note_statement-note_construct-requires
+unfolding IsRoomFor
+note_statement-note_construct-requires t c =
+    omega (
+      arith,
+      weight_construct _ _ _ _ _ c.in-Construct.is,
+      c.requires.room,
+    )
+
+pub note_statement-note_update-requires : goal.note_statement-note_update-requires
+unfolding IsRoomFor
+note_statement-note_update-requires t c =
+    omega (
+      arith,
+      weight_update _ _ _ c.in-Update.is,
+      ap (λ u. update_weight (view_resolved_update u)) c.deref-in-Update.ensures,
+      c.requires.room,
+    )
+
+pub note_statement-note_clauses-requires-in-Parallel : goal.note_statement-note_clauses-requires-in-Parallel
+unfolding IsRoomFor
+note_statement-note_clauses-requires-in-Parallel t c =
+    omega (
+      arith,
+      weight_region _ _ _ c.in-Parallel.is,
+      ap (λ xs. sum (map clause_weight (map view_resolved_clause xs))) c.as_slice-in-Parallel.ensures.value,
+      c.requires.room,
+    )
+
+pub note_statement-note_region-requires : goal.note_statement-note_region-requires
+unfolding IsRoomFor
+note_statement-note_region-requires t c = (
+  omega (
+    arith,
+    smaller_region _ _ _ c.in-Parallel.is,
+    ap size-ResolvedStatement c.deref-in-Parallel.ensures,
+    c.decreases,
+  ),
+  omega (
+    arith,
+    weight_region _ _ _ c.in-Parallel.is,
+    ap (λ xs. sum (map clause_weight (map view_resolved_clause xs))) c.as_slice-in-Parallel.ensures.value,
+    ap all_weight_of c.deref-in-Parallel.ensures,
+    clauses_behind (map view_resolved_clause c.as_slice-in-Parallel.result.now) c.args.walk.now.found c.note_clauses-in-Parallel.new.found c.in_ok-note_clauses-in-Parallel.ensures,
+    c.requires.room,
+  ),
+)
+
+pub note_statement-note_value-requires-in-If : goal.note_statement-note_value-requires-in-If
+unfolding IsRoomFor
+note_statement-note_value-requires-in-If t c =
+    omega (
+      arith,
+      weight_tested _ _ _ c.in-If.is,
+      c.requires.room,
+    )
+
+pub note_statement-note_statement-requires-in-If : goal.note_statement-note_statement-requires-in-If
+unfolding IsRoomFor
+note_statement-note_statement-requires-in-If t c = (
+  omega (
+    arith,
+    smaller_tested _ _ _ c.in-If.is,
+    ap size-ResolvedStatement c.deref-in-If.ensures,
+    c.decreases,
+  ),
+  omega (
+    arith,
+    weight_tested _ _ _ c.in-If.is,
+    ap all_weight_of c.deref-in-If.ensures,
+    value_behind (view_resolved_expression c.in-If.test) c.args.walk.now.found c.note_value-in-If.new.found c.in_ok-note_value-in-If.ensures,
+    c.requires.room,
+  ),
+)
+
+pub note_statements-note_statement-requires : goal.note_statements-note_statement-requires
+unfolding IsRoomFor
+note_statements-note_statement-requires t c = (
+  with_depth _ _ _ c.args.items.now c.loop-item.item-index c.item-item.result c.loop-item-test.true
+      c.item-item.is c.decreases (λ deep. omega (arith, deep, c.decreases)),
+  omega (
+    arith,
+    item_left c.args.items.now c.loop-item.item-index c.item-item.result c.loop-item-test.true c.item-item.is,
+    c.loop-item.invariant.2,
+  ),
+)
+
+pub note_parts-note_statements-requires : goal.note_parts-note_statements-requires
+unfolding IsRoomFor
+note_parts-note_statements-requires t c = (
+  with_depth _ _ _ c.args.parts.now c.loop-part.part-index c.part-item.result c.loop-part-test.true
+      c.part-item.is c.decreases (λ deep. omega (arith, deep, size_is-ResolvedPart c.part-item.result, ap (most size-ResolvedStatement) c.as_slice.ensures.value, c.decreases)),
+  omega (
+    arith,
+    part_left c.args.parts.now c.loop-part.part-index c.part-item.result c.loop-part-test.true c.part-item.is,
+    ap (λ xs. statements_weight (trees.statements (map view_resolved_statement xs))) c.as_slice.ensures.value,
+    c.loop-part.invariant.2,
+  ),
+)
+
+pub note_region-next_body-inner-requires : goal.note_region-next_body-inner-requires
+unfolding IsRoomFor
+note_region-next_body-inner-requires t c = omega (arith, c.requires.room)
+
+pub note_statements-loop-item-preserved : goal.note_statements-loop-item-preserved
+unfolding IsRoomFor all_mentioned
+note_statements-loop-item-preserved t c = (
+  grind (arith, common_steps),
+  grind (arith, common_steps),
+  omega (
+    arith,
+    item_left c.args.items.now c.loop-item.item-index c.item-item.result c.loop-item-test.true c.item-item.is,
+    statement_behind (view_resolved_statement c.item-item.result) (numbers_of c.loop-item.walk.numbers)
+        c.note_statement.new.walk.numbers c.loop-item.walk.found c.note_statement.new.walk.found
+        c.in_ok-note_statement.ensures.behind c.in_ok-note_statement.ensures.noted,
+    c.loop-item.invariant.2,
+  ),
+  (grind (arith, common_steps), grind (arith, common_steps), grind (arith, common_steps)),
+)
+
+pub note_parts-loop-part-preserved : goal.note_parts-loop-part-preserved
+unfolding IsRoomFor
+note_parts-loop-part-preserved t c =
+    let k = c.loop-part.part-index in
+    let x = c.part-item.result in
+    let seen = trees.statements (map view_resolved_statement c.as_slice.result.now) in
+    let rest = trees.parts (map view_resolved_part (drop (k + 1) c.args.parts.now)) in
+    let listed = ap (λ xs. trees.statements (map view_resolved_statement xs)) c.as_slice.ensures.value in
+    let here = next_part c.args.parts.now k x c.loop-part-test.true c.part-item.is
+    ∙ ap (λ items. trees.Part items rest) (sym listed) in
+    let next = parts_next seen _ rest (trees.parts (map view_resolved_part c.args.parts.now))
+    (numbers_of c.loop-part.walk.numbers) (numbers_of c.args.walk.now.numbers) c.note_statements.new.walk.numbers
+    c.loop-part.walk.ends.items c.note_statements.new.walk.ends.items c.args.walk.now.ends.items c.loop-part.walk.found
+    c.note_statements.new.walk.found c.args.walk.now.found here c.in_ok-note_statements.ensures.behind
+    c.in_ok-note_statements.ensures.ends c.in_ok-note_statements.ensures.noted c.loop-part.invariant.0
+    c.loop-part.invariant.1 c.loop-part.invariant.3 in (
+      next.0,
+      next.1,
+      omega (
+        arith,
+        part_left c.args.parts.now k x c.loop-part-test.true c.part-item.is,
+        ap statements_weight listed,
+        statements_behind seen (numbers_of c.loop-part.walk.numbers) c.note_statements.new.walk.numbers
+            c.loop-part.walk.found c.note_statements.new.walk.found c.in_ok-note_statements.ensures.behind
+            c.in_ok-note_statements.ensures.noted,
+        c.loop-part.invariant.2,
+      ),
+      next.2,
+    )

@@ -1,10 +1,12 @@
 use Rattle.std.proofs.Common.{◌≡◌, ◌++◌, map, drop}
 use Rattle.om_resolved.specs.ResolvedTree as trees
 use Rattle.om_resolved.specs.ResolvedView.{view_resolved_part, view_resolved_statement}
+use Rattle.om_resolved.specs.Weights.{parts_weight, statements_weight}
 use Rattle.om_rows.specs.Bodies as bodies
 use Rattle.om_rows.specs.Mentions.{all_mentioned, parts_mentioned}
 use Rattle.om_rows.specs.Ends.{all_region_ends, parts_region_ends}
 use Rattle.om_rows.specs.Numbering.{numbers_of}
+use Rattle.om_sights.specs.Room.{HasRoom}
 use Rattle.om_sights.proofs.Noting.{AreLeft}
 use Rattle.om_sights.proofs.mentions.+statement.Given as goal
 
@@ -15,6 +17,7 @@ invariant-note_statements-loop-item l =
     (bodies.behind_all (numbers_of l.walk.numbers) left ≡ bodies.behind_all (numbers_of l.fn.walk.numbers) all)
     × (map numbers_of l.walk.ends.items ++ all_region_ends (numbers_of l.walk.numbers) left
     ≡ map numbers_of l.fn.walk.ends.items ++ all_region_ends (numbers_of l.fn.walk.numbers) all)
+    × HasRoom (statements_weight left) l.walk
     × AreLeft (λ A m. all_mentioned m left) (λ A m. all_mentioned m all) l.walk.found
     l.fn.walk.found
 
@@ -25,5 +28,6 @@ invariant-note_parts-loop-part l =
     (bodies.behind_parts (numbers_of l.walk.numbers) left ≡ bodies.behind_parts (numbers_of l.fn.walk.numbers) all)
     × (map numbers_of l.walk.ends.items ++ parts_region_ends (numbers_of l.walk.numbers) left
     ≡ map numbers_of l.fn.walk.ends.items ++ parts_region_ends (numbers_of l.fn.walk.numbers) all)
+    × HasRoom (parts_weight left) l.walk
     × AreLeft (λ A m. parts_mentioned m left) (λ A m. parts_mentioned m all) l.walk.found
     l.fn.walk.found

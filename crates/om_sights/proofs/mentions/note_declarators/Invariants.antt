@@ -1,7 +1,10 @@
 use Rattle.std.proofs.Common.{map, drop}
+use Rattle.std.specs.Prelude.{sum}
 use Rattle.std.specs.List.{flat_map}
 use Rattle.om_resolved.specs.ResolvedView.{view_resolved_declarator}
+use Rattle.om_resolved.specs.Weights.{declarator_weight}
 use Rattle.om_rows.specs.Mentions.{declarator_mentioned}
+use Rattle.om_sights.specs.Room.{HasTextRoom}
 use Rattle.om_sights.proofs.Noting.{AreLeft}
 use Rattle.om_sights.proofs.mentions.note_declarators.Given as goal
 
@@ -9,5 +12,6 @@ abbrev pub invariant-loop-declarator : goal.invariant-loop-declarator
 invariant-loop-declarator l =
     let left = map view_resolved_declarator (drop l.declarator-index l.declarators) in
     let all = map view_resolved_declarator l.declarators in
-    AreLeft (λ A m. flat_map (declarator_mentioned m) left) (λ A m. flat_map (declarator_mentioned m) all) l.found
+    HasTextRoom (sum (map declarator_weight left)) l.found
+    × AreLeft (λ A m. flat_map (declarator_mentioned m) left) (λ A m. flat_map (declarator_mentioned m) all) l.found
     l.fn.found

@@ -1,7 +1,9 @@
 use Rattle.std.proofs.Common.{◌≡◌, ◌++◌, [], map, drop}
 use Rattle.om_sights.specs.Sites.{KeepsRound, bodies_in, function_of, site_variables}
+use Rattle.om_sights.specs.Room.{HasNumbers}
 use Rattle.om_resolved.specs.ResolvedTree as trees
 use Rattle.om_resolved.specs.ResolvedView.{view_resolved_part, view_resolved_statement}
+use Rattle.om_resolved.specs.Weights.{parts_weight, statements_weight}
 use Rattle.om_rows.specs.Bodies as bodies
 use Rattle.om_rows.specs.Numbering.{numbers_of}
 use Rattle.om_sights.proofs.sites.+statement.Given as goal
@@ -14,6 +16,7 @@ invariant-see_statements-loop-item l =
     (bodies.behind_all (numbers_of l.behind) left ≡ bodies.behind_all (numbers_of l.fn.numbers) all)
     × (bodies_in [] l.sites.items ++ regions (numbers_of l.behind) left
     ≡ bodies_in [] l.fn.sites.items ++ regions (numbers_of l.fn.numbers) all)
+    × HasNumbers (statements_weight left) l.behind
     × KeepsRound l.round.depth l.fn.sites.items l.sites.items
 
 abbrev pub invariant-see_parts-loop-part : goal.invariant-see_parts-loop-part
@@ -24,4 +27,5 @@ invariant-see_parts-loop-part l =
     (bodies.behind_parts (numbers_of l.behind) left ≡ bodies.behind_parts (numbers_of l.fn.numbers) all)
     × (bodies_in [] l.sites.items ++ regions (numbers_of l.behind) left
     ≡ bodies_in [] l.fn.sites.items ++ regions (numbers_of l.fn.numbers) all)
+    × HasNumbers (parts_weight left) l.behind
     × KeepsRound l.round.depth l.fn.sites.items l.sites.items

@@ -1,11 +1,14 @@
 use Rattle.std.proofs.Common.{◌≡◌, ◌++◌, [], List, map, drop}
+use Rattle.std.specs.Prelude.{sum}
 use Rattle.std.specs.List.{AllZip, flat_map}
 use Rattle.om_resolved.specs.ResolvedView.{view_resolved_function}
+use Rattle.om_resolved.specs.Weights.{function_weight}
 use Rattle.om_rows.specs.Bodies.{behind_functions, first_numbers}
 use Rattle.om_rows.specs.Mentions.{format_mention, function_mentioned, lock_mention}
 use Rattle.om_rows.specs.Slots.{Extent}
 use Rattle.om_rows.specs.Ends.{ends_from}
 use Rattle.om_sights.specs.Noted.{noted}
+use Rattle.om_sights.specs.Room.{HasRoom}
 use Rattle.om_rows.specs.Numbering.{function_numbers, numbers_of}
 use Rattle.om_rows.specs.ProgramTables.{AreCellsOf}
 use Rattle.om_sights.proofs.tables.note_functions.Given as goal
@@ -20,6 +23,7 @@ invariant-loop-function l =
     × (noted l.made.walk.found.locks (flat_map (function_mentioned lock_mention) left)
     ≡ noted l.fn.made.walk.found.locks (flat_map (function_mentioned lock_mention) all))
     × (l.made.walk.found.extents ≡ [])
+    × HasRoom (sum (map function_weight left)) l.made.walk
     × (l.made.bodies.items ++ function_numbers (numbers_of l.made.walk.numbers) left ≡ l.fn.made.bodies.items
     ++ function_numbers first_numbers all)
     × (map numbers_of l.made.walk.ends.items ++ ends_from (numbers_of l.made.walk.numbers) left

@@ -13,7 +13,7 @@ returns-clause-code c =
     let clauses = map view_resolved_clause c.args.head.now.clauses.now in
     opens_parts (names_at c.args.here.now) (part_head c.args.here.now.at.line c.args.head.now.numbers clauses
     (length c.args.parts.now))
-    c.in_ok-labels.labels _ _ _ _ refl refl refl c.in_ok-numbers.ensures c.in_ok-labels.ensures.code c.in_ok-first.ensures
+    c.in_ok-labels.labels _ _ _ _ refl refl refl c.next_pick-numbers.ensures c.in_ok-labels.ensures.code c.in_ok-first.ensures
 
 pub returns-clause-scopes : goal.returns-clause-scopes
 returns-clause-scopes c =

@@ -19,6 +19,7 @@ use Rattle.om_rows.specs.Numbering.{numbers_of}
 use Rattle.om_statements.specs.Going.{free_with, with_none}
 use Rattle.om_statements.proofs.Lists.{left_item, left_next, no_atomic, numbers_are, onward_begin, onward_done, spot_is}
 use Rattle.om_statements.proofs.Lists.{statement_is}
+use Rattle.om_statements.proofs.RegionEnds.{sections_ends}
 use Rattle.om_statements.proofs.RegionEnds.{ends_here, ends_next, parallel_ends, parts_ends_here, parts_ends_next}
 use Rattle.om_statements.proofs.RegionEnds.{task_ends}
 use Rattle.om_statements.proofs.Views.{view_block, view_break, view_construct, view_continue, view_declaration, view_do}
@@ -753,6 +754,9 @@ statement-returns-in-Atomic-clause-behind t c =
     c.in-Construct.clauses c.in-Construct.body c.in-Construct.is c.in-Atomic.is c.requires.code
 
 pub statement-begin_parts-requires : goal.statement-begin_parts-requires
-statement-begin_parts-requires t c =
-    sections_few _ _ c.args.tree.now _ c.in-Sections.at c.in-Sections.clauses c.in-Sections.nowait
-    c.in-Sections.sections c.in-Sections.is c.as_slice-in-Sections-2.ensures.value c.requires.code
+statement-begin_parts-requires t c = record {
+  few = sections_few _ _ c.args.tree.now _ c.in-Sections.at c.in-Sections.clauses c.in-Sections.nowait
+      c.in-Sections.sections c.in-Sections.is c.as_slice-in-Sections-2.ensures.value c.requires.code;
+  numbered = (sections_ends _ _ c.args.tree.now c.in-Sections.at c.in-Sections.clauses c.in-Sections.nowait
+      c.in-Sections.sections c.in-Sections.is c.requires.ends).0;
+}

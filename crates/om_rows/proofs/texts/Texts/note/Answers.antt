@@ -31,7 +31,7 @@ invariant_of-self-2 c =
     let none = none-is_some _ (sym c.contains_key.ensures ∙ c.if-contains_key.false) in
     let absent : lookup (is_at (λ k. slice_cmp nat_cmp key.items k.items)) entries ≡ None =
     ap (λ t. lookup (is_at (λ k. slice_cmp nat_cmp t k.items)) entries) c.in_ok-key.ensures.items ∙ none in
-    let counted = c.len-2.ensures ∙ c.reserve.new.self.ok.0 ∙ ap length c.reserve.ensures.items
+    let counted = c.len.ensures ∙ c.reserve.new.self.ok.0 ∙ ap length c.reserve.ensures.items
     ∙ sym (length-map old (λ t. t.items)) in
     let added = c.push_reserved.ensures.items ∙ ap (λ l. l ++ text ∷ []) c.reserve.ensures.items in
     let same = c.in_ok-key.ensures.items ∙ sym c.in_ok-text.ensures.items in
@@ -41,12 +41,12 @@ invariant_of-self-2 c =
         arith,
         ap length added,
         length-append old (text ∷ []),
-        c.len.ensures,
-        c.self.inside.texts.ok.0,
-        c.if-len-ge-TEXT_LIMIT.false,
+        sym (length-map old (λ t. t.items)),
+        ap length c.self.view_is,
+        c.requires,
       ),
       subst (λ table. AreTextNumbers table c.insert.new.self.entries) (sym seen)
-          (text_numbers-push (texts_of old) entries c.insert.new.self.entries key c.len-2.result c.self.invariant.1
+          (text_numbers-push (texts_of old) entries c.insert.new.self.entries key c.len.result c.self.invariant.1
           absent counted c.in_ok-insert.ensures.updates.1 c.in_ok-insert.ensures.updates.3),
     )
 

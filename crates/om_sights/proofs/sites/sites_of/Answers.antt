@@ -1,0 +1,21 @@
+use Rattle.std.proofs.Common.{map, ap, arith}
+use Rattle.om_resolved.specs.ResolvedTree as trees
+use Rattle.om_resolved.specs.ResolvedView.{view_resolved_statement}
+use Rattle.om_resolved.specs.Weights.{statements_weight}
+use Rattle.om_sights.specs.Room.{IsRoomFor}
+use Rattle.om_sights.proofs.Rooms.{given}
+use Rattle.om_sights.proofs.sites.sites_of.Goals as goal
+
+pub next_body-numbers-requires : goal.next_body-numbers-requires
+unfolding IsRoomFor
+next_body-numbers-requires c = omega (arith, c.requires.room)
+
+pub see_statements-requires-clause-room : goal.see_statements-requires-clause-room
+unfolding IsRoomFor
+see_statements-requires-clause-room c =
+    omega (
+      arith,
+      ap given c.next_body-numbers.ensures,
+      ap (λ xs. statements_weight (trees.statements (map view_resolved_statement xs))) c.as_slice.ensures.value,
+      c.requires.room,
+    )
