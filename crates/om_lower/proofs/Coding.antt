@@ -5,19 +5,17 @@ use Rattle.std.proofs.lemmas.List.{append_assoc, append-nil, map-append}
 use Rattle.std.specs.List.{flat_map}
 use Rattle.om_lower.specs.declared.emitted.Emitted.{Emitted}
 use Rattle.om_emit.specs.declared.draft.PickList.{PickList}
-use Rattle.om_lower.specs.Emitted.{HasLists, HasRow, HasScopesRow}
-use Rattle.om_emit.specs.Settled.{ListsStand, number_of}
+use Rattle.om_lower.specs.Emitted.{FitsRow}
+use Rattle.om_emit.specs.Settled.{number_of}
 use Rattle.om_code.specs.declared.raw.Body.{Body}
-use Rattle.om_code.specs.declared.raw.Line.{Line}
 use Rattle.om_code.specs.declared.raw.Names as raws
 use Rattle.om_code.specs.declared.raw.Slot.{Slot}
 use Rattle.om_lower.specs.Frames.{FitsFrame}
-use Rattle.om_lower.specs.Limits.{AreScopesAt, HasFewSlots, HasManySlots, IsCodeAt, IsOver, long, many_cells, many_slots}
+use Rattle.om_lower.specs.Limits.{HasFewSlots, HasManySlots, IsOver, long, many_cells, many_slots}
 use Rattle.om_lower.specs.Made.{AddsBody, AddsFunction, AreFunctions, AreListsOf, AreMade, FitsCode}
 use Rattle.om_lower.specs.Made.{FitsFunction, IsGathered, IsMade}
 use Rattle.om_lower.specs.declared.bodies.Bodies.{Bodies}
 use Rattle.om_lower.specs.declared.functions.Lowered.{Lowered}
-use Rattle.om_lower.proofs.Ascending.{body_table}
 use Rattle.om_lower.specs.Once.{site_picks}
 use Rattle.om_lower.proofs.Items.{take_pushed, zip_pushed}
 use Rattle.om_lower.proofs.SlotTables.{slots_same}
@@ -33,41 +31,14 @@ use Rattle.om_rows.specs.Mentions.{extents_of}
 use Rattle.om_rows.specs.Slots.{Extent, cells_in, slot_with}
 use Rattle.om_rows.specs.Numbered.{Numbered, numbered_in}
 
--- the code stands, wherever its lists stand in the program
-pub code_at : (tree : ResolvedTree) (b : BodySite) (names : Numbered) (variables : List ℕ) (main : Bool)
-    (made : Emitted)
-    → names ≡ numbered_in tree variables main → main ≡ is_main_function b.function
-    → variables ≡ variables_of b
-    → HasRow names b.numbers b.function b.tree made
-    → (picks : List (List ℕ)) → ListsStand made.lists.items picks → IsCodeAt tree picks b made.code
-code_at tree b names variables main made same_names same_main same_variables row =
-    let first = subst (λ x. HasRow x b.numbers b.function b.tree made) same_names row in
-    let second = subst (λ x.
-    HasRow (numbered_in tree variables x) b.numbers b.function b.tree made) same_main first in
-    subst (λ x. HasRow (numbered_in tree x (is_main_function b.function)) b.numbers b.function
-    b.tree made) same_variables second
-
--- and so do its scopes
-pub scopes_at : (tree : ResolvedTree) (b : BodySite) (names : Numbered) (variables : List ℕ) (main : Bool)
-    (made : Emitted)
-    → names ≡ numbered_in tree variables main → main ≡ is_main_function b.function
-    → variables ≡ variables_of b
-    → HasScopesRow names b.function b.tree made
-    → (picks : List (List ℕ)) → ListsStand made.lists.items picks
-    → AreScopesAt tree picks b made.code made.scopes.items
-scopes_at tree b names variables main made same_names same_main same_variables row =
-    let first = subst (λ x. HasScopesRow x b.function b.tree made) same_names row in
-    let second = subst (λ x. HasScopesRow (numbered_in tree variables x) b.function b.tree made) same_main first in
-    subst (λ x. HasScopesRow (numbered_in tree x (is_main_function b.function)) b.function b.tree made)
-    same_variables second
-
--- code that is too long
-pub too_long : (tree : ResolvedTree) (b : BodySite) (made : Emitted)
-    → ((picks : List (List ℕ)) → ListsStand made.lists.items picks → IsCodeAt tree picks b made.code)
-    → HasLists b.numbers b.function b.tree made → 65536 < length made.code → FitsCode tree b None
-too_long tree b made stands listed more =
-    let table = body_table b.numbers b.function b.tree made.lists.items listed in
-    (table.picks, made.code, stands table.picks table.stand, more)
+-- the code of a body, by whichever tables it was written
+pub fits_at : (tree : ResolvedTree) (b : BodySite) (names : Numbered) (variables : List ℕ) (main : Bool)
+    (made : Option Emitted) → names ≡ numbered_in tree variables main → main ≡ is_main_function b.function
+    → variables ≡ variables_of b → FitsRow names b.numbers b.function b.tree made → FitsCode tree b made
+fits_at tree b names variables main made same_names same_main same_variables fits =
+    subst (λ x. FitsRow (numbered_in tree x (is_main_function b.function)) b.numbers b.function b.tree made)
+    same_variables (subst (λ x. FitsRow (numbered_in tree variables x) b.numbers b.function b.tree made) same_main
+    (subst (λ x. FitsRow x b.numbers b.function b.tree made) same_names fits))
 
 -- the slots, by whichever table of cells
 pub frame_at : (b : BodySite) (extents : List Extent) (outer : List ℕ) (captures : List Capture)
@@ -111,7 +82,7 @@ made_body tree b made slots given names frame fits same named = record {
   short = fits.1;
 }
 
--- ---- the limits on slots and instructions
+-- ---- the limit on slots
 
 pub many_at : (b : BodySite) (count : ℕ) (variables : List ℕ) → 256 < count → count ≡ length variables
     → variables ≡ variables_of b → HasManySlots b
@@ -122,13 +93,6 @@ pub few_at : (b : BodySite) (count : ℕ) (variables : List ℕ) → count ≤ 2
     → variables ≡ variables_of b → HasFewSlots b
 few_at b count variables less same at =
     subst (λ all. length all ≤ 256) at (subst (λ n. n ≤ 256) same less)
-
-pub over_limit : (count : ℕ) (code : List Line) → 65536 < count → count ≡ length code → 65536 < length code
-over_limit count code more same = subst (λ n. 65536 < n) same more
-
-pub within_limit : (count : ℕ) (code : List Line) → count ≤ 65536 → count ≡ length code
-    → length code ≤ 65536
-within_limit count code less same = subst (λ n. n ≤ 65536) same less
 
 -- ---- function by function
 

@@ -1,11 +1,12 @@
 -- The code of a body, once all of it is written.
-use Rattle.std.proofs.Common.{◌≡◌, ℕ, zero, suc, List, [], ◌∷◌, Some, Contains, get_or, map, length, refl, sym, ap}
+use Rattle.std.proofs.Common.{◌≡◌, ◌<◌, ◌≤◌, ℕ, zero, suc, List, [], ◌∷◌, None, Some, Contains, get_or, map, length, refl, sym, ap}
 use Rattle.std.proofs.Common.{◌++◌, arith, subst, ◌∙◌}
 use Rattle.std.specs.Prelude.{slice_get}
 use Rattle.std.proofs.lemmas.List.{length-map}
 use Rattle.std.proofs.lemmas.Option.{slice_get_within}
+use Rattle.om_lower.proofs.Ascending.{body_table}
 use Rattle.om_lower.specs.declared.emitted.Emitted.{Emitted}
-use Rattle.om_lower.specs.Emitted.{EmitsBody, HasLists, HasRow, HasScopesRow}
+use Rattle.om_lower.specs.Emitted.{EmitsBody, FitsRow, HasLists, HasRow, HasScopesRow}
 use Rattle.om_emit.specs.declared.draft.Pick.{Pick}
 use Rattle.om_emit.specs.Drafts.{Labels, Written, known, nothing, place_in, settled, settled_code}
 use Rattle.om_emit.specs.Emits.{Finished, Fits}
@@ -17,7 +18,7 @@ use Rattle.om_rows.specs.Rows.{Site}
 use Rattle.om_rows.specs.Scopes.{Found, body_scopes}
 use Rattle.om_statements.specs.declared.writing.ScopeStack.{ScopeStack}
 use Rattle.om_statements.specs.Emits.{pick_number}
-use Rattle.om_statements.specs.Scoped.{ScopesStand}
+use Rattle.om_statements.specs.Scoped.{AreInside, ScopesStand}
 use Rattle.om_rows.specs.Numbered.{Numbered, site_with}
 
 get_map : {A B : Type 0} → (f : A → B) (xs : List A) (k : ℕ) (x : A) → slice_get xs k ≡ Some x
@@ -55,7 +56,7 @@ stands_in names n f tree final picks emitted stand =
     (sym (length-map final.code (settled (place_in final.places)))) row
 
 -- what is written of a body from nothing is its row, in its own code
-pub row_stands : (names : Numbered) (n : Numbers) (f : ResolvedFunctionTree) (tree : BodyTree)
+row_stands : (names : Numbered) (n : Numbers) (f : ResolvedFunctionTree) (tree : BodyTree)
     (start final : Written) (made : Emitted) → start ≡ nothing → made.code ≡ settled_code final
     → made.lists.items ≡ settled_lists final → EmitsBody names n f tree start final → HasRow names n f tree made
 row_stands names n f tree start final made first same lists emitted picks stand =
@@ -69,7 +70,7 @@ numbers_same at [] = refl
 numbers_same at (x ∷ xs) = ap (λ z. x.number ∷ z) (numbers_same at xs)
 
 -- its lists are those of the `sections` in it
-pub lists_are : (names : Numbered) (n : Numbers) (f : ResolvedFunctionTree) (tree : BodyTree)
+lists_are : (names : Numbered) (n : Numbers) (f : ResolvedFunctionTree) (tree : BodyTree)
     (start final : Written) (made : Emitted) → start ≡ nothing
     → made.lists.items ≡ settled_lists final → EmitsBody names n f tree start final → HasLists n f tree made
 lists_are names n f tree start final made first lists emitted =
@@ -86,7 +87,7 @@ all_over at f (TaskBody first clauses captures s) p q found r =
     λ i. record { opened = (ap (λ (x : Found). x.opened) r.2) i; closed = found.closed }
 
 -- what begins and ends in a body that is written from nothing are its scopes, in its own code
-pub scopes_stand : (names : Numbered) (f : ResolvedFunctionTree) (tree : BodyTree) (start final : Written)
+scopes_stand : (names : Numbered) (f : ResolvedFunctionTree) (tree : BodyTree) (start final : Written)
     (x y : ScopeStack) (made : Emitted) → start ≡ nothing → x.closed.items ≡ [] → made.code ≡ settled_code final
     → made.lists.items ≡ settled_lists final → made.scopes.items ≡ y.closed.items
     → ScopesStand names (λ at. body_scopes at f tree) start x final y → HasScopesRow names f tree made
@@ -112,3 +113,44 @@ scopes_stand names f tree start final x y made first none same lists ended h pic
     fits_later : (a b : Written) → Fits (record { code = settled_code final; picks = picks }) (place_in final.places) 0 b
         → Fits (record { code = settled_code final; picks = picks }) (place_in final.places) (length a.code) b
     fits_later a b f = record { code = λ k x le e. f.code k x (omega arith) e; places = f.places; picks = f.picks }
+
+settled_length : (d : Written) → length (settled_code d) ≡ length d.code
+settled_length d = length-map d.code (settled (place_in d.places))
+
+-- and they begin and end in it
+scopes_inside : (names : Numbered) (f : ResolvedFunctionTree) (tree : BodyTree) (start final : Written)
+    (x y : ScopeStack) (made : Emitted) → x.closed.items ≡ [] → made.code ≡ settled_code final
+    → made.scopes.items ≡ y.closed.items → ScopesStand names (λ at. body_scopes at f tree) start x final y
+    → AreInside (length made.code) made.scopes.items
+scopes_inside names f tree start final x y made none same ended h =
+    let closed : made.scopes.items ≡ h.found.closed =
+    ended ∙ h.closed ∙ ap (λ xs. xs ++ h.found.closed) none in
+    subst (λ n. AreInside n made.scopes.items) (sym (ap length same ∙ settled_length final))
+    (subst (AreInside (length final.code)) (sym closed) h.ended)
+
+-- code that is too long is not settled
+pub long_row : (names : Numbered) (n : Numbers) (f : ResolvedFunctionTree) (tree : BodyTree) (start final : Written)
+    → start ≡ nothing → EmitsBody names n f tree start final → 65536 < length final.code → FitsRow names n f tree None
+long_row names n f tree start final first emitted more =
+    let whole = subst (λ d. EmitsBody names n f tree d final) first emitted in
+    let table = body_table n f tree (settled_lists final)
+    (numbers_same (place_in final.places) final.picks ∙ whole.adds) in (
+      table.picks,
+      settled_code final,
+      stands_in names n f tree final table.picks whole table.stand,
+      omega (arith, more, settled_length final),
+    )
+
+-- and other code is
+pub short_row : (names : Numbered) (n : Numbers) (f : ResolvedFunctionTree) (tree : BodyTree) (start final : Written)
+    (x y : ScopeStack) (made : Emitted) → start ≡ nothing → x.closed.items ≡ [] → made.code ≡ settled_code final
+    → made.lists.items ≡ settled_lists final → made.scopes.items ≡ y.closed.items → length final.code ≤ 65536
+    → EmitsBody names n f tree start final → ScopesStand names (λ at. body_scopes at f tree) start x final y
+    → FitsRow names n f tree (Some made)
+short_row names n f tree start final x y made first none same lists ended short emitted h = (
+  row_stands names n f tree start final made first same lists emitted,
+  omega (arith, ap length same, settled_length final, short),
+  lists_are names n f tree start final made first lists emitted,
+  scopes_stand names f tree start final x y made first none same lists ended h,
+  scopes_inside names f tree start final x y made none same ended h,
+)

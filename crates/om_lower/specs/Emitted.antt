@@ -1,5 +1,6 @@
 -- What is promised of the code of a body.
-use Rattle.std.specs.Prelude.{◌≡◌, ℕ, List, [], length, map}
+use Rattle.std.specs.Prelude.{◌≡◌, ◌<◌, ◌≤◌, ℕ, List, [], Option, None, Some, length, map}
+use Rattle.om_code.specs.declared.raw.Line.{Line}
 use Rattle.om_lower.specs.declared.emitted.Emitted.{Emitted}
 use Rattle.om_emit.specs.Drafts.{Written}
 use Rattle.om_emit.specs.Emits.{site}
@@ -10,7 +11,7 @@ use Rattle.om_rows.specs.Code.{body_row}
 use Rattle.om_rows.specs.Scopes.{body_scopes}
 use Rattle.om_statements.specs.declared.writing.Writing.{Writing}
 use Rattle.om_statements.specs.Emits.{EmitsWith}
-use Rattle.om_statements.specs.Scoped.{EmitsScopes}
+use Rattle.om_statements.specs.Scoped.{AreInside, EmitsScopes}
 use Rattle.om_rows.specs.Numbered.{Numbered, site_with}
 use Rattle.om_rows.specs.Picks.{body_picks}
 
@@ -28,6 +29,15 @@ HasScopesRow names f tree made = (picks : List (List ℕ)) → ListsStand made.l
 -- it has the lists of the `sections` in it
 abbrev pub HasLists : Numbers → ResolvedFunctionTree → BodyTree → Emitted → Type 0
 HasLists n f tree made = map number_of made.lists.items ≡ body_picks n f tree
+
+-- the code of a body, if it has at most 65,536 instructions
+abbrev pub FitsRow : Numbered → Numbers → ResolvedFunctionTree → BodyTree → Option Emitted → Type 0
+FitsRow names n f tree None =
+    (picks : List (List ℕ)) × (code : List Line) × body_row (site_with names code picks) n f tree 0 (length code)
+    × (65536 < length code)
+FitsRow names n f tree (Some made) =
+    HasRow names n f tree made × (length made.code ≤ 65536) × HasLists n f tree made × HasScopesRow names f tree made
+    × AreInside (length made.code) made.scopes.items
 
 -- all of a body is written, with the lists of the `sections` in it
 abbrev pub EmitsBody : Numbered → Numbers → ResolvedFunctionTree → BodyTree → Written → Written → Type 0

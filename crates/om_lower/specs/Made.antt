@@ -3,6 +3,7 @@ use Rattle.std.specs.Prelude.{◌≡◌, ◌≤◌, ◌<◌, ◌⊎◌, ℕ, Lis
 use Rattle.std.specs.Prelude.{Any, length, map, slice_get, take}
 use Rattle.std.specs.List.{AllZip, flat_map}
 use Rattle.om_lower.specs.declared.emitted.Emitted.{Emitted}
+use Rattle.om_lower.specs.Emitted.{FitsRow}
 use Rattle.om_code.specs.declared.raw.Body.{Body}
 use Rattle.om_code.specs.declared.raw.Line.{Line}
 use Rattle.om_code.specs.declared.raw.Names.{Names}
@@ -23,6 +24,8 @@ use Rattle.om_rows.specs.Coded.{BodyHasCode}
 use Rattle.om_rows.specs.Scopes.{names_with}
 use Rattle.om_rows.specs.Positions.{StandsAt}
 use Rattle.om_resolved.specs.ResolvedView.{view_resolved_function}
+use Rattle.om_resolved.specs.Uses.{is_main_function}
+use Rattle.om_rows.specs.Numbered.{numbered_in}
 use Rattle.om_rows.specs.declared.tables.Tables.{Tables}
 use Rattle.om_rows.specs.Ends.{function_ends}
 use Rattle.om_rows.specs.Numbering.{numbers_of}
@@ -61,12 +64,8 @@ AreFunctions tree lists n (f ∷ fs) (bodies ∷ rest) = AreMade tree lists (fun
 
 -- the code of a body, if it has at most 65,536 instructions
 abbrev pub FitsCode : ResolvedTree → BodySite → Option Emitted → Type 0
-FitsCode tree b None = (picks : List (List ℕ)) × (code : List Line) × IsCodeAt tree picks b code × (65536 < length code)
-FitsCode tree b (Some made) = ((picks : List (List ℕ)) → ListsStand made.lists.items picks → IsCodeAt tree picks b
-    made.code)
-    × (length made.code ≤ 65536) × (map number_of made.lists.items ≡ site_picks b)
-    × ((picks : List (List ℕ)) → ListsStand made.lists.items picks → AreScopesAt tree picks b made.code
-    made.scopes.items)
+FitsCode tree b made =
+    FitsRow (numbered_in tree (variables_of b) (is_main_function b.function)) b.numbers b.function b.tree made
 
 -- a body that is put behind others with the lists of the PICKs in it, unless it passes a limit
 abbrev pub AddsBody : ResolvedTree → BodySite → Bodies → Bodies → (fits : Bool) → Type 0

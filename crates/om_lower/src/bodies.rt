@@ -17,7 +17,7 @@ ghost use Rattle.om_rows.specs.Statements.{given_copies};
 use crate::body::emitted_in;
 use crate::emitted::Emitted;
 use crate::frames::{SLOT_LIMIT, frame_of};
-use crate::functions::{INSTRUCTION_LIMIT, is_main};
+use crate::functions::is_main;
 use crate::input::{Known, SeenBody};
 use crate::names::names_with;
 use om_code::Body;
@@ -255,10 +255,7 @@ fn code_in(seen: &SeenBody<'_>) -> Result<Option<Emitted>, AllocError>
         is_main,
     );
     let emitted = emitted_in(input.alloc, &tables, seen.site)?;
-    if emitted.code.len() > INSTRUCTION_LIMIT {
-        return Ok(None);
-    }
-    Ok(Some(emitted))
+    Ok(emitted)
 }
 
 /// The slots that the values go to with which a frame of a body begins.

@@ -1,7 +1,7 @@
-//! The code of a body.
+//! The code of a body, within the limit on instructions.
 
 ghost use Rattle.std.specs.Prelude.{[], IfOk, OnOk};
-ghost use Rattle.om_lower.specs.Emitted.{EmitsBody, HasLists, HasRow, HasScopesRow};
+ghost use Rattle.om_lower.specs.Emitted.{EmitsBody, FitsRow};
 ghost use Rattle.om_sights.specs.Sites.{body_in};
 ghost use Rattle.om_rows.specs.Coded.{BodyHasCode};
 ghost use Rattle.om_rows.specs.Scopes.{body_scopes};
@@ -11,32 +11,34 @@ ghost use Rattle.om_rows.specs.Ends.{HasBodyEnds};
 ghost use Rattle.om_rows.specs.ProgramTables.{known_in};
 
 use crate::emitted::{Emitted, settled};
+use crate::functions::INSTRUCTION_LIMIT;
 use crate::whole::{write_function, write_parallel, write_task};
 use om_rows::BodyTables;
 use om_sights::{BodyPart, Site};
 use om_statements::writing::Writing;
 use std::alloc::{AllocError, Global};
 
-/// The code of a body, of whatever length. Its only error is out of memory.
+/// The code of a body; `None` where it has too many instructions. Its only error is out of memory.
+///
+/// Places have 32 bits once they stand for labels, so only code within the limit is settled.
 pub(crate) fn emitted_in(
     alloc: Global,
     tables: &BodyTables<'_>,
     site: &Site<'_>,
-) -> Result<Emitted, AllocError>
+) -> Result<Option<Emitted>, AllocError>
     requires code { BodyHasCode (body_in [] site.now).function (body_in [] site.now).tree }
     requires regions { let b = body_in [] site.now in
         HasBodyEnds (known_in tables.now) b.numbers b.function b.tree }
-    ensures row { let b = body_in [] site.now in
-        IfOk result (HasRow (numbered_by tables.now) b.numbers b.function b.tree) }
-    ensures lists { let b = body_in [] site.now in
-        IfOk result (HasLists b.numbers b.function b.tree) }
-    ensures scopes { let b = body_in [] site.now in
-        IfOk result (HasScopesRow (numbered_by tables.now) b.function b.tree) }
+    ensures { let b = body_in [] site.now in
+        IfOk result (FitsRow (numbered_by tables.now) b.numbers b.function b.tree) }
 {
     let mut writing = Writing::new(alloc);
     write_body(alloc, &mut writing, tables, site)?;
+    if writing.draft.place() > INSTRUCTION_LIMIT {
+        return Ok(None);
+    }
     let made = settled(alloc, writing)?;
-    Ok(made)
+    Ok(Some(made))
 }
 
 /// Writes all that stands in a body.

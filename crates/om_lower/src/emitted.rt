@@ -1,6 +1,6 @@
 //! A body, once all of it is written.
 
-ghost use Rattle.std.specs.Prelude.{◌≡◌, IfOk};
+ghost use Rattle.std.specs.Prelude.{◌≡◌, ◌≤◌, IfOk, length};
 ghost use Rattle.om_emit.specs.Drafts.{settled_code};
 ghost use Rattle.om_emit.specs.Settled.{settled_lists};
 
@@ -21,6 +21,7 @@ pub(crate) struct Emitted {
 
 /// What is written of a body, with the place of each label in its stead, and the scopes that have ended.
 pub(crate) fn settled(alloc: Global, writing: Writing) -> Result<Emitted, AllocError>
+    requires { length writing.draft.code ≤ 65536 }
     ensures code { IfOk result (λ made. made.code ≡ settled_code writing.draft) }
     ensures lists { IfOk result (λ made. made.lists.items ≡ settled_lists writing.draft) }
     ensures scopes { IfOk result (λ made. made.scopes.items ≡ writing.scopes.closed.items) }

@@ -2,6 +2,7 @@
 
 ghost use Rattle.std.specs.Prelude.{◌≡◌, ◌≤◌, ◌<◌, IfOk, IfSome, length, map, nat_eq, position};
 ghost use Rattle.om_rows.specs.Scopes.{names_with, scope_in, slot_among};
+ghost use Rattle.om_statements.specs.Scoped.{AreInside, IsInside};
 
 use om_code::raw::{Names, Scope};
 use om_rows::{VariableScope, Variables};
@@ -16,6 +17,7 @@ pub(crate) fn names_with(
     variables: &Variables,
     outer: &Variables,
 ) -> Result<Names, AllocError>
+    requires named { AreInside 65536 named.items }
     requires few { length variables.now ≤ 256 }
     requires round { length outer.now ≤ 256 }
     ensures { IfOk result
@@ -32,7 +34,8 @@ fn scopes_in(
     named: Vec<VariableScope>,
     variables: &Variables,
 ) -> Result<Seq<Scope>, AllocError>
-    requires { length variables.now ≤ 256 }
+    requires named { AreInside 65536 named.items }
+    requires few { length variables.now ≤ 256 }
     ensures { IfOk result (λ scopes. scopes ≡ map (scope_in variables.now) named.items) }
 {
     let mut scopes = Vec::new(alloc);
@@ -44,15 +47,16 @@ fn scopes_in(
 
 /// A scope, by the slots of a body with these variables.
 fn scope_in(variables: &Variables, named: VariableScope) -> Scope
-    requires { length variables.now ≤ 256 }
+    requires named { IsInside 65536 named }
+    requires few { length variables.now ≤ 256 }
     ensures { result ≡ scope_in variables.now named }
 {
     Scope {
         slot: slot_among(variables, named.variable),
         name: named.name,
         length: named.length,
-        from: named.from,
-        to: named.to,
+        from: named.from as u32,
+        to: named.to as u32,
     }
 }
 

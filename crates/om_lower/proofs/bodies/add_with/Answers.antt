@@ -3,6 +3,7 @@ use Rattle.om_lower.specs.Inputs.{seen_body, seen_tree}
 use Rattle.om_lower.specs.Made.{FitsCode}
 use Rattle.om_rows.specs.Scopes.{names_with}
 use Rattle.om_lower.proofs.Coding.{made_body, over_code}
+use Rattle.om_statements.specs.Scoping.{inside_more}
 use Rattle.om_lower.proofs.bodies.add_with.Goals as goal
 
 -- what is nothing that is there is not there
@@ -19,6 +20,12 @@ returns-in_default c =
 pub names_with-requires-clause-few : goal.names_with-requires-clause-few
 names_with-requires-clause-few c =
     subst (λ variables. length variables ≤ 256) (sym c.requires.seen.variables) c.requires.slots.1
+
+pub names_with-requires-clause-named : goal.names_with-requires-clause-named
+names_with-requires-clause-named c =
+    let fits = subst (λ code. FitsCode (seen_tree c.args.seen.now) (seen_body c.args.seen.now) code) c.in-Some.is
+    c.in_ok-emitted.ensures in
+    inside_more (length c.in-Some.emitted.code) 65536 c.in-Some.emitted.scopes.items fits.1 fits.4
 
 pub returns : goal.returns
 returns c =

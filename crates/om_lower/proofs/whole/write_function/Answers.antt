@@ -14,7 +14,7 @@ returns-clause-code c =
     _ _ _ _ _ _
     c.outside-spot.ensures
     (ap (λ items. trees.statements (map view_resolved_statement items)) c.as_slice-2.ensures.value)
-    c.last_instruction-last.ensures c.in_ok-statements.ensures.emitted c.in_ok-put.ensures)
+    c.last_instruction-last.ensures.last c.in_ok-statements.ensures.emitted c.in_ok-put.ensures)
     c.end.ensures
 
 pub returns-clause-scopes : goal.returns-clause-scopes
