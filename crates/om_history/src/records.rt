@@ -88,13 +88,11 @@ fn note(
     ensures same_own_on_error { OnErr result (SameOwn own.old own.new) }
 {
     lists.add_all(alloc, made.footprint(), made.serial())?;
-    match own.add(alloc, made.worker(), made.serial()) {
-        Ok(()) => Ok(()),
-        Err(error) => {
-            lists.remove_all(made.footprint(), made.serial());
-            Err(error)
-        }
+    if let Err(error) = own.add(alloc, made.worker(), made.serial()) {
+        lists.remove_all(made.footprint(), made.serial());
+        return Err(error);
     }
+    Ok(())
 }
 
 /// Takes the touches of an entry out of both lists. It takes no memory.
@@ -128,13 +126,11 @@ fn enter(
         Ok(()) => {}
         Err(_) => return Err(made),
     }
-    match kept.push(made) {
-        Ok(()) => Ok(()),
-        Err(made) => {
-            forget(lists, own, &made);
-            Err(made)
-        }
+    if let Err(made) = kept.push(made) {
+        forget(lists, own, &made);
+        return Err(made);
     }
+    Ok(())
 }
 
 /// Takes the record with a serial out, and its touches. It takes no memory, and moves no other
@@ -183,13 +179,18 @@ fn conflict(first: &[SharedAccess], others: &[SharedAccess]) -> Option<Obj>
     None
 }
 
-/// The reply that names a record where it conflicts with the one of a serial, else that this one is
-/// undone.
-fn refusal(undone: &Kept, serial: u64, made: &Kept) -> UndoReply
-    ensures { result ≡ conflict_or made.now.entry
-        (conflict_of undone.now.footprint made.now.footprint)
-        (UndoReply.Undone serial undone.now.entry.line) }
+/// The reply that names the record with the serial `first` where it conflicts with the one of another
+/// serial, else that this one is undone.
+fn refusal_by(kept: &BySerial, undone: &Kept, serial: u64, first: u64) -> UndoReply
+    requires { IsSome (lookup (is_at (nat_cmp first)) kept.now) }
+    ensures { IfSome (lookup (is_at (nat_cmp first)) kept.now)
+        (λ made. result ≡ conflict_or made.entry
+        (conflict_of undone.now.footprint made.footprint)
+        (UndoReply.Undone serial undone.now.entry.line)) }
 {
+    let Some(made) = kept.get(first) else {
+        unreachable!()
+    };
     match conflict(undone.footprint(), made.footprint()) {
         Some(object) => UndoReply::Conflict {
             serial: made.serial(),
@@ -200,21 +201,6 @@ fn refusal(undone: &Kept, serial: u64, made: &Kept) -> UndoReply
             serial,
             line: undone.line(),
         },
-    }
-}
-
-/// The reply that names the record with the serial `first` where it conflicts with the one of another
-/// serial, else that this one is undone.
-fn refusal_by(kept: &BySerial, undone: &Kept, serial: u64, first: u64) -> UndoReply
-    requires { IsSome (lookup (is_at (nat_cmp first)) kept.now) }
-    ensures { IfSome (lookup (is_at (nat_cmp first)) kept.now)
-        (λ made. result ≡ conflict_or made.entry
-        (conflict_of undone.now.footprint made.footprint)
-        (UndoReply.Undone serial undone.now.entry.line)) }
-{
-    match kept.get(first) {
-        Some(made) => refusal(undone, serial, made),
-        None => unreachable!(),
     }
 }
 
@@ -260,13 +246,13 @@ fn free_line(kept: &BySerial, lists: &TouchLists, serial: u64) -> Option<u32>
         → slice_get (values_of kept.now) i ≡ Some k → k.entry.serial ≡ serial
         → kept_reply (values_of kept.now) i ≡ UndoReply.Undone serial line) }
 {
-    match kept.get(serial) {
-        Some(undone) => match first_conflict(kept, lists, undone, serial) {
-            Some(_) => None,
-            None => Some(undone.line()),
-        },
-        None => unreachable!(),
-    }
+    let Some(undone) = kept.get(serial) else {
+        unreachable!()
+    };
+    let None = first_conflict(kept, lists, undone, serial) else {
+        return None;
+    };
+    Some(undone.line())
 }
 
 /// Whether a record conflicts with one of those whose touches these are.

@@ -69,17 +69,12 @@ fn make_changes(
     ensures same_state_on_error { OnErr result (state_of store.new ≡ state_of store.old) }
     ensures same_pasts_on_error { OnErr result (pasts_of store.new ≡ pasts_of store.old) }
 {
-    match store.change(alloc, made.worker(), edits) {
-        Ok(()) => {}
-        Err(error) => return Err(error),
+    store.change(alloc, made.worker(), edits)?;
+    if let Err(error) = make_all(store, alloc, further(made.footprint()), updates) {
+        store.undo(made.worker());
+        return Err(error);
     }
-    match make_all(store, alloc, further(made.footprint()), updates) {
-        Ok(()) => Ok(()),
-        Err(error) => {
-            store.undo(made.worker());
-            Err(error)
-        }
-    }
+    Ok(())
 }
 
 /// Makes a change of an entry's worker, and answers the record of it. When out of memory, no value
@@ -151,13 +146,11 @@ pub(crate) fn append(
     ensures same_records_on_error { OnErr result (records.new ≡ records.old) }
 {
     let made = make(store, alloc, entry, change)?;
-    match records.enter(alloc, made) {
-        Ok(()) => Ok(()),
-        Err(made) => {
-            take_back(store, made);
-            Err(AllocError)
-        }
+    if let Err(made) = records.enter(alloc, made) {
+        take_back(store, made);
+        return Err(AllocError);
     }
+    Ok(())
 }
 
 /// Takes the record with a serial out, and takes its changes back. It takes no memory.

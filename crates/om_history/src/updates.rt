@@ -1,45 +1,21 @@
 //! Updates of a store, each exchanged for what a small record holds of it.
 
-ghost use Rattle.std.specs.Prelude.{◌≡◌, ◌<◌, ◌≤◌, ◌∷◌, [], true, false, All, OnOk, OnErr, IfOk, IfSome, length, take, drop};
+ghost use Rattle.std.specs.Prelude.{◌≡◌, ◌<◌, ◌≤◌, ◌∷◌, [], true, false, All, OnOk, OnErr, IfOk, length, take, drop};
 ghost use Rattle.om_foot.specs.declared.object.Obj.{Obj};
 ghost use Rattle.om_foot.specs.declared.object.Obj.TheVariants as obj;
-ghost use Rattle.om_cells.specs.declared.value.Val.TheVariants as value;
-ghost use Rattle.om_cells.specs.State.{with_value, undo_of, state_after, state_before, updated, taken_back};
-ghost use Rattle.om_live.specs.Stores.{state_of, is_kept, pasts_of, is_trailed, noted_at};
+ghost use Rattle.om_cells.specs.State.{undo_of, state_after, state_before, updated, taken_back};
+ghost use Rattle.om_live.specs.Stores.{state_of, is_kept, pasts_of, is_trailed};
 ghost use Rattle.om_history.specs.Bounds.{FitsAt, FitsAtBack, FitsAll};
 ghost use Rattle.om_history.specs.Shapes.{IsShapedAt, AreShaped};
 ghost use Rattle.om_history.specs.Fills.{small_at, noted, small_record, noted_all, filled_at, popped, filled, popped_all, IfControl, CanTakeBack, control_at};
 
 use crate::accesses::Accesses;
-use om_cells::{Control, Footprint, SharedControl, Update, Val};
+use om_cells::{Control, Footprint, Update, Val};
 use om_foot::{Access, Mode, Obj};
 use om_live::{Store, worker_of};
 use om_touches::SharedAccess;
 use std::alloc::{AllocError, Global};
 use std::mem;
-
-/// Puts the control of a worker, whose trail keeps the one before. When out of memory, nothing
-/// changes.
-fn put_shared(
-    store: &mut Store,
-    alloc: Global,
-    worker: u8,
-    control: &SharedControl,
-) -> Result<(), AllocError>
-    requires { is_kept store.old (obj.Control worker) ≡ true }
-    ensures state { OnOk result (state_of store.new
-        ≡ with_value (obj.Control worker) (value.Control control.now) (state_of store.old)) }
-    ensures pasts { OnOk result (pasts_of store.new
-        ≡ noted_at (obj.Control worker) (state_of store.old) (pasts_of store.old)) }
-    ensures same_state_on_error { OnErr result (state_of store.new ≡ state_of store.old) }
-    ensures same_pasts_on_error { OnErr result (pasts_of store.new ≡ pasts_of store.old) }
-    ensures kept { (q : Obj) → is_kept store.new q ≡ is_kept store.old q }
-{
-    match control.get() {
-        Some(control) => store.put(alloc, worker, control),
-        None => store.put(alloc, worker, &Control::Idle),
-    }
-}
 
 /// Makes an update at a `Write` of a worker's control, and answers the mark of it: the trail keeps
 /// the control before. When out of memory, nothing changes.
@@ -61,13 +37,14 @@ fn make_control(
     ensures same_pasts_on_error { OnErr result (pasts_of store.new ≡ pasts_of store.old) }
     ensures kept { (q : Obj) → is_kept store.new q ≡ is_kept store.old q }
 {
-    match update {
-        Update::Put(Val::Control(control)) => match put_shared(store, alloc, worker, &control) {
-            Ok(()) => Ok(Update::Keep),
-            Err(error) => Err(error),
-        },
-        _ => unreachable!(),
+    let Update::Put(Val::Control(control)) = update else {
+        unreachable!()
+    };
+    match control.get() {
+        Some(control) => store.put(alloc, worker, control)?,
+        None => store.put(alloc, worker, &Control::Idle)?,
     }
+    Ok(Update::Keep)
 }
 
 /// Makes an update at a `Write` of another object, and answers the one that takes it back. When out
@@ -180,21 +157,6 @@ fn take_write_back(store: &mut Store, object: &Obj, update: Update)
     }
 }
 
-/// Takes a mark of a worker's control back, by its trail.
-fn take_control_back(store: &mut Store, worker: u8, mark: Update)
-    requires marked { mark ≡ Update.Keep }
-    requires past { 0 < length (pasts_of store.old (obj.Control worker)) }
-    ensures state { state_of store.new
-        ≡ state_before (control_at worker Mode.Write)
-        (filled_at (control_at worker Mode.Write) mark (pasts_of store.old)) (state_of store.old) }
-    ensures pasts { pasts_of store.new
-        ≡ popped (control_at worker Mode.Write) mark (pasts_of store.old) }
-    ensures kept { (q : Obj) → is_kept store.new q ≡ is_kept store.old q }
-{
-    drop(mark);
-    store.undo(worker);
-}
-
 /// Takes an update back, by what a small record holds of it. It takes no memory.
 fn take_back(store: &mut Store, access: &SharedAccess, small: Update)
     requires kept { is_kept store.old access.now.object ≡ true }
@@ -212,7 +174,10 @@ fn take_back(store: &mut Store, access: &SharedAccess, small: Update)
     match access.mode() {
         Mode::Read => drop(small),
         Mode::Write => match worker_of(object) {
-            Some(worker) => take_control_back(store, worker, small),
+            Some(worker) => {
+                drop(small);
+                store.undo(worker);
+            }
             None => take_write_back(store, object, small),
         },
         Mode::Add => take_addition_back(store, object, small),

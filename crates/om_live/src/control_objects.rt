@@ -14,21 +14,6 @@ pub(crate) struct ControlObjects {
     objects: Vec<SharedObject>,
 }
 
-/// The object of a worker's control: this one, for one owner more, where it is that. Its only error is
-/// out of memory.
-fn shared_with(alloc: Global, object: &SharedObject, worker: u8) -> Result<SharedObject, AllocError>
-    ensures { IfOk result (λ shared. shared ≡ obj.Control worker) }
-{
-    let Obj::Control(number) = object.get() else {
-        return SharedObject::of(alloc, &Obj::Control(worker));
-    };
-    if *number == worker {
-        object.copy()
-    } else {
-        SharedObject::of(alloc, &Obj::Control(worker))
-    }
-}
-
 impl ControlObjects {
     /// No objects. It takes no memory.
     pub(crate) fn new(alloc: Global) -> ControlObjects {
@@ -53,6 +38,10 @@ impl ControlObjects {
         ensures { IfOk result (λ shared. shared ≡ obj.Control worker) }
     {
         self.know(alloc, worker)?;
-        shared_with(alloc, &self.objects[worker as usize], worker)
+        let object = &self.objects[worker as usize];
+        match object.get() {
+            Obj::Control(number) if *number == worker => object.copy(),
+            _ => SharedObject::of(alloc, &Obj::Control(worker)),
+        }
     }
 }

@@ -69,20 +69,6 @@ fn fail(control: &mut Control, fault: Fault) -> Inverse
     }
 }
 
-/// The initial task ends, with a value, if the worker runs. When out of memory, nothing changes.
-fn end(alloc: Global, control: &mut Control, value: i32) -> Result<Inverse, AllocError>
-    ensures changed { OnOk result (plain_control control.new
-        ≡ changed_by (Edit.End value) (plain_control control.old)) }
-    ensures can { IfOk result (λ i. CanRevert i control.new) }
-    ensures back { IfOk result (λ i. reverted i control.new ≡ control.old) }
-    ensures unchanged_on_error { OnErr result (control.new ≡ control.old) }
-{
-    match control {
-        Control::Running(_) => become_control(alloc, control, Control::Ended(value)),
-        Control::Idle | Control::Faulted(_, _) | Control::Ended(_) => Ok(Inverse::Same),
-    }
-}
-
 /// Makes an edit of a control, where the worker runs, and answers what takes it back. When out of
 /// memory, nothing changes.
 pub fn apply(alloc: Global, control: &mut Control, edit: Edit) -> Result<Inverse, AllocError>
@@ -96,7 +82,10 @@ pub fn apply(alloc: Global, control: &mut Control, edit: Edit) -> Result<Inverse
     match edit {
         Edit::EndContext => end_context(alloc, control),
         Edit::Fail(fault) => Ok(fail(control, fault)),
-        Edit::End(value) => end(alloc, control, value),
+        Edit::End(value) => match control {
+            Control::Running(_) => become_control(alloc, control, Control::Ended(value)),
+            Control::Idle | Control::Faulted(_, _) | Control::Ended(_) => Ok(Inverse::Same),
+        },
         turn => match control {
             Control::Running(stack) => match stack.apply(alloc, turn) {
                 Ok(inverse) => Ok(inverse),

@@ -3,7 +3,7 @@
 ghost use Rattle.std.specs.Prelude.{◌≡◌, ◌<◌, ◌^◌};
 ghost use Rattle.om_cells.specs.Edits.{changed};
 ghost use Rattle.om_live.specs.Plain.{plain_control};
-ghost use Rattle.om_live.specs.Faults.{fault_in, fault_ahead, outlook_of, outlook_after, IsLow};
+ghost use Rattle.om_live.specs.Faults.{fault_in, outlook_of, outlook_after, IsLow};
 
 use crate::control::Control;
 use om_cells::Edit;

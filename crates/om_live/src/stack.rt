@@ -3,35 +3,16 @@
 
 ghost use Rattle.std.specs.Prelude.{◌≡◌, ◌<◌, IfOk, OnOk, OnErr, length, map};
 ghost use Rattle.om_cells.specs.declared.control.Control.TheVariants as plain;
-ghost use Rattle.om_cells.specs.Edits.{context_begun, context_ended, edited, Counts};
+ghost use Rattle.om_cells.specs.Edits.{context_ended, edited, Counts};
 ghost use Rattle.om_live.specs.Plain.{plain_stack, plain_held};
 ghost use Rattle.om_live.specs.Inverses.{stack_back, CanStackBack, StaysRunning};
 
 use crate::control::{Inverse, Stack};
 use crate::live::context_of;
-use om_cells::{Context as PlainContext, Edit};
+use om_cells::Edit;
 use std::alloc::{AllocError, Global};
 
 impl Stack {
-    /// Begins a context, which runs. When out of memory, nothing changes.
-    fn begin_context(
-        &mut self,
-        alloc: Global,
-        context: &PlainContext,
-    ) -> Result<Inverse, AllocError>
-        ensures changed { OnOk result (plain_stack self.new
-            ≡ context_begun context.now (plain_stack self.old)) }
-        ensures can { IfOk result (λ i. CanStackBack i self.new) }
-        ensures back { IfOk result (λ i. stack_back i self.new ≡ self.old) }
-        ensures unchanged_on_error { OnErr result (self.new ≡ self.old) }
-    {
-        let context = context_of(alloc, context)?;
-        match self.below.push_under(context, &mut self.top) {
-            Ok(over) => Ok(Inverse::BeganContext(over)),
-            Err(error) => Err(error),
-        }
-    }
-
     /// Ends the running context where another one waits below it, which runs on. It takes no
     /// memory.
     pub(crate) fn end_context(&mut self) -> Inverse
@@ -57,7 +38,11 @@ impl Stack {
         ensures unchanged_on_error { OnErr result (self.new ≡ self.old) }
     {
         match edit {
-            Edit::BeginContext(context) => self.begin_context(alloc, context.get()),
+            Edit::BeginContext(context) => {
+                let begun = context_of(alloc, context.get())?;
+                let over = self.below.push_under(begun, &mut self.top)?;
+                Ok(Inverse::BeganContext(over))
+            }
             Edit::EndContext | Edit::Fail(_) | Edit::End(_) => unreachable!(),
             turn => match self.top.apply(alloc, turn) {
                 Ok(inverse) => Ok(inverse),

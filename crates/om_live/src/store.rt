@@ -14,6 +14,7 @@ ghost use Rattle.om_live.specs.Stores.{worker_of, is_trailed, plain_or_idle, sta
 
 use crate::control::Control;
 use crate::control_objects::ControlObjects;
+use crate::copy::plain_of;
 use crate::live::control_of;
 use crate::trail::Trail;
 use om_cells::{
@@ -101,10 +102,8 @@ impl Store {
         ensures { plain_or_idle (option_copied result)
             ≡ control_in (state_of self.now (obj.Control worker)) }
     {
-        match trail_at(&self.trails, worker) {
-            Some(trail) => Some(trail.control()),
-            None => None,
-        }
+        let trail = trail_at(&self.trails, worker)?;
+        Some(trail.control())
     }
 
     /// Whether a worker is idle.
@@ -193,23 +192,14 @@ impl Store {
     pub fn copy_at(&self, alloc: Global, object: &Obj) -> Result<Val, AllocError>
         ensures { IfOk result (λ value. value ≡ state_of self.now object.now) }
     {
-        match worker_of(object) {
-            Some(worker) => self.copy_control(alloc, worker),
-            None => self.values.copy_at(alloc, object),
-        }
-    }
-
-    /// A copy of a worker's control.
-    fn copy_control(&self, alloc: Global, worker: u8) -> Result<Val, AllocError>
-        ensures { IfOk result (λ value. value ≡ state_of self.now (obj.Control worker)) }
-    {
-        match trail_at(&self.trails, worker) {
-            Some(trail) => {
-                let control = trail.plain(alloc)?;
-                Ok(Val::Control(SharedControl::of(alloc, control)?))
-            }
-            None => Ok(Val::Control(SharedControl::idle())),
-        }
+        let Some(worker) = worker_of(object) else {
+            return self.values.copy_at(alloc, object);
+        };
+        let Some(control) = self.control(worker) else {
+            return Ok(Val::Control(SharedControl::idle()));
+        };
+        let copy = plain_of(alloc, control)?;
+        Ok(Val::Control(SharedControl::of(alloc, copy)?))
     }
 
     /// Keeps an object, with the value that it holds, and answers the object, shared with all that
@@ -284,10 +274,7 @@ impl Store {
         ensures same_state_on_error { OnErr result (state_of self.new ≡ state_of self.old) }
         ensures same_pasts_on_error { OnErr result (pasts_of self.new ≡ pasts_of self.old) }
     {
-        match self.trails[worker as usize].step(alloc, edits) {
-            Ok(()) => Ok(()),
-            Err(error) => Err(error),
-        }
+        self.trails[worker as usize].step(alloc, edits)
     }
 
     /// Puts a worker's control, as a FORK does for a member. When out of memory, nothing changes.
@@ -306,10 +293,7 @@ impl Store {
         ensures same_state_on_error { OnErr result (state_of self.new ≡ state_of self.old) }
         ensures same_pasts_on_error { OnErr result (pasts_of self.new ≡ pasts_of self.old) }
     {
-        match self.trails[worker as usize].become_other(alloc, control) {
-            Ok(()) => Ok(()),
-            Err(error) => Err(error),
-        }
+        self.trails[worker as usize].become_other(alloc, control)
     }
 
     /// Takes the latest change of a worker's control back, in place. It takes no memory.

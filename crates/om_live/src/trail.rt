@@ -1,13 +1,12 @@
 //! A worker's control with the trail of its changes, which leads back to its start.
 
-ghost use Rattle.std.specs.Prelude.{◌≡◌, ◌<◌, ◌∷◌, [], IfOk, OnOk, OnErr, length};
+ghost use Rattle.std.specs.Prelude.{◌≡◌, ◌<◌, ◌∷◌, [], OnOk, OnErr, length};
 ghost use Rattle.om_cells.specs.declared.control.Control.TheVariants as plain;
 ghost use Rattle.om_cells.specs.Edits.{changed_by, changed, HasRoom, HaveRoom};
 ghost use Rattle.om_live.specs.Plain.{plain_control};
 ghost use Rattle.om_live.specs.Trails.{CanRewind, past_of, stepped, became, undone};
 
 use crate::control::{Control, Inverse};
-use crate::copy::plain_of;
 use crate::edit::{apply, become_control, revert};
 use crate::live::control_of;
 use crate::log::Log;
@@ -137,13 +136,6 @@ impl Trail {
             control,
             inverses: Log::new(alloc),
         }
-    }
-
-    /// A plain copy of the control now; its only error is out of memory.
-    pub fn plain(&self, alloc: Global) -> Result<PlainControl, AllocError>
-        ensures { IfOk result (λ control. control ≡ self.now.now) }
-    {
-        plain_of(alloc, &self.control)
     }
 
     /// The control now.

@@ -23,14 +23,14 @@ returns-in-Err-clause-indexed c = indexed_same c.args.kept.now c.args.lists.now 
     c.args.own.now c.note.new.own c.requires.indexed c.in-Err.ensures.same_lists_on_error
     c.in-Err.ensures.same_own_on_error
 
-pub returns-in-Ok-push-clause-indexed : goal.returns-in-Ok-push-clause-indexed
-returns-in-Ok-push-clause-indexed c = subst (λ es. IsIndexed es c.note.new.lists c.note.new.own)
-    (sym c.in-Ok-push.ensures.pushed)
+pub returns-clause-indexed : goal.returns-clause-indexed
+returns-clause-indexed c = subst (λ es. IsIndexed es c.note.new.lists c.note.new.own)
+    (sym c.in_default.ensures.pushed)
     (indexed_with c.args.kept.now c.args.made c.args.lists.now c.note.new.lists c.args.own.now
     c.note.new.own c.requires.indexed c.requires.some c.requires.latest c.in-Ok.ensures.lists c.in-Ok.ensures.own)
 
-pub returns-in-Ok-push-clause-entered : goal.returns-in-Ok-push-clause-entered
-returns-in-Ok-push-clause-entered c = ap values_of c.in-Ok-push.ensures.pushed
+pub returns-clause-entered : goal.returns-clause-entered
+returns-clause-entered c = ap values_of c.in_default.ensures.pushed
     ∙ values-push c.args.kept.now c.args.made.entry.serial c.args.made
 
 pub returns-in-Err-push-clause-indexed : goal.returns-in-Err-push-clause-indexed

@@ -6,10 +6,10 @@ use Rattle.om_live.proofs.edit.apply.Goals as goal
 
 pub returns-in-Ok : goal.returns-in-Ok
 returns-in-Ok c = record {
-  changed = rw (c.in-Running.is) c.in-Ok.ensures.changed;
+  changed = rw (c.in-Running-control.is) c.in-Ok.ensures.changed;
   can = can_stack_control c.in-Ok.inverse _ c.in-Ok.ensures.can;
   back = stack_of_control c.in-Ok.inverse _ c.in-Ok.ensures.can ∙ ap control.Running c.in-Ok.ensures.back
-      ∙ sym c.in-Running.is;
+      ∙ sym c.in-Running-control.is;
   unchanged_on_error = tt;
 }
 
@@ -18,5 +18,5 @@ returns-in-Err c = record {
   changed = tt;
   can = tt;
   back = tt;
-  unchanged_on_error = ap control.Running c.in-Err.ensures.unchanged_on_error ∙ sym c.in-Running.is;
+  unchanged_on_error = ap control.Running c.in-Err.ensures.unchanged_on_error ∙ sym c.in-Running-control.is;
 }

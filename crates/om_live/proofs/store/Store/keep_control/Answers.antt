@@ -1,4 +1,3 @@
-use Rattle.std.proofs.Common.{◌≡◌, true}
 use Rattle.std.proofs.lemmas.Result.{IfOk-weaker}
 use Rattle.om_cells.specs.Stores as values
 use Rattle.om_live.specs.Stores.{state_of, is_kept, pasts_of}

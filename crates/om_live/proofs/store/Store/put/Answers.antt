@@ -2,6 +2,7 @@ use Rattle.std.proofs.Common.{◌∙◌, arith, ap, sym, set}
 use Rattle.std.specs.Prelude.{Some}
 use Rattle.std.proofs.lemmas.List.{set-get_or}
 use Rattle.std.proofs.lemmas.Option.{slice_get-get_or}
+use Rattle.std.proofs.lemmas.Result.{on_ok_weaker, on_err_weaker}
 use Rattle.om_foot.specs.declared.object.Obj.TheVariants as obj
 use Rattle.om_cells.specs.declared.value.Val.TheVariants as value
 use Rattle.om_cells.specs.State.{with_value}
@@ -18,47 +19,42 @@ index_mut-requires c = omega (
   c.args.self.now.trails.ok,
 )
 
-pub returns-in-Ok-clause-state : goal.returns-in-Ok-clause-state
+pub returns-clause-state : goal.returns-clause-state
 unfolding state_of is_kept
-returns-in-Ok-clause-state c =
+returns-clause-state c =
     let ts = c.args.self.now.trails.items in
     let s = values.state_of c.args.self.now.values in
     let w = c.args.worker in
-    held_put ts w c.become_other.new.self s (within ts w c.requires)
-    ∙ ap (λ t. with_value (obj.Control w) (value.Control t.now) (held_by ts s)) c.in-Ok.ensures.became
+    on_ok_weaker c.become_other.result (λ became. held_put ts w c.become_other.new.self s (within ts w c.requires)
+    ∙ ap (λ t. with_value (obj.Control w) (value.Control t.now) (held_by ts s)) became) c.become_other.ensures.became
 
-pub returns-in-Ok-clause-pasts : goal.returns-in-Ok-clause-pasts
+pub returns-clause-pasts : goal.returns-clause-pasts
 unfolding state_of pasts_of is_kept
-returns-in-Ok-clause-pasts c =
+returns-clause-pasts c =
     let ts = c.args.self.now.trails.items in
     let w = c.args.worker in
     let at = slice_get-get_or ts w _ (within ts w c.requires) ∙ ap Some (sym c.index_mut.ensures.value) in
-    noted_put ts w c.become_other.new.self c.index_mut.result.now (values.state_of c.args.self.now.values)
-    (within ts w c.requires) at (ap (λ t. t.past) c.in-Ok.ensures.became)
+    on_ok_weaker c.become_other.result (λ became. noted_put ts w c.become_other.new.self c.index_mut.result.now
+    (values.state_of c.args.self.now.values) (within ts w c.requires) at (ap (λ t. t.past) became))
+    c.become_other.ensures.became
 
-pub returns-in-Ok-clause-kept : goal.returns-in-Ok-clause-kept
+pub returns-clause-kept : goal.returns-clause-kept
 unfolding is_kept
-returns-in-Ok-clause-kept c = λ q.
+returns-clause-kept c = λ q.
     kept_put c.args.self.now.trails.items c.args.worker c.become_other.new.self
     (values.is_kept c.args.self.now.values) q
 
-pub returns-in-Err-clause-kept : goal.returns-in-Err-clause-kept
-unfolding is_kept
-returns-in-Err-clause-kept c = λ q.
-    kept_put c.args.self.now.trails.items c.args.worker c.become_other.new.self
-    (values.is_kept c.args.self.now.values) q
-
-pub returns-in-Err-clause-same_state_on_error : goal.returns-in-Err-clause-same_state_on_error
+pub returns-clause-same_state_on_error : goal.returns-clause-same_state_on_error
 unfolding state_of
-returns-in-Err-clause-same_state_on_error c =
+returns-clause-same_state_on_error c =
     let ts = c.args.self.now.trails.items in
-    ap (λ x. held_by x (values.state_of c.args.self.now.values))
-    (ap (set ts c.args.worker) (c.in-Err.ensures.unchanged_on_error ∙ c.index_mut.ensures.value)
-    ∙ set-get_or ts c.args.worker _)
+    on_err_weaker c.become_other.result (λ same. ap (λ x. held_by x (values.state_of c.args.self.now.values))
+    (ap (set ts c.args.worker) (same ∙ c.index_mut.ensures.value) ∙ set-get_or ts c.args.worker _))
+    c.become_other.ensures.unchanged_on_error
 
-pub returns-in-Err-clause-same_pasts_on_error : goal.returns-in-Err-clause-same_pasts_on_error
+pub returns-clause-same_pasts_on_error : goal.returns-clause-same_pasts_on_error
 unfolding pasts_of
-returns-in-Err-clause-same_pasts_on_error c =
+returns-clause-same_pasts_on_error c =
     let ts = c.args.self.now.trails.items in
-    ap pasts_by (ap (set ts c.args.worker) (c.in-Err.ensures.unchanged_on_error ∙ c.index_mut.ensures.value)
-    ∙ set-get_or ts c.args.worker _)
+    on_err_weaker c.become_other.result (λ same. ap pasts_by (ap (set ts c.args.worker) (same ∙ c.index_mut.ensures.value)
+    ∙ set-get_or ts c.args.worker _)) c.become_other.ensures.unchanged_on_error
