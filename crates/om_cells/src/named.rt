@@ -213,10 +213,10 @@ fn note_task(places: &BTreeMap<Name, Places>, first: &mut Option<Name>, name: &N
 fn is_ready(places: &BTreeMap<Name, Places>, name: &Name) -> bool
     ensures { result ≡ is_ready_in places.now.entries name.now }
 {
-    match places.get(name) {
-        Some(places) => ready_name(name, places).is_some(),
-        None => false,
-    }
+    let Some(places) = places.get(name) else {
+        return false;
+    };
+    ready_name(name, places).is_some()
 }
 
 /// Whether a name is before another one; it is so before none.
@@ -233,10 +233,10 @@ fn is_before(name: &Name, other: &Option<Name>) -> bool
 fn is_the(name: &Name, other: &Option<Name>) -> bool
     ensures { result ≡ is_the name.now other.now }
 {
-    match other {
-        Some(other) => name.cmp(other) == Ordering::Equal,
-        None => false,
-    }
+    let Some(other) = other else {
+        return false;
+    };
+    name.cmp(other) == Ordering::Equal
 }
 
 /// The names of all tasks that are ready to be begun, ascending.
