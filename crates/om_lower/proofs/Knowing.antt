@@ -1,8 +1,10 @@
 -- What is known of the bodies of a function, by their numbers.
-use Rattle.std.proofs.Common.{◌≡◌, ◌<◌, ℕ, zero, suc, ◌+◌, ◌-◌, List, [], ◌∷◌, ◌++◌, Some, All, length, map, take}
+use Rattle.std.proofs.Common.{◌≡◌, ◌<◌, ℕ, zero, suc, ◌+◌, ◌-◌, ◌^◌, List, [], ◌∷◌, ◌++◌, Some, All, length, map, take}
 use Rattle.std.proofs.Common.{slice_get, refl, sym, ap, subst, ◌∙◌, arith}
 use Rattle.std.proofs.lemmas.List.{append_assoc, length-append, length-map, map-append, take-map}
 use Rattle.std.proofs.lemmas.List.Elements.{All-nil, All-cons, All-append}
+use Rattle.std.proofs.lemmas.List.Sums.{sum_by-cons}
+use Rattle.std.specs.Prelude.{sum}
 use Rattle.std.proofs.lemmas.Option.{slice_get_within}
 use Rattle.std.specs.List.{AllZip}
 use Rattle.om_lower.specs.Limits.{HasFewSlots}
@@ -12,6 +14,8 @@ use Rattle.om_resolved.specs.ResolvedTree.{ResolvedStatementTree, Declaration, B
 use Rattle.om_resolved.specs.ResolvedTree.{While, Do, For, Return, Break, Continue, Parallel, Task, Loop, Sections}
 use Rattle.om_resolved.specs.ResolvedTree.{Construct, Update, StandAlone, ResolvedStatementsTree, NoStatements}
 use Rattle.om_resolved.specs.ResolvedTree.{Statement, ResolvedPartsTree, NoParts, Part, ResolvedFunctionTree}
+use Rattle.om_resolved.specs.Weights.{function_weight, parts_weight, statement_weight, statements_weight}
+use Rattle.om_sights.specs.Weighed.{statement_few, statements_few}
 use Rattle.om_rows.specs.Bodies.{BodySite, BodyTree, FunctionBody, Numbers, ParallelBody, TaskBody, all_regions}
 use Rattle.om_rows.specs.Bodies.{behind, behind_all, behind_function, behind_functions, first_numbers}
 use Rattle.om_rows.specs.Bodies.{function_bodies, function_variables, next_body, next_pick, parts_regions}
@@ -19,7 +23,6 @@ use Rattle.om_rows.specs.Bodies.{region_variables, regions, variables_of}
 use Rattle.om_rows.specs.Slots.{Extent}
 use Rattle.om_rows.specs.Positions.{StandsAt, all_regions_long, function_long, get_back, get_front, regions_long}
 use Rattle.om_rows.specs.Positions.{stands_back, stands_front, stands_head, stands_whole}
-use Rattle.om_rows.specs.declared.numbers.Numbers as tables
 use Rattle.om_rows.specs.Ends.{HasAllEnds, HasEnds, HasPartsEnds, IsKnown, KnownBodies, all_region_ends, ends_from}
 use Rattle.om_rows.specs.Ends.{function_ends, parts_region_ends, region_ends}
 use Rattle.om_rows.specs.ProgramTables.{AreCellsOf}
@@ -169,34 +172,38 @@ listed_at known b k is next =
       there = ap (λ i. slice_get known.slots i) number ∙ is.slots;
     }
 
--- so are the regions in a part of a body, and in them
+-- behind a part of this weight numbers have 32 bits
+abbrev pub Room : Numbers → (weight : ℕ) → Type 0
+Room n weight = n.bodies + n.picks + weight < 2 ^ 32
+
+-- so are the regions in a part of a body, and in them; the numbers behind its lists of PICK have 32 bits
 mutual
-  unfolding regions all_regions parts_regions
+  unfolding regions all_regions parts_regions statement_weight statements_weight parts_weight
 
   knows : (known : KnownBodies) (f : ResolvedFunctionTree) (outer : List ℕ) (n : Numbers)
-      (s : ResolvedStatementTree) → AreKnown known n.bodies (regions f outer n s)
+      (s : ResolvedStatementTree) → Room n (statement_weight s) → AreKnown known n.bodies (regions f outer n s)
       → HasEnds known n s × All (IsPlaced known) (regions f outer n s)
-  knows known f outer n (Declaration at ds) h = (tt, All-nil (IsPlaced known))
-  knows known f outer n (Block at items) h = knows_all known f outer n items h
-  knows known f outer n (Empty at) h = (tt, All-nil (IsPlaced known))
-  knows known f outer n (Expression at e) h = (tt, All-nil (IsPlaced known))
-  knows known f outer n (If at c s) h = knows known f outer n s h
-  knows known f outer n (IfElse at c s t) h =
+  knows known f outer n (Declaration at ds) r h = (tt, All-nil (IsPlaced known))
+  knows known f outer n (Block at items) r h = knows_all known f outer n items r h
+  knows known f outer n (Empty at) r h = (tt, All-nil (IsPlaced known))
+  knows known f outer n (Expression at e) r h = (tt, All-nil (IsPlaced known))
+  knows known f outer n (If at c s) r h = knows known f outer n s (omega (arith, r)) h
+  knows known f outer n (IfElse at c s t) r h =
       let left = regions f outer n s in
       let right = regions f outer (behind n s) t in
-      let one = knows known f outer n s (known_front known left right n.bodies h) in
-      let other = knows known f outer (behind n s) t
+      let one = knows known f outer n s (omega (arith, r)) (known_front known left right n.bodies h) in
+      let other = knows known f outer (behind n s) t (omega (arith, r, statement_few n s))
       (known_back known left right n.bodies (behind n s).bodies (regions_long f s outer n) h) in (
         (one.0, other.0),
         All-append (IsPlaced known) left right one.1 other.1,
       )
-  knows known f outer n (While at c s) h = knows known f outer n s h
-  knows known f outer n (Do at s c) h = knows known f outer n s h
-  knows known f outer n (For at start condition step s) h = knows known f outer n s h
-  knows known f outer n (Return at value) h = (tt, All-nil (IsPlaced known))
-  knows known f outer n (Break at) h = (tt, All-nil (IsPlaced known))
-  knows known f outer n (Continue at) h = (tt, All-nil (IsPlaced known))
-  knows known f outer n (Parallel at clauses captures s) h =
+  knows known f outer n (While at c s) r h = knows known f outer n s (omega (arith, r)) h
+  knows known f outer n (Do at s c) r h = knows known f outer n s (omega (arith, r)) h
+  knows known f outer n (For at start condition step s) r h = knows known f outer n s (omega (arith, r)) h
+  knows known f outer n (Return at value) r h = (tt, All-nil (IsPlaced known))
+  knows known f outer n (Break at) r h = (tt, All-nil (IsPlaced known))
+  knows known f outer n (Continue at) r h = (tt, All-nil (IsPlaced known))
+  knows known f outer n (Parallel at clauses captures s) r h =
       let here : BodySite = record {
         function = f;
         tree = ParallelBody at clauses captures s;
@@ -205,12 +212,13 @@ mutual
       } in
       let inner = regions f (region_variables clauses s) (next_body n) s in
       let head = known_head known here inner n.bodies h in
-      let rest = knows known f (region_variables clauses s) (next_body n) s (known_tail known here inner n.bodies h) in (
+      let rest = knows known f (region_variables clauses s) (next_body n) s (omega (arith, r))
+      (known_tail known here inner n.bodies h) in (
         head,
         All-cons (IsPlaced known) here inner (record { listed = listed_at known here n.bodies head refl; regions = rest.0 })
             rest.1,
       )
-  knows known f outer n (Task at clauses captures s) h =
+  knows known f outer n (Task at clauses captures s) r h =
       let here : BodySite = record {
         function = f;
         tree = TaskBody at clauses captures s;
@@ -219,52 +227,54 @@ mutual
       } in
       let inner = regions f (region_variables clauses s) (next_body n) s in
       let head = known_head known here inner n.bodies h in
-      let rest = knows known f (region_variables clauses s) (next_body n) s (known_tail known here inner n.bodies h) in (
+      let rest = knows known f (region_variables clauses s) (next_body n) s (omega (arith, r))
+      (known_tail known here inner n.bodies h) in (
         head,
         All-cons (IsPlaced known) here inner (record { listed = listed_at known here n.bodies head refl; regions = rest.0 })
             rest.1,
       )
-  knows known f outer n (Loop at clauses nowait l s) h = knows known f outer n s h
-  knows known f outer n (Sections at clauses nowait parts) h =
-      knows_parts known f outer (next_pick n) parts h
-  knows known f outer n (Construct at kind clauses s) h = knows known f outer n s h
-  knows known f outer n (Update at u) h = (tt, All-nil (IsPlaced known))
-  knows known f outer n (StandAlone at directive) h = (tt, All-nil (IsPlaced known))
+  knows known f outer n (Loop at clauses nowait l s) r h = knows known f outer n s (omega (arith, r)) h
+  knows known f outer n (Sections at clauses nowait parts) r h =
+      let rest = knows_parts known f outer (next_pick n) parts (omega (arith, r)) h in
+      ((omega (arith, r), rest.0), rest.1)
+  knows known f outer n (Construct at kind clauses s) r h = knows known f outer n s (omega (arith, r)) h
+  knows known f outer n (Update at u) r h = (tt, All-nil (IsPlaced known))
+  knows known f outer n (StandAlone at directive) r h = (tt, All-nil (IsPlaced known))
 
   knows_all : (known : KnownBodies) (f : ResolvedFunctionTree) (outer : List ℕ) (n : Numbers)
-      (items : ResolvedStatementsTree) → AreKnown known n.bodies (all_regions f outer n items)
+      (items : ResolvedStatementsTree) → Room n (statements_weight items) → AreKnown known n.bodies (all_regions f outer n items)
       → HasAllEnds known n items × All (IsPlaced known) (all_regions f outer n items)
-  knows_all known f outer n NoStatements h = (tt, All-nil (IsPlaced known))
-  knows_all known f outer n (Statement s rest) h =
+  knows_all known f outer n NoStatements r h = (tt, All-nil (IsPlaced known))
+  knows_all known f outer n (Statement s rest) r h =
       let left = regions f outer n s in
       let right = all_regions f outer (behind n s) rest in
-      let one = knows known f outer n s (known_front known left right n.bodies h) in
-      let other = knows_all known f outer (behind n s) rest
+      let one = knows known f outer n s (omega (arith, r)) (known_front known left right n.bodies h) in
+      let other = knows_all known f outer (behind n s) rest (omega (arith, r, statement_few n s))
       (known_back known left right n.bodies (behind n s).bodies (regions_long f s outer n) h) in (
         (one.0, other.0),
         All-append (IsPlaced known) left right one.1 other.1,
       )
 
   knows_parts : (known : KnownBodies) (f : ResolvedFunctionTree) (outer : List ℕ) (n : Numbers)
-      (parts : ResolvedPartsTree) → AreKnown known n.bodies (parts_regions f outer n parts)
+      (parts : ResolvedPartsTree) → Room n (parts_weight parts) → AreKnown known n.bodies (parts_regions f outer n parts)
       → HasPartsEnds known n parts × All (IsPlaced known) (parts_regions f outer n parts)
-  knows_parts known f outer n NoParts h = (tt, All-nil (IsPlaced known))
-  knows_parts known f outer n (Part items rest) h =
+  knows_parts known f outer n NoParts r h = (tt, All-nil (IsPlaced known))
+  knows_parts known f outer n (Part items rest) r h =
       let left = all_regions f outer n items in
       let right = parts_regions f outer (behind_all n items) rest in
-      let one = knows_all known f outer n items (known_front known left right n.bodies h) in
-      let other = knows_parts known f outer (behind_all n items) rest
+      let one = knows_all known f outer n items (omega (arith, r)) (known_front known left right n.bodies h) in
+      let other = knows_parts known f outer (behind_all n items) rest (omega (arith, r, statements_few n items))
       (known_back known left right n.bodies (behind_all n items).bodies (all_regions_long f items outer n) h) in (
         (one.0, other.0),
         All-append (IsPlaced known) left right one.1 other.1,
       )
 
-function_placed : (known : KnownBodies) (f : ResolvedFunctionTree) (n : Numbers)
+function_placed : (known : KnownBodies) (f : ResolvedFunctionTree) (n : Numbers) → Room n (function_weight f)
     → AreKnown known n.bodies (function_bodies n f) → All (IsPlaced known) (function_bodies n f)
-function_placed known f n h =
+function_placed known f n r h =
     let here : BodySite = record { function = f; tree = FunctionBody; outer = []; numbers = next_body n } in
     let inner = all_regions f (function_variables f) (next_body n) f.body in
-    let rest = knows_all known f (function_variables f) (next_body n) f.body
+    let rest = knows_all known f (function_variables f) (next_body n) f.body (omega (arith, r))
     (known_tail known here inner n.bodies h) in
     All-cons (IsPlaced known) here inner
     (record { listed = listed_at known here n.bodies (known_head known here inner n.bodies h) refl; regions = rest.0 })
@@ -278,12 +288,12 @@ get_map view (y ∷ xs) (suc i) x at = get_map view xs i x at
 
 -- by the tables of a program, and by the variables of its bodies up to those of a function
 pub placed_by : (ends : List Numbers) (old slots : List (List ℕ)) (f : ResolvedFunctionTree) (n : Numbers)
-    → StandsAt ends n.bodies (function_ends n f) → length old ≡ n.bodies
+    → Room n (function_weight f) → StandsAt ends n.bodies (function_ends n f) → length old ≡ n.bodies
     → slots ≡ old ++ map variables_of (function_bodies n f) → All HasFewSlots (function_bodies n f)
     → All (IsPlaced (record { ends = ends; slots = slots })) (function_bodies n f)
-placed_by ends old slots f n stand long same few =
+placed_by ends old slots f n room stand long same few =
     let bodies = function_bodies n f in
-    function_placed (record { ends = ends; slots = slots }) f n (record {
+    function_placed (record { ends = ends; slots = slots }) f n room (record {
       by = λ i b at.
           let place : n.bodies + i ≡ length old + i = omega (arith, long) in record {
             ends = stand.by i (end_of b) (ap (λ all. slice_get all i) (same_function n f) ∙ get_map end_of bodies i b at);
@@ -349,3 +359,20 @@ round_pushed all kept new see n x v same added is =
     ap (λ xs. map see xs) added ∙ map-append see kept (x ∷ [])
     ∙ ap (λ xs. xs ++ see x ∷ []) (round_seen all kept see n same)
     ∙ ap (λ y. take n (map see all) ++ y ∷ []) is
+
+-- ---- numbers are enough for each function, where they are for all
+
+pub room_at : (fs : List ResolvedFunctionTree) (n : Numbers) (i : ℕ) (f : ResolvedFunctionTree) → slice_get fs i ≡ Some f
+    → Room n (sum (map function_weight fs)) → Room (behind_functions n (take i fs)) (function_weight f)
+room_at [] n i f at room = cc
+room_at (g ∷ fs) n zero f at room =
+    let same : g ≡ f = cc in
+    omega (arith, room, ap function_weight same, sum_by-cons (λ k. k) (function_weight g) (map function_weight fs))
+room_at (g ∷ fs) n (suc i) f at room =
+    room_at fs (behind_function n g) i f at
+    (omega (
+      arith,
+      room,
+      statements_few (next_body n) g.body,
+      sum_by-cons (λ k. k) (function_weight g) (map function_weight fs),
+    ))

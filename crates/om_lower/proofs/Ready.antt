@@ -5,9 +5,13 @@ use Rattle.om_lower.specs.declared.functions.Next.{Next}
 use Rattle.om_lower.specs.Limits.{HasFewSlots}
 use Rattle.om_lower.specs.Made.{IsNext, next_function, next_numbers}
 use Rattle.om_lower.specs.Ready.{IsPlaced, IsReady}
-use Rattle.om_lower.proofs.Knowing.{placed_by}
+use Rattle.om_lower.proofs.Knowing.{Room, placed_by}
 use Rattle.om_lower.proofs.Rounds.{IsRound, round_function}
 use Rattle.om_resolved.specs.ResolvedTree.{ResolvedFunctionTree}
+use Rattle.om_resolved.specs.Weights.{function_weight}
+use Rattle.om_rows.specs.Numbering.{numbers_of}
+use Rattle.om_rows.specs.declared.numbers.Numbers as numbers
+use Rattle.om_sights.specs.Room.{HasNumbers, IsRoomFor}
 use Rattle.om_rows.specs.Bodies.{BodySite, Numbers, function_bodies, variables_of}
 use Rattle.om_rows.specs.Coded.{BodyHasCode}
 use Rattle.om_rows.specs.Slots.{Extent}
@@ -43,6 +47,11 @@ pub function_ready : (known : KnownBodies) (extents : List Extent) (f : Resolved
 function_ready known extents f n table few code placed =
     ready known extents f (function_bodies n f) table few (round_function f n few) code placed
 
+room_of : (f : ResolvedFunctionTree) (given : numbers.Numbers) → HasNumbers (function_weight f) given
+    → Room (numbers_of given) (function_weight f)
+unfolding IsRoomFor
+room_of f given room = room
+
 -- those of the function that comes next, once their variables are found
 pub next_ready : (tables : Tables) (old slots : List (List ℕ)) (next : Next) (sites : List BodySite)
     → IsNext tables old next → sites ≡ function_bodies (next_numbers next) (next_function next)
@@ -54,5 +63,5 @@ next_ready tables old slots next sites is same added few =
     let f = next_function next in
     let few_here = subst (λ all. All HasFewSlots all) same few in
     function_ready (known_of tables slots) next.extents.now f n is.cells few_here is.code
-    (placed_by (ends_in tables) old slots f n is.ends is.before
+    (placed_by (ends_in tables) old slots f n (room_of f next.numbers is.room) is.ends is.before
     (added ∙ ap (λ all. old ++ map variables_of all) same) few_here)

@@ -7,6 +7,7 @@ use Rattle.om_lower.specs.Ready.{IsReady}
 use Rattle.om_resolved.specs.Beside.{TreeCopiesBehind}
 use Rattle.om_resolved.specs.ResolvedTree.{ResolvedTree}
 use Rattle.om_resolved.specs.ResolvedView.{view_resolved}
+use Rattle.om_resolved.specs.Weights.{HasSmallWeight}
 use Rattle.om_resolved.specs.Whole.{IsWholeTree}
 use Rattle.om_rows.specs.Bodies.{BodySite, variables_of}
 use Rattle.om_rows.specs.Coded.{TreeHasCode}
@@ -17,13 +18,14 @@ use Rattle.om_sights.specs.Sites.{body_in}
 abbrev pub tree_of : Input → ResolvedTree
 tree_of input = view_resolved input.resolved.now
 
--- Its tree is whole, each part of it has a row, and each copy of a region stands behind where the region begins. The
--- tables are those of the tree.
+-- Its tree is whole, each part of it has a row, each copy of a region stands behind where the region begins, and its
+-- weight is small. The tables are those of the tree.
 pub record IsInput (input : Input) : Type 0 where
   pub tables : IsTablesOf (tree_of input) input.tables.now
   pub whole : IsWholeTree (tree_of input)
   pub has_code : TreeHasCode (tree_of input)
   pub copies : TreeCopiesBehind (tree_of input)
+  pub small : HasSmallWeight (tree_of input)
 
 -- what is known of bodies, by the tables of their program
 abbrev pub known_bodies : Known → KnownBodies

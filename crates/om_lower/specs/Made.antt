@@ -17,6 +17,8 @@ use Rattle.om_lower.specs.Limits.{AreScopesAt, HasRoom, IsCodeAt, IsOver}
 use Rattle.om_lower.specs.Once.{site_picks}
 use Rattle.om_rows.specs.declared.scope.VariableScope.{VariableScope}
 use Rattle.om_resolved.specs.ResolvedTree.{ResolvedFunctionTree, ResolvedTree}
+use Rattle.om_resolved.specs.Weights.{function_weight}
+use Rattle.om_sights.specs.Room.{HasNumbers}
 use Rattle.om_rows.specs.Bodies.{BodySite, Numbers, behind_function, behind_functions, bodies_from, first_numbers}
 use Rattle.om_rows.specs.Bodies.{function_bodies, variables_of}
 use Rattle.om_rows.specs.Code.{given_of, slots_of}
@@ -101,13 +103,14 @@ abbrev pub next_numbers : Next → Numbers
 next_numbers next = numbers_of next.numbers
 
 -- a function can be lowered next: its bodies have code, its cells and the numbers behind its bodies are known, and
--- so are the variables of all bodies before them
+-- so are the variables of all bodies before them; and numbers of 32 bits are enough for it
 pub record IsNext (tables : Tables) (slots : List (List ℕ)) (next : Next) : Type 0 where
   pub cells : AreCellsOf (next_function next) next.extents.now
   pub code : All (λ b. BodyHasCode b.function b.tree) (function_bodies (next_numbers next) (next_function next))
   pub ends : StandsAt (ends_in tables) (next_numbers next).bodies
       (function_ends (next_numbers next) (next_function next))
   pub before : length slots ≡ (next_numbers next).bodies
+  pub room : HasNumbers (function_weight (next_function next)) next.numbers
 
 -- the first function without bodies passes a limit
 pub record Stops (tree : ResolvedTree) (functions : List (List Body)) : Type 0 where

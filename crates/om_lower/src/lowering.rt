@@ -9,6 +9,7 @@ ghost use Rattle.om_lower.specs.Refusals.{IsRefusal, too_many};
 ghost use Rattle.om_rows.specs.MeaningLaws.{KeepsMeaning};
 ghost use Rattle.om_resolved.specs.Beside.{TreeAtomicsAssign, TreeCopiesBehind};
 ghost use Rattle.om_resolved.specs.ResolvedView.{view_resolved, view_resolved_function};
+ghost use Rattle.om_resolved.specs.Weights.{HasSmallWeight};
 ghost use Rattle.om_resolved.specs.Whole.{IsWholeTree};
 ghost use Rattle.om_rows.specs.Code.{IsCodeOf};
 ghost use Rattle.om_rows.specs.Coded.{TreeHasCode};
@@ -29,8 +30,9 @@ use std::alloc::{AllocError, Global};
 
 /// The program whose bodies are the code of the tree's functions.
 ///
-/// The tree is whole, each `atomic` that reads or writes is about an assignment, and each copy stands behind
-/// where its region begins: `om_scope::resolve` and the laws of om_rules give that.
+/// The tree is whole, each `atomic` that reads or writes is about an assignment, each copy stands behind where
+/// its region begins, and numbers of 32 bits are enough for its parts: `om_scope::resolve` and the laws of
+/// om_rules give that.
 ///
 /// The body of each function without calls and directives does what the function means: it ends with its
 /// value, its globals and its output exactly where the meaning does, and faults exactly where that does.
@@ -44,6 +46,7 @@ pub fn lower(alloc: Global, resolved: &Resolved) -> Result<Program, SourceFault>
     requires whole { IsWholeTree (view_resolved resolved.now) }
     requires atomics { TreeAtomicsAssign (view_resolved resolved.now) }
     requires copies { TreeCopiesBehind (view_resolved resolved.now) }
+    requires small { HasSmallWeight (view_resolved resolved.now) }
     ensures code { IfOk result (λ program. IsCodeOf (view_resolved resolved.now) program) }
     ensures means { IfOk result (λ program. KeepsMeaning (view_resolved resolved.now) program) }
     ensures within { OnOk result (AreWithin (view_resolved resolved.now)) }
@@ -60,6 +63,7 @@ fn lower_tree(alloc: Global, resolved: &Resolved) -> Result<Program, SourceFault
     requires whole { IsWholeTree (view_resolved resolved.now) }
     requires has_code { TreeHasCode (view_resolved resolved.now) }
     requires copies { TreeCopiesBehind (view_resolved resolved.now) }
+    requires small { HasSmallWeight (view_resolved resolved.now) }
     ensures code { IfOk result (λ program. IsCodeOf (view_resolved resolved.now) program) }
     ensures within { OnOk result (AreWithin (view_resolved resolved.now)) }
     ensures refused { IfErr result (IsRefusal (view_resolved resolved.now)) }

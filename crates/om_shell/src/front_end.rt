@@ -4,6 +4,7 @@ ghost use Rattle.om_lexer.specs.Faults.{no_memory};
 ghost use Rattle.om_tree.specs.View.{view_unit};
 ghost use Rattle.om_resolved.specs.ResolvedView.{view_resolved};
 ghost use Rattle.om_resolved.specs.Beside.{TreeAtomicsAssign, TreeCopiesBehind};
+ghost use Rattle.om_resolved.specs.Weights.{HasSmallWeight};
 ghost use Rattle.om_resolved.specs.Whole.{IsWholeTree};
 ghost use Rattle.om_shell.specs.Verdict.{IsTreeOfSource, IsResolutionOfSource, IsProgramOf, IsRefused};
 
@@ -11,7 +12,7 @@ use om_code::Program;
 use om_lexer::{SourceFault, lex};
 use om_lower::lower;
 use om_parser::{Unit, parse};
-use om_rules::laws::sources_have_copies_behind;
+use om_rules::laws::{sources_have_copies_behind, sources_have_small_weight};
 use om_scope::{Resolved, resolve};
 use std::alloc::Global;
 
@@ -31,9 +32,11 @@ fn resolution_of(alloc: Global, source: &[u8]) -> Result<Resolved, SourceFault>
     ensures whole { IfOk result (λ resolved. IsWholeTree (view_resolved resolved)) }
     ensures atomics_assign { IfOk result (λ resolved. TreeAtomicsAssign (view_resolved resolved)) }
     ensures copies_behind { IfOk result (λ resolved. TreeCopiesBehind (view_resolved resolved)) }
+    ensures small { IfOk result (λ resolved. HasSmallWeight (view_resolved resolved)) }
     ensures refused { IfErr result (λ fault. fault ≢ no_memory → IsRefused source.now fault) }
 {
     sources_have_copies_behind();
+    sources_have_small_weight();
     let unit = tree_of(alloc, source)?;
     resolve(alloc, unit)
 }

@@ -1,7 +1,11 @@
-use Rattle.std.proofs.Common.{◌≡◌, All, Some, ap, map, slice_get, subst, sym, ◌∙◌}
+use Rattle.std.proofs.Common.{◌≡◌, All, Some, ap, arith, map, slice_get, subst, sym, ◌∙◌}
 use Rattle.om_lower.specs.Inputs.{tree_of}
 use Rattle.om_lower.specs.Made.{AddsFunction}
 use Rattle.om_resolved.specs.ResolvedView.{view_resolved_function}
+use Rattle.om_resolved.specs.ResolvedTree.{ResolvedFunctionTree}
+use Rattle.om_resolved.specs.Weights.{function_weight}
+use Rattle.om_sights.specs.Room.{HasNumbers, IsRoomFor}
+use Rattle.om_rows.specs.declared.numbers.Numbers as numbers
 use Rattle.om_rows.specs.Bodies.{first_numbers, function_bodies}
 use Rattle.om_rows.specs.Coded.{BodyHasCode}
 use Rattle.om_rows.specs.Numbering.{numbers_of}
@@ -10,7 +14,13 @@ use Rattle.om_lower.proofs.Coding.{function_added, stopped_at}
 use Rattle.om_lower.proofs.FunctionBodies.{function_holds}
 use Rattle.om_lower.proofs.Items.{item_at}
 use Rattle.om_lower.proofs.Knowing.{end_is, end_there, ends_stand, extents_there, slots_long, zip_at}
+use Rattle.om_lower.proofs.Knowing.{Room, room_at}
 use Rattle.om_lower.proofs.functions.add_functions.Goals as goal
+
+room_for : (f : ResolvedFunctionTree) (given : numbers.Numbers) → Room (numbers_of given) (function_weight f)
+    → HasNumbers (function_weight f) given
+unfolding IsRoomFor
+room_for f given room = room
 
 pub extents_at-requires : goal.extents_at-requires
 extents_at-requires c =
@@ -46,6 +56,9 @@ add_function-requires-clause-next c =
       ends = ends_stand (ends_in tables) tree.functions c.loop-index.index f n c.requires.given.tables.ends there
           c.loop-index.invariant.0.numbers;
       before = c.loop-index.invariant.1;
+      room = room_for f c.loop-index.numbers (subst (λ m. Room m (function_weight f))
+          (sym c.loop-index.invariant.0.numbers)
+          (room_at tree.functions first_numbers c.loop-index.index f there (omega (arith, c.requires.given.small))));
     }
 
 pub returns-then-not-branch : goal.returns-then-not-branch
