@@ -2,7 +2,7 @@
 """subcommands.py LAB: each subcommand of the program `omplab` but `draw` over a source, and what it writes.
 
 LAB is the program `omplab`. Each row says what is tried; the last line counts the rows, and the status is 1 where one of them
-is wrong. What is wanted was written by hand from docs/, but for the numbers of seeds, which only the generator gives.
+is wrong. What is wanted stands in each row. Which seed finds a bad schedule, only the generator says.
 The run that is stored in crates/omplab draws a session, and pages.py nine more.
 """
 import os, subprocess, sys, tempfile
