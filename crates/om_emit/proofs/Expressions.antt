@@ -4,8 +4,6 @@ use Rattle.om_code.specs.declared.instruction.BinaryOperator as machine
 use Rattle.om_code.specs.declared.instruction.Instr.{Instr}
 use Rattle.om_code.specs.declared.instruction.Instr.TheVariants as i
 use Rattle.om_code.specs.declared.instruction.Place.{Place}
-use Rattle.om_emit.specs.declared.expression.Target.{Target}
-use Rattle.om_emit.specs.declared.single.Stepped.{Stepped}
 use Rattle.om_emit.specs.Drafts.{Written, moved, Puts, PutsAll}
 use Rattle.om_emit.specs.Emits.{Part, site, Emits, EmitsEffect, EmitsRow, EmitsValue, EmitsValues}
 use Rattle.om_emit.specs.Rests.{assignment, assignment_rest, binary_rest, call, element_rest, popped, postfix_rest}
@@ -161,33 +159,33 @@ emits_set names l keeps x operator e a b c is h k =
     (emits_put names (λ at. value at l e) l (i.Store (place_of names.slots x) keeps) a b c h k)
 
 pub emits_compound : (names : Numbered) (l : ℕ) (keeps : Bool) (x : variables.Variable) (operator : AssignOperator)
-    (o : machine.BinaryOperator) (at_x : Place)
-    (e : ResolvedExpressionTree) (a b c d : Written)
-    → Some o ≡ compound_of operator → at_x ≡ place_of names.slots x → Puts l (i.Load (place_of names.slots x)) a b
-    → EmitsValue names l e b c → PutsAll l (i.Binary o ∷ i.Store at_x keeps ∷ []) c d
-    → EmitsRow names (λ at. assignment at l keeps x operator e) a d
-emits_compound names l keeps x operator o at_x e a b c d is here h1 h2 h3 =
+    (o : machine.BinaryOperator) (e : ResolvedExpressionTree) (a b c d g : Written)
+    → Some o ≡ compound_of operator → Puts l (i.Load (place_of names.slots x)) a b
+    → EmitsValue names l e b c → Puts l (i.Binary o) c d → Puts l (i.Store (place_of names.slots x) keeps) d g
+    → EmitsRow names (λ at. assignment at l keeps x operator e) a g
+emits_compound names l keeps x operator o e a b c d g is h1 h2 h3 h4 =
     let n = length a.places in
     let n1 = put_length l _ a b h1 in
     let place = place_of names.slots x in
-    let all : Place → List Instr = λ p. i.Binary o ∷ i.Store p keeps ∷ [] in
-    let r3 : Part = λ done at. all_ins (site names done) at l (all place) end in
+    let r4 : Part = λ done at. ins (site names done) l (i.Store place keeps) ▸ end in
+    let r3 : Part = λ done at. ins (site names done) l (i.Binary o) ▸ r4 done at in
     let r2 : Part = λ done at. part (value (site names done) l e) ▸ r3 done at in
-    subst (λ z. EmitsRow names (λ at. assigned at l keeps x z (value at l e)) a d) is
-    (goes_put names n l (i.Load place) r2 a b d h1
-    (goes_part n (λ done at. value (site names done) l e) r3 b c d (omega arith) h2
-    (goes_put_all names n l (all place) (λ done at. end) c d d (subst (λ p. PutsAll l (all p) c d) here h3)
-    (goes_end n d))))
+    subst (λ z. EmitsRow names (λ at. assigned at l keeps x z (value at l e)) a g) is
+    (goes_put names n l (i.Load place) r2 a b g h1
+    (goes_part n (λ done at. value (site names done) l e) r3 b c g (omega arith) h2
+    (goes_put names n l (i.Binary o) r4 c d g h3
+    (goes_put names n l (i.Store place keeps) (λ done at. end) d g g h4
+    (goes_end n g)))))
 
 pub emits_set_element : (names : Numbered) (l : ℕ) (keeps : Bool) (x : variables.Variable) (operator : AssignOperator)
-    (e : ResolvedExpressionTree)
-    (a b c : Written)
-    → None ≡ compound_of operator → EmitsValue names l e a b
-    → Puts l (i.StoreElement (place_of names.slots x) keeps) b c
+    (at_x : Place) (e : ResolvedExpressionTree) (a b c : Written)
+    → None ≡ compound_of operator → at_x ≡ place_of names.slots x → EmitsValue names l e a b
+    → Puts l (i.StoreElement at_x keeps) b c
     → EmitsRow names (λ at. assignment_rest at l keeps x operator e) a c
-emits_set_element names l keeps x operator e a b c is h k =
+emits_set_element names l keeps x operator at_x e a b c is here h k =
     subst (λ z. EmitsRow names (λ at. element_rest at l keeps x z (value at l e)) a c) is
-    (emits_put names (λ at. value at l e) l (i.StoreElement (place_of names.slots x) keeps) a b c h k)
+    (emits_put names (λ at. value at l e) l (i.StoreElement (place_of names.slots x) keeps) a b c h
+    (subst (λ p. Puts l (i.StoreElement p keeps) b c) here k))
 
 pub emits_compound_element : (names : Numbered) (l : ℕ) (keeps : Bool) (x : variables.Variable)
     (operator : AssignOperator) (o : machine.BinaryOperator) (at_x : Place)
@@ -219,16 +217,3 @@ value_is names l x y a c is e = subst (λ z. EmitsValue names l z a c) is e
 pub effect_is : (names : Numbered) (l : ℕ) (x y : ResolvedExpressionTree) (a c : Written) → x ≡ y
     → EmitsEffect names l x a c → EmitsEffect names l y a c
 effect_is names l x y a c is e = subst (λ z. EmitsEffect names l z a c) is e
-
--- under the target as it was made
-pub target_is : (names : Numbered) (l : ℕ) (e : ResolvedExpressionTree) (t u : Target) (a c : Written)
-    → t ≡ u → EmitsRow names (λ at. assignment_rest at l t.keeps t.variable t.operator e) a c
-    → EmitsRow names (λ at. assignment_rest at l u.keeps u.variable u.operator e) a c
-target_is names l e t u a c is h =
-    subst (λ z. EmitsRow names (λ at. assignment_rest at l z.keeps z.variable z.operator e) a c) is h
-
-pub stepped_is : (names : Numbered) (l : ℕ) (t u : Stepped) (a c : Written)
-    → t ≡ u → EmitsRow names (λ at. stepped_rest at l t.keeps t.variable t.operator) a c
-    → EmitsRow names (λ at. stepped_rest at l u.keeps u.variable u.operator) a c
-stepped_is names l t u a c is h =
-    subst (λ z. EmitsRow names (λ at. stepped_rest at l z.keeps z.variable z.operator) a c) is h

@@ -15,6 +15,16 @@ pub view_variable : (x : _) → view_resolved_expression (expressions.Variable x
 view_variable x = ap view_resolved_expression (sym (expressions.rolls-Variable x))
     ∙ fold-roll-ResolvedExpression ResolvedExpressionTree expression_layer (ResolvedExpression-F.Variable x)
 
+pub view_element : (x : _) (j : _)
+    → view_resolved_expression (expressions.Element x j) ≡ trees.Element x (view_resolved_expression j.value)
+view_element x j = ap view_resolved_expression (sym (expressions.rolls-Element x j))
+    ∙ fold-roll-ResolvedExpression ResolvedExpressionTree expression_layer (ResolvedExpression-F.Element x j)
+
+pub view_unary : (o : _) (e : _)
+    → view_resolved_expression (expressions.Unary o e) ≡ trees.Unary o (view_resolved_expression e.value)
+view_unary o e = ap view_resolved_expression (sym (expressions.rolls-Unary o e))
+    ∙ fold-roll-ResolvedExpression ResolvedExpressionTree expression_layer (ResolvedExpression-F.Unary o e)
+
 pub view_call : (function : _) (es : _)
     → view_resolved_expression (expressions.Call function es) ≡ trees.Call function (trees.values
     (map view_resolved_expression es.items))

@@ -151,11 +151,8 @@ impl Draft {
         ensures { IfOk result (λ first. FreshList number first count self.old self.new) }
     {
         let first = self.places.len();
-        let labels = self.fresh_labels(alloc, count)?;
-        self.picks.push(Pick {
-            number,
-            labels: Seq::of(labels),
-        })?;
+        let labels = Seq::of(self.fresh_labels(alloc, count)?);
+        self.picks.push(Pick { number, labels })?;
         Ok(first)
     }
 
@@ -171,7 +168,8 @@ impl Draft {
         Ok(labels)
     }
 
-    /// The code, with the place of each label in its stead: a place in it has 32 bits.
+    /// The code, with the place of each label in its stead: a place has 32 bits, so that fewer than
+    /// 2^32 instructions are written. The only error is out of memory.
     pub fn settle(&self, alloc: Global) -> Result<Seq<Line>, AllocError>
         requires { length self.now.code < 2 ^ 32 }
         ensures { IfOk result (λ code. code ≡ settled_code self.now) }
@@ -184,7 +182,8 @@ impl Draft {
         Ok(Seq::of(code))
     }
 
-    /// The lists of the PICKs in the code, with the place of each label in its stead.
+    /// The lists of the PICKs in the code, with the place of each label in its stead. The only error is
+    /// out of memory.
     pub fn lists(&self, alloc: Global) -> Result<Vec<PickList>, AllocError>
         requires { length self.now.code < 2 ^ 32 }
         ensures { IfOk result (λ lists. lists.items ≡ settled_lists self.now) }

@@ -1,9 +1,7 @@
 //! The code of expressions (C17 6.5).
 
-ghost use Rattle.std.specs.Prelude.{◌≡◌, ◌≤◌, length};
 ghost use Rattle.om_emit.specs.Emits.{Appends, listed};
 ghost use Rattle.om_emit.specs.Rests as rows;
-ghost use Rattle.om_resolved.specs.ResolvedTree as trees;
 ghost use Rattle.om_resolved.specs.ResolvedView.{view_resolved_expression};
 ghost use Rattle.om_rows.specs.Coded.{CallHasCode, ValueHasCode, ValuesHaveCode};
 ghost use Rattle.om_rows.specs.Expressions.{value, values};
@@ -13,21 +11,11 @@ use crate::draft::{Draft, Jump};
 use crate::here::{Done, Here};
 use crate::operator::{Form, compound_of, form_of};
 use crate::single::{
-    load, load_element, one_unless_zero, postfix, postfix_element, store, store_element, truth,
-    unary_end,
+    load, load_element, one_unless_zero, postfix, postfix_element, store, truth, unary_end,
 };
 use om_code::Instr;
-use om_resolved::{ResolvedExpression, UnaryOperator, Variable};
+use om_resolved::{ResolvedExpression, Variable};
 use om_tree::AssignOperator;
-
-/// What is assigned to, a variable or an element of it, and how.
-#[derive(Clone, Copy)]
-pub(crate) struct Target {
-    pub(crate) variable: Variable,
-    pub(crate) operator: AssignOperator,
-    /// Whether the value is left.
-    pub(crate) keeps: bool,
-}
 
 /// Writes an expression, which leaves its value on top.
 ///
@@ -40,16 +28,20 @@ pub fn value(draft: &mut Draft, here: &Here<'_>, e: &ResolvedExpression) -> Done
     match e {
         ResolvedExpression::Constant(number) => draft.put(here.at.line, Instr::Constant(*number)),
         ResolvedExpression::Variable(variable) => load(draft, here, *variable),
-        ResolvedExpression::Element { array, index } => element(draft, here, *array, index),
-        ResolvedExpression::Call {
-            function,
-            values: arguments,
-        } => { used_call(draft, here, *function, arguments.as_slice()) }
+        ResolvedExpression::Element { array, index } => {
+            value(draft, here, index)?;
+            load_element(draft, here, *array)
+        }
+        ResolvedExpression::Call { function, values } => {
+            call(draft, here, *function, values.as_slice())?;
+            draft.put(here.at.line, Instr::Use)
+        }
         ResolvedExpression::ThreadNumber => draft.put(here.at.line, Instr::ThreadNumber),
         ResolvedExpression::TeamSize => draft.put(here.at.line, Instr::TeamSize),
         ResolvedExpression::Print { .. } => unreachable!(),
         ResolvedExpression::Unary { operator, operand } => {
-            unary(draft, here, *operator, operand)
+            value(draft, here, operand)?;
+            unary_end(draft, here, *operator)
         }
         ResolvedExpression::Binary {
             left,
@@ -79,7 +71,7 @@ pub fn value(draft: &mut Draft, here: &Here<'_>, e: &ResolvedExpression) -> Done
             variable,
             operator,
             value: e,
-        } => { assign(draft, here, assigned(*variable, *operator, true), e) }
+        } => { assign(draft, here, *variable, *operator, true, e) }
         ResolvedExpression::AssignElement {
             array,
             index,
@@ -87,7 +79,7 @@ pub fn value(draft: &mut Draft, here: &Here<'_>, e: &ResolvedExpression) -> Done
             value: e,
         } => {
             value(draft, here, index)?;
-            assign_element(draft, here, assigned(*array, *operator, true), e)
+            assign_element(draft, here, *array, *operator, true, e)
         }
         ResolvedExpression::Postfix { variable, operator } => {
             postfix(draft, here, *variable, *operator)
@@ -103,17 +95,6 @@ pub fn value(draft: &mut Draft, here: &Here<'_>, e: &ResolvedExpression) -> Done
     }
 }
 
-/// What is assigned to, and how.
-pub(crate) fn assigned(variable: Variable, operator: AssignOperator, keeps: bool) -> Target
-    ensures { result ≡ record { variable = variable; operator = operator; keeps = keeps } }
-{
-    Target {
-        variable,
-        operator,
-        keeps,
-    }
-}
-
 /// Writes expressions from left to right, each of which leaves its value.
 #[cycle(expression)]
 pub fn values(draft: &mut Draft, here: &Here<'_>, es: &[ResolvedExpression]) -> Done
@@ -124,25 +105,6 @@ pub fn values(draft: &mut Draft, here: &Here<'_>, es: &[ResolvedExpression]) -> 
         value(draft, here, e)?;
     }
     Ok(())
-}
-
-/// Writes the element of an array (C17 6.5.2.1).
-#[cycle(expression)]
-fn element(draft: &mut Draft, here: &Here<'_>, array: Variable, index: &ResolvedExpression) -> Done
-    requires { ValueHasCode (view_resolved_expression index.now) }
-    ensures { Appends result here.now value
-        (trees.Element array (view_resolved_expression index.now)) draft.old draft.new }
-{
-    value(draft, here, index)?;
-    load_element(draft, here, array)
-}
-
-/// How many values a call has.
-pub(crate) fn count_of(arguments: &[ResolvedExpression]) -> u16
-    requires { length arguments.now ≤ 16 }
-    ensures { result ≡ length arguments.now }
-{
-    arguments.len() as u16
 }
 
 /// Writes the values of a call, and the call (C17 6.5.2.2).
@@ -158,42 +120,9 @@ pub(crate) fn call(
         draft.old draft.new }
 {
     let body = here.tables.called_body(function);
-    let count = count_of(arguments);
     values(draft, here, arguments)?;
-    let values = count;
+    let values = arguments.len() as u16;
     draft.put(here.at.line, Instr::Call { body, values })
-}
-
-/// Writes a call whose value is used.
-#[cycle(expression)]
-fn used_call(
-    draft: &mut Draft,
-    here: &Here<'_>,
-    function: usize,
-    arguments: &[ResolvedExpression],
-) -> Done
-    requires { CallHasCode (listed arguments.now) }
-    ensures { Appends result here.now value (trees.Call function (listed arguments.now)) draft.old
-        draft.new }
-{
-    call(draft, here, function, arguments)?;
-    draft.put(here.at.line, Instr::Use)
-}
-
-/// Writes an operator before its operand (C17 6.5.3.3).
-#[cycle(expression)]
-fn unary(
-    draft: &mut Draft,
-    here: &Here<'_>,
-    operator: UnaryOperator,
-    operand: &ResolvedExpression,
-) -> Done
-    requires { ValueHasCode (view_resolved_expression operand.now) }
-    ensures { Appends result here.now value
-        (trees.Unary operator (view_resolved_expression operand.now)) draft.old draft.new }
-{
-    value(draft, here, operand)?;
-    unary_end(draft, here, operator)
 }
 
 /// Writes what stands behind the left operand of an operator between two (C17 6.5.5 to 6.5.14).
@@ -248,60 +177,60 @@ fn either_end(draft: &mut Draft, here: &Here<'_>, right: &ResolvedExpression) ->
     truth(draft, here.at.line, neither, end)
 }
 
-/// Writes an assignment to a variable (C17 6.5.16).
+/// Writes an assignment to a variable (C17 6.5.16); `keeps` says whether its value is left.
 #[cycle(expression)]
 pub(crate) fn assign(
     draft: &mut Draft,
     here: &Here<'_>,
-    target: Target,
+    variable: Variable,
+    operator: AssignOperator,
+    keeps: bool,
     e: &ResolvedExpression,
 ) -> Done
     requires { ValueHasCode (view_resolved_expression e.now) }
-    ensures { Appends result here.now
-        (λ at l. rows.assignment at l target.keeps target.variable target.operator)
+    ensures { Appends result here.now (λ at l. rows.assignment at l keeps variable operator)
         (view_resolved_expression e.now) draft.old draft.new }
 {
-    match compound_of(target.operator) {
+    match compound_of(operator) {
         None => {
             value(draft, here, e)?;
-            store(draft, here, target.variable, target.keeps)
+            store(draft, here, variable, keeps)
         }
         Some(operator) => {
-            load(draft, here, target.variable)?;
+            load(draft, here, variable)?;
             value(draft, here, e)?;
-            let place = here.tables.place(target.variable);
-            let keeps = target.keeps;
-            let stored = [Instr::Binary(operator), Instr::Store { place, keeps }];
-            draft.put_all(here.at.line, &stored)
+            draft.put(here.at.line, Instr::Binary(operator))?;
+            store(draft, here, variable, keeps)
         }
     }
 }
 
-/// Writes what stands behind the index of an assignment to an element (C17 6.5.16).
+/// Writes what stands behind the index of an assignment to an element (C17 6.5.16); `keeps` says
+/// whether its value is left.
 #[cycle(expression)]
 pub(crate) fn assign_element(
     draft: &mut Draft,
     here: &Here<'_>,
-    target: Target,
+    array: Variable,
+    operator: AssignOperator,
+    keeps: bool,
     e: &ResolvedExpression,
 ) -> Done
     requires { ValueHasCode (view_resolved_expression e.now) }
-    ensures { Appends result here.now
-        (λ at l. rows.assignment_rest at l target.keeps target.variable target.operator)
+    ensures { Appends result here.now (λ at l. rows.assignment_rest at l keeps array operator)
         (view_resolved_expression e.now) draft.old draft.new }
 {
-    match compound_of(target.operator) {
+    let line = here.at.line;
+    let place = here.tables.place(array);
+    let store = Instr::StoreElement { place, keeps };
+    match compound_of(operator) {
         None => {
             value(draft, here, e)?;
-            store_element(draft, here, target.variable, target.keeps)
+            draft.put(line, store)
         }
         Some(operator) => {
-            let place = here.tables.place(target.variable);
-            let keeps = target.keeps;
-            let line = here.at.line;
             draft.put_all(line, &[Instr::Duplicate, Instr::LoadElement(place)])?;
             value(draft, here, e)?;
-            let store = Instr::StoreElement { place, keeps };
             draft.put_all(line, &[Instr::Binary(operator), store])
         }
     }

@@ -17,15 +17,6 @@ use om_code::{Instr, instruction};
 use om_resolved::{UnaryOperator, Variable};
 use om_tree::PostfixOperator;
 
-/// A postfix operator of a variable, or of an element of it.
-#[derive(Clone, Copy)]
-pub(crate) struct Stepped {
-    pub(crate) variable: Variable,
-    pub(crate) operator: PostfixOperator,
-    /// Whether the new value is left.
-    pub(crate) keeps: bool,
-}
-
 /// Loads a variable.
 pub fn load(draft: &mut Draft, here: &Here<'_>, variable: Variable) -> Done
     ensures { Adds result here.now (i.Load (place_at here.now variable)) draft.old draft.new }
@@ -48,20 +39,6 @@ pub fn store(draft: &mut Draft, here: &Here<'_>, variable: Variable, keeps: bool
 {
     let place = here.tables.place(variable);
     draft.put(here.at.line, Instr::Store { place, keeps })
-}
-
-/// Stores the value on top in the element whose index lies below it; `keeps` says whether it is left.
-pub(crate) fn store_element(
-    draft: &mut Draft,
-    here: &Here<'_>,
-    array: Variable,
-    keeps: bool,
-) -> Done
-    ensures { Adds result here.now (i.StoreElement (place_at here.now array) keeps) draft.old
-        draft.new }
-{
-    let place = here.tables.place(array);
-    draft.put(here.at.line, Instr::StoreElement { place, keeps })
 }
 
 /// What stands behind the operand of a unary operator (C17 6.5.3.3).
@@ -103,34 +80,45 @@ pub(crate) fn truth(draft: &mut Draft, line: u32, otherwise: usize, over: usize)
     Ok(())
 }
 
-/// `x++` or `x--`, as `x += 1` or `x -= 1` (C17 6.5.2.4).
-pub(crate) fn step(draft: &mut Draft, here: &Here<'_>, target: Stepped) -> Done
-    ensures { Appends result here.now (λ at l. rows.stepped at l target.keeps target.variable)
-        target.operator draft.old draft.new }
+/// `x++` or `x--`, as `x += 1` or `x -= 1` (C17 6.5.2.4); `keeps` says whether the new value is left.
+pub(crate) fn step(
+    draft: &mut Draft,
+    here: &Here<'_>,
+    variable: Variable,
+    operator: PostfixOperator,
+    keeps: bool,
+) -> Done
+    ensures { Appends result here.now (λ at l. rows.stepped at l keeps variable) operator draft.old
+        draft.new }
 {
-    let place = here.tables.place(target.variable);
-    let keeps = target.keeps;
+    let place = here.tables.place(variable);
     let stepped = [
         Instr::Load(place),
         Instr::Constant(1),
-        Instr::Binary(step_of(target.operator)),
+        Instr::Binary(step_of(operator)),
         Instr::Store { place, keeps },
     ];
     draft.put_all(here.at.line, &stepped)
 }
 
-/// `a[j]++` or `a[j]--`, as `a[j] += 1` or `a[j] -= 1`, behind the index.
-pub(crate) fn step_element(draft: &mut Draft, here: &Here<'_>, target: Stepped) -> Done
-    ensures { Appends result here.now (λ at l. rows.stepped_rest at l target.keeps target.variable)
-        target.operator draft.old draft.new }
+/// `a[j]++` or `a[j]--`, as `a[j] += 1` or `a[j] -= 1`, behind the index; `keeps` says whether the new
+/// value is left.
+pub(crate) fn step_element(
+    draft: &mut Draft,
+    here: &Here<'_>,
+    array: Variable,
+    operator: PostfixOperator,
+    keeps: bool,
+) -> Done
+    ensures { Appends result here.now (λ at l. rows.stepped_rest at l keeps array) operator
+        draft.old draft.new }
 {
-    let place = here.tables.place(target.variable);
-    let keeps = target.keeps;
+    let place = here.tables.place(array);
     let stepped = [
         Instr::Duplicate,
         Instr::LoadElement(place),
         Instr::Constant(1),
-        Instr::Binary(step_of(target.operator)),
+        Instr::Binary(step_of(operator)),
         Instr::StoreElement { place, keeps },
     ];
     draft.put_all(here.at.line, &stepped)
@@ -153,12 +141,7 @@ pub(crate) fn postfix(
 ) -> Done
     ensures { Appends result here.now value (trees.Postfix variable operator) draft.old draft.new }
 {
-    let target = Stepped {
-        variable,
-        operator,
-        keeps: true,
-    };
-    step(draft, here, target)?;
+    step(draft, here, variable, operator, true)?;
     step_back(draft, here, operator)
 }
 
@@ -172,11 +155,6 @@ pub(crate) fn postfix_element(
     ensures { Appends result here.now (λ at l. rows.postfix_rest at l array) operator draft.old
         draft.new }
 {
-    let target = Stepped {
-        variable: array,
-        operator,
-        keeps: true,
-    };
-    step_element(draft, here, target)?;
+    step_element(draft, here, array, operator, true)?;
     step_back(draft, here, operator)
 }

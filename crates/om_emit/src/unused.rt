@@ -1,6 +1,5 @@
 //! The code of expressions whose values nothing uses (C17 6.8.3).
 
-ghost use Rattle.std.specs.Prelude.{◌≡◌, false};
 ghost use Rattle.om_emit.specs.Emits.{Appends, listed};
 ghost use Rattle.om_emit.specs.Rests as rows;
 ghost use Rattle.om_resolved.specs.ResolvedView.{view_resolved_expression};
@@ -8,12 +7,11 @@ ghost use Rattle.om_rows.specs.Coded.{CallHasCode, EffectHasCode, ValueHasCode};
 ghost use Rattle.om_rows.specs.Expressions.{effect};
 
 use crate::draft::Draft;
-use crate::expression::{assign, assign_element, assigned, call, count_of, value, values};
+use crate::expression::{assign, assign_element, call, value, values};
 use crate::here::{Done, Here};
-use crate::single::{Stepped, step, step_element};
+use crate::single::{step, step_element};
 use om_code::Instr;
-use om_resolved::{ResolvedExpression, Variable};
-use om_tree::PostfixOperator;
+use om_resolved::ResolvedExpression;
 
 /// Writes an expression, which leaves nothing.
 ///
@@ -27,7 +25,7 @@ pub fn effect(draft: &mut Draft, here: &Here<'_>, e: &ResolvedExpression) -> Don
             variable,
             operator,
             value: e,
-        } => { assign(draft, here, assigned(*variable, *operator, false), e) }
+        } => { assign(draft, here, *variable, *operator, false, e) }
         ResolvedExpression::AssignElement {
             array,
             index,
@@ -35,10 +33,10 @@ pub fn effect(draft: &mut Draft, here: &Here<'_>, e: &ResolvedExpression) -> Don
             value: e,
         } => {
             value(draft, here, index)?;
-            assign_element(draft, here, assigned(*array, *operator, false), e)
+            assign_element(draft, here, *array, *operator, false, e)
         }
         ResolvedExpression::Postfix { variable, operator } => {
-            step(draft, here, stepped(*variable, *operator))
+            step(draft, here, *variable, *operator, false)
         }
         ResolvedExpression::PostfixElement {
             array,
@@ -46,17 +44,13 @@ pub fn effect(draft: &mut Draft, here: &Here<'_>, e: &ResolvedExpression) -> Don
             operator,
         } => {
             value(draft, here, index)?;
-            step_element(draft, here, stepped(*array, *operator))
+            step_element(draft, here, *array, *operator, false)
         }
-        ResolvedExpression::Print {
-            format,
-            values: arguments,
-        } => { print(draft, here, format.as_slice(), arguments.as_slice()) }
-        ResolvedExpression::Call {
-            function,
-            values: arguments,
-        } => {
-            call(draft, here, *function, arguments.as_slice())?;
+        ResolvedExpression::Print { format, values } => {
+            print(draft, here, format.as_slice(), values.as_slice())
+        }
+        ResolvedExpression::Call { function, values } => {
+            call(draft, here, *function, values.as_slice())?;
             draft.put(here.at.line, Instr::Pop)
         }
         ResolvedExpression::Constant(_)
@@ -67,17 +61,6 @@ pub fn effect(draft: &mut Draft, here: &Here<'_>, e: &ResolvedExpression) -> Don
         | ResolvedExpression::Unary { .. }
         | ResolvedExpression::Binary { .. }
         | ResolvedExpression::Conditional { .. } => popped(draft, here, e),
-    }
-}
-
-/// A postfix operator whose value is not left.
-fn stepped(variable: Variable, operator: PostfixOperator) -> Stepped
-    ensures { result ≡ record { variable = variable; operator = operator; keeps = false } }
-{
-    Stepped {
-        variable,
-        operator,
-        keeps: false,
     }
 }
 
@@ -103,8 +86,7 @@ fn print(
         draft.old draft.new }
 {
     let text = here.tables.format_number(format);
-    let count = count_of(arguments);
     values(draft, here, arguments)?;
-    let values = count;
+    let values = arguments.len() as u16;
     draft.put(here.at.line, Instr::Print { text, values })
 }

@@ -8,11 +8,10 @@ use Rattle.om_emit.proofs.Arguments.{counted, few, with_depth, has_code, emits_n
 use Rattle.om_emit.proofs.Expressions.{emits_element, emits_used_call, emits_right, emits_unary, emits_set}
 use Rattle.om_emit.proofs.Expressions.{emits_compound, emits_set_element, emits_compound_element, emits_call}
 use Rattle.om_emit.proofs.Expressions.{emits_binary, rest_is, emits_element_assigned, emits_postfix_element, value_is}
-use Rattle.om_emit.proofs.Expressions.{target_is}
 use Rattle.om_emit.proofs.Jumping.{emits_both, emits_either, emits_conditional}
 use Rattle.om_emit.proofs.Singles.{emits_one, emits_constant}
-use Rattle.om_emit.proofs.Views.{view_constant, view_variable, view_thread_number, view_team_size, view_call}
-use Rattle.om_emit.proofs.Views.{view_binary, view_conditional, view_assign_element, view_postfix_element}
+use Rattle.om_emit.proofs.Views.{view_constant, view_variable, view_element, view_thread_number, view_team_size}
+use Rattle.om_emit.proofs.Views.{view_call, view_unary, view_binary, view_conditional, view_assign_element, view_postfix_element}
 use Rattle.om_resolved.specs.ResolvedTree as trees
 use Rattle.om_resolved.specs.ResolvedView.{view_resolved_expression}
 use Rattle.om_rows.specs.Expressions.{value}
@@ -20,38 +19,16 @@ use Rattle.om_rows.specs.Operators.{Both, Either, Plain, form_of, compound_of}
 use Rattle.om_rows.specs.Slots.{place_of}
 use Rattle.om_emit.proofs.expression.+expression.Goals as goal
 
-pub element-returns : goal.element-returns
-element-returns t c =
-    on_ok_weaker c.load_element.result
-    (λ h. emits_element (names_at c.args.here.now) c.args.here.now.at.line c.args.array
-    (view_resolved_expression c.args.index.now) _ _ _ c.in_ok-value.ensures h)
-    c.load_element.ensures
-
 pub call-returns : goal.call-returns
 call-returns t c =
     on_ok_weaker c.put.result
     (λ h. emits_call (names_at c.args.here.now) c.args.here.now.at.line c.args.function
-    (listed c.args.arguments.now) c.called_body-body.result c.count_of-count.result _ _ _
-    c.called_body-body.ensures (c.count_of-count.ensures
-    ∙ counted c.args.arguments.now) c.in_ok-values.ensures h)
+    (listed c.args.arguments.now) c.called_body-body.result _ _ _ _
+    c.called_body-body.ensures (counted c.args.arguments.now) c.in_ok-values.ensures h)
     c.put.ensures
 
-pub call-count_of-count-requires : goal.call-count_of-count-requires
-call-count_of-count-requires t c = few c.args.arguments.now c.requires
-
-pub used_call-returns : goal.used_call-returns
-used_call-returns t c =
-    on_ok_weaker c.put.result
-    (λ h. emits_used_call (names_at c.args.here.now) c.args.here.now.at.line c.args.function
-    (listed c.args.arguments.now) _ _ _ c.in_ok-call.ensures h)
-    c.put.ensures
-
-pub unary-returns : goal.unary-returns
-unary-returns t c =
-    on_ok_weaker c.unary_end.result
-    (λ h. emits_unary (names_at c.args.here.now) c.args.here.now.at.line c.args.operator
-    (view_resolved_expression c.args.operand.now) _ _ _ c.in_ok-value.ensures h)
-    c.unary_end.ensures
+pub call-overflow_cast-values : goal.call-overflow_cast-values
+call-overflow_cast-values t c = omega (arith, few c.args.arguments.now c.requires)
 
 -- ---- operators between two operands
 
@@ -145,44 +122,38 @@ either_end-returns t c =
 pub assign-returns-in_ok-value-in-None : goal.assign-returns-in_ok-value-in-None
 assign-returns-in_ok-value-in-None t c =
     on_ok_weaker c.store.result
-    (λ h. emits_set (names_at c.args.here.now) c.args.here.now.at.line c.args.target.keeps c.args.target.variable
-    c.args.target.operator (view_resolved_expression c.args.e.now) _ _ _ (sym c.in-None.is ∙ c.compound_of.ensures)
+    (λ h. emits_set (names_at c.args.here.now) c.args.here.now.at.line c.args.keeps c.args.variable
+    c.args.operator (view_resolved_expression c.args.e.now) _ _ _ (sym c.in-None.is ∙ c.compound_of.ensures)
     c.in_ok-value-in-None.ensures h)
     c.store.ensures
 
-pub assign-returns-in_ok-value-in-Some : goal.assign-returns-in_ok-value-in-Some
-assign-returns-in_ok-value-in-Some t c =
-    on_ok_weaker c.put_all.result
-    (λ h. emits_compound (names_at c.args.here.now) c.args.here.now.at.line c.args.target.keeps c.args.target.variable
-    c.args.target.operator _ _ (view_resolved_expression c.args.e.now) _ _ _ _
-    (sym c.in-Some.is ∙ c.compound_of.ensures) c.place-place.ensures c.in_ok-load-in-Some.ensures
-    c.in_ok-value-in-Some.ensures h)
-    c.put_all.ensures
+pub assign-returns-in_ok-put-in-Some : goal.assign-returns-in_ok-put-in-Some
+assign-returns-in_ok-put-in-Some t c =
+    on_ok_weaker c.store-in-Some.result
+    (λ h. emits_compound (names_at c.args.here.now) c.args.here.now.at.line c.args.keeps c.args.variable
+    c.args.operator _ (view_resolved_expression c.args.e.now) _ _ _ _ _
+    (sym c.in-Some.is ∙ c.compound_of.ensures) c.in_ok-load-in-Some.ensures
+    c.in_ok-value-in-Some.ensures c.in_ok-put-in-Some.ensures h)
+    c.store-in-Some.ensures
 
 pub assign_element-returns-in_ok-value-in-None : goal.assign_element-returns-in_ok-value-in-None
 assign_element-returns-in_ok-value-in-None t c =
-    on_ok_weaker c.store_element.result
-    (λ h. emits_set_element (names_at c.args.here.now) c.args.here.now.at.line c.args.target.keeps c.args.target.variable
-    c.args.target.operator (view_resolved_expression c.args.e.now) _ _ _ (sym c.in-None.is ∙ c.compound_of.ensures)
-    c.in_ok-value-in-None.ensures h)
-    c.store_element.ensures
+    on_ok_weaker c.put.result
+    (λ h. emits_set_element (names_at c.args.here.now) c.args.here.now.at.line c.args.keeps c.args.array
+    c.args.operator _ (view_resolved_expression c.args.e.now) _ _ _ (sym c.in-None.is ∙ c.compound_of.ensures)
+    c.place-place.ensures c.in_ok-value-in-None.ensures h)
+    c.put.ensures
 
 pub assign_element-returns-in_ok-value-in-Some : goal.assign_element-returns-in_ok-value-in-Some
 assign_element-returns-in_ok-value-in-Some t c =
     on_ok_weaker c.put_all-in-Some.result
-    (λ h. emits_compound_element (names_at c.args.here.now) c.args.here.now.at.line c.args.target.keeps
-    c.args.target.variable c.args.target.operator _ _ (view_resolved_expression c.args.e.now) _ _ _ _
+    (λ h. emits_compound_element (names_at c.args.here.now) c.args.here.now.at.line c.args.keeps
+    c.args.array c.args.operator _ _ (view_resolved_expression c.args.e.now) _ _ _ _
     (sym c.in-Some.is ∙ c.compound_of.ensures) c.place-place.ensures c.in_ok-put_all-in-Some.ensures
     c.in_ok-value-in-Some.ensures h)
     c.put_all-in-Some.ensures
 
 -- ---- what a call is on is the same, and has code
-
-pub element-value-requires : goal.element-value-requires
-element-value-requires t c = (omega (arith, c.decreases), c.requires)
-
-pub unary-value-requires : goal.unary-value-requires
-unary-value-requires t c = (omega (arith, c.decreases), c.requires)
 
 pub binary_end-both_end-requires : goal.binary_end-both_end-requires
 binary_end-both_end-requires t c = (omega (arith, c.decreases), c.requires)
@@ -213,9 +184,6 @@ assign_element-value-requires-in-Some t c = (omega (arith, c.decreases), c.requi
 
 pub call-values-requires : goal.call-values-requires
 call-values-requires t c = (omega (arith, c.decreases), c.requires.1)
-
-pub used_call-call-requires : goal.used_call-call-requires
-used_call-call-requires t c = (omega (arith, c.decreases), c.requires)
 
 -- ---- the values of a call
 
@@ -274,15 +242,45 @@ value-returns-in-TeamSize t c =
     (emits_one names c.args.here.now.at.line i.TeamSize _ _ h))
     c.put-in-TeamSize.ensures
 
-pub value-returns-in-Call : goal.value-returns-in-Call
-value-returns-in-Call t c =
+pub value-returns-in_ok-value-in-Element : goal.value-returns-in_ok-value-in-Element
+value-returns-in_ok-value-in-Element t c =
     let names = names_at c.args.here.now in
-    let is = ap view_resolved_expression c.in-Call.is ∙ view_call c.in-Call.function c.in-Call.arguments in
+    let j = c.deref.result.now in
+    let x = c.in-Element.array in
+    let is = ap view_resolved_expression c.in-Element.is ∙ view_element x c.in-Element.index in
+    let same = ap (λ z. trees.Element x (view_resolved_expression z)) c.deref.ensures in
+    on_ok_weaker c.load_element.result
+    (λ h. value_is names c.args.here.now.at.line (trees.Element x (view_resolved_expression j))
+    (view_resolved_expression c.args.e.now) _ _ (same ∙ sym is)
+    (emits_element names c.args.here.now.at.line x (view_resolved_expression j) _ _ _
+    c.in_ok-value-in-Element.ensures h))
+    c.load_element.ensures
+
+pub value-returns-in_ok-call-in-Call : goal.value-returns-in_ok-call-in-Call
+value-returns-in_ok-call-in-Call t c =
+    let names = names_at c.args.here.now in
+    let is = ap view_resolved_expression c.in-Call.is ∙ view_call c.in-Call.function c.in-Call.values in
     let same = ap (λ es. trees.Call c.in-Call.function (listed es)) c.as_slice.ensures.value in
-    on_ok_weaker c.used_call.result
+    on_ok_weaker c.put-in-Call.result
     (λ h. value_is names c.args.here.now.at.line (trees.Call c.in-Call.function (listed c.as_slice.result.now))
-    (view_resolved_expression c.args.e.now) _ _ (same ∙ sym is) h)
-    c.used_call.ensures
+    (view_resolved_expression c.args.e.now) _ _ (same ∙ sym is)
+    (emits_used_call names c.args.here.now.at.line c.in-Call.function (listed c.as_slice.result.now) _ _ _
+    c.in_ok-call-in-Call.ensures h))
+    c.put-in-Call.ensures
+
+pub value-returns-in_ok-value-in-Unary : goal.value-returns-in_ok-value-in-Unary
+value-returns-in_ok-value-in-Unary t c =
+    let names = names_at c.args.here.now in
+    let e = c.deref-in-Unary.result.now in
+    let o = c.in-Unary.operator in
+    let is = ap view_resolved_expression c.in-Unary.is ∙ view_unary o c.in-Unary.operand in
+    let same = ap (λ z. trees.Unary o (view_resolved_expression z)) c.deref-in-Unary.ensures in
+    on_ok_weaker c.unary_end.result
+    (λ h. value_is names c.args.here.now.at.line (trees.Unary o (view_resolved_expression e))
+    (view_resolved_expression c.args.e.now) _ _ (same ∙ sym is)
+    (emits_unary names c.args.here.now.at.line o (view_resolved_expression e) _ _ _
+    c.in_ok-value-in-Unary.ensures h))
+    c.unary_end.ensures
 
 pub value-returns-in_ok-value-in-Binary : goal.value-returns-in_ok-value-in-Binary
 value-returns-in_ok-value-in-Binary t c =
@@ -379,14 +377,7 @@ value-returns-in_ok-value-in-AssignElement t c =
     _ _ (same ∙ sym is)
     (emits_element_assigned names c.args.here.now.at.line true x (view_resolved_expression j) (compound_of o)
     (λ at. value at c.args.here.now.at.line (view_resolved_expression e)) _ _ _
-    c.in_ok-value-in-AssignElement.ensures
-    (target_is names c.args.here.now.at.line (view_resolved_expression e) c.assigned-in-AssignElement.result (record {
-      variable =
-          x;
-      operator = o;
-      keeps = true;
-    }) _ _
-    c.assigned-in-AssignElement.ensures h)))
+    c.in_ok-value-in-AssignElement.ensures h))
     c.assign_element.ensures
 
 pub value-returns-in_ok-value-in-PostfixElement : goal.value-returns-in_ok-value-in-PostfixElement

@@ -1,7 +1,7 @@
 use Rattle.std.proofs.Common.{pos, Some, false, ap, sym, ◌∙◌}
 use Rattle.std.proofs.lemmas.Result.{on_ok_weaker}
 use Rattle.om_emit.specs.Emits.{listed, names_at}
-use Rattle.om_emit.proofs.Expressions.{effect_is, emits_dropped_call, emits_element_assigned, stepped_is, target_is}
+use Rattle.om_emit.proofs.Expressions.{effect_is, emits_dropped_call, emits_element_assigned}
 use Rattle.om_emit.proofs.Views.{view_assign_element, view_call, view_postfix_element, view_print}
 use Rattle.om_resolved.specs.ResolvedTree as trees
 use Rattle.om_resolved.specs.ResolvedView.{view_resolved_expression}
@@ -29,14 +29,7 @@ returns-in_ok-value-in-AssignElement c =
     _ _ (same ∙ sym is)
     (emits_element_assigned names c.args.here.now.at.line false x (view_resolved_expression j) (compound_of o)
     (λ at. value at c.args.here.now.at.line (view_resolved_expression e)) _ _ _
-    c.in_ok-value-in-AssignElement.ensures
-    (target_is names c.args.here.now.at.line (view_resolved_expression e) c.assigned-in-AssignElement.result (record {
-      variable =
-          x;
-      operator = o;
-      keeps = false;
-    }) _ _
-    c.assigned-in-AssignElement.ensures h)))
+    c.in_ok-value-in-AssignElement.ensures h))
     c.assign_element.ensures
 
 pub returns-in_ok-value-in-PostfixElement : goal.returns-in_ok-value-in-PostfixElement
@@ -53,20 +46,13 @@ returns-in_ok-value-in-PostfixElement c =
     (view_resolved_expression c.args.e.now) _ _ (same ∙ sym is)
     (emits_element_assigned names c.args.here.now.at.line false x (view_resolved_expression j) (Some (step_of o))
     (λ at. constant at c.args.here.now.at.line (pos 1)) _ _ _
-    c.in_ok-value-in-PostfixElement.ensures
-    (stepped_is names c.args.here.now.at.line c.stepped-in-PostfixElement.result (record {
-      variable = x;
-      operator = o;
-      keeps =
-          false;
-    }) _ _
-    c.stepped-in-PostfixElement.ensures h)))
+    c.in_ok-value-in-PostfixElement.ensures h))
     c.step_element.ensures
 
 pub returns-in_ok-call-in-Call : goal.returns-in_ok-call-in-Call
 returns-in_ok-call-in-Call c =
     let names = names_at c.args.here.now in
-    let is = ap view_resolved_expression c.in-Call.is ∙ view_call c.in-Call.function c.in-Call.arguments in
+    let is = ap view_resolved_expression c.in-Call.is ∙ view_call c.in-Call.function c.in-Call.values in
     let same = ap (λ es. trees.Call c.in-Call.function (listed es)) c.as_slice-in-Call.ensures.value in
     on_ok_weaker c.put.result
     (λ h. effect_is names c.args.here.now.at.line (trees.Call c.in-Call.function (listed c.as_slice-in-Call.result.now))
@@ -78,7 +64,7 @@ returns-in_ok-call-in-Call c =
 pub returns-in-Print : goal.returns-in-Print
 returns-in-Print c =
     let names = names_at c.args.here.now in
-    let is = ap view_resolved_expression c.in-Print.is ∙ view_print c.in-Print.format c.in-Print.arguments in
+    let is = ap view_resolved_expression c.in-Print.is ∙ view_print c.in-Print.format c.in-Print.values in
     let same =
     ap (λ f. trees.Print f (listed c.as_slice-in-Print.result.now)) c.as_slice.ensures
     ∙ ap (λ es. trees.Print c.in-Print.format (listed es)) c.as_slice-in-Print.ensures.value in

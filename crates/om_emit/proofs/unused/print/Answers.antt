@@ -1,4 +1,4 @@
-use Rattle.std.proofs.Common.{◌∙◌}
+use Rattle.std.proofs.Common.{arith}
 use Rattle.std.proofs.lemmas.Result.{on_ok_weaker}
 use Rattle.om_emit.specs.Emits.{listed, names_at}
 use Rattle.om_emit.proofs.Arguments.{counted, few}
@@ -9,10 +9,9 @@ pub returns : goal.returns
 returns c =
     on_ok_weaker c.put.result
     (λ h. emits_print (names_at c.args.here.now) c.args.here.now.at.line c.args.format.now
-    (listed c.args.arguments.now) c.format_number-text.result c.count_of-count.result _ _ _
-    c.format_number-text.ensures (c.count_of-count.ensures
-    ∙ counted c.args.arguments.now) c.in_ok-values.ensures h)
+    (listed c.args.arguments.now) c.format_number-text.result _ _ _ _
+    c.format_number-text.ensures (counted c.args.arguments.now) c.in_ok-values.ensures h)
     c.put.ensures
 
-pub count_of-count-requires : goal.count_of-count-requires
-count_of-count-requires c = few c.args.arguments.now c.requires
+pub overflow_cast-values : goal.overflow_cast-values
+overflow_cast-values c = omega (arith, few c.args.arguments.now c.requires)
