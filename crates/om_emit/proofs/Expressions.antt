@@ -4,6 +4,7 @@ use Rattle.om_code.specs.declared.instruction.BinaryOperator as machine
 use Rattle.om_code.specs.declared.instruction.Instr.{Instr}
 use Rattle.om_code.specs.declared.instruction.Instr.TheVariants as i
 use Rattle.om_code.specs.declared.instruction.Place.{Place}
+use Rattle.om_emit.specs.declared.expression.Target.{Target}
 use Rattle.om_emit.specs.Drafts.{Written, moved, Puts, PutsAll}
 use Rattle.om_emit.specs.Emits.{Part, site, Emits, EmitsEffect, EmitsRow, EmitsValue, EmitsValues}
 use Rattle.om_emit.specs.Rests.{assignment, assignment_rest, binary_rest, call, element_rest, popped, postfix_rest}
@@ -217,3 +218,10 @@ value_is names l x y a c is e = subst (λ z. EmitsValue names l z a c) is e
 pub effect_is : (names : Numbered) (l : ℕ) (x y : ResolvedExpressionTree) (a c : Written) → x ≡ y
     → EmitsEffect names l x a c → EmitsEffect names l y a c
 effect_is names l x y a c is e = subst (λ z. EmitsEffect names l z a c) is e
+
+-- under the target as it was made
+pub target_is : (names : Numbered) (l : ℕ) (e : ResolvedExpressionTree) (t u : Target) (a c : Written)
+    → t ≡ u → EmitsRow names (λ at. assignment_rest at l t.keeps t.variable t.operator e) a c
+    → EmitsRow names (λ at. assignment_rest at l u.keeps u.variable u.operator e) a c
+target_is names l e t u a c is h =
+    subst (λ z. EmitsRow names (λ at. assignment_rest at l z.keeps z.variable z.operator e) a c) is h

@@ -53,6 +53,7 @@ settled_code d = map (settled (place_in d.places)) d.code
 
 -- ---- how it is written down
 
+-- a jump to a target, as an instruction
 abbrev pub jump_to : Jump → (target : ℕ) → Instr
 jump_to jumps.Always target = i.Jump target
 jump_to jumps.IfZero target = i.JumpIfZero target
@@ -61,18 +62,21 @@ jump_to (jumps.Iterate slot) target = i.Iterate slot target
 jump_to jumps.Single target = i.Single target
 jump_to jumps.Masked target = i.Masked target
 
+-- an instruction with its line; the target of a jump is its label
 abbrev pub line_in : DraftLine → Line
 line_in (lines.Plain line) = line
 line_in (lines.Jump line jump label) = record { instruction = jump_to jump label; line = line }
 
--- an instruction that is no jump
+-- an instruction that has no target
 abbrev pub HasNoTarget : Instr → Type 0
 HasNoTarget instruction = (at : Labels) → moved at instruction ≡ instruction
 
+-- instructions, none of which has a target
 abbrev pub HaveNoTarget : List Instr → Type 0
 HaveNoTarget [] = Unit {0}
 HaveNoTarget (x ∷ xs) = HasNoTarget x × HaveNoTarget xs
 
+-- what is written as it stands, without a label, has no target
 abbrev pub IsPlain : DraftLine → Type 0
 IsPlain (lines.Plain line) = HasNoTarget line.instruction
 IsPlain (lines.Jump line jump label) = Unit {0}

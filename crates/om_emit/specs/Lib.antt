@@ -4,3 +4,4 @@ pub mod Emits
 pub mod Forms
 pub mod Rests
 pub mod Writing
+pub mod Words

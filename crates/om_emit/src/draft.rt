@@ -1,14 +1,14 @@
 //! Code that is being written, with labels in place of the targets of jumps.
 
-ghost use Rattle.std.specs.Prelude.{◌≡◌, ◌<◌, ◌^◌, IfOk, OnOk, None, Some, length, slice_get};
+ghost use Rattle.std.specs.Prelude.{◌≡◌, ◌<◌, ◌^◌, IfOk, OnOk, length, slice_get};
 ghost use Rattle.om_emit.specs.Drafts.{AreShort, Defines, Fresh, FreshLabels, FreshList, HasNoTarget, HaveNoTarget, IsPlain, Puts, PutsAll, jump_to, line_in, nothing, place_in, settled, settled_code};
 ghost use Rattle.om_emit.specs.Settled.{settled_list, settled_lists};
 
-use crate::here::Done;
+use crate::here::{Done, Made};
 use om_code::Instr;
 use om_code::raw::Line;
 use om_seq::Seq;
-use std::alloc::{AllocError, Global};
+use std::alloc::Global;
 use std::marker::Model;
 
 /// The labels at which the parts of a `sections` begin.
@@ -124,7 +124,7 @@ impl Draft {
     }
 
     /// A new label, which has no place yet.
-    pub fn fresh(&mut self) -> Result<usize, AllocError>
+    pub fn fresh(&mut self) -> Made<usize>
         ensures { IfOk result (λ label. Fresh label self.old self.new) }
     {
         let label = self.places.len();
@@ -142,12 +142,7 @@ impl Draft {
 
     /// A new label for each part of a `sections`, one behind the other, and the list of its PICK with
     /// this number in the program. The first label is answered; none has a place yet.
-    pub fn fresh_list(
-        &mut self,
-        alloc: Global,
-        number: u32,
-        count: u32,
-    ) -> Result<usize, AllocError>
+    pub fn fresh_list(&mut self, alloc: Global, number: u32, count: u32) -> Made<usize>
         ensures { IfOk result (λ first. FreshList number first count self.old self.new) }
     {
         let first = self.places.len();
@@ -157,7 +152,7 @@ impl Draft {
     }
 
     /// So many new labels, one behind the other, which have no place yet.
-    fn fresh_labels(&mut self, alloc: Global, count: u32) -> Result<Vec<usize>, AllocError>
+    fn fresh_labels(&mut self, alloc: Global, count: u32) -> Made<Vec<usize>>
         ensures { IfOk result (λ labels. FreshLabels labels.items count self.old self.new) }
     {
         let mut labels = Vec::new(alloc);
@@ -170,7 +165,7 @@ impl Draft {
 
     /// The code, with the place of each label in its stead: a place has 32 bits, so that fewer than
     /// 2^32 instructions are written. The only error is out of memory.
-    pub fn settle(&self, alloc: Global) -> Result<Seq<Line>, AllocError>
+    pub fn settle(&self, alloc: Global) -> Made<Seq<Line>>
         requires { length self.now.code < 2 ^ 32 }
         ensures { IfOk result (λ code. code ≡ settled_code self.now) }
     {
@@ -184,7 +179,7 @@ impl Draft {
 
     /// The lists of the PICKs in the code, with the place of each label in its stead. The only error is
     /// out of memory.
-    pub fn lists(&self, alloc: Global) -> Result<Vec<PickList>, AllocError>
+    pub fn lists(&self, alloc: Global) -> Made<Vec<PickList>>
         requires { length self.now.code < 2 ^ 32 }
         ensures { IfOk result (λ lists. lists.items ≡ settled_lists self.now) }
     {
@@ -241,11 +236,7 @@ fn settled(places: &[Option<usize>], line: DraftLine) -> Line
 }
 
 /// The list of a PICK, with the place of each label.
-fn settled_list(
-    alloc: Global,
-    places: &[Option<usize>],
-    pick: &Pick,
-) -> Result<PickList, AllocError>
+fn settled_list(alloc: Global, places: &[Option<usize>], pick: &Pick) -> Made<PickList>
     requires { AreShort places.now }
     ensures { IfOk result (λ list. list ≡ settled_list (place_in places.now) pick.now) }
 {

@@ -1,11 +1,9 @@
 //! The code of expressions (C17 6.5).
 
-ghost use Rattle.om_emit.specs.Emits.{Appends, listed};
+ghost use Rattle.std.specs.Prelude.{◌≡◌};
 ghost use Rattle.om_emit.specs.Rests as rows;
-ghost use Rattle.om_resolved.specs.ResolvedView.{view_resolved_expression};
-ghost use Rattle.om_rows.specs.Coded.{CallHasCode, ValueHasCode, ValuesHaveCode};
-ghost use Rattle.om_rows.specs.Expressions.{value, values};
-ghost use Rattle.om_rows.specs.Operators.{Both, Either, form_of};
+ghost use Rattle.om_emit.specs.Words.{Appends, CallHasCode, ValueHasCode, ValuesHaveCode, view_resolved_expression};
+ghost use Rattle.om_emit.specs.Words.{Both, Either, form_of, listed, value, values};
 
 use crate::draft::{Draft, Jump};
 use crate::here::{Done, Here};
@@ -16,6 +14,15 @@ use crate::single::{
 use om_code::Instr;
 use om_resolved::{ResolvedExpression, Variable};
 use om_tree::AssignOperator;
+
+/// What is assigned to, a variable or an element of it, and how.
+#[derive(Clone, Copy)]
+pub(crate) struct Target {
+    pub(crate) variable: Variable,
+    pub(crate) operator: AssignOperator,
+    /// Whether the value is left.
+    pub(crate) keeps: bool,
+}
 
 /// Writes an expression, which leaves its value on top.
 ///
@@ -71,7 +78,7 @@ pub fn value(draft: &mut Draft, here: &Here<'_>, e: &ResolvedExpression) -> Done
             variable,
             operator,
             value: e,
-        } => { assign(draft, here, *variable, *operator, true, e) }
+        } => { assign(draft, here, assigned(*variable, *operator, true), e) }
         ResolvedExpression::AssignElement {
             array,
             index,
@@ -79,7 +86,7 @@ pub fn value(draft: &mut Draft, here: &Here<'_>, e: &ResolvedExpression) -> Done
             value: e,
         } => {
             value(draft, here, index)?;
-            assign_element(draft, here, *array, *operator, true, e)
+            assign_element(draft, here, assigned(*array, *operator, true), e)
         }
         ResolvedExpression::Postfix { variable, operator } => {
             postfix(draft, here, *variable, *operator)
@@ -92,6 +99,17 @@ pub fn value(draft: &mut Draft, here: &Here<'_>, e: &ResolvedExpression) -> Done
             value(draft, here, index)?;
             postfix_element(draft, here, *array, *operator)
         }
+    }
+}
+
+/// What is assigned to, and how.
+pub(crate) fn assigned(variable: Variable, operator: AssignOperator, keeps: bool) -> Target
+    ensures { result ≡ record { variable = variable; operator = operator; keeps = keeps } }
+{
+    Target {
+        variable,
+        operator,
+        keeps,
     }
 }
 
@@ -177,53 +195,51 @@ fn either_end(draft: &mut Draft, here: &Here<'_>, right: &ResolvedExpression) ->
     truth(draft, here.at.line, neither, end)
 }
 
-/// Writes an assignment to a variable (C17 6.5.16); `keeps` says whether its value is left.
+/// Writes an assignment to a variable (C17 6.5.16).
 #[cycle(expression)]
 pub(crate) fn assign(
     draft: &mut Draft,
     here: &Here<'_>,
-    variable: Variable,
-    operator: AssignOperator,
-    keeps: bool,
+    target: Target,
     e: &ResolvedExpression,
 ) -> Done
     requires { ValueHasCode (view_resolved_expression e.now) }
-    ensures { Appends result here.now (λ at l. rows.assignment at l keeps variable operator)
+    ensures { Appends result here.now
+        (λ at l. rows.assignment at l target.keeps target.variable target.operator)
         (view_resolved_expression e.now) draft.old draft.new }
 {
-    match compound_of(operator) {
+    match compound_of(target.operator) {
         None => {
             value(draft, here, e)?;
-            store(draft, here, variable, keeps)
+            store(draft, here, target.variable, target.keeps)
         }
         Some(operator) => {
-            load(draft, here, variable)?;
+            load(draft, here, target.variable)?;
             value(draft, here, e)?;
             draft.put(here.at.line, Instr::Binary(operator))?;
-            store(draft, here, variable, keeps)
+            store(draft, here, target.variable, target.keeps)
         }
     }
 }
 
-/// Writes what stands behind the index of an assignment to an element (C17 6.5.16); `keeps` says
-/// whether its value is left.
+/// Writes what stands behind the index of an assignment to an element (C17 6.5.16).
 #[cycle(expression)]
 pub(crate) fn assign_element(
     draft: &mut Draft,
     here: &Here<'_>,
-    array: Variable,
-    operator: AssignOperator,
-    keeps: bool,
+    target: Target,
     e: &ResolvedExpression,
 ) -> Done
     requires { ValueHasCode (view_resolved_expression e.now) }
-    ensures { Appends result here.now (λ at l. rows.assignment_rest at l keeps array operator)
+    ensures { Appends result here.now
+        (λ at l. rows.assignment_rest at l target.keeps target.variable target.operator)
         (view_resolved_expression e.now) draft.old draft.new }
 {
     let line = here.at.line;
-    let place = here.tables.place(array);
+    let place = here.tables.place(target.variable);
+    let keeps = target.keeps;
     let store = Instr::StoreElement { place, keeps };
-    match compound_of(operator) {
+    match compound_of(target.operator) {
         None => {
             value(draft, here, e)?;
             draft.put(line, store)

@@ -4,8 +4,11 @@ use om_lexer::Span;
 use om_rows::BodyTables;
 use std::alloc::AllocError;
 
+/// What is made. The only error is out of memory.
+pub type Made<T> = Result<T, AllocError>;
+
 /// Whether all is written. The only error is out of memory.
-pub type Done = Result<(), AllocError>;
+pub type Done = Made<()>;
 
 /// Where code is written, and for what.
 #[derive(Clone, Copy)]

@@ -1,14 +1,11 @@
 //! The code of what no expression stands in.
 
-ghost use Rattle.std.specs.Prelude.{◌≡◌, ◌<◌, ◌∷◌, [], None, OnOk, Some, pos, slice_get};
+ghost use Rattle.std.specs.Prelude.{◌≡◌, ◌<◌, ◌∷◌, [], OnOk, pos, slice_get};
 ghost use Rattle.om_code.specs.declared.instruction.Instr.TheVariants as i;
-ghost use Rattle.om_emit.specs.Drafts.{PutsAll};
-ghost use Rattle.om_emit.specs.Emits.{Adds, Appends, Goes, place_at, site};
 ghost use Rattle.om_emit.specs.Rests as rows;
+ghost use Rattle.om_emit.specs.Words.{Adds, Appends, Goes, Numbered, PutsAll};
+ghost use Rattle.om_emit.specs.Words.{inverse_step_of, place_at, site, stepped_back, value};
 ghost use Rattle.om_resolved.specs.ResolvedTree as trees;
-ghost use Rattle.om_rows.specs.Expressions.{stepped_back, value};
-ghost use Rattle.om_rows.specs.Numbered.{Numbered};
-ghost use Rattle.om_rows.specs.Operators.{inverse_step_of};
 
 use crate::draft::{Draft, Jump};
 use crate::here::{Done, Here};

@@ -1,13 +1,11 @@
 //! The code of expressions whose values nothing uses (C17 6.8.3).
 
-ghost use Rattle.om_emit.specs.Emits.{Appends, listed};
 ghost use Rattle.om_emit.specs.Rests as rows;
-ghost use Rattle.om_resolved.specs.ResolvedView.{view_resolved_expression};
-ghost use Rattle.om_rows.specs.Coded.{CallHasCode, EffectHasCode, ValueHasCode};
-ghost use Rattle.om_rows.specs.Expressions.{effect};
+ghost use Rattle.om_emit.specs.Words.{Appends, CallHasCode, EffectHasCode, ValueHasCode};
+ghost use Rattle.om_emit.specs.Words.{effect, listed, view_resolved_expression};
 
 use crate::draft::Draft;
-use crate::expression::{assign, assign_element, call, value, values};
+use crate::expression::{assign, assign_element, assigned, call, value, values};
 use crate::here::{Done, Here};
 use crate::single::{step, step_element};
 use om_code::Instr;
@@ -25,7 +23,7 @@ pub fn effect(draft: &mut Draft, here: &Here<'_>, e: &ResolvedExpression) -> Don
             variable,
             operator,
             value: e,
-        } => { assign(draft, here, *variable, *operator, false, e) }
+        } => { assign(draft, here, assigned(*variable, *operator, false), e) }
         ResolvedExpression::AssignElement {
             array,
             index,
@@ -33,7 +31,7 @@ pub fn effect(draft: &mut Draft, here: &Here<'_>, e: &ResolvedExpression) -> Don
             value: e,
         } => {
             value(draft, here, index)?;
-            assign_element(draft, here, *array, *operator, false, e)
+            assign_element(draft, here, assigned(*array, *operator, false), e)
         }
         ResolvedExpression::Postfix { variable, operator } => {
             step(draft, here, *variable, *operator, false)

@@ -8,6 +8,7 @@ use Rattle.om_emit.proofs.Arguments.{counted, few, with_depth, has_code, emits_n
 use Rattle.om_emit.proofs.Expressions.{emits_element, emits_used_call, emits_right, emits_unary, emits_set}
 use Rattle.om_emit.proofs.Expressions.{emits_compound, emits_set_element, emits_compound_element, emits_call}
 use Rattle.om_emit.proofs.Expressions.{emits_binary, rest_is, emits_element_assigned, emits_postfix_element, value_is}
+use Rattle.om_emit.proofs.Expressions.{target_is}
 use Rattle.om_emit.proofs.Jumping.{emits_both, emits_either, emits_conditional}
 use Rattle.om_emit.proofs.Singles.{emits_one, emits_constant}
 use Rattle.om_emit.proofs.Views.{view_constant, view_variable, view_element, view_thread_number, view_team_size}
@@ -122,16 +123,16 @@ either_end-returns t c =
 pub assign-returns-in_ok-value-in-None : goal.assign-returns-in_ok-value-in-None
 assign-returns-in_ok-value-in-None t c =
     on_ok_weaker c.store.result
-    (λ h. emits_set (names_at c.args.here.now) c.args.here.now.at.line c.args.keeps c.args.variable
-    c.args.operator (view_resolved_expression c.args.e.now) _ _ _ (sym c.in-None.is ∙ c.compound_of.ensures)
+    (λ h. emits_set (names_at c.args.here.now) c.args.here.now.at.line c.args.target.keeps c.args.target.variable
+    c.args.target.operator (view_resolved_expression c.args.e.now) _ _ _ (sym c.in-None.is ∙ c.compound_of.ensures)
     c.in_ok-value-in-None.ensures h)
     c.store.ensures
 
 pub assign-returns-in_ok-put-in-Some : goal.assign-returns-in_ok-put-in-Some
 assign-returns-in_ok-put-in-Some t c =
     on_ok_weaker c.store-in-Some.result
-    (λ h. emits_compound (names_at c.args.here.now) c.args.here.now.at.line c.args.keeps c.args.variable
-    c.args.operator _ (view_resolved_expression c.args.e.now) _ _ _ _ _
+    (λ h. emits_compound (names_at c.args.here.now) c.args.here.now.at.line c.args.target.keeps c.args.target.variable
+    c.args.target.operator _ (view_resolved_expression c.args.e.now) _ _ _ _ _
     (sym c.in-Some.is ∙ c.compound_of.ensures) c.in_ok-load-in-Some.ensures
     c.in_ok-value-in-Some.ensures c.in_ok-put-in-Some.ensures h)
     c.store-in-Some.ensures
@@ -139,16 +140,16 @@ assign-returns-in_ok-put-in-Some t c =
 pub assign_element-returns-in_ok-value-in-None : goal.assign_element-returns-in_ok-value-in-None
 assign_element-returns-in_ok-value-in-None t c =
     on_ok_weaker c.put.result
-    (λ h. emits_set_element (names_at c.args.here.now) c.args.here.now.at.line c.args.keeps c.args.array
-    c.args.operator _ (view_resolved_expression c.args.e.now) _ _ _ (sym c.in-None.is ∙ c.compound_of.ensures)
+    (λ h. emits_set_element (names_at c.args.here.now) c.args.here.now.at.line c.args.target.keeps c.args.target.variable
+    c.args.target.operator _ (view_resolved_expression c.args.e.now) _ _ _ (sym c.in-None.is ∙ c.compound_of.ensures)
     c.place-place.ensures c.in_ok-value-in-None.ensures h)
     c.put.ensures
 
 pub assign_element-returns-in_ok-value-in-Some : goal.assign_element-returns-in_ok-value-in-Some
 assign_element-returns-in_ok-value-in-Some t c =
     on_ok_weaker c.put_all-in-Some.result
-    (λ h. emits_compound_element (names_at c.args.here.now) c.args.here.now.at.line c.args.keeps
-    c.args.array c.args.operator _ _ (view_resolved_expression c.args.e.now) _ _ _ _
+    (λ h. emits_compound_element (names_at c.args.here.now) c.args.here.now.at.line c.args.target.keeps
+    c.args.target.variable c.args.target.operator _ _ (view_resolved_expression c.args.e.now) _ _ _ _
     (sym c.in-Some.is ∙ c.compound_of.ensures) c.place-place.ensures c.in_ok-put_all-in-Some.ensures
     c.in_ok-value-in-Some.ensures h)
     c.put_all-in-Some.ensures
@@ -377,7 +378,9 @@ value-returns-in_ok-value-in-AssignElement t c =
     _ _ (same ∙ sym is)
     (emits_element_assigned names c.args.here.now.at.line true x (view_resolved_expression j) (compound_of o)
     (λ at. value at c.args.here.now.at.line (view_resolved_expression e)) _ _ _
-    c.in_ok-value-in-AssignElement.ensures h))
+    c.in_ok-value-in-AssignElement.ensures
+    (target_is names c.args.here.now.at.line (view_resolved_expression e) c.assigned-in-AssignElement.result
+    (record { variable = x; operator = o; keeps = true }) _ _ c.assigned-in-AssignElement.ensures h)))
     c.assign_element.ensures
 
 pub value-returns-in_ok-value-in-PostfixElement : goal.value-returns-in_ok-value-in-PostfixElement

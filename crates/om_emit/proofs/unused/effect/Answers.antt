@@ -1,7 +1,7 @@
 use Rattle.std.proofs.Common.{pos, Some, false, ap, sym, ◌∙◌}
 use Rattle.std.proofs.lemmas.Result.{on_ok_weaker}
 use Rattle.om_emit.specs.Emits.{listed, names_at}
-use Rattle.om_emit.proofs.Expressions.{effect_is, emits_dropped_call, emits_element_assigned}
+use Rattle.om_emit.proofs.Expressions.{effect_is, emits_dropped_call, emits_element_assigned, target_is}
 use Rattle.om_emit.proofs.Views.{view_assign_element, view_call, view_postfix_element, view_print}
 use Rattle.om_resolved.specs.ResolvedTree as trees
 use Rattle.om_resolved.specs.ResolvedView.{view_resolved_expression}
@@ -29,7 +29,9 @@ returns-in_ok-value-in-AssignElement c =
     _ _ (same ∙ sym is)
     (emits_element_assigned names c.args.here.now.at.line false x (view_resolved_expression j) (compound_of o)
     (λ at. value at c.args.here.now.at.line (view_resolved_expression e)) _ _ _
-    c.in_ok-value-in-AssignElement.ensures h))
+    c.in_ok-value-in-AssignElement.ensures
+    (target_is names c.args.here.now.at.line (view_resolved_expression e) c.assigned-in-AssignElement.result
+    (record { variable = x; operator = o; keeps = false }) _ _ c.assigned-in-AssignElement.ensures h)))
     c.assign_element.ensures
 
 pub returns-in_ok-value-in-PostfixElement : goal.returns-in_ok-value-in-PostfixElement
