@@ -3,7 +3,7 @@ use Rattle.std.proofs.Common.{◌≡◌, ◌<◌, ◌≤◌, inl, inr, ℕ, zero
 use Rattle.std.proofs.Common.{Some, Any, length, map, slice_get, take, ◌+◌, false, refl, sym, ap, subst, ◌∙◌, arith}
 use Rattle.std.proofs.lemmas.List.{append_assoc, append-nil, map-append}
 use Rattle.std.specs.List.{flat_map}
-use Rattle.om_lower.specs.declared.emitted.Emitted.{Emitted}
+use Rattle.om_lower.specs.declared.body.Emitted.{Emitted}
 use Rattle.om_emit.specs.declared.draft.PickList.{PickList}
 use Rattle.om_lower.specs.Emitted.{FitsRow}
 use Rattle.om_emit.specs.Settled.{number_of}

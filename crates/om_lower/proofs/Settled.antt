@@ -5,7 +5,7 @@ use Rattle.std.specs.Prelude.{slice_get}
 use Rattle.std.proofs.lemmas.List.{length-map}
 use Rattle.std.proofs.lemmas.Option.{slice_get_within}
 use Rattle.om_lower.proofs.Ascending.{body_table}
-use Rattle.om_lower.specs.declared.emitted.Emitted.{Emitted}
+use Rattle.om_lower.specs.declared.body.Emitted.{Emitted}
 use Rattle.om_lower.specs.Emitted.{EmitsBody, FitsRow, HasLists, HasRow, HasScopesRow}
 use Rattle.om_emit.specs.declared.draft.Pick.{Pick}
 use Rattle.om_emit.specs.Drafts.{Labels, Written, known, nothing, place_in, settled, settled_code}

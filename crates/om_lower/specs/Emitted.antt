@@ -1,7 +1,7 @@
 -- What is promised of the code of a body.
 use Rattle.std.specs.Prelude.{◌≡◌, ◌<◌, ◌≤◌, ℕ, List, [], Option, None, Some, length, map}
 use Rattle.om_code.specs.declared.raw.Line.{Line}
-use Rattle.om_lower.specs.declared.emitted.Emitted.{Emitted}
+use Rattle.om_lower.specs.declared.body.Emitted.{Emitted}
 use Rattle.om_emit.specs.Drafts.{Written}
 use Rattle.om_emit.specs.Emits.{site}
 use Rattle.om_emit.specs.Settled.{ListsStand, number_of}
@@ -30,7 +30,8 @@ HasScopesRow names f tree made = (picks : List (List ℕ)) → ListsStand made.l
 abbrev pub HasLists : Numbers → ResolvedFunctionTree → BodyTree → Emitted → Type 0
 HasLists n f tree made = map number_of made.lists.items ≡ body_picks n f tree
 
--- the code of a body, if it has at most 65,536 instructions
+-- the code of a body, with its lists and its scopes, if it has at most 65,536 instructions;
+-- else its code is longer
 abbrev pub FitsRow : Numbered → Numbers → ResolvedFunctionTree → BodyTree → Option Emitted → Type 0
 FitsRow names n f tree None =
     (picks : List (List ℕ)) × (code : List Line) × body_row (site_with names code picks) n f tree 0 (length code)

@@ -2,7 +2,7 @@
 use Rattle.std.specs.Prelude.{◌≡◌, ◌≤◌, ◌<◌, ◌⊎◌, ℕ, List, [], ◌∷◌, ◌++◌, Option, None, Some, Bool, true, false, All}
 use Rattle.std.specs.Prelude.{Any, length, map, slice_get, take}
 use Rattle.std.specs.List.{AllZip, flat_map}
-use Rattle.om_lower.specs.declared.emitted.Emitted.{Emitted}
+use Rattle.om_lower.specs.declared.body.Emitted.{Emitted}
 use Rattle.om_lower.specs.Emitted.{FitsRow}
 use Rattle.om_code.specs.declared.raw.Body.{Body}
 use Rattle.om_code.specs.declared.raw.Line.{Line}
@@ -64,7 +64,7 @@ AreFunctions tree lists n [] (bodies ∷ rest) = ⊥
 AreFunctions tree lists n (f ∷ fs) (bodies ∷ rest) = AreMade tree lists (function_bodies n f) bodies
     × AreFunctions tree lists (behind_function n f) fs rest
 
--- the code of a body, if it has at most 65,536 instructions
+-- the same of a body of a tree, by the tables of that tree
 abbrev pub FitsCode : ResolvedTree → BodySite → Option Emitted → Type 0
 FitsCode tree b made =
     FitsRow (numbered_in tree (variables_of b) (is_main_function b.function)) b.numbers b.function b.tree made

@@ -1,21 +1,14 @@
 //! The bodies of a function, each within its limits.
 
-ghost use Rattle.std.specs.Prelude.{◌≡◌, ◌≤◌, ◌∷◌, ◌++◌, [], All, Any, IfOk, OnOk, Some, false, length, map, true};
-ghost use Rattle.om_lower.specs.Frames.{FitsFrame};
-ghost use Rattle.om_lower.specs.Inputs.{IsInput, IsSeen, known_bodies, seen_body, seen_tree, tree_of};
-ghost use Rattle.om_lower.specs.Limits.{HasFewSlots, HasManySlots, HasSlots};
-ghost use Rattle.om_lower.specs.Made.{AddsBody, FitsBodies, FitsCode};
-ghost use Rattle.om_lower.specs.Ready.{IsListed, IsReady};
-ghost use Rattle.om_sights.specs.Regions.{statement_of};
-ghost use Rattle.om_sights.specs.Sites.{bodies_in, body_in, body_round, innermost, part_tree, round_with, variables_at};
-ghost use Rattle.om_resolved.specs.ResolvedView.{view_resolved_clause, view_resolved_function};
-ghost use Rattle.om_rows.specs.Bodies.{region_variables, variables_of};
-ghost use Rattle.om_rows.specs.Code.{captures_of, given_of, slots_of};
-ghost use Rattle.om_rows.specs.Slots.{slot_of};
-ghost use Rattle.om_rows.specs.Statements.{given_copies};
+ghost use Rattle.std.specs.Prelude.{◌≡◌, ◌≤◌, ◌∷◌, ◌++◌, [], All, Any, IfOk, OnOk, false, length, map, true};
+ghost use Rattle.om_lower.specs.Words.{AddsBody, FitsBodies, FitsCode, FitsFrame, HasFewSlots, HasManySlots};
+ghost use Rattle.om_lower.specs.Words.{HasSlots, IsInput, IsListed, IsReady, IsSeen, bodies_in, body_in};
+ghost use Rattle.om_lower.specs.Words.{body_round, captures_of, given_copies, given_of, innermost, known_bodies};
+ghost use Rattle.om_lower.specs.Words.{part_tree, region_variables, round_with, seen_body, seen_tree, slot_of};
+ghost use Rattle.om_lower.specs.Words.{slots_of, statement_of, tree_of, variables_at, variables_of};
+ghost use Rattle.om_lower.specs.Words.{view_resolved_clause, view_resolved_function};
 
-use crate::body::emitted_in;
-use crate::emitted::Emitted;
+use crate::body::{Emitted, emitted_in};
 use crate::frames::{SLOT_LIMIT, frame_of};
 use crate::functions::is_main;
 use crate::input::{Known, SeenBody};
@@ -23,18 +16,15 @@ use crate::names::names_with;
 use om_code::Body;
 use om_code::raw::Slot;
 use om_emit::draft::PickList;
+use om_emit::{Done, Made};
 use om_resolved::Capture;
 use om_rows::{BodyTables, Region, Variables, copy_slots, given_copies, parameter_slots};
 use om_seq::Seq;
 use om_sights::{BodyPart, Site, function_variables, region_variables};
-use std::alloc::{AllocError, Global};
+use std::alloc::Global;
 
 /// Adds the variables of these bodies behind those of other ones; false where a body has more than 256 slots.
-pub(crate) fn add_slots(
-    slots: &mut Vec<Variables>,
-    alloc: Global,
-    sites: &[Site<'_>],
-) -> Result<bool, AllocError>
+pub(crate) fn add_slots(slots: &mut Vec<Variables>, alloc: Global, sites: &[Site<'_>]) -> Made<bool>
     ensures few { IfOk result (λ few. few ≡ true → All HasFewSlots (bodies_in [] sites.now)) }
     ensures added { IfOk result (λ few. few ≡ true →
         slots.new.items ≡ slots.old.items ++ map variables_of (bodies_in [] sites.now)) }
@@ -50,11 +40,7 @@ pub(crate) fn add_slots(
 }
 
 /// Adds the variables of a body; false where it has more than 256 slots.
-fn add_variables(
-    slots: &mut Vec<Variables>,
-    alloc: Global,
-    site: &Site<'_>,
-) -> Result<bool, AllocError>
+fn add_variables(slots: &mut Vec<Variables>, alloc: Global, site: &Site<'_>) -> Made<bool>
     ensures few { IfOk result (λ few. HasSlots few (body_in [] site.now)) }
     ensures added { OnOk result
         (slots.new.items ≡ slots.old.items ++ variables_of (body_in [] site.now) ∷ []) }
@@ -66,7 +52,7 @@ fn add_variables(
 }
 
 /// The variables of a body, by their slots.
-fn variables_in(alloc: Global, site: &Site<'_>) -> Result<Variables, AllocError>
+fn variables_in(alloc: Global, site: &Site<'_>) -> Made<Variables>
     ensures { let f = view_resolved_function site.now.function.now in
         IfOk result (λ made. made ≡ variables_at f site.now.part) }
 {
@@ -86,10 +72,7 @@ pub(crate) struct Bodies {
 }
 
 /// These bodies of a function; `None` where one passes a limit on cells or instructions.
-pub(crate) fn lower_bodies<'a>(
-    known: &'a Known<'a>,
-    sites: &'a [Site<'a>],
-) -> Result<Option<Bodies>, AllocError>
+pub(crate) fn lower_bodies<'a>(known: &'a Known<'a>, sites: &'a [Site<'a>]) -> Made<Option<Bodies>>
     requires given { IsInput known.now.input.now }
     requires ready { All (IsReady (known_bodies known.now) known.now.extents.now) (bodies_in [] sites.now) }
     ensures { let tree = tree_of known.now.input.now in
@@ -116,7 +99,7 @@ fn add_next<'a>(
     round: &mut Vec<&'a Variables>,
     known: &'a Known<'a>,
     site: &'a Site<'a>,
-) -> Result<bool, AllocError>
+) -> Made<bool>
     requires given { IsInput known.now.input.now }
     requires ready { IsReady (known_bodies known.now) known.now.extents.now
         (body_round (map (λ one. one.now) round.old.items) site.now) }
@@ -164,7 +147,7 @@ fn own_variables<'a>(known: &Known<'a>, site: &Site<'_>) -> &'a Variables
 }
 
 /// Adds a body; false where it passes a limit on cells or instructions.
-fn add_body(made: &mut Bodies, seen: &SeenBody<'_>) -> Result<bool, AllocError>
+fn add_body(made: &mut Bodies, seen: &SeenBody<'_>) -> Made<bool>
     requires seen { IsSeen seen.now }
     ensures { let b = seen_body seen.now in
         IfOk result (λ fits. AddsBody (seen_tree seen.now) b made.old made.new fits) }
@@ -176,20 +159,15 @@ fn add_body(made: &mut Bodies, seen: &SeenBody<'_>) -> Result<bool, AllocError>
 }
 
 /// The slots of a body; `None` where it passes a limit.
-fn frame_in(seen: &SeenBody<'_>) -> Result<Option<Seq<Slot>>, AllocError>
+fn frame_in(seen: &SeenBody<'_>) -> Made<Option<Seq<Slot>>>
     requires seen { IsSeen seen.now }
     ensures { let b = seen_body seen.now in
         IfOk result (λ frame. FitsFrame (variables_of b) (slots_of b) frame) }
 {
+    let alloc = seen.known.input.alloc;
+    let extents = seen.known.extents;
     let captures = captures_in(&seen.site.part);
-    let known = seen.known;
-    frame_of(
-        known.input.alloc,
-        known.extents,
-        seen.outer,
-        captures,
-        seen.variables,
-    )
+    frame_of(alloc, extents, seen.outer, captures, seen.variables)
 }
 
 /// What a body takes from the body round it.
@@ -203,7 +181,7 @@ fn captures_in<'a>(part: &BodyPart<'a>) -> &'a [Capture]
 }
 
 /// Adds a body that has these slots; false where it has too many instructions.
-fn add_with(made: &mut Bodies, seen: &SeenBody<'_>, slots: Seq<Slot>) -> Result<bool, AllocError>
+fn add_with(made: &mut Bodies, seen: &SeenBody<'_>, slots: Seq<Slot>) -> Made<bool>
     requires seen { IsSeen seen.now }
     requires slots { FitsFrame (variables_of (seen_body seen.now)) (slots_of (seen_body seen.now))
         (Some slots) }
@@ -231,7 +209,7 @@ fn add_with(made: &mut Bodies, seen: &SeenBody<'_>, slots: Seq<Slot>) -> Result<
 }
 
 /// Puts a body and its lists behind those that are there.
-fn put_body(made: &mut Bodies, body: Body, lists: Vec<PickList>) -> Result<(), AllocError>
+fn put_body(made: &mut Bodies, body: Body, lists: Vec<PickList>) -> Done
     ensures bodies { OnOk result (made.new.bodies ≡ made.old.bodies ++ body ∷ []) }
     ensures lists { OnOk result (made.new.lists ≡ made.old.lists ++ lists.items) }
 {
@@ -240,35 +218,26 @@ fn put_body(made: &mut Bodies, body: Body, lists: Vec<PickList>) -> Result<(), A
 }
 
 /// The code of a body; `None` where it has too many instructions.
-fn code_in(seen: &SeenBody<'_>) -> Result<Option<Emitted>, AllocError>
+fn code_in(seen: &SeenBody<'_>) -> Made<Option<Emitted>>
     requires seen { IsSeen seen.now }
     ensures { IfOk result (λ code. FitsCode (seen_tree seen.now) (seen_body seen.now) code) }
 {
-    let known = seen.known;
-    let input = known.input;
+    let input = seen.known.input;
+    let slots = seen.known.slots;
     let is_main = is_main(seen.site.function);
-    let tables = BodyTables::new(
-        input.resolved,
-        input.tables,
-        known.slots,
-        seen.variables,
-        is_main,
-    );
-    let emitted = emitted_in(input.alloc, &tables, seen.site)?;
-    Ok(emitted)
+    let tables = BodyTables::new(input.resolved, input.tables, slots, seen.variables, is_main);
+    emitted_in(input.alloc, &tables, seen.site)
 }
 
 /// The slots that the values go to with which a frame of a body begins.
-fn given_in(seen: &SeenBody<'_>) -> Result<Seq<u32>, AllocError>
+fn given_in(seen: &SeenBody<'_>) -> Made<Seq<u32>>
     requires seen { IsSeen seen.now }
     ensures { IfOk result (λ slots. slots ≡ given_of (seen_body seen.now)) }
 {
     let alloc = seen.known.input.alloc;
-    let site = seen.site;
-    match &site.part {
-        BodyPart::Function => {
-            parameter_slots(alloc, seen.variables, site.function.parameters.as_slice())
-        }
+    let parameters = seen.site.function.parameters.as_slice();
+    match &seen.site.part {
+        BodyPart::Function => parameter_slots(alloc, seen.variables, parameters),
         BodyPart::Parallel(region) | BodyPart::Task(region) => {
             copies_given(alloc, region, seen.variables)
         }
@@ -276,11 +245,7 @@ fn given_in(seen: &SeenBody<'_>) -> Result<Seq<u32>, AllocError>
 }
 
 /// The slots of the firstprivate copies of a region.
-fn copies_given(
-    alloc: Global,
-    region: &Region<'_>,
-    variables: &Variables,
-) -> Result<Seq<u32>, AllocError>
+fn copies_given(alloc: Global, region: &Region<'_>, variables: &Variables) -> Made<Seq<u32>>
     requires few { length variables.now ≤ 256 }
     requires variables { let clauses = map view_resolved_clause region.now.clauses.now in
         variables.now ≡ region_variables clauses (statement_of region.now) }

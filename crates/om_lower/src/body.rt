@@ -1,22 +1,36 @@
 //! The code of a body, within the limit on instructions.
 
-ghost use Rattle.std.specs.Prelude.{[], IfOk, OnOk};
-ghost use Rattle.om_lower.specs.Emitted.{EmitsBody, FitsRow};
-ghost use Rattle.om_sights.specs.Sites.{body_in};
-ghost use Rattle.om_rows.specs.Coded.{BodyHasCode};
-ghost use Rattle.om_rows.specs.Scopes.{body_scopes};
-ghost use Rattle.om_statements.specs.Scoped.{EmitsScopes};
-ghost use Rattle.om_rows.specs.BodyTables.{numbered_by};
-ghost use Rattle.om_rows.specs.Ends.{HasBodyEnds};
-ghost use Rattle.om_rows.specs.ProgramTables.{known_in};
+ghost use Rattle.std.specs.Prelude.{◌≡◌, ◌≤◌, [], IfOk, OnOk, false, length};
+ghost use Rattle.om_lower.specs.Words.{BodyHasCode, EmitsBody, EmitsRegion, EmitsRegionScopes, EmitsScopes};
+ghost use Rattle.om_lower.specs.Words.{FitsRow, FunctionBody, HasBodyEnds, HasEnds, StatementHasCode};
+ghost use Rattle.om_lower.specs.Words.{body_in, body_scopes, known_in, numbered_by, numbers_of, parallel_tree};
+ghost use Rattle.om_lower.specs.Words.{settled_code, settled_lists, statement_of, task_tree};
+ghost use Rattle.om_lower.specs.Words.{view_resolved_function};
 
-use crate::emitted::{Emitted, settled};
 use crate::functions::INSTRUCTION_LIMIT;
-use crate::whole::{write_function, write_parallel, write_task};
-use om_rows::BodyTables;
+use om_code::Instr;
+use om_code::instruction::Barrier;
+use om_code::raw::Line;
+use om_emit::draft::PickList;
+use om_emit::{Done, Here, Made};
+use om_resolved::ResolvedFunction;
+use om_rows::{BodyTables, Numbers, Region, VariableScope};
+use om_seq::Seq;
 use om_sights::{BodyPart, Site};
+use om_statements::clause::{parameters, reduction_starts, reductions, task_copies};
+use om_statements::last_instruction;
+use om_statements::spot::Spot;
+use om_statements::statement::{inner, statements};
 use om_statements::writing::Writing;
-use std::alloc::{AllocError, Global};
+use std::alloc::Global;
+
+/// The code of a body, the lists of the PICKs in it, and the scopes of names, the innermost first.
+#[derive(Drop)]
+pub(crate) struct Emitted {
+    pub(crate) code: Seq<Line>,
+    pub(crate) lists: Vec<PickList>,
+    pub(crate) scopes: Vec<VariableScope>,
+}
 
 /// The code of a body; `None` where it has too many instructions. Its only error is out of memory.
 ///
@@ -25,7 +39,7 @@ pub(crate) fn emitted_in(
     alloc: Global,
     tables: &BodyTables<'_>,
     site: &Site<'_>,
-) -> Result<Option<Emitted>, AllocError>
+) -> Made<Option<Emitted>>
     requires code { BodyHasCode (body_in [] site.now).function (body_in [] site.now).tree }
     requires regions { let b = body_in [] site.now in
         HasBodyEnds (known_in tables.now) b.numbers b.function b.tree }
@@ -33,21 +47,15 @@ pub(crate) fn emitted_in(
         IfOk result (FitsRow (numbered_by tables.now) b.numbers b.function b.tree) }
 {
     let mut writing = Writing::new(alloc);
-    write_body(alloc, &mut writing, tables, site)?;
+    write(alloc, &mut writing, tables, site)?;
     if writing.draft.place() > INSTRUCTION_LIMIT {
         return Ok(None);
     }
-    let made = settled(alloc, writing)?;
-    Ok(Some(made))
+    Ok(Some(settled(alloc, writing)?))
 }
 
 /// Writes all that stands in a body.
-fn write_body(
-    alloc: Global,
-    writing: &mut Writing,
-    tables: &BodyTables<'_>,
-    site: &Site<'_>,
-) -> Result<(), AllocError>
+fn write(alloc: Global, writing: &mut Writing, tables: &BodyTables<'_>, site: &Site<'_>) -> Done
     requires code { BodyHasCode (body_in [] site.now).function (body_in [] site.now).tree }
     requires regions { let b = body_in [] site.now in
         HasBodyEnds (known_in tables.now) b.numbers b.function b.tree }
@@ -63,4 +71,111 @@ fn write_body(
         BodyPart::Parallel(region) => write_parallel(alloc, writing, tables, site.numbers, region),
         BodyPart::Task(region) => write_task(alloc, writing, tables, site.numbers, region),
     }
+}
+
+/// Writes the statements of a function, and its end.
+fn write_function(
+    alloc: Global,
+    writing: &mut Writing,
+    tables: &BodyTables<'_>,
+    numbers: Numbers,
+    function: &ResolvedFunction,
+) -> Done
+    requires code { BodyHasCode (view_resolved_function function.now) FunctionBody }
+    requires ends { HasBodyEnds (known_in tables.now) (numbers_of numbers)
+        (view_resolved_function function.now) FunctionBody }
+    ensures code { let seen = view_resolved_function function.now in
+        let names = numbered_by tables.now in
+        OnOk result (EmitsBody names (numbers_of numbers) seen FunctionBody writing.old.draft
+        writing.new.draft) }
+    ensures scopes { let seen = view_resolved_function function.now in
+        OnOk result (EmitsScopes (numbered_by tables.now) (λ at. body_scopes at seen FunctionBody)
+        writing.old writing.new) }
+{
+    let height = writing.scopes.height();
+    parameters(&mut writing.scopes, function.parameters.as_slice())?;
+    let spot = Spot::outside(numbers);
+    statements(alloc, writing, tables, spot, function.body.as_slice())?;
+    let last = last_instruction(tables.is_main, false);
+    writing.draft.put(function.closing_line, last)?;
+    let to = writing.draft.place();
+    writing.scopes.end(height, to)
+}
+
+/// Writes what each thread of a team does (OpenMP API 5.2, section 10.1): its implicit task begins,
+/// its copies are combined behind the statement, and all threads wait for each other.
+fn write_parallel(
+    alloc: Global,
+    writing: &mut Writing,
+    tables: &BodyTables<'_>,
+    numbers: Numbers,
+    region: &Region<'_>,
+) -> Done
+    requires code { StatementHasCode false false (statement_of region.now) }
+    requires ends { HasEnds (known_in tables.now) (numbers_of numbers)
+        (statement_of region.now) }
+    ensures code { let tree = parallel_tree region.now in
+        let names = numbered_by tables.now in
+        OnOk result
+        (EmitsRegion names (numbers_of numbers) tree writing.old.draft writing.new.draft) }
+    ensures scopes { let tree = parallel_tree region.now in
+        OnOk result (EmitsRegionScopes (numbered_by tables.now) tree writing.old writing.new) }
+{
+    let at = region.at;
+    let here = Here { tables, at };
+    let line = at.line;
+    let height = writing.scopes.height();
+    writing.draft.put(line, Instr::Begin)?;
+    reduction_starts(writing, &here, region.clauses)?;
+    let spot = Spot::outside(numbers);
+    inner(alloc, writing, tables, spot, region.statement)?;
+    reductions(&mut writing.draft, &here, region.clauses)?;
+    writing.draft.put(line, Instr::Arrive(Barrier::Parallel))?;
+    writing.draft.put(line, Instr::Leave)?;
+    let to = writing.draft.place();
+    writing.scopes.end(height, to)
+}
+
+/// Writes what a task does (OpenMP API 5.2, section 12.5), and its end.
+fn write_task(
+    alloc: Global,
+    writing: &mut Writing,
+    tables: &BodyTables<'_>,
+    numbers: Numbers,
+    region: &Region<'_>,
+) -> Done
+    requires code { StatementHasCode false false (statement_of region.now) }
+    requires ends { HasEnds (known_in tables.now) (numbers_of numbers)
+        (statement_of region.now) }
+    ensures code { let tree = task_tree region.now in
+        let names = numbered_by tables.now in
+        OnOk result
+        (EmitsRegion names (numbers_of numbers) tree writing.old.draft writing.new.draft) }
+    ensures scopes { let tree = task_tree region.now in
+        OnOk result (EmitsRegionScopes (numbered_by tables.now) tree writing.old writing.new) }
+{
+    let height = writing.scopes.height();
+    task_copies(&mut writing.scopes, region.clauses)?;
+    let spot = Spot::outside(numbers);
+    inner(alloc, writing, tables, spot, region.statement)?;
+    writing.draft.put(region.at.line, Instr::TaskEnd)?;
+    let to = writing.draft.place();
+    writing.scopes.end(height, to)
+}
+
+/// What is written of a body, with the place of each label in its stead, and the scopes that have ended.
+fn settled(alloc: Global, writing: Writing) -> Made<Emitted>
+    requires { length writing.draft.code ≤ 65536 }
+    ensures code { IfOk result (λ made. made.code ≡ settled_code writing.draft) }
+    ensures lists { IfOk result (λ made. made.lists.items ≡ settled_lists writing.draft) }
+    ensures scopes { IfOk result (λ made. made.scopes.items ≡ writing.scopes.closed.items) }
+{
+    let Writing { draft, scopes } = writing;
+    let code = draft.settle(alloc)?;
+    let lists = draft.lists(alloc)?;
+    Ok(Emitted {
+        code,
+        lists,
+        scopes: scopes.closed,
+    })
 }

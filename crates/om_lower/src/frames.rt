@@ -1,15 +1,14 @@
 //! The slots of a frame, within their limits.
 
-ghost use Rattle.std.specs.Prelude.{◌≡◌, ◌≤◌, ◌<◌, IfOk, None, Some, length, map};
-ghost use Rattle.om_lower.specs.Frames.{FitsFrame};
-ghost use Rattle.om_lower.specs.Limits.{frame_cells, own_cells};
-ghost use Rattle.om_rows.specs.Slots.{slot_with};
+ghost use Rattle.std.specs.Prelude.{◌≡◌, ◌≤◌, IfOk, length, map};
+ghost use Rattle.om_lower.specs.Words.{FitsFrame, frame_cells, own_cells, slot_with};
 
 use om_code::raw::{Slot, Source};
+use om_emit::Made;
 use om_resolved::Capture;
 use om_rows::{Extents, Variables, slots_with};
 use om_seq::Seq;
-use std::alloc::{AllocError, Global};
+use std::alloc::Global;
 
 /// How many slots a body may have.
 pub const SLOT_LIMIT: usize = 256;
@@ -24,7 +23,7 @@ pub(crate) fn frame_of(
     outer: &Variables,
     captures: &[Capture],
     variables: &Variables,
-) -> Result<Option<Seq<Slot>>, AllocError>
+) -> Made<Option<Seq<Slot>>>
     requires { length outer.now ≤ 256 }
     ensures { let slots = map (slot_with extents.now outer.now captures.now) variables.now in
         IfOk result (λ frame. FitsFrame variables.now slots frame) }

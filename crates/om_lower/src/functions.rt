@@ -1,25 +1,19 @@
 //! The bodies of functions, each within its limits.
 
 ghost use Rattle.std.specs.Prelude.{◌≡◌, ◌<◌, ◌∷◌, ◌++◌, [], All, IfOk, OnOk, Some, length, slice_get, true};
-ghost use Rattle.om_lower.specs.Inputs.{IsInput, known_bodies, tree_of};
-ghost use Rattle.om_lower.specs.Made.{AddsFunction, AddsSlots, IsGathered, IsNext, next_function, next_numbers};
-ghost use Rattle.om_lower.specs.Ready.{IsReady};
-ghost use Rattle.om_sights.specs.Sites.{bodies_in};
-ghost use Rattle.om_resolved.specs.ResolvedView.{view_resolved_function};
-ghost use Rattle.om_resolved.specs.Uses.{is_main_function};
-ghost use Rattle.om_rows.specs.Bodies.{function_bodies};
-ghost use Rattle.om_rows.specs.Numbering.{numbers_of};
-ghost use Rattle.om_rows.specs.ProgramTables.{ends_in};
+ghost use Rattle.om_lower.specs.Words.{AddsFunction, AddsSlots, IsGathered, IsInput, IsNext, IsReady};
+ghost use Rattle.om_lower.specs.Words.{bodies_in, ends_in, function_bodies, is_main_function, known_bodies};
+ghost use Rattle.om_lower.specs.Words.{next_function, next_numbers, numbers_of, tree_of, view_resolved_function};
 
 use crate::bodies::{Bodies, add_slots, lower_bodies};
 use crate::input::{Input, Known};
 use om_code::Body;
 use om_emit::draft::PickList;
+use om_emit::{Done, Made};
 use om_resolved::ResolvedFunction;
 use om_rows::{Extents, Numbers, Tables, Variables};
 use om_seq::Seq;
 use om_sights::{Site, sites_of};
-use std::alloc::AllocError;
 
 /// How many instructions a body may have.
 pub const INSTRUCTION_LIMIT: usize = 65_536;
@@ -49,7 +43,7 @@ pub(crate) struct Placed {
 
 /// The bodies of all functions, or of those before the first that passes a limit on slots, cells or
 /// instructions.
-pub(crate) fn lower_functions(input: &Input<'_>) -> Result<Lowered, AllocError>
+pub(crate) fn lower_functions(input: &Input<'_>) -> Made<Lowered>
     requires given { IsInput input.now }
     ensures { let tree = tree_of input.now in
         IfOk result (λ made. IsGathered tree made.lists made.count made.functions made.is_whole) }
@@ -75,11 +69,7 @@ pub(crate) struct Next<'a> {
 
 /// Adds the bodies of all functions, or of those before the first that passes a limit. The variables
 /// of each body are found once, and kept by its number.
-fn add_functions(
-    lowered: &mut Lowered,
-    slots: &mut Vec<Variables>,
-    input: &Input<'_>,
-) -> Result<(), AllocError>
+fn add_functions(lowered: &mut Lowered, slots: &mut Vec<Variables>, input: &Input<'_>) -> Done
     requires given { IsInput input.now }
     requires functions { lowered.old.functions ≡ [] }
     requires lists { lowered.old.lists ≡ [] }
@@ -129,7 +119,7 @@ fn add_function(
     slots: &mut Vec<Variables>,
     input: &Input<'_>,
     next: &Next<'_>,
-) -> Result<bool, AllocError>
+) -> Made<bool>
     requires given { IsInput input.now }
     requires next { IsNext input.now.tables.now slots.old.items next.now }
     ensures adds { let tree = tree_of input.now in
@@ -156,7 +146,7 @@ fn add_bodies<'a>(
     known: &'a Known<'a>,
     next: &Next<'a>,
     sites: &'a [Site<'a>],
-) -> Result<bool, AllocError>
+) -> Made<bool>
     requires given { IsInput known.now.input.now }
     requires sites { bodies_in [] sites.now
         ≡ function_bodies (next_numbers next.now) (next_function next.now) }
@@ -176,7 +166,7 @@ fn add_bodies<'a>(
 }
 
 /// Puts the bodies of a function and their lists behind those that are there.
-fn put_function(lowered: &mut Lowered, bodies: Bodies) -> Result<(), AllocError>
+fn put_function(lowered: &mut Lowered, bodies: Bodies) -> Done
     ensures functions { OnOk result (
         lowered.new.functions ≡ lowered.old.functions ++ bodies.bodies ∷ []) }
     ensures lists { OnOk result (lowered.new.lists ≡ lowered.old.lists ++ bodies.lists) }

@@ -5,18 +5,15 @@
 
 mod bodies;
 mod body;
-mod emitted;
 mod frames;
 mod functions;
 mod heights;
 mod input;
 pub mod laws;
-mod lists;
 mod lowering;
 mod names;
 mod program;
 pub mod texts;
-mod whole;
 
 pub use lowering::lower;
 pub use om_lookup::{Var, global_named, line_of, variable_at};

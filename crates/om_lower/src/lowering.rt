@@ -1,32 +1,26 @@
 //! From a resolved tree to its code.
 
-ghost use Rattle.std.specs.Prelude.{◌≡◌, ◌≢◌, ◌<◌, IfErr, IfOk, IfSome, OnOk, None, length};
-ghost use Rattle.om_lexer.specs.Faults.{no_memory};
-ghost use Rattle.om_lower.specs.Inputs.{IsInput, tree_of};
-ghost use Rattle.om_lower.specs.Limits.{AreWithin, IsTooMany};
-ghost use Rattle.om_lower.specs.Made.{IsLowered, IsOverAt};
-ghost use Rattle.om_lower.specs.Refusals.{IsRefusal, too_many};
-ghost use Rattle.om_rows.specs.MeaningLaws.{KeepsMeaning};
-ghost use Rattle.om_resolved.specs.Beside.{TreeAtomicsAssign, TreeCopiesBehind};
-ghost use Rattle.om_resolved.specs.ResolvedView.{view_resolved, view_resolved_function};
-ghost use Rattle.om_resolved.specs.Weights.{HasSmallWeight};
-ghost use Rattle.om_resolved.specs.Whole.{IsWholeTree};
-ghost use Rattle.om_rows.specs.Code.{IsCodeOf};
-ghost use Rattle.om_rows.specs.Coded.{TreeHasCode};
+ghost use Rattle.std.specs.Prelude.{◌≡◌, ◌≢◌, ◌<◌, IfErr, IfOk, IfSome, OnOk, length, map, slice_set};
+ghost use Rattle.om_lower.specs.Words.{AreWithin, HasSmallWeight, IsCodeOf, IsEachOnce, IsInput, IsLowered};
+ghost use Rattle.om_lower.specs.Words.{IsOverAt, IsRefusal, IsTooMany, IsWholeTree, KeepsMeaning, ListsStand};
+ghost use Rattle.om_lower.specs.Words.{TreeAtomicsAssign, TreeCopiesBehind, no_memory, number_of, too_many};
+ghost use Rattle.om_lower.specs.Words.{tree_of, view_resolved, view_resolved_function};
 
 use crate::functions::{Lowered, Placed, lower_functions};
 use crate::heights::first_high;
 use crate::input::Input;
 use crate::laws::each_once;
-use crate::lists::joined;
 use crate::program::program_of;
 use om_code::Program;
+use om_emit::Made;
+use om_emit::draft::PickList;
 use om_lexer::{FaultCode, SourceFault};
 use om_resolved::{Resolved, ResolvedFunction};
 use om_rows::laws::{body_is_level, whole_has_code};
 use om_rows::meaning::serial_meaning;
+use om_seq::Seq;
 use om_sights::tables_of;
-use std::alloc::{AllocError, Global};
+use std::alloc::Global;
 
 /// The program whose bodies are the code of the tree's functions.
 ///
@@ -55,19 +49,6 @@ pub fn lower(alloc: Global, resolved: &Resolved) -> Result<Program, SourceFault>
 {
     whole_has_code();
     serial_meaning();
-    lower_tree(alloc, resolved)
-}
-
-/// The program of a tree that has code.
-fn lower_tree(alloc: Global, resolved: &Resolved) -> Result<Program, SourceFault>
-    requires whole { IsWholeTree (view_resolved resolved.now) }
-    requires has_code { TreeHasCode (view_resolved resolved.now) }
-    requires copies { TreeCopiesBehind (view_resolved resolved.now) }
-    requires small { HasSmallWeight (view_resolved resolved.now) }
-    ensures code { IfOk result (λ program. IsCodeOf (view_resolved resolved.now) program) }
-    ensures within { OnOk result (AreWithin (view_resolved resolved.now)) }
-    ensures refused { IfErr result (IsRefusal (view_resolved resolved.now)) }
-{
     let tables = tables_of(alloc, resolved)?;
     lower_input(&Input {
         alloc,
@@ -76,7 +57,7 @@ fn lower_tree(alloc: Global, resolved: &Resolved) -> Result<Program, SourceFault
     })
 }
 
-/// The same, where its tables are made.
+/// The program of a tree, where its tables are made.
 fn lower_input(input: &Input<'_>) -> Result<Program, SourceFault>
     requires given { IsInput input.now }
     ensures code { IfOk result (λ program. IsCodeOf (tree_of input.now) program) }
@@ -89,7 +70,7 @@ fn lower_input(input: &Input<'_>) -> Result<Program, SourceFault>
 }
 
 /// The bodies of functions, with the lists of all PICKs in them at their numbers.
-fn placed_functions(input: &Input<'_>) -> Result<Placed, AllocError>
+fn placed_functions(input: &Input<'_>) -> Made<Placed>
     requires given { IsInput input.now }
     ensures { let tree = tree_of input.now in
         IfOk result (λ placed. IsLowered tree placed.picks placed.functions placed.is_whole) }
@@ -124,7 +105,7 @@ fn within_limits(input: &Input<'_>, placed: &Placed) -> Result<(), SourceFault>
 }
 
 /// The first function that passes a limit, if one does.
-fn over_at(input: &Input<'_>, placed: &Placed) -> Result<Option<usize>, AllocError>
+fn over_at(input: &Input<'_>, placed: &Placed) -> Made<Option<usize>>
     requires { let made = placed.now in
         IsLowered (tree_of input.now) made.picks made.functions made.is_whole }
     ensures over { IfOk result
@@ -151,4 +132,36 @@ fn too_many(function: &ResolvedFunction) -> SourceFault
         code: FaultCode::TooMany,
         at: function.name_at,
     }
+}
+
+/// So many lists, each of these at its number. Their numbers are those below the count, each once.
+fn joined(alloc: Global, count: u32, lists: Vec<PickList>) -> Made<Seq<Seq<u32>>>
+    requires { IsEachOnce count (map number_of lists.items) }
+    ensures long { IfOk result (λ picks. length picks ≡ count) }
+    ensures stand { IfOk result (λ picks. ListsStand lists.items picks) }
+{
+    let mut picks = empty_lists(alloc, count)?;
+    for list in lists {
+        put_list(&mut picks, list);
+    }
+    Ok(Seq::of(picks))
+}
+
+/// So many lists without places.
+fn empty_lists(alloc: Global, count: u32) -> Made<Vec<Seq<u32>>>
+    ensures { IfOk result (λ picks. length picks.items ≡ count) }
+{
+    let mut picks = Vec::new(alloc);
+    for _ in 0..count {
+        picks.push(Seq::new(alloc))?;
+    }
+    Ok(picks)
+}
+
+/// Puts a list at its number.
+fn put_list(picks: &mut Vec<Seq<u32>>, list: PickList)
+    requires { list.number < length picks.old.items }
+    ensures { picks.new.items ≡ slice_set picks.old.items list.number list.places }
+{
+    picks[list.number as usize] = list.places;
 }

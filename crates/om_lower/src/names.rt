@@ -1,13 +1,13 @@
 //! What names mean in a body, by the slots of its variables.
 
 ghost use Rattle.std.specs.Prelude.{◌≡◌, ◌≤◌, ◌<◌, IfOk, IfSome, length, map, nat_eq, position};
-ghost use Rattle.om_rows.specs.Scopes.{names_with, scope_in, slot_among};
-ghost use Rattle.om_statements.specs.Scoped.{AreInside, IsInside};
+ghost use Rattle.om_lower.specs.Words.{AreInside, IsInside, names_with, scope_in, slot_among};
 
 use om_code::raw::{Names, Scope};
+use om_emit::Made;
 use om_rows::{VariableScope, Variables};
 use om_seq::Seq;
-use std::alloc::{AllocError, Global};
+use std::alloc::Global;
 
 /// What names mean in a body with these scopes and variables, in a body with those: by their slots.
 /// Its only error is out of memory.
@@ -16,7 +16,7 @@ pub(crate) fn names_with(
     named: Vec<VariableScope>,
     variables: &Variables,
     outer: &Variables,
-) -> Result<Names, AllocError>
+) -> Made<Names>
     requires named { AreInside 65536 named.items }
     requires few { length variables.now ≤ 256 }
     requires round { length outer.now ≤ 256 }
@@ -29,11 +29,7 @@ pub(crate) fn names_with(
 }
 
 /// Scopes, by the slots of a body with these variables.
-fn scopes_in(
-    alloc: Global,
-    named: Vec<VariableScope>,
-    variables: &Variables,
-) -> Result<Seq<Scope>, AllocError>
+fn scopes_in(alloc: Global, named: Vec<VariableScope>, variables: &Variables) -> Made<Seq<Scope>>
     requires named { AreInside 65536 named.items }
     requires few { length variables.now ≤ 256 }
     ensures { IfOk result (λ scopes. scopes ≡ map (scope_in variables.now) named.items) }
@@ -61,11 +57,7 @@ fn scope_in(variables: &Variables, named: VariableScope) -> Scope
 }
 
 /// For each of these variables its slot in the body round them, where that has it.
-fn slots_among(
-    alloc: Global,
-    outer: &Variables,
-    variables: &Variables,
-) -> Result<Seq<Option<u32>>, AllocError>
+fn slots_among(alloc: Global, outer: &Variables, variables: &Variables) -> Made<Seq<Option<u32>>>
     requires { length outer.now ≤ 256 }
     ensures { IfOk result (λ slots. slots ≡ map (slot_among outer.now) variables.now) }
 {

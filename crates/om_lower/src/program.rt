@@ -1,29 +1,24 @@
 //! The program of a tree whose functions are lowered.
 
-ghost use Rattle.std.specs.Prelude.{◌≡◌, ◌<◌, All, Any, IfErr, IfOk, IfSome, IsSome, None, Some, length, map, option_map, position, slice_get, true};
+ghost use Rattle.std.specs.Prelude.{◌≡◌, ◌<◌, All, Any, IfErr, IfOk, IfSome, IsSome, length, map, true};
+ghost use Rattle.std.specs.Prelude.{option_map, position, slice_get};
 ghost use Rattle.std.specs.List.{AllZip, flat_map};
-ghost use Rattle.om_lexer.specs.Faults.{no_memory};
-ghost use Rattle.om_lower.specs.Heights.{AreLow};
-ghost use Rattle.om_lower.specs.Inputs.{IsInput, tree_of};
-ghost use Rattle.om_lower.specs.Made.{IsLowered};
-ghost use Rattle.om_resolved.specs.Formats.{pieces_of};
-ghost use Rattle.om_resolved.specs.ResolvedView.{view_resolved, view_resolved_function};
-ghost use Rattle.om_resolved.specs.Uses.{is_main_function};
-ghost use Rattle.om_rows.specs.Bodies.{called_body};
-ghost use Rattle.om_rows.specs.Code.{IsCodeOf, global_of};
-ghost use Rattle.om_rows.specs.Mentions.{IsTextOf};
+ghost use Rattle.om_lower.specs.Words.{AreLow, IsCodeOf, IsInput, IsLowered, IsTextOf, called_body, global_of};
+ghost use Rattle.om_lower.specs.Words.{is_main_function, no_memory, pieces_of, tree_of};
+ghost use Rattle.om_lower.specs.Words.{view_resolved, view_resolved_function};
 
 use crate::functions::{Placed, is_main};
 use crate::input::Input;
 use crate::texts::text_of;
 use om_code::raw::{self, Piece};
 use om_code::{Body, Program, Raw};
+use om_emit::Made;
 use om_lexer::SourceFault;
 use om_resolved::{GlobalVariable, Resolved, ResolvedFunction};
 use om_rows::laws::code_is_valid;
 use om_rows::{BodyTables, Texts, Variables};
 use om_seq::Seq;
-use std::alloc::{AllocError, Global};
+use std::alloc::Global;
 
 /// The program of a tree, whose functions have these bodies.
 ///
@@ -41,7 +36,7 @@ pub(crate) fn program_of(input: &Input<'_>, placed: Placed) -> Result<Program, S
 }
 
 /// The code of a program, in one value.
-fn raw_of(input: &Input<'_>, placed: Placed) -> Result<Raw, AllocError>
+fn raw_of(input: &Input<'_>, placed: Placed) -> Made<Raw>
     requires given { IsInput input.now }
     requires lowered { IsLowered (tree_of input.now) placed.picks placed.functions true }
     ensures code { IfOk result (λ raw. IsCodeOf (tree_of input.now) raw) }
@@ -71,7 +66,7 @@ fn raw_of(input: &Input<'_>, placed: Placed) -> Result<Raw, AllocError>
 }
 
 /// The bodies of functions, one behind the other.
-fn flattened(alloc: Global, functions: Seq<Seq<Body>>) -> Result<Seq<Body>, AllocError>
+fn flattened(alloc: Global, functions: Seq<Seq<Body>>) -> Made<Seq<Body>>
     ensures { IfOk result (λ bodies. bodies ≡ flat_map (λ bodies. bodies) functions) }
 {
     let mut functions = functions.into_vec();
@@ -84,7 +79,7 @@ fn flattened(alloc: Global, functions: Seq<Seq<Body>>) -> Result<Seq<Body>, Allo
 }
 
 /// What PRINT writes for each format.
-fn texts_of(alloc: Global, formats: &Texts) -> Result<Seq<Seq<Piece>>, AllocError>
+fn texts_of(alloc: Global, formats: &Texts) -> Made<Seq<Seq<Piece>>>
     requires { All (λ format. IsSome (pieces_of format)) formats.now }
     ensures { IfOk result (λ texts. AllZip IsTextOf formats.now texts) }
 {
@@ -96,7 +91,7 @@ fn texts_of(alloc: Global, formats: &Texts) -> Result<Seq<Seq<Piece>>, AllocErro
 }
 
 /// What PRINT writes for the format of this number.
-fn text_at(alloc: Global, formats: &Texts, number: usize) -> Result<Seq<Piece>, AllocError>
+fn text_at(alloc: Global, formats: &Texts, number: usize) -> Made<Seq<Piece>>
     requires there { number < length formats.now }
     requires formats { All (λ format. IsSome (pieces_of format)) formats.now }
     ensures { IfOk result
@@ -112,7 +107,7 @@ fn text_at(alloc: Global, formats: &Texts, number: usize) -> Result<Seq<Piece>, 
 }
 
 /// Texts, in the order of their numbers.
-fn copy_texts(alloc: Global, texts: &Texts) -> Result<Seq<Seq<u8>>, AllocError>
+fn copy_texts(alloc: Global, texts: &Texts) -> Made<Seq<Seq<u8>>>
     ensures { IfOk result (λ copied. copied ≡ texts.now) }
 {
     let mut copied = Vec::new(alloc);
@@ -123,7 +118,7 @@ fn copy_texts(alloc: Global, texts: &Texts) -> Result<Seq<Seq<u8>>, AllocError>
 }
 
 /// The text of this number.
-fn copy_text(alloc: Global, texts: &Texts, number: usize) -> Result<Seq<u8>, AllocError>
+fn copy_text(alloc: Global, texts: &Texts, number: usize) -> Made<Seq<u8>>
     requires { number < length texts.now }
     ensures { IfOk result (λ text. slice_get texts.now number ≡ Some text) }
 {
@@ -134,10 +129,7 @@ fn copy_text(alloc: Global, texts: &Texts, number: usize) -> Result<Seq<u8>, All
 }
 
 /// The global variables of the code.
-fn copy_globals(
-    alloc: Global,
-    globals: &[GlobalVariable],
-) -> Result<Seq<raw::GlobalVariable>, AllocError>
+fn copy_globals(alloc: Global, globals: &[GlobalVariable]) -> Made<Seq<raw::GlobalVariable>>
     ensures { IfOk result (λ copied. copied ≡ map global_of globals.now) }
 {
     let mut copied = Vec::new(alloc);
@@ -148,7 +140,7 @@ fn copy_globals(
 }
 
 /// A global variable of the code.
-fn copy_global(alloc: Global, global: &GlobalVariable) -> Result<raw::GlobalVariable, AllocError>
+fn copy_global(alloc: Global, global: &GlobalVariable) -> Made<raw::GlobalVariable>
     ensures { IfOk result (λ copied. copied ≡ global_of global.now) }
 {
     let name = global.name.as_slice().to_vec(alloc)?;

@@ -5,8 +5,9 @@ ghost use Rattle.om_lower.specs.Texts.{behind_cut, cut_behind, cut_on, cut_piece
 ghost use Rattle.om_resolved.specs.Formats as formats;
 
 use om_code::raw::Piece;
+use om_emit::{Done, Made};
 use om_seq::Seq;
-use std::alloc::{AllocError, Global};
+use std::alloc::Global;
 
 /// The pieces that were cut, and the bytes behind them that no piece has yet.
 #[derive(Drop)]
@@ -16,7 +17,7 @@ struct Cut {
 }
 
 /// A format of `printf` in its pieces (C17 7.21.6.1); `None` where it is none.
-pub fn text_of(alloc: Global, format: &[u8]) -> Result<Option<Seq<Piece>>, AllocError>
+pub fn text_of(alloc: Global, format: &[u8]) -> Made<Option<Seq<Piece>>>
     ensures { IfOk result (λ text. text ≡ text_of format.now) }
 {
     let mut cut = Cut {
@@ -32,7 +33,7 @@ pub fn text_of(alloc: Global, format: &[u8]) -> Result<Option<Seq<Piece>>, Alloc
 }
 
 /// Cuts a whole format behind what was cut, if it is one.
-fn cut_format(alloc: Global, cut: &mut Cut, format: &[u8]) -> Result<bool, AllocError>
+fn cut_format(alloc: Global, cut: &mut Cut, format: &[u8]) -> Made<bool>
     ensures { IfOk result
         (λ is_whole. cut_behind cut.old format.now ≡ cut_pieces cut.new is_whole) }
 {
@@ -49,12 +50,7 @@ fn cut_format(alloc: Global, cut: &mut Cut, format: &[u8]) -> Result<bool, Alloc
 
 #[tactic(auto, unfolding(om_resolved::specs::Formats::pieces_of), using(crate::proofs::Cutting::byte_or, crate::proofs::Cutting::not_this))]
 /// Cuts what begins with a byte, and answers what is behind it; `None` where no format goes on so.
-fn cut_next<'a>(
-    alloc: Global,
-    cut: &mut Cut,
-    byte: u8,
-    rest: &'a [u8],
-) -> Result<Option<&'a [u8]>, AllocError>
+fn cut_next<'a>(alloc: Global, cut: &mut Cut, byte: u8, rest: &'a [u8]) -> Made<Option<&'a [u8]>>
     ensures same { IfOk result (λ left.
         cut_behind cut.old (byte ∷ rest.now)
         ≡ cut_on cut.new (option_map (λ next. next.now) left)) }
@@ -70,11 +66,7 @@ fn cut_next<'a>(
 
 #[tactic(auto, unfolding(om_resolved::specs::Formats::converted), using(crate::proofs::Cutting::value_or, crate::proofs::Cutting::byte_or, crate::proofs::Cutting::not_this))]
 /// Cuts what begins behind a `%`.
-fn cut_converted<'a>(
-    alloc: Global,
-    cut: &mut Cut,
-    rest: &'a [u8],
-) -> Result<Option<&'a [u8]>, AllocError>
+fn cut_converted<'a>(alloc: Global, cut: &mut Cut, rest: &'a [u8]) -> Made<Option<&'a [u8]>>
     ensures shorter { IfOk result
         (λ left. IfSome left (λ next. length next.now ≤ length rest.now)) }
     ensures same { IfOk result (λ left. option_map (behind_cut cut.old) (formats.converted rest.now)
@@ -96,7 +88,7 @@ fn cut_converted<'a>(
 
 /// Adds a byte that is written.
 #[tactic(auto, using(crate::proofs::Cutting::run_byte))]
-fn add_byte(cut: &mut Cut, byte: u8) -> Result<(), AllocError>
+fn add_byte(cut: &mut Cut, byte: u8) -> Done
     ensures { OnOk result ((rest : List formats.Piece)
         → behind_cut cut.new rest ≡ behind_cut cut.old (formats.with_byte byte rest)) }
 {
@@ -106,7 +98,7 @@ fn add_byte(cut: &mut Cut, byte: u8) -> Result<(), AllocError>
 
 /// Adds a value that is written in decimal.
 #[tactic(auto, using(crate::proofs::Cutting::run_value))]
-fn add_value(alloc: Global, cut: &mut Cut) -> Result<(), AllocError>
+fn add_value(alloc: Global, cut: &mut Cut) -> Done
     ensures { OnOk result ((rest : List formats.Piece)
         → behind_cut cut.new rest ≡ behind_cut cut.old (formats.Value ∷ rest)) }
 {
@@ -116,7 +108,7 @@ fn add_value(alloc: Global, cut: &mut Cut) -> Result<(), AllocError>
 }
 
 /// Makes a piece of the bytes that have none yet, if there are any.
-fn flush(alloc: Global, cut: &mut Cut) -> Result<(), AllocError>
+fn flush(alloc: Global, cut: &mut Cut) -> Done
     ensures pieces { OnOk result (
         cut.new.pieces.items ≡ cut.old.pieces.items ++ with_run cut.old.run.items []) }
     ensures run { OnOk result (cut.new.run.items ≡ []) }

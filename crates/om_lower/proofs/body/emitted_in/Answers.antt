@@ -9,12 +9,12 @@ pub returns-then-place-gt-INSTRUCTION_LIMIT : goal.returns-then-place-gt-INSTRUC
 returns-then-place-gt-INSTRUCTION_LIMIT c =
     let b = body_in [] c.args.site.now in
     long_row (numbered_by c.args.tables.now) b.numbers b.function b.tree _ _ c.new-writing.ensures.draft
-    c.in_ok-write_body.ensures.code (omega (arith, c.if-place-gt-INSTRUCTION_LIMIT.true, c.place.ensures))
+    c.in_ok-write.ensures.code (omega (arith, c.if-place-gt-INSTRUCTION_LIMIT.true, c.place.ensures))
 
 pub returns : goal.returns
 returns c =
     let b = body_in [] c.args.site.now in
-    short_row (numbered_by c.args.tables.now) b.numbers b.function b.tree _ _ _ _ c.in_ok-made.made
-    c.new-writing.ensures.draft c.new-writing.ensures.closed c.in_ok-made.ensures.code c.in_ok-made.ensures.lists
-    c.in_ok-made.ensures.scopes (omega (arith, c.if-place-gt-INSTRUCTION_LIMIT.false, c.place.ensures))
-    c.in_ok-write_body.ensures.code c.in_ok-write_body.ensures.scopes
+    short_row (numbered_by c.args.tables.now) b.numbers b.function b.tree _ _ _ _ c.in_ok-settled.field-0
+    c.new-writing.ensures.draft c.new-writing.ensures.closed c.in_ok-settled.ensures.code c.in_ok-settled.ensures.lists
+    c.in_ok-settled.ensures.scopes (omega (arith, c.if-place-gt-INSTRUCTION_LIMIT.false, c.place.ensures))
+    c.in_ok-write.ensures.code c.in_ok-write.ensures.scopes

@@ -6,7 +6,7 @@ use Rattle.om_sights.specs.Sites.{body_in, part_tree}
 use Rattle.om_rows.specs.Scopes.{body_scopes}
 use Rattle.om_statements.specs.Scoped.{EmitsScopes}
 use Rattle.om_rows.specs.BodyTables.{numbered_by}
-use Rattle.om_lower.proofs.body.write_body.Goals as goal
+use Rattle.om_lower.proofs.body.write.Goals as goal
 
 pub returns-in-Function-clause-scopes : goal.returns-in-Function-clause-scopes
 returns-in-Function-clause-scopes c =

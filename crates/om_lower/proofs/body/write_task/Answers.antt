@@ -3,7 +3,7 @@ use Rattle.std.proofs.lemmas.Result.{on_ok_weaker}
 use Rattle.om_lower.proofs.Wholes.{task_emits, task_scopes}
 use Rattle.om_resolved.specs.ResolvedView.{view_resolved_clause}
 use Rattle.om_rows.specs.BodyTables.{numbered_by}
-use Rattle.om_lower.proofs.whole.write_task.Goals as goal
+use Rattle.om_lower.proofs.body.write_task.Goals as goal
 
 pub returns-clause-code : goal.returns-clause-code
 returns-clause-code c =

@@ -5,7 +5,7 @@ use Rattle.om_resolved.specs.ResolvedTree as trees
 use Rattle.om_resolved.specs.ResolvedView.{view_resolved_function, view_resolved_statement}
 use Rattle.std.specs.Prelude.{map}
 use Rattle.om_rows.specs.BodyTables.{numbered_by}
-use Rattle.om_lower.proofs.whole.write_function.Goals as goal
+use Rattle.om_lower.proofs.body.write_function.Goals as goal
 
 pub returns-clause-code : goal.returns-clause-code
 returns-clause-code c =

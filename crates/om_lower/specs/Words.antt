@@ -1,0 +1,35 @@
+-- The words of the clauses of this crate, so that a file takes them from one place.
+pub use Rattle.om_lexer.specs.Faults.{no_memory}
+pub use Rattle.om_lower.specs.Emitted.{EmitsBody, EmitsRegion, EmitsRegionScopes, FitsRow}
+pub use Rattle.om_lower.specs.Frames.{FitsFrame}
+pub use Rattle.om_lower.specs.Heights.{AreLow}
+pub use Rattle.om_lower.specs.Inputs.{IsInput, IsSeen, known_bodies, seen_body, seen_tree, tree_of}
+pub use Rattle.om_lower.specs.Limits.{AreWithin, HasFewSlots, HasManySlots, HasSlots, IsTooMany, frame_cells, own_cells}
+pub use Rattle.om_lower.specs.Made.{AddsBody, AddsFunction, AddsSlots, FitsBodies, FitsCode, IsGathered, IsLowered}
+pub use Rattle.om_lower.specs.Made.{IsNext, IsOverAt, next_function, next_numbers}
+pub use Rattle.om_lower.specs.Once.{IsEachOnce}
+pub use Rattle.om_lower.specs.Ready.{IsListed, IsReady}
+pub use Rattle.om_lower.specs.Refusals.{IsRefusal, too_many}
+pub use Rattle.om_emit.specs.Drafts.{settled_code}
+pub use Rattle.om_emit.specs.Settled.{ListsStand, number_of, settled_lists}
+pub use Rattle.om_resolved.specs.Beside.{TreeAtomicsAssign, TreeCopiesBehind}
+pub use Rattle.om_resolved.specs.Formats.{pieces_of}
+pub use Rattle.om_resolved.specs.ResolvedView.{view_resolved, view_resolved_clause, view_resolved_function}
+pub use Rattle.om_resolved.specs.Uses.{is_main_function}
+pub use Rattle.om_resolved.specs.Weights.{HasSmallWeight}
+pub use Rattle.om_resolved.specs.Whole.{IsWholeTree}
+pub use Rattle.om_rows.specs.Bodies.{FunctionBody, called_body, function_bodies, region_variables, variables_of}
+pub use Rattle.om_rows.specs.BodyTables.{numbered_by}
+pub use Rattle.om_rows.specs.Code.{IsCodeOf, captures_of, given_of, global_of, slots_of}
+pub use Rattle.om_rows.specs.Coded.{BodyHasCode, StatementHasCode}
+pub use Rattle.om_rows.specs.Ends.{HasBodyEnds, HasEnds}
+pub use Rattle.om_rows.specs.MeaningLaws.{KeepsMeaning}
+pub use Rattle.om_rows.specs.Mentions.{IsTextOf}
+pub use Rattle.om_rows.specs.Numbering.{numbers_of}
+pub use Rattle.om_rows.specs.ProgramTables.{ends_in, known_in}
+pub use Rattle.om_rows.specs.Scopes.{body_scopes, names_with, scope_in, slot_among}
+pub use Rattle.om_rows.specs.Slots.{slot_of, slot_with}
+pub use Rattle.om_rows.specs.Statements.{given_copies}
+pub use Rattle.om_sights.specs.Regions.{parallel_tree, statement_of, task_tree}
+pub use Rattle.om_sights.specs.Sites.{bodies_in, body_in, body_round, innermost, part_tree, round_with, variables_at}
+pub use Rattle.om_statements.specs.Scoped.{AreInside, EmitsScopes, IsInside}
