@@ -6,17 +6,13 @@ ghost use Rattle.om_resolved.specs.Captures.{captured, captures_of, combined_use
 ghost use Rattle.om_resolved.specs.ResolvedView.{view_resolved_clause, view_resolved_statement};
 
 use crate::found::{Found, take_statement};
+use crate::made::Made;
 use crate::resolved::{Capture, CopyKind, ResolvedClause, ResolvedStatement, Taking, Variable};
 use om_seq::Seq;
-use std::alloc::{AllocError, Global};
+use std::alloc::Global;
 
 /// Notes the original of a copy that is combined into it.
-fn take_combined(
-    found: &mut Found,
-    start: u32,
-    kind: CopyKind,
-    original: Variable,
-) -> Result<(), AllocError>
+fn take_combined(found: &mut Found, start: u32, kind: CopyKind, original: Variable) -> Made<()>
     ensures { OnOk result
         (found.new ≡ fold (with_use start) found.old (combined_uses kind original)) }
 {
@@ -27,7 +23,7 @@ fn take_combined(
 }
 
 /// Notes what a clause of a region uses in it.
-fn take_listed(found: &mut Found, start: u32, clause: &ResolvedClause) -> Result<(), AllocError>
+fn take_listed(found: &mut Found, start: u32, clause: &ResolvedClause) -> Made<()>
     ensures { OnOk result
         (found.new ≡ fold (with_use start) found.old
         (listed_uses (view_resolved_clause clause.now))) }
@@ -42,11 +38,7 @@ fn take_listed(found: &mut Found, start: u32, clause: &ResolvedClause) -> Result
 }
 
 /// Notes what the clauses of a region use in it.
-fn take_all_listed(
-    found: &mut Found,
-    start: u32,
-    clauses: &[ResolvedClause],
-) -> Result<(), AllocError>
+fn take_all_listed(found: &mut Found, start: u32, clauses: &[ResolvedClause]) -> Made<()>
     ensures { OnOk result
         (found.new ≡ fold (with_use start) found.old
         (flat_map listed_uses (map view_resolved_clause clauses.now))) }
@@ -58,11 +50,7 @@ fn take_all_listed(
 }
 
 /// The variables from outside that the clauses of a region list that begins there.
-fn listed_variables(
-    alloc: Global,
-    start: u32,
-    clauses: &[ResolvedClause],
-) -> Result<Found, AllocError>
+fn listed_variables(alloc: Global, start: u32, clauses: &[ResolvedClause]) -> Made<Found>
     ensures { IfOk result
         (λ found. found ≡ listed_variables start (map view_resolved_clause clauses.now)) }
 {
@@ -77,7 +65,7 @@ fn taken_variables(
     start: u32,
     clauses: &[ResolvedClause],
     body: &ResolvedStatement,
-) -> Result<Found, AllocError>
+) -> Made<Found>
     ensures { IfOk result
         (λ found. found ≡ taken_variables start (map view_resolved_clause clauses.now)
         (view_resolved_statement body.now)) }
@@ -88,7 +76,7 @@ fn taken_variables(
 }
 
 /// Variables as a `parallel` takes them from outside.
-fn captured_by_parallel(alloc: Global, variables: &[u32]) -> Result<Seq<Capture>, AllocError>
+fn captured_by_parallel(alloc: Global, variables: &[u32]) -> Made<Seq<Capture>>
     ensures { IfOk result (λ captures. captures ≡ captured taken_by_parallel variables.now) }
 {
     let mut captures = Vec::new(alloc);
@@ -107,7 +95,7 @@ pub fn captures_of_parallel(
     start: u32,
     clauses: &[ResolvedClause],
     body: &ResolvedStatement,
-) -> Result<Seq<Capture>, AllocError>
+) -> Made<Seq<Capture>>
     ensures { IfOk result
         (λ captures. captures ≡ captures_of taken_by_parallel start
         (map view_resolved_clause clauses.now) (view_resolved_statement body.now)) }
@@ -152,7 +140,7 @@ fn captured_by_task(
     sharing: TaskSharing,
     listed: &Found,
     variables: &[u32],
-) -> Result<Seq<Capture>, AllocError>
+) -> Made<Seq<Capture>>
     ensures { let taking = taken_by_task sharing.has_default sharing.parallel listed.now in
         IfOk result (λ captures. captures ≡ captured taking variables.now) }
 {
@@ -173,7 +161,7 @@ pub fn captures_of_task(
     start: u32,
     clauses: &[ResolvedClause],
     body: &ResolvedStatement,
-) -> Result<Seq<Capture>, AllocError>
+) -> Made<Seq<Capture>>
     ensures { let trees = map view_resolved_clause clauses.now in
         let listed = listed_variables start trees in
         let taking = taken_by_task sharing.has_default sharing.parallel listed in
