@@ -1,10 +1,11 @@
-//! Which variable a name means at an instruction of a program.
+//! What a program still knows of its source: lines, and which variable a name means.
 
 ghost use Rattle.std.specs.Prelude.{◌≡◌, ◌≤◌, ◌<◌, ◌^◌, IfSome, Some, length, position};
+ghost use Rattle.std.specs.Str.{bytes_eq};
+ghost use Rattle.om_code.specs.Places.{line_at};
 ghost use Rattle.om_lookup.specs.Visible.{around_below, as_inner, global_named, global_var, holds, innermost, is_slot, meant, slot_var, start_in, starts, starts_body, variable_at};
 
-use crate::look::global_named;
-use om_code::raw::{Line, Scope};
+use om_code::raw::{GlobalVariable, Line, Scope};
 use om_code::{Body, Instr, Program};
 
 /// A variable that a name means.
@@ -28,6 +29,38 @@ pub(crate) struct Local {
 pub(crate) struct Around {
     pub(crate) body: u32,
     pub(crate) at: u32,
+}
+
+/// The source line of the instruction at a place of a body, counted from 1: that of the first token of its
+/// statement, and for the end of a function that of its closing brace. 0 where there is no such body
+/// or place.
+pub fn line_of(program: &Program, body: u32, at: u32) -> u32
+    ensures { result ≡ line_at program.now body at }
+{
+    program.line(body, at)
+}
+
+/// The number of the first global variable of this name; `None` exactly where there is none.
+pub fn global_named(program: &Program, name: &[u8]) -> Option<u32>
+    ensures { result ≡ global_named program.now name.now }
+{
+    let number = index_of(program.globals(), name)?;
+    Some(number as u32)
+}
+
+/// The index of the first global variable of this name.
+fn index_of(globals: &[GlobalVariable], name: &[u8]) -> Option<usize>
+    ensures index { result ≡ position (λ global. bytes_eq global.name name.now) globals.now }
+    ensures within { IfSome result (λ index. index < length globals.now) }
+{
+    globals.iter().position(|global| is_named(global, name))
+}
+
+/// Whether a global variable has this name.
+fn is_named(global: &GlobalVariable, name: &[u8]) -> bool
+    ensures { result ≡ bytes_eq global.now.name name.now }
+{
+    global.name.as_slice() == name
 }
 
 /// The variable that a name means at an instruction (C17 6.2.1p4): the innermost one of that name that
@@ -54,13 +87,10 @@ fn meant(program: &Program, steps: usize, here: Around, name: &[u8]) -> Option<V
     if let Some(local) = innermost(here.at, name, names.scopes.as_slice()) {
         return slot_var(local.length, local.slot);
     }
-    match around_below(program, here.body) {
-        None => global_var(program, name),
-        Some(around) => {
-            let outside = meant(program, left, around, name);
-            as_inner(names.outer.as_slice(), outside)
-        }
-    }
+    let Some(around) = around_below(program, here.body) else {
+        return global_var(program, name);
+    };
+    as_inner(names.outer.as_slice(), meant(program, left, around, name))
 }
 
 /// The global variable of a name.
