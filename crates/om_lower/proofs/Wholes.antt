@@ -14,7 +14,7 @@ use Rattle.om_resolved.specs.ResolvedTree.{ResolvedStatementsTree}
 use Rattle.om_rows.specs.Bodies.{FunctionBody, ParallelBody, TaskBody}
 use Rattle.om_rows.specs.Rows.{end, ins, part}
 use Rattle.om_rows.specs.Statements.{last_instruction, nowhere, reduction_starts, reductions, statement, statements}
-use Rattle.om_statements.specs.declared.labels.JumpLabels.{JumpLabels}
+use Rattle.om_statements.specs.declared.spot.JumpLabels.{JumpLabels}
 use Rattle.om_statements.specs.declared.spot.Spot.{Spot}
 use Rattle.om_statements.specs.Emits.{EmitsStatement, EmitsStatements, EmitsWith}
 use Rattle.om_resolved.specs.declared.resolved.LocalVariable.{LocalVariable}

@@ -1,8 +1,8 @@
 -- The row of each form, of what is written before its statement, of the statement, and of what is written behind it.
 use Rattle.std.proofs.Common.{◌≡◌, ℕ, List, Option, Some, None, Bool, map, length, sym, subst, arith}
 use Rattle.om_code.specs.declared.instruction.Comparison.{Comparison}
-use Rattle.om_statements.specs.declared.labels.LoopLabels.{LoopLabels}
-use Rattle.om_statements.specs.declared.labels.TurnLabels.{TurnLabels}
+use Rattle.om_statements.specs.declared.spot.LoopLabels.{LoopLabels}
+use Rattle.om_statements.specs.declared.spot.TurnLabels.{TurnLabels}
 use Rattle.om_statements.specs.Stretches.{Opens, Begins, BeginsTurn, construct_begin, construct_end}
 use Rattle.om_statements.specs.Stretches.{do_begin, do_end, else_begin, for_begin, for_end, loop_end, test_at}
 use Rattle.om_statements.specs.Stretches.{while_begin, worksharing_begin, worksharing_rest}
@@ -20,7 +20,7 @@ use Rattle.om_rows.specs.Bodies.{Numbers, behind}
 use Rattle.om_rows.specs.Operators.{comparison_of}
 use Rattle.om_rows.specs.Rows.{Row, end, part, here, given}
 use Rattle.om_rows.specs.Statements.{closes, statement, construct_row, loop_rest, in_iteration}
-use Rattle.om_statements.specs.declared.labels.JumpLabels.{JumpLabels}
+use Rattle.om_statements.specs.declared.spot.JumpLabels.{JumpLabels}
 use Rattle.om_statements.specs.Emits.{jumps_at, EmitsStatement}
 use Rattle.om_statements.specs.Going.{before_with, goes_place, goes_then, then_with, with_as, with_behind}
 use Rattle.om_rows.specs.Numbered.{Numbered}

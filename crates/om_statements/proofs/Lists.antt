@@ -17,7 +17,7 @@ use Rattle.om_statements.specs.declared.spot.Spot.{Spot}
 use Rattle.om_rows.specs.Numbering.{numbers_of}
 use Rattle.om_rows.specs.Rows.{end}
 use Rattle.om_rows.specs.Statements.{statement, statements}
-use Rattle.om_statements.specs.declared.labels.JumpLabels.{JumpLabels}
+use Rattle.om_statements.specs.declared.spot.JumpLabels.{JumpLabels}
 use Rattle.om_statements.specs.Emits.{jumps_at, EmitsStatement, GoesWith}
 use Rattle.om_statements.specs.Going.{then_with, with_none}
 use Rattle.om_rows.specs.Numbered.{Numbered}

@@ -15,7 +15,7 @@ use Rattle.om_rows.specs.Rows.{each, perhaps}
 use Rattle.om_rows.specs.Slots as rows
 use Rattle.om_rows.specs.Slots.{by_slots, first_copy_at}
 use Rattle.om_rows.specs.Statements.{clause_value, given_copies, load_original}
-use Rattle.om_statements.specs.declared.labels.JumpLabels.{JumpLabels}
+use Rattle.om_statements.specs.declared.spot.JumpLabels.{JumpLabels}
 use Rattle.om_statements.specs.Emits.{EmitsStatement}
 use Rattle.om_statements.specs.Going.{goes_then, with_none}
 use Rattle.om_rows.specs.declared.copies.FirstCopy.{FirstCopy}

@@ -30,9 +30,9 @@ use Rattle.om_rows.specs.Scopes.{construct_scopes, bounds_scopes, loop_head, sec
 use Rattle.om_rows.specs.Scopes.{part_scopes}
 use Rattle.om_rows.specs.Statements.{clause_start, clause_reduction_start, clause_value, closes, filter_row, statement}
 use Rattle.om_rows.specs.Statements.{test}
-use Rattle.om_statements.specs.declared.labels.JumpLabels.{JumpLabels}
-use Rattle.om_statements.specs.declared.labels.LoopLabels.{LoopLabels}
-use Rattle.om_statements.specs.declared.labels.TurnLabels.{TurnLabels}
+use Rattle.om_statements.specs.declared.spot.JumpLabels.{JumpLabels}
+use Rattle.om_statements.specs.declared.spot.LoopLabels.{LoopLabels}
+use Rattle.om_statements.specs.declared.spot.TurnLabels.{TurnLabels}
 use Rattle.om_statements.specs.declared.writing.ScopeStack.{ScopeStack}
 use Rattle.om_statements.specs.Emits.{jumps_at}
 use Rattle.om_statements.specs.Going.{writes_then}

@@ -5,7 +5,7 @@ use Rattle.std.specs.Prelude.{slice_get}
 use Rattle.std.proofs.lemmas.List.{length-map, map-append}
 use Rattle.std.proofs.lemmas.Option.{slice_get_within}
 use Rattle.om_code.specs.declared.instruction.Instr.TheVariants as i
-use Rattle.om_statements.specs.declared.labels.LoopLabels.{LoopLabels}
+use Rattle.om_statements.specs.declared.spot.LoopLabels.{LoopLabels}
 use Rattle.om_statements.specs.Stretches.{Begins, sections_begin}
 use Rattle.om_emit.specs.declared.draft.Pick.{Pick}
 use Rattle.om_emit.specs.Drafts.{Labels, Written, Defines, FreshList, labels_from, unplaced}
@@ -19,8 +19,8 @@ use Rattle.om_resolved.specs.ResolvedView.{view_resolved_part}
 use Rattle.om_rows.specs.Bodies.{Numbers, next_pick}
 use Rattle.om_rows.specs.Rows.{end, here, part}
 use Rattle.om_rows.specs.Statements.{closes, parts}
-use Rattle.om_statements.specs.declared.sections.PartsSpot.{PartsSpot}
-use Rattle.om_statements.specs.declared.labels.JumpLabels.{JumpLabels}
+use Rattle.om_statements.specs.declared.worksharing.PartsSpot.{PartsSpot}
+use Rattle.om_statements.specs.declared.spot.JumpLabels.{JumpLabels}
 use Rattle.om_statements.specs.Emits.{EmitsStatement, GoesWith, pick_number}
 use Rattle.om_statements.specs.Parts.{AreFree, EmitsParts, GoesParts, OpensParts, PartHead, head_row}
 use Rattle.om_statements.specs.Parts.{part_labels}

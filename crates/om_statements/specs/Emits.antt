@@ -6,7 +6,7 @@ use Rattle.om_emit.specs.Emits.{Part, Writes, site}
 use Rattle.om_resolved.specs.ResolvedTree.{ResolvedStatementTree, ResolvedStatementsTree}
 use Rattle.om_rows.specs.Bodies.{Numbers}
 use Rattle.om_rows.specs.Statements.{Jumps, statement, statements}
-use Rattle.om_statements.specs.declared.labels.JumpLabels.{JumpLabels}
+use Rattle.om_statements.specs.declared.spot.JumpLabels.{JumpLabels}
 use Rattle.om_rows.specs.Numbered.{Numbered}
 use Rattle.om_rows.specs.Picks.{own_picks, all_own_picks}
 

@@ -7,7 +7,7 @@ use Rattle.om_emit.specs.Emits.{site}
 use Rattle.om_resolved.specs.ResolvedTree.{ResolvedClauseTree, ResolvedPartsTree, NoParts, Part}
 use Rattle.om_rows.specs.Bodies.{Numbers, next_pick}
 use Rattle.om_rows.specs.Statements.{parts}
-use Rattle.om_statements.specs.declared.sections.PartsSpot.{PartsSpot}
+use Rattle.om_statements.specs.declared.worksharing.PartsSpot.{PartsSpot}
 use Rattle.om_statements.specs.Emits.{GoesWith}
 use Rattle.om_rows.specs.declared.numbers.Numbers as tables
 use Rattle.om_rows.specs.Numbered.{Numbered}

@@ -3,8 +3,8 @@ use Rattle.std.specs.Prelude.{◌≡◌, ◌≤◌, ◌<◌, ℕ, List, Option, 
 use Rattle.std.specs.Prelude.{OnOk, Result, option_map, slice_get}
 use Rattle.om_code.specs.declared.instruction.Instr.TheVariants as i
 use Rattle.om_code.specs.declared.instruction.Comparison.{Comparison}
-use Rattle.om_statements.specs.declared.labels.LoopLabels.{LoopLabels}
-use Rattle.om_statements.specs.declared.labels.TurnLabels.{TurnLabels}
+use Rattle.om_statements.specs.declared.spot.LoopLabels.{LoopLabels}
+use Rattle.om_statements.specs.declared.spot.TurnLabels.{TurnLabels}
 use Rattle.om_statements.specs.declared.worksharing.Parts.{Parts}
 use Rattle.om_emit.specs.Drafts.{Written, Fresh}
 use Rattle.om_emit.specs.declared.here.Here.{Here}

@@ -1,17 +1,17 @@
-//! Directives that stand alone, and `atomic`.
+//! Barriers, directives that stand alone, `atomic`, and jumps out of a loop's body.
 
-ghost use Rattle.std.specs.Prelude.{OnOk};
+ghost use Rattle.std.specs.Prelude.{OnOk, ◌≡◌, Some, is_some, true};
 ghost use Rattle.om_emit.specs.Emits.{Appends};
 ghost use Rattle.om_resolved.specs.ResolvedView.{view_resolved_statement, view_resolved_update};
 ghost use Rattle.om_rows.specs.Coded.{AssignmentHasCode, UpdateHasCode};
-ghost use Rattle.om_rows.specs.Statements.{alone_row, assignment_row, update_row};
-ghost use Rattle.om_statements.specs.Stretches.{EmitsAnywhere};
+ghost use Rattle.om_rows.specs.Statements.{alone_row, assignment_row, update_row, barrier, worksharing_end};
+ghost use Rattle.om_statements.specs.Stretches.{EmitsAnywhere, EmitsJump};
 
-use crate::barrier::barrier;
 use crate::operator::{side_of, update_of};
+use crate::spot::JumpLabels;
 use om_code::Instr;
 use om_code::instruction::Barrier;
-use om_emit::draft::Draft;
+use om_emit::draft::{Draft, Jump};
 use om_emit::{Done, Here, effect, value};
 use om_resolved::{ResolvedStatement, ResolvedUpdate, StandAlone};
 
@@ -93,4 +93,54 @@ pub fn assignment(draft: &mut Draft, here: &Here<'_>, statement: &ResolvedStatem
         unreachable!()
     };
     effect(draft, here, expression)
+}
+
+/// Writes a `break` (C17 6.8.6.3).
+pub fn leave_loop(draft: &mut Draft, line: u32, jumps: JumpLabels) -> Done
+    requires { is_some jumps.over ≡ true }
+    ensures { OnOk result (EmitsJump line jumps.over draft.old draft.new) }
+{
+    jump(draft, line, jumps.over)
+}
+
+/// Writes a `continue` (C17 6.8.6.2).
+pub fn go_on(draft: &mut Draft, line: u32, jumps: JumpLabels) -> Done
+    requires { is_some jumps.next ≡ true }
+    ensures { OnOk result (EmitsJump line jumps.next draft.old draft.new) }
+{
+    jump(draft, line, jumps.next)
+}
+
+/// Writes a jump to a label that is there (C17 6.8.6.2, 6.8.6.3).
+fn jump(draft: &mut Draft, line: u32, label: Option<usize>) -> Done
+    requires { is_some label ≡ true }
+    ensures { OnOk result (EmitsJump line label draft.old draft.new) }
+{
+    let Some(label) = label else {
+        unreachable!();
+    };
+    draft.put_jump(line, Jump::Always, label)?;
+    Ok(())
+}
+
+/// Writes a barrier (OpenMP API 5.2, section 15.3): it is reached, and all go on from it.
+pub fn barrier(draft: &mut Draft, line: u32, kind: Barrier) -> Done
+    ensures { OnOk result (EmitsAnywhere (λ at. barrier at line kind) draft.old draft.new) }
+{
+    draft.put(line, Instr::Arrive(kind))?;
+    draft.put(line, Instr::Depart(kind))?;
+    Ok(())
+}
+
+/// Writes the end of a worksharing construct: all threads wait for each other, unless it is `nowait`
+/// (OpenMP API 5.2, section 15.6).
+pub fn worksharing_end(draft: &mut Draft, line: u32, nowait: bool) -> Done
+    ensures { OnOk result
+        (EmitsAnywhere (λ at. worksharing_end at line nowait) draft.old draft.new) }
+{
+    draft.put(line, Instr::EndWorksharing)?;
+    if !nowait {
+        barrier(draft, line, Barrier::Worksharing)?;
+    }
+    Ok(())
 }

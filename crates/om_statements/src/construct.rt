@@ -9,7 +9,7 @@ ghost use Rattle.om_rows.specs.Statements as rows;
 ghost use Rattle.om_statements.specs.Scoped.{AppendsScopes};
 ghost use Rattle.om_statements.specs.Stretches.{AppendsEnd, BeginHasCode, Begins, IsNoAtomic, construct_begin, construct_end};
 
-use crate::barrier::worksharing_end;
+use crate::alone::worksharing_end;
 use crate::clause::{clause_value, starts};
 use crate::writing::Writing;
 use om_code::Instr;

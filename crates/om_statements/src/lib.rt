@@ -5,19 +5,13 @@
 #![tactic(auto)]
 
 mod alone;
-mod barrier;
-mod branch;
 pub mod clause;
 mod construct;
 mod declaration;
-mod jump;
-pub mod labels;
 mod operator;
 mod region;
 mod repeated;
-mod sections;
 pub mod spot;
-mod stand_in;
 pub mod statement;
 mod worksharing;
 pub mod writing;

@@ -1,24 +1,30 @@
 //! A `parallel` and a `task`, in the body that meets them.
 
-ghost use Rattle.std.specs.Prelude.{◌≡◌, ◌≤◌, IfOk, IfSome, OnOk, length, map};
-ghost use Rattle.om_emit.specs.Emits.{EmitsRow};
-ghost use Rattle.om_statements.specs.declared.labels.JumpLabels.{JumpLabels};
+ghost use Rattle.std.specs.Prelude.{◌≡◌, ◌≤◌, IfOk, IfSome, OnOk, length, map, is_some};
+ghost use Rattle.om_emit.specs.Emits.{EmitsRow, Appends};
+ghost use Rattle.om_statements.specs.declared.spot.JumpLabels.{JumpLabels};
 ghost use Rattle.om_resolved.specs.ResolvedTree as trees;
 ghost use Rattle.om_resolved.specs.ResolvedView.{view_resolved_clause, view_resolved_statement};
 ghost use Rattle.om_rows.specs.Bodies as rows;
 ghost use Rattle.om_rows.specs.Coded.{ValueHasCode};
-ghost use Rattle.om_rows.specs.Rows.{each};
+ghost use Rattle.om_rows.specs.Rows.{each, perhaps};
 ghost use Rattle.om_rows.specs.Statements.{clause_value, given_copies, load_original};
 ghost use Rattle.om_statements.specs.Emits.{EmitsStatement};
 ghost use Rattle.om_rows.specs.BodyTables.{numbered_by};
 ghost use Rattle.om_rows.specs.Ends.{IsKnown};
 ghost use Rattle.om_rows.specs.Numbering.{numbers_of};
 ghost use Rattle.om_rows.specs.ProgramTables.{known_in};
+ghost use Rattle.om_rows.specs.Copies.{first_copies_of, first_copy};
+ghost use Rattle.om_rows.specs.Expressions as expressions;
+ghost use Rattle.om_rows.specs.Statements as rows;
+ghost use Rattle.om_statements.specs.Stretches.{EmitsAnywhere, fork_row, spawn_row};
 
-use crate::stand_in::{fork, load_originals, spawn, team_size};
-use om_emit::Here;
+use crate::clause::clause_value;
+use om_code::Instr;
 use om_emit::draft::Draft;
-use om_rows::{BodyTables, Numbers, Region, Variables, given_copies};
+use om_emit::{Done, Here, value};
+use om_resolved::ResolvedClause;
+use om_rows::{BodyTables, FirstCopy, Numbers, Region, Variables, given_copies};
 use std::alloc::{AllocError, Global};
 
 /// Writes what stands in the place of a `parallel`, and gives the numbers behind it. Its body gets
@@ -109,4 +115,72 @@ fn load_given(
     let at = region.at;
     load_originals(draft, &Here { tables, at }, copies.as_slice())?;
     Ok(copies.len())
+}
+
+/// Writes the size that a `parallel` asks for, if one of its clauses does (OpenMP API 5.2, section
+/// 10.1.2), and says whether one does.
+pub fn team_size(
+    draft: &mut Draft,
+    here: &Here<'_>,
+    clauses: &[ResolvedClause],
+) -> Result<bool, AllocError>
+    requires { IfSome (rows.clause_value (map view_resolved_clause clauses.now)) ValueHasCode }
+    ensures sized { IfOk result
+        (λ sized. sized ≡ is_some (rows.clause_value (map view_resolved_clause clauses.now))) }
+    ensures emitted { Appends result here.now (λ at l. perhaps (expressions.value at l))
+        (rows.clause_value (map view_resolved_clause clauses.now)) draft.old draft.new }
+{
+    match clause_value(clauses) {
+        None => Ok(false),
+        Some(size) => {
+            value(draft, here, size)?;
+            Ok(true)
+        }
+    }
+}
+
+/// Loads the originals of the firstprivate copies of a region, by the slots of the copies.
+pub fn load_originals(draft: &mut Draft, here: &Here<'_>, copies: &[FirstCopy]) -> Done
+    ensures { Appends result here.now (λ at l. each (rows.load_original at l))
+        (first_copies_of copies.now) draft.old draft.new }
+{
+    for copy in copies {
+        load(draft, here, copy)?;
+    }
+    Ok(())
+}
+
+/// Loads the original of a firstprivate copy.
+fn load(draft: &mut Draft, here: &Here<'_>, copy: &FirstCopy) -> Done
+    ensures { Appends result here.now rows.load_original (first_copy copy.now) draft.old draft.new }
+{
+    draft.put(here.at.line, Instr::Load(here.tables.place(copy.original)))?;
+    Ok(())
+}
+
+/// Writes the begin of a team on a body, with so many firstprivate values: one for a slot at most.
+pub fn fork(draft: &mut Draft, line: u32, body: u32, sized: bool, values: usize) -> Done
+    requires { values ≤ 256 }
+    ensures { OnOk result (EmitsAnywhere (fork_row line body sized values) draft.old draft.new) }
+{
+    let values = values as u16;
+    draft.put(
+        line,
+        Instr::Fork {
+            body,
+            sized,
+            values,
+        },
+    )?;
+    Ok(())
+}
+
+/// Writes the begin of a task on a body, with so many firstprivate values: one for a slot at most.
+pub fn spawn(draft: &mut Draft, line: u32, body: u32, values: usize) -> Done
+    requires { values ≤ 256 }
+    ensures { OnOk result (EmitsAnywhere (spawn_row line body values) draft.old draft.new) }
+{
+    let values = values as u16;
+    draft.put(line, Instr::Spawn { body, values })?;
+    Ok(())
 }

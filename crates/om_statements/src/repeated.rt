@@ -1,4 +1,4 @@
-//! The heads and the ends of `while`, `do` and `for`.
+//! The heads and the ends of `if`, `while`, `do` and `for`.
 
 ghost use Rattle.std.specs.Prelude.{◌≡◌, ◌<◌, IfOk, IfSome, None, OnOk, Some, option_map, slice_get};
 ghost use Rattle.om_emit.specs.Emits.{names_at};
@@ -7,11 +7,10 @@ ghost use Rattle.om_rows.specs.Coded.{EffectHasCode, StartHasCode, ValueHasCode}
 ghost use Rattle.om_rows.specs.Numbered.{Numbered};
 ghost use Rattle.om_rows.specs.Scopes.{for_head};
 ghost use Rattle.om_statements.specs.Scoped.{AppendsScopes};
-ghost use Rattle.om_statements.specs.Stretches.{AppendsEnd, AppendsHead, BeginsTurn, Ends, FreshTurn};
-ghost use Rattle.om_statements.specs.Stretches.{do_begin, do_end, for_begin, for_end, loop_end, while_begin};
+ghost use Rattle.om_statements.specs.Stretches.{AppendsEnd, AppendsHead, BeginsTurn, Ends, FreshTurn, do_begin, do_end, for_begin, for_end, loop_end, while_begin, Begins, Opens, else_begin, test_at};
 
 use crate::declaration::{perhaps_effect, perhaps_test, start, test};
-use crate::labels::{LoopLabels, TurnLabels};
+use crate::spot::{LoopLabels, TurnLabels};
 use crate::writing::Writing;
 use om_emit::draft::{Draft, Jump};
 use om_emit::{Done, Here};
@@ -129,4 +128,33 @@ pub fn end_for(
     perhaps_effect(draft, here, step)?;
     end_loop(draft, here.at.line, LoopLabels { again, over })?;
     Ok(())
+}
+
+/// Writes the head of an `if` (C17 6.8.4.1). The label is to be placed behind what it guards.
+pub fn begin_if(
+    draft: &mut Draft,
+    here: &Here<'_>,
+    condition: &ResolvedExpression,
+) -> Result<usize, AllocError>
+    requires { ValueHasCode (view_resolved_expression condition.now) }
+    ensures { let tree = view_resolved_expression condition.now in
+        IfOk result (λ label. Begins label (test_at (names_at here.now) here.now.at.line label tree)
+        draft.old draft.new) }
+{
+    let label = draft.fresh()?;
+    test(draft, here, condition, label)?;
+    Ok(label)
+}
+
+/// Writes what stands between the two statements of an `if` with `else`: the first goes on behind the
+/// second, which begins at the head's label. The new label is to be placed behind the second.
+pub fn begin_else(draft: &mut Draft, line: u32, head: usize) -> Result<usize, AllocError>
+    requires { slice_get draft.old.places head ≡ Some None }
+    ensures { IfOk result (λ label. (names : Numbered) →
+        Opens head label (else_begin names line head label) draft.old draft.new) }
+{
+    let label = draft.fresh()?;
+    draft.put_jump(line, Jump::Always, label)?;
+    draft.define(head);
+    Ok(label)
 }

@@ -1,8 +1,7 @@
-//! Where a statement stands.
+//! Where a statement stands, and where jumps go.
 
 ghost use Rattle.std.specs.Prelude.{◌≡◌, None, Some};
 
-use crate::labels::JumpLabels;
 use om_rows::Numbers;
 
 /// Where a statement stands: the numbers of the next body and of the next list of PICK, and where
@@ -53,4 +52,31 @@ impl Spot {
         let jumps = self.jumps;
         Spot { numbers, jumps }
     }
+}
+
+/// The labels of a loop.
+#[derive(Clone, Copy)]
+pub struct LoopLabels {
+    /// Where it begins again.
+    pub again: usize,
+    /// Behind it.
+    pub over: usize,
+}
+
+/// The labels of a loop in which `continue` does not go to its begin.
+#[derive(Clone, Copy)]
+pub struct TurnLabels {
+    /// Where it begins again.
+    pub again: usize,
+    /// Where `continue` goes.
+    pub next: usize,
+    /// Behind it.
+    pub over: usize,
+}
+
+/// The labels that `break` and `continue` go to; outside of a loop there are none.
+#[derive(Clone, Copy)]
+pub struct JumpLabels {
+    pub over: Option<usize>,
+    pub next: Option<usize>,
 }

@@ -14,16 +14,17 @@ ghost use Rattle.om_rows.specs.Ends.{HasAllEnds, HasEnds, HasPartsEnds};
 ghost use Rattle.om_rows.specs.Numbering.{numbers_of};
 ghost use Rattle.om_rows.specs.ProgramTables.{known_in};
 
-use crate::alone::{assignment, stand_alone, update};
-use crate::branch::{begin_else, begin_if};
+use crate::alone::{assignment, go_on, leave_loop, stand_alone, update};
 use crate::construct::{begin_construct, end_construct};
 use crate::declaration::{declarators, returned};
-use crate::jump::{go_on, leave_loop};
 use crate::region::{parallel, task};
-use crate::repeated::{begin_do, begin_for, begin_while, end_do, end_for, end_loop};
-use crate::sections::{PartsSpot, SectionsHead, begin_parts};
+use crate::repeated::{
+    begin_do, begin_else, begin_for, begin_if, begin_while, end_do, end_for, end_loop,
+};
 use crate::spot::Spot;
-use crate::worksharing::{begin_worksharing, end_worksharing};
+use crate::worksharing::{
+    PartsSpot, SectionsHead, begin_parts, begin_worksharing, end_worksharing,
+};
 use crate::writing::Writing;
 use om_emit::draft::Jump;
 use om_emit::{Here, effect};

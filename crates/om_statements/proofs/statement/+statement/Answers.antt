@@ -37,7 +37,7 @@ use Rattle.om_statements.proofs.Within.{block_within, construct_within, do_withi
 use Rattle.om_statements.proofs.Within.{loop_within, parts_within, then_within, while_within, with_depth}
 use Rattle.om_rows.specs.Scopes.{all_scopes, scopes}
 use Rattle.om_rows.specs.Statements.{assignment_row}
-use Rattle.om_statements.specs.declared.labels.JumpLabels.{JumpLabels}
+use Rattle.om_statements.specs.declared.spot.JumpLabels.{JumpLabels}
 use Rattle.om_statements.proofs.Scoped.{all_scopes_done, all_scopes_next, alone, construct_scopes_clauses}
 use Rattle.om_statements.proofs.Scoped.{construct_stands, do_scopes, for_scopes, if_else_scopes, if_scopes, loop_scopes}
 use Rattle.om_statements.proofs.Scoped.{loop_scopes_clauses, part_scopes_are, part_scopes_done, part_scopes_next}

@@ -3,7 +3,7 @@ use Rattle.om_rows.specs.Statements.{load_original}
 use Rattle.om_emit.specs.Emits.{names_at}
 use Rattle.om_rows.specs.Copies.{first_copy}
 use Rattle.om_statements.proofs.Leaves.{GoesOn}
-use Rattle.om_statements.proofs.stand_in.load_originals.Given as goal
+use Rattle.om_statements.proofs.region.load_originals.Given as goal
 
 abbrev pub invariant-loop-copy : goal.invariant-loop-copy
 invariant-loop-copy l =

@@ -1,6 +1,6 @@
 use Rattle.std.proofs.lemmas.List.{drop_all}
 use Rattle.om_statements.proofs.Leaves.{begin_each, end_each, got, next_each}
-use Rattle.om_statements.proofs.stand_in.load_originals.Goals as goal
+use Rattle.om_statements.proofs.region.load_originals.Goals as goal
 
 pub loop-copy-init : goal.loop-copy-init
 loop-copy-init c = begin_each _ _ _ _ _

@@ -6,7 +6,7 @@ use Rattle.om_emit.specs.Emits.{names_at}
 use Rattle.om_rows.specs.Scopes.{sections_head}
 use Rattle.om_statements.proofs.Scoped.{writes_list}
 use Rattle.om_statements.specs.Scoping.{stand_ahead}
-use Rattle.om_statements.proofs.sections.begin_parts.Goals as goal
+use Rattle.om_statements.proofs.worksharing.begin_parts.Goals as goal
 
 pub returns-clause-code : goal.returns-clause-code
 returns-clause-code c =

@@ -1,5 +1,5 @@
 use Rattle.om_statements.proofs.Leaves.{emits_one, emits_put_then}
-use Rattle.om_statements.proofs.barrier.worksharing_end.Goals as goal
+use Rattle.om_statements.proofs.alone.worksharing_end.Goals as goal
 
 pub returns-in_ok-barrier : goal.returns-in_ok-barrier
 returns-in_ok-barrier c = rw c.if-not-nowait.true (λ names. emits_put_then names _ _ _ _ _ _ c.in_ok-put.ensures
