@@ -4,3 +4,4 @@ pub mod Parts
 pub mod Going
 pub mod Scoped
 pub mod Scoping
+pub mod There

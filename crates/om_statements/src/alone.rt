@@ -1,14 +1,13 @@
 //! Barriers, directives that stand alone, `atomic`, and jumps out of a loop's body.
 
-ghost use Rattle.std.specs.Prelude.{OnOk, ◌≡◌, Some, is_some, true};
+ghost use Rattle.std.specs.Prelude.{◌≡◌, OnOk, is_some, true};
 ghost use Rattle.om_emit.specs.Emits.{Appends};
 ghost use Rattle.om_resolved.specs.ResolvedView.{view_resolved_statement, view_resolved_update};
 ghost use Rattle.om_rows.specs.Coded.{AssignmentHasCode, UpdateHasCode};
-ghost use Rattle.om_rows.specs.Statements.{alone_row, assignment_row, update_row, barrier, worksharing_end};
+ghost use Rattle.om_rows.specs.Statements.{alone_row, assignment_row, barrier, update_row, worksharing_end};
 ghost use Rattle.om_statements.specs.Stretches.{EmitsAnywhere, EmitsJump};
 
 use crate::operator::{side_of, update_of};
-use crate::spot::JumpLabels;
 use om_code::Instr;
 use om_code::instruction::Barrier;
 use om_emit::draft::{Draft, Jump};
@@ -95,24 +94,8 @@ pub fn assignment(draft: &mut Draft, here: &Here<'_>, statement: &ResolvedStatem
     effect(draft, here, expression)
 }
 
-/// Writes a `break` (C17 6.8.6.3).
-pub fn leave_loop(draft: &mut Draft, line: u32, jumps: JumpLabels) -> Done
-    requires { is_some jumps.over ≡ true }
-    ensures { OnOk result (EmitsJump line jumps.over draft.old draft.new) }
-{
-    jump(draft, line, jumps.over)
-}
-
-/// Writes a `continue` (C17 6.8.6.2).
-pub fn go_on(draft: &mut Draft, line: u32, jumps: JumpLabels) -> Done
-    requires { is_some jumps.next ≡ true }
-    ensures { OnOk result (EmitsJump line jumps.next draft.old draft.new) }
-{
-    jump(draft, line, jumps.next)
-}
-
-/// Writes a jump to a label that is there (C17 6.8.6.2, 6.8.6.3).
-fn jump(draft: &mut Draft, line: u32, label: Option<usize>) -> Done
+/// Writes a `break` or a `continue`: a jump to a label that is there (C17 6.8.6.2, 6.8.6.3).
+pub fn jump(draft: &mut Draft, line: u32, label: Option<usize>) -> Done
     requires { is_some label ≡ true }
     ensures { OnOk result (EmitsJump line label draft.old draft.new) }
 {

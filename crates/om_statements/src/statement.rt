@@ -1,20 +1,20 @@
 //! The code of statements.
 
-ghost use Rattle.std.specs.Prelude.{◌≡◌, ◌≤◌, ◌+◌, ◌^◌, IfOk, OnOk, is_some, length, map};
+ghost use Rattle.std.specs.Prelude.{◌≡◌, ◌≤◌, ◌+◌, ◌^◌, IfOk, OnOk, length, map};
 ghost use Rattle.om_resolved.specs.ResolvedTree as trees;
 ghost use Rattle.om_resolved.specs.ResolvedView.{view_resolved_part, view_resolved_statement};
 ghost use Rattle.om_rows.specs.Bodies as rows;
-ghost use Rattle.om_rows.specs.Coded.{PartsHaveCode, StatementHasCode, StatementsHaveCode};
-ghost use Rattle.om_rows.specs.Scopes.{all_scopes, block, part_scopes, scopes};
-ghost use Rattle.om_statements.specs.Scoped.{EmitsScopes};
-ghost use Rattle.om_statements.specs.Emits.{EmitsStatement, EmitsStatements};
-ghost use Rattle.om_statements.specs.Parts.{AreFree, EmitsParts};
 ghost use Rattle.om_rows.specs.BodyTables.{numbered_by};
-ghost use Rattle.om_rows.specs.Ends.{HasAllEnds, HasEnds, HasPartsEnds};
+ghost use Rattle.om_rows.specs.Coded.{PartsHaveCode};
+ghost use Rattle.om_rows.specs.Ends.{HasPartsEnds};
 ghost use Rattle.om_rows.specs.Numbering.{numbers_of};
 ghost use Rattle.om_rows.specs.ProgramTables.{known_in};
+ghost use Rattle.om_rows.specs.Scopes.{all_scopes, block, part_scopes, scopes};
+ghost use Rattle.om_statements.specs.Parts.{AreFree, EmitsParts};
+ghost use Rattle.om_statements.specs.There.{EmitsAllThere, EmitsThere, GivesAllBehind, GivesBehind, HasCodeThere};
+ghost use Rattle.om_statements.specs.There.{HasEndsThere, HaveCodeThere, HaveEndsThere, ScopesThere, statement_trees};
 
-use crate::alone::{assignment, go_on, leave_loop, stand_alone, update};
+use crate::alone::{assignment, jump, stand_alone, update};
 use crate::construct::{begin_construct, end_construct};
 use crate::declaration::{declarators, returned};
 use crate::region::{parallel, task};
@@ -43,20 +43,12 @@ pub fn statement(
     spot: Spot,
     tree: &ResolvedStatement,
 ) -> Result<Numbers, AllocError>
-    requires code { StatementHasCode (is_some spot.jumps.over) (is_some spot.jumps.next)
-        (view_resolved_statement tree.now) }
-    requires ends { HasEnds (known_in tables.now) (numbers_of spot.numbers)
-        (view_resolved_statement tree.now) }
-    ensures behind { IfOk result
-        (λ after. numbers_of after ≡
-        rows.behind (numbers_of spot.numbers) (view_resolved_statement tree.now)) }
-    ensures emitted { let seen = view_resolved_statement tree.now in
-        OnOk result
-        (EmitsStatement (numbered_by tables.now) (numbers_of spot.numbers) seen spot.jumps
-        writing.old.draft writing.new.draft) }
-    ensures scopes { let seen = view_resolved_statement tree.now in
-        OnOk result
-        (EmitsScopes (numbered_by tables.now) (λ at. scopes at seen) writing.old writing.new) }
+    requires code { HasCodeThere spot tree.now }
+    requires ends { HasEndsThere tables.now spot tree.now }
+    ensures behind { GivesBehind result spot.numbers (view_resolved_statement tree.now) }
+    ensures emitted { EmitsThere result tables.now spot tree.now writing.old writing.new }
+    ensures scopes { let row = λ at. scopes at (view_resolved_statement tree.now) in
+        ScopesThere result tables.now row writing.old writing.new }
 {
     let numbers = spot.numbers;
     // Lent again, since each arm lends them for less long.
@@ -151,11 +143,11 @@ pub fn statement(
             Ok(numbers)
         }
         ResolvedStatement::Break(at) => {
-            leave_loop(&mut writing.draft, at.line, spot.jumps)?;
+            jump(&mut writing.draft, at.line, spot.jumps.over)?;
             Ok(numbers)
         }
         ResolvedStatement::Continue(at) => {
-            go_on(&mut writing.draft, at.line, spot.jumps)?;
+            jump(&mut writing.draft, at.line, spot.jumps.next)?;
             Ok(numbers)
         }
         ResolvedStatement::Parallel {
@@ -270,20 +262,12 @@ pub fn inner(
     spot: Spot,
     tree: &ResolvedStatement,
 ) -> Result<Numbers, AllocError>
-    requires code { StatementHasCode (is_some spot.jumps.over) (is_some spot.jumps.next)
-        (view_resolved_statement tree.now) }
-    requires ends { HasEnds (known_in tables.now) (numbers_of spot.numbers)
-        (view_resolved_statement tree.now) }
-    ensures behind { IfOk result
-        (λ after. numbers_of after ≡
-        rows.behind (numbers_of spot.numbers) (view_resolved_statement tree.now)) }
-    ensures emitted { let seen = view_resolved_statement tree.now in
-        OnOk result
-        (EmitsStatement (numbered_by tables.now) (numbers_of spot.numbers) seen spot.jumps
-        writing.old.draft writing.new.draft) }
-    ensures scopes { let seen = view_resolved_statement tree.now in
-        OnOk result
-        (EmitsScopes (numbered_by tables.now) (λ at. block (scopes at seen)) writing.old writing.new) }
+    requires code { HasCodeThere spot tree.now }
+    requires ends { HasEndsThere tables.now spot tree.now }
+    ensures behind { GivesBehind result spot.numbers (view_resolved_statement tree.now) }
+    ensures emitted { EmitsThere result tables.now spot tree.now writing.old writing.new }
+    ensures scopes { let row = λ at. block (scopes at (view_resolved_statement tree.now)) in
+        ScopesThere result tables.now row writing.old writing.new }
 {
     let height = writing.scopes.height();
     let after = statement(alloc, writing, tables, spot, tree)?;
@@ -301,19 +285,12 @@ pub fn statements(
     spot: Spot,
     items: &[ResolvedStatement],
 ) -> Result<Numbers, AllocError>
-    requires code { StatementsHaveCode (is_some spot.jumps.over) (is_some spot.jumps.next)
-        (trees.statements (map view_resolved_statement items.now)) }
-    requires ends { HasAllEnds (known_in tables.now) (numbers_of spot.numbers)
-        (trees.statements (map view_resolved_statement items.now)) }
-    ensures behind { let all = trees.statements (map view_resolved_statement items.now) in
-        IfOk result (λ after. numbers_of after ≡ rows.behind_all (numbers_of spot.numbers) all) }
-    ensures emitted { let all = trees.statements (map view_resolved_statement items.now) in
-        OnOk result
-        (EmitsStatements (numbered_by tables.now) (numbers_of spot.numbers) all spot.jumps
-        writing.old.draft writing.new.draft) }
-    ensures scopes { let all = trees.statements (map view_resolved_statement items.now) in
-        OnOk result
-        (EmitsScopes (numbered_by tables.now) (λ at. all_scopes at all) writing.old writing.new) }
+    requires code { HaveCodeThere spot items.now }
+    requires ends { HaveEndsThere tables.now spot items.now }
+    ensures behind { GivesAllBehind result spot items.now }
+    ensures emitted { EmitsAllThere result tables.now spot items.now writing.old writing.new }
+    ensures scopes { let row = λ at. all_scopes at (statement_trees items.now) in
+        ScopesThere result tables.now row writing.old writing.new }
 {
     let mut numbers = spot.numbers;
     for item in items {
@@ -345,9 +322,8 @@ pub fn parts(
         OnOk result
         (EmitsParts (numbered_by tables.now) (numbers_of spot.numbers) all spot writing.old.draft
         writing.new.draft) }
-    ensures scopes { let all = trees.parts (map view_resolved_part sections.now) in
-        OnOk result
-        (EmitsScopes (numbered_by tables.now) (λ at. part_scopes at all) writing.old writing.new) }
+    ensures scopes { let row = λ at. part_scopes at (trees.parts (map view_resolved_part sections.now)) in
+        ScopesThere result tables.now row writing.old writing.new }
 {
     let mut numbers = spot.numbers;
     for (index, section) in sections.iter().enumerate() {

@@ -2,6 +2,7 @@ use Rattle.std.specs.Prelude.{map}
 use Rattle.om_resolved.specs.ResolvedView.{view_resolved_clause, view_resolved_statement}
 use Rattle.om_rows.specs.BodyTables.{numbered_by}
 use Rattle.om_rows.specs.Numbering.{numbers_of}
+use Rattle.om_statements.proofs.Leaves.{emits_one}
 use Rattle.om_statements.proofs.Regions.{emits_parallel}
 use Rattle.om_statements.proofs.region.parallel.Goals as goal
 
@@ -11,4 +12,4 @@ returns-clause-emitted c = λ jumps.
     (map view_resolved_clause c.args.region.now.clauses.now) c.args.region.now.captures.now
     (view_resolved_statement c.args.region.now.statement.now) jumps _ _ _ _ _ _ c.in_ok-count.ensures.count
     c.in_ok-sized.ensures.sized c.in_ok-sized.ensures.emitted c.in_ok-count.ensures.emitted
-    (c.in_ok-fork.ensures (numbered_by c.args.tables.now))
+    (emits_one (numbered_by c.args.tables.now) _ _ _ _ c.in_ok-put.ensures)

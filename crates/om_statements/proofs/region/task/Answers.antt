@@ -2,6 +2,7 @@ use Rattle.std.specs.Prelude.{map}
 use Rattle.om_resolved.specs.ResolvedView.{view_resolved_clause, view_resolved_statement}
 use Rattle.om_rows.specs.BodyTables.{numbered_by}
 use Rattle.om_rows.specs.Numbering.{numbers_of}
+use Rattle.om_statements.proofs.Leaves.{emits_one}
 use Rattle.om_statements.proofs.Regions.{emits_task}
 use Rattle.om_statements.proofs.region.task.Goals as goal
 
@@ -10,4 +11,4 @@ returns-clause-emitted c = λ jumps.
     emits_task (numbered_by c.args.tables.now) (numbers_of c.args.numbers) c.args.region.now.at
     (map view_resolved_clause c.args.region.now.clauses.now) c.args.region.now.captures.now
     (view_resolved_statement c.args.region.now.statement.now) jumps _ _ _ _ c.in_ok-count.ensures.count
-    c.in_ok-count.ensures.emitted (c.in_ok-spawn.ensures (numbered_by c.args.tables.now))
+    c.in_ok-count.ensures.emitted (emits_one (numbered_by c.args.tables.now) _ _ _ _ c.in_ok-put.ensures)

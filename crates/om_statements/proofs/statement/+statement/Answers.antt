@@ -228,19 +228,19 @@ statement-returns-in_ok-end-in-For t c =
           c.in_ok-end-in-For.ensures);
     }
 
-pub statement-returns-in_ok-leave_loop-in-Break-clause-emitted :
-    goal.statement-returns-in_ok-leave_loop-in-Break-clause-emitted
-statement-returns-in_ok-leave_loop-in-Break-clause-emitted t c =
+pub statement-returns-in_ok-jump-in-Break-clause-emitted :
+    goal.statement-returns-in_ok-jump-in-Break-clause-emitted
+statement-returns-in_ok-jump-in-Break-clause-emitted t c =
     statement_is (numbered_by c.args.tables.now) (numbers_of c.args.spot.numbers) _ _ c.args.spot.jumps _ _
     (sym (ap view_resolved_statement c.in-Break.is ∙ view_break c.in-Break.at))
-    (with_none _ _ _ _ (c.in_ok-leave_loop-in-Break.ensures (numbered_by c.args.tables.now)))
+    (with_none _ _ _ _ (c.in_ok-jump-in-Break.ensures (numbered_by c.args.tables.now)))
 
-pub statement-returns-in_ok-go_on-in-Continue-clause-emitted :
-    goal.statement-returns-in_ok-go_on-in-Continue-clause-emitted
-statement-returns-in_ok-go_on-in-Continue-clause-emitted t c =
+pub statement-returns-in_ok-jump-in-Continue-clause-emitted :
+    goal.statement-returns-in_ok-jump-in-Continue-clause-emitted
+statement-returns-in_ok-jump-in-Continue-clause-emitted t c =
     statement_is (numbered_by c.args.tables.now) (numbers_of c.args.spot.numbers) _ _ c.args.spot.jumps _ _
     (sym (ap view_resolved_statement c.in-Continue.is ∙ view_continue c.in-Continue.at))
-    (with_none _ _ _ _ (c.in_ok-go_on-in-Continue.ensures (numbered_by c.args.tables.now)))
+    (with_none _ _ _ _ (c.in_ok-jump-in-Continue.ensures (numbered_by c.args.tables.now)))
 
 pub statement-returns-in_ok-stand_alone-in-StandAlone-clause-emitted :
     goal.statement-returns-in_ok-stand_alone-in-StandAlone-clause-emitted
@@ -589,19 +589,19 @@ statement-task-requires t c =
           c.in-Task.is c.deref-in-Task.ensures c.as_slice-in-Task.ensures.value c.requires.ends;
     }
 
-pub statement-returns-in_ok-leave_loop-in-Break-clause-scopes : goal.statement-returns-in_ok-leave_loop-in-Break-clause-scopes
-statement-returns-in_ok-leave_loop-in-Break-clause-scopes t c =
+pub statement-returns-in_ok-jump-in-Break-clause-scopes : goal.statement-returns-in_ok-jump-in-Break-clause-scopes
+statement-returns-in_ok-jump-in-Break-clause-scopes t c =
     scopes_are (numbered_by c.args.tables.now) _ _ _ _ _ _ (sym (ap view_resolved_statement c.in-Break.is ∙ view_break c.in-Break.at))
     (alone (numbered_by c.args.tables.now) (numbers_of c.args.spot.numbers)
     (trees.Break c.in-Break.at)
-    c.args.spot.jumps _ _ _ (c.in_ok-leave_loop-in-Break.ensures (numbered_by c.args.tables.now)).writes)
+    c.args.spot.jumps _ _ _ (c.in_ok-jump-in-Break.ensures (numbered_by c.args.tables.now)).writes)
 
-pub statement-returns-in_ok-go_on-in-Continue-clause-scopes : goal.statement-returns-in_ok-go_on-in-Continue-clause-scopes
-statement-returns-in_ok-go_on-in-Continue-clause-scopes t c =
+pub statement-returns-in_ok-jump-in-Continue-clause-scopes : goal.statement-returns-in_ok-jump-in-Continue-clause-scopes
+statement-returns-in_ok-jump-in-Continue-clause-scopes t c =
     scopes_are (numbered_by c.args.tables.now) _ _ _ _ _ _ (sym (ap view_resolved_statement c.in-Continue.is ∙ view_continue c.in-Continue.at))
     (alone (numbered_by c.args.tables.now) (numbers_of c.args.spot.numbers)
     (trees.Continue c.in-Continue.at)
-    c.args.spot.jumps _ _ _ (c.in_ok-go_on-in-Continue.ensures (numbered_by c.args.tables.now)).writes)
+    c.args.spot.jumps _ _ _ (c.in_ok-jump-in-Continue.ensures (numbered_by c.args.tables.now)).writes)
 
 pub statement-returns-in_ok-stand_alone-in-StandAlone-clause-scopes : goal.statement-returns-in_ok-stand_alone-in-StandAlone-clause-scopes
 statement-returns-in_ok-stand_alone-in-StandAlone-clause-scopes t c =
