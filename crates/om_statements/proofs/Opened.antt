@@ -8,8 +8,7 @@ use Rattle.om_code.specs.declared.instruction.Instr.TheVariants as i
 use Rattle.om_code.specs.declared.instruction.Comparison.{Comparison}
 use Rattle.om_statements.specs.declared.spot.LoopLabels.{LoopLabels}
 use Rattle.om_statements.specs.declared.spot.TurnLabels.{TurnLabels}
-use Rattle.om_statements.specs.declared.worksharing.Parts.{Parts}
-use Rattle.om_statements.specs.Stretches.{Opens, Begins, BeginsTurn, FreshTurn, bounds_row, do_begin, else_begin}
+use Rattle.om_statements.specs.Stretches.{Parts, Opens, Begins, BeginsTurn, FreshTurn, bounds_row, do_begin, else_begin}
 use Rattle.om_statements.specs.Stretches.{loop_end, sections_begin, worksharing_begin}
 use Rattle.om_statements.proofs.Leaves.{goes_less}
 use Rattle.om_emit.specs.Drafts.{Labels, Written, moved, Puts, Fresh, Defines}

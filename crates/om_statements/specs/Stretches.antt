@@ -5,7 +5,6 @@ use Rattle.om_code.specs.declared.instruction.Instr.TheVariants as i
 use Rattle.om_code.specs.declared.instruction.Comparison.{Comparison}
 use Rattle.om_statements.specs.declared.spot.LoopLabels.{LoopLabels}
 use Rattle.om_statements.specs.declared.spot.TurnLabels.{TurnLabels}
-use Rattle.om_statements.specs.declared.worksharing.Parts.{Parts}
 use Rattle.om_emit.specs.Drafts.{Written, Fresh}
 use Rattle.om_emit.specs.declared.here.Here.{Here}
 use Rattle.om_emit.specs.Emits.{Part, names_at, site, Goes, Emits, EmitsRow}
@@ -161,6 +160,11 @@ abbrev pub worksharing_begin : Numbered → ℕ → List ResolvedClauseTree → 
 worksharing_begin names l clauses loop labels done at = λ p q. (chunk : ℕ) ×
     given (comparison_of loop.comparison) (λ comparison. worksharing_rest names l clauses loop labels chunk
     comparison done at) p q
+
+-- the list of a PICK by its number in the program, and how many parts it has
+pub record Parts : Type 0 where
+  pub number : ℕ
+  pub count : ℕ
 
 -- starts, SECT n, G: GRAB E, PICK
 abbrev pub sections_begin : Numbered → ℕ → List ResolvedClauseTree → Parts → LoopLabels → Part

@@ -2,7 +2,7 @@
 
 ghost use Rattle.std.specs.Prelude.{◌≡◌};
 ghost use Rattle.om_resolved.specs.ResolvedView.{view_resolved_loop};
-ghost use Rattle.om_rows.specs.Operators.{comparison_of, form_with, identity_of, reduction_of, schedule_in, schedule_of, side_of, update_of};
+ghost use Rattle.om_rows.specs.Operators.{comparison_of, form_with, identity_of, reduction_of, schedule_in, side_of, update_of};
 
 use om_code::instruction::{AtomicOperator, Comparison, LoopForm, Reduction, Schedule};
 use om_pragma::{ReductionOperator, ScheduleKind};
@@ -85,20 +85,14 @@ fn schedule_in(kind: ScheduleKind, chunk: Option<u32>) -> Schedule
     }
 }
 
-/// The schedule of a loop.
-fn schedule_of(schedule: ResolvedSchedule) -> Schedule
-    ensures { result ≡ schedule_of schedule }
-{
-    schedule_in(schedule.kind, schedule.chunk)
-}
-
 /// What LOOP opens for a loop that compares so.
 pub(crate) fn form_with(repeated: &ResolvedLoop, comparison: Comparison) -> LoopForm
     ensures { result ≡ form_with (view_resolved_loop repeated.now) comparison }
 {
+    let ResolvedSchedule { kind, chunk } = repeated.schedule;
     LoopForm {
         comparison,
         step: repeated.step,
-        schedule: schedule_of(repeated.schedule),
+        schedule: schedule_in(kind, chunk),
     }
 }

@@ -1,14 +1,14 @@
 //! The begins and the ends of worksharing loops and of `sections`.
 
-ghost use Rattle.std.specs.Prelude.{map, ◌<◌, ◌≤◌, IfOk, length};
+ghost use Rattle.std.specs.Prelude.{◌<◌, ◌≤◌, IfOk, length, map};
 ghost use Rattle.om_emit.specs.Emits.{Appends, names_at};
 ghost use Rattle.om_resolved.specs.ResolvedView.{view_resolved_clause, view_resolved_loop};
 ghost use Rattle.om_rows.specs.Coded.{LoopHasCode};
-ghost use Rattle.om_rows.specs.Scopes.{bounds_scopes, loop_head, sections_head};
+ghost use Rattle.om_rows.specs.Scopes.{loop_head, sections_head};
 ghost use Rattle.om_rows.specs.Statements.{closes};
-ghost use Rattle.om_statements.specs.Scoped.{AppendsScopes};
-ghost use Rattle.om_statements.specs.Stretches.{AppendsHead, bounds_row, sections_begin, worksharing_begin};
 ghost use Rattle.om_statements.specs.Parts.{OpensParts, part_head};
+ghost use Rattle.om_statements.specs.Scoped.{AppendsScopes};
+ghost use Rattle.om_statements.specs.Stretches.{AppendsHead, worksharing_begin};
 
 use crate::alone::worksharing_end;
 use crate::clause::{reductions, starts};
@@ -21,117 +21,6 @@ use om_emit::{Done, Here, value};
 use om_resolved::{ResolvedClause, ResolvedLoop, ResolvedPart};
 use om_rows::Numbers;
 use std::alloc::{AllocError, Global};
-
-/// The list of a PICK, and how many parts it has.
-#[derive(Clone, Copy)]
-pub struct Parts {
-    /// The number of the list in the program.
-    pub number: u32,
-    /// How many parts there are.
-    pub count: u32,
-}
-
-/// Writes the bounds of a loop, on the line of its `for`, and what its copies begin with.
-fn bounds(
-    writing: &mut Writing,
-    here: &Here<'_>,
-    clauses: &[ResolvedClause],
-    repeated: &ResolvedLoop,
-) -> Done
-    requires { LoopHasCode (view_resolved_loop repeated.now) }
-    ensures code { Appends result here.now
-        (λ at l loop. bounds_row l (map view_resolved_clause clauses.now) loop at)
-        (view_resolved_loop repeated.now) writing.old.draft writing.new.draft }
-    ensures scopes { AppendsScopes result here.now
-        (λ at l. bounds_scopes at l (map view_resolved_clause clauses.now))
-        (view_resolved_loop repeated.now) writing.old writing.new }
-{
-    let at = repeated.at;
-    let tables = here.tables;
-    let head = Here { tables, at };
-    value(&mut writing.draft, &head, &repeated.from)?;
-    value(&mut writing.draft, &head, &repeated.to)?;
-    starts(writing, here, clauses)?;
-    Ok(())
-}
-
-/// Writes the begin of a worksharing loop (OpenMP API 5.2, section 11.5): chunks of iterations are
-/// taken, and each iteration puts its value into the loop's variable, which is in scope from there on.
-pub fn begin_worksharing(
-    writing: &mut Writing,
-    here: &Here<'_>,
-    clauses: &[ResolvedClause],
-    repeated: &ResolvedLoop,
-) -> Result<LoopLabels, AllocError>
-    requires { LoopHasCode (view_resolved_loop repeated.now) }
-    ensures code { AppendsHead result here.now
-        (λ names l. worksharing_begin names l (map view_resolved_clause clauses.now))
-        (view_resolved_loop repeated.now) writing.old.draft writing.new.draft }
-    ensures scopes { AppendsScopes result here.now
-        (λ at l. loop_head at l (map view_resolved_clause clauses.now))
-        (view_resolved_loop repeated.now) writing.old writing.new }
-{
-    let Some(comparison) = comparison_of(repeated.comparison) else {
-        unreachable!();
-    };
-    let line = here.at.line;
-    let chunk = writing.draft.fresh()?;
-    let again = writing.draft.fresh()?;
-    let over = writing.draft.fresh()?;
-    bounds(writing, here, clauses, repeated)?;
-    let from = writing.draft.place();
-    writing.scopes.begin(from, None, &repeated.variable)?;
-    let draft = &mut writing.draft;
-    draft.put(line, Instr::Loop(form_with(repeated, comparison)))?;
-    draft.define(chunk);
-    draft.put_jump(line, Jump::Grab, over)?;
-    draft.define(again);
-    let slot = here.tables.slot(&repeated.variable);
-    draft.put_jump(line, Jump::Iterate { slot }, chunk)?;
-    Ok(LoopLabels { again, over })
-}
-
-/// Writes the begin of `sections` (OpenMP API 5.2, section 11.3): a section is taken, and its part is
-/// gone to.
-pub fn begin_sections(
-    writing: &mut Writing,
-    here: &Here<'_>,
-    clauses: &[ResolvedClause],
-    parts: Parts,
-) -> Result<LoopLabels, AllocError>
-    ensures code { AppendsHead result here.now
-        (λ names l. sections_begin names l (map view_resolved_clause clauses.now)) parts
-        writing.old.draft writing.new.draft }
-    ensures scopes { AppendsScopes result here.now sections_head
-        (map view_resolved_clause clauses.now) writing.old writing.new }
-{
-    let line = here.at.line;
-    let again = writing.draft.fresh()?;
-    let over = writing.draft.fresh()?;
-    starts(writing, here, clauses)?;
-    let draft = &mut writing.draft;
-    draft.put(line, Instr::Sections(parts.count))?;
-    draft.define(again);
-    draft.put_jump(line, Jump::Grab, over)?;
-    draft.put(line, Instr::Pick(parts.number))?;
-    Ok(LoopLabels { again, over })
-}
-
-/// Writes what stands behind a worksharing loop or the parts of `sections`: the copies of reductions
-/// are combined, and all threads wait for each other, unless it is `nowait`.
-pub fn end_worksharing(
-    draft: &mut Draft,
-    here: &Here<'_>,
-    clauses: &[ResolvedClause],
-    nowait: bool,
-) -> Done
-    ensures { Appends result here.now (λ at l clauses. closes at l clauses nowait)
-        (map view_resolved_clause clauses.now) draft.old draft.new }
-{
-    reductions(draft, here, clauses)?;
-    worksharing_end(draft, here.at.line, nowait)?;
-    Ok(())
-}
 
 /// A `sections`, where it stands: the numbers of the next body and of its own list of PICK.
 #[derive(Clone, Copy)]
@@ -154,6 +43,65 @@ pub struct PartsSpot {
     pub first: usize,
 }
 
+/// Writes the begin of a worksharing loop (OpenMP API 5.2, section 11.5): chunks of iterations are
+/// taken, and each iteration puts its value into the loop's variable, which is in scope from there on.
+/// The bounds stand on the line of the `for`.
+pub fn begin_worksharing(
+    writing: &mut Writing,
+    here: &Here<'_>,
+    clauses: &[ResolvedClause],
+    repeated: &ResolvedLoop,
+) -> Result<LoopLabels, AllocError>
+    requires { LoopHasCode (view_resolved_loop repeated.now) }
+    ensures code { AppendsHead result here.now
+        (λ names l. worksharing_begin names l (map view_resolved_clause clauses.now))
+        (view_resolved_loop repeated.now) writing.old.draft writing.new.draft }
+    ensures scopes { AppendsScopes result here.now
+        (λ at l. loop_head at l (map view_resolved_clause clauses.now))
+        (view_resolved_loop repeated.now) writing.old writing.new }
+{
+    let Some(comparison) = comparison_of(repeated.comparison) else {
+        unreachable!();
+    };
+    let line = here.at.line;
+    let chunk = writing.draft.fresh()?;
+    let again = writing.draft.fresh()?;
+    let over = writing.draft.fresh()?;
+    let bounds = Here {
+        tables: here.tables,
+        at: repeated.at,
+    };
+    value(&mut writing.draft, &bounds, &repeated.from)?;
+    value(&mut writing.draft, &bounds, &repeated.to)?;
+    starts(writing, here, clauses)?;
+    let from = writing.draft.place();
+    writing.scopes.begin(from, None, &repeated.variable)?;
+    let draft = &mut writing.draft;
+    draft.put(line, Instr::Loop(form_with(repeated, comparison)))?;
+    draft.define(chunk);
+    draft.put_jump(line, Jump::Grab, over)?;
+    draft.define(again);
+    let slot = here.tables.slot(&repeated.variable);
+    draft.put_jump(line, Jump::Iterate { slot }, chunk)?;
+    Ok(LoopLabels { again, over })
+}
+
+/// Writes what stands behind a worksharing loop or the parts of `sections`: the copies of reductions
+/// are combined, and all threads wait for each other, unless it is `nowait`.
+pub fn end_worksharing(
+    draft: &mut Draft,
+    here: &Here<'_>,
+    clauses: &[ResolvedClause],
+    nowait: bool,
+) -> Done
+    ensures { Appends result here.now (λ at l clauses. closes at l clauses nowait)
+        (map view_resolved_clause clauses.now) draft.old draft.new }
+{
+    reductions(draft, here, clauses)?;
+    worksharing_end(draft, here.at.line, nowait)?;
+    Ok(())
+}
+
 /// Writes what stands before the parts of a `sections` (OpenMP API 5.2, section 11.3), and makes the
 /// labels at which they begin.
 pub fn begin_parts(
@@ -172,17 +120,24 @@ pub fn begin_parts(
     ensures scopes { AppendsScopes result here.now sections_head
         (map view_resolved_clause head.now.clauses.now) writing.old writing.new }
 {
-    let count = parts.len() as u32;
+    let line = here.at.line;
     let number = head.numbers.picks;
-    let list = Parts { number, count };
-    let labels = begin_sections(writing, here, head.clauses, list)?;
-    let first = writing.draft.fresh_list(alloc, number, count)?;
+    let count = parts.len() as u32;
+    let again = writing.draft.fresh()?;
+    let over = writing.draft.fresh()?;
+    starts(writing, here, head.clauses)?;
+    let draft = &mut writing.draft;
+    draft.put(line, Instr::Sections(count))?;
+    draft.define(again);
+    draft.put_jump(line, Jump::Grab, over)?;
+    draft.put(line, Instr::Pick(number))?;
+    let first = draft.fresh_list(alloc, number, count)?;
     let numbers = head.numbers.next_pick();
     Ok(PartsSpot {
-        line: here.at.line,
+        line,
         numbers,
-        again: labels.again,
-        over: labels.over,
+        again,
+        over,
         first,
     })
 }
