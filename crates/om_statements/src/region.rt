@@ -88,9 +88,10 @@ fn load_given(
     requires few { length variables.now ≤ 256 }
     ensures few { IfOk result (λ count. count ≤ 256) }
     ensures count { IfOk result (λ count. count ≡ length (given_to region.now)) }
-    ensures emitted { let row = λ at. each (rows.load_original at region.now.at.line) in
+    ensures emitted { let given = given_to region.now in
         OnOk result
-        (EmitsRow (numbered_by tables.now) (λ at. row at (given_to region.now)) draft.old draft.new) }
+        (EmitsRow (numbered_by tables.now)
+        (λ at. each (rows.load_original at region.now.at.line) given) draft.old draft.new) }
 {
     let copies = given_copies(alloc, region.clauses, region.captures, variables)?;
     let at = region.at;

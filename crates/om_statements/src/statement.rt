@@ -47,8 +47,8 @@ pub fn statement(
     requires ends { HasEndsThere tables.now spot tree.now }
     ensures behind { GivesBehind result spot.numbers (view_resolved_statement tree.now) }
     ensures emitted { EmitsThere result tables.now spot tree.now writing.old writing.new }
-    ensures scopes { let row = λ at. scopes at (view_resolved_statement tree.now) in
-        ScopesThere result tables.now row writing.old writing.new }
+    ensures scopes { let seen = view_resolved_statement tree.now in
+        ScopesThere result tables.now (λ at. scopes at seen) writing.old writing.new }
 {
     let numbers = spot.numbers;
     // Lent again, since each arm lends them for less long.
@@ -266,8 +266,8 @@ pub fn inner(
     requires ends { HasEndsThere tables.now spot tree.now }
     ensures behind { GivesBehind result spot.numbers (view_resolved_statement tree.now) }
     ensures emitted { EmitsThere result tables.now spot tree.now writing.old writing.new }
-    ensures scopes { let row = λ at. block (scopes at (view_resolved_statement tree.now)) in
-        ScopesThere result tables.now row writing.old writing.new }
+    ensures scopes { let seen = view_resolved_statement tree.now in
+        ScopesThere result tables.now (λ at. block (scopes at seen)) writing.old writing.new }
 {
     let height = writing.scopes.height();
     let after = statement(alloc, writing, tables, spot, tree)?;
@@ -289,8 +289,8 @@ pub fn statements(
     requires ends { HaveEndsThere tables.now spot items.now }
     ensures behind { GivesAllBehind result spot items.now }
     ensures emitted { EmitsAllThere result tables.now spot items.now writing.old writing.new }
-    ensures scopes { let row = λ at. all_scopes at (statement_trees items.now) in
-        ScopesThere result tables.now row writing.old writing.new }
+    ensures scopes { let all = statement_trees items.now in
+        ScopesThere result tables.now (λ at. all_scopes at all) writing.old writing.new }
 {
     let mut numbers = spot.numbers;
     for item in items {
@@ -322,8 +322,8 @@ pub fn parts(
         OnOk result
         (EmitsParts (numbered_by tables.now) (numbers_of spot.numbers) all spot writing.old.draft
         writing.new.draft) }
-    ensures scopes { let row = λ at. part_scopes at (trees.parts (map view_resolved_part sections.now)) in
-        ScopesThere result tables.now row writing.old writing.new }
+    ensures scopes { let all = trees.parts (map view_resolved_part sections.now) in
+        ScopesThere result tables.now (λ at. part_scopes at all) writing.old writing.new }
 {
     let mut numbers = spot.numbers;
     for (index, section) in sections.iter().enumerate() {

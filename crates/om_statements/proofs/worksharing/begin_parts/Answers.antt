@@ -2,6 +2,7 @@ use Rattle.std.proofs.Common.{length, refl, map}
 use Rattle.om_resolved.specs.ResolvedView.{view_resolved_clause}
 use Rattle.om_statements.proofs.Opened.{begins_sections}
 use Rattle.om_statements.proofs.SectionsRow.{opens_parts}
+use Rattle.om_statements.specs.declared.spot.LoopLabels.{LoopLabels}
 use Rattle.om_statements.specs.Parts.{part_head}
 use Rattle.om_emit.specs.Emits.{names_at}
 use Rattle.om_rows.specs.Scopes.{sections_head}
@@ -12,7 +13,7 @@ use Rattle.om_statements.proofs.worksharing.begin_parts.Goals as goal
 pub returns-clause-code : goal.returns-clause-code
 returns-clause-code c =
     let clauses = map view_resolved_clause c.args.head.now.clauses.now in
-    let labels = record { again = c.in_ok-again.again; over = c.in_ok-over.over } in
+    let labels : LoopLabels = record { again = c.in_ok-again.again; over = c.in_ok-over.over } in
     opens_parts (names_at c.args.here.now) (part_head c.args.here.now.at.line c.args.head.now.numbers clauses
     (length c.args.parts.now)) labels _ _ _ _ refl refl refl c.next_pick-numbers.ensures
     (begins_sections (names_at c.args.here.now) _ _ _ labels _ _ _ _ _ _ _ _ c.in_ok-again.ensures
