@@ -15,8 +15,7 @@ use crate::writing::Writing;
 use om_code::Instr;
 use om_emit::draft::{Draft, Jump};
 use om_emit::{Done, Here, value};
-use om_resolved::{ConstructKind, ResolvedClause};
-use std::alloc::AllocError;
+use om_resolved::{ConstructKind, Made, ResolvedClause};
 
 /// Writes the thread number that a `masked` asks for: 0 where no clause says another (OpenMP API 5.2,
 /// section 10.5.1).
@@ -41,7 +40,7 @@ pub fn begin_construct(
     here: &Here<'_>,
     kind: &ConstructKind,
     clauses: &[ResolvedClause],
-) -> Result<usize, AllocError>
+) -> Made<usize>
     requires { BeginHasCode kind.now (map view_resolved_clause clauses.now) }
     ensures code { let begin = construct_begin (names_at here.now) here.now.at.line kind.now
         (map view_resolved_clause clauses.now) in

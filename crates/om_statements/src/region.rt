@@ -16,9 +16,9 @@ use crate::clause::clause_value;
 use om_code::Instr;
 use om_emit::draft::Draft;
 use om_emit::{Done, Here, value};
-use om_resolved::ResolvedClause;
+use om_resolved::{Made, ResolvedClause};
 use om_rows::{BodyTables, FirstCopy, Numbers, Region, Variables, given_copies};
-use std::alloc::{AllocError, Global};
+use std::alloc::Global;
 
 /// Writes what stands in the place of a `parallel`, and gives the numbers behind it. Its body gets
 /// the number of the next one.
@@ -28,7 +28,7 @@ pub(crate) fn parallel(
     tables: &BodyTables<'_>,
     numbers: Numbers,
     region: &Region<'_>,
-) -> Result<Numbers, AllocError>
+) -> Made<Numbers>
     requires code { IfSome (rows.clause_value (clauses_of region.now)) ValueHasCode }
     requires known { IsKnownThere tables.now numbers region.now }
     ensures behind { GivesBehind result numbers (parallel_of region.now) }
@@ -61,7 +61,7 @@ pub(crate) fn task(
     tables: &BodyTables<'_>,
     numbers: Numbers,
     region: &Region<'_>,
-) -> Result<Numbers, AllocError>
+) -> Made<Numbers>
     requires known { IsKnownThere tables.now numbers region.now }
     ensures behind { GivesBehind result numbers (task_of region.now) }
     ensures emitted { EmitsRegion result tables.now numbers (task_of region.now) draft.old draft.new }
@@ -83,7 +83,7 @@ fn load_given(
     tables: &BodyTables<'_>,
     region: &Region<'_>,
     variables: &Variables,
-) -> Result<usize, AllocError>
+) -> Made<usize>
     requires variables { variables.now ≡ slots_of region.now }
     requires few { length variables.now ≤ 256 }
     ensures few { IfOk result (λ count. count ≤ 256) }
@@ -101,11 +101,7 @@ fn load_given(
 
 /// Writes the size that a `parallel` asks for, if one of its clauses does (OpenMP API 5.2, section
 /// 10.1.2), and says whether one does.
-fn team_size(
-    draft: &mut Draft,
-    here: &Here<'_>,
-    clauses: &[ResolvedClause],
-) -> Result<bool, AllocError>
+fn team_size(draft: &mut Draft, here: &Here<'_>, clauses: &[ResolvedClause]) -> Made<bool>
     requires { IfSome (rows.clause_value (map view_resolved_clause clauses.now)) ValueHasCode }
     ensures sized { IfOk result
         (λ sized. sized ≡ is_some (rows.clause_value (map view_resolved_clause clauses.now))) }

@@ -14,15 +14,14 @@ use crate::spot::{LoopLabels, TurnLabels};
 use crate::writing::Writing;
 use om_emit::draft::{Draft, Jump};
 use om_emit::{Done, Here};
-use om_resolved::{ResolvedExpression, ResolvedStart};
-use std::alloc::AllocError;
+use om_resolved::{Made, ResolvedExpression, ResolvedStart};
 
 /// Writes the head of a `while` (C17 6.8.5.1).
 pub fn begin_while(
     draft: &mut Draft,
     here: &Here<'_>,
     condition: &ResolvedExpression,
-) -> Result<LoopLabels, AllocError>
+) -> Made<LoopLabels>
     requires { ValueHasCode (view_resolved_expression condition.now) }
     ensures { AppendsHead result here.now while_begin (view_resolved_expression condition.now)
         draft.old draft.new }
@@ -46,7 +45,7 @@ pub fn end_loop(draft: &mut Draft, line: u32, labels: LoopLabels) -> Done
 }
 
 /// Makes the labels of a loop in which `continue` does not go to its begin.
-fn turn_labels(draft: &mut Draft) -> Result<TurnLabels, AllocError>
+fn turn_labels(draft: &mut Draft) -> Made<TurnLabels>
     ensures { IfOk result (λ labels. FreshTurn labels draft.old draft.new) }
 {
     let again = draft.fresh()?;
@@ -56,7 +55,7 @@ fn turn_labels(draft: &mut Draft) -> Result<TurnLabels, AllocError>
 }
 
 /// Writes the head of a `do` (C17 6.8.5.2).
-pub fn begin_do(draft: &mut Draft) -> Result<TurnLabels, AllocError>
+pub fn begin_do(draft: &mut Draft) -> Made<TurnLabels>
     ensures { IfOk result (λ labels. BeginsTurn labels (do_begin labels) draft.old draft.new) }
 {
     let labels = turn_labels(draft)?;
@@ -91,7 +90,7 @@ pub fn begin_for(
     here: &Here<'_>,
     begin: &ResolvedStart,
     condition: &Option<ResolvedExpression>,
-) -> Result<TurnLabels, AllocError>
+) -> Made<TurnLabels>
     requires start { StartHasCode (view_resolved_start begin.now) }
     requires condition { IfSome (option_map view_resolved_expression condition.now) ValueHasCode }
     ensures code { let stretch = for_begin (names_at here.now) here.now.at.line
@@ -131,11 +130,7 @@ pub fn end_for(
 }
 
 /// Writes the head of an `if` (C17 6.8.4.1). The label is to be placed behind what it guards.
-pub fn begin_if(
-    draft: &mut Draft,
-    here: &Here<'_>,
-    condition: &ResolvedExpression,
-) -> Result<usize, AllocError>
+pub fn begin_if(draft: &mut Draft, here: &Here<'_>, condition: &ResolvedExpression) -> Made<usize>
     requires { ValueHasCode (view_resolved_expression condition.now) }
     ensures { let tree = view_resolved_expression condition.now in
         IfOk result (λ label. Begins label (test_at (names_at here.now) here.now.at.line label tree)
@@ -148,7 +143,7 @@ pub fn begin_if(
 
 /// Writes what stands between the two statements of an `if` with `else`: the first goes on behind the
 /// second, which begins at the head's label. The new label is to be placed behind the second.
-pub fn begin_else(draft: &mut Draft, line: u32, head: usize) -> Result<usize, AllocError>
+pub fn begin_else(draft: &mut Draft, line: u32, head: usize) -> Made<usize>
     requires { slice_get draft.old.places head ≡ Some None }
     ensures { IfOk result (λ label. (names : Numbered) →
         Opens head label (else_begin names line head label) draft.old draft.new) }

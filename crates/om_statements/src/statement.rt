@@ -28,9 +28,9 @@ use crate::worksharing::{
 use crate::writing::Writing;
 use om_emit::draft::Jump;
 use om_emit::{Here, effect};
-use om_resolved::{ConstructKind, ResolvedHead, ResolvedPart, ResolvedStatement};
+use om_resolved::{ConstructKind, Made, ResolvedHead, ResolvedPart, ResolvedStatement};
 use om_rows::{BodyTables, Numbers, Region};
-use std::alloc::{AllocError, Global};
+use std::alloc::Global;
 
 /// Writes the code of a statement, and gives the numbers behind it.
 ///
@@ -42,7 +42,7 @@ pub fn statement(
     tables: &BodyTables<'_>,
     spot: Spot,
     tree: &ResolvedStatement,
-) -> Result<Numbers, AllocError>
+) -> Made<Numbers>
     requires code { HasCodeThere spot tree.now }
     requires ends { HasEndsThere tables.now spot tree.now }
     ensures behind { GivesBehind result spot.numbers (view_resolved_statement tree.now) }
@@ -261,7 +261,7 @@ pub fn inner(
     tables: &BodyTables<'_>,
     spot: Spot,
     tree: &ResolvedStatement,
-) -> Result<Numbers, AllocError>
+) -> Made<Numbers>
     requires code { HasCodeThere spot tree.now }
     requires ends { HasEndsThere tables.now spot tree.now }
     ensures behind { GivesBehind result spot.numbers (view_resolved_statement tree.now) }
@@ -284,7 +284,7 @@ pub fn statements(
     tables: &BodyTables<'_>,
     spot: Spot,
     items: &[ResolvedStatement],
-) -> Result<Numbers, AllocError>
+) -> Made<Numbers>
     requires code { HaveCodeThere spot items.now }
     requires ends { HaveEndsThere tables.now spot items.now }
     ensures behind { GivesAllBehind result spot items.now }
@@ -310,7 +310,7 @@ pub fn parts(
     tables: &BodyTables<'_>,
     spot: PartsSpot,
     sections: &[ResolvedPart],
-) -> Result<Numbers, AllocError>
+) -> Made<Numbers>
     requires code { PartsHaveCode (trees.parts (map view_resolved_part sections.now)) }
     requires ends { HasPartsEnds (known_in tables.now) (numbers_of spot.numbers)
         (trees.parts (map view_resolved_part sections.now)) }

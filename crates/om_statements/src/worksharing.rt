@@ -18,9 +18,9 @@ use crate::writing::Writing;
 use om_code::Instr;
 use om_emit::draft::{Draft, Jump};
 use om_emit::{Done, Here, value};
-use om_resolved::{ResolvedClause, ResolvedLoop, ResolvedPart};
+use om_resolved::{Made, ResolvedClause, ResolvedLoop, ResolvedPart};
 use om_rows::Numbers;
-use std::alloc::{AllocError, Global};
+use std::alloc::Global;
 
 /// A `sections`, where it stands: the numbers of the next body and of its own list of PICK.
 #[derive(Clone, Copy)]
@@ -51,7 +51,7 @@ pub fn begin_worksharing(
     here: &Here<'_>,
     clauses: &[ResolvedClause],
     repeated: &ResolvedLoop,
-) -> Result<LoopLabels, AllocError>
+) -> Made<LoopLabels>
     requires { LoopHasCode (view_resolved_loop repeated.now) }
     ensures code { AppendsHead result here.now
         (λ names l. worksharing_begin names l (map view_resolved_clause clauses.now))
@@ -110,7 +110,7 @@ pub fn begin_parts(
     here: &Here<'_>,
     head: &SectionsHead<'_>,
     parts: &[ResolvedPart],
-) -> Result<PartsSpot, AllocError>
+) -> Made<PartsSpot>
     requires few { length parts.now ≤ 256 }
     requires numbered { head.now.numbers.picks < 4294967295 }
     ensures code { let begin = part_head here.now.at.line head.now.numbers

@@ -5,11 +5,12 @@ ghost use Rattle.om_emit.specs.Drafts.{nothing};
 ghost use Rattle.om_rows.specs.Scopes.{closed_at};
 ghost use Rattle.om_statements.specs.Scoped.{BeginsScope, EndsLast, EndsScopes};
 
+use om_emit::Done;
 use om_emit::draft::Draft;
 use om_resolved::LocalVariable;
 use om_rows::VariableScope;
 use om_seq::Seq;
-use std::alloc::{AllocError, Global};
+use std::alloc::Global;
 
 /// A body, as far as it is written.
 #[derive(Drop)]
@@ -55,12 +56,7 @@ impl ScopeStack {
     }
 
     /// Begins the scope of a variable at this place. Its only error is out of memory.
-    pub fn begin(
-        &mut self,
-        from: usize,
-        length: Option<u32>,
-        variable: &LocalVariable,
-    ) -> Result<(), AllocError>
+    pub fn begin(&mut self, from: usize, length: Option<u32>, variable: &LocalVariable) -> Done
         ensures { OnOk result (BeginsScope from length variable.now self.old self.new) }
     {
         let name = Seq::of(Vec::from_slice(self.alloc, variable.name.as_slice())?);
@@ -76,7 +72,7 @@ impl ScopeStack {
 
     /// Ends all scopes but the first `height` of those that have begun, the last one first, at this
     /// place. Its only error is out of memory.
-    pub fn end(&mut self, height: usize, to: usize) -> Result<(), AllocError>
+    pub fn end(&mut self, height: usize, to: usize) -> Done
         ensures { OnOk result
             (height ≤ length self.old.opened.items → EndsScopes height to self.old self.new) }
     {
@@ -87,7 +83,7 @@ impl ScopeStack {
     }
 
     /// Ends the last scope that has begun, if there is one.
-    fn end_last(&mut self, to: usize) -> Result<(), AllocError>
+    fn end_last(&mut self, to: usize) -> Done
         ensures { OnOk result (0 < length self.old.opened.items → EndsLast to self.old self.new) }
     {
         let Some(opened) = self.opened.pop() else {
