@@ -5,3 +5,4 @@ pub mod Going
 pub mod Scoped
 pub mod Scoping
 pub mod There
+pub mod Words

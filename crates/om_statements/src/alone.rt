@@ -1,11 +1,9 @@
 //! Barriers, directives that stand alone, `atomic`, and jumps out of a loop's body.
 
 ghost use Rattle.std.specs.Prelude.{◌≡◌, OnOk, is_some, true};
-ghost use Rattle.om_emit.specs.Emits.{Appends};
-ghost use Rattle.om_resolved.specs.ResolvedView.{view_resolved_statement, view_resolved_update};
-ghost use Rattle.om_rows.specs.Coded.{AssignmentHasCode, UpdateHasCode};
-ghost use Rattle.om_rows.specs.Statements.{alone_row, assignment_row, barrier, update_row, worksharing_end};
-ghost use Rattle.om_statements.specs.Stretches.{EmitsAnywhere, EmitsJump};
+ghost use Rattle.om_statements.specs.Words.{Appends, AssignmentHasCode, EmitsAnywhere, EmitsJump, UpdateHasCode};
+ghost use Rattle.om_statements.specs.Words.{alone_row, assignment_row, barrier, update_row};
+ghost use Rattle.om_statements.specs.Words.{view_resolved_statement, view_resolved_update, worksharing_end};
 
 use crate::operator::{side_of, update_of};
 use om_code::Instr;

@@ -1,14 +1,11 @@
 //! What clauses make of their copies.
 
 ghost use Rattle.std.specs.Prelude.{◌≡◌, OnOk, map, option_map};
-ghost use Rattle.om_emit.specs.Drafts.{Written};
-ghost use Rattle.om_emit.specs.Emits.{Appends};
-ghost use Rattle.om_resolved.specs.ResolvedView.{view_resolved_clause, view_resolved_expression};
-ghost use Rattle.om_rows.specs.Numbered.{Numbered};
-ghost use Rattle.om_rows.specs.Scopes.{clause_scope, each_scope, parameter_scope, task_scope, team_scope};
+ghost use Rattle.om_statements.specs.Words.{Appends, AppendsScopes, BeginsCopy, Numbered, ScopesStand, Written};
+ghost use Rattle.om_statements.specs.Words.{clause_scope, each_scope, identity_start, original_start};
+ghost use Rattle.om_statements.specs.Words.{parameter_scope, task_scope, team_from, team_scope};
+ghost use Rattle.om_statements.specs.Words.{view_resolved_clause, view_resolved_expression};
 ghost use Rattle.om_rows.specs.Statements as rows;
-ghost use Rattle.om_statements.specs.Scoped.{AppendsScopes, BeginsCopy, ScopesStand, team_from};
-ghost use Rattle.om_statements.specs.Stretches.{identity_start, original_start};
 
 use crate::operator::{identity_of, reduction_of};
 use crate::writing::{ScopeStack, Writing};

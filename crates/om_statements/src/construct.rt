@@ -1,13 +1,10 @@
 //! The begins and the ends of constructs round a statement.
 
 ghost use Rattle.std.specs.Prelude.{◌≡◌, IfOk, IfSome, None, Some, map, slice_get};
-ghost use Rattle.om_emit.specs.Emits.{Appends, names_at};
-ghost use Rattle.om_resolved.specs.ResolvedView.{view_resolved_clause};
-ghost use Rattle.om_rows.specs.Coded.{ValueHasCode};
-ghost use Rattle.om_rows.specs.Scopes.{construct_head};
+ghost use Rattle.om_statements.specs.Words.{Appends, AppendsEnd, AppendsScopes, BeginHasCode, Begins, IsNoAtomic};
+ghost use Rattle.om_statements.specs.Words.{ValueHasCode, construct_begin, construct_end, construct_head};
+ghost use Rattle.om_statements.specs.Words.{names_at, view_resolved_clause};
 ghost use Rattle.om_rows.specs.Statements as rows;
-ghost use Rattle.om_statements.specs.Scoped.{AppendsScopes};
-ghost use Rattle.om_statements.specs.Stretches.{AppendsEnd, BeginHasCode, Begins, IsNoAtomic, construct_begin, construct_end};
 
 use crate::alone::worksharing_end;
 use crate::clause::{clause_value, starts};

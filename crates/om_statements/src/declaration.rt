@@ -1,16 +1,12 @@
 //! Declarations, tests, and what leaves a function.
 
 ghost use Rattle.std.specs.Prelude.{◌≡◌, All, IfSome, OnOk, map, option_map};
-ghost use Rattle.om_emit.specs.Drafts.{HasNoTarget};
-ghost use Rattle.om_emit.specs.Emits.{Appends, names_at};
-ghost use Rattle.om_resolved.specs.ResolvedView.{view_resolved_declarator, view_resolved_expression, view_resolved_start};
-ghost use Rattle.om_rows.specs.Coded.{DeclaratorHasCode, EffectHasCode, StartHasCode, ValueHasCode};
-ghost use Rattle.om_rows.specs.Expressions.{effect};
-ghost use Rattle.om_rows.specs.Rows.{each, perhaps};
-ghost use Rattle.om_rows.specs.Scopes.{declarator_scope, each_scope, start_scopes};
+ghost use Rattle.om_statements.specs.Words.{Appends, AppendsScopes, DeclaratorHasCode, EffectHasCode};
+ghost use Rattle.om_statements.specs.Words.{EmitsPerhapsTest, EmitsTest, HasNoTarget, StartHasCode, ValueHasCode};
+ghost use Rattle.om_statements.specs.Words.{declarator_scope, each, each_scope, effect, names_at, perhaps};
+ghost use Rattle.om_statements.specs.Words.{start_scopes, view_resolved_declarator, view_resolved_expression};
+ghost use Rattle.om_statements.specs.Words.{view_resolved_start};
 ghost use Rattle.om_rows.specs.Statements as rows;
-ghost use Rattle.om_statements.specs.Scoped.{AppendsScopes};
-ghost use Rattle.om_statements.specs.Stretches.{EmitsPerhapsTest, EmitsTest};
 
 use crate::writing::Writing;
 use om_code::Instr;

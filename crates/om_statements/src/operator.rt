@@ -1,8 +1,8 @@
 //! The operators, comparisons and schedules of the language as those of instructions.
 
 ghost use Rattle.std.specs.Prelude.{◌≡◌};
-ghost use Rattle.om_resolved.specs.ResolvedView.{view_resolved_loop};
-ghost use Rattle.om_rows.specs.Operators.{comparison_of, form_with, identity_of, reduction_of, schedule_in, side_of, update_of};
+ghost use Rattle.om_statements.specs.Words.{comparison_of, form_with, identity_of, reduction_of, schedule_in};
+ghost use Rattle.om_statements.specs.Words.{side_of, update_of, view_resolved_loop};
 
 use om_code::instruction::{AtomicOperator, Comparison, LoopForm, Reduction, Schedule};
 use om_pragma::{ReductionOperator, ScheduleKind};

@@ -1,16 +1,12 @@
 //! A `parallel` and a `task`, in the body that meets them. Their own bodies stand by themselves.
 
 ghost use Rattle.std.specs.Prelude.{◌≡◌, ◌≤◌, IfOk, IfSome, OnOk, is_some, length, map};
-ghost use Rattle.om_emit.specs.Emits.{Appends, EmitsRow};
-ghost use Rattle.om_resolved.specs.ResolvedView.{view_resolved_clause};
-ghost use Rattle.om_rows.specs.BodyTables.{numbered_by};
-ghost use Rattle.om_rows.specs.Coded.{ValueHasCode};
-ghost use Rattle.om_rows.specs.Copies.{first_copies_of};
+ghost use Rattle.om_statements.specs.Words.{Appends, EmitsRegion, EmitsRow, GivesBehind, IsKnownThere};
+ghost use Rattle.om_statements.specs.Words.{ValueHasCode, clauses_of, each, first_copies_of, given_to};
+ghost use Rattle.om_statements.specs.Words.{numbered_by, parallel_of, perhaps, slots_of, task_of};
+ghost use Rattle.om_statements.specs.Words.{view_resolved_clause};
 ghost use Rattle.om_rows.specs.Expressions as expressions;
-ghost use Rattle.om_rows.specs.Rows.{each, perhaps};
 ghost use Rattle.om_rows.specs.Statements as rows;
-ghost use Rattle.om_statements.specs.There.{EmitsRegion, GivesBehind, IsKnownThere, clauses_of, given_to};
-ghost use Rattle.om_statements.specs.There.{parallel_of, slots_of, task_of};
 
 use crate::clause::clause_value;
 use om_code::Instr;

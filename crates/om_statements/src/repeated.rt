@@ -1,13 +1,11 @@
 //! The heads and the ends of `if`, `while`, `do` and `for`.
 
 ghost use Rattle.std.specs.Prelude.{◌≡◌, ◌<◌, IfOk, IfSome, None, OnOk, Some, option_map, slice_get};
-ghost use Rattle.om_emit.specs.Emits.{names_at};
-ghost use Rattle.om_resolved.specs.ResolvedView.{view_resolved_expression, view_resolved_start};
-ghost use Rattle.om_rows.specs.Coded.{EffectHasCode, StartHasCode, ValueHasCode};
-ghost use Rattle.om_rows.specs.Numbered.{Numbered};
-ghost use Rattle.om_rows.specs.Scopes.{for_head};
-ghost use Rattle.om_statements.specs.Scoped.{AppendsScopes};
-ghost use Rattle.om_statements.specs.Stretches.{AppendsEnd, AppendsHead, BeginsTurn, Ends, FreshTurn, do_begin, do_end, for_begin, for_end, loop_end, while_begin, Begins, Opens, else_begin, test_at};
+ghost use Rattle.om_statements.specs.Words.{AppendsEnd, AppendsHead, AppendsScopes, Begins, BeginsTurn};
+ghost use Rattle.om_statements.specs.Words.{EffectHasCode, Ends, FreshTurn, Numbered, Opens, StartHasCode};
+ghost use Rattle.om_statements.specs.Words.{ValueHasCode, do_begin, do_end, else_begin, for_begin, for_end};
+ghost use Rattle.om_statements.specs.Words.{for_head, loop_end, names_at, test_at, view_resolved_expression};
+ghost use Rattle.om_statements.specs.Words.{view_resolved_start, while_begin};
 
 use crate::declaration::{perhaps_effect, perhaps_test, start, test};
 use crate::spot::{LoopLabels, TurnLabels};

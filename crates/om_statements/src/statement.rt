@@ -1,18 +1,13 @@
 //! The code of statements.
 
 ghost use Rattle.std.specs.Prelude.{◌≡◌, ◌≤◌, ◌+◌, ◌^◌, IfOk, OnOk, length, map};
+ghost use Rattle.om_statements.specs.Words.{AreFree, EmitsAllThere, EmitsParts, EmitsThere, GivesAllBehind};
+ghost use Rattle.om_statements.specs.Words.{GivesBehind, HasCodeThere, HasEndsThere, HasPartsEnds, HaveCodeThere};
+ghost use Rattle.om_statements.specs.Words.{HaveEndsThere, PartsHaveCode, ScopesThere, all_scopes, block};
+ghost use Rattle.om_statements.specs.Words.{known_in, numbered_by, numbers_of, part_scopes, scopes};
+ghost use Rattle.om_statements.specs.Words.{statement_trees, view_resolved_part, view_resolved_statement};
 ghost use Rattle.om_resolved.specs.ResolvedTree as trees;
-ghost use Rattle.om_resolved.specs.ResolvedView.{view_resolved_part, view_resolved_statement};
 ghost use Rattle.om_rows.specs.Bodies as rows;
-ghost use Rattle.om_rows.specs.BodyTables.{numbered_by};
-ghost use Rattle.om_rows.specs.Coded.{PartsHaveCode};
-ghost use Rattle.om_rows.specs.Ends.{HasPartsEnds};
-ghost use Rattle.om_rows.specs.Numbering.{numbers_of};
-ghost use Rattle.om_rows.specs.ProgramTables.{known_in};
-ghost use Rattle.om_rows.specs.Scopes.{all_scopes, block, part_scopes, scopes};
-ghost use Rattle.om_statements.specs.Parts.{AreFree, EmitsParts};
-ghost use Rattle.om_statements.specs.There.{EmitsAllThere, EmitsThere, GivesAllBehind, GivesBehind, HasCodeThere};
-ghost use Rattle.om_statements.specs.There.{HasEndsThere, HaveCodeThere, HaveEndsThere, ScopesThere, statement_trees};
 
 use crate::alone::{assignment, jump, stand_alone, update};
 use crate::construct::{begin_construct, end_construct};

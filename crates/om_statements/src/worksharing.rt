@@ -1,14 +1,9 @@
 //! The begins and the ends of worksharing loops and of `sections`.
 
 ghost use Rattle.std.specs.Prelude.{◌<◌, ◌≤◌, IfOk, length, map};
-ghost use Rattle.om_emit.specs.Emits.{Appends, names_at};
-ghost use Rattle.om_resolved.specs.ResolvedView.{view_resolved_clause, view_resolved_loop};
-ghost use Rattle.om_rows.specs.Coded.{LoopHasCode};
-ghost use Rattle.om_rows.specs.Scopes.{loop_head, sections_head};
-ghost use Rattle.om_rows.specs.Statements.{closes};
-ghost use Rattle.om_statements.specs.Parts.{OpensParts, part_head};
-ghost use Rattle.om_statements.specs.Scoped.{AppendsScopes};
-ghost use Rattle.om_statements.specs.Stretches.{AppendsHead, worksharing_begin};
+ghost use Rattle.om_statements.specs.Words.{Appends, AppendsHead, AppendsScopes, LoopHasCode, OpensParts, closes};
+ghost use Rattle.om_statements.specs.Words.{loop_head, names_at, part_head, sections_head, view_resolved_clause};
+ghost use Rattle.om_statements.specs.Words.{view_resolved_loop, worksharing_begin};
 
 use crate::alone::worksharing_end;
 use crate::clause::{reductions, starts};

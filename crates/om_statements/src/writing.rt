@@ -1,9 +1,7 @@
 //! A body that is being written: its code, and the scopes of names in it.
 
 ghost use Rattle.std.specs.Prelude.{◌≡◌, ◌≤◌, ◌<◌, [], OnOk, length};
-ghost use Rattle.om_emit.specs.Drafts.{nothing};
-ghost use Rattle.om_rows.specs.Scopes.{closed_at};
-ghost use Rattle.om_statements.specs.Scoped.{BeginsScope, EndsLast, EndsScopes};
+ghost use Rattle.om_statements.specs.Words.{BeginsScope, EndsLast, EndsScopes, closed_at, nothing};
 
 use om_emit::Done;
 use om_emit::draft::Draft;
