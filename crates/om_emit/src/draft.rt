@@ -4,9 +4,10 @@ ghost use Rattle.std.specs.Prelude.{◌≡◌, ◌<◌, ◌^◌, IfOk, OnOk, len
 ghost use Rattle.om_emit.specs.Drafts.{AreShort, Defines, Fresh, FreshLabels, FreshList, HasNoTarget, HaveNoTarget, IsPlain, Puts, PutsAll, jump_to, line_in, nothing, place_in, settled, settled_code};
 ghost use Rattle.om_emit.specs.Settled.{settled_list, settled_lists};
 
-use crate::here::{Done, Made};
+use crate::here::Done;
 use om_code::Instr;
 use om_code::raw::Line;
+use om_resolved::Made;
 use om_seq::Seq;
 use std::alloc::Global;
 use std::marker::Model;

@@ -1,11 +1,8 @@
 //! Where code is written.
 
 use om_lexer::Span;
+use om_resolved::Made;
 use om_rows::BodyTables;
-use std::alloc::AllocError;
-
-/// What is made. The only error is out of memory.
-pub type Made<T> = Result<T, AllocError>;
 
 /// Whether all is written. The only error is out of memory.
 pub type Done = Made<()>;

@@ -12,6 +12,6 @@ mod single;
 mod unused;
 
 pub use expression::{value, values};
-pub use here::{Done, Here, Made};
+pub use here::{Done, Here};
 pub use single::{load, store};
 pub use unused::effect;

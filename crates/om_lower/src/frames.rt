@@ -4,8 +4,7 @@ ghost use Rattle.std.specs.Prelude.{◌≡◌, ◌≤◌, IfOk, length, map};
 ghost use Rattle.om_lower.specs.Words.{FitsFrame, frame_cells, own_cells, slot_with};
 
 use om_code::raw::{Slot, Source};
-use om_emit::Made;
-use om_resolved::Capture;
+use om_resolved::{Capture, Made};
 use om_rows::{Extents, Variables, slots_with};
 use om_seq::Seq;
 use std::alloc::Global;

@@ -8,9 +8,9 @@ ghost use Rattle.om_lower.specs.Words.{next_function, next_numbers, numbers_of, 
 use crate::bodies::{Bodies, add_slots, lower_bodies};
 use crate::input::{Input, Known};
 use om_code::Body;
+use om_emit::Done;
 use om_emit::draft::PickList;
-use om_emit::{Done, Made};
-use om_resolved::ResolvedFunction;
+use om_resolved::{Made, ResolvedFunction};
 use om_rows::{Extents, Numbers, Tables, Variables};
 use om_seq::Seq;
 use om_sights::{Site, sites_of};

@@ -5,7 +5,8 @@ ghost use Rattle.om_lower.specs.Texts.{behind_cut, cut_behind, cut_on, cut_piece
 ghost use Rattle.om_resolved.specs.Formats as formats;
 
 use om_code::raw::Piece;
-use om_emit::{Done, Made};
+use om_emit::Done;
+use om_resolved::Made;
 use om_seq::Seq;
 use std::alloc::Global;
 
