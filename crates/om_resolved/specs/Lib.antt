@@ -2,6 +2,7 @@ pub mod ResolvedTree
 pub mod ResolvedView
 pub mod Formats
 pub mod Captures
+pub mod FoundVariables
 pub mod Whole
 pub mod Uses
 pub mod Beside

@@ -1,5 +1,6 @@
 -- How many parts of a tree get a number when it is lowered, counted generously: each function, `parallel` and `task`
--- may have a body, each `sections` a list of its parts, each other construct a lock, and each `printf` a format.
+-- may have a body, each `sections` a list of its parts, and each `printf` a format. Each other construct that is no loop
+-- and no atomic update may have a lock.
 use Rattle.std.specs.Prelude.{ℕ, ◌+◌, ◌<◌, ◌^◌, List, Option, None, Some, map, sum}
 use Rattle.om_resolved.specs.ResolvedTree.{ResolvedExpressionTree, Constant, Variable, Element, Call, ThreadNumber}
 use Rattle.om_resolved.specs.ResolvedTree.{TeamSize, Print, Unary, Binary, Conditional, Assign, AssignElement, Postfix}

@@ -5,73 +5,38 @@ ghost use Rattle.std.specs.List.{flat_map};
 ghost use Rattle.om_resolved.specs.Captures.{captured, captures_of, combined_uses, is_before, listed_uses, listed_variables, taken_by_parallel, taken_by_task, taken_variables, with_use};
 ghost use Rattle.om_resolved.specs.ResolvedView.{view_resolved_clause, view_resolved_statement};
 
-use crate::found::{Found, take_statement};
+use crate::found::Found;
 use crate::made::Made;
 use crate::resolved::{Capture, CopyKind, ResolvedClause, ResolvedStatement, Taking, Variable};
+use crate::uses::{take_all_listed, take_statement};
 use om_seq::Seq;
 use std::alloc::Global;
 
-/// Notes the original of a copy that is combined into it.
-fn take_combined(found: &mut Found, start: u32, kind: CopyKind, original: Variable) -> Made<()>
-    ensures { OnOk result
-        (found.new ≡ fold (with_use start) found.old (combined_uses kind original)) }
-{
-    let CopyKind::Reduction(_) = kind else {
-        return Ok(());
-    };
-    found.take(start, original)
-}
-
-/// Notes what a clause of a region uses in it.
-fn take_listed(found: &mut Found, start: u32, clause: &ResolvedClause) -> Made<()>
-    ensures { OnOk result
-        (found.new ≡ fold (with_use start) found.old
-        (listed_uses (view_resolved_clause clause.now))) }
-{
-    match clause {
-        ResolvedClause::Value { .. } => Ok(()),
-        ResolvedClause::Shared(variable) => found.take(start, *variable),
-        ResolvedClause::Copied { kind, original, .. } => take_combined(
-            found, start, *kind, *original,
-        ),
-    }
-}
-
-/// Notes what the clauses of a region use in it.
-fn take_all_listed(found: &mut Found, start: u32, clauses: &[ResolvedClause]) -> Made<()>
-    ensures { OnOk result
-        (found.new ≡ fold (with_use start) found.old
-        (flat_map listed_uses (map view_resolved_clause clauses.now))) }
-{
-    for clause in clauses {
-        take_listed(found, start, clause)?;
-    }
-    Ok(())
-}
-
 /// The variables from outside that the clauses of a region list that begins there.
+#[tactic(auto, using(crate::proofs::FoundBehind::found_behind))]
 fn listed_variables(alloc: Global, start: u32, clauses: &[ResolvedClause]) -> Made<Found>
-    ensures { IfOk result
-        (λ found. found ≡ listed_variables start (map view_resolved_clause clauses.now)) }
+    ensures { let listed = listed_variables start (map view_resolved_clause clauses.now) in
+        IfOk result (λ found. found ≡ record { start = start; variables = listed }) }
 {
-    let mut found = Found::new(alloc);
-    take_all_listed(&mut found, start, clauses)?;
+    let mut found = Found::new(alloc, start);
+    take_all_listed(&mut found, clauses)?;
     Ok(found)
 }
 
 /// The variables from outside that a region uses that begins there.
+#[tactic(auto, using(crate::proofs::FoundBehind::found_behind))]
 fn taken_variables(
     alloc: Global,
     start: u32,
     clauses: &[ResolvedClause],
     body: &ResolvedStatement,
 ) -> Made<Found>
-    ensures { IfOk result
-        (λ found. found ≡ taken_variables start (map view_resolved_clause clauses.now)
-        (view_resolved_statement body.now)) }
+    ensures { let trees = map view_resolved_clause clauses.now in
+        let taken = taken_variables start trees (view_resolved_statement body.now) in
+        IfOk result (λ found. found ≡ record { start = start; variables = taken }) }
 {
     let mut found = listed_variables(alloc, start, clauses)?;
-    take_statement(&mut found, start, body)?;
+    take_statement(&mut found, body)?;
     Ok(found)
 }
 
@@ -125,7 +90,7 @@ fn is_before(parallel: Option<u32>, variable: u32) -> bool
 
 /// How a `task` takes a variable from outside.
 fn taken_by_task(sharing: TaskSharing, listed: &Found, variable: u32) -> Taking
-    ensures { result ≡ taken_by_task sharing.has_default sharing.parallel listed.now variable }
+    ensures { result ≡ taken_by_task sharing.has_default sharing.parallel listed.now.variables variable }
 {
     if sharing.has_default || listed.contains(variable) || is_before(sharing.parallel, variable) {
         Taking::Shared
@@ -141,7 +106,7 @@ fn captured_by_task(
     listed: &Found,
     variables: &[u32],
 ) -> Made<Seq<Capture>>
-    ensures { let taking = taken_by_task sharing.has_default sharing.parallel listed.now in
+    ensures { let taking = taken_by_task sharing.has_default sharing.parallel listed.now.variables in
         IfOk result (λ captures. captures ≡ captured taking variables.now) }
 {
     let mut captures = Vec::new(alloc);

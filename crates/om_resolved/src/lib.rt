@@ -7,6 +7,7 @@ mod found;
 pub mod laws;
 mod made;
 mod resolved;
+pub mod uses;
 
 pub use captures::{TaskSharing, captures_of_parallel, captures_of_task};
 pub use made::Made;
