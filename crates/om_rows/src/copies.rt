@@ -1,14 +1,25 @@
-//! The firstprivate copies of a `parallel` or a `task`.
+//! A `parallel` or a `task`, and its firstprivate copies.
 
 ghost use Rattle.std.specs.Prelude.{◌≡◌, ◌++◌, ◌∷◌, [], OnOk, IfOk, map};
 ghost use Rattle.std.specs.List.{flat_map};
 ghost use Rattle.om_resolved.specs.ResolvedView.{view_resolved_clause};
-ghost use Rattle.om_rows.specs.Slots.{by_slots, capture_first, clause_first, copied_first, first_copies, first_copy_at};
+ghost use Rattle.om_rows.specs.Slots.{by_slots, capture_first, clause_first, first_copies, first_copy_at};
 ghost use Rattle.om_rows.specs.Copies.{first_copies_of};
 
 use crate::variables::Variables;
-use om_resolved::{Capture, CopyKind, LocalVariable, ResolvedClause, Taking, Variable};
-use std::alloc::{AllocError, Global};
+use om_lexer::Span;
+use om_resolved::{Capture, CopyKind, Made, ResolvedClause, ResolvedStatement, Taking, Variable};
+use std::alloc::Global;
+
+/// A `parallel` or a `task`, by its parts.
+#[derive(Clone, Copy)]
+pub struct Region<'a> {
+    pub at: Span,
+    pub clauses: &'a [ResolvedClause],
+    /// What it takes from outside.
+    pub captures: &'a [Capture],
+    pub statement: &'a ResolvedStatement,
+}
 
 /// A firstprivate copy: its variable, and what it begins with.
 #[derive(Clone, Copy)]
@@ -23,31 +34,18 @@ pub fn given_copies(
     clauses: &[ResolvedClause],
     captures: &[Capture],
     variables: &Variables,
-) -> Result<Vec<FirstCopy>, AllocError>
+) -> Made<Vec<FirstCopy>>
     ensures { let copies = first_copies (map view_resolved_clause clauses.now) captures.now in
         IfOk result (λ made. first_copies_of made.items ≡ by_slots variables.now copies) }
-{
-    let copies = first_copies(alloc, clauses, captures)?;
-    by_slots(alloc, variables.as_slice(), copies.as_slice())
-}
-
-/// The firstprivate copies of a `parallel` or a `task`, by its clauses and by what it takes.
-fn first_copies(
-    alloc: Global,
-    clauses: &[ResolvedClause],
-    captures: &[Capture],
-) -> Result<Vec<FirstCopy>, AllocError>
-    ensures { let copies = first_copies (map view_resolved_clause clauses.now) captures.now in
-        IfOk result (λ made. first_copies_of made.items ≡ copies) }
 {
     let mut copies = Vec::new(alloc);
     add_clauses(&mut copies, clauses)?;
     add_captures(&mut copies, captures)?;
-    Ok(copies)
+    by_slots(alloc, variables.as_slice(), copies.as_slice())
 }
 
 /// Adds the copies of clauses.
-fn add_clauses(copies: &mut Vec<FirstCopy>, clauses: &[ResolvedClause]) -> Result<(), AllocError>
+fn add_clauses(copies: &mut Vec<FirstCopy>, clauses: &[ResolvedClause]) -> Made<()>
     ensures { let added = flat_map clause_first (map view_resolved_clause clauses.now) in
         OnOk result (first_copies_of copies.new.items ≡ first_copies_of copies.old.items ++ added) }
 {
@@ -57,44 +55,28 @@ fn add_clauses(copies: &mut Vec<FirstCopy>, clauses: &[ResolvedClause]) -> Resul
     Ok(())
 }
 
-/// Adds the copy of a clause.
-fn add_clause(copies: &mut Vec<FirstCopy>, clause: &ResolvedClause) -> Result<(), AllocError>
+/// Adds the copy of a clause, where that begins with its original's value.
+fn add_clause(copies: &mut Vec<FirstCopy>, clause: &ResolvedClause) -> Made<()>
     ensures { let added = clause_first (view_resolved_clause clause.now) in
         OnOk result (first_copies_of copies.new.items ≡ first_copies_of copies.old.items ++ added) }
 {
     let ResolvedClause::Copied {
-        kind,
+        kind: CopyKind::Firstprivate,
         original,
         copy,
     } = clause
     else {
         return Ok(());
     };
-    add_copy(copies, *kind, *original, copy)
-}
-
-/// Adds a copy that begins with its original's value.
-fn add_copy(
-    copies: &mut Vec<FirstCopy>,
-    kind: CopyKind,
-    original: Variable,
-    copy: &LocalVariable,
-) -> Result<(), AllocError>
-    ensures { let added = copied_first kind original copy.now in
-        OnOk result (first_copies_of copies.new.items ≡ first_copies_of copies.old.items ++ added) }
-{
-    let CopyKind::Firstprivate = kind else {
-        return Ok(());
-    };
     let first = FirstCopy {
         variable: copy.at,
-        original,
+        original: *original,
     };
     add(copies, first)
 }
 
 /// Adds a copy.
-fn add(copies: &mut Vec<FirstCopy>, copy: FirstCopy) -> Result<(), AllocError>
+fn add(copies: &mut Vec<FirstCopy>, copy: FirstCopy) -> Made<()>
     ensures { OnOk result (copies.new.items ≡ copies.old.items ++ copy ∷ []) }
 {
     copies.push(copy)?;
@@ -102,7 +84,7 @@ fn add(copies: &mut Vec<FirstCopy>, copy: FirstCopy) -> Result<(), AllocError>
 }
 
 /// Adds the copies that a region takes.
-fn add_captures(copies: &mut Vec<FirstCopy>, captures: &[Capture]) -> Result<(), AllocError>
+fn add_captures(copies: &mut Vec<FirstCopy>, captures: &[Capture]) -> Made<()>
     ensures { let added = flat_map capture_first captures.now in
         OnOk result (first_copies_of copies.new.items ≡ first_copies_of copies.old.items ++ added) }
 {
@@ -113,7 +95,7 @@ fn add_captures(copies: &mut Vec<FirstCopy>, captures: &[Capture]) -> Result<(),
 }
 
 /// Adds the copy that a region takes, unless it shares.
-fn add_capture(copies: &mut Vec<FirstCopy>, capture: Capture) -> Result<(), AllocError>
+fn add_capture(copies: &mut Vec<FirstCopy>, capture: Capture) -> Made<()>
     ensures { let added = capture_first capture in
         OnOk result (first_copies_of copies.new.items ≡ first_copies_of copies.old.items ++ added) }
 {
@@ -128,11 +110,7 @@ fn add_capture(copies: &mut Vec<FirstCopy>, capture: Capture) -> Result<(), Allo
 }
 
 /// The copies by the slots of their variables.
-fn by_slots(
-    alloc: Global,
-    variables: &[u32],
-    copies: &[FirstCopy],
-) -> Result<Vec<FirstCopy>, AllocError>
+fn by_slots(alloc: Global, variables: &[u32], copies: &[FirstCopy]) -> Made<Vec<FirstCopy>>
     ensures { let given = by_slots variables.now (first_copies_of copies.now) in
         IfOk result (λ made. first_copies_of made.items ≡ given) }
 {
@@ -144,11 +122,7 @@ fn by_slots(
 }
 
 /// Adds the copy whose variable this is, if there is one.
-fn add_first(
-    given: &mut Vec<FirstCopy>,
-    copies: &[FirstCopy],
-    variable: u32,
-) -> Result<(), AllocError>
+fn add_first(given: &mut Vec<FirstCopy>, copies: &[FirstCopy], variable: u32) -> Made<()>
     ensures { let added = first_copy_at (first_copies_of copies.now) variable in
         OnOk result (first_copies_of given.new.items ≡ first_copies_of given.old.items ++ added) }
 {

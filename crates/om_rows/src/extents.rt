@@ -4,7 +4,8 @@ ghost use Rattle.std.specs.Prelude.{◌≡◌, [], OnOk};
 ghost use Rattle.om_rows.specs.Slots.{cells_in};
 ghost use Rattle.om_rows.specs.Extents.{with_extent};
 
-use std::alloc::{AllocError, Global};
+use om_resolved::Made;
+use std::alloc::Global;
 use std::collections::BTreeMap;
 use std::marker::Model;
 
@@ -50,7 +51,7 @@ impl Extents {
     }
 
     /// Notes a declared variable.
-    pub fn note(&mut self, variable: u32, cells: u32) -> Result<(), AllocError>
+    pub fn note(&mut self, variable: u32, cells: u32) -> Made<()>
         ensures { OnOk result
             (self.new ≡ with_extent self.old (record { variable = variable; cells = cells })) }
     {

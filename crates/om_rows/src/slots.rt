@@ -9,9 +9,9 @@ use crate::copies::FirstCopy;
 use crate::extents::Extents;
 use crate::variables::Variables;
 use om_code::raw::{Slot, Source};
-use om_resolved::{Capture, LocalVariable, Taking};
+use om_resolved::{Capture, LocalVariable, Made, Taking};
 use om_seq::Seq;
-use std::alloc::{AllocError, Global};
+use std::alloc::Global;
 
 /// The slots of a body with these variables, in the body round it.
 pub fn slots_with(
@@ -20,7 +20,7 @@ pub fn slots_with(
     outer: &Variables,
     captures: &[Capture],
     variables: &Variables,
-) -> Result<Seq<Slot>, AllocError>
+) -> Made<Seq<Slot>>
     requires { length outer.now ≤ 256 }
     ensures { IfOk result
         (λ slots. slots ≡ map (slot_with extents.now outer.now captures.now) variables.now) }
@@ -51,12 +51,7 @@ fn source_of(outer: &Variables, captures: &[Capture], variable: u32) -> Source
 fn is_shared(captures: &[Capture], variable: u32) -> bool
     ensures { result ≡ list_any (shares variable) captures.now }
 {
-    for capture in captures {
-        if shares(variable, *capture) {
-            return true;
-        }
-    }
-    false
+    captures.iter().any(|capture| shares(variable, *capture))
 }
 
 /// Whether it is this variable that a region takes and shares.
@@ -71,7 +66,7 @@ pub fn parameter_slots(
     alloc: Global,
     variables: &Variables,
     parameters: &[LocalVariable],
-) -> Result<Seq<u32>, AllocError>
+) -> Made<Seq<u32>>
     requires { length variables.now ≤ 256 }
     ensures { IfOk result
         (λ slots. slots ≡ map (slot_of variables.now) (map parameter_sight parameters.now)) }
@@ -84,11 +79,7 @@ pub fn parameter_slots(
 }
 
 /// The slots of copies.
-pub fn copy_slots(
-    alloc: Global,
-    variables: &Variables,
-    copies: &[FirstCopy],
-) -> Result<Seq<u32>, AllocError>
+pub fn copy_slots(alloc: Global, variables: &Variables, copies: &[FirstCopy]) -> Made<Seq<u32>>
     requires { length variables.now ≤ 256 }
     ensures { IfOk result
         (λ slots. slots ≡ map (slot_of variables.now)

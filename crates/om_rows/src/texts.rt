@@ -4,7 +4,8 @@ ghost use Rattle.std.specs.Prelude.{◌≡◌, ◌<◌, ◌≤◌, [], OnOk, len
 ghost use Rattle.std.specs.Str.{bytes_eq};
 ghost use Rattle.om_rows.specs.Tables.{number_in, with_sight};
 
-use std::alloc::{AllocError, Global};
+use om_resolved::Made;
+use std::alloc::Global;
 use std::collections::BTreeMap;
 use std::marker::Model;
 
@@ -63,7 +64,7 @@ impl Texts {
     }
 
     /// Gives a text the next number, unless it has one. The number behind all of them has 32 bits too.
-    pub fn note(&mut self, alloc: Global, text: &[u8]) -> Result<(), AllocError>
+    pub fn note(&mut self, alloc: Global, text: &[u8]) -> Made<()>
         requires { length self.old < 4294967295 }
         ensures { OnOk result (self.new ≡ with_sight bytes_eq self.old text.now) }
     {

@@ -1,12 +1,12 @@
 //! The variables of a body, by their slots.
 
-ghost use Rattle.std.specs.Prelude.{◌≡◌, ◌≤◌, [], OnOk, fold, length, nat_eq};
-ghost use Rattle.om_resolved.specs.Captures.{variable_uses};
+ghost use Rattle.std.specs.Prelude.{◌≡◌, ◌≤◌, [], OnOk, length, nat_eq};
 ghost use Rattle.om_rows.specs.Slots.{slot_of};
 ghost use Rattle.om_rows.specs.Tables.{with_sight};
 
-use om_resolved::Variable;
-use std::alloc::{AllocError, Global};
+use om_resolved::Made;
+use om_resolved::uses::Sighting;
+use std::alloc::Global;
 use std::collections::BTreeMap;
 use std::marker::Model;
 
@@ -66,7 +66,7 @@ impl Variables {
     }
 
     /// Gives a variable the next slot, unless it has one.
-    pub fn add(&mut self, variable: u32) -> Result<(), AllocError>
+    pub fn add(&mut self, variable: u32) -> Made<()>
         ensures { OnOk result (self.new ≡ with_sight nat_eq self.old variable) }
     {
         if self.slots.contains_key(&variable) {
@@ -77,15 +77,15 @@ impl Variables {
         self.seen.push_reserved(variable);
         Ok(())
     }
+}
 
-    /// The same for a variable that is used, where it is one of the function.
-    pub fn sight(&mut self, variable: Variable) -> Result<(), AllocError>
-        ensures { OnOk result
-            (self.new ≡ fold (with_sight nat_eq) self.old (variable_uses variable)) }
-    {
-        let Variable::Local(at) = variable else {
-            return Ok(());
-        };
-        self.add(at)
+impl Sighting for Variables {
+    ghost use Rattle.std.specs.Prelude.{nat_eq};
+    ghost use Rattle.om_rows.specs.Tables.{with_sight};
+
+    ghost next = { with_sight nat_eq };
+
+    fn see(&mut self, variable: u32) -> Made<()> {
+        self.add(variable)
     }
 }

@@ -1,6 +1,6 @@
 -- The bodies of `parallel` and `task`, as parts of a tree.
 use Rattle.std.specs.Prelude.{map}
-use Rattle.om_rows.specs.declared.region.Region.{Region}
+use Rattle.om_rows.specs.declared.copies.Region.{Region}
 use Rattle.om_resolved.specs.ResolvedTree.{ResolvedStatementTree}
 use Rattle.om_resolved.specs.ResolvedView.{view_resolved_clause, view_resolved_statement}
 use Rattle.om_rows.specs.Bodies.{BodyTree, ParallelBody, TaskBody}
