@@ -2,12 +2,10 @@
 //! come the tables of a program, and the variables of its bodies.
 #![tactic(auto)]
 
-mod formats;
 mod mentions;
 mod sights;
 mod sites;
 mod tables;
-mod uses;
 
 pub use sights::{function_variables, region_variables};
 pub use sites::{BodyPart, Site, sites_of};

@@ -5,22 +5,21 @@ ghost use Rattle.std.specs.Prelude.{◌≡◌, ◌<◌, ◌+◌, ◌++◌, OnOk,
 ghost use Rattle.std.specs.List.{flat_map};
 ghost use Rattle.om_resolved.specs.ResolvedTree as trees;
 ghost use Rattle.om_resolved.specs.ResolvedView.{view_resolved_clause, view_resolved_declarator, view_resolved_expression, view_resolved_loop, view_resolved_part, view_resolved_start, view_resolved_statement, view_resolved_update};
-ghost use Rattle.om_resolved.specs.Weights.{clause_weight, declarator_weight, expression_weight, loop_weight, parts_weight, perhaps_weight, start_weight, statement_weight, statements_weight, update_weight};
-ghost use Rattle.om_rows.specs.Mentions.{all_mentioned, clause_mentioned, declarator_mentioned, loop_mentioned, mentioned, parts_mentioned, perhaps_mentioned, start_mentioned, update_mentioned};
+ghost use Rattle.om_resolved.specs.Weights.{clause_weight, declarator_weight, expression_weight, loop_weight, parts_weight, perhaps_weight, start_weight, statement_weight, statements_weight, update_weight, values_weight};
+ghost use Rattle.om_rows.specs.Mentions.{all_mentioned, clause_mentioned, declarator_mentioned, expression_formats, loop_mentioned, mentioned, parts_mentioned, perhaps_mentioned, start_mentioned, update_mentioned, values_formats};
 ghost use Rattle.om_rows.specs.Slots.{cells_of_length};
 ghost use Rattle.om_rows.specs.Bodies as bodies;
 ghost use Rattle.om_rows.specs.Ends.{all_region_ends, body_ends, parts_region_ends, region_ends};
 ghost use Rattle.om_rows.specs.Numbering.{numbers_of};
-ghost use Rattle.om_sights.specs.Noted.{AreNoted};
-ghost use Rattle.om_sights.specs.Room.{HasRoom, HasTextRoom};
+ghost use Rattle.om_sights.specs.Noted.{AreNoted, noted};
+ghost use Rattle.om_sights.specs.Room.{HasRoom, HasTextRoom, IsRoomFor};
 
-use crate::formats::note_expression;
 use om_resolved::{
-    ConstructKind, ResolvedClause, ResolvedDeclarator, ResolvedExpression, ResolvedHead,
+    ConstructKind, Made, ResolvedClause, ResolvedDeclarator, ResolvedExpression, ResolvedHead,
     ResolvedLoop, ResolvedPart, ResolvedStart, ResolvedStatement, ResolvedUpdate,
 };
 use om_rows::{Extents, Numbers, Texts};
-use std::alloc::{AllocError, Global};
+use std::alloc::Global;
 
 /// What functions mention, in the order of the text.
 #[derive(Drop)]
@@ -44,9 +43,69 @@ pub(crate) struct Walk {
     pub(crate) ends: Vec<Numbers>,
 }
 
-/// Notes the formats of an expression.
+/// Notes the formats of an expression, in the order of the text.
+#[tactic(auto, unfolding(om_rows::specs::Mentions::expression_formats))]
+#[cycle(expression)]
+fn note_expression(formats: &mut Texts, alloc: Global, expression: &ResolvedExpression) -> Made<()>
+    requires room { IsRoomFor (expression_weight (view_resolved_expression expression.now)) (length formats.old) }
+    ensures { let tree = view_resolved_expression expression.now in
+        OnOk result (formats.new ≡ noted formats.old (expression_formats tree)) }
+{
+    match expression {
+        ResolvedExpression::Constant(_)
+        | ResolvedExpression::Variable(_)
+        | ResolvedExpression::ThreadNumber
+        | ResolvedExpression::TeamSize
+        | ResolvedExpression::Postfix { .. } => Ok(()),
+        ResolvedExpression::Element { index: part, .. }
+        | ResolvedExpression::Unary { operand: part, .. }
+        | ResolvedExpression::Assign { value: part, .. }
+        | ResolvedExpression::PostfixElement { index: part, .. } => note_expression(
+            formats, alloc, part,
+        ),
+        ResolvedExpression::Call { values, .. } => note_values(formats, alloc, values.as_slice()),
+        ResolvedExpression::Print { format, values } => {
+            formats.note(alloc, format.as_slice())?;
+            note_values(formats, alloc, values.as_slice())
+        }
+        ResolvedExpression::Binary { left, right, .. } => {
+            note_expression(formats, alloc, left)?;
+            note_expression(formats, alloc, right)
+        }
+        ResolvedExpression::Conditional {
+            condition,
+            value: then,
+            other,
+        } => {
+            note_expression(formats, alloc, condition)?;
+            note_expression(formats, alloc, then)?;
+            note_expression(formats, alloc, other)
+        }
+        ResolvedExpression::AssignElement { index, value, .. } => {
+            note_expression(formats, alloc, index)?;
+            note_expression(formats, alloc, value)
+        }
+    }
+}
+
+/// Notes the formats of the values of a call.
+#[tactic(auto, unfolding(om_rows::specs::Mentions::values_formats))]
+#[cycle(expression)]
+fn note_values(formats: &mut Texts, alloc: Global, values: &[ResolvedExpression]) -> Made<()>
+    requires room { let tree = trees.values (map view_resolved_expression values.now) in
+        IsRoomFor (values_weight tree) (length formats.old) }
+    ensures { let tree = trees.values (map view_resolved_expression values.now) in
+        OnOk result (formats.new ≡ noted formats.old (values_formats tree)) }
+{
+    for value in values {
+        note_expression(formats, alloc, value)?;
+    }
+    Ok(())
+}
+
+/// Notes what an expression mentions.
 #[tactic(auto, unfolding(crate::specs::Room::IsRoomFor))]
-fn note_value(found: &mut Mentions, value: &ResolvedExpression) -> Result<(), AllocError>
+fn note_value(found: &mut Mentions, value: &ResolvedExpression) -> Made<()>
     requires room { HasTextRoom (expression_weight (view_resolved_expression value.now)) found.old }
     ensures { let tree = view_resolved_expression value.now in
         OnOk result (AreNoted (λ A m. m.in_expression tree) found.old found.new) }
@@ -55,10 +114,7 @@ fn note_value(found: &mut Mentions, value: &ResolvedExpression) -> Result<(), Al
 }
 
 /// Notes the formats of an expression that may be left out.
-fn note_perhaps(
-    found: &mut Mentions,
-    expression: &Option<ResolvedExpression>,
-) -> Result<(), AllocError>
+fn note_perhaps(found: &mut Mentions, expression: &Option<ResolvedExpression>) -> Made<()>
     requires room { let tree = option_map view_resolved_expression expression.now in
         HasTextRoom (perhaps_weight tree) found.old }
     ensures { let tree = option_map view_resolved_expression expression.now in
@@ -79,10 +135,7 @@ fn cells_of(length: Option<u32>) -> u32
 
 /// Notes declared variables.
 #[tactic(auto, unfolding(crate::specs::Room::IsRoomFor))]
-fn note_declarators(
-    found: &mut Mentions,
-    declarators: &[ResolvedDeclarator],
-) -> Result<(), AllocError>
+fn note_declarators(found: &mut Mentions, declarators: &[ResolvedDeclarator]) -> Made<()>
     requires room { let tree = map view_resolved_declarator declarators.now in
         HasTextRoom (sum (map declarator_weight tree)) found.old }
     ensures { let tree = map view_resolved_declarator declarators.now in
@@ -97,7 +150,7 @@ fn note_declarators(
 }
 
 /// Notes the beginning of a `for`.
-fn note_start(found: &mut Mentions, start: &ResolvedStart) -> Result<(), AllocError>
+fn note_start(found: &mut Mentions, start: &ResolvedStart) -> Made<()>
     requires room { HasTextRoom (start_weight (view_resolved_start start.now)) found.old }
     ensures { let tree = view_resolved_start start.now in
         OnOk result (AreNoted (λ A m. start_mentioned m tree) found.old found.new) }
@@ -110,7 +163,7 @@ fn note_start(found: &mut Mentions, start: &ResolvedStart) -> Result<(), AllocEr
 }
 
 /// Notes a clause.
-fn note_clause(found: &mut Mentions, clause: &ResolvedClause) -> Result<(), AllocError>
+fn note_clause(found: &mut Mentions, clause: &ResolvedClause) -> Made<()>
     requires room { HasTextRoom (clause_weight (view_resolved_clause clause.now)) found.old }
     ensures { let tree = view_resolved_clause clause.now in
         OnOk result (AreNoted (λ A m. clause_mentioned m tree) found.old found.new) }
@@ -122,7 +175,7 @@ fn note_clause(found: &mut Mentions, clause: &ResolvedClause) -> Result<(), Allo
 }
 
 /// Notes clauses.
-fn note_clauses(found: &mut Mentions, clauses: &[ResolvedClause]) -> Result<(), AllocError>
+fn note_clauses(found: &mut Mentions, clauses: &[ResolvedClause]) -> Made<()>
     requires room { let tree = map view_resolved_clause clauses.now in
         HasTextRoom (sum (map clause_weight tree)) found.old }
     ensures { let tree = map view_resolved_clause clauses.now in
@@ -136,7 +189,7 @@ fn note_clauses(found: &mut Mentions, clauses: &[ResolvedClause]) -> Result<(), 
 
 /// Notes the bounds of a canonical loop.
 #[tactic(auto, unfolding(crate::specs::Room::IsRoomFor))]
-fn note_loop(found: &mut Mentions, repeated: &ResolvedLoop) -> Result<(), AllocError>
+fn note_loop(found: &mut Mentions, repeated: &ResolvedLoop) -> Made<()>
     requires room { HasTextRoom (loop_weight (view_resolved_loop repeated.now)) found.old }
     ensures { let tree = view_resolved_loop repeated.now in
         OnOk result (AreNoted (λ A m. loop_mentioned m tree) found.old found.new) }
@@ -147,7 +200,7 @@ fn note_loop(found: &mut Mentions, repeated: &ResolvedLoop) -> Result<(), AllocE
 
 /// Notes an atomic update.
 #[tactic(auto, unfolding(crate::specs::Room::IsRoomFor))]
-fn note_update(found: &mut Mentions, update: &ResolvedUpdate) -> Result<(), AllocError>
+fn note_update(found: &mut Mentions, update: &ResolvedUpdate) -> Made<()>
     requires room { HasTextRoom (update_weight (view_resolved_update update.now)) found.old }
     ensures { let tree = view_resolved_update update.now in
         OnOk result (AreNoted (λ A m. update_mentioned m tree) found.old found.new) }
@@ -158,7 +211,7 @@ fn note_update(found: &mut Mentions, update: &ResolvedUpdate) -> Result<(), Allo
 
 /// Notes the name of a critical region.
 #[tactic(auto, unfolding(crate::specs::Room::IsRoomFor))]
-fn note_construct(found: &mut Mentions, kind: &ConstructKind) -> Result<(), AllocError>
+fn note_construct(found: &mut Mentions, kind: &ConstructKind) -> Made<()>
     requires room { HasTextRoom 1 found.old }
     ensures { OnOk result (AreNoted (λ A m. m.by_construct kind.now) found.old found.new) }
 {
@@ -173,7 +226,7 @@ fn note_construct(found: &mut Mentions, kind: &ConstructKind) -> Result<(), Allo
 
 /// Notes the head of a `for`.
 #[tactic(auto, unfolding(crate::specs::Room::IsRoomFor))]
-fn note_head(found: &mut Mentions, head: &ResolvedHead) -> Result<(), AllocError>
+fn note_head(found: &mut Mentions, head: &ResolvedHead) -> Made<()>
     requires room { let first = view_resolved_start head.now.start in
         let test = option_map view_resolved_expression head.now.condition in
         let after = option_map view_resolved_expression head.now.step in
@@ -201,7 +254,7 @@ pub(crate) fn put_end(ends: &mut Vec<Numbers>, index: usize, behind: Numbers)
 /// Walks over the body of a region.
 #[tactic(auto, using(crate::proofs::Ending::end_placed, crate::proofs::Ending::end_there))]
 #[cycle(statement)]
-fn note_region(walk: &mut Walk, body: &ResolvedStatement) -> Result<(), AllocError>
+fn note_region(walk: &mut Walk, body: &ResolvedStatement) -> Made<()>
     requires room { HasRoom (1 + statement_weight (view_resolved_statement body.now)) walk.old }
     ensures behind { let tree = view_resolved_statement body.now in
         OnOk result (numbers_of walk.new.numbers ≡ bodies.behind (bodies.next_body (numbers_of walk.old.numbers)) tree) }
@@ -223,7 +276,7 @@ fn note_region(walk: &mut Walk, body: &ResolvedStatement) -> Result<(), AllocErr
 /// Walks over a statement and the regions in it, in the order of the text.
 #[tactic(auto, unfolding(om_rows::specs::Mentions::mentioned))]
 #[cycle(statement)]
-fn note_statement(walk: &mut Walk, statement: &ResolvedStatement) -> Result<(), AllocError>
+fn note_statement(walk: &mut Walk, statement: &ResolvedStatement) -> Made<()>
     requires room { HasRoom (statement_weight (view_resolved_statement statement.now)) walk.old }
     ensures behind { let tree = view_resolved_statement statement.now in
         OnOk result (numbers_of walk.new.numbers ≡ bodies.behind (numbers_of walk.old.numbers) tree) }
@@ -316,10 +369,7 @@ fn note_statement(walk: &mut Walk, statement: &ResolvedStatement) -> Result<(), 
 /// Walks over statements.
 #[tactic(auto, unfolding(om_rows::specs::Mentions::all_mentioned))]
 #[cycle(statement)]
-pub(crate) fn note_statements(
-    walk: &mut Walk,
-    items: &[ResolvedStatement],
-) -> Result<(), AllocError>
+pub(crate) fn note_statements(walk: &mut Walk, items: &[ResolvedStatement]) -> Made<()>
     requires room { let tree = trees.statements (map view_resolved_statement items.now) in
         HasRoom (statements_weight tree) walk.old }
     ensures behind { let tree = trees.statements (map view_resolved_statement items.now) in
@@ -339,7 +389,7 @@ pub(crate) fn note_statements(
 /// Walks over the parts of `sections`.
 #[tactic(auto, unfolding(om_rows::specs::Mentions::parts_mentioned))]
 #[cycle(statement)]
-fn note_parts(walk: &mut Walk, parts: &[ResolvedPart]) -> Result<(), AllocError>
+fn note_parts(walk: &mut Walk, parts: &[ResolvedPart]) -> Made<()>
     requires room { let tree = trees.parts (map view_resolved_part parts.now) in
         HasRoom (parts_weight tree) walk.old }
     ensures behind { let tree = trees.parts (map view_resolved_part parts.now) in

@@ -6,24 +6,22 @@ ghost use Rattle.om_resolved.specs.Captures.{perhaps_uses};
 ghost use Rattle.om_resolved.specs.ResolvedTree as trees;
 ghost use Rattle.om_resolved.specs.ResolvedView.{view_resolved_clause, view_resolved_declarator, view_resolved_expression, view_resolved_function, view_resolved_loop, view_resolved_part, view_resolved_start, view_resolved_statement};
 ghost use Rattle.om_rows.specs.Bodies as bodies;
-ghost use Rattle.om_rows.specs.Slots.{clause_sights, combined_sights, declarator_sights, loop_sights, parameter_sight, parts_sights, region_clause_sights, start_sights, statement_sights, statements_sights};
+ghost use Rattle.om_rows.specs.Slots.{clause_sights, declarator_sights, loop_sights, parameter_sight, parts_sights, region_clause_sights, start_sights, statement_sights, statements_sights};
 ghost use Rattle.om_sights.specs.Sighted.{Sees};
 
-use crate::uses::{
-    take_expression, take_original, take_perhaps, take_region, take_stand_alone, take_update,
+use om_resolved::uses::{
+    take, take_combined, take_expression, take_original, take_perhaps, take_region,
+    take_stand_alone, take_update,
 };
 use om_resolved::{
-    CopyKind, LocalVariable, ResolvedClause, ResolvedDeclarator, ResolvedFunction, ResolvedHead,
-    ResolvedLoop, ResolvedPart, ResolvedStart, ResolvedStatement, Variable,
+    LocalVariable, Made, ResolvedClause, ResolvedDeclarator, ResolvedFunction, ResolvedHead,
+    ResolvedLoop, ResolvedPart, ResolvedStart, ResolvedStatement,
 };
 use om_rows::Variables;
-use std::alloc::{AllocError, Global};
+use std::alloc::Global;
 
 /// The variables of a function's own body, by their slots: parameters first.
-pub fn function_variables(
-    alloc: Global,
-    function: &ResolvedFunction,
-) -> Result<Variables, AllocError>
+pub fn function_variables(alloc: Global, function: &ResolvedFunction) -> Made<Variables>
     ensures { IfOk result
         (λ made. made ≡ bodies.function_variables (view_resolved_function function.now)) }
 {
@@ -38,7 +36,7 @@ pub fn region_variables(
     alloc: Global,
     clauses: &[ResolvedClause],
     body: &ResolvedStatement,
-) -> Result<Variables, AllocError>
+) -> Made<Variables>
     ensures { let trees = map view_resolved_clause clauses.now in
         IfOk result
         (λ made. made ≡ bodies.region_variables trees (view_resolved_statement body.now)) }
@@ -50,7 +48,7 @@ pub fn region_variables(
 }
 
 /// Sees parameters.
-fn see_parameters(seen: &mut Variables, parameters: &[LocalVariable]) -> Result<(), AllocError>
+fn see_parameters(seen: &mut Variables, parameters: &[LocalVariable]) -> Made<()>
     ensures { OnOk result (Sees (map parameter_sight parameters.now) seen.old seen.new) }
 {
     for parameter in parameters {
@@ -60,10 +58,7 @@ fn see_parameters(seen: &mut Variables, parameters: &[LocalVariable]) -> Result<
 }
 
 /// Sees declared names, and after each what it begins as.
-fn see_declarators(
-    seen: &mut Variables,
-    declarators: &[ResolvedDeclarator],
-) -> Result<(), AllocError>
+fn see_declarators(seen: &mut Variables, declarators: &[ResolvedDeclarator]) -> Made<()>
     ensures { let trees = map view_resolved_declarator declarators.now in
         OnOk result (Sees (flat_map declarator_sights trees) seen.old seen.new) }
 {
@@ -75,7 +70,7 @@ fn see_declarators(
 }
 
 /// Sees the beginning of a `for`.
-fn see_start(seen: &mut Variables, start: &ResolvedStart) -> Result<(), AllocError>
+fn see_start(seen: &mut Variables, start: &ResolvedStart) -> Made<()>
     ensures { OnOk result (Sees (start_sights (view_resolved_start start.now)) seen.old seen.new) }
 {
     match start {
@@ -87,12 +82,12 @@ fn see_start(seen: &mut Variables, start: &ResolvedStart) -> Result<(), AllocErr
 
 /// Sees a clause of a construct in whose body it stands.
 #[tactic(auto, using(crate::proofs::Copied::original_seen))]
-fn see_clause(seen: &mut Variables, clause: &ResolvedClause) -> Result<(), AllocError>
+fn see_clause(seen: &mut Variables, clause: &ResolvedClause) -> Made<()>
     ensures { OnOk result (Sees (clause_sights (view_resolved_clause clause.now)) seen.old seen.new) }
 {
     match clause {
         ResolvedClause::Value { value, .. } => take_expression(seen, value),
-        ResolvedClause::Shared(variable) => seen.sight(*variable),
+        ResolvedClause::Shared(variable) => take(seen, *variable),
         ResolvedClause::Copied {
             kind,
             original,
@@ -105,7 +100,7 @@ fn see_clause(seen: &mut Variables, clause: &ResolvedClause) -> Result<(), Alloc
 }
 
 /// Sees clauses of a construct in whose body they stand.
-fn see_clauses(seen: &mut Variables, clauses: &[ResolvedClause]) -> Result<(), AllocError>
+fn see_clauses(seen: &mut Variables, clauses: &[ResolvedClause]) -> Made<()>
     ensures { let trees = map view_resolved_clause clauses.now in
         OnOk result (Sees (flat_map clause_sights trees) seen.old seen.new) }
 {
@@ -115,37 +110,28 @@ fn see_clauses(seen: &mut Variables, clauses: &[ResolvedClause]) -> Result<(), A
     Ok(())
 }
 
-/// Sees the original that a copy of a region is combined into.
-fn see_combined(seen: &mut Variables, kind: CopyKind, original: Variable) -> Result<(), AllocError>
-    ensures { OnOk result (Sees (combined_sights kind original) seen.old seen.new) }
-{
-    let CopyKind::Reduction(_) = kind else {
-        return Ok(());
-    };
-    seen.sight(original)
-}
-
 /// Sees a clause of a `parallel` or a `task`, in its body.
-fn see_region_clause(seen: &mut Variables, clause: &ResolvedClause) -> Result<(), AllocError>
+#[tactic(auto, using(crate::proofs::Copied::combined_seen))]
+fn see_region_clause(seen: &mut Variables, clause: &ResolvedClause) -> Made<()>
     ensures { let sights = region_clause_sights (view_resolved_clause clause.now) in
         OnOk result (Sees sights seen.old seen.new) }
 {
     match clause {
         ResolvedClause::Value { .. } => Ok(()),
-        ResolvedClause::Shared(variable) => seen.sight(*variable),
+        ResolvedClause::Shared(variable) => take(seen, *variable),
         ResolvedClause::Copied {
             kind,
             original,
             copy,
         } => {
-            see_combined(seen, *kind, *original)?;
+            take_combined(seen, *kind, *original)?;
             seen.add(copy.at)
         }
     }
 }
 
 /// Sees the clauses of a `parallel` or a `task`, in its body.
-fn see_region_clauses(seen: &mut Variables, clauses: &[ResolvedClause]) -> Result<(), AllocError>
+fn see_region_clauses(seen: &mut Variables, clauses: &[ResolvedClause]) -> Made<()>
     ensures { let trees = map view_resolved_clause clauses.now in
         OnOk result (Sees (flat_map region_clause_sights trees) seen.old seen.new) }
 {
@@ -156,7 +142,7 @@ fn see_region_clauses(seen: &mut Variables, clauses: &[ResolvedClause]) -> Resul
 }
 
 /// Sees the iteration variable of a canonical loop and then its bounds.
-fn see_loop(seen: &mut Variables, repeated: &ResolvedLoop) -> Result<(), AllocError>
+fn see_loop(seen: &mut Variables, repeated: &ResolvedLoop) -> Made<()>
     ensures { OnOk result (Sees (loop_sights (view_resolved_loop repeated.now)) seen.old seen.new) }
 {
     seen.add(repeated.variable.at)?;
@@ -165,7 +151,7 @@ fn see_loop(seen: &mut Variables, repeated: &ResolvedLoop) -> Result<(), AllocEr
 }
 
 /// Sees the head of a `for`.
-fn see_head(seen: &mut Variables, head: &ResolvedHead) -> Result<(), AllocError>
+fn see_head(seen: &mut Variables, head: &ResolvedHead) -> Made<()>
     ensures { let test = option_map view_resolved_expression head.now.condition in
         let step_tree = option_map view_resolved_expression head.now.step in
         let sights = start_sights (view_resolved_start head.now.start)
@@ -180,7 +166,7 @@ fn see_head(seen: &mut Variables, head: &ResolvedHead) -> Result<(), AllocError>
 /// Sees a statement. The bodies of regions in it have slots of their own.
 #[tactic(auto, unfolding(om_rows::specs::Slots::statement_sights))]
 #[cycle(statement)]
-fn see_statement(seen: &mut Variables, statement: &ResolvedStatement) -> Result<(), AllocError>
+fn see_statement(seen: &mut Variables, statement: &ResolvedStatement) -> Made<()>
     ensures { let sights = statement_sights (view_resolved_statement statement.now) in
         OnOk result (Sees sights seen.old seen.new) }
 {
@@ -268,7 +254,7 @@ fn see_statement(seen: &mut Variables, statement: &ResolvedStatement) -> Result<
 /// Sees statements.
 #[tactic(auto, unfolding(om_rows::specs::Slots::statements_sights))]
 #[cycle(statement)]
-fn see_statements(seen: &mut Variables, items: &[ResolvedStatement]) -> Result<(), AllocError>
+fn see_statements(seen: &mut Variables, items: &[ResolvedStatement]) -> Made<()>
     ensures { let tree = trees.statements (map view_resolved_statement items.now) in
         OnOk result (Sees (statements_sights tree) seen.old seen.new) }
 {
@@ -281,7 +267,7 @@ fn see_statements(seen: &mut Variables, items: &[ResolvedStatement]) -> Result<(
 /// Sees the parts of `sections`.
 #[tactic(auto, unfolding(om_rows::specs::Slots::parts_sights))]
 #[cycle(statement)]
-fn see_parts(seen: &mut Variables, parts: &[ResolvedPart]) -> Result<(), AllocError>
+fn see_parts(seen: &mut Variables, parts: &[ResolvedPart]) -> Made<()>
     ensures { let tree = trees.parts (map view_resolved_part parts.now) in
         OnOk result (Sees (parts_sights tree) seen.old seen.new) }
 {

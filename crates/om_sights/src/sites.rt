@@ -9,9 +9,9 @@ ghost use Rattle.om_resolved.specs.Weights.{function_weight, parts_weight, state
 ghost use Rattle.om_rows.specs.Bodies as bodies;
 ghost use Rattle.om_rows.specs.Numbering.{numbers_of};
 
-use om_resolved::{ResolvedFunction, ResolvedPart, ResolvedStatement};
+use om_resolved::{Made, ResolvedFunction, ResolvedPart, ResolvedStatement};
 use om_rows::{Numbers, Region};
-use std::alloc::{AllocError, Global};
+use std::alloc::Global;
 
 /// What a body is the code of: the whole of its function, or a region.
 #[derive(Clone, Copy)]
@@ -36,7 +36,7 @@ pub fn sites_of<'a>(
     alloc: Global,
     function: &'a ResolvedFunction,
     numbers: Numbers,
-) -> Result<Vec<Site<'a>>, AllocError>
+) -> Made<Vec<Site<'a>>>
     requires room { HasNumbers (function_weight (view_resolved_function function.now)) numbers }
     ensures { let tree = view_resolved_function function.now in
         IfOk result (λ sites.
@@ -73,7 +73,7 @@ fn see_region<'a>(
     numbers: Numbers,
     part: &BodyPart<'a>,
     body: &'a ResolvedStatement,
-) -> Result<Numbers, AllocError>
+) -> Made<Numbers>
     requires round { IsOpen round.now sites.old.items }
     requires room { HasNumbers (1 + statement_weight (view_resolved_statement body.now)) numbers }
     ensures behind { let n = bodies.next_body (numbers_of numbers) in
@@ -103,7 +103,7 @@ fn see_statement<'a>(
     round: &Site<'a>,
     numbers: Numbers,
     statement: &'a ResolvedStatement,
-) -> Result<Numbers, AllocError>
+) -> Made<Numbers>
     requires round { IsOpen round.now sites.old.items }
     requires room { HasNumbers (statement_weight (view_resolved_statement statement.now)) numbers }
     ensures behind { let tree = view_resolved_statement statement.now in
@@ -176,7 +176,7 @@ fn see_statements<'a>(
     round: &Site<'a>,
     numbers: Numbers,
     items: &'a [ResolvedStatement],
-) -> Result<Numbers, AllocError>
+) -> Made<Numbers>
     requires round { IsOpen round.now sites.old.items }
     requires room { let tree = trees.statements (map view_resolved_statement items.now) in
         HasNumbers (statements_weight tree) numbers }
@@ -202,7 +202,7 @@ fn see_parts<'a>(
     round: &Site<'a>,
     numbers: Numbers,
     parts: &'a [ResolvedPart],
-) -> Result<Numbers, AllocError>
+) -> Made<Numbers>
     requires round { IsOpen round.now sites.old.items }
     requires room { let tree = trees.parts (map view_resolved_part parts.now) in
         HasNumbers (parts_weight tree) numbers }

@@ -13,9 +13,9 @@ ghost use Rattle.om_rows.specs.Numbering.{function_numbers, numbers_of};
 ghost use Rattle.om_rows.specs.ProgramTables.{AreCellsOf, IsTablesOf};
 
 use crate::mentions::{Mentions, Walk, note_statements, put_end};
-use om_resolved::{Resolved, ResolvedFunction};
+use om_resolved::{Made, Resolved, ResolvedFunction};
 use om_rows::{Extents, Numbers, Tables, Texts};
-use std::alloc::{AllocError, Global};
+use std::alloc::Global;
 
 /// A walk over functions, and what each of them has.
 #[derive(Drop)]
@@ -26,7 +26,7 @@ struct Functions {
 }
 
 /// The tables of a tree: one walk over it finds them all.
-pub fn tables_of(alloc: Global, resolved: &Resolved) -> Result<Tables, AllocError>
+pub fn tables_of(alloc: Global, resolved: &Resolved) -> Made<Tables>
     requires small { HasSmallWeight (view_resolved resolved.now) }
     ensures { IfOk result (λ tables. IsTablesOf (view_resolved resolved.now) tables) }
 {
@@ -70,7 +70,7 @@ pub fn tables_of(alloc: Global, resolved: &Resolved) -> Result<Tables, AllocErro
 
 /// Walks over all functions, from the first numbers on.
 #[tactic(auto, using(crate::proofs::Noting::cells_next, crate::proofs::Noting::cells_done))]
-fn note_functions(made: &mut Functions, functions: &[ResolvedFunction]) -> Result<(), AllocError>
+fn note_functions(made: &mut Functions, functions: &[ResolvedFunction]) -> Made<()>
     requires numbers { numbers_of made.old.walk.numbers ≡ bodies.first_numbers }
     requires empty { made.old.walk.found.extents ≡ [] }
     requires none { made.old.extents.items ≡ [] }
@@ -100,7 +100,7 @@ fn note_functions(made: &mut Functions, functions: &[ResolvedFunction]) -> Resul
 
 /// Walks over a function.
 #[tactic(auto, using(crate::proofs::Cells::cells_measured))]
-fn note_function(made: &mut Functions, function: &ResolvedFunction) -> Result<(), AllocError>
+fn note_function(made: &mut Functions, function: &ResolvedFunction) -> Made<()>
     requires empty { made.old.walk.found.extents ≡ [] }
     requires room { HasRoom (function_weight (view_resolved_function function.now)) made.old.walk }
     ensures behind { let tree = view_resolved_function function.now in
@@ -131,7 +131,7 @@ fn note_function(made: &mut Functions, function: &ResolvedFunction) -> Result<()
 
 /// Walks over the body of a function.
 #[tactic(auto, using(crate::proofs::Ending::end_placed))]
-fn note_body(walk: &mut Walk, function: &ResolvedFunction) -> Result<(), AllocError>
+fn note_body(walk: &mut Walk, function: &ResolvedFunction) -> Made<()>
     requires room { HasRoom (function_weight (view_resolved_function function.now)) walk.old }
     ensures behind { let tree = view_resolved_function function.now in
         OnOk result (numbers_of walk.new.numbers ≡ bodies.behind_function (numbers_of walk.old.numbers) tree) }

@@ -13,7 +13,7 @@ use Rattle.om_sights.proofs.Rooms.{formats_behind, text_behind}
 use Rattle.om_sights.proofs.Weights.{weight_assign_element, weight_binary, weight_call, weight_conditional, weight_of}
 use Rattle.om_rows.specs.Mentions.{values_formats}
 use Rattle.om_sights.proofs.Weights.{smaller_inner, value_left, weight_inner, weight_print, with_depth}
-use Rattle.om_sights.proofs.formats.+expression.Goals as goal
+use Rattle.om_sights.proofs.mentions.+expression.Goals as goal
 
 pub note_expression-note_values-requires : goal.note_expression-note_values-requires
 unfolding IsRoomFor

@@ -5,7 +5,7 @@ use Rattle.om_resolved.specs.Weights.{values_weight}
 use Rattle.om_rows.specs.Mentions.{values_formats}
 use Rattle.om_sights.specs.Noted.{noted}
 use Rattle.om_sights.specs.Room.{IsRoomFor}
-use Rattle.om_sights.proofs.formats.+expression.Given as goal
+use Rattle.om_sights.proofs.mentions.+expression.Given as goal
 
 abbrev pub invariant-note_values-loop-value : goal.invariant-note_values-loop-value
 invariant-note_values-loop-value l =
