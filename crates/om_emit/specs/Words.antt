@@ -1,4 +1,4 @@
--- What contracts of this crate name, from here and from the crates below.
+-- The words of the clauses of this crate, so that a file takes them from one place.
 pub use Rattle.om_emit.specs.Drafts.{PutsAll}
 pub use Rattle.om_emit.specs.Emits.{Adds, Appends, Goes, listed, place_at, site}
 pub use Rattle.om_resolved.specs.ResolvedView.{view_resolved_expression}

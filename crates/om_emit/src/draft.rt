@@ -164,8 +164,8 @@ impl Draft {
         Ok(labels)
     }
 
-    /// The code, with the place of each label in its stead: a place has 32 bits, so that fewer than
-    /// 2^32 instructions are written. The only error is out of memory.
+    /// The code, with the place of each label in its stead. A place has 32 bits there, so the code has
+    /// fewer than 2^32 instructions. The only error is out of memory.
     pub fn settle(&self, alloc: Global) -> Made<Seq<Line>>
         requires { length self.now.code < 2 ^ 32 }
         ensures { IfOk result (λ code. code ≡ settled_code self.now) }
