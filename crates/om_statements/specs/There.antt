@@ -16,7 +16,7 @@ use Rattle.om_rows.specs.Slots.{FirstCopy}
 use Rattle.om_rows.specs.Statements.{given_copies}
 use Rattle.om_rows.specs.declared.body.BodyTables.{BodyTables}
 use Rattle.om_rows.specs.declared.numbers.Numbers.{Numbers}
-use Rattle.om_rows.specs.declared.region.Region.{Region}
+use Rattle.om_rows.specs.declared.copies.Region.{Region}
 use Rattle.om_emit.specs.Drafts.{Written}
 use Rattle.om_statements.specs.Emits.{EmitsStatement, EmitsStatements}
 use Rattle.om_statements.specs.Scoped.{EmitsScopes}
