@@ -1,5 +1,5 @@
 -- A value put at an object, as a change of what every object holds.
-use Rattle.std.proofs.Common.{◌≡◌, refl, ◌∙◌, ap, Bool, true, false, cond, ℤ, to_z, of_z, neg_ℤ}
+use Rattle.std.proofs.Common.{◌≡◌, ℕ, refl, ◌∙◌, ap, Bool, true, false, cond, ℤ, to_z, of_z, neg_ℤ}
 use Rattle.std.specs.Int.{w128}
 use Rattle.std.specs.Prelude.{FitsSigned}
 use Rattle.std.proofs.lemmas.Int.{to_z-of_z}
@@ -11,7 +11,7 @@ use Rattle.om_foot.specs.Objects.{obj_eq-true}
 use Rattle.om_cells.specs.declared.value.Val.{Val}
 use Rattle.om_cells.specs.declared.step.Update.{Update}
 use Rattle.om_cells.specs.declared.step.Update.TheVariants as update
-use Rattle.om_cells.specs.Values.{value_plus}
+use Rattle.om_cells.specs.Values.{value_plus, value_cut}
 use Rattle.om_cells.specs.State.{State, with_value, state_after, state_before}
 
 changed_value : (e : Bool) (f : Val → Val) (here there : Val) → (e ≡ true → here ≡ there)
@@ -35,6 +35,11 @@ pub subtracted_at : (o : Obj) (d : ℤ) (s : State) → FitsSigned w128 d
     (record { object = o; mode = mode.Add }) (update.Add d) s
 subtracted_at o d s fits = ap (λ x. with_value o (value_plus (neg_ℤ x) (s o)) s) (to_z-of_z w128 d fits)
     ∙ changed_at o (value_plus (neg_ℤ d)) s
+
+-- a log that is cut back
+pub cut_at : (o : Obj) (n : ℕ) (s : State)
+    → with_value o (value_cut n (s o)) s ≡ state_before (record { object = o; mode = mode.Write }) (update.Cut n) s
+cut_at o n s = changed_at o (value_cut n) s
 
 same_either : (e : Bool) (v : Val) → v ≡ cond e v v
 same_either true v = refl
