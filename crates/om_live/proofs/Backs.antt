@@ -9,7 +9,6 @@ use Rattle.om_live.specs.Inverses.{turned_back, CanTurnBack, stack_back, CanStac
 
 pub turn_of_stack : (i : Inverse) (s : Stack) → CanTurnBack i s.top.value
     → stack_back i s ≡ record s { top = with_value s.top (turned_back i s.top.value) }
-turn_of_stack inverse.Began s can = absurd can
 turn_of_stack inverse.Same s can = refl
 turn_of_stack (inverse.Went x) s can = refl
 turn_of_stack (inverse.BeganFrame x y) s can = refl
@@ -27,7 +26,6 @@ turn_of_stack inverse.WasIdle s can = absurd can
 turn_of_stack (inverse.Was x) s can = absurd can
 
 pub can_turn_stack : (i : Inverse) (s : Stack) → CanTurnBack i s.top.value → CanStackBack i s
-can_turn_stack inverse.Began s can = absurd can
 can_turn_stack inverse.Same s can = can
 can_turn_stack (inverse.Went x) s can = can
 can_turn_stack (inverse.BeganFrame x y) s can = can
@@ -46,7 +44,6 @@ can_turn_stack (inverse.Was x) s can = absurd can
 
 pub stack_of_control : (i : Inverse) (s : Stack) → CanStackBack i s
     → reverted i (control.Running s) ≡ control.Running (stack_back i s)
-stack_of_control inverse.Began s can = absurd can
 stack_of_control inverse.Same s can = refl
 stack_of_control (inverse.Went x) s can = refl
 stack_of_control (inverse.BeganFrame x y) s can = refl
@@ -64,7 +61,6 @@ stack_of_control inverse.WasIdle s can = absurd can
 stack_of_control (inverse.Was x) s can = absurd can
 
 pub can_stack_control : (i : Inverse) (s : Stack) → CanStackBack i s → CanRevert i (control.Running s)
-can_stack_control inverse.Began s can = absurd can
 can_stack_control inverse.Same s can = can
 can_stack_control (inverse.Went x) s can = can
 can_stack_control (inverse.BeganFrame x y) s can = can

@@ -157,7 +157,6 @@ reverted i c = with_running (stack_back i) c
 
 -- where a control can be taken back so
 abbrev pub CanRevert : Inverse → Control → Type 0
-CanRevert inverse.Began c = ⊥
 CanRevert inverse.Same c = Unit {0}
 CanRevert inverse.Failed c = IsFaulted c
 CanRevert inverse.WasIdle c = Unit {0}

@@ -110,8 +110,6 @@ pub struct Went {
 /// something is pushed over it.
 #[derive(Drop)]
 pub enum Inverse {
-    /// A step began here; it is no edit.
-    Began,
     /// The edit changed nothing.
     Same,
     /// The running frame went to a place.
@@ -143,4 +141,12 @@ pub enum Inverse {
     WasIdle,
     /// The control that was there before, whole.
     Was(Box<Control>),
+}
+
+/// What takes an edit back, as a trail keeps it.
+#[derive(Drop)]
+pub struct Logged {
+    pub inverse: Inverse,
+    /// Whether a change began with this edit.
+    pub begins: bool,
 }

@@ -4,9 +4,10 @@ ghost use Rattle.std.specs.Prelude.{◌≡◌, ◌<◌, ◌∷◌, [], OnOk, OnE
 ghost use Rattle.om_cells.specs.declared.control.Control.TheVariants as plain;
 ghost use Rattle.om_cells.specs.Edits.{changed_by, changed, HasRoom, HaveRoom};
 ghost use Rattle.om_live.specs.Plain.{plain_control};
-ghost use Rattle.om_live.specs.Trails.{CanRewind, past_of, stepped, became, undone};
+ghost use Rattle.om_live.specs.Inverses.{reverted, CanRevert};
+ghost use Rattle.om_live.specs.Trails.{CanRewind, past_of, begun, stepped, became, undone};
 
-use crate::control::{Control, Inverse};
+use crate::control::{Control, Inverse, Logged};
 use crate::edit::{apply, become_control, revert};
 use crate::live::control_of;
 use crate::log::Log;
@@ -22,7 +23,7 @@ use std::marker::Model;
 #[derive(Drop)]
 pub struct Trail {
     control: Control,
-    inverses: Log<Inverse>,
+    inverses: Log<Logged>,
 }
 
 impl Model for Trail {
@@ -37,70 +38,105 @@ impl Model for Trail {
     ghost invariant = { λ t. CanRewind t.inverses t.control };
 }
 
-/// Makes one edit and logs what takes it back. When out of memory, the way back stays.
-fn edit_logged(
-    alloc: Global,
+/// Logs what takes an edit back that was made. When out of memory, the edit is taken back.
+fn log(
     control: &mut Control,
-    inverses: &mut Log<Inverse>,
-    edit: Edit,
+    inverses: &mut Log<Logged>,
+    inverse: Inverse,
+    begins: bool,
 ) -> Result<(), AllocError>
-    requires room { HasRoom edit (plain_control control.old) }
-    requires can_rewind { CanRewind inverses.old control.old }
-    ensures changed { OnOk result (plain_control control.new
-        ≡ changed_by edit (plain_control control.old)) }
-    ensures past { past_of inverses.new control.new ≡ past_of inverses.old control.old }
-    ensures can_rewind { CanRewind inverses.new control.new }
+    requires { CanRevert inverse control.old }
+    ensures logged { OnOk result
+        (inverses.new ≡ record { inverse = inverse; begins = begins } ∷ inverses.old) }
+    ensures same { OnOk result (control.new ≡ control.old) }
+    ensures unlogged_on_error { OnErr result (inverses.new ≡ inverses.old) }
+    ensures reverted_on_error { OnErr result (control.new ≡ reverted inverse control.old) }
 {
-    let inverse = apply(alloc, control, edit)?;
-    if let Err(failed) = inverses.push(inverse) {
-        revert(control, failed.value);
+    if let Err(failed) = inverses.push(Logged { inverse, begins }) {
+        revert(control, failed.value.inverse);
         return Err(AllocError);
     }
     Ok(())
 }
 
-/// Makes edits in turn. When out of memory, some of them are made, and the way back stays.
+/// Makes one edit and logs what takes it back. When out of memory, nothing changes.
+fn edit_logged(
+    alloc: Global,
+    control: &mut Control,
+    inverses: &mut Log<Logged>,
+    edit: Edit,
+    begins: bool,
+) -> Result<(), AllocError>
+    requires room { HasRoom edit (plain_control control.old) }
+    requires can_rewind { CanRewind inverses.old control.old }
+    ensures changed { OnOk result (plain_control control.new
+        ≡ changed_by edit (plain_control control.old)) }
+    ensures past { OnOk result (past_of inverses.new control.new
+        ≡ begun begins control.old (past_of inverses.old control.old)) }
+    ensures can_rewind { OnOk result (CanRewind inverses.new control.new) }
+    ensures same_control_on_error { OnErr result (control.new ≡ control.old) }
+    ensures same_log_on_error { OnErr result (inverses.new ≡ inverses.old) }
+{
+    let inverse = apply(alloc, control, edit)?;
+    log(control, inverses, inverse, begins)
+}
+
+/// Makes a change of edits, in turn. When out of memory, those that were made are taken back.
 fn edit_all(
     alloc: Global,
     control: &mut Control,
-    inverses: &mut Log<Inverse>,
+    inverses: &mut Log<Logged>,
     edits: Vec<Edit>,
 ) -> Result<(), AllocError>
     requires room { HaveRoom edits.items (plain_control control.old) }
     requires can_rewind { CanRewind inverses.old control.old }
     ensures changed { OnOk result (plain_control control.new
         ≡ changed edits.items (plain_control control.old)) }
-    ensures past { past_of inverses.new control.new ≡ past_of inverses.old control.old }
+    ensures past { OnOk result (past_of inverses.new control.new
+        ≡ plain_control control.old ∷ past_of inverses.old control.old) }
+    ensures unchanged_on_error { OnErr result (plain_control control.new
+        ≡ plain_control control.old) }
+    ensures same_past_on_error { OnErr result (past_of inverses.new control.new
+        ≡ past_of inverses.old control.old) }
     ensures can_rewind { CanRewind inverses.new control.new }
 {
+    let mut begins = true;
     for edit in edits {
-        edit_logged(alloc, control, inverses, edit)?;
+        if let Err(error) = edit_logged(alloc, control, inverses, edit, begins) {
+            if !begins {
+                rewind(control, inverses);
+            }
+            return Err(error);
+        }
+        begins = false;
+    }
+    if begins {
+        return log(control, inverses, Inverse::Same, true);
     }
     Ok(())
 }
 
-/// Puts another control and logs what takes that back. When out of memory, the way back stays.
+/// Makes a change of another control that is put. When out of memory, nothing changes.
 fn become_logged(
     alloc: Global,
     control: &mut Control,
-    inverses: &mut Log<Inverse>,
+    inverses: &mut Log<Logged>,
     next: Control,
 ) -> Result<(), AllocError>
     requires can_rewind { CanRewind inverses.old control.old }
     ensures changed { OnOk result (control.new ≡ next) }
-    ensures past { past_of inverses.new control.new ≡ past_of inverses.old control.old }
-    ensures can_rewind { CanRewind inverses.new control.new }
+    ensures past { OnOk result (past_of inverses.new control.new
+        ≡ plain_control control.old ∷ past_of inverses.old control.old) }
+    ensures can_rewind { OnOk result (CanRewind inverses.new control.new) }
+    ensures same_control_on_error { OnErr result (control.new ≡ control.old) }
+    ensures same_log_on_error { OnErr result (inverses.new ≡ inverses.old) }
 {
     let inverse = become_control(alloc, control, next)?;
-    if let Err(failed) = inverses.push(inverse) {
-        revert(control, failed.value);
-        return Err(AllocError);
-    }
-    Ok(())
+    log(control, inverses, inverse, true)
 }
 
 /// Goes back to where the latest change began. It takes no memory.
-fn rewind(control: &mut Control, inverses: &mut Log<Inverse>)
+fn rewind(control: &mut Control, inverses: &mut Log<Logged>)
     requires can_rewind { CanRewind inverses.old control.old }
     requires stepped { 0 < length (past_of inverses.old control.old) }
     ensures past { plain_control control.new ∷ past_of inverses.new control.new
@@ -108,10 +144,12 @@ fn rewind(control: &mut Control, inverses: &mut Log<Inverse>)
     ensures can_rewind { CanRewind inverses.new control.new }
 {
     for _ in 0..inverses.len() {
-        match inverses.pop() {
-            Some(Inverse::Began) => return,
-            Some(inverse) => revert(control, inverse),
-            None => unreachable!(),
+        let Some(Logged { inverse, begins }) = inverses.pop() else {
+            unreachable!()
+        };
+        revert(control, inverse);
+        if begins {
+            return;
         }
     }
     unreachable!()
@@ -151,13 +189,8 @@ impl Trail {
         ensures stepped { OnOk result (self.new ≡ stepped edits self.old) }
         ensures unchanged_on_error { OnErr result (self.new ≡ self.old) }
     {
-        self.inverses.push(Inverse::Began)?;
         let edits = edits.into_vec();
-        let made = edit_all(alloc, &mut self.control, &mut self.inverses, edits);
-        if made.is_err() {
-            rewind(&mut self.control, &mut self.inverses);
-        }
-        made
+        edit_all(alloc, &mut self.control, &mut self.inverses, edits)
     }
 
     /// Puts another control, as a FORK does for a member. When out of memory, nothing changes.
@@ -166,12 +199,7 @@ impl Trail {
         ensures unchanged_on_error { OnErr result (self.new ≡ self.old) }
     {
         let next = control_of(alloc, next)?;
-        self.inverses.push(Inverse::Began)?;
-        let made = become_logged(alloc, &mut self.control, &mut self.inverses, next);
-        if made.is_err() {
-            rewind(&mut self.control, &mut self.inverses);
-        }
-        made
+        become_logged(alloc, &mut self.control, &mut self.inverses, next)
     }
 
     /// Takes the latest change that stands back, in place. It takes no memory.
