@@ -106,7 +106,7 @@ fn make(
         line: _,
     } = change;
     let shared = keep_footprint(store, alloc, &footprint)?;
-    let mut made = Kept::of(alloc, entry, shared)?;
+    let mut made = Kept::of(alloc, entry, shared);
     let mut back = updates.into_vec();
     back.shrink_to_fit();
     match make_changes(store, alloc, &made, edits, &mut back) {
