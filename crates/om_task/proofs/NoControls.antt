@@ -1,4 +1,4 @@
--- A row that names no control is shaped, whatever it puts.
+-- A row that names no control is shaped, if it puts cells at cells.
 use Rattle.std.proofs.Common.{◌≡◌, refl, ℕ, zero, suc, ◌+◌, Bool, true, false, if◌then◌else◌}
 use Rattle.std.proofs.Common.{List, [], ◌∷◌, ◌++◌, Option, None, Some}
 use Rattle.om_foot.specs.declared.footprint.Access.{Access}
@@ -24,6 +24,7 @@ use Rattle.om_fork.specs.Barriers.{arrivals, barrier}
 use Rattle.om_fork.specs.Teams.{member_cells}
 use Rattle.om_task.specs.Tasks.{counts}
 use Rattle.om_task.specs.Shapes.{is_trailed, IsControl, IsShapedAt, AreShaped}
+use Rattle.om_task.proofs.CellPuts.{RowPutsCells, RowPutsNothingElse, NameNoCell, row_without, row_of_cells}
 
 -- the updates of a row are shaped along its names
 abbrev pub RowShaped : List Access → Row → Type 0
@@ -33,6 +34,7 @@ RowShaped names _ = Unit {0}
 -- so they are whatever is read
 pub record AskedShaped (a : Asked) : Type 0 where
   pub row : (values : List Val) → RowShaped a.names (a.row values)
+  pub cells : (values : List Val) → RowPutsCells a.names (a.row values)
 
 -- no access names a control
 abbrev pub NameNoControl : List Access → Type 0
@@ -82,12 +84,22 @@ row_shaped names (Faults f) h = tt
 row_shaped names (Blocked b) h = tt
 row_shaped names Lacks h = tt
 
-pub plain : (a : Asked) → NameNoControl a.names → AskedShaped a
-plain a h = record { row = λ values. row_shaped a.names (a.row values) h }
+pub plain : (a : Asked) → NameNoControl a.names → ((values : List Val) → RowPutsCells a.names (a.row values))
+    → AskedShaped a
+plain a h k = record { row = λ values. row_shaped a.names (a.row values) h; cells = k }
+
+-- a row that puts nothing but cells
+pub of_cells : (a : Asked) → NameNoControl a.names → ((values : List Val) → RowPutsNothingElse (a.row values))
+    → AskedShaped a
+of_cells a h k = plain a h (λ values. row_of_cells a.names (a.row values) (k values))
+
+-- a row that names no cell either
+pub apart : (a : Asked) → NameNoControl a.names → NameNoCell a.names → AskedShaped a
+apart a h k = plain a h (λ values. row_without a.names (a.row values) k)
 
 -- a row that names nothing
 pub by_control : (r : Row) → AskedShaped (decided r)
-by_control r = plain (decided r) tt
+by_control r = apart (decided r) tt tt
 
 pub if_asked : (b : Bool) (x y : Asked) → AskedShaped x → AskedShaped y → AskedShaped (if b then x else y)
 if_asked true x y h k = h

@@ -16,7 +16,8 @@ use Rattle.om_steps.specs.Begins.{first_frame}
 use Rattle.om_steps.specs.Objects.{events, homes_in}
 use Rattle.om_fork.specs.Teams.{first_busy, member_cells, member_controls, workers_from}
 use Rattle.om_fork.specs.Rows.{forked, team_row, team_of, named_row, sized_row, fork_row}
-use Rattle.om_task.specs.Shapes.{AreShaped}
+use Rattle.om_task.specs.Shapes.{AreShaped, PutCells}
+use Rattle.om_task.proofs.CellPuts.{RowPutsCells, only_cells, member_cells_put}
 use Rattle.om_task.proofs.NoControls.{NameNoControl, RowShaped, AskedShaped, none_append, none_shaped, members_none}
 use Rattle.om_task.proofs.NoControls.{by_control, if_asked}
 
@@ -29,12 +30,26 @@ controls_shaped team frame worker number (suc count) names us h = (
   controls_shaped team frame (worker + 1) (number + 1) count names us h,
 )
 
+controls_apart : (team : Team) (frame : Frame) (worker number count : ℕ) (names : List Access) (us : List Update)
+    → PutCells names us → PutCells (workers_from worker count ++ names) (member_controls team frame number count ++ us)
+controls_apart team frame worker number zero names us h = h
+controls_apart team frame worker number (suc count) names us h = (
+  tt,
+  controls_apart team frame (worker + 1) (number + 1) count names us h,
+)
+
 forked_shaped : (launch : Launch) (task : List ℕ) (team : Team) (frame : Frame) (ns : List ℤ) (names : List Access)
     (busy : Option ℕ) → NameNoControl names
     → RowShaped (workers_from 1 (team.size - 1) ++ names) (forked launch task team frame ns busy)
 forked_shaped launch task team frame ns names (Some worker) h = tt
 forked_shaped launch task team frame ns names None h = controls_shaped team frame 1 1 (team.size - 1) names _
     (none_shaped names _ h)
+
+forked_cells : (launch : Launch) (task : List ℕ) (team : Team) (frame : Frame) (ns : List ℤ) (names : List Access)
+    (busy : Option ℕ) → RowPutsCells (workers_from 1 (team.size - 1) ++ names) (forked launch task team frame ns busy)
+forked_cells launch task team frame ns names (Some worker) = tt
+forked_cells launch task team frame ns names None = controls_apart team frame 1 1 (team.size - 1) names _
+    (only_cells names _ (member_cells_put ns team.size _ tt))
 
 team_shaped : (worker : ℕ) (launch : Launch) (body : Body) (c : Context) (team : Team) (ns : List ℤ)
     → AskedShaped (team_row worker launch body c team ns)
@@ -43,6 +58,9 @@ team_shaped worker launch body c team ns = record {
       (member_cells team.name body.given 0 team.size ++ events worker ∷ [])
       (first_busy 1 (team.size - 1) values)
       (none_append _ _ (members_none team.name body.given 0 team.size) (refl, tt));
+  cells = λ values. forked_cells launch c.task team (first_frame launch.body (homes_in c body.slots)) ns
+      (member_cells team.name body.given 0 team.size ++ events worker ∷ [])
+      (first_busy 1 (team.size - 1) values);
 }
 
 named_shaped : (worker workers : ℕ) (launch : Launch) (body : Body) (c : Context) (asked : Option ℕ) (ns : List ℤ)

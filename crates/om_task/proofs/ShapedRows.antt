@@ -20,6 +20,7 @@ use Rattle.om_team.specs.Sites.{Site, site, context, operands, next, slots, line
 use Rattle.om_team.specs.Table.{fork_takes}
 use Rattle.om_task.specs.Rules.{choice_row, next_row, leaving, admits_all, further_in, row_in}
 use Rattle.om_task.specs.Table.{row_of}
+use Rattle.om_task.proofs.CellPuts.{RowPutsCells}
 use Rattle.om_task.proofs.NoControls.{RowShaped, AskedShaped, by_control}
 use Rattle.om_task.proofs.ShapedForks.{fork_shaped}
 use Rattle.om_task.proofs.ShapedShares.{loop_shaped, sections_shaped, grab_shaped, iterate_shaped, pick_shaped}
@@ -115,3 +116,11 @@ row_shaped program workers l (Running stack) values = (choice_shaped (site progr
 row_shaped program workers l Idle values = tt
 row_shaped program workers l (Faulted fault stack) values = tt
 row_shaped program workers l (Ended result) values = tt
+
+pub row_puts_cells : (program : Raw) (workers : ℕ) (l : Label) (c : controls.Control) (values : List Val)
+    → RowPutsCells (further_in program workers l c) (row_in program workers l c values)
+row_puts_cells program workers l (Running stack) values = (choice_shaped (site program workers l.worker stack)
+    (instruction_at program stack.top.frame.body stack.top.frame.next) l.choice).cells values
+row_puts_cells program workers l Idle values = tt
+row_puts_cells program workers l (Faulted fault stack) values = tt
+row_puts_cells program workers l (Ended result) values = tt

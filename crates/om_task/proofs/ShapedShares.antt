@@ -1,4 +1,4 @@
--- The rows of worksharing, masked and critical regions are shaped: they name no control.
+-- The rows of worksharing, masked and critical regions are shaped: they name no control, and put cells at cells.
 use Rattle.std.proofs.Common.{refl, ℕ, ℤ, Bool, true, false, List, [], Option, None, Some}
 use Rattle.std.specs.Prelude.{nat_lt, pos}
 use Rattle.std.specs.Ordering.{int_eq}
@@ -21,11 +21,11 @@ use Rattle.om_share.specs.Rows.{recorded, open_row, loop_row, loop_of, sections_
 use Rattle.om_share.specs.Rows.{grab_row, value_row, int_of, iteration_row, iterate_row, is_loop, is_masked, is_critical}
 use Rattle.om_share.specs.Rows.{is_right_form, pick_row, single_row, end_worksharing_row, filtered_row, masked_row}
 use Rattle.om_share.specs.Rows.{end_masked_row, ask_critical_row, enter_critical_row, leave_critical_row}
-use Rattle.om_task.proofs.NoControls.{AskedShaped, object_none, plain, by_control, if_asked}
+use Rattle.om_task.proofs.NoControls.{AskedShaped, object_none, of_cells, apart, by_control, if_asked}
 
 -- a row that appends one event record alone
 recorded_shaped : (worker : ℕ) (es : List Edit) (entry : Record) → AskedShaped (recorded worker es entry)
-recorded_shaped worker es entry = plain (recorded worker es entry) (refl, tt)
+recorded_shaped worker es entry = apart (recorded worker es entry) (refl, tt) (refl, tt)
 
 open_shaped : (worker to takes : ℕ) (c : Context) (share : Share) → AskedShaped (open_row worker to takes c share)
 open_shaped worker to takes c share = if_asked (is_misplaced c) _ _ (by_control (Faults fault.Nesting))
@@ -43,9 +43,9 @@ sections_shaped worker to c count = open_shaped worker to 0 c _
 
 chunk_shaped : (to otherwise : ℕ) (c : Context) (share : Share) (s : Schedule)
     → AskedShaped (chunk_row to otherwise c share s)
-chunk_shaped to otherwise c share schedule.Static = plain (static_row to otherwise c share None) tt
-chunk_shaped to otherwise c share (schedule.StaticChunk size) = plain (static_row to otherwise c share (Some size)) tt
-chunk_shaped to otherwise c share (schedule.Dynamic size) = plain (dynamic_row to otherwise c share size) (refl, tt)
+chunk_shaped to otherwise c share schedule.Static = apart (static_row to otherwise c share None) tt tt
+chunk_shaped to otherwise c share (schedule.StaticChunk size) = apart (static_row to otherwise c share (Some size)) tt tt
+chunk_shaped to otherwise c share (schedule.Dynamic size) = apart (dynamic_row to otherwise c share size) (refl, tt) (refl, tt)
 
 pub grab_shaped : (to otherwise : ℕ) (c : Context) (share : Option Share) → AskedShaped (grab_row to otherwise c share)
 grab_shaped to otherwise c (Some share) = chunk_shaped to otherwise c share share.schedule
@@ -53,7 +53,8 @@ grab_shaped to otherwise c None = by_control Lacks
 
 value_shaped : (to : ℕ) (c : Context) (slot : ℕ) (share : Share) (value : Option ℤ)
     → AskedShaped (value_row to c slot share value)
-value_shaped to c slot share (Some x) = plain (value_row to c slot share (Some x)) (object_none c (Slot slot) 0, tt)
+value_shaped to c slot share (Some x) = of_cells (value_row to c slot share (Some x)) (object_none c (Slot slot) 0, tt)
+    (λ values. (tt, tt))
 value_shaped to c slot share None = by_control Lacks
 
 iteration_shaped : (to otherwise : ℕ) (c : Context) (slot : ℕ) (share : Share)
@@ -74,7 +75,7 @@ pick_shaped targets None = by_control Lacks
 
 pub single_shaped : (worker to otherwise : ℕ) (c : Context) → AskedShaped (single_row worker to otherwise c)
 single_shaped worker to otherwise c = if_asked (is_misplaced c) _ _ (by_control (Faults fault.Nesting))
-    (plain _ (refl, (refl, tt)))
+    (apart _ (refl, (refl, tt)) (refl, (refl, tt)))
 
 pub end_worksharing_shaped : (worker to : ℕ) (c : Context) (region : Option Construct)
     → AskedShaped (end_worksharing_row worker to c region)
@@ -88,7 +89,7 @@ end_worksharing_shaped worker to c None = by_control Lacks
 filtered_shaped : (worker to otherwise : ℕ) (c : Context) (own : Bool)
     → AskedShaped (filtered_row worker to otherwise c own)
 filtered_shaped worker to otherwise c true = recorded_shaped worker _ _
-filtered_shaped worker to otherwise c false = plain (filtered_row worker to otherwise c false) (refl, tt)
+filtered_shaped worker to otherwise c false = apart (filtered_row worker to otherwise c false) (refl, tt) (refl, tt)
 
 pub masked_shaped : (worker to otherwise : ℕ) (c : Context) (number : Option ℤ)
     → AskedShaped (masked_row worker to otherwise c number)
@@ -105,9 +106,10 @@ ask_critical_shaped worker to lock = recorded_shaped worker _ _
 
 pub enter_critical_shaped : (worker to number : ℕ) (lock : List ℕ)
     → AskedShaped (enter_critical_row worker to number lock)
-enter_critical_shaped worker to number lock = plain (enter_critical_row worker to number lock) (refl, (refl, tt))
+enter_critical_shaped worker to number lock = apart (enter_critical_row worker to number lock) (refl, (refl, tt))
+    (refl, (refl, tt))
 
 pub leave_critical_shaped : (worker to number : ℕ) (lock : List ℕ) (region : Option Construct)
     → AskedShaped (leave_critical_row worker to number lock region)
 leave_critical_shaped worker to number lock region = if_asked (is_critical number region) _ _
-    (plain _ (refl, (refl, tt))) (by_control Lacks)
+    (apart _ (refl, (refl, tt)) (refl, (refl, tt))) (by_control Lacks)

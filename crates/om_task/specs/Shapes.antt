@@ -1,4 +1,4 @@
--- What a step writes at the controls of workers: it puts a control there, and nothing else.
+-- What a step puts at the controls of workers and at the cells of variables: controls, and cells.
 use Rattle.std.specs.Prelude.{◌≡◌, ℕ, Bool, true, false, List, ◌∷◌}
 use Rattle.om_foot.specs.declared.object.Obj.{Obj}
 use Rattle.om_foot.specs.declared.object.Obj.TheVariants as obj
@@ -37,10 +37,34 @@ abbrev pub AreShaped : List Access → List Update → Type 0
 AreShaped (a ∷ rest) (u ∷ us) = IsShapedAt a.mode u (is_trailed a.object) × AreShaped rest us
 AreShaped _ _ = Unit {0}
 
--- rules whose steps write nothing but controls at controls
+-- whether an object is a cell of a variable
+abbrev pub is_cell : Obj → Bool
+is_cell (obj.Cell task frame slot index) = true
+is_cell (obj.Global variable index) = true
+is_cell _ = false
+
+-- a value that is put at a cell is a cell
+abbrev pub IsCell : Val → Bool → Type 0
+IsCell (value.Cell cell) is_one = Unit {0}
+IsCell v true = ⊥
+IsCell v false = Unit {0}
+
+-- what an update puts there, if anything, is a cell
+abbrev pub PutsCell : Update → Bool → Type 0
+PutsCell (Put v) is_one = IsCell v is_one
+PutsCell u is_one = Unit {0}
+
+-- so it is along a footprint
+abbrev pub PutCells : List Access → List Update → Type 0
+PutCells (a ∷ rest) (u ∷ us) = PutsCell u (is_cell a.object) × PutCells rest us
+PutCells _ _ = Unit {0}
+
+-- rules whose steps write nothing but controls at controls, and put nothing but cells at cells
 pub record IsShapely (r : Rules) : Type 0 where
   pub shaped : (l : Label) (control : Val) (read : List Val) (us : List Update) → r.outcome l (control ∷ read)
       ≡ Updates us → AreShaped (control_access l ∷ r.further l control) us
+  pub cells : (l : Label) (control : Val) (read : List Val) (us : List Update) → r.outcome l (control ∷ read)
+      ≡ Updates us → PutCells (control_access l ∷ r.further l control) us
 
 abbrev pub ShapedRules : Type 0
 ShapedRules = (program : Raw) (workers : ℕ) → IsShapely (rules_of program workers)

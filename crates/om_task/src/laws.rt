@@ -16,7 +16,8 @@ pub fn calm_rules()
 {}
 
 /// Where a step writes a worker's control, it puts a control there: its own worker's at each step,
-/// and at FORK those of the other members too. It does nothing else there.
+/// and at FORK those of the other members too. It does nothing else there. And at a variable's cell
+/// it puts nothing but a cell.
 pub fn shaped_rules()
     ensures { ShapedRules }
 {}
