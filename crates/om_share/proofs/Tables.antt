@@ -1,7 +1,8 @@
 -- Rows of the table from their parts.
-use Rattle.std.proofs.Common.{◌≡◌, subst, ℕ, ℤ, arith, Bool, true, Option, None, Some}
+use Rattle.std.proofs.Common.{◌≡◌, refl, subst, ℕ, ℤ, arith, Bool, true, List, [], ◌∷◌, Option, None, Some}
 use Rattle.std.specs.Prelude.{Result, IfOk}
 use Rattle.std.proofs.lemmas.Grind.{common_steps}
+use Rattle.om_foot.specs.declared.object.Obj.TheVariants as obj
 use Rattle.om_code.specs.declared.instruction.LoopForm.{LoopForm}
 use Rattle.om_code.specs.declared.instruction.Schedule.TheVariants as schedule
 use Rattle.om_cells.specs.declared.control.Construct.{Construct}
@@ -11,9 +12,11 @@ use Rattle.om_cells.specs.declared.control.Share.{Share}
 use Rattle.om_events.specs.declared.kind.Work.{Work}
 use Rattle.om_cells.specs.State.{State}
 use Rattle.om_steps.specs.declared.row.Answer.{Answer}
+use Rattle.om_steps.specs.Objects.{write, events}
 use Rattle.om_steps.specs.Rows.{Asked, answered}
 use Rattle.om_share.specs.Rows.{end_worksharing_row, closed_row, work_of, single_work, is_right_form, loop_of, open_row}
 use Rattle.om_share.specs.Rows.{loop_row, is_loop, iteration_row, iterate_row, grab_row, static_row}
+use Rattle.om_share.specs.Rows.{is_critical, unlock_row, leave_critical_row}
 
 -- what is promised of a row holds of the same row in other words
 pub carried : {E : Type 0} (r : Result Answer E) (a b : Asked) (s : State) → a ≡ b
@@ -50,3 +53,8 @@ pub single_closed : (worker to : ℕ) (c : Context) (found : Option Construct) (
     (w : Work) → found ≡ Some region → region ≡ construct.Single runs → w ≡ single_work runs → closed_row worker to
     c w 1 ≡ end_worksharing_row worker to c found
 single_closed worker to c found region runs w e g h = grind (arith, common_steps)
+
+pub unlocked : (worker to number : ℕ) (lock : List ℕ) (region : Option Construct) → is_critical number region ≡ true
+    → leave_critical_row worker to number lock region
+    ≡ record { names = write (obj.Lock number) ∷ events worker ∷ []; row = λ _. unlock_row to lock }
+unlocked worker to number lock region e = rw e refl
