@@ -2,7 +2,6 @@
 
 use crate::task::TaskName;
 use om_seq::Seq;
-use thiserror::Error;
 
 /// A variable as a command writes it: `x`, or `a[3]`.
 #[derive(Drop)]
@@ -56,13 +55,11 @@ pub enum Command {
 }
 
 /// Why a line is no command. The session goes on.
-#[derive(Clone, Copy, Debug, Drop, PartialEq, Eq, Error)]
+#[derive(Clone, Copy)]
 pub enum CommandFault {
-    /// The first word names no command.
-    #[error("H1 unknown command")]
+    /// H1: the first word names no command.
     UnknownCommand,
-    /// An argument is missing, wrong or one too many, or the line has more than 1,024 bytes.
-    #[error("H2 bad argument")]
+    /// H2: an argument is missing, wrong or one too many, or the line has more than 1,024 bytes.
     BadArgument,
 }
 
