@@ -18,3 +18,12 @@ pub mod Ready
 pub mod Refusing
 pub mod NamesMapped
 pub mod Assembled
+pub mod Lists
+pub mod Views
+pub mod Forms
+pub mod SectionsRow
+pub mod PartLists
+pub mod Inside
+pub mod RegionEnds
+pub mod Within
+pub mod Scoped

@@ -8,6 +8,7 @@ ghost use Rattle.om_lower.specs.Words.{settled_code, settled_lists, statement_of
 ghost use Rattle.om_lower.specs.Words.{view_resolved_function};
 
 use crate::functions::INSTRUCTION_LIMIT;
+use crate::statement::{inner, statements};
 use om_code::Instr;
 use om_code::instruction::Barrier;
 use om_code::raw::Line;
@@ -18,9 +19,8 @@ use om_rows::{BodyTables, Numbers, Region, VariableScope};
 use om_seq::Seq;
 use om_sights::{BodyPart, Site};
 use om_statements::clause::{parameters, reduction_starts, reductions, task_copies};
-use om_statements::last_instruction;
+use om_statements::declaration::last_instruction;
 use om_statements::spot::Spot;
-use om_statements::statement::{inner, statements};
 use om_statements::writing::Writing;
 use std::alloc::Global;
 

@@ -13,6 +13,7 @@ pub mod laws;
 mod lowering;
 mod names;
 mod program;
+mod statement;
 pub mod texts;
 
 pub use lowering::lower;

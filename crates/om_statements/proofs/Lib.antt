@@ -1,13 +1,6 @@
 pub mod Leaves
 pub mod Opened
-pub mod Lists
-pub mod Views
-pub mod Forms
 pub mod Regions
 pub mod SectionsRow
-pub mod PartLists
-pub mod Inside
-pub mod RegionEnds
-pub mod Within
 pub mod Scoped
 pub mod ScopeStacks

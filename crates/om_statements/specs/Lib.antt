@@ -4,5 +4,5 @@ pub mod Parts
 pub mod Going
 pub mod Scoped
 pub mod Scoping
-pub mod There
+pub mod Regions
 pub mod Words

@@ -1,19 +1,16 @@
-//! Lowering: writes the code of statements.
+//! Lowering: writes what stands in statements besides the statements in them.
 //!
 //! What has a statement in it is written by a begin, the statement and an end. The begin makes the
 //! labels, and the end places those that stand behind the statement.
 #![tactic(auto)]
 
-mod alone;
+pub mod alone;
 pub mod clause;
-mod construct;
-mod declaration;
+pub mod construct;
+pub mod declaration;
 mod operator;
-mod region;
-mod repeated;
+pub mod region;
+pub mod repeated;
 pub mod spot;
-pub mod statement;
-mod worksharing;
+pub mod worksharing;
 pub mod writing;
-
-pub use declaration::last_instruction;

@@ -18,7 +18,7 @@ use std::alloc::Global;
 
 /// Writes what stands in the place of a `parallel`, and gives the numbers behind it. Its body gets
 /// the number of the next one.
-pub(crate) fn parallel(
+pub fn parallel(
     alloc: Global,
     draft: &mut Draft,
     tables: &BodyTables<'_>,
@@ -51,7 +51,7 @@ pub(crate) fn parallel(
 
 /// Writes what stands in the place of a `task`, and gives the numbers behind it. Its body gets the
 /// number of the next one.
-pub(crate) fn task(
+pub fn task(
     alloc: Global,
     draft: &mut Draft,
     tables: &BodyTables<'_>,

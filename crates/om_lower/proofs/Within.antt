@@ -19,12 +19,12 @@ use Rattle.om_rows.specs.Coded.{PartsHaveCode, StatementHasCode, StatementsHaveC
 use Rattle.om_rows.specs.declared.numbers.Numbers as tables
 use Rattle.om_rows.specs.Ends.{HasAllEnds, HasEnds, HasPartsEnds, KnownBodies}
 use Rattle.om_rows.specs.Numbering.{numbers_of}
-use Rattle.om_statements.proofs.Inside.{code_at, construct_code, construct_inside, do_code, do_inside, else_inside, sections_code}
-use Rattle.om_statements.proofs.Inside.{for_code, for_inside, if_code, if_else_code, if_inside, loop_code, loop_inside}
-use Rattle.om_statements.proofs.Inside.{then_inside, while_code, while_inside}
-use Rattle.om_statements.proofs.RegionEnds.{construct_ends, do_ends, ends_at, ends_behind, for_ends, if_ends}
-use Rattle.om_statements.proofs.RegionEnds.{if_else_ends, loop_ends, sections_ends, while_ends}
-use Rattle.om_statements.proofs.Views.{view_block}
+use Rattle.om_lower.proofs.Inside.{code_at, construct_code, construct_inside, do_code, do_inside, else_inside, sections_code}
+use Rattle.om_lower.proofs.Inside.{for_code, for_inside, if_code, if_else_code, if_inside, loop_code, loop_inside}
+use Rattle.om_lower.proofs.Inside.{then_inside, while_code, while_inside}
+use Rattle.om_lower.proofs.RegionEnds.{construct_ends, do_ends, ends_at, ends_behind, for_ends, if_ends}
+use Rattle.om_lower.proofs.RegionEnds.{if_else_ends, loop_ends, sections_ends, while_ends}
+use Rattle.om_lower.proofs.Views.{view_block}
 
 abbrev Within : (ends : KnownBodies) → (tree s : ResolvedStatement) → Spot → Type 0
 Within ends tree s x = (size-ResolvedStatement s < size-ResolvedStatement tree)

@@ -21,8 +21,8 @@ use Rattle.om_rows.specs.Bodies.{Numbers, behind}
 use Rattle.om_rows.specs.Coded.{AssignmentHasCode, EffectHasCode, LoopHasCode, PartsHaveCode, StartHasCode}
 use Rattle.om_rows.specs.Coded.{StatementHasCode, StatementsHaveCode, ValueHasCode}
 use Rattle.om_rows.specs.declared.numbers.Numbers as tables
-use Rattle.om_statements.proofs.Views.{view_construct, view_do, view_for, view_if, view_if_else, view_loop, view_sections}
-use Rattle.om_statements.proofs.Views.{view_while}
+use Rattle.om_lower.proofs.Views.{view_construct, view_do, view_for, view_if, view_if_else, view_loop, view_sections}
+use Rattle.om_lower.proofs.Views.{view_while}
 
 -- ---- smaller
 

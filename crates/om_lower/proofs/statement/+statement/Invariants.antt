@@ -11,9 +11,9 @@ use Rattle.om_rows.specs.ProgramTables.{known_in}
 use Rattle.om_rows.specs.Scopes.{all_scopes, part_scopes}
 use Rattle.om_statements.specs.Parts.{AreFree}
 use Rattle.om_statements.specs.Scoping.{ScopesOn}
-use Rattle.om_statements.proofs.Lists.{Onward}
-use Rattle.om_statements.proofs.PartLists.{OnwardParts}
-use Rattle.om_statements.proofs.statement.+statement.Given as goal
+use Rattle.om_lower.proofs.Lists.{Onward}
+use Rattle.om_lower.proofs.PartLists.{OnwardParts}
+use Rattle.om_lower.proofs.statement.+statement.Given as goal
 
 -- what is left has code, whoever writes it has written all, and the numbers behind its regions are known
 abbrev pub invariant-statements-loop-item : goal.invariant-statements-loop-item

@@ -1,37 +1,37 @@
 //! The code of statements.
 
 ghost use Rattle.std.specs.Prelude.{◌≡◌, ◌≤◌, ◌+◌, ◌^◌, IfOk, OnOk, length, map};
-ghost use Rattle.om_statements.specs.Words.{AreFree, EmitsAllThere, EmitsParts, EmitsThere, GivesAllBehind};
-ghost use Rattle.om_statements.specs.Words.{GivesBehind, HasCodeThere, HasEndsThere, HasPartsEnds, HaveCodeThere};
-ghost use Rattle.om_statements.specs.Words.{HaveEndsThere, PartsHaveCode, ScopesThere, all_scopes, block};
-ghost use Rattle.om_statements.specs.Words.{known_in, numbered_by, numbers_of, part_scopes, scopes};
-ghost use Rattle.om_statements.specs.Words.{statement_trees, view_resolved_part, view_resolved_statement};
+ghost use Rattle.om_lower.specs.Words.{AreFree, EmitsAllThere, EmitsParts, EmitsThere, GivesAllBehind};
+ghost use Rattle.om_lower.specs.Words.{GivesBehind, HasCodeThere, HasEndsThere, HasPartsEnds, HaveCodeThere};
+ghost use Rattle.om_lower.specs.Words.{HaveEndsThere, PartsHaveCode, ScopesThere, all_scopes, block};
+ghost use Rattle.om_lower.specs.Words.{known_in, numbered_by, numbers_of, part_scopes, scopes};
+ghost use Rattle.om_lower.specs.Words.{statement_trees, view_resolved_part, view_resolved_statement};
 ghost use Rattle.om_resolved.specs.ResolvedTree as trees;
 ghost use Rattle.om_rows.specs.Bodies as rows;
 
-use crate::alone::{assignment, jump, stand_alone, update};
-use crate::construct::{begin_construct, end_construct};
-use crate::declaration::{declarators, returned};
-use crate::region::{parallel, task};
-use crate::repeated::{
-    begin_do, begin_else, begin_for, begin_if, begin_while, end_do, end_for, end_loop,
-};
-use crate::spot::Spot;
-use crate::worksharing::{
-    PartsSpot, SectionsHead, begin_parts, begin_worksharing, end_worksharing,
-};
-use crate::writing::Writing;
 use om_emit::draft::Jump;
 use om_emit::{Here, effect};
 use om_resolved::{ConstructKind, Made, ResolvedHead, ResolvedPart, ResolvedStatement};
 use om_rows::{BodyTables, Numbers, Region};
+use om_statements::alone::{assignment, jump, stand_alone, update};
+use om_statements::construct::{begin_construct, end_construct};
+use om_statements::declaration::{declarators, returned};
+use om_statements::region::{parallel, task};
+use om_statements::repeated::{
+    begin_do, begin_else, begin_for, begin_if, begin_while, end_do, end_for, end_loop,
+};
+use om_statements::spot::Spot;
+use om_statements::worksharing::{
+    PartsSpot, SectionsHead, begin_parts, begin_worksharing, end_worksharing,
+};
+use om_statements::writing::Writing;
 use std::alloc::Global;
 
 /// Writes the code of a statement, and gives the numbers behind it.
 ///
 /// Its only error is out of memory. What is in it has code, and the tables have the regions in it.
 #[cycle(statement)]
-pub fn statement(
+pub(crate) fn statement(
     alloc: Global,
     writing: &mut Writing,
     tables: &BodyTables<'_>,
@@ -250,7 +250,7 @@ pub fn statement(
 /// Writes the code of a statement of another one, which is a block of its own (C17 6.8.4p3, 6.8.5p5),
 /// and gives the numbers behind it.
 #[cycle(statement)]
-pub fn inner(
+pub(crate) fn inner(
     alloc: Global,
     writing: &mut Writing,
     tables: &BodyTables<'_>,
@@ -273,7 +273,7 @@ pub fn inner(
 
 /// Writes the code of statements, one behind the other, and gives the numbers behind them.
 #[cycle(statement)]
-pub fn statements(
+pub(crate) fn statements(
     alloc: Global,
     writing: &mut Writing,
     tables: &BodyTables<'_>,
@@ -299,7 +299,7 @@ pub fn statements(
 /// Writes the code of the parts of a `sections`, one behind the other, and gives the numbers behind
 /// them. Behind each the next part is taken.
 #[cycle(statement)]
-pub fn parts(
+pub(crate) fn parts(
     alloc: Global,
     writing: &mut Writing,
     tables: &BodyTables<'_>,

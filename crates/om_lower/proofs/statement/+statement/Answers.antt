@@ -17,36 +17,36 @@ use Rattle.om_rows.specs.BodyTables.{numbered_by}
 use Rattle.om_rows.specs.Numbered.{Numbered}
 use Rattle.om_rows.specs.Numbering.{numbers_of}
 use Rattle.om_statements.specs.Going.{free_with, with_none}
-use Rattle.om_statements.proofs.Lists.{left_item, left_next, no_atomic, numbers_are, onward_begin, onward_done, spot_is}
-use Rattle.om_statements.proofs.Lists.{statement_is}
-use Rattle.om_statements.proofs.RegionEnds.{sections_ends}
-use Rattle.om_statements.proofs.RegionEnds.{ends_here, ends_next, parallel_ends, parts_ends_here, parts_ends_next}
-use Rattle.om_statements.proofs.RegionEnds.{task_ends}
-use Rattle.om_statements.proofs.Views.{view_block, view_break, view_construct, view_continue, view_declaration, view_do}
-use Rattle.om_statements.proofs.Views.{view_empty}
-use Rattle.om_statements.proofs.Views.{view_expression, view_for, view_if, view_if_else, view_loop, view_parallel}
-use Rattle.om_statements.proofs.Views.{view_return, view_sections, view_stand_alone, view_task, view_update, view_while}
-use Rattle.om_statements.proofs.Forms.{close_clauses_are, construct_clauses_are, emits_construct, emits_do, emits_for}
-use Rattle.om_statements.proofs.Forms.{emits_if, emits_if_else, emits_loop, emits_while, loop_clauses_are}
-use Rattle.om_statements.proofs.PartLists.{free_first, free_start, items_are, left_count, left_part, onward_parts_begin}
-use Rattle.om_statements.proofs.PartLists.{onward_parts_done, opens_are, parts_are, parts_next}
-use Rattle.om_statements.proofs.SectionsRow.{emits_sections, labels_are}
-use Rattle.om_statements.proofs.Inside.{atomic_ends, code_here, if_code, if_else_code, parts_code_here, sections_few}
-use Rattle.om_statements.proofs.Inside.{while_code}
-use Rattle.om_statements.proofs.Within.{block_within, construct_within, do_within, else_within, for_within, if_within}
-use Rattle.om_statements.proofs.Within.{loop_within, parts_within, then_within, while_within, with_depth}
+use Rattle.om_lower.proofs.Lists.{left_item, left_next, no_atomic, numbers_are, onward_begin, onward_done, spot_is}
+use Rattle.om_lower.proofs.Lists.{statement_is}
+use Rattle.om_lower.proofs.RegionEnds.{sections_ends}
+use Rattle.om_lower.proofs.RegionEnds.{ends_here, ends_next, parallel_ends, parts_ends_here, parts_ends_next}
+use Rattle.om_lower.proofs.RegionEnds.{task_ends}
+use Rattle.om_lower.proofs.Views.{view_block, view_break, view_construct, view_continue, view_declaration, view_do}
+use Rattle.om_lower.proofs.Views.{view_empty}
+use Rattle.om_lower.proofs.Views.{view_expression, view_for, view_if, view_if_else, view_loop, view_parallel}
+use Rattle.om_lower.proofs.Views.{view_return, view_sections, view_stand_alone, view_task, view_update, view_while}
+use Rattle.om_lower.proofs.Forms.{close_clauses_are, construct_clauses_are, emits_construct, emits_do, emits_for}
+use Rattle.om_lower.proofs.Forms.{emits_if, emits_if_else, emits_loop, emits_while, loop_clauses_are}
+use Rattle.om_lower.proofs.PartLists.{free_first, free_start, items_are, left_count, left_part, onward_parts_begin}
+use Rattle.om_lower.proofs.PartLists.{onward_parts_done, opens_are, parts_are, parts_next}
+use Rattle.om_lower.proofs.SectionsRow.{emits_sections, labels_are}
+use Rattle.om_lower.proofs.Inside.{atomic_ends, code_here, if_code, if_else_code, parts_code_here, sections_few}
+use Rattle.om_lower.proofs.Inside.{while_code}
+use Rattle.om_lower.proofs.Within.{block_within, construct_within, do_within, else_within, for_within, if_within}
+use Rattle.om_lower.proofs.Within.{loop_within, parts_within, then_within, while_within, with_depth}
 use Rattle.om_rows.specs.Scopes.{all_scopes, scopes}
 use Rattle.om_rows.specs.Statements.{assignment_row}
 use Rattle.om_statements.specs.declared.spot.JumpLabels.{JumpLabels}
-use Rattle.om_statements.proofs.Scoped.{all_scopes_done, all_scopes_next, alone, construct_scopes_clauses}
-use Rattle.om_statements.proofs.Scoped.{construct_stands, do_scopes, for_scopes, if_else_scopes, if_scopes, loop_scopes}
-use Rattle.om_statements.proofs.Scoped.{loop_scopes_clauses, part_scopes_are, part_scopes_done, part_scopes_next}
-use Rattle.om_statements.proofs.Scoped.{part_stands, scopes_are, sections_scopes, sections_scopes_clauses, while_scopes}
+use Rattle.om_lower.proofs.Scoped.{all_scopes_done, all_scopes_next, alone, construct_scopes_clauses}
+use Rattle.om_lower.proofs.Scoped.{construct_stands, do_scopes, for_scopes, if_else_scopes, if_scopes, loop_scopes}
+use Rattle.om_lower.proofs.Scoped.{loop_scopes_clauses, part_scopes_are, part_scopes_done, part_scopes_next}
+use Rattle.om_lower.proofs.Scoped.{part_stands, scopes_are, sections_scopes, sections_scopes_clauses, while_scopes}
 use Rattle.om_statements.specs.declared.writing.ScopeStack.{ScopeStack}
 use Rattle.om_statements.specs.Parts.{AreFree}
 use Rattle.om_statements.specs.Scoped.{ScopesStand}
 use Rattle.om_statements.specs.Scoping.{scopes_begin, stand_block, stand_plain}
-use Rattle.om_statements.proofs.statement.+statement.Goals as goal
+use Rattle.om_lower.proofs.statement.+statement.Goals as goal
 
 pub statement-define-requires-in-IfElse : goal.statement-define-requires-in-IfElse
 statement-define-requires-in-IfElse t c =

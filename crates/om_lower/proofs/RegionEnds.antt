@@ -9,8 +9,8 @@ use Rattle.om_rows.specs.Bodies.{Numbers, behind, behind_all, next_body, next_pi
 use Rattle.om_statements.specs.declared.spot.Spot.{Spot}
 use Rattle.om_rows.specs.Ends.{HasAllEnds, HasEnds, HasPartsEnds, IsKnown, KnownBodies}
 use Rattle.om_rows.specs.Numbering.{numbers_of}
-use Rattle.om_statements.proofs.Views.{view_construct, view_do, view_for, view_if, view_if_else, view_loop}
-use Rattle.om_statements.proofs.Views.{view_parallel, view_sections, view_task, view_while}
+use Rattle.om_lower.proofs.Views.{view_construct, view_do, view_for, view_if, view_if_else, view_loop}
+use Rattle.om_lower.proofs.Views.{view_parallel, view_sections, view_task, view_while}
 
 pub if_ends : (ends : KnownBodies) (n : Numbers) (tree : ResolvedStatement) (at : _) (c : _) (s : _)
     → tree ≡ v.If at c s → HasEnds ends n (view_resolved_statement tree)
