@@ -1,5 +1,6 @@
 //! The words of the command line.
 ghost use Rattle.std.specs.Prelude.{◌<◌, ◌≤◌, IfOk};
+ghost use Rattle.ompback.specs.Arguments.{IsFile, IsThreads};
 ghost use Rattle.ompback.specs.Workers.{GivesWorkers};
 
 use clap::{Arg, ArgAction, ArgMatches, Command, Error};
@@ -63,23 +64,35 @@ pub fn words_in<'a>(alloc: Global, words: &'a [&'a str]) -> Result<Words<'a>, Er
 fn matches_in<'a>(alloc: Global, words: &'a [&'a str]) -> Result<ArgMatches<'a>, Error>
     ensures { IfOk result GivesWorkers }
 {
-    let threads = Arg::new(alloc, "threads")
+    let command = Command::new(alloc, "ompback")
+        .about(ABOUT)
+        .after_help(COMMANDS)
+        .arg(threads(alloc))?;
+    let command = command.arg(file(alloc))?;
+    command.try_get_matches_from(words)
+}
+
+// The number of workers.
+fn threads<'a>(alloc: Global) -> Arg<'a>
+    ensures { IsThreads result }
+{
+    Arg::new(alloc, "threads")
         .long("threads")
         .value_name("N")
         .help("How many workers there are, 1 to 32")
         .default_value("2")
         .action(ArgAction::Set)
-        .value_parser(clap::value_parser!(u8).range(1..=32));
-    let command = Command::new(alloc, "ompback")
-        .about(ABOUT)
-        .after_help(COMMANDS)
-        .arg(threads)?;
-    let file = Arg::new(alloc, "file")
+        .value_parser(clap::value_parser!(u8).range(1..=32))
+}
+
+// The file of the source.
+fn file<'a>(alloc: Global) -> Arg<'a>
+    ensures { IsFile result }
+{
+    Arg::new(alloc, "file")
         .value_name("FILE")
         .help("The C source")
-        .action(ArgAction::Set);
-    let command = command.arg(file)?;
-    command.try_get_matches_from(words)
+        .action(ArgAction::Set)
 }
 
 // The number of workers, which the parse has found to be one of 1 to 32.
