@@ -1,41 +1,30 @@
 -- The code of expressions, row by row.
-use Rattle.std.proofs.Common.{◌≡◌, ℕ, Bool, List, [], ◌∷◌, length, Option, Some, None, subst, arith}
+use Rattle.std.proofs.Common.{◌≡◌, ℕ, Bool, List, [], ◌∷◌, length, Some, None, subst, arith}
 use Rattle.om_code.specs.declared.instruction.BinaryOperator as machine
 use Rattle.om_code.specs.declared.instruction.Instr.{Instr}
 use Rattle.om_code.specs.declared.instruction.Instr.TheVariants as i
 use Rattle.om_code.specs.declared.instruction.Place.{Place}
-use Rattle.om_emit.specs.declared.expression.Target.{Target}
-use Rattle.om_emit.specs.Drafts.{Written, moved, Puts, PutsAll}
-use Rattle.om_emit.specs.Emits.{Part, site, Emits, EmitsEffect, EmitsRow, EmitsValue, EmitsValues}
-use Rattle.om_emit.specs.Rests.{assignment, assignment_rest, binary_rest, call, element_rest, popped, postfix_rest}
-use Rattle.om_emit.specs.Rests.{print, stepped_rest, unary_rest}
-use Rattle.om_emit.specs.Writing.{all_ins, goes_end, goes_put, goes_put_all, goes_part, put_all_length, put_length}
-use Rattle.om_emit.proofs.Singles.{emits_one, emits_then, emits_as}
+use Rattle.om_emit.specs.Drafts.{Written, Puts, PutsAll}
+use Rattle.om_emit.specs.Emits.{Part, site, Emits, EmitsRow, EmitsValue, EmitsValues}
+use Rattle.om_emit.specs.Rests.{assignment, assignment_rest, binary_rest, call, element_rest, postfix_rest, unary_rest}
+use Rattle.om_emit.specs.Writing.{all_ins, emits_as, emits_put, emits_then, goes_end, goes_put, goes_put_all}
+use Rattle.om_emit.specs.Writing.{goes_part, put_all_length, put_length}
 use Rattle.om_resolved.specs.declared.resolved.UnaryOperator.{UnaryOperator}
 use Rattle.om_resolved.specs.declared.resolved.UnaryOperator.TheVariants as unaries
 use Rattle.om_resolved.specs.declared.resolved.Variable as variables
 use Rattle.om_resolved.specs.ResolvedTree.{ResolvedExpressionTree, Element, Call, Unary, Binary, PostfixElement}
 use Rattle.om_resolved.specs.ResolvedTree.{ValuesTree}
 use Rattle.om_rows.specs.Bodies.{called_body}
-use Rattle.om_rows.specs.Expressions.{assigned, binary_row, element_assigned, unary_row, value, values, value_count}
+use Rattle.om_rows.specs.Expressions.{assigned, binary_row, unary_row, value, values, value_count}
 use Rattle.om_rows.specs.Operators.{BinaryForm, Both, Either, Plain, form_of, compound_of}
 use Rattle.om_rows.specs.Rows.{Site, Row, end, ins, part, ◌▸◌}
 use Rattle.om_rows.specs.Slots.{place_of}
-use Rattle.om_rows.specs.Tables.{number_in}
-use Rattle.std.specs.Str.{bytes_eq}
 use Rattle.om_rows.specs.Numbered.{Numbered}
 use Rattle.om_tree.specs.declared.tree.AssignOperator.{AssignOperator}
 use Rattle.om_tree.specs.declared.tree.BinaryOperator.{BinaryOperator}
 use Rattle.om_tree.specs.declared.tree.PostfixOperator.{PostfixOperator}
 
 -- ---- a part, and one instruction
-
-pub emits_put : (names : Numbered) (row : Site → Row) (l : ℕ) (x : Instr) (a b c : Written) → EmitsRow names row a b
-    → Puts l x b c
-    → Emits (λ done at. part (row (site names done)) ▸ ins (site names done) l (moved at x) ▸ end) a c
-emits_put names row l x a b c e h =
-    emits_then (λ done at. row (site names done)) (λ done at. ins (site names done) l (moved at x)
-    ▸ end) a b c e (emits_one names l x b c h)
 
 pub emits_element : (names : Numbered) (l : ℕ) (x : variables.Variable) (j : ResolvedExpressionTree) (a b c : Written)
     → EmitsValue names l j a b → Puts l (i.LoadElement (place_of names.slots x)) b c
@@ -56,24 +45,6 @@ emits_call names l function es body count a b c is counts e h =
 pub emits_used_call : (names : Numbered) (l function : ℕ) (es : ValuesTree) (a b c : Written)
     → EmitsRow names (λ at. call at l function es) a b → Puts l i.Use b c → EmitsValue names l (Call function es) a c
 emits_used_call names l function es a b c e h = emits_put names (λ at. call at l function es) l i.Use a b c e h
-
-pub emits_dropped_call : (names : Numbered) (l function : ℕ) (es : ValuesTree) (a b c : Written)
-    → EmitsRow names (λ at. call at l function es) a b → Puts l i.Pop b c → EmitsEffect names l (Call function es) a c
-emits_dropped_call names l function es a b c e h = emits_put names (λ at. call at l function es) l i.Pop a b c e h
-
-pub emits_print : (names : Numbered) (l : ℕ) (format : List ℕ) (es : ValuesTree) (text count : ℕ) (a b c : Written)
-    → text ≡ number_in (bytes_eq format) names.formats → count ≡ value_count es
-    → EmitsValues names l es a b → Puts l (i.Print text count) b c → EmitsRow names (λ at. print at l format es) a c
-emits_print names l format es text count a b c is counts e h =
-    subst (λ z. Emits (λ done at. part (values (site names done) l es)
-    ▸ ins (site names done) l (i.Print z (value_count es)) ▸ end) a c) is
-    (subst (λ z. Emits (λ done at. part (values (site names done) l es) ▸ ins (site names done) l (i.Print text z)
-    ▸ end) a c) counts
-    (emits_put names (λ at. values at l es) l (i.Print text count) a b c e h))
-
-pub emits_popped : (names : Numbered) (l : ℕ) (e : ResolvedExpressionTree) (a b c : Written)
-    → EmitsValue names l e a b → Puts l i.Pop b c → EmitsRow names (λ at. popped at l e) a c
-emits_popped names l e a b c h k = emits_put names (λ at. value at l e) l i.Pop a b c h k
 
 pub emits_right : (names : Numbered) (l : ℕ) (o : machine.BinaryOperator) (y : ResolvedExpressionTree) (a b c : Written)
     → EmitsValue names l y a b → Puts l (i.Binary o) b c → EmitsRow names (λ at. binary_rest at l (Plain o) y) a c
@@ -118,26 +89,6 @@ pub rest_is : (names : Numbered) (l : ℕ) (form other : BinaryForm) (y : Resolv
     → form ≡ other → EmitsRow names (λ at. binary_rest at l form y) a c
     → EmitsRow names (λ at. binary_rest at l other y) a c
 rest_is names l form other y a c is e = subst (λ z. EmitsRow names (λ at. binary_rest at l z y) a c) is e
-
-element_is : (at : Site) (l : ℕ) (keeps : Bool) (x : variables.Variable) (j : Row)
-    (o : Option machine.BinaryOperator) (e : Row) (p q : ℕ)
-    → (part j ▸ element_rest at l keeps x o e) p q → element_assigned at l keeps x j o e p q
-element_is at l keeps x j None e p q r = r
-element_is at l keeps x j (Some o) e p q r = r
-
--- under any use of the value
-pub emits_element_assigned : (names : Numbered) (l : ℕ) (keeps : Bool) (x : variables.Variable)
-    (j : ResolvedExpressionTree) (o : Option machine.BinaryOperator)
-    (e : Site → Row) (a b c : Written)
-    → EmitsValue names l j a b → EmitsRow names (λ at. element_rest at l keeps x o (e at)) b c
-    → EmitsRow names (λ at. element_assigned at l keeps x (value at l j) o (e at)) a c
-emits_element_assigned names l keeps x j o e a b c h k =
-    emits_as (λ done at. part (value (site names done) l j)
-    ▸ element_rest (site names done) l keeps x o (e (site names done))) _ a c
-    (λ done at p q r. element_is (site names done) l keeps x (value (site names done) l j) o (e
-    (site names done)) p q r)
-    (emits_then (λ done at. value (site names done) l j) (λ done at. element_rest (site names done) l keeps x o (e
-    (site names done))) a b c h k)
 
 pub emits_postfix_element : (names : Numbered) (l : ℕ) (x : variables.Variable) (j : ResolvedExpressionTree)
     (operator : PostfixOperator) (a b c : Written)
@@ -214,14 +165,3 @@ emits_compound_element names l keeps x operator o at_x e a b c d is here h1 h2 h
 pub value_is : (names : Numbered) (l : ℕ) (x y : ResolvedExpressionTree) (a c : Written) → x ≡ y
     → EmitsValue names l x a c → EmitsValue names l y a c
 value_is names l x y a c is e = subst (λ z. EmitsValue names l z a c) is e
-
-pub effect_is : (names : Numbered) (l : ℕ) (x y : ResolvedExpressionTree) (a c : Written) → x ≡ y
-    → EmitsEffect names l x a c → EmitsEffect names l y a c
-effect_is names l x y a c is e = subst (λ z. EmitsEffect names l z a c) is e
-
--- under the target as it was made
-pub target_is : (names : Numbered) (l : ℕ) (e : ResolvedExpressionTree) (t u : Target) (a c : Written)
-    → t ≡ u → EmitsRow names (λ at. assignment_rest at l t.keeps t.variable t.operator e) a c
-    → EmitsRow names (λ at. assignment_rest at l u.keeps u.variable u.operator e) a c
-target_is names l e t u a c is h =
-    subst (λ z. EmitsRow names (λ at. assignment_rest at l z.keeps z.variable z.operator e) a c) is h

@@ -4,35 +4,23 @@ use Rattle.om_code.specs.declared.instruction.BinaryOperator as machine
 use Rattle.om_code.specs.declared.instruction.Instr.{Instr}
 use Rattle.om_code.specs.declared.instruction.Instr.TheVariants as i
 use Rattle.om_code.specs.declared.instruction.Place.{Place}
-use Rattle.om_emit.specs.Drafts.{Labels, Written, moved, Defines, Puts, PutsAll}
-use Rattle.om_emit.specs.Emits.{Finished, Part, site, Goes, Emits, EmitsRow}
+use Rattle.om_emit.specs.Drafts.{Written, Defines, Puts, PutsAll}
+use Rattle.om_emit.specs.Emits.{Part, site, Goes, Emits, EmitsRow}
 use Rattle.om_emit.specs.Rests.{element_rest, stepped, stepped_rest, truth_row}
-use Rattle.om_emit.specs.Writing.{all_ins, goes_end, goes_put, goes_put_all, goes_part, goes_here, goes_less, goes_as}
+use Rattle.om_emit.specs.Writing.{all_ins, emits_as, emits_one, goes_end, goes_put, goes_put_all, goes_here}
 use Rattle.om_resolved.specs.declared.resolved.Variable as variables
 use Rattle.om_rows.specs.Expressions.{assigned, constant, stepped_back}
 use Rattle.om_rows.specs.Operators.{step_of, inverse_step_of}
-use Rattle.om_rows.specs.Rows.{end, ins, part, here, ◌▸◌}
+use Rattle.om_rows.specs.Rows.{end, ins, here, ◌▸◌}
 use Rattle.om_rows.specs.Slots.{place_of}
 use Rattle.om_rows.specs.Numbered.{Numbered}
 use Rattle.om_tree.specs.declared.tree.PostfixOperator.{PostfixOperator}
-
--- one instruction
-pub emits_one : (names : Numbered) (l : ℕ) (x : Instr) (a b : Written) → Puts l x a b
-    → Emits (λ done at. ins (site names done) l (moved at x) ▸ end) a b
-emits_one names l x a b h = goes_put names (length a.places) l x (λ done at. end) a b b h (goes_end
-    (length a.places) b)
 
 -- several instructions of one line
 pub emits_all : (names : Numbered) (l : ℕ) (xs : List Instr) (a b : Written) → PutsAll l xs a b
     → Emits (λ done at. all_ins (site names done) at l xs end) a b
 emits_all names l xs a b h = goes_put_all names (length a.places) l xs (λ done at. end) a b b h (goes_end
     (length a.places) b)
-
--- the same under another form of the row
-pub emits_as : (r s : Part) (a c : Written) → ((done : Finished) (at : Labels) (p q : ℕ) → r done at p q
-    → s done at p q)
-    → Emits r a c → Emits s a c
-emits_as r s a c f e = goes_as (length a.places) r s a c f e
 
 -- the number as it was read
 pub emits_constant : (names : Numbered) (l : ℕ) (c read : ℤ) (a b : Written) → read ≡ c → Puts l (i.Constant read) a b
@@ -90,12 +78,3 @@ emits_truth names l f e a b c d g lt h1 h2 h3 h4 =
     (goes_put names f l (i.Constant (pos 0)) r3 c d g h3
     (goes_here f e (λ done at. end) d g g (omega arith) h4
     (goes_end f g))))
-
--- ---- a part, and what stands behind it
-
--- one part behind the other
-pub emits_then : (r s : Part) (a b c : Written) → Emits r a b → Emits s b c
-    → Emits (λ done at. part (r done at) ▸ s done at) a c
-emits_then r s a b c e f =
-    goes_part (length a.places) r s a b c (omega arith) e
-    (goes_less (length a.places) (length b.places) s b c e.keeps.more f)

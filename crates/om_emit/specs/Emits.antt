@@ -10,7 +10,7 @@ use Rattle.om_resolved.specs.ResolvedTree as trees
 use Rattle.om_resolved.specs.ResolvedTree.{ResolvedExpressionTree, ValuesTree}
 use Rattle.om_resolved.specs.ResolvedView.{view_resolved_expression}
 use Rattle.om_rows.specs.BodyTables.{numbered_by}
-use Rattle.om_rows.specs.Expressions.{value, values, effect}
+use Rattle.om_rows.specs.Expressions.{value, values}
 use Rattle.om_rows.specs.Rows.{Site, Row}
 use Rattle.om_rows.specs.Numbered.{Numbered, site_with}
 use Rattle.om_rows.specs.Slots.{place_of}
@@ -83,9 +83,6 @@ EmitsValue names l e = EmitsRow names (λ at. value at l e)
 
 abbrev pub EmitsValues : Numbered → ℕ → ValuesTree → Written → Written → Type 0
 EmitsValues names l es = EmitsRow names (λ at. values at l es)
-
-abbrev pub EmitsEffect : Numbered → ℕ → ResolvedExpressionTree → Written → Written → Type 0
-EmitsEffect names l e = EmitsRow names (λ at. effect at l e)
 
 -- the values of a call, as a tree
 abbrev pub listed : List ResolvedExpression → ValuesTree

@@ -4,4 +4,7 @@ pub mod Emits
 pub mod Forms
 pub mod Rests
 pub mod Writing
+pub mod Elements
+pub mod Arguments
+pub mod Views
 pub mod Words

@@ -1,5 +1,5 @@
 -- Rows of parts of expressions: an assignment, and what stands behind an operand or an index.
-use Rattle.std.specs.Prelude.{ℕ, pos, List, Option, None, Some, Bool, true}
+use Rattle.std.specs.Prelude.{ℕ, pos, Option, None, Some, Bool, true}
 use Rattle.om_code.specs.declared.instruction.BinaryOperator as machine
 use Rattle.om_code.specs.declared.instruction.Instr.TheVariants as i
 use Rattle.om_code.specs.declared.instruction.UnaryOperator.TheVariants as unary
@@ -7,7 +7,7 @@ use Rattle.om_resolved.specs.declared.resolved.UnaryOperator.{UnaryOperator}
 use Rattle.om_resolved.specs.declared.resolved.UnaryOperator.TheVariants as unaries
 use Rattle.om_resolved.specs.declared.resolved.Variable as variables
 use Rattle.om_resolved.specs.ResolvedTree.{ResolvedExpressionTree, ValuesTree}
-use Rattle.om_rows.specs.Expressions.{assigned, called, constant, printed, stepped_back, value, values}
+use Rattle.om_rows.specs.Expressions.{assigned, called, constant, stepped_back, value, values}
 use Rattle.om_rows.specs.Operators.{BinaryForm, Both, Either, Plain, compound_of, step_of, inverse_step_of}
 use Rattle.om_rows.specs.Rows.{Site, Row, end, ins, part, here, ◌▸◌}
 use Rattle.om_rows.specs.Slots.{place}
@@ -25,14 +25,6 @@ stepped at l keeps x operator = assigned at l keeps x (Some (step_of operator)) 
 -- a call, with its values
 abbrev pub call : Site → ℕ → ℕ → ValuesTree → Row
 call at l function es = called at l function es (values at l es)
-
--- `printf`, with its values
-abbrev pub print : Site → ℕ → List ℕ → ValuesTree → Row
-print at l format es = printed at l format es (values at l es)
-
--- an expression whose value is taken off
-abbrev pub popped : Site → ℕ → ResolvedExpressionTree → Row
-popped at l e = part (value at l e) ▸ ins at l i.Pop ▸ end
 
 -- behind the operand of a unary operator
 abbrev pub unary_rest : Site → ℕ → UnaryOperator → Row

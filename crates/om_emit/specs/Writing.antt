@@ -8,9 +8,9 @@ use Rattle.std.proofs.lemmas.Option.{slice_get_within}
 use Rattle.om_code.specs.declared.instruction.Instr.{Instr}
 use Rattle.om_emit.specs.Drafts.{Labels, Written, line_of, moved, Puts, PutsAll, Fresh, Defines}
 use Rattle.om_emit.specs.declared.draft.Pick.{Pick}
-use Rattle.om_emit.specs.Emits.{Finished, Part, site, Fits, Grows, Keeps, Goes, Emits}
+use Rattle.om_emit.specs.Emits.{Finished, Part, site, Fits, Grows, Keeps, Goes, Emits, EmitsRow}
 use Rattle.om_rows.specs.Numbered.{Numbered}
-use Rattle.om_rows.specs.Rows.{Site, Row, end, ins, part, here}
+use Rattle.om_rows.specs.Rows.{Site, Row, end, ins, part, here, ◌▸◌}
 
 -- ---- lists
 
@@ -322,3 +322,32 @@ put_all_length l xs a b h = ap length h.places
 
 pub define_length : (label : ℕ) (a b : Written) → Defines label a b → length b.places ≡ length a.places
 define_length label a b h = ap length h.places ∙ set_length a.places label (Some (length a.code))
+
+-- ---- whole parts
+
+-- one instruction
+pub emits_one : (names : Numbered) (l : ℕ) (x : Instr) (a b : Written) → Puts l x a b
+    → Emits (λ done at. ins (site names done) l (moved at x) ▸ end) a b
+emits_one names l x a b h = goes_put names (length a.places) l x (λ done at. end) a b b h (goes_end
+    (length a.places) b)
+
+-- the same under another form of the row
+pub emits_as : (r s : Part) (a c : Written) → ((done : Finished) (at : Labels) (p q : ℕ) → r done at p q
+    → s done at p q)
+    → Emits r a c → Emits s a c
+emits_as r s a c f e = goes_as (length a.places) r s a c f e
+
+-- one part behind the other
+pub emits_then : (r s : Part) (a b c : Written) → Emits r a b → Emits s b c
+    → Emits (λ done at. part (r done at) ▸ s done at) a c
+emits_then r s a b c e f =
+    goes_part (length a.places) r s a b c (omega arith) e
+    (goes_less (length a.places) (length b.places) s b c e.keeps.more f)
+
+-- a part, and one instruction
+pub emits_put : (names : Numbered) (row : Site → Row) (l : ℕ) (x : Instr) (a b c : Written) → EmitsRow names row a b
+    → Puts l x b c
+    → Emits (λ done at. part (row (site names done)) ▸ ins (site names done) l (moved at x) ▸ end) a c
+emits_put names row l x a b c e h =
+    emits_then (λ done at. row (site names done)) (λ done at. ins (site names done) l (moved at x)
+    ▸ end) a b c e (emits_one names l x b c h)

@@ -17,11 +17,13 @@ use om_tree::AssignOperator;
 
 /// What is assigned to, a variable or an element of it, and how.
 #[derive(Clone, Copy)]
-pub(crate) struct Target {
-    pub(crate) variable: Variable,
-    pub(crate) operator: AssignOperator,
+pub struct Target {
+    /// The variable, or the array that the element is of.
+    pub variable: Variable,
+    /// How the new value is made.
+    pub operator: AssignOperator,
     /// Whether the value is left.
-    pub(crate) keeps: bool,
+    pub keeps: bool,
 }
 
 /// Writes an expression, which leaves its value on top.
@@ -103,7 +105,7 @@ pub fn value(draft: &mut Draft, here: &Here<'_>, e: &ResolvedExpression) -> Done
 }
 
 /// What is assigned to, and how.
-pub(crate) fn assigned(variable: Variable, operator: AssignOperator, keeps: bool) -> Target
+pub fn assigned(variable: Variable, operator: AssignOperator, keeps: bool) -> Target
     ensures { result ≡ record { variable = variable; operator = operator; keeps = keeps } }
 {
     Target {
@@ -127,7 +129,7 @@ pub fn values(draft: &mut Draft, here: &Here<'_>, es: &[ResolvedExpression]) -> 
 
 /// Writes the values of a call, and the call (C17 6.5.2.2).
 #[cycle(expression)]
-pub(crate) fn call(
+pub fn call(
     draft: &mut Draft,
     here: &Here<'_>,
     function: usize,
@@ -197,12 +199,7 @@ fn either_end(draft: &mut Draft, here: &Here<'_>, right: &ResolvedExpression) ->
 
 /// Writes an assignment to a variable (C17 6.5.16).
 #[cycle(expression)]
-pub(crate) fn assign(
-    draft: &mut Draft,
-    here: &Here<'_>,
-    target: Target,
-    e: &ResolvedExpression,
-) -> Done
+pub fn assign(draft: &mut Draft, here: &Here<'_>, target: Target, e: &ResolvedExpression) -> Done
     requires { ValueHasCode (view_resolved_expression e.now) }
     ensures { Appends result here.now
         (λ at l. rows.assignment at l target.keeps target.variable target.operator)
@@ -224,7 +221,7 @@ pub(crate) fn assign(
 
 /// Writes what stands behind the index of an assignment to an element (C17 6.5.16).
 #[cycle(expression)]
-pub(crate) fn assign_element(
+pub fn assign_element(
     draft: &mut Draft,
     here: &Here<'_>,
     target: Target,

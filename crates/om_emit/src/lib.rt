@@ -9,9 +9,7 @@ mod expression;
 pub mod here;
 mod operator;
 mod single;
-mod unused;
 
-pub use expression::{value, values};
+pub use expression::{Target, assign, assign_element, assigned, call, value, values};
 pub use here::{Done, Here};
-pub use single::{load, store};
-pub use unused::effect;
+pub use single::{load, step, step_element, store};

@@ -78,7 +78,7 @@ pub(crate) fn truth(draft: &mut Draft, line: u32, otherwise: usize, over: usize)
 }
 
 /// `x++` or `x--`, as `x += 1` or `x -= 1` (C17 6.5.2.4); `keeps` says whether the new value is left.
-pub(crate) fn step(
+pub fn step(
     draft: &mut Draft,
     here: &Here<'_>,
     variable: Variable,
@@ -100,7 +100,7 @@ pub(crate) fn step(
 
 /// `a[j]++` or `a[j]--`, as `a[j] += 1` or `a[j] -= 1`, behind the index; `keeps` says whether the new
 /// value is left.
-pub(crate) fn step_element(
+pub fn step_element(
     draft: &mut Draft,
     here: &Here<'_>,
     array: Variable,

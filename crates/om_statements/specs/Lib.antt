@@ -5,4 +5,5 @@ pub mod Going
 pub mod Scoped
 pub mod Scoping
 pub mod Regions
+pub mod Effects
 pub mod Words

@@ -1,11 +1,11 @@
 -- What contracts of this crate name, from here and from the crates below.
 pub use Rattle.om_emit.specs.Drafts.{HasNoTarget, Written, nothing}
-pub use Rattle.om_emit.specs.Emits.{Appends, EmitsRow, names_at}
+pub use Rattle.om_emit.specs.Emits.{Appends, EmitsRow, listed, names_at}
 pub use Rattle.om_resolved.specs.ResolvedView.{view_resolved_clause, view_resolved_declarator}
 pub use Rattle.om_resolved.specs.ResolvedView.{view_resolved_expression, view_resolved_loop}
 pub use Rattle.om_resolved.specs.ResolvedView.{view_resolved_start, view_resolved_statement, view_resolved_update}
 pub use Rattle.om_rows.specs.BodyTables.{numbered_by}
-pub use Rattle.om_rows.specs.Coded.{AssignmentHasCode, DeclaratorHasCode, EffectHasCode, LoopHasCode}
+pub use Rattle.om_rows.specs.Coded.{AssignmentHasCode, CallHasCode, DeclaratorHasCode, EffectHasCode, LoopHasCode}
 pub use Rattle.om_rows.specs.Coded.{StartHasCode, UpdateHasCode, ValueHasCode}
 pub use Rattle.om_rows.specs.Copies.{first_copies_of}
 pub use Rattle.om_rows.specs.Expressions.{effect}

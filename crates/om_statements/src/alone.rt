@@ -6,10 +6,11 @@ ghost use Rattle.om_statements.specs.Words.{alone_row, assignment_row, barrier, 
 ghost use Rattle.om_statements.specs.Words.{view_resolved_statement, view_resolved_update, worksharing_end};
 
 use crate::operator::{side_of, update_of};
+use crate::unused::effect;
 use om_code::Instr;
 use om_code::instruction::Barrier;
 use om_emit::draft::{Draft, Jump};
-use om_emit::{Done, Here, effect, value};
+use om_emit::{Done, Here, value};
 use om_resolved::{ResolvedStatement, ResolvedUpdate, StandAlone};
 
 /// Writes a directive that stands alone.

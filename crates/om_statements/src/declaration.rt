@@ -8,10 +8,11 @@ ghost use Rattle.om_statements.specs.Words.{start_scopes, view_resolved_declarat
 ghost use Rattle.om_statements.specs.Words.{view_resolved_start};
 ghost use Rattle.om_rows.specs.Statements as rows;
 
+use crate::unused::effect;
 use crate::writing::Writing;
 use om_code::Instr;
 use om_emit::draft::{Draft, Jump};
-use om_emit::{Done, Here, effect, store, value};
+use om_emit::{Done, Here, store, value};
 use om_resolved::{ResolvedDeclarator, ResolvedExpression, ResolvedStart, Variable};
 
 /// Writes the code of a declared name: it is made unset, or gets its initializer (C17 6.7.9).

@@ -12,5 +12,6 @@ mod operator;
 pub mod region;
 pub mod repeated;
 pub mod spot;
+pub mod unused;
 pub mod worksharing;
 pub mod writing;

@@ -1,18 +1,18 @@
 use Rattle.std.proofs.Common.{◌≡◌, ◌≤◌, get_or, rules, ap, sym, ◌∙◌, arith, true}
 use Rattle.std.proofs.lemmas.Result.{on_ok_weaker}
 use Rattle.om_code.specs.declared.instruction.Instr.TheVariants as i
+use Rattle.om_emit.specs.Elements.{emits_element_assigned, target_is}
 use Rattle.om_emit.specs.Emits.{listed, names_at}
 use Rattle.om_emit.specs.Forms.{form}
-use Rattle.om_emit.specs.Writing.{fresh_length, free_new, free_fresh, free_put, free_put_all, free_part, free_define}
-use Rattle.om_emit.proofs.Arguments.{counted, few, with_depth, has_code, emits_next}
+use Rattle.om_emit.specs.Writing.{emits_one, fresh_length, free_new, free_fresh, free_put, free_put_all, free_part, free_define}
+use Rattle.om_emit.specs.Arguments.{counted, few, with_depth, has_code, emits_next}
 use Rattle.om_emit.proofs.Expressions.{emits_element, emits_used_call, emits_right, emits_unary, emits_set}
 use Rattle.om_emit.proofs.Expressions.{emits_compound, emits_set_element, emits_compound_element, emits_call}
-use Rattle.om_emit.proofs.Expressions.{emits_binary, rest_is, emits_element_assigned, emits_postfix_element, value_is}
-use Rattle.om_emit.proofs.Expressions.{target_is}
+use Rattle.om_emit.proofs.Expressions.{emits_binary, rest_is, emits_postfix_element, value_is}
 use Rattle.om_emit.proofs.Jumping.{emits_both, emits_either, emits_conditional}
-use Rattle.om_emit.proofs.Singles.{emits_one, emits_constant}
-use Rattle.om_emit.proofs.Views.{view_constant, view_variable, view_element, view_thread_number, view_team_size}
-use Rattle.om_emit.proofs.Views.{view_call, view_unary, view_binary, view_conditional, view_assign_element, view_postfix_element}
+use Rattle.om_emit.proofs.Singles.{emits_constant}
+use Rattle.om_emit.specs.Views.{view_constant, view_variable, view_element, view_thread_number, view_team_size}
+use Rattle.om_emit.specs.Views.{view_call, view_unary, view_binary, view_conditional, view_assign_element, view_postfix_element}
 use Rattle.om_resolved.specs.ResolvedTree as trees
 use Rattle.om_resolved.specs.ResolvedView.{view_resolved_expression}
 use Rattle.om_rows.specs.Expressions.{value}

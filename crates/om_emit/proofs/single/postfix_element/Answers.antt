@@ -1,6 +1,6 @@
 use Rattle.std.proofs.Common.{true}
 use Rattle.std.proofs.lemmas.Result.{on_ok_weaker}
-use Rattle.om_emit.proofs.Singles.{emits_then}
+use Rattle.om_emit.specs.Writing.{emits_then}
 use Rattle.om_emit.specs.Emits.{names_at, site}
 use Rattle.om_emit.specs.Rests.{stepped_rest}
 use Rattle.om_rows.specs.Expressions.{stepped_back}

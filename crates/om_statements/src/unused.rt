@@ -1,14 +1,14 @@
 //! The code of expressions whose values nothing uses (C17 6.8.3).
 
-ghost use Rattle.om_emit.specs.Rests as rows;
-ghost use Rattle.om_emit.specs.Words.{Appends, CallHasCode, EffectHasCode, ValueHasCode};
-ghost use Rattle.om_emit.specs.Words.{effect, listed, view_resolved_expression};
+ghost use Rattle.om_statements.specs.Effects as rows;
+ghost use Rattle.om_statements.specs.Words.{Appends, CallHasCode, EffectHasCode, ValueHasCode};
+ghost use Rattle.om_statements.specs.Words.{effect, listed, view_resolved_expression};
 
-use crate::draft::Draft;
-use crate::expression::{assign, assign_element, assigned, call, value, values};
-use crate::here::{Done, Here};
-use crate::single::{step, step_element};
 use om_code::Instr;
+use om_emit::draft::Draft;
+use om_emit::{
+    Done, Here, assign, assign_element, assigned, call, step, step_element, value, values,
+};
 use om_resolved::ResolvedExpression;
 
 /// Writes an expression, which leaves nothing.

@@ -1,8 +1,8 @@
 use Rattle.std.proofs.lemmas.Result.{on_ok_weaker}
 use Rattle.om_emit.specs.Emits.{names_at}
-use Rattle.om_emit.proofs.Expressions.{emits_popped}
 use Rattle.om_resolved.specs.ResolvedView.{view_resolved_expression}
-use Rattle.om_emit.proofs.unused.popped.Goals as goal
+use Rattle.om_statements.proofs.Effects.{emits_popped}
+use Rattle.om_statements.proofs.unused.popped.Goals as goal
 
 pub returns : goal.returns
 returns c =

@@ -1,13 +1,14 @@
 use Rattle.std.proofs.Common.{pos, Some, false, ap, sym, ◌∙◌}
 use Rattle.std.proofs.lemmas.Result.{on_ok_weaker}
+use Rattle.om_emit.specs.Elements.{emits_element_assigned, target_is}
 use Rattle.om_emit.specs.Emits.{listed, names_at}
-use Rattle.om_emit.proofs.Expressions.{effect_is, emits_dropped_call, emits_element_assigned, target_is}
-use Rattle.om_emit.proofs.Views.{view_assign_element, view_call, view_postfix_element, view_print}
+use Rattle.om_emit.specs.Views.{view_assign_element, view_call, view_postfix_element, view_print}
 use Rattle.om_resolved.specs.ResolvedTree as trees
 use Rattle.om_resolved.specs.ResolvedView.{view_resolved_expression}
 use Rattle.om_rows.specs.Expressions.{constant, value}
 use Rattle.om_rows.specs.Operators.{compound_of, step_of}
-use Rattle.om_emit.proofs.unused.effect.Goals as goal
+use Rattle.om_statements.proofs.Effects.{effect_is, emits_dropped_call}
+use Rattle.om_statements.proofs.unused.effect.Goals as goal
 
 pub returns-in_ok-value-in-AssignElement : goal.returns-in_ok-value-in-AssignElement
 returns-in_ok-value-in-AssignElement c =
