@@ -116,25 +116,6 @@ fn edit_all(
     Ok(())
 }
 
-/// Makes a change of another control that is put. When out of memory, nothing changes.
-fn become_logged(
-    alloc: Global,
-    control: &mut Control,
-    inverses: &mut Log<Logged>,
-    next: Control,
-) -> Result<(), AllocError>
-    requires can_rewind { CanRewind inverses.old control.old }
-    ensures changed { OnOk result (control.new ≡ next) }
-    ensures past { OnOk result (past_of inverses.new control.new
-        ≡ plain_control control.old ∷ past_of inverses.old control.old) }
-    ensures can_rewind { OnOk result (CanRewind inverses.new control.new) }
-    ensures same_control_on_error { OnErr result (control.new ≡ control.old) }
-    ensures same_log_on_error { OnErr result (inverses.new ≡ inverses.old) }
-{
-    let inverse = become_control(alloc, control, next)?;
-    log(control, inverses, inverse, true)
-}
-
 /// Goes back to where the latest change began. It takes no memory.
 fn rewind(control: &mut Control, inverses: &mut Log<Logged>)
     requires can_rewind { CanRewind inverses.old control.old }
@@ -199,7 +180,8 @@ impl Trail {
         ensures unchanged_on_error { OnErr result (self.new ≡ self.old) }
     {
         let next = control_of(alloc, next)?;
-        become_logged(alloc, &mut self.control, &mut self.inverses, next)
+        let inverse = become_control(alloc, &mut self.control, next)?;
+        log(&mut self.control, &mut self.inverses, inverse, true)
     }
 
     /// Takes the latest change that stands back, in place. It takes no memory.
