@@ -8,9 +8,9 @@ ghost use Rattle.om_parts.specs.Repetition.{optional, until};
 ghost use Rattle.om_tree.specs.View.{view_parameters, view_head};
 
 use om_lexer::{Keyword, Punctuator, SourceFault, Span, Token, TokenKind};
-use om_parts::boxed::{boxed, boxed_before};
 use om_parts::front::{mark, name, syntax, take_mark, take_word, word};
 use om_pragma::Name;
+use om_tree::boxed::{boxed, boxed_before};
 use om_tree::{FunctionHead, Parameter, Parameters, ResultType};
 use std::alloc::Global;
 

@@ -1,8 +1,8 @@
 //! The parser: the tokens of a C source to its tree (C17 6.8, 6.9).
 #![tactic(auto)]
 
-mod assembly;
 mod construct;
+mod ending;
 mod function;
 pub mod laws;
 mod opening;

@@ -11,9 +11,9 @@ ghost use Rattle.om_tree.specs.View.{view_condition, view_expression, view_for_h
 
 use crate::start::Start;
 use om_lexer::{Keyword, Punctuator, SourceFault, Span, Token};
-use om_parts::boxed::boxed_before;
 use om_parts::front::{mark, syntax, take_mark, take_word};
 use om_parts::part::{enclosed, enclosed_declaration};
+use om_tree::boxed::boxed_before;
 use om_tree::{Condition, Expression, ForHead, ForStart};
 use std::alloc::Global;
 

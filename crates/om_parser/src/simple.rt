@@ -13,10 +13,10 @@ ghost use Rattle.om_tree.specs.View.{view_directive};
 use crate::construct::{LineStart, line_start, misplaced};
 use crate::start::Start;
 use om_lexer::{Punctuator, SourceFault, Span, Token};
-use om_parts::boxed::{boxed, boxed_before};
 use om_parts::front::{mark, syntax, take_mark};
 use om_parts::part::{declaration, directive_line, expression};
 use om_pragma::Directive;
+use om_tree::boxed::{boxed, boxed_before};
 use om_tree::{Expression, Statement};
 use std::alloc::Global;
 

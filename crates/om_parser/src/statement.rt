@@ -12,11 +12,8 @@ ghost use Rattle.om_tree.specs.Limits.{accepted};
 ghost use Rattle.om_tree.specs.Tree as trees;
 ghost use Rattle.om_tree.specs.View.{view_block, view_directive, view_part, view_statement};
 
-use crate::assembly::{
-    Branches, atomic_of, block_of, construct_of, do_end, for_of, if_else_of, if_of, sections_of,
-    while_of,
-};
 use crate::construct::{LineStart, at_section, ends_part, line_start, misplaced};
+use crate::ending::{atomic_of, do_end};
 use crate::opening::{Opening, opening_after};
 use crate::simple::{declaration_item, section, simple, stand_alone, unknown_line};
 use crate::start::{Start, no_room, start_of};
@@ -25,6 +22,9 @@ use om_parts::front::{mark, syntax, take_mark, take_word, too_deep};
 use om_parts::laws::parts_are_sound;
 use om_parts::part::directive_line;
 use om_pragma::Directive;
+use om_tree::assembly::{
+    Branches, block_of, construct_of, for_of, if_else_of, if_of, sections_of, while_of,
+};
 use om_tree::{BLOCK_LIMIT, Block, Expression, Part, STATEMENT_LIMIT, Statement};
 use std::alloc::Global;
 

@@ -1,9 +1,8 @@
 -- For proofs: reading from the left, as the parser does. It gives an item and the tokens behind it, or the fault
 -- that stops it.
-use Rattle.std.specs.Prelude.{◌≡◌, ℕ, ◌≤◌, List, [], ◌∷◌, length, Option, Some, None, Result, Ok, Err, Bool, ◌⊎◌}
+use Rattle.std.specs.Prelude.{◌≡◌, ℕ, ◌≤◌, List, [], ◌∷◌, length, Option, Some, None, Result, Ok, Err, Bool}
 use Rattle.std.specs.Prelude.{if◌then◌else◌}
 use denote.Enum.Bare.{sameb}
-use Rattle.om_lexer.specs.Faults.{no_memory}
 use Rattle.om_lexer.specs.contracts.token.Keyword.{the_type as the_keywords}
 use Rattle.om_lexer.specs.contracts.token.Punctuator.{the_type as the_punctuators}
 use Rattle.om_lexer.specs.declared.fault.FaultCode.TheVariants as codes
@@ -18,10 +17,8 @@ use Rattle.om_pragma.specs.declared.name.Name as names
 use Rattle.om_pragma.specs.declared.name.Number.{Number}
 -- as directives are read
 pub use Rattle.om_pragma.specs.Reading.{◌>>=◌, choose, place, name_of, number_of}
-
--- what reading gives: a value, or the fault that stops it
-abbrev pub Outcome : Type 0 → Type 0
-Outcome A = Result A SourceFault
+-- what it gives, and what functions made of it
+pub use Rattle.om_tree.specs.Making.{Outcome, Reads, Makes}
 
 -- an item that stands first, and the tokens behind it
 abbrev pub Reader : Type 0 → Type 0
@@ -99,16 +96,7 @@ name_at ts = known ts (take_name ts)
 unfoldable pub number_at : Reader Number
 number_at ts = known ts (take_number ts)
 
--- what a function returned is what reading gives, unless memory ran out
-abbrev pub Reads : {X Y : Type 0} → (X → Y) → Result X SourceFault → Outcome Y → Type 0
-Reads f (Ok x) read = read ≡ Ok (f x)
-Reads f (Err e) read = (e ≡ no_memory) ⊎ (read ≡ Err e)
-
--- a part that a function makes, and the tokens behind it, unless memory ran out
-abbrev pub Makes : {X Y : Type 0} → (X → Y × List Token) → Result X SourceFault → Y → List Token → Type 0
-Makes f result made rest = Reads f result (Ok (made, rest))
-
--- the same of a function that takes no memory
+-- what a function that takes no memory returned is what reading gives
 abbrev pub ReadsAlways : {X Y : Type 0} → (X → Y) → Result X SourceFault → Outcome Y → Type 0
 ReadsAlways f (Ok x) read = read ≡ Ok (f x)
 ReadsAlways f (Err e) read = read ≡ Err e

@@ -11,11 +11,11 @@ ghost use Rattle.om_tree.specs.Tree.{ExpressionTree};
 ghost use Rattle.om_tree.specs.declared.tree.SignedNumber.{SignedNumber};
 ghost use Rattle.om_tree.specs.View.{view_expression, view_declarator, view_declaration, view_further, view_local};
 
-use crate::boxed::boxed_before;
 use crate::expression::whole;
 use crate::front::{mark, name, number, take_mark};
 use om_lexer::{Punctuator, SourceFault, Span, Token};
 use om_pragma::Name;
+use om_tree::boxed::boxed_before;
 use om_tree::{ArrayLength, Declaration, Declarator, Expression, Initializer, SignedNumber};
 use std::alloc::Global;
 

@@ -10,13 +10,13 @@ ghost use Rattle.om_parts.specs.Reading.{Reads};
 ghost use Rattle.om_tree.specs.Tree.{ExpressionTree};
 ghost use Rattle.om_tree.specs.View.{view_argument, view_expression};
 
-use crate::boxed::boxed_before;
 use crate::front::{mark, name, syntax, take_mark, take_number, too_deep};
 use crate::operator::{
     joined, postfixed, prefixed, take_assign, take_looser, take_postfix, take_prefix, take_text,
 };
 use om_lexer::{Punctuator, SourceFault, Span, Token};
 use om_pragma::Name;
+use om_tree::boxed::boxed_before;
 use om_tree::{Argument, Expression, PrefixOperator, TOKEN_LIMIT};
 use std::alloc::Global;
 

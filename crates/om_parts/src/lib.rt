@@ -2,7 +2,6 @@
 //! directive lines (C17 6.5, 6.7, OpenMP API 5.2).
 #![tactic(auto)]
 
-pub mod boxed;
 mod declaration;
 mod expression;
 pub mod front;

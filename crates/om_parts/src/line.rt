@@ -10,12 +10,12 @@ ghost use Rattle.om_parts.specs.LineReading.{alone, clause_value, in_run, is_syn
 ghost use Rattle.om_parts.specs.Reading.{Reads, ReadsAlways};
 ghost use Rattle.om_tree.specs.View.{view_directive, view_expression};
 
-use crate::boxed::boxed_before;
 use crate::front::syntax;
 use crate::part::enclosed;
 use om_lexer::{FaultCode, SourceFault, Token, TokenKind};
 use om_pragma::{Directive, directive, expression_before, first_value, one_answer};
 use om_tree::Expression;
+use om_tree::boxed::boxed_before;
 use std::alloc::Global;
 
 /// The directive line that stands first, with its expression, and the tokens behind it.

@@ -8,10 +8,10 @@ ghost use Rattle.om_tree.specs.Formed.{binary_level, level};
 ghost use Rattle.om_tree.specs.Tree.{Binary, Postfix, Prefix};
 ghost use Rattle.om_tree.specs.View.{view_expression};
 
-use crate::boxed::boxed;
 use om_lexer::{Punctuator, Span, Token, TokenKind};
 use om_pragma::Name;
 use om_seq::Seq;
+use om_tree::boxed::boxed;
 use om_tree::{AssignOperator, BinaryOperator, Expression, PostfixOperator, PrefixOperator, Text};
 use std::alloc::{AllocError, Global};
 

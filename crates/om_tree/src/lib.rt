@@ -1,8 +1,10 @@
 //! The tree of a C source (C17 6.5 to 6.9): its parts, which trees are well-formed, which tokens they have, and how
-//! large they may be.
+//! large they may be. The parser puts its statements together by `assembly`.
 #![tactic(auto)]
 
+pub mod assembly;
 mod atomic;
+pub mod boxed;
 mod limit;
 mod tree;
 

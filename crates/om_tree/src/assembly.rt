@@ -1,25 +1,17 @@
 //! Statements put together of their parts.
 //!
-//! The functions of the recursion hold a statement and its parts in boxes, and leave it to these
-//! to put them together, so that their frames are small: none of these may be inlined into them.
+//! The functions of the parser's recursion hold a statement and its parts in boxes, and leave it to
+//! these to put them together, so that their frames are small: none of these may be inlined into them.
 
-ghost use Rattle.std.specs.Prelude.{◌≡◌, map};
-ghost use Rattle.om_parser.specs.ConstructReading.{atomic_of};
-ghost use Rattle.om_parser.specs.StatementReading.{do_end};
-ghost use Rattle.om_parser.specs.StatementView.{MakesStatement, ReadsStatement};
-ghost use Rattle.om_parts.specs.PartReading.{parts};
-ghost use Rattle.om_pragma.specs.Questions.{atomic_kind};
-ghost use Rattle.om_tree.specs.AtomicForms.{has_atomic_form};
-ghost use Rattle.om_tree.specs.Limits.{accepted};
+ghost use Rattle.std.specs.Prelude.{map};
+ghost use Rattle.om_tree.specs.Making.{MakesStatement};
 ghost use Rattle.om_tree.specs.Tree as trees;
 ghost use Rattle.om_tree.specs.View.{view_condition, view_directive, view_for_head, view_part, view_statement};
 
-use crate::opening::condition;
-use om_lexer::{FaultCode, Keyword, Punctuator, SourceFault, Span, Token};
-use om_parts::boxed::boxed_before;
-use om_parts::front::{mark, word};
+use crate::boxed::boxed_before;
+use crate::tree::{Condition, Expression, ForHead, Part, Statement};
+use om_lexer::{SourceFault, Span, Token};
 use om_pragma::Directive;
-use om_tree::{Condition, Expression, ForHead, Part, Statement, has_atomic_form};
 use std::alloc::Global;
 
 /// A block of these parts.
@@ -127,31 +119,6 @@ pub fn for_of<'a>(
     boxed_before(alloc, Statement::For { head, body }, rest)
 }
 
-/// The rest of a `do` behind its body, and the tokens behind it.
-#[tactic(auto, unfolding(crate::specs::StatementReading::do_end))]
-#[inline(never)]
-pub fn do_end(
-    alloc: Global,
-    at: Span,
-    body: Box<Statement>,
-    tokens: &[Token],
-) -> Result<(Box<Statement>, &[Token]), SourceFault>
-    ensures { ReadsStatement result (do_end (parts accepted) at
-        (view_statement body.value) tokens.now) }
-{
-    let (again, rest) = word(tokens, Keyword::While)?;
-    let (condition, rest) = condition(alloc, rest)?;
-    let (semicolon, rest) = mark(rest, Punctuator::Semicolon)?;
-    let statement = Statement::Do {
-        word: at,
-        body,
-        while_word: again,
-        condition,
-        semicolon,
-    };
-    boxed_before(alloc, statement, rest)
-}
-
 /// A construct of these parts.
 #[inline(never)]
 pub fn construct_of<'a>(
@@ -185,35 +152,4 @@ pub fn sections_of<'a>(
         close_brace,
     };
     boxed_before(alloc, sections, rest)
-}
-
-/// An `atomic` with its statement, which has one of the forms where that is `checked`.
-#[tactic(auto, unfolding(crate::specs::ConstructReading::atomic_of))]
-#[inline(never)]
-pub fn atomic_of<'a>(
-    alloc: Global,
-    checked: bool,
-    directive: Box<Directive<Expression>>,
-    body: Box<Statement>,
-    tokens: &'a [Token],
-) -> Result<(Box<Statement>, &'a [Token]), SourceFault>
-    ensures { ReadsStatement result (atomic_of checked (view_directive directive.value)
-        (view_statement body.value) tokens.now) }
-{
-    if !checked || has_form(&directive, &body) {
-        return construct_of(alloc, directive, body, tokens);
-    }
-    Err(SourceFault {
-        code: FaultCode::BadClause,
-        at: directive.name.span().start,
-    })
-}
-
-/// Whether a statement is one of the forms that this `atomic` has.
-#[tactic(auto, using(crate::proofs::AtomicKinds::atomic_viewed))]
-fn has_form(directive: &Directive<Expression>, body: &Statement) -> bool
-    ensures { result ≡ has_atomic_form (atomic_kind (view_directive directive.now))
-        (view_statement body.now) }
-{
-    has_atomic_form(directive.atomic_kind(), body)
 }

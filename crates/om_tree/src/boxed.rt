@@ -1,7 +1,7 @@
 //! Values in boxes.
 
 ghost use Rattle.std.specs.Prelude.{◌≡◌, IfOk};
-ghost use Rattle.om_parts.specs.Reading.{Makes};
+ghost use Rattle.om_tree.specs.Making.{Makes};
 
 use om_lexer::{SourceFault, Token};
 use std::alloc::{AllocError, Global};

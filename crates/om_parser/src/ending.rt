@@ -1,0 +1,79 @@
+//! What ends a statement behind the statement in it: of a `do`, its condition, and of an `atomic`, the test
+//! of its form.
+//!
+//! As what puts statements together, none of these may be inlined into the functions of the recursion.
+
+ghost use Rattle.std.specs.Prelude.{◌≡◌};
+ghost use Rattle.om_parser.specs.ConstructReading.{atomic_of};
+ghost use Rattle.om_parser.specs.StatementReading.{do_end};
+ghost use Rattle.om_parser.specs.StatementView.{ReadsStatement};
+ghost use Rattle.om_parts.specs.PartReading.{parts};
+ghost use Rattle.om_pragma.specs.Questions.{atomic_kind};
+ghost use Rattle.om_tree.specs.AtomicForms.{has_atomic_form};
+ghost use Rattle.om_tree.specs.Limits.{accepted};
+ghost use Rattle.om_tree.specs.View.{view_directive, view_statement};
+
+use crate::opening::condition;
+use om_lexer::{FaultCode, Keyword, Punctuator, SourceFault, Span, Token};
+use om_parts::front::{mark, word};
+use om_pragma::Directive;
+use om_tree::assembly::construct_of;
+use om_tree::boxed::boxed_before;
+use om_tree::{Expression, Statement, has_atomic_form};
+use std::alloc::Global;
+
+/// The rest of a `do` behind its body, and the tokens behind it.
+#[tactic(auto, unfolding(crate::specs::StatementReading::do_end))]
+#[inline(never)]
+pub fn do_end(
+    alloc: Global,
+    at: Span,
+    body: Box<Statement>,
+    tokens: &[Token],
+) -> Result<(Box<Statement>, &[Token]), SourceFault>
+    ensures { ReadsStatement result (do_end (parts accepted) at
+        (view_statement body.value) tokens.now) }
+{
+    let (again, rest) = word(tokens, Keyword::While)?;
+    let (condition, rest) = condition(alloc, rest)?;
+    let (semicolon, rest) = mark(rest, Punctuator::Semicolon)?;
+    let statement = Statement::Do {
+        word: at,
+        body,
+        while_word: again,
+        condition,
+        semicolon,
+    };
+    boxed_before(alloc, statement, rest)
+}
+
+/// An `atomic` with its statement, which has one of the forms where that is `checked`.
+#[tactic(auto, unfolding(crate::specs::ConstructReading::atomic_of))]
+#[inline(never)]
+pub fn atomic_of<'a>(
+    alloc: Global,
+    checked: bool,
+    directive: Box<Directive<Expression>>,
+    body: Box<Statement>,
+    tokens: &'a [Token],
+) -> Result<(Box<Statement>, &'a [Token]), SourceFault>
+    ensures { ReadsStatement result (atomic_of checked (view_directive directive.value)
+        (view_statement body.value) tokens.now) }
+{
+    if !checked || has_form(&directive, &body) {
+        return construct_of(alloc, directive, body, tokens);
+    }
+    Err(SourceFault {
+        code: FaultCode::BadClause,
+        at: directive.name.span().start,
+    })
+}
+
+/// Whether a statement is one of the forms that this `atomic` has.
+#[tactic(auto, using(crate::proofs::AtomicKinds::atomic_viewed))]
+fn has_form(directive: &Directive<Expression>, body: &Statement) -> bool
+    ensures { result ≡ has_atomic_form (atomic_kind (view_directive directive.now))
+        (view_statement body.now) }
+{
+    has_atomic_form(directive.atomic_kind(), body)
+}
