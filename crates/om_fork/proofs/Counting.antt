@@ -1,7 +1,6 @@
 -- Lists and tests that count down: the first one, and what is left.
 use Rattle.std.proofs.Common.{◌≡◌, refl, sym, ◌∙◌, ap, ℕ, ℤ, zero, suc, ◌+◌, ◌-◌, ◌<◌, arith, List, [], ◌∷◌, ◌++◌}
-use Rattle.std.proofs.Common.{false, if◌then◌else◌, Some, replicate, append_assoc, length, length-append, ◌≤◌}
-use Rattle.std.specs.Prelude.{nat_lt}
+use Rattle.std.proofs.Common.{if◌then◌else◌, Some, append_assoc, length, length-append, ◌≤◌}
 use Rattle.std.proofs.lemmas.Bool.Decides.{nat_tests}
 use Rattle.om_foot.specs.declared.object.Obj.TheVariants as obj
 use Rattle.om_foot.specs.declared.footprint.Access.{Access}
@@ -13,41 +12,12 @@ use Rattle.om_cells.specs.declared.step.Update.{Update}
 use Rattle.om_cells.specs.declared.step.Update.TheVariants.{Put}
 use Rattle.om_cells.specs.declared.value.Val.TheVariants as value
 use Rattle.om_cells.specs.State.{State, values_read}
-use Rattle.om_cells.specs.Values.{number_in, control_in, is_idle}
-use Rattle.om_steps.specs.Objects.{read, write, given_cells, puts}
-use Rattle.om_fork.specs.Barriers.{arrivals, barrier, is_open, open_in}
+use Rattle.om_cells.specs.Values.{control_in, is_idle}
+use Rattle.om_steps.specs.Objects.{write, given_cells, puts}
 use Rattle.om_fork.specs.Teams.{workers_from, first_busy, busy_in, member, member_cells, member_controls, member_puts}
 
 one_less : (n size : ℕ) → n < size → size - n ≡ suc (size - (n + 1))
 one_less n size h = omega arith
-
-pub open_in_next : (s : State) (team : List ℕ) (phase n size : ℕ) → n < size → open_in s team phase n (size - n)
-    ≡ (if nat_lt phase (number_in (s (obj.Arrived team n))) then open_in s team phase (n + 1) (size - (n + 1)) else
-    false)
-open_in_next s team phase n size h = ap (open_in s team phase n) (one_less n size h)
-
-open_from : (s : State) (team : List ℕ) (phase n k : ℕ) (more : List Access) → is_open phase k
-    (values_read (arrivals team n k ++ read (obj.Pending team phase) ∷ more) s) ≡ open_in s team phase n k
-open_from s team phase n zero more = refl
-open_from s team phase n (suc k) more = ap (λ b. if nat_lt phase (number_in (s (obj.Arrived team n))) then b else
-    false) (open_from s team phase (n + 1) k more)
-
--- what is read at a barrier says whether it is open
-pub barrier_read : (s : State) (team : Team) (phase : ℕ) (more : List Access) → is_open phase team.size
-    (values_read (barrier team phase ++ more) s) ≡ open_in s team.name phase 0 team.size
-barrier_read s team phase more = ap (λ names. is_open phase team.size (values_read names s))
-    (append_assoc (arrivals team.name 0 team.size) (read (obj.Pending team.name phase) ∷ []) more)
-    ∙ open_from s team.name phase 0 team.size more
-
-pub arrivals_past : (names : List Access) (team : List ℕ) (n size : ℕ) → n < size
-    → (names ++ read (obj.Arrived team n) ∷ []) ++ arrivals team (n + 1) (size - (n + 1)) ≡ names ++ arrivals team n
-    (size - n)
-arrivals_past names team n size h = append_assoc names _ _ ∙ ap (λ k. names ++ arrivals team n k)
-    (sym (one_less n size h))
-
-pub replicate_past : (us : List Update) (u : Update) (n size : ℕ) → n < size → (us ++ u ∷ [])
-    ++ replicate (size - (n + 1)) u ≡ us ++ replicate (size - n) u
-replicate_past us u n size h = append_assoc us _ _ ∙ ap (λ k. us ++ replicate k u) (sym (one_less n size h))
 
 pub regrouped : (a b : List Access) (e : Access) → (a ++ b) ++ e ∷ [] ≡ a ++ (b ++ e ∷ [])
 regrouped a b e = append_assoc a b (e ∷ [])

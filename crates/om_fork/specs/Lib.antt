@@ -1,3 +1,2 @@
-pub mod Barriers
 pub mod Teams
 pub mod Rows

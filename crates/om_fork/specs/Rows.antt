@@ -1,40 +1,29 @@
--- The rows of parallel regions and barriers, and of the end of the program.
+-- The rows that make a team and begin its members, and that of the end of the program.
 use Rattle.std.specs.Prelude.{ℕ, zero, suc, ◌+◌, ◌-◌, ℤ, pos, negsuc, Bool, true, false, nat_lt, if◌then◌else◌, Option}
-use Rattle.std.specs.Prelude.{None, Some, List, [], ◌∷◌, ◌++◌, length, replicate}
-use Rattle.om_foot.specs.declared.footprint.Access.{Access}
+use Rattle.std.specs.Prelude.{None, Some, List, [], ◌∷◌, ◌++◌, length}
 use Rattle.om_foot.specs.declared.object.Obj.TheVariants as obj
 use Rattle.om_code.specs.declared.frame.Fault.TheVariants as fault
-use Rattle.om_code.specs.declared.instruction.Barrier as barriers
-use Rattle.om_code.specs.declared.instruction.Barrier.TheVariants as barrier_kind
 use Rattle.om_code.specs.declared.raw.Body.{Body}
-use Rattle.om_code.specs.declared.raw.Slot.{Slot}
 use Rattle.om_code.specs.Frames.{int_at}
 use Rattle.om_events.specs.declared.event.Record.TheVariants as event_record
 use Rattle.om_events.specs.declared.kind.Endpoint.TheVariants as endpoint
-use Rattle.om_events.specs.declared.kind.Sync as syncs
-use Rattle.om_events.specs.declared.kind.Sync.TheVariants as sync
 use Rattle.om_events.specs.declared.kind.TaskFlag.TheVariants as flag
-use Rattle.om_events.specs.declared.event.Record.{Record}
 use Rattle.om_cells.specs.declared.control.Frame.{Frame}
 use Rattle.om_cells.specs.declared.control.Team.{Team}
 use Rattle.om_cells.specs.declared.control.Context.{Context}
 use Rattle.om_cells.specs.declared.control.Kind.{Kind}
 use Rattle.om_cells.specs.declared.control.Kind.TheVariants as kind
-use Rattle.om_cells.specs.declared.edit.Edit.TheVariants.{Go, BeginContext, EndContext, CountBirth, CountPhase}
-use Rattle.om_cells.specs.declared.edit.Edit.TheVariants.{End}
+use Rattle.om_cells.specs.declared.edit.Edit.TheVariants.{Go, BeginContext, CountBirth, End}
 use Rattle.om_cells.specs.declared.step.Blocked.TheVariants as blocked
-use Rattle.om_cells.specs.declared.step.Tail.TheVariants.{Events}
 use Rattle.om_cells.specs.declared.step.Update.{Update}
-use Rattle.om_cells.specs.declared.step.Update.TheVariants.{Put, Keep, Append}
-use Rattle.om_cells.specs.declared.value.Val.TheVariants as value
+use Rattle.om_cells.specs.declared.step.Update.TheVariants.{Keep}
 use Rattle.om_cells.specs.Values.{count_in}
 use Rattle.om_steps.specs.declared.row.Launch.{Launch}
 use Rattle.om_steps.specs.declared.row.Row.{Row}
 use Rattle.om_steps.specs.declared.row.Row.TheVariants.{Goes, Faults, Blocked, Lacks}
 use Rattle.om_steps.specs.Rows.{Asked, decided, goes, first_of, is_zero}
-use Rattle.om_steps.specs.Objects.{read, write, events, event, homes_in, own_cells, deaths, is_misplaced}
+use Rattle.om_steps.specs.Objects.{read, events, event, homes_in}
 use Rattle.om_steps.specs.Begins.{first_frame}
-use Rattle.om_fork.specs.Barriers.{barrier, is_open}
 use Rattle.om_fork.specs.Teams.{member, member_cells, member_controls, member_puts, workers_from}
 use Rattle.om_fork.specs.Teams.{first_busy, size_of, level_of}
 
@@ -93,85 +82,6 @@ begin_row worker to c = record {
   row = λ _. goes to 0 None
       (event (event_record.ImplicitTask endpoint.Begin c.team.name c.task c.team.size c.team.number flag.Implicit) ∷ []);
 }
-
--- the kind of synchronization that a barrier is
-abbrev pub sync_of : barriers.Barrier → syncs.Sync
-sync_of barrier_kind.Explicit = sync.BarrierExplicit
-sync_of barrier_kind.Worksharing = sync.BarrierWorksharing
-sync_of barrier_kind.Parallel = sync.BarrierParallel
-
--- at the end of the barrier of a parallel region the team is no more
-abbrev pub team_at_end : barriers.Barrier → List ℕ → List ℕ
-team_at_end barrier_kind.Explicit team = team
-team_at_end barrier_kind.Worksharing team = team
-team_at_end barrier_kind.Parallel team = []
-
-abbrev pub reached_row : ℕ → ℕ → barriers.Barrier → Context → Asked
-reached_row worker to b c = record {
-  names = write (obj.Arrived c.team.name c.team.number) ∷ events worker ∷ [];
-  row = λ _. goes to 0 None (Put (value.Number (c.phase + 1))
-      ∷ event (event_record.SyncRegion (sync_of b) endpoint.Begin c.team.name c.task) ∷ []);
-}
-
--- OpenMP 5.2, 17.1: whether a barrier may not be met in a context; the barriers at the ends of regions may
-abbrev pub is_misplaced_barrier : barriers.Barrier → Context → Bool
-is_misplaced_barrier barrier_kind.Explicit c = is_misplaced c
-is_misplaced_barrier barrier_kind.Worksharing c = false
-is_misplaced_barrier barrier_kind.Parallel c = false
-
--- OpenMP 5.2, 15.3: a member reaches a barrier
-abbrev pub arrive_row : ℕ → ℕ → barriers.Barrier → Context → Asked
-arrive_row worker to b c = if is_misplaced_barrier b c then decided (Faults fault.Nesting) else reached_row worker
-    to b c
-
--- what is left where a member reads how far the others came
-abbrev pub kept : ℕ → List Update
-kept size = replicate (size + 1) Keep
-
--- a member at a barrier that is open or not
-abbrev pub departed : ℕ → barriers.Barrier → Context → Bool → Row
-departed to b c false = Blocked blocked.Barrier
-departed to b c true = Goes (Go to 0 None ∷ CountPhase ∷ []) (kept c.team.size
-    ++ event (event_record.SyncRegion (sync_of b) endpoint.End (team_at_end b c.team.name) c.task) ∷ [])
-
--- it goes on once all members have reached it and the phase's tasks are done
-abbrev pub depart_row : ℕ → ℕ → barriers.Barrier → Context → Asked
-depart_row worker to b c = record {
-  names = barrier c.team c.phase ++ events worker ∷ [];
-  row = λ values. departed
-      to b c (is_open c.phase c.team.size values);
-}
-
--- number 0 records the end of the region, for the task that made it
-abbrev pub region_end : List ℕ → ℕ → List Context → List Record
-region_end team zero (maker ∷ below) = event_record.ParallelEnd team maker.task ∷ []
-region_end team number below = []
-
--- what a member's end records: that of the barrier, of its task, and of the region
-abbrev pub left_records : Context → List Context → List Record
-left_records c below = event_record.SyncRegion sync.BarrierParallel endpoint.End [] c.task
-    ∷ event_record.ImplicitTask endpoint.End [] c.task 0 c.team.number flag.Implicit ∷ region_end c.team.name
-    c.team.number below
-
--- a member's task ends at the open barrier of its region, and its own cells die
-abbrev pub left : Context → List Context → List Access → Bool → Row
-left c below own false = Blocked blocked.Barrier
-left c below own true = Goes (EndContext ∷ []) (kept c.team.size
-    ++ (deaths own ++ Append (Events (left_records c below)) ∷ []))
-
-abbrev pub left_row : ℕ → Context → List Context → List Access → Asked
-left_row worker c below own = record {
-  names = barrier c.team c.phase ++ (own ++ events worker ∷ []);
-  row =
-      λ values. left c below own (is_open c.phase c.team.size values);
-}
-
--- the end of a member's task: number 0 goes on with the context that made the team, the others are idle
-abbrev pub leave_row : ℕ → Context → List Context → List Slot → Kind → ℕ → Asked
-leave_row worker c below slots kind.Initial number = decided Lacks
-leave_row worker c below slots kind.Explicit number = decided Lacks
-leave_row worker c [] slots kind.Implicit zero = decided Lacks
-leave_row worker c below slots kind.Implicit number = left_row worker c below (own_cells c slots)
 
 -- C17 5.1.2.2.3: the value with which the program ends
 abbrev pub value_of : Context → Bool → Option ℤ

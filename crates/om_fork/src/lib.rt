@@ -1,8 +1,7 @@
-//! State and rows: the rows of parallel regions and barriers, and of the end of the program.
+//! State and rows: the rows that make a team and begin its members, and that of the program's end.
 #![tactic(auto)]
 
-pub mod barrier;
+pub mod begin;
 pub mod ends;
 pub mod members;
-pub mod rows;
 pub mod teams;

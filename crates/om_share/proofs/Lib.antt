@@ -1,3 +1,5 @@
+mod Counting
+pub mod Leaving
 mod Partition
 mod Tables
 mod Values

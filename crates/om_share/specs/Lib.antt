@@ -1,2 +1,3 @@
+pub mod Barriers
 pub mod Chunks
 pub mod Rows

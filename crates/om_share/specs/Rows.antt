@@ -1,38 +1,50 @@
--- The rows of worksharing, masked and critical regions.
+-- The rows of worksharing, masked and critical regions, and of barriers.
 use Rattle.std.specs.Prelude.{ℕ, ◌+◌, ℤ, pos, ◌&&◌, Bool, true, false, nat_lt, nat_eq, if◌then◌else◌, Option, None}
-use Rattle.std.specs.Prelude.{Some, List, [], ◌∷◌, slice_get}
+use Rattle.std.specs.Prelude.{zero, Some, List, [], ◌∷◌, ◌++◌, replicate, slice_get}
 use Rattle.std.specs.Ordering.{int_eq}
+use Rattle.om_foot.specs.declared.footprint.Access.{Access}
 use Rattle.om_foot.specs.declared.object.Obj.TheVariants as obj
 use Rattle.om_code.specs.declared.frame.Fault.TheVariants as fault
 use Rattle.om_code.specs.declared.frame.Cell.TheVariants as cell
+use Rattle.om_code.specs.declared.instruction.Barrier as barriers
+use Rattle.om_code.specs.declared.instruction.Barrier.TheVariants as barrier_kind
 use Rattle.om_code.specs.declared.instruction.LoopForm.{LoopForm}
 use Rattle.om_code.specs.declared.instruction.Schedule.{Schedule}
 use Rattle.om_code.specs.declared.instruction.Schedule.TheVariants as schedule
-use Rattle.om_code.specs.declared.instruction.Place.TheVariants.{Slot}
+use Rattle.om_code.specs.declared.instruction.Place.TheVariants as place
+use Rattle.om_code.specs.declared.raw.Slot.{Slot}
 use Rattle.om_code.specs.Arithmetic.{is_int}
 use Rattle.om_events.specs.declared.event.Record.{Record}
 use Rattle.om_events.specs.declared.event.Record.TheVariants as event_record
 use Rattle.om_events.specs.declared.kind.Endpoint.TheVariants as endpoint
+use Rattle.om_events.specs.declared.kind.Sync as syncs
+use Rattle.om_events.specs.declared.kind.Sync.TheVariants as sync
+use Rattle.om_events.specs.declared.kind.TaskFlag.TheVariants as flag
 use Rattle.om_events.specs.declared.kind.Work as works
 use Rattle.om_events.specs.declared.kind.Work.TheVariants as work
 use Rattle.om_cells.specs.declared.control.Context.{Context}
 use Rattle.om_cells.specs.declared.control.Construct.{Construct}
 use Rattle.om_cells.specs.declared.control.Construct.TheVariants as construct
+use Rattle.om_cells.specs.declared.control.Kind.{Kind}
+use Rattle.om_cells.specs.declared.control.Kind.TheVariants as kind
 use Rattle.om_cells.specs.declared.control.Share.{Share}
 use Rattle.om_cells.specs.declared.control.Sharing as sharings
 use Rattle.om_cells.specs.declared.control.Sharing.TheVariants as sharing
 use Rattle.om_cells.specs.declared.control.Team.{Team}
 use Rattle.om_cells.specs.declared.edit.Edit.{Edit}
-use Rattle.om_cells.specs.declared.edit.Edit.TheVariants.{Go, Open, Close, Replace, CountRegion}
+use Rattle.om_cells.specs.declared.edit.Edit.TheVariants.{Go, EndContext, Open, Close, Replace, CountRegion, CountPhase}
 use Rattle.om_cells.specs.declared.step.Blocked.TheVariants as blocked
-use Rattle.om_cells.specs.declared.step.Update.TheVariants.{Put, Keep}
+use Rattle.om_cells.specs.declared.step.Tail.TheVariants.{Events}
+use Rattle.om_cells.specs.declared.step.Update.{Update}
+use Rattle.om_cells.specs.declared.step.Update.TheVariants.{Put, Keep, Append}
 use Rattle.om_cells.specs.declared.value.Val.TheVariants as value
 use Rattle.om_cells.specs.Values.{number_in, holder_in}
 use Rattle.om_steps.specs.declared.row.Row.{Row}
 use Rattle.om_steps.specs.declared.row.Row.TheVariants.{Goes, Faults, Blocked, Lacks}
 use Rattle.om_steps.specs.Rows.{Asked, decided, goes, first_of}
-use Rattle.om_steps.specs.Objects.{write, events, event, object_of, innermost, is_misplaced}
+use Rattle.om_steps.specs.Objects.{write, events, event, object_of, own_cells, deaths, innermost, is_misplaced}
 use Rattle.om_share.specs.declared.chunk.Chunk.{Chunk}
+use Rattle.om_share.specs.Barriers.{barrier, is_open}
 use Rattle.om_share.specs.Chunks.{step_size, count_of, value_of, static_chunk, chunk_within}
 
 -- the edits that go to a place with so many operands taken, and then make one more
@@ -164,7 +176,7 @@ int_of n = if is_int n then Some n else None
 -- an iteration is begun: its value goes to the iteration variable (OpenMP 5.2, 4.4.1)
 abbrev pub value_row : ℕ → Context → ℕ → Share → Option ℤ → Asked
 value_row to c slot share (Some n) = record {
-  names = write (object_of c (Slot slot) 0) ∷ [];
+  names = write (object_of c (place.Slot slot) 0) ∷ [];
   row = λ _. Goes (edits to 0 (Replace (construct.Share (record share { next = share.next + 1 }))))
       (Put (value.Cell (cell.Int n)) ∷ []);
 }
@@ -278,3 +290,82 @@ leave_critical_row worker to number lock region =
           λ _. unlock_row to lock;
     }
     else decided Lacks
+
+-- the kind of synchronization that a barrier is
+abbrev pub sync_of : barriers.Barrier → syncs.Sync
+sync_of barrier_kind.Explicit = sync.BarrierExplicit
+sync_of barrier_kind.Worksharing = sync.BarrierWorksharing
+sync_of barrier_kind.Parallel = sync.BarrierParallel
+
+-- at the end of the barrier of a parallel region the team is no more
+abbrev pub team_at_end : barriers.Barrier → List ℕ → List ℕ
+team_at_end barrier_kind.Explicit team = team
+team_at_end barrier_kind.Worksharing team = team
+team_at_end barrier_kind.Parallel team = []
+
+abbrev pub reached_row : ℕ → ℕ → barriers.Barrier → Context → Asked
+reached_row worker to b c = record {
+  names = write (obj.Arrived c.team.name c.team.number) ∷ events worker ∷ [];
+  row = λ _. goes to 0 None (Put (value.Number (c.phase + 1))
+      ∷ event (event_record.SyncRegion (sync_of b) endpoint.Begin c.team.name c.task) ∷ []);
+}
+
+-- OpenMP 5.2, 17.1: whether a barrier may not be met in a context; the barriers at the ends of regions may
+abbrev pub is_misplaced_barrier : barriers.Barrier → Context → Bool
+is_misplaced_barrier barrier_kind.Explicit c = is_misplaced c
+is_misplaced_barrier barrier_kind.Worksharing c = false
+is_misplaced_barrier barrier_kind.Parallel c = false
+
+-- OpenMP 5.2, 15.3: a member reaches a barrier
+abbrev pub arrive_row : ℕ → ℕ → barriers.Barrier → Context → Asked
+arrive_row worker to b c = if is_misplaced_barrier b c then decided (Faults fault.Nesting) else reached_row worker
+    to b c
+
+-- what is left where a member reads how far the others came
+abbrev pub kept : ℕ → List Update
+kept size = replicate (size + 1) Keep
+
+-- a member at a barrier that is open or not
+abbrev pub departed : ℕ → barriers.Barrier → Context → Bool → Row
+departed to b c false = Blocked blocked.Barrier
+departed to b c true = Goes (Go to 0 None ∷ CountPhase ∷ []) (kept c.team.size
+    ++ event (event_record.SyncRegion (sync_of b) endpoint.End (team_at_end b c.team.name) c.task) ∷ [])
+
+-- it goes on once all members have reached it and the phase's tasks are done
+abbrev pub depart_row : ℕ → ℕ → barriers.Barrier → Context → Asked
+depart_row worker to b c = record {
+  names = barrier c.team c.phase ++ events worker ∷ [];
+  row = λ values. departed
+      to b c (is_open c.phase c.team.size values);
+}
+
+-- number 0 records the end of the region, for the task that made it
+abbrev pub region_end : List ℕ → ℕ → List Context → List Record
+region_end team zero (maker ∷ below) = event_record.ParallelEnd team maker.task ∷ []
+region_end team number below = []
+
+-- what a member's end records: that of the barrier, of its task, and of the region
+abbrev pub left_records : Context → List Context → List Record
+left_records c below = event_record.SyncRegion sync.BarrierParallel endpoint.End [] c.task
+    ∷ event_record.ImplicitTask endpoint.End [] c.task 0 c.team.number flag.Implicit ∷ region_end c.team.name
+    c.team.number below
+
+-- a member's task ends at the open barrier of its region, and its own cells die
+abbrev pub left : Context → List Context → List Access → Bool → Row
+left c below own false = Blocked blocked.Barrier
+left c below own true = Goes (EndContext ∷ []) (kept c.team.size
+    ++ (deaths own ++ Append (Events (left_records c below)) ∷ []))
+
+abbrev pub left_row : ℕ → Context → List Context → List Access → Asked
+left_row worker c below own = record {
+  names = barrier c.team c.phase ++ (own ++ events worker ∷ []);
+  row =
+      λ values. left c below own (is_open c.phase c.team.size values);
+}
+
+-- the end of a member's task: number 0 goes on with the context that made the team, the others are idle
+abbrev pub leave_row : ℕ → Context → List Context → List Slot → Kind → ℕ → Asked
+leave_row worker c below slots kind.Initial number = decided Lacks
+leave_row worker c below slots kind.Explicit number = decided Lacks
+leave_row worker c [] slots kind.Implicit zero = decided Lacks
+leave_row worker c below slots kind.Implicit number = left_row worker c below (own_cells c slots)

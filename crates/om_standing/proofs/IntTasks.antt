@@ -32,10 +32,11 @@ use Rattle.om_steps.specs.Begins.{first_frame}
 use Rattle.om_steps.specs.Objects.{own_cells, deaths, puts, homes_in, innermost}
 use Rattle.om_steps.specs.Rows.{first_of, rest_of, is_zero}
 use Rattle.om_steps.specs.SerialRows.{call_row, return_row, put_combined, reduced, reduce_row}
-use Rattle.om_fork.specs.Barriers.{is_open}
+use Rattle.om_share.specs.Barriers.{is_open}
 use Rattle.om_fork.specs.Teams.{first_busy, member, member_controls, member_puts, size_of}
-use Rattle.om_fork.specs.Rows.{forked, team_of, named_row, sized_row, fork_row, is_misplaced_barrier, arrive_row, kept}
-use Rattle.om_fork.specs.Rows.{departed, depart_row, left, leave_row, value_of, finished, finished_row, finish_row}
+use Rattle.om_fork.specs.Rows.{forked, team_of, named_row, sized_row, fork_row}
+use Rattle.om_fork.specs.Rows.{value_of, finished, finished_row, finish_row}
+use Rattle.om_share.specs.Rows.{is_misplaced_barrier, arrive_row, kept, departed, depart_row, left, leave_row}
 use Rattle.om_task.specs.declared.task_start.Starting.{Starting}
 use Rattle.om_task.specs.declared.task.Making.{Making}
 use Rattle.om_task.specs.Tasks.{born, group_of, innermost_group}

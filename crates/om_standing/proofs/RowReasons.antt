@@ -39,11 +39,11 @@ use Rattle.om_steps.specs.declared.row.Row.{Row}
 use Rattle.om_steps.specs.Rows.{Asked, first_of, rest_of}
 use Rattle.om_steps.specs.Objects.{own_cells, homes_in, is_misplaced}
 use Rattle.om_steps.specs.SerialRows.{call_row, return_row, put_combined, reduced, reduce_row}
-use Rattle.om_fork.specs.Barriers.{is_open}
+use Rattle.om_share.specs.Barriers.{is_open}
 use Rattle.om_steps.specs.Begins.{first_frame}
 use Rattle.om_fork.specs.Teams.{first_busy}
-use Rattle.om_fork.specs.Rows.{forked, team_of, named_row, sized_row, fork_row, is_misplaced_barrier, arrive_row}
-use Rattle.om_fork.specs.Rows.{departed, depart_row, left, leave_row}
+use Rattle.om_fork.specs.Rows.{forked, team_of, named_row, sized_row, fork_row}
+use Rattle.om_share.specs.Rows.{is_misplaced_barrier, arrive_row, departed, depart_row, left, leave_row}
 use Rattle.om_share.specs.declared.chunk.Chunk.{Chunk}
 use Rattle.om_share.specs.Chunks.{static_chunk, chunk_within, value_of}
 use Rattle.om_share.specs.Rows.{open_row, loop_row, sections_row, taken_row, given_row as chunk_given_row, static_row}

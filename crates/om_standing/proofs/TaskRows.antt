@@ -48,11 +48,11 @@ use Rattle.om_steps.specs.Rows.{first_of, rest_of}
 use Rattle.om_steps.specs.Objects.{own_cells, deaths, puts, homes_in, innermost}
 use Rattle.om_steps.specs.SerialRows.{put_of, row_of, unsets, cells_of_slot, touch_row, serial_row, slots_in, call_row}
 use Rattle.om_steps.specs.SerialRows.{return_row, put_combined, reduced, reduce_row}
-use Rattle.om_fork.specs.Barriers.{is_open}
+use Rattle.om_share.specs.Barriers.{is_open}
 use Rattle.om_steps.specs.Begins.{first_frame}
 use Rattle.om_fork.specs.Teams.{first_busy, member, member_controls, member_puts, size_of}
-use Rattle.om_fork.specs.Rows.{forked, team_of, named_row, sized_row, fork_row, begin_row, is_misplaced_barrier}
-use Rattle.om_fork.specs.Rows.{arrive_row, kept, departed, depart_row, left, leave_row}
+use Rattle.om_fork.specs.Rows.{forked, team_of, named_row, sized_row, fork_row, begin_row}
+use Rattle.om_share.specs.Rows.{is_misplaced_barrier, arrive_row, kept, departed, depart_row, left, leave_row}
 use Rattle.om_task.specs.declared.task_start.Starting.{Starting}
 use Rattle.om_task.specs.declared.task.Making.{Making}
 use Rattle.om_steps.specs.Rows.{is_zero}

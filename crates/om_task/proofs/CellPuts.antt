@@ -20,7 +20,7 @@ use Rattle.om_steps.specs.declared.row.Row.{Row}
 use Rattle.om_steps.specs.declared.row.Row.TheVariants.{Goes, Faults, Blocked, Lacks}
 use Rattle.om_steps.specs.Objects.{puts, deaths}
 use Rattle.om_steps.specs.SerialRows.{row_of, unsets, put_combined, reduced}
-use Rattle.om_fork.specs.Rows.{kept, departed, left}
+use Rattle.om_share.specs.Rows.{kept, departed, left}
 use Rattle.om_fork.specs.Teams.{member_puts}
 use Rattle.om_task.specs.Tasks.{additions}
 use Rattle.om_task.specs.Shapes.{is_cell, IsCell, PutsCell, PutCells}

@@ -16,7 +16,7 @@ use Rattle.om_steps.specs.declared.row.Row.{Row}
 use Rattle.om_steps.specs.declared.row.Row.TheVariants.{Lacks}
 use Rattle.om_steps.specs.Rows.{Asked, decided}
 use Rattle.om_steps.specs.Objects.{slot_cells, given_cells, own_slot, own_from, home_at, puts, deaths}
-use Rattle.om_fork.specs.Barriers.{arrivals}
+use Rattle.om_share.specs.Barriers.{arrivals}
 use Rattle.om_fork.specs.Teams.{workers_from, member_cells, member_controls, member_puts, member}
 use Rattle.om_team.specs.Counters.{IsWithin}
 use Rattle.om_task.specs.Steps.{is_add, AddOnce}

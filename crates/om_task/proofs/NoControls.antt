@@ -20,7 +20,7 @@ use Rattle.om_steps.specs.declared.row.Row.{Row}
 use Rattle.om_steps.specs.declared.row.Row.TheVariants.{Goes, Faults, Blocked, Lacks}
 use Rattle.om_steps.specs.Rows.{Asked, decided}
 use Rattle.om_steps.specs.Objects.{object_of, slot_cells, given_cells, own_slot, own_from, own_cells, home_at, events}
-use Rattle.om_fork.specs.Barriers.{arrivals, barrier}
+use Rattle.om_share.specs.Barriers.{arrivals, barrier}
 use Rattle.om_fork.specs.Teams.{member_cells}
 use Rattle.om_task.specs.Tasks.{counts}
 use Rattle.om_task.specs.Shapes.{is_trailed, IsControl, IsShapedAt, AreShaped}

@@ -32,9 +32,9 @@ use Rattle.om_steps.specs.Objects.{own_cells, innermost, puts, deaths}
 use Rattle.om_steps.specs.Rows.{first_of, rest_of}
 use Rattle.om_steps.specs.SerialRows.{touch_row, serial_row, slots_in, number_row, call_row, return_row, reduce_row}
 use Rattle.om_steps.specs.SerialRows.{unsets, cells_of_slot}
-use Rattle.om_fork.specs.Barriers.{is_open}
-use Rattle.om_fork.specs.Rows.{begin_row, reached_row, is_misplaced_barrier, arrive_row, depart_row, left_row, leave_row}
-use Rattle.om_fork.specs.Rows.{value_of, finished_row, finish_row}
+use Rattle.om_share.specs.Barriers.{is_open}
+use Rattle.om_fork.specs.Rows.{begin_row, value_of, finished_row, finish_row}
+use Rattle.om_share.specs.Rows.{reached_row, is_misplaced_barrier, arrive_row, depart_row, left_row, leave_row}
 use Rattle.om_task.specs.declared.task_start.Starting.{Starting}
 use Rattle.om_task.specs.declared.task.Making.{Making}
 use Rattle.om_task.specs.Tasks.{born, group_of, innermost_group}

@@ -45,10 +45,11 @@ use Rattle.om_steps.specs.Rows.{first_of, rest_of}
 use Rattle.om_steps.specs.Objects.{own_cells, deaths, puts, events, given_cells, innermost}
 use Rattle.om_steps.specs.SerialRows.{put_of, row_of, unsets, cells_of_slot, touch_row, serial_row, slots_in, number_row}
 use Rattle.om_steps.specs.SerialRows.{call_row, return_row, put_combined, reduced, reduce_row}
-use Rattle.om_fork.specs.Barriers.{barrier, is_open}
+use Rattle.om_share.specs.Barriers.{barrier, is_open}
 use Rattle.om_fork.specs.Teams.{first_busy, member_controls, member_puts}
-use Rattle.om_fork.specs.Rows.{forked, team_row, team_of, named_row, sized_row, fork_row, begin_row, reached_row}
-use Rattle.om_fork.specs.Rows.{is_misplaced_barrier, arrive_row, kept, departed, depart_row, left, left_row, leave_row}
+use Rattle.om_fork.specs.Rows.{forked, team_row, team_of, named_row, sized_row, fork_row, begin_row}
+use Rattle.om_share.specs.Rows.{reached_row}
+use Rattle.om_share.specs.Rows.{is_misplaced_barrier, arrive_row, kept, departed, depart_row, left, left_row, leave_row}
 use Rattle.om_task.specs.declared.task_start.Starting.{Starting}
 use Rattle.om_task.specs.declared.task.Making.{Making}
 use Rattle.om_steps.specs.Rows.{is_zero}

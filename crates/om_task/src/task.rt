@@ -7,7 +7,7 @@ ghost use Rattle.om_cells.specs.declared.value.Task.TheVariants as task;
 ghost use Rattle.om_cells.specs.declared.value.Val.TheVariants as value;
 ghost use Rattle.om_live.specs.Plain.{plain_context, plain_held, plain_stack};
 ghost use Rattle.om_steps.specs.Rows.{answered};
-ghost use Rattle.om_task.specs.Tasks.{born, ready_of};
+ghost use Rattle.om_task.specs.Tasks.{born, group_of, ready_of};
 ghost use Rattle.om_task.specs.Rows.{made_names, values_given, made_row, spawn_row, ended_names, ended_updates, task_end_row, task_yield_row};
 
 use crate::count::{add_to_counts, name_counts};
@@ -37,6 +37,13 @@ pub struct Making {
     pub launch: Launch,
 }
 
+/// The task group of the tasks that a context's task makes, if there is one.
+fn task_group(context: &Context) -> Option<Name>
+    ensures { result ≡ group_of (plain_context context.now) }
+{
+    group_of(context)
+}
+
 /// What the making of a task names.
 fn made_names(
     alloc: Global,
@@ -50,7 +57,8 @@ fn made_names(
 {
     let mut names = name_one(alloc, &Obj::Task(*new), Mode::Write)?;
     name_given(&mut names, new, 0, body.given.as_slice())?;
-    name_counts(&mut names, context.task.get(), context, &group_of(context))?;
+    let group = &task_group(context);
+    name_counts(&mut names, context.task.get(), context, group)?;
     name_events(&mut names, worker)?;
     Ok(names)
 }
@@ -68,7 +76,7 @@ fn ready_of(
     let homes = homes_in(alloc, context, body.slots.as_slice())?;
     let homes = Shared::of(alloc, homes)?;
     let team = Shared::of(alloc, context.team.get().name)?;
-    let group = Shared::of(alloc, group_of(context))?;
+    let group = Shared::of(alloc, task_group(context))?;
     Ok(Ready {
         body: making.launch.body,
         line: making.line,
@@ -91,7 +99,7 @@ fn give_values(
         (updates.new ≡ updates.old ++ values_given (plain_context context.now) new.now values.now) }
 {
     put_ints(updates, values)?;
-    add_to_counts(updates, 1, &group_of(context))?;
+    add_to_counts(updates, 1, &task_group(context))?;
     let entry = Record::TaskCreate {
         task: *context.task.get(),
         new: *new,

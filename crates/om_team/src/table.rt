@@ -16,13 +16,13 @@ use om_code::print::ints_on;
 use om_code::raw::Slot;
 use om_code::serial::int_at;
 use om_code::{Instr, Program};
+use om_fork::begin::begin;
 use om_fork::ends::finish;
-use om_fork::rows::{arrive, begin, depart, leave};
 use om_fork::teams::{Forking, fork};
 use om_live::{Context, Stack, Store};
 use om_share::{
-    Bounds, Branch, ask_critical, end_masked, end_worksharing, enter_critical, grab, iterate,
-    leave_critical, masked, open_loop, open_sections, pick, single,
+    Bounds, Branch, arrive, ask_critical, depart, end_masked, end_worksharing, enter_critical,
+    grab, iterate, leave, leave_critical, masked, open_loop, open_sections, pick, single,
 };
 use om_steps::names::operands_of;
 use om_steps::{Answer, At, Combining, Launch, Row};

@@ -3,8 +3,8 @@ use Rattle.om_code.specs.declared.frame.Fault.TheVariants as fault
 use Rattle.om_live.specs.Plain.{plain_context}
 use Rattle.om_steps.specs.declared.row.Row.TheVariants.{Faults}
 use Rattle.om_steps.specs.Rows.{answered, decided}
-use Rattle.om_fork.specs.Rows.{reached_row}
-use Rattle.om_fork.proofs.rows.arrive.Goals as goal
+use Rattle.om_share.specs.Rows.{reached_row}
+use Rattle.om_share.proofs.meetings.arrive.Goals as goal
 
 pub returns : goal.returns
 returns c = λ s. subst

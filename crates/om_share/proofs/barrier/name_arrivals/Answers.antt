@@ -1,7 +1,7 @@
 use Rattle.std.proofs.Common.{◌∙◌, ap, arith, ◌++◌, ◌+◌, ◌-◌}
-use Rattle.om_fork.specs.Barriers.{arrivals}
-use Rattle.om_fork.proofs.Counting.{arrivals_past}
-use Rattle.om_fork.proofs.barrier.name_arrivals.Goals as goal
+use Rattle.om_share.specs.Barriers.{arrivals}
+use Rattle.om_share.proofs.Counting.{arrivals_past}
+use Rattle.om_share.proofs.barrier.name_arrivals.Goals as goal
 
 pub loop-number-preserved : goal.loop-number-preserved
 loop-number-preserved c =

@@ -1,7 +1,7 @@
 use Rattle.std.proofs.Common.{◌≡◌, ◌-◌}
 use Rattle.om_live.specs.Stores.{state_of}
-use Rattle.om_fork.specs.Barriers.{open_in}
-use Rattle.om_fork.proofs.barrier.is_open.Given as goal
+use Rattle.om_share.specs.Barriers.{open_in}
+use Rattle.om_share.proofs.barrier.is_open.Given as goal
 
 -- the barrier is open where what is left of it is
 abbrev pub invariant-loop-number : goal.invariant-loop-number

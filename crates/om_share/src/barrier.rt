@@ -2,7 +2,7 @@
 
 ghost use Rattle.std.specs.Prelude.{◌≡◌, ◌++◌, ◌+◌, OnOk, replicate};
 ghost use Rattle.om_live.specs.Stores.{state_of};
-ghost use Rattle.om_fork.specs.Barriers.{arrivals, barrier, open_in};
+ghost use Rattle.om_share.specs.Barriers.{arrivals, barrier, open_in};
 
 use om_cells::{Team, Update};
 use om_foot::{Access, Mode, Name, Obj};

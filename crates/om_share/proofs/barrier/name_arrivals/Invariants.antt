@@ -1,6 +1,6 @@
 use Rattle.std.proofs.Common.{◌≡◌, ◌++◌, ◌-◌}
-use Rattle.om_fork.specs.Barriers.{arrivals}
-use Rattle.om_fork.proofs.barrier.name_arrivals.Given as goal
+use Rattle.om_share.specs.Barriers.{arrivals}
+use Rattle.om_share.proofs.barrier.name_arrivals.Given as goal
 
 -- the accesses so far and those of what is left are all
 abbrev pub invariant-loop-number : goal.invariant-loop-number

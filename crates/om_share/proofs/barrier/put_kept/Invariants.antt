@@ -1,6 +1,6 @@
 use Rattle.std.proofs.Common.{◌≡◌, ◌++◌, ◌+◌, ◌-◌, replicate}
 use Rattle.om_cells.specs.declared.step.Update.TheVariants as update
-use Rattle.om_fork.proofs.barrier.put_kept.Given as goal
+use Rattle.om_share.proofs.barrier.put_kept.Given as goal
 
 -- the updates so far and those of what is left are all
 abbrev pub invariant-loop-number : goal.invariant-loop-number

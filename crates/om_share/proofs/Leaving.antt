@@ -8,7 +8,7 @@ use Rattle.om_cells.specs.declared.control.Kind.TheVariants.{Implicit}
 use Rattle.om_live.specs.declared.control.Context.{Context}
 use Rattle.om_live.specs.Plain.{plain_held}
 use Rattle.om_steps.specs.Objects.{own_cells}
-use Rattle.om_fork.specs.Rows.{left_row, leave_row}
+use Rattle.om_share.specs.Rows.{left_row, leave_row}
 
 pub above_another : (worker : ℕ) (c : plain_contexts.Context) (below : List (Box Context Global)) (slots : List Slot)
     (number : ℕ) → (below ≡ [] → ⊥) → leave_row worker c (map plain_held below) slots Implicit number

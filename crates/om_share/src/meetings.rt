@@ -1,4 +1,4 @@
-//! BEGIN, ARRIVE, DEPART and LEAVE: a member's way through its region.
+//! ARRIVE, DEPART and LEAVE: a member at a barrier, and at the end of its region.
 
 ghost use Rattle.std.specs.Prelude.{◌≡◌, ◌++◌, ◌∷◌, [], ◌≤◌, ◌<◌, ◌+◌, ◌^◌, IfOk, OnOk, length, map, None, option_map, slice_get};
 ghost use Rattle.om_cells.specs.State.{State};
@@ -8,8 +8,8 @@ ghost use Rattle.om_steps.specs.Rows.{answered, goes};
 ghost use Rattle.om_steps.specs.Objects.{deaths, event, events, own_cells, write};
 ghost use Rattle.om_foot.specs.declared.object.Obj.TheVariants as obj;
 ghost use Rattle.om_cells.specs.declared.value.Val.TheVariants as value;
-ghost use Rattle.om_fork.specs.Barriers.{barrier};
-ghost use Rattle.om_fork.specs.Rows.{sync_of, team_at_end, begin_row, reached_row, is_misplaced_barrier, arrive_row, kept, departed, depart_row, region_end, left_records, left, left_row, leave_row};
+ghost use Rattle.om_share.specs.Barriers.{barrier};
+ghost use Rattle.om_share.specs.Rows.{sync_of, team_at_end, reached_row, is_misplaced_barrier, arrive_row, kept, departed, depart_row, region_end, left_records, left, left_row, leave_row};
 
 use crate::barrier::{is_open, name_barrier, put_kept};
 use om_cells::{Blocked, Edit, Kind, Tail, Team, Update, Val};
@@ -22,32 +22,10 @@ use om_foot::{Access, Mode, Name, Obj};
 use om_live::{Context, Stack, Store, Tape};
 use om_seq::Seq;
 use om_steps::names::{is_misplaced, name, name_events, own_cells};
-use om_steps::parts::{go_and, go_on, recorded};
+use om_steps::parts::go_and;
 use om_steps::updates::{put_deaths, put_event};
 use om_steps::{Answer, At, Row};
 use std::alloc::{AllocError, Global};
-
-/// BEGIN: the begin of a member's task is recorded. The only error is out of memory.
-pub fn begin(alloc: Global, at: At, context: &Context) -> Result<Answer, AllocError>
-    ensures { IfOk result
-        (λ answer. answer
-        ≡ record {
-          names = (begin_row at.worker at.to (plain_context context.now)).names;
-          row =
-              (begin_row at.worker at.to (plain_context context.now)).row [];
-        }) }
-{
-    let edits = go_on(alloc, at.to)?;
-    let begun = Record::ImplicitTask {
-        endpoint: Endpoint::Begin,
-        team: context.team.get().name,
-        task: *context.task.get(),
-        size: context.team.get().size,
-        number: context.team.get().number,
-        flag: TaskFlag::Implicit,
-    };
-    recorded(alloc, at.worker, edits, begun)
-}
 
 /// The kind of synchronization that a barrier is.
 fn sync_of(barrier: Barrier) -> Sync
