@@ -1,23 +1,23 @@
 -- Looking a name up in all scopes at once is looking it up in one after the other.
 use Rattle.std.specs.Prelude.{nat_eq, nat_lt}
-use Rattle.std.proofs.Common.{◌≡◌, ℕ, ◌≤◌, suc, Bool, true, false, not, ◌&&◌, ◌||◌, List, [], ◌∷◌, ◌++◌, Option}
-use Rattle.std.proofs.Common.{None, Some, is_some, map, reverse, if◌then◌else◌, length, Vec, refl, sym, ap, subst, ◌∙◌}
+use Rattle.std.proofs.Common.{◌≡◌, ℕ, ◌<◌, ◌≤◌, suc, Bool, true, false, not, ◌&&◌, ◌||◌, List, [], ◌∷◌, ◌++◌, Option}
+use Rattle.std.proofs.Common.{None, Some, is_some, if◌then◌else◌, length, refl, sym, ap, subst, ◌∙◌}
 use Rattle.std.proofs.Common.{true≢false, arith}
-use Rattle.std.proofs.lemmas.List.{length-map, length-reverse, reverse-append}
-use Rattle.std.specs.HashMap.{HashMap}
-use Rattle.std.specs.declared.alloc.Global.{Global}
-use Rattle.std.proofs.lemmas.Bool.{eqb-true, eqb-false, lt-ltb, le-ltb, ltb-true}
+use Rattle.std.proofs.lemmas.List.{length-reverse, reverse-append}
+use Rattle.std.proofs.lemmas.Bool.{eq-eqb, eqb-true, eqb-false, ne_eqb, lt-ltb, le-ltb, ltb-true}
 use Rattle.std.specs.Map.{lookup}
 use Rattle.std.specs.Option.{option_or}
 use Rattle.std.specs.Str.{bytes_eq}
 use Rattle.om_names.specs.declared.nesting.Construct.{Construct}
+use Rattle.om_names.specs.declared.sightings.Sighting.{Sighting}
 use Rattle.om_rules.specs.declared.meaning.Meaning.{Meaning}
 use Rattle.om_names.specs.Nesting.{AreNested, alone_since, copied_since, enclosing_of, outside_of, region_in}
 use Rattle.om_names.specs.Nesting.{unlisted_since}
-use Rattle.om_rules.specs.Scopes.{Scope, meaning_outside, plain, scope_of}
+use Rattle.om_rules.specs.Scopes.{Scope, meaning_outside, plain}
 use Rattle.om_rules.specs.Sharing.{copied_outside, declares, is_own, is_parallel, is_task_without, lacks_clause}
 use Rattle.om_rules.specs.Sharing.{unlisted_outside}
-use Rattle.om_names.specs.Sightings.{depth_of, meaning_of_sighting, scopes_of, sightings, with_sighting}
+use Rattle.om_names.specs.Sightings.{depth_of, meaning_at, meaning_of_sighting, scopes_of, sightings}
+use Rattle.om_names.specs.Sightings.{with_sighting}
 use Rattle.om_names.specs.Stacks.{innermost_of}
 use Rattle.om_names.proofs.Stacked.{innermost-last}
 
@@ -83,6 +83,41 @@ depth-innermost (scope ∷ outer) name = by (lookup (bytes_eq name) scope) (dept
         → depth_of (innermost_of (with_sighting (length outer) (sightings outer name) found)) ≤ length (scope ∷ outer)
     by None below = omega (arith, below)
     by (Some meaning) below = rw innermost-last (omega arith)
+
+-- round it stand fewer scopes
+below-innermost : (scopes : List Scope) (name : List ℕ) (seen : Sighting) → innermost_of (sightings scopes name) ≡ Some seen
+    → seen.depth < length scopes
+below-innermost [] name seen e = cc
+below-innermost (scope ∷ outer) name seen e = by (lookup (bytes_eq name) scope) e (below-innermost outer name seen)
+  where
+    by : (found : Option Meaning) → innermost_of (with_sighting (length outer) (sightings outer name) found) ≡ Some seen
+        → (innermost_of (sightings outer name) ≡ Some seen → seen.depth < length outer)
+        → seen.depth < length (scope ∷ outer)
+    by None is below = let deep = below is in omega (arith, deep)
+    by (Some meaning) is below =
+        let same : length outer ≡ seen.depth = ap depth_of (sym (innermost-last (sightings outer name)
+        (record { depth = length outer; meaning = meaning })) ∙ is) in
+        omega (arith, same)
+
+-- the innermost scope declares what the innermost declaration says, if that stands so deep
+pub meaning-innermost_scope : (inner : Scope) (outer : List Scope) (name : List ℕ)
+    → meaning_at (innermost_of (sightings (inner ∷ outer) name)) (length outer) ≡ lookup (bytes_eq name) inner
+meaning-innermost_scope inner outer name = by (lookup (bytes_eq name) inner)
+  where
+    further : (found : Option Sighting) → innermost_of (sightings outer name) ≡ found → meaning_at found (length outer)
+        ≡ None
+    further None e = refl
+    further (Some seen) e =
+        let below = below-innermost outer name seen e in
+        ap (λ b. if b then Some seen.meaning else None) (ne_eqb seen.depth (length outer) (λ same. omega (arith, below, same)))
+
+    by : (found : Option Meaning) → meaning_at (innermost_of (with_sighting (length outer) (sightings outer name) found))
+        (length outer) ≡ found
+    by None = further (innermost_of (sightings outer name)) refl
+    by (Some meaning) =
+        ap (λ seen. meaning_at seen (length outer)) (innermost-last (sightings outer name)
+        (record { depth = length outer; meaning = meaning }))
+        ∙ ap (λ b. if b then Some meaning else None) (eq-eqb (length outer) (length outer) refl)
 
 -- ---- constructs that lack a clause
 
@@ -360,11 +395,8 @@ copied-at inner outer constructs name nested = by (lookup (bytes_eq name) inner)
         ∙ never (nat_lt 0 (length outer)))
 
 -- the scopes that tables hold
-pub length-scopes : {S : Type 0} (tables : List (HashMap (Vec ℕ Global) Meaning S)) → length (scopes_of tables)
-    ≡ length tables
-length-scopes tables = length-map (reverse tables) (λ table. scope_of table.entries) ∙ length-reverse tables
+pub length-scopes : (tables : List Scope) → length (scopes_of tables) ≡ length tables
+length-scopes tables = length-reverse tables
 
-pub scopes-push : {S : Type 0} (tables : List (HashMap (Vec ℕ Global) Meaning S))
-    (table : HashMap (Vec ℕ Global) Meaning S) → scopes_of (tables ++ table ∷ []) ≡ scope_of table.entries
-    ∷ scopes_of tables
-scopes-push tables table = ap (λ ts. map (λ t. scope_of t.entries) ts) (reverse-append tables (table ∷ []))
+pub scopes-push : (tables : List Scope) (table : Scope) → scopes_of (tables ++ table ∷ []) ≡ table ∷ scopes_of tables
+scopes-push tables table = reverse-append tables (table ∷ [])

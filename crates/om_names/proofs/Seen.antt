@@ -1,18 +1,15 @@
 -- The declarations of names, as scopes get further ones and end.
-use Rattle.std.proofs.Common.{◌≡◌, ℕ, Bool, true, false, cond, List, [], ◌∷◌, ◌++◌, Option, None, Some, is_some}
-use Rattle.std.proofs.Common.{if◌then◌else◌, length, refl, sym, ap, ◌∙◌, true≢false, Vec}
-use Rattle.std.specs.declared.alloc.Global.{Global}
-use Rattle.std.specs.List.{AllByRecursion, IsDistinct}
-use Rattle.std.specs.Map.{keys_of, lookup}
-use Rattle.std.proofs.lemmas.Map.Keys.{IsDistinct-head, IsDistinct-tail}
+use Rattle.std.proofs.Common.{◌≡◌, ℕ, Bool, true, false, cond, List, [], ◌∷◌, ◌++◌, Option, None, Some}
+use Rattle.std.proofs.Common.{if◌then◌else◌, length, refl, sym, ap, ◌∙◌}
+use Rattle.std.specs.Map.{lookup}
 use Rattle.std.specs.Option.{option_or}
 use Rattle.std.specs.Str.{bytes_eq}
 use Rattle.om_names.specs.declared.sightings.Sighting.{Sighting}
 use Rattle.om_rules.specs.declared.meaning.Meaning.{Meaning}
-use Rattle.om_rules.specs.Scopes.{Scope, scope_of}
+use Rattle.om_rules.specs.Scopes.{Scope}
 use Rattle.om_names.specs.Sightings.{Shows, sightings, with_sighting}
 use Rattle.om_names.specs.Stacks.{seen_in, without_innermost}
-use Rattle.om_names.proofs.Stacked.{name_itself, same_names, without-last}
+use Rattle.om_names.proofs.Stacked.{same_names, without-last}
 
 -- ---- scopes
 
@@ -94,31 +91,20 @@ pub shows-empty : (table : List (List ℕ × List Sighting)) (scopes : List Scop
     → Shows table ([] ∷ scopes)
 shows-empty table scopes shows name = shows name
 
--- ---- names that are each there once
-
-last_apart : (P : Vec ℕ Global → Type 0) (front rest : List (Vec ℕ Global × Meaning)) (name : Vec ℕ Global)
-    (meaning : Meaning) → AllByRecursion P (keys_of (front ++ (name, meaning) ∷ rest)) → P name
-last_apart P [] rest name meaning all = all.0
-last_apart P (entry ∷ front) rest name meaning all = last_apart P front rest name meaning all.1
-
-abbrev pub same_key : Vec ℕ Global → Vec ℕ Global → Bool
-same_key one other = bytes_eq one.items other.items
-
-pub new-behind : (front rest : List (Vec ℕ Global × Meaning)) (name : Vec ℕ Global) (meaning : Meaning)
-    → IsDistinct same_key (keys_of (front ++ (name, meaning) ∷ rest))
-    → is_some (lookup (bytes_eq name.items) (scope_of front)) ≡ false
-new-behind [] rest name meaning distinct = refl
-new-behind (entry ∷ front) rest name meaning distinct =
-    by (bytes_eq name.items entry.0.items) refl
-    (last_apart (λ other. same_key entry.0 other ≡ false) front rest name meaning
-    (IsDistinct-head same_key entry.0 (keys_of (front ++ (name, meaning) ∷ rest)) distinct))
-    (new-behind front rest name meaning
-    (IsDistinct-tail same_key entry.0 (keys_of (front ++ (name, meaning) ∷ rest)) distinct))
+-- what is noted and then forgotten changes nothing
+pub shows-undone : (table noted now : List (List ℕ × List Sighting)) (scopes : List Scope) (name : List ℕ)
+    (sighting : Sighting)
+    → ((other : List ℕ) → seen_in noted other ≡ (if bytes_eq other name then seen_in table other ++ sighting ∷ [] else
+    seen_in table other))
+    → ((other : List ℕ) → seen_in now other ≡ (if bytes_eq other name then without_innermost (seen_in noted other)
+    else seen_in noted other))
+    → Shows table scopes → Shows now scopes
+shows-undone table noted now scopes name sighting note forget shows other =
+    forget other
+    ∙ ap (λ seen. if bytes_eq other name then without_innermost seen else seen) (note other)
+    ∙ by (bytes_eq other name) ∙ shows other
   where
-    by : (b : Bool) → bytes_eq name.items entry.0.items ≡ b → bytes_eq entry.0.items name.items ≡ false
-        → is_some (lookup (bytes_eq name.items) (scope_of front)) ≡ false
-        → is_some (cond b (Some entry.1) (lookup (bytes_eq name.items) (scope_of front))) ≡ false
-    by true e apart rest = absurd
-        (true≢false (sym (ap (λ n. bytes_eq n name.items) (sym (same_names name.items entry.0.items e))
-        ∙ name_itself name.items) ∙ apart))
-    by false e apart rest = rest
+    by : (b : Bool) → (if b then without_innermost (if b then seen_in table other ++ sighting ∷ [] else seen_in table
+        other) else (if b then seen_in table other ++ sighting ∷ [] else seen_in table other)) ≡ seen_in table other
+    by true = without-last (seen_in table other) sighting
+    by false = refl

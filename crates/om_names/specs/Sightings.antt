@@ -1,12 +1,10 @@
 -- Where names are declared, in the scopes round a place.
-use Rattle.std.specs.Prelude.{◌≡◌, ℕ, List, [], ◌∷◌, ◌++◌, Option, None, Some, Vec, length, map, reverse}
-use Rattle.std.specs.HashMap.{HashMap}
+use Rattle.std.specs.Prelude.{◌≡◌, ℕ, List, [], ◌∷◌, ◌++◌, Option, None, Some, if◌then◌else◌, length, nat_eq, reverse}
 use Rattle.std.specs.Map.{lookup}
 use Rattle.std.specs.Str.{bytes_eq}
-use Rattle.std.specs.declared.alloc.Global.{Global}
 use Rattle.om_names.specs.declared.sightings.Sighting.{Sighting}
 use Rattle.om_rules.specs.declared.meaning.Meaning.{Meaning}
-use Rattle.om_rules.specs.Scopes.{Scope, scope_of}
+use Rattle.om_rules.specs.Scopes.{Scope}
 use Rattle.om_names.specs.Stacks.{seen_in}
 
 -- once a scope of this depth declares a name as this, or does not declare it
@@ -24,8 +22,12 @@ abbrev pub Shows : List (List ℕ × List Sighting) → List Scope → Type 0
 Shows table scopes = (name : List ℕ) → seen_in table name ≡ sightings scopes name
 
 -- the scopes that tables of names hold, the innermost of which is the last table
-abbrev pub scopes_of : {S : Type 0} → List (HashMap (Vec ℕ Global) Meaning S) → List Scope
-scopes_of tables = map (λ table. scope_of table.entries) (reverse tables)
+abbrev pub scopes_of : List Scope → List Scope
+scopes_of tables = reverse tables
+
+-- a name is the last that a scope declares, and no other one there; without it the scope is this
+abbrev pub IsLast : Scope → Scope → List ℕ → Type 0
+IsLast scope left name = (meaning : Meaning) × (scope ≡ left ++ (name, meaning) ∷ []) × (lookup (bytes_eq name) left ≡ None)
 
 -- how deep the scope is that declares a name; nothing is declared round the file scope
 abbrev pub depth_of : Option Sighting → ℕ
@@ -36,3 +38,8 @@ depth_of (Some sighting) = sighting.depth
 abbrev pub meaning_of_sighting : Option Sighting → Option Meaning
 meaning_of_sighting None = None
 meaning_of_sighting (Some sighting) = Some sighting.meaning
+
+-- what the scope of this depth declares it as, where no deeper one declares it
+abbrev pub meaning_at : Option Sighting → ℕ → Option Meaning
+meaning_at None depth = None
+meaning_at (Some sighting) depth = if nat_eq sighting.depth depth then Some sighting.meaning else None

@@ -1,11 +1,11 @@
 //! What the clauses of a directive say of variables.
 
-ghost use Rattle.std.specs.Prelude.{◌≡◌, false, OnOk, is_some};
+ghost use Rattle.std.specs.Prelude.{◌≡◌, ◌++◌, [], ◌∷◌, false, OnOk, is_some};
 ghost use Rattle.om_rules.specs.DirectiveRules.{after_name, is_listed, nothing_listed, with_default};
-ghost use Rattle.om_rules.specs.Scopes.{scope_of};
+ghost use Rattle.std.specs.Map.{keys_of, lookup};
+ghost use Rattle.std.specs.Str.{bytes_eq};
 
-use crate::table::{declares, put};
-use indexmap::IndexMap;
+use crate::table::Table;
 use om_pragma::{DataSharing, Sharing};
 use om_resolved::{Shape, Variable};
 use om_rules::{Meaning, Names, Region, RegionKind};
@@ -18,7 +18,9 @@ pub struct Listed {
     default: Option<Sharing>,
     shared: Names,
     /// The variables of which the construct has copies.
-    copies: IndexMap<Vec<u8>, Meaning>,
+    copies: Table,
+    /// Their names.
+    copied: Names,
 }
 
 // By hand: crates above call this, and do not open the tables.
@@ -28,17 +30,44 @@ impl Drop for Listed {
             default: _,
             shared: _shared,
             copies: _copies,
+            copied: _copied,
         } = self;
     }
 }
 
 impl Model for Listed {
+    ghost use Rattle.std.specs.Prelude.{◌≡◌};
+    ghost use Rattle.std.specs.Map.{keys_of};
     ghost use Rattle.om_rules.specs.DirectiveRules as rules;
-    ghost use Rattle.om_rules.specs.Scopes.{scope_of};
 
     ghost Value = { rules.Listed };
 
-    ghost view = { λ s. record { default = s.default; shared = s.shared; copies = scope_of s.copies.entries } };
+    ghost view = { λ s. record { default = s.default; shared = s.shared; copies = s.copies } };
+
+    ghost invariant = { λ s. s.copied ≡ keys_of s.copies };
+}
+
+/// Adds a copy to the copies of a construct, and its name to theirs.
+fn add_copy(
+    copies: &mut Table,
+    copied: &mut Names,
+    alloc: Global,
+    name: &[u8],
+    copy: Meaning,
+) -> Result<(), AllocError>
+    requires is_new { is_some (lookup (bytes_eq name.now) copies.old) ≡ false }
+    requires named { copied.old ≡ keys_of copies.old }
+    ensures added { OnOk result (copies.new ≡ copies.old ++ (name.now, copy) ∷ []) }
+    ensures named { copied.new ≡ keys_of copies.new }
+{
+    copies.put(alloc, name, copy)?;
+    match copied.add(alloc, name) {
+        Ok(()) => Ok(()),
+        Err(error) => {
+            let _name = copies.pop();
+            Err(error)
+        }
+    }
 }
 
 impl Listed {
@@ -49,7 +78,8 @@ impl Listed {
         Listed {
             default: None,
             shared: Names::new(alloc),
-            copies: IndexMap::new(alloc),
+            copies: Table::new(alloc),
+            copied: Names::new(alloc),
         }
     }
 
@@ -57,7 +87,7 @@ impl Listed {
     pub fn contains(&self, name: &[u8]) -> bool
         ensures { result ≡ is_listed self.now name.now }
     {
-        self.shared.contains(name) || declares(&self.copies, name)
+        self.shared.contains(name) || self.copied.contains(name)
     }
 
     /// Whether it has a `default`.
@@ -88,14 +118,15 @@ impl Listed {
         let copy = Meaning::Variable(Variable::Local(name.span.start), Shape::Scalar);
         match sharing {
             DataSharing::Shared => self.shared.add(alloc, text),
-            DataSharing::Private => put(&mut self.copies, alloc, text, copy),
-            DataSharing::Firstprivate => put(&mut self.copies, alloc, text, copy),
+            DataSharing::Private | DataSharing::Firstprivate => {
+                add_copy(&mut self.copies, &mut self.copied, alloc, text, copy)
+            }
         }
     }
 
     /// The copies, and what else a construct of this kind says of the variables round it.
-    pub fn into_region(self, kind: RegionKind) -> (IndexMap<Vec<u8>, Meaning>, Region)
-        ensures copies { scope_of result.0.entries ≡ self.copies }
+    pub fn into_region(self, kind: RegionKind) -> (Table, Region)
+        ensures copies { result.0 ≡ self.copies }
         ensures region { result.1 ≡ record
             { kind = kind; default = self.default; shared = self.shared } }
     {
@@ -103,7 +134,9 @@ impl Listed {
             default,
             shared,
             copies,
+            copied,
         } = self;
+        drop(copied);
         (
             copies,
             Region {

@@ -1,11 +1,11 @@
 //! Where names are declared: a look-up finds the innermost declaration at once, however deep a place is.
 
 ghost use Rattle.std.specs.Prelude.{◌≡◌, List, ◌∷◌};
-ghost use Rattle.om_rules.specs.Scopes.{Scope, scope_of};
-ghost use Rattle.om_names.specs.Sightings.{Shows, depth_of};
+ghost use Rattle.om_rules.specs.Scopes.{Scope};
+ghost use Rattle.om_names.specs.Sightings.{Shows, depth_of, meaning_at};
 
 use crate::stacks::Stacks;
-use indexmap::IndexMap;
+use crate::table::Table;
 use om_rules::Meaning;
 
 /// A declaration of a name.
@@ -27,12 +27,24 @@ pub fn depth_of(sighting: Option<Sighting>) -> usize
     }
 }
 
-/// Forgets the declarations of the innermost scope.
-pub fn forget_scope(sightings: &mut Stacks<Sighting>, mut names: IndexMap<Vec<u8>, Meaning>)
-    ensures { (outer : List Scope) → Shows sightings.old (scope_of names.entries ∷ outer) →
-        Shows sightings.new outer }
+/// What the scope of this depth declares a name as, where no deeper one declares it. This is its
+/// innermost declaration.
+pub fn meaning_at(sighting: Option<Sighting>, depth: usize) -> Option<Meaning>
+    ensures { result ≡ meaning_at sighting depth }
 {
-    while let Some((name, _)) = names.pop() {
+    let sighting = sighting?;
+    if sighting.depth == depth {
+        Some(sighting.meaning)
+    } else {
+        None
+    }
+}
+
+/// Forgets the declarations of the innermost scope.
+pub fn forget_scope(sightings: &mut Stacks<Sighting>, mut table: Table)
+    ensures { (outer : List Scope) → Shows sightings.old (table ∷ outer) → Shows sightings.new outer }
+{
+    while let Some(name) = table.pop() {
         sightings.forget(name.as_slice());
     }
 }

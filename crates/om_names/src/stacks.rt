@@ -4,14 +4,14 @@ ghost use Rattle.std.specs.Prelude.{◌≡◌, ℕ, List, [], ◌∷◌, ◌++�
 ghost use Rattle.std.specs.Str.{bytes_eq};
 ghost use Rattle.om_names.specs.Stacks.{innermost_of, seen_in, without_innermost};
 
-use indexmap::IndexMap;
 use std::alloc::{AllocError, Global};
+use std::collections::BTreeMap;
 use std::marker::Model;
 
 /// Names, each with a stack of items. Contracts see each name with its items, the innermost last.
 #[derive(Drop)]
 pub struct Stacks<T> {
-    names: IndexMap<Vec<u8>, Vec<T>>,
+    names: BTreeMap<Vec<u8>, Vec<T>>,
 }
 
 impl<T> Model for Stacks<T> {
@@ -29,7 +29,7 @@ impl<T: Copy + Drop> Stacks<T> {
         ensures { result ≡ [] }
     {
         Stacks {
-            names: IndexMap::new(alloc),
+            names: BTreeMap::new(alloc),
         }
     }
 

@@ -4,13 +4,12 @@ ghost use Rattle.std.specs.Prelude.{◌≡◌, ◌+◌, ◌<◌, ◌^◌, [], �
 ghost use Rattle.std.specs.List.{list_any};
 ghost use Rattle.std.specs.Str.{bytes_eq};
 ghost use Rattle.om_rules.specs.Sharing.{is_copied, is_unlisted};
-ghost use Rattle.om_rules.specs.Scopes.{scope_of, predeclared, nothing_declared, file_scope, inside, within, outside, meaning_of, meaning_here, is_declared, with_bindings, with_local, with_global, with_function, with_defined};
+ghost use Rattle.om_rules.specs.Scopes.{predeclared, nothing_declared, file_scope, inside, within, outside, meaning_of, meaning_here, is_declared, with_bindings, with_local, with_global, with_function, with_defined};
 
 use crate::nesting::Nesting;
-use crate::sightings::{Sighting, depth_of, forget_scope};
+use crate::sightings::{Sighting, depth_of, forget_scope, meaning_at};
 use crate::stacks::Stacks;
-use crate::table::{enter_scope, found_in};
-use indexmap::IndexMap;
+use crate::table::{Table, enter_scope};
 use om_resolved::{Shape, Variable};
 use om_rules::{Meaning, Names, Region, Signature};
 use om_tree::Name;
@@ -21,9 +20,9 @@ use std::mem;
 /// The names in scope at a place. Contracts see the scopes round that place.
 pub struct Symbols {
     /// The names of the innermost scope, in the order of their declarations.
-    inner: IndexMap<Vec<u8>, Meaning>,
+    inner: Table,
     /// Those of the scopes round it, the file scope first.
-    outer: Vec<IndexMap<Vec<u8>, Meaning>>,
+    outer: Vec<Table>,
     /// The constructs that stand in the outer scopes.
     nesting: Nesting,
     /// The declarations of each name in all of these scopes.
@@ -62,14 +61,14 @@ impl Drop for Symbols {
 
 impl Model for Symbols {
     ghost use Rattle.std.specs.Prelude.{◌≤◌, ◌∷◌, length};
-    ghost use Rattle.om_rules.specs.Scopes.{Scopes, scope_of};
+    ghost use Rattle.om_rules.specs.Scopes.{Scopes};
     ghost use Rattle.om_names.specs.Nesting.{AreNested, enclosing_of};
     ghost use Rattle.om_names.specs.Sightings.{Shows, scopes_of};
 
     ghost Value = { Scopes };
 
     ghost view = { λ s. record {
-      inner = scope_of s.inner.entries;
+      inner = s.inner;
       outer = enclosing_of (scopes_of s.outer.items) s.nesting;
       globals = s.globals;
       cells = s.cells;
@@ -77,7 +76,7 @@ impl Model for Symbols {
       defined = s.defined;
     } };
 
-    ghost invariant = { λ s. (s.globals ≤ s.cells) × AreNested s.nesting (length s.outer.items) × Shows s.sightings (scope_of s.inner.entries ∷ scopes_of s.outer.items) };
+    ghost invariant = { λ s. (s.globals ≤ s.cells) × AreNested s.nesting (length s.outer.items) × Shows s.sightings (s.inner ∷ scopes_of s.outer.items) };
 }
 
 /// Adds the functions that are declared before any source to no names.
@@ -96,7 +95,7 @@ impl Symbols {
         ensures { result ≡ nothing_declared definitions }
     {
         Symbols {
-            inner: IndexMap::new(alloc),
+            inner: Table::new(alloc),
             outer: Vec::new(alloc),
             nesting: Nesting::new(alloc),
             sightings: Stacks::new(alloc),
@@ -127,15 +126,16 @@ impl Symbols {
         requires is_new { is_declared self.old name.now ≡ false }
         ensures { OnOk result (self.new ≡ with_bindings self.old ((name.now, meaning) ∷ [])) }
     {
-        let key = Vec::from_slice(alloc, name)?;
-        self.inner.reserve(1)?;
         let depth = self.outer.len();
         self.sightings
             .note(alloc, name, Sighting { depth, meaning })?;
-        let Ok(_) = self.inner.insert(key, meaning) else {
-            unreachable!()
-        };
-        Ok(())
+        match self.inner.put(alloc, name, meaning) {
+            Ok(()) => Ok(()),
+            Err(error) => {
+                self.sightings.forget(name);
+                Err(error)
+            }
+        }
     }
 
     /// What a name means here: its innermost declaration.
@@ -150,14 +150,14 @@ impl Symbols {
     pub fn meaning_here(&self, name: &[u8]) -> Option<Meaning>
         ensures { result ≡ meaning_here self.now name.now }
     {
-        found_in(&self.inner, name)
+        meaning_at(self.sightings.innermost(name), self.outer.len())
     }
 
     /// Whether a name is declared in the innermost scope.
     pub fn is_declared(&self, name: &[u8]) -> bool
         ensures { result ≡ is_declared self.now name.now }
     {
-        found_in(&self.inner, name).is_some()
+        self.meaning_here(name).is_some()
     }
 
     /// The place of a function among those that the source defines anywhere and those that are
@@ -227,15 +227,15 @@ impl Symbols {
     /// Enters a construct in which these names are declared.
     pub fn enter_region(
         &mut self,
-        copies: &IndexMap<Vec<u8>, Meaning>,
+        alloc: Global,
+        copies: &Table,
         region: Region,
     ) -> Result<(), AllocError>
-        ensures { OnOk result (self.new ≡ within (scope_of copies.now.entries) region self.old) }
+        ensures { OnOk result (self.new ≡ within copies.now region self.old) }
     {
-        let alloc = *copies.allocator();
         self.begin(alloc, region)?;
-        for (name, meaning) in copies.iter() {
-            self.declare(alloc, name.as_slice(), *meaning)?;
+        for binding in copies.as_slice() {
+            self.declare(alloc, binding.0.as_slice(), binding.1)?;
         }
         Ok(())
     }

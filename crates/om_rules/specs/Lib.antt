@@ -5,6 +5,8 @@ pub mod Perhaps
 pub mod InRow
 pub mod Places
 pub mod Constants
+pub mod NameLists
+pub mod NameKeys
 pub mod Scopes
 pub mod Sharing
 pub mod Formats

@@ -1,7 +1,6 @@
 -- Names, what they are declared as, and where that is seen (C17 6.2.1).
 use Rattle.std.specs.Prelude.{ℕ, ◌+◌, List, [], ◌∷◌, ◌++◌, Option, None, Some, Bool, codes, fold, length, map, is_some}
 use Rattle.std.specs.Prelude.{Vec, true, false, if◌then◌else◌, nat_eq, ◌&&◌, not}
-use Rattle.std.specs.List.{list_any}
 use Rattle.std.specs.Map.{lookup}
 use Rattle.std.specs.Option.{option_or}
 use Rattle.std.specs.Str.{bytes_eq}
@@ -23,6 +22,7 @@ use Rattle.om_rules.specs.declared.region.RegionKind.TheVariants as regions
 use Rattle.om_resolved.specs.declared.resolved.Shape.{Shape}
 use Rattle.om_resolved.specs.declared.resolved.Shape.TheVariants as shapes
 use Rattle.om_rules.specs.declared.meaning.Signature.{Signature}
+pub use Rattle.om_rules.specs.NameLists.{same_name, with_name}
 
 -- a name, and what it is declared as
 abbrev pub Binding : Type 0
@@ -93,14 +93,6 @@ with_global scopes name shape cells = record scopes {
   globals = scopes.globals + 1;
   cells = scopes.cells + cells;
 }
-
--- two names with the same text
-abbrev pub same_name : Vec ℕ Global → Vec ℕ Global → Bool
-same_name one other = bytes_eq one.items other.items
-
--- names, each once
-abbrev pub with_name : List (List ℕ) → List ℕ → List (List ℕ)
-with_name names name = if list_any (bytes_eq name) names then names else names ++ name ∷ []
 
 -- the scopes once a function is defined
 abbrev pub with_defined : Scopes → List ℕ → Scopes

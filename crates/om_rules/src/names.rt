@@ -1,32 +1,42 @@
 //! A set of names.
 
-ghost use Rattle.std.specs.Prelude.{◌≡◌, [], OnOk, length, map, position};
+ghost use Rattle.std.specs.Prelude.{◌≡◌, [], OnErr, OnOk, length, map, position};
 ghost use Rattle.std.specs.List.{IsDistinct, list_any};
 ghost use Rattle.std.specs.Str.{bytes_eq};
-ghost use Rattle.om_rules.specs.Scopes.{same_name, with_name};
+ghost use Rattle.om_rules.specs.NameLists.{same_name, with_name};
 
-use indexmap::IndexSet;
 use std::alloc::{AllocError, Global};
+use std::collections::BTreeMap;
 use std::marker::Model;
 
 /// Names, each once. Contracts see them in the order in which they were added.
 pub struct Names {
-    names: IndexSet<Vec<u8>>,
+    // A list with a map beside it: crates above a public `IndexSet` load all of its library.
+    names: Vec<Vec<u8>>,
+    places: BTreeMap<Vec<u8>, usize>,
 }
 
 // By hand: what has names calls this, and does not open their table.
 impl Drop for Names {
     fn drop(self) {
-        let Names { names: _names } = self;
+        let Names {
+            names: _names,
+            places: _places,
+        } = self;
     }
 }
 
 impl Model for Names {
     ghost use Rattle.std.specs.Prelude.{ℕ, List, map};
+    ghost use Rattle.std.specs.List.{IsDistinct};
+    ghost use Rattle.om_rules.specs.NameLists.{ArePlaces, same_name};
 
     ghost Value = { List (List ℕ) };
 
-    ghost view = { λ s. map (λ name. name.items) s.names.keys };
+    ghost view = { λ s. map (λ name. name.items) s.names.items };
+
+    ghost invariant = { λ s. IsDistinct same_name s.names.items
+        × ArePlaces (map (λ name. name.items) s.names.items) s.places.entries };
 }
 
 impl Names {
@@ -35,7 +45,8 @@ impl Names {
         ensures { result ≡ [] }
     {
         Names {
-            names: IndexSet::new(alloc),
+            names: Vec::new(alloc),
+            places: BTreeMap::new(alloc),
         }
     }
 
@@ -43,14 +54,14 @@ impl Names {
     pub fn contains(&self, name: &[u8]) -> bool
         ensures { result ≡ list_any (bytes_eq name.now) self.now }
     {
-        self.names.contains(name)
+        self.places.contains_key(name)
     }
 
     /// The place of a name among them, in the order in which they were added.
     pub fn position(&self, name: &[u8]) -> Option<usize>
         ensures { result ≡ position (bytes_eq name.now) self.now }
     {
-        self.names.get_index_of(name)
+        self.places.get(name).copied()
     }
 
     /// All of them, in the order in which they were added.
@@ -68,11 +79,19 @@ impl Names {
         self.names.len()
     }
 
-    /// Adds a name, unless it is there.
+    /// Adds a name, unless it is there. When out of memory, nothing changes.
     pub fn add(&mut self, alloc: Global, name: &[u8]) -> Result<(), AllocError>
-        ensures { OnOk result (self.new ≡ with_name self.old name.now) }
+        ensures added { OnOk result (self.new ≡ with_name self.old name.now) }
+        ensures unchanged_on_error { OnErr result (self.new ≡ self.old) }
     {
-        self.names.insert(Vec::from_slice(alloc, name)?)?;
+        if self.places.contains_key(name) {
+            return Ok(());
+        }
+        self.names.reserve(1)?;
+        let key = Vec::from_slice(alloc, name)?;
+        let name = Vec::from_slice(alloc, name)?;
+        self.places.insert(key, self.names.len())?;
+        self.names.push_reserved(name);
         Ok(())
     }
 }

@@ -37,16 +37,21 @@ pub fn enter_construct(
         ≡ Some (map view_resolved_clause clauses.items)) }
 {
     let (listed, clauses) = resolve_directive(alloc, symbols, flow, directive)?;
-    enter_listed(symbols, traits_of(&directive.name).region, listed)?;
+    enter_listed(alloc, symbols, traits_of(&directive.name).region, listed)?;
     Ok(clauses)
 }
 
 /// Enters a construct of a kind whose clauses say this.
-fn enter_listed(symbols: &mut Symbols, kind: RegionKind, listed: Listed) -> Result<(), AllocError>
+fn enter_listed(
+    alloc: Global,
+    symbols: &mut Symbols,
+    kind: RegionKind,
+    listed: Listed,
+) -> Result<(), AllocError>
     ensures { OnOk result (symbols.new ≡ in_kind kind listed symbols.old) }
 {
     let (copies, region) = listed.into_region(kind);
-    symbols.enter_region(&copies, region)
+    symbols.enter_region(alloc, &copies, region)
 }
 
 /// Enters a construct that is for a loop, after its clauses and the loop's bounds.
@@ -103,10 +108,10 @@ fn enter_bounds(
     let kind = traits_of(&directive.name).region;
     let schedule = schedule_of(directive.clauses.as_slice());
     if is_parallel(kind) {
-        enter_listed(symbols, kind, listed)?;
+        enter_listed(alloc, symbols, kind, listed)?;
         return resolve_loop(alloc, symbols, schedule, found);
     }
     let repeated = resolve_loop(alloc, symbols, schedule, found);
-    enter_listed(symbols, kind, listed)?;
+    enter_listed(alloc, symbols, kind, listed)?;
     repeated
 }

@@ -1,11 +1,11 @@
 use Rattle.std.proofs.Common.{List, ◌∷◌, length}
-use Rattle.om_rules.specs.Scopes.{Scope, scope_of}
+use Rattle.om_rules.specs.Scopes.{Scope}
 use Rattle.om_names.specs.Sightings.{Shows}
 use Rattle.om_names.proofs.sightings.forget_scope.Given as goal
 
 abbrev pub invariant-loop-name : goal.invariant-loop-name
-invariant-loop-name l = (outer : List Scope) → Shows l.fn.sightings (scope_of l.fn.names.entries ∷ outer)
-    → Shows l.sightings (scope_of l.names.entries ∷ outer)
+invariant-loop-name l = (outer : List Scope) → Shows l.fn.sightings (l.fn.table ∷ outer)
+    → Shows l.sightings (l.table ∷ outer)
 
 abbrev pub decreases-loop-name : goal.decreases-loop-name
-decreases-loop-name l = length l.names.entries
+decreases-loop-name l = length l.table

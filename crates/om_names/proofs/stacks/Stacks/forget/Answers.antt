@@ -1,4 +1,4 @@
-use Rattle.std.proofs.Common.{sym, ap, ◌∙◌, if◌then◌else◌, arith}
+use Rattle.std.proofs.Common.{is_some, sym, ap, ◌∙◌, if◌then◌else◌, arith}
 use Rattle.std.specs.Option.{option_copied_mut}
 use Rattle.std.specs.Str.{bytes_eq}
 use Rattle.om_names.specs.Stacks.{seen_in, table_of, without_innermost}
@@ -14,11 +14,13 @@ returns over c other =
       | in-Some w ↦
           let seen = w.in-Some.seen.now in
           let left = w.pop-innermost.new.self in
+          let found = sym c.get_mut.ensures.value ∙ ap option_copied_mut w.in-Some.is in
+          let written = (c.get_mut.follows.holds left).3 (ap is_some found) in
           ap (λ inside. seen_in (table_of inside.names.entries) other) w.self-inside-is
-          ∙ ap (λ now. seen_in (table_of now) other) (c.get_mut.follows.holds left).0
-          ∙ seen-write without_innermost es name seen left other (sym c.get_mut.ensures.value ∙ ap option_copied_mut
-          w.in-Some.is) (sym (popped seen.items left.items w.pop-innermost.result w.pop-innermost.ensures.items
+          ∙ seen-write without_innermost es _ name seen left other found
+          (sym (popped seen.items left.items w.pop-innermost.result w.pop-innermost.ensures.items
           (λ some. w.pop-innermost.ensures.variant.1 (omega (arith, seen.ok.0, some)))))
+          written.1 written.3
           ∙ ap (λ table. if bytes_eq other name then without_innermost (seen_in table other) else seen_in table
           other) c.self.view_is
       | in_default w ↦

@@ -1,6 +1,5 @@
 use Rattle.std.proofs.Common.{[], ◌∷◌, ◌++◌, subst, sym, ap, ◌∙◌}
 use Rattle.om_names.specs.Nesting.{AreNested}
-use Rattle.om_rules.specs.Scopes.{scope_of}
 use Rattle.om_names.specs.Sightings.{Shows, scopes_of}
 use Rattle.om_names.proofs.Lookups.{scopes-push}
 use Rattle.om_names.proofs.Seen.{shows-empty}
@@ -13,7 +12,7 @@ invariant_of-self-2 c =
     let tables = c.enter_scope.ensures.outer ∙ ap (λ ts. ts ++ fields.inner ∷ []) c.in_ok-reserve.ensures.items in (
       c.self.invariant.0,
       subst (AreNested c.enter.new.self) (c.len.ensures ∙ c.enter_scope.new.outer.ok.0) c.enter.ensures.nested,
-      subst (λ es. Shows fields.sightings (scope_of es ∷ scopes_of c.enter_scope.new.outer.items))
+      subst (λ inner. Shows fields.sightings (inner ∷ scopes_of c.enter_scope.new.outer.items))
           (sym c.enter_scope.ensures.entered)
           (shows-empty fields.sightings (scopes_of c.enter_scope.new.outer.items)
           (subst (Shows fields.sightings)

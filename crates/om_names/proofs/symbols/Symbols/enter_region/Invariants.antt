@@ -1,10 +1,10 @@
-use Rattle.std.proofs.Common.{◌≡◌, List, ◌++◌, Vec, ℕ}
-use Rattle.std.specs.declared.alloc.Global.{Global}
-use Rattle.om_rules.specs.declared.meaning.Meaning.{Meaning}
-use Rattle.om_rules.specs.Scopes.{scope_of, within}
+use Rattle.std.proofs.Common.{◌≡◌, take}
+use Rattle.std.specs.List.{IsDistinct}
+use Rattle.std.specs.Map.{keys_of}
+use Rattle.om_rules.specs.Scopes.{same_name, scope_of, within}
 use Rattle.om_names.proofs.symbols.Symbols.enter_region.Given as goal
 
-abbrev pub invariant-loop-name : goal.invariant-loop-name
-invariant-loop-name l =
-    (taken : List (Vec ℕ Global × Meaning)) × (taken ++ l.name-iterator ≡ l.fn.copies.entries)
-    × (l.self ≡ within (scope_of taken) l.fn.region l.fn.self)
+abbrev pub invariant-loop-binding : goal.invariant-loop-binding
+invariant-loop-binding l =
+    (scope_of l.binding-items ≡ l.fn.copies) × IsDistinct same_name (keys_of l.binding-items)
+    × (l.self ≡ within (scope_of (take l.binding-index l.binding-items)) l.fn.region l.fn.self)

@@ -1,6 +1,5 @@
 use Rattle.std.proofs.Common.{subst, sym, ap, ◌∙◌}
 use Rattle.om_names.specs.Nesting.{AreNested, unlisted_since}
-use Rattle.om_rules.specs.Scopes.{scope_of}
 use Rattle.om_rules.specs.Sharing.{is_unlisted}
 use Rattle.om_names.specs.Sightings.{depth_of, scopes_of}
 use Rattle.om_names.specs.Stacks.{innermost_of}
@@ -16,6 +15,6 @@ returns c =
     (c.self.invariant.2 name)) in
     c.is_unlisted_since.ensures
     ∙ ap (λ d. unlisted_since constructs d name) depth
-    ∙ sym (unlisted-at (scope_of fields.inner.entries) (scopes_of fields.outer.items) constructs name
+    ∙ sym (unlisted-at fields.inner (scopes_of fields.outer.items) constructs name
     (subst (AreNested constructs) (sym (length-scopes fields.outer.items)) c.self.invariant.1))
     ∙ ap (λ scopes. is_unlisted scopes name) c.self.view_is

@@ -1,6 +1,5 @@
 use Rattle.std.proofs.Common.{[], ◌∷◌, ◌≡◌, ◌≤◌, suc, arith, length, length-append, subst, sym, ap, ◌∙◌}
 use Rattle.om_names.specs.Nesting.{AreNested, outside_of}
-use Rattle.om_rules.specs.Scopes.{scope_of}
 use Rattle.om_names.specs.Sightings.{Shows, scopes_of}
 use Rattle.om_names.proofs.Lookups.{nested-deeper, nested-outside, scopes-push}
 use Rattle.om_names.proofs.symbols.Symbols.leave.Goals as goal
@@ -19,11 +18,11 @@ invariant_of-self c =
       subst (λ cs. AreNested cs (length left)) (sym (c.leave.ensures ∙ ap (outside_of constructs) depth))
           (nested-outside constructs (length left) (nested-deeper constructs (length fields.outer.items)
           (suc (length left)) fewer c.self.invariant.1)),
-      subst (λ t. Shows c.forget_scope.new.sightings (scope_of t.entries ∷ scopes_of left))
+      subst (λ t. Shows c.forget_scope.new.sightings (t ∷ scopes_of left))
           (sym c.replace.ensures.after)
-          (c.forget_scope.ensures (scope_of table.entries ∷ scopes_of left)
-          (subst (λ t. Shows fields.sightings (scope_of t.entries ∷ scope_of table.entries ∷ scopes_of left))
+          (c.forget_scope.ensures (table ∷ scopes_of left)
+          (subst (λ t. Shows fields.sightings (t ∷ table ∷ scopes_of left))
           (sym c.replace.ensures.value)
-          (subst (λ scopes. Shows fields.sightings (scope_of fields.inner.entries ∷ scopes))
+          (subst (λ scopes. Shows fields.sightings (fields.inner ∷ scopes))
           (ap (λ ts. scopes_of ts) split ∙ scopes-push left table) c.self.invariant.2))),
     )

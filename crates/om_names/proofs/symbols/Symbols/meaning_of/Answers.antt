@@ -1,5 +1,5 @@
 use Rattle.std.proofs.Common.{sym, ap, ◌∙◌}
-use Rattle.om_rules.specs.Scopes.{meaning_of, scope_of}
+use Rattle.om_rules.specs.Scopes.{meaning_of}
 use Rattle.om_names.specs.Sightings.{meaning_of_sighting, scopes_of}
 use Rattle.om_names.specs.Stacks.{innermost_of}
 use Rattle.om_names.proofs.Lookups.{meaning-here}
@@ -11,7 +11,7 @@ returns-in_err-sighting c =
     let found = c.innermost.ensures ∙ ap innermost_of (c.self.invariant.2 c.args.name.now) in
     c.from_residual.ensures
     ∙ ap meaning_of_sighting (sym c.in_err-sighting.was ∙ found)
-    ∙ sym (meaning-here (scope_of fields.inner.entries) (scopes_of fields.outer.items) fields.nesting c.args.name.now)
+    ∙ sym (meaning-here fields.inner (scopes_of fields.outer.items) fields.nesting c.args.name.now)
     ∙ ap (λ scopes. meaning_of scopes c.args.name.now) c.self.view_is
 
 pub returns : goal.returns
@@ -19,5 +19,5 @@ returns c =
     let fields = c.self.inside in
     let found = c.innermost.ensures ∙ ap innermost_of (c.self.invariant.2 c.args.name.now) in
     ap meaning_of_sighting (sym c.in_ok-sighting.was ∙ found)
-    ∙ sym (meaning-here (scope_of fields.inner.entries) (scopes_of fields.outer.items) fields.nesting c.args.name.now)
+    ∙ sym (meaning-here fields.inner (scopes_of fields.outer.items) fields.nesting c.args.name.now)
     ∙ ap (λ scopes. meaning_of scopes c.args.name.now) c.self.view_is
