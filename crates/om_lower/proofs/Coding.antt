@@ -1,6 +1,7 @@
 -- A body, as it was emitted.
 use Rattle.std.proofs.Common.{◌≡◌, ◌<◌, ◌≤◌, inl, inr, ℕ, zero, suc, Bool, true, List, [], ◌∷◌, ◌++◌, Option, None}
 use Rattle.std.proofs.Common.{Some, Any, length, map, slice_get, take, ◌+◌, false, refl, sym, ap, subst, ◌∙◌, arith}
+use Rattle.std.specs.Prelude.{Err, IfOk, Ok, Result}
 use Rattle.std.proofs.lemmas.List.{append_assoc, append-nil, map-append}
 use Rattle.std.specs.List.{flat_map}
 use Rattle.om_lower.specs.declared.body.Emitted.{Emitted}
@@ -12,8 +13,8 @@ use Rattle.om_code.specs.declared.raw.Names as raws
 use Rattle.om_code.specs.declared.raw.Slot.{Slot}
 use Rattle.om_lower.specs.Frames.{FitsFrame}
 use Rattle.om_lower.specs.Limits.{HasFewSlots, HasManySlots, IsOver, long, many_cells, many_slots}
-use Rattle.om_lower.specs.Made.{AddsBody, AddsFunction, AreFunctions, AreListsOf, AreMade, FitsCode}
-use Rattle.om_lower.specs.Made.{FitsFunction, IsGathered, IsMade}
+use Rattle.om_lower.specs.Made.{AddsBody, AddsFunction, AreAdded, AreFunctions, AreListsOf, AreMade, FitsBodies}
+use Rattle.om_lower.specs.Made.{FitsCode, FitsFunction, IsGathered, IsMade, IsPut}
 use Rattle.om_lower.specs.declared.bodies.Bodies.{Bodies}
 use Rattle.om_lower.specs.declared.functions.Lowered.{Lowered}
 use Rattle.om_lower.specs.Once.{site_picks}
@@ -194,6 +195,22 @@ body_more tree sites k b lists grown bodies new body more at added joined made l
           (listed_on (take k sites) (b ∷ []) lists more listed (picks_of ∙ sym (append-nil (site_picks b))))),
     )
 
+-- of no bodies none is made
+pub none_made : (tree : ResolvedTree) (sites : List BodySite) (made : Bodies) → made.bodies ≡ [] → made.lists ≡ []
+    → AreMade tree made.lists (take 0 sites) made.bodies × AreListsOf (take 0 sites) made.lists
+none_made tree sites made none empty = (
+  subst (λ bodies. AreMade tree made.lists (take 0 sites) bodies) (sym none) (none_of sites),
+  ap (map number_of) empty ∙ listed sites,
+)
+  where
+    none_of : (sites : List BodySite) → AreMade tree made.lists (take 0 sites) []
+    none_of [] = tt
+    none_of (b ∷ sites) = tt
+
+    listed : (sites : List BodySite) → map number_of [] ≡ flat_map site_picks (take 0 sites)
+    listed [] = refl
+    listed (b ∷ sites) = refl
+
 -- the same, as a function adds it
 pub body_added : (tree : ResolvedTree) (sites : List BodySite) (k : ℕ) (b : BodySite) (old new : Bodies)
     → slice_get sites k ≡ Some b
@@ -203,6 +220,23 @@ pub body_added : (tree : ResolvedTree) (sites : List BodySite) (k : ℕ) (b : Bo
 body_added tree sites k b old new at made adds =
     body_more tree sites k b old.lists new.lists old.bodies new.bodies adds.0 adds.1 at adds.4 adds.5
     made.0 made.1 adds.2 adds.3
+
+-- what holds of the bodies of a function that were added to none holds where they are put behind those of others
+pub function_put : {E : Type 0} → (tree : ResolvedTree) (n : Numbers) (f : ResolvedFunctionTree) (old new : Lowered)
+    (bodies : Bodies) (sites : List BodySite) (fits put : Result Bool E) → sites ≡ function_bodies n f
+    → IfOk fits (λ fits. AreAdded tree sites bodies fits) → IfOk put (λ put. fits ≡ Ok put)
+    → IfOk put (λ put. IsPut put old.functions (bodies.bodies ∷ []) new.functions)
+    → IfOk put (λ put. IsPut put old.lists bodies.lists new.lists)
+    → IfOk put (λ put. AddsFunction tree n f old new put)
+function_put tree n f old new bodies sites fits (Err e) is added same functions lists = tt
+function_put tree n f old new bodies sites fits (Ok true) is added same functions lists =
+    let all : AreAdded tree sites bodies true =
+    subst (λ found. IfOk found (λ fits. AreAdded tree sites bodies fits)) same added in
+    (bodies, subst (λ all. FitsBodies tree all (Some bodies)) is all, functions, lists)
+function_put tree n f old new bodies sites fits (Ok false) is added same functions lists =
+    let over : AreAdded tree sites bodies false =
+    subst (λ found. IfOk found (λ fits. AreAdded tree sites bodies fits)) same added in
+    (subst (λ all. FitsBodies tree all None) is over, functions, lists)
 
 pub one_more : (tree : ResolvedTree) (lists grown : List PickList) (functions new : List (List Body)) (k : ℕ)
     (f : ResolvedFunctionTree)

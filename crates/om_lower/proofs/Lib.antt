@@ -27,3 +27,7 @@ pub mod Inside
 pub mod RegionEnds
 pub mod Within
 pub mod Scoped
+pub mod Opened
+pub mod Begun
+pub mod Regions
+pub mod PartsOpened

@@ -18,11 +18,11 @@ use Rattle.om_rows.specs.Bodies.{Numbers, behind_all, behind_parts}
 use Rattle.om_rows.specs.Coded.{PartsHaveCode}
 use Rattle.om_rows.specs.Rows.{end, here, ins, part}
 use Rattle.om_rows.specs.Statements.{nowhere, parts, statements}
-use Rattle.om_statements.specs.declared.worksharing.PartsSpot.{PartsSpot}
+use Rattle.om_lower.specs.declared.worksharing.PartsSpot.{PartsSpot}
 use Rattle.om_statements.specs.declared.spot.JumpLabels.{JumpLabels}
 use Rattle.om_statements.specs.declared.spot.Spot.{Spot}
 use Rattle.om_statements.specs.Emits.{EmitsStatements}
-use Rattle.om_statements.specs.Parts.{AreFree, EmitsParts, GoesParts, OpensParts, part_head, part_labels}
+use Rattle.om_lower.specs.Parts.{AreFree, EmitsParts, GoesParts, OpensParts, part_head, part_labels}
 use Rattle.om_statements.specs.Going.{before_with, free_with, free_within, goes_place, then_with, with_as, with_none}
 use Rattle.om_rows.specs.declared.numbers.Numbers as tables
 use Rattle.om_rows.specs.Numbered.{Numbered}

@@ -14,11 +14,11 @@ use Rattle.om_resolved.specs.ResolvedView.{view_resolved_part}
 use Rattle.om_rows.specs.Bodies.{Numbers, next_pick}
 use Rattle.om_rows.specs.Rows.{end, here, part}
 use Rattle.om_rows.specs.Statements.{closes, parts}
-use Rattle.om_statements.specs.declared.worksharing.PartsSpot.{PartsSpot}
+use Rattle.om_lower.specs.declared.worksharing.PartsSpot.{PartsSpot}
 use Rattle.om_statements.specs.declared.spot.JumpLabels.{JumpLabels}
 use Rattle.om_statements.specs.Emits.{EmitsStatement, GoesWith}
-use Rattle.om_statements.specs.Parts.{EmitsParts, GoesParts, OpensParts, PartHead, head_row}
-use Rattle.om_statements.specs.Parts.{part_labels}
+use Rattle.om_lower.specs.Parts.{EmitsParts, GoesParts, OpensParts, PartHead, head_row}
+use Rattle.om_lower.specs.Parts.{part_labels}
 use Rattle.om_statements.specs.Going.{goes_place, goes_then, then_with, with_as, with_behind}
 use Rattle.om_rows.specs.Numbered.{Numbered}
 use Rattle.om_rows.specs.Numbering.{numbers_of}

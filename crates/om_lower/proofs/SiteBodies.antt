@@ -30,6 +30,11 @@ pub site_at : (sites : List Site) (k : ℕ) (site : Site) → k < length sites �
     → slice_get (bodies_in [] sites) k ≡ Some (body_round (round_behind [] (take k sites)) site)
 site_at sites k site lt is = site_there [] sites k site (item_get sites k site lt is)
 
+-- before the first there is none round it
+pub none_behind : (sites : List Site) → round_behind [] (take 0 sites) ≡ []
+none_behind [] = refl
+none_behind (site ∷ sites) = refl
+
 pub round_next : (sites : List Site) (k : ℕ) (site : Site) → k < length sites → site ≡ get_or sites k site
     → round_behind [] (take (k + 1) sites) ≡ round_with (round_behind [] (take k sites)) site
 round_next sites k site lt is =

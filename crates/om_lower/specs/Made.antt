@@ -81,6 +81,16 @@ abbrev pub FitsBodies : ResolvedTree → List BodySite → Option Bodies → Typ
 FitsBodies tree sites None = Any (λ b. IsOver tree b) sites
 FitsBodies tree sites (Some made) = AreMade tree made.lists sites made.bodies × AreListsOf sites made.lists
 
+-- bodies that were added to none, unless one passes a limit
+abbrev pub AreAdded : ResolvedTree → List BodySite → Bodies → (fits : Bool) → Type 0
+AreAdded tree sites made false = FitsBodies tree sites None
+AreAdded tree sites made true = FitsBodies tree sites (Some made)
+
+-- items are put behind others, or nothing changes
+abbrev pub IsPut : {A : Type 0} → (put : Bool) → (old more new : List A) → Type 0
+IsPut false old more new = new ≡ old
+IsPut true old more new = new ≡ old ++ more
+
 -- those of a function
 abbrev pub FitsFunction : ResolvedTree → Numbers → ResolvedFunctionTree → Option Bodies → Type 0
 FitsFunction tree n f made = FitsBodies tree (function_bodies n f) made

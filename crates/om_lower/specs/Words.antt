@@ -5,19 +5,23 @@ pub use Rattle.om_lower.specs.Frames.{FitsFrame}
 pub use Rattle.om_lower.specs.Heights.{AreLow}
 pub use Rattle.om_lower.specs.Inputs.{IsInput, IsSeen, known_bodies, seen_body, seen_tree, tree_of}
 pub use Rattle.om_lower.specs.Limits.{AreWithin, HasFewSlots, HasManySlots, HasSlots, IsTooMany, frame_cells, own_cells}
-pub use Rattle.om_lower.specs.Made.{AddsBody, AddsFunction, AddsSlots, FitsBodies, FitsCode, IsGathered, IsLowered}
-pub use Rattle.om_lower.specs.Made.{IsNext, IsOverAt, next_function, next_numbers}
+pub use Rattle.om_lower.specs.Made.{AddsBody, AddsFunction, AddsSlots, AreAdded, FitsCode, IsGathered, IsLowered}
+pub use Rattle.om_lower.specs.Made.{IsNext, IsOverAt, IsPut, next_function, next_numbers}
 pub use Rattle.om_lower.specs.Once.{IsEachOnce}
+pub use Rattle.om_lower.specs.Parts.{AreFree, EmitsParts, OpensParts, part_head}
 pub use Rattle.om_lower.specs.Ready.{IsListed, IsReady}
 pub use Rattle.om_lower.specs.Refusals.{IsRefusal, too_many}
+pub use Rattle.om_lower.specs.Regions.{GivesBehind}
 pub use Rattle.om_lower.specs.There.{EmitsAllThere, EmitsThere, GivesAllBehind, HasCodeThere, HasEndsThere}
 pub use Rattle.om_lower.specs.There.{HaveCodeThere, HaveEndsThere, ScopesThere, statement_trees}
 pub use Rattle.om_emit.specs.Drafts.{settled_code}
+pub use Rattle.om_emit.specs.Emits.{Appends, EmitsRow, names_at}
 pub use Rattle.om_emit.specs.Settled.{ListsStand, number_of, settled_lists}
 pub use Rattle.om_resolved.specs.Beside.{TreeAtomicsAssign, TreeCopiesBehind}
 pub use Rattle.om_resolved.specs.Formats.{pieces_of}
 pub use Rattle.om_resolved.specs.ResolvedView.{view_resolved, view_resolved_clause, view_resolved_function}
 pub use Rattle.om_resolved.specs.ResolvedView.{view_resolved_part, view_resolved_statement}
+pub use Rattle.om_resolved.specs.ResolvedView.{view_resolved_expression, view_resolved_loop, view_resolved_start}
 pub use Rattle.om_resolved.specs.Uses.{is_main_function}
 pub use Rattle.om_resolved.specs.Weights.{HasSmallWeight}
 pub use Rattle.om_resolved.specs.Whole.{IsWholeTree}
@@ -25,17 +29,23 @@ pub use Rattle.om_rows.specs.Bodies.{FunctionBody, called_body, function_bodies,
 pub use Rattle.om_rows.specs.BodyTables.{numbered_by}
 pub use Rattle.om_rows.specs.Code.{IsCodeOf, captures_of, given_of, global_of, slots_of}
 pub use Rattle.om_rows.specs.Coded.{BodyHasCode, PartsHaveCode, StatementHasCode}
+pub use Rattle.om_rows.specs.Coded.{EffectHasCode, LoopHasCode, StartHasCode, ValueHasCode}
+pub use Rattle.om_rows.specs.Copies.{first_copies_of}
 pub use Rattle.om_rows.specs.Ends.{HasBodyEnds, HasEnds, HasPartsEnds}
 pub use Rattle.om_rows.specs.MeaningLaws.{KeepsMeaning}
 pub use Rattle.om_rows.specs.Mentions.{IsTextOf}
+pub use Rattle.om_rows.specs.Numbered.{Numbered}
 pub use Rattle.om_rows.specs.Numbering.{numbers_of}
+pub use Rattle.om_rows.specs.Operators.{comparison_of, form_with, schedule_in}
 pub use Rattle.om_rows.specs.ProgramTables.{ends_in, known_in}
+pub use Rattle.om_rows.specs.Rows.{each, perhaps}
 pub use Rattle.om_rows.specs.Scopes.{all_scopes, block, body_scopes, names_with, part_scopes, scope_in, scopes}
-pub use Rattle.om_rows.specs.Scopes.{slot_among}
+pub use Rattle.om_rows.specs.Scopes.{for_head, loop_head, sections_head, slot_among}
 pub use Rattle.om_rows.specs.Slots.{slot_of, slot_with}
-pub use Rattle.om_rows.specs.Statements.{given_copies}
+pub use Rattle.om_rows.specs.Statements.{closes, given_copies}
 pub use Rattle.om_sights.specs.Regions.{parallel_tree, statement_of, task_tree}
 pub use Rattle.om_sights.specs.Sites.{bodies_in, body_in, body_round, innermost, part_tree, round_with, variables_at}
-pub use Rattle.om_statements.specs.Parts.{AreFree, EmitsParts}
-pub use Rattle.om_statements.specs.Regions.{GivesBehind}
-pub use Rattle.om_statements.specs.Scoped.{AreInside, EmitsScopes, IsInside}
+pub use Rattle.om_statements.specs.Scoped.{AppendsScopes, AreInside, EmitsScopes, IsInside}
+pub use Rattle.om_statements.specs.Stretches.{AppendsEnd, AppendsHead, Begins, BeginsTurn, Ends, FreshTurn, Opens}
+pub use Rattle.om_statements.specs.Stretches.{do_begin, do_end, else_begin, for_begin, for_end, loop_end, test_at}
+pub use Rattle.om_statements.specs.Stretches.{while_begin, worksharing_begin}

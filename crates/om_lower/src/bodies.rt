@@ -1,7 +1,7 @@
 //! The bodies of a function, each within its limits.
 
 ghost use Rattle.std.specs.Prelude.{◌≡◌, ◌≤◌, ◌∷◌, ◌++◌, [], All, Any, IfOk, OnOk, false, length, map, true};
-ghost use Rattle.om_lower.specs.Words.{AddsBody, FitsBodies, FitsCode, FitsFrame, HasFewSlots, HasManySlots};
+ghost use Rattle.om_lower.specs.Words.{AddsBody, AreAdded, FitsCode, FitsFrame, HasFewSlots, HasManySlots};
 ghost use Rattle.om_lower.specs.Words.{HasSlots, IsInput, IsListed, IsReady, IsSeen, bodies_in, body_in};
 ghost use Rattle.om_lower.specs.Words.{body_round, captures_of, given_copies, given_of, innermost, known_bodies};
 ghost use Rattle.om_lower.specs.Words.{part_tree, region_variables, round_with, seen_body, seen_tree, slot_of};
@@ -71,25 +71,26 @@ pub(crate) struct Bodies {
     pub(crate) lists: Seq<PickList>,
 }
 
-/// These bodies of a function; `None` where one passes a limit on cells or instructions.
-pub(crate) fn lower_bodies<'a>(known: &'a Known<'a>, sites: &'a [Site<'a>]) -> Made<Option<Bodies>>
+/// Adds these bodies of a function to none; false where one passes a limit on cells or instructions.
+pub(crate) fn add_sites<'a>(
+    made: &mut Bodies,
+    known: &'a Known<'a>,
+    sites: &'a [Site<'a>],
+) -> Made<bool>
     requires given { IsInput known.now.input.now }
     requires ready { All (IsReady (known_bodies known.now) known.now.extents.now) (bodies_in [] sites.now) }
+    requires bodies { made.old.bodies ≡ [] }
+    requires lists { made.old.lists ≡ [] }
     ensures { let tree = tree_of known.now.input.now in
-        IfOk result (λ made. FitsBodies tree (bodies_in [] sites.now) made) }
+        IfOk result (λ fits. AreAdded tree (bodies_in [] sites.now) made.new fits) }
 {
-    let alloc = known.input.alloc;
-    let mut made = Bodies {
-        bodies: Seq::new(alloc),
-        lists: Seq::new(alloc),
-    };
-    let mut round = Vec::new(alloc);
+    let mut round = Vec::new(known.input.alloc);
     for site in sites {
-        if !add_next(&mut made, &mut round, known, site)? {
-            return Ok(None);
+        if !add_next(made, &mut round, known, site)? {
+            return Ok(false);
         }
     }
-    Ok(Some(made))
+    Ok(true)
 }
 
 /// Adds the next body; false where it passes a limit on cells or instructions. The variables of the
@@ -213,8 +214,21 @@ fn put_body(made: &mut Bodies, body: Body, lists: Vec<PickList>) -> Done
     ensures bodies { OnOk result (made.new.bodies ≡ made.old.bodies ++ body ∷ []) }
     ensures lists { OnOk result (made.new.lists ≡ made.old.lists ++ lists.items) }
 {
-    made.lists.append(Seq::of(lists))?;
-    made.bodies.push(body)
+    put_both(&mut made.bodies, &mut made.lists, body, Seq::of(lists))
+}
+
+/// Puts an item behind others, and lists behind theirs.
+pub(crate) fn put_both<T: Drop, L: Drop>(
+    items: &mut Seq<T>,
+    lists: &mut Seq<L>,
+    item: T,
+    more: Seq<L>,
+) -> Done
+    ensures items { OnOk result (items.new ≡ items.old ++ item ∷ []) }
+    ensures lists { OnOk result (lists.new ≡ lists.old ++ more) }
+{
+    lists.append(more)?;
+    items.push(item)
 }
 
 /// The code of a body; `None` where it has too many instructions.

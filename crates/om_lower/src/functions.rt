@@ -1,11 +1,11 @@
 //! The bodies of functions, each within its limits.
 
-ghost use Rattle.std.specs.Prelude.{◌≡◌, ◌<◌, ◌∷◌, ◌++◌, [], All, IfOk, OnOk, Some, length, slice_get, true};
-ghost use Rattle.om_lower.specs.Words.{AddsFunction, AddsSlots, IsGathered, IsInput, IsNext, IsReady};
+ghost use Rattle.std.specs.Prelude.{◌≡◌, ◌<◌, ◌∷◌, [], All, IfOk, Ok, OnOk, Some, length, slice_get, true};
+ghost use Rattle.om_lower.specs.Words.{AddsFunction, AddsSlots, IsGathered, IsInput, IsNext, IsPut, IsReady};
 ghost use Rattle.om_lower.specs.Words.{bodies_in, ends_in, function_bodies, is_main_function, known_bodies};
 ghost use Rattle.om_lower.specs.Words.{next_function, next_numbers, numbers_of, tree_of, view_resolved_function};
 
-use crate::bodies::{Bodies, add_slots, lower_bodies};
+use crate::bodies::{Bodies, add_sites, add_slots, put_both};
 use crate::input::{Input, Known};
 use om_code::Body;
 use om_emit::Done;
@@ -156,24 +156,49 @@ fn add_bodies<'a>(
         IfOk result (λ fits. AddsFunction tree (next_numbers next.now) (next_function next.now)
         lowered.old lowered.new fits) }
 {
-    match lower_bodies(known, sites)? {
-        None => Ok(false),
-        Some(bodies) => {
-            put_function(lowered, bodies)?;
-            Ok(true)
-        }
-    }
+    let alloc = known.input.alloc;
+    let mut bodies = Bodies {
+        bodies: Seq::new(alloc),
+        lists: Seq::new(alloc),
+    };
+    let fits = add_sites(&mut bodies, known, sites);
+    put_function(lowered, bodies, fits)
 }
 
-/// Puts the bodies of a function and their lists behind those that are there.
-fn put_function(lowered: &mut Lowered, bodies: Bodies) -> Done
-    ensures functions { OnOk result (
-        lowered.new.functions ≡ lowered.old.functions ++ bodies.bodies ∷ []) }
-    ensures lists { OnOk result (lowered.new.lists ≡ lowered.old.lists ++ bodies.lists) }
+/// Puts the bodies of a function and their lists behind those that are there, where they fit.
+fn put_function(lowered: &mut Lowered, bodies: Bodies, fits: Made<bool>) -> Made<bool>
+    ensures fits { IfOk result (λ put. fits ≡ Ok put) }
+    ensures functions { IfOk result (λ put.
+        IsPut put lowered.old.functions (bodies.bodies ∷ []) lowered.new.functions) }
+    ensures lists { IfOk result (λ put. IsPut put lowered.old.lists bodies.lists lowered.new.lists) }
 {
     let Bodies { bodies, lists } = bodies;
-    lowered.lists.append(lists)?;
-    lowered.functions.push(bodies)
+    put_where(
+        &mut lowered.functions,
+        &mut lowered.lists,
+        bodies,
+        lists,
+        fits,
+    )
+}
+
+/// Puts an item behind others, and lists behind theirs, where they fit.
+fn put_where<T: Drop, L: Drop>(
+    items: &mut Seq<T>,
+    lists: &mut Seq<L>,
+    item: T,
+    more: Seq<L>,
+    fits: Made<bool>,
+) -> Made<bool>
+    ensures fits { IfOk result (λ put. fits ≡ Ok put) }
+    ensures items { IfOk result (λ put. IsPut put items.old (item ∷ []) items.new) }
+    ensures lists { IfOk result (λ put. IsPut put lists.old more lists.new) }
+{
+    if !fits? {
+        return Ok(false);
+    }
+    put_both(items, lists, item, more)?;
+    Ok(true)
 }
 
 /// Whether a function is `main`.

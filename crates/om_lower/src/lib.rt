@@ -10,11 +10,15 @@ mod functions;
 mod heights;
 mod input;
 pub mod laws;
+mod loop_form;
 mod lowering;
 mod names;
 mod program;
+mod region;
+mod repeated;
 mod statement;
 pub mod texts;
+mod worksharing;
 
 pub use lowering::lower;
 pub use om_lookup::{Var, global_named, line_of, variable_at};

@@ -9,6 +9,13 @@ ghost use Rattle.om_lower.specs.Words.{statement_trees, view_resolved_part, view
 ghost use Rattle.om_resolved.specs.ResolvedTree as trees;
 ghost use Rattle.om_rows.specs.Bodies as rows;
 
+use crate::region::{parallel, task};
+use crate::repeated::{
+    begin_do, begin_else, begin_for, begin_if, begin_while, end_do, end_for, end_loop,
+};
+use crate::worksharing::{
+    PartsSpot, SectionsHead, begin_parts, begin_worksharing, end_worksharing,
+};
 use om_emit::Here;
 use om_emit::draft::Jump;
 use om_resolved::{ConstructKind, Made, ResolvedHead, ResolvedPart, ResolvedStatement};
@@ -16,15 +23,8 @@ use om_rows::{BodyTables, Numbers, Region};
 use om_statements::alone::{assignment, jump, stand_alone, update};
 use om_statements::construct::{begin_construct, end_construct};
 use om_statements::declaration::{declarators, returned};
-use om_statements::region::{parallel, task};
-use om_statements::repeated::{
-    begin_do, begin_else, begin_for, begin_if, begin_while, end_do, end_for, end_loop,
-};
 use om_statements::spot::Spot;
 use om_statements::unused::effect;
-use om_statements::worksharing::{
-    PartsSpot, SectionsHead, begin_parts, begin_worksharing, end_worksharing,
-};
 use om_statements::writing::Writing;
 use std::alloc::Global;
 

@@ -3,11 +3,18 @@ use Rattle.std.proofs.Common.{◌≡◌, ℕ, ◌<◌, ◌≤◌, List, [], ◌+
 use Rattle.std.specs.Prelude.{slice_get}
 use Rattle.std.proofs.lemmas.List.{append_assoc, append-nil}
 use Rattle.std.proofs.lemmas.Option.{slice_get_within}
-use Rattle.om_emit.specs.Drafts.{Labels, Written, Defines}
+use Rattle.om_code.specs.declared.instruction.Instr.{Instr}
+use Rattle.om_emit.specs.Drafts.{Labels, Written, Defines, Fresh, Puts}
 use Rattle.om_emit.specs.Emits.{Finished, Part, Writes, Goes, Emits}
-use Rattle.om_emit.specs.Writing.{fits_back, fits_from, goes_end, goes_here, grows_on}
+use Rattle.om_emit.specs.Writing.{fits_back, fits_from, free_new, fresh_length, goes_end, goes_fresh, goes_here, goes_less}
+use Rattle.om_emit.specs.Writing.{grows_on}
 use Rattle.om_rows.specs.Rows.{end, part, here}
 use Rattle.om_statements.specs.Emits.{EmitsWith, GoesWith, pick_number}
+use Rattle.om_statements.specs.Stretches.{Begins}
+
+-- the same instruction
+pub puts_is : (l : ℕ) (x y : Instr) (a b : Written) → x ≡ y → Puts l x a b → Puts l y a b
+puts_is l x y a b e h = subst (λ z. Puts l z a b) e h
 
 pub writes_then : (r s : Part) (a b c : Written) → Writes r a b → Writes s b c
     → Writes (λ done at. part (r done at) (s done at)) a c
@@ -98,3 +105,13 @@ free_emits label r a b f e = e.keeps.same label (free_within label a f) ∙ f
 pub free_with : (label : ℕ) (xs : List ℕ) (r : Part) (a b : Written) → slice_get a.places label ≡ Some None
     → EmitsWith xs r a b → slice_get b.places label ≡ Some None
 free_with label xs r a b f e = free_goes label (length a.places) xs r a b f (free_within label a f) e
+
+-- a new label, and then a part
+pub begins : (label : ℕ) (r : Part) (a b c : Written) → Fresh label a b → Emits r b c → Begins label r a c
+begins label r a b c h e =
+    let l = fresh_length label a b h in
+    record {
+      goes = goes_fresh _ label r a b c (omega arith) h (goes_less _ _ r b c (omega (arith, l)) e);
+      above = omega (arith, h.is);
+      free = free_emits label r b c (free_new label a b h) e;
+    }

@@ -1,9 +1,8 @@
 pub mod Stretches
 pub mod Emits
-pub mod Parts
 pub mod Going
+pub mod Each
 pub mod Scoped
 pub mod Scoping
-pub mod Regions
 pub mod Effects
 pub mod Words

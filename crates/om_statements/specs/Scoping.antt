@@ -52,6 +52,14 @@ writes_before r a b c w g =
     writes_as (λ done at. part (r done at) end) r a c (λ done at p q x. subst (λ z. r done at p z) x.2 x.1)
     (writes_then r (λ done at. end) a b c w g)
 
+-- so many instructions, and so many more
+pub counted : (n m k : ℕ) (a b c : Written) → k ≡ n + m → Writes (λ done at. instructions n) a b
+    → Writes (λ done at. instructions m) b c → Writes (λ done at. instructions k) a c
+counted n m k a b c sum w g =
+    writes_as (λ done at. part (instructions n) (instructions m)) (λ done at. instructions k) a c
+    (λ done at p q r. let e = r.1 in let f = r.2 in omega (arith, e, f, sum))
+    (writes_then (λ done at. instructions n) (λ done at. instructions m) a b c w g)
+
 -- ---- where scopes begin and end
 
 pub inside_more : (m n : ℕ) (vs : List VariableScope) → m ≤ n → AreInside m vs → AreInside n vs

@@ -43,7 +43,7 @@ use Rattle.om_lower.proofs.Scoped.{construct_stands, do_scopes, for_scopes, if_e
 use Rattle.om_lower.proofs.Scoped.{loop_scopes_clauses, part_scopes_are, part_scopes_done, part_scopes_next}
 use Rattle.om_lower.proofs.Scoped.{part_stands, scopes_are, sections_scopes, sections_scopes_clauses, while_scopes}
 use Rattle.om_statements.specs.declared.writing.ScopeStack.{ScopeStack}
-use Rattle.om_statements.specs.Parts.{AreFree}
+use Rattle.om_lower.specs.Parts.{AreFree}
 use Rattle.om_statements.specs.Scoped.{ScopesStand}
 use Rattle.om_statements.specs.Scoping.{scopes_begin, stand_block, stand_plain}
 use Rattle.om_lower.proofs.statement.+statement.Goals as goal

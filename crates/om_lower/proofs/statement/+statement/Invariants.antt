@@ -9,7 +9,7 @@ use Rattle.om_rows.specs.Ends.{HasAllEnds, HasPartsEnds}
 use Rattle.om_rows.specs.Numbering.{numbers_of}
 use Rattle.om_rows.specs.ProgramTables.{known_in}
 use Rattle.om_rows.specs.Scopes.{all_scopes, part_scopes}
-use Rattle.om_statements.specs.Parts.{AreFree}
+use Rattle.om_lower.specs.Parts.{AreFree}
 use Rattle.om_statements.specs.Scoping.{ScopesOn}
 use Rattle.om_lower.proofs.Lists.{Onward}
 use Rattle.om_lower.proofs.PartLists.{OnwardParts}

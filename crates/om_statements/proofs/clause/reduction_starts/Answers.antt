@@ -2,7 +2,7 @@ use Rattle.std.proofs.Common.{◌+◌, ap, drop, map}
 use Rattle.std.proofs.lemmas.List.{drop_all}
 use Rattle.om_resolved.specs.ResolvedView.{view_resolved_clause}
 use Rattle.om_rows.specs.Scopes.{team_scope}
-use Rattle.om_statements.proofs.Leaves.{begin_each, end_each, next_each}
+use Rattle.om_statements.specs.Each.{begin_each, end_each, next_each}
 use Rattle.om_statements.proofs.ScopeStacks.{left_one}
 use Rattle.om_statements.specs.Scoping.{each_end, each_next, scopes_begin}
 use Rattle.om_emit.specs.Emits.{names_at}

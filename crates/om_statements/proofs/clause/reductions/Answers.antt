@@ -1,5 +1,5 @@
 use Rattle.std.proofs.lemmas.List.{drop_all}
-use Rattle.om_statements.proofs.Leaves.{begin_each, end_each, next_each}
+use Rattle.om_statements.specs.Each.{begin_each, end_each, next_each}
 use Rattle.om_statements.proofs.clause.reductions.Goals as goal
 
 pub loop-clause-init : goal.loop-clause-init

@@ -3,7 +3,7 @@ use Rattle.om_resolved.specs.ResolvedView.{view_resolved_clause}
 use Rattle.om_rows.specs.Scopes.{each_scope, clause_scope}
 use Rattle.om_rows.specs.Statements.{clause_start}
 use Rattle.om_emit.specs.Emits.{names_at}
-use Rattle.om_statements.proofs.Leaves.{GoesOn}
+use Rattle.om_statements.specs.Each.{GoesOn}
 use Rattle.om_statements.specs.Scoping.{ScopesOn}
 use Rattle.om_statements.proofs.clause.starts.Given as goal
 

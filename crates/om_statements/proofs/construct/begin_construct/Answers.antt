@@ -1,9 +1,9 @@
 use Rattle.std.proofs.Common.{ap, map}
 use Rattle.om_code.specs.declared.instruction.Instr.TheVariants as i
 use Rattle.om_emit.specs.Emits.{names_at}
-use Rattle.om_statements.proofs.Leaves.{emits_one, emits_put_then, emits_then_one, emits_two, puts_is}
+use Rattle.om_statements.proofs.Leaves.{emits_one, emits_put_then, emits_then_one, emits_two}
+use Rattle.om_statements.specs.Going.{begins, puts_is}
 use Rattle.om_resolved.specs.ResolvedView.{view_resolved_clause}
-use Rattle.om_statements.proofs.Opened.{begins}
 use Rattle.om_statements.proofs.Scoped.{critical_begins, group_begins, masked_begins, single_begins}
 use Rattle.om_statements.proofs.construct.begin_construct.Goals as goal
 

@@ -3,7 +3,7 @@ use Rattle.std.proofs.lemmas.List.{drop_all}
 use Rattle.om_resolved.specs.ResolvedView.{view_resolved_declarator}
 use Rattle.om_rows.specs.Coded.{DeclaratorHasCode}
 use Rattle.om_rows.specs.Scopes.{declarator_scope}
-use Rattle.om_statements.proofs.Leaves.{all_item, begin_each, end_each, next_each}
+use Rattle.om_statements.specs.Each.{all_item, begin_each, end_each, next_each}
 use Rattle.om_statements.proofs.ScopeStacks.{left_one}
 use Rattle.om_statements.specs.Scoping.{each_end, each_next, scopes_begin}
 use Rattle.om_emit.specs.Emits.{names_at}

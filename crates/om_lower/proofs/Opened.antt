@@ -1,0 +1,279 @@
+-- What stands before the statement of a form, and what stands behind it: labels that are placed later.
+use Rattle.std.proofs.Common.{◌≡◌, ℕ, ◌+◌, ◌<◌, ◌≤◌, List, Some, None, length, sym, ◌∙◌, subst, arith}
+use Rattle.std.specs.Prelude.{slice_get}
+use Rattle.om_code.specs.declared.instruction.Instr.TheVariants as i
+use Rattle.om_code.specs.declared.instruction.Comparison.{Comparison}
+use Rattle.om_statements.specs.declared.spot.LoopLabels.{LoopLabels}
+use Rattle.om_statements.specs.declared.spot.TurnLabels.{TurnLabels}
+use Rattle.om_statements.specs.Going.{free_emits, free_within}
+use Rattle.om_statements.specs.Stretches.{Parts, Opens, Begins, BeginsTurn, FreshTurn, bounds_row, do_begin, else_begin}
+use Rattle.om_statements.specs.Stretches.{loop_end, sections_begin, worksharing_begin}
+use Rattle.om_emit.specs.Drafts.{Labels, Written, Puts, Fresh, Defines}
+use Rattle.om_emit.specs.Emits.{Finished, Part, site, Goes, Emits}
+use Rattle.om_emit.specs.Writing.{define_length, free_define, free_fresh, free_new, free_put, fresh_length, goes_as}
+use Rattle.om_emit.specs.Writing.{goes_end, goes_fresh, goes_here, goes_less, goes_part, goes_put}
+use Rattle.om_resolved.specs.ResolvedTree.{ResolvedClauseTree, ResolvedLoopTree}
+use Rattle.om_rows.specs.Operators.{comparison_of, form_with}
+use Rattle.om_rows.specs.Rows.{end, ins, part, here, ◌▸◌}
+use Rattle.om_rows.specs.Slots.{slot}
+use Rattle.om_rows.specs.Statements.{starts}
+use Rattle.om_rows.specs.Numbered.{Numbered}
+
+abbrev IsFree : ℕ → Written → Type 0
+IsFree label d = slice_get d.places label ≡ Some None
+
+-- ---- one label, and two
+
+pub begins_else : (names : Numbered) (l head label : ℕ) (a b c d : Written) → IsFree head a → Fresh label a b
+    → Puts l (i.Jump label) b c → Defines head c d
+    → Opens head label (else_begin names l head label) a d
+begins_else names l head label a b c d f h p e =
+    let w = free_within head a f in
+    let len = h.is in
+    record {
+      goes = goes_fresh head label _ a b d (omega arith) h
+          (goes_put names head l (i.Jump label) (λ done at. here (at head) ▸ end) b c d p
+          (goes_here head head (λ done at. end) c d d (omega arith) e (goes_end head d)));
+      above = omega (arith, len);
+      free = free_define label head c d (λ q. omega (arith, len, w, q)) e
+          (free_put label l (i.Jump label) b c p (free_new label a b h));
+    }
+
+pub ends_loop : (names : Numbered) (l : ℕ) (labels : LoopLabels) (a b c : Written) → Puts l (i.Jump labels.again) a b
+    → Defines labels.over b c
+    → Goes labels.over (loop_end names l labels) a c
+ends_loop names l labels a b c p e =
+    goes_put names labels.over l (i.Jump labels.again) (λ done at. here (at labels.over) ▸ end) a b c p
+    (goes_here labels.over labels.over (λ done at. end) b c c (omega arith) e (goes_end labels.over c))
+
+-- two labels, of which the first is placed at once
+pub begins_loop : (r : Part) (again over : ℕ) (a b c d e : Written) → Fresh again a b → Fresh over b c
+    → Defines again c d → Emits r d e
+    → Begins over (λ done at. here (at again) (r done at)) a e
+begins_loop r again over a b c d e s t h g =
+    let n = length a.places in
+    let l1 = fresh_length again a b s in
+    let l2 = fresh_length over b c t in
+    let l3 = define_length again c d h in
+    record {
+      goes = goes_fresh n again _ a b e (omega arith) s (goes_fresh n over _ b c e (omega (arith, l1)) t
+          (goes_here n again r c d e (omega (arith, s.is)) h (goes_less n _ r d e (omega (arith, l1, l2, l3)) g)));
+      above = omega (arith, t.is, l1);
+      free = free_emits over r d e (free_define over again c d (λ q. omega (arith, q, s.is, t.is, l1)) h
+          (free_new over b c t)) g;
+    }
+
+-- ---- three labels
+
+turn_again : (labels : TurnLabels) (a b : Written) → FreshTurn labels a b → labels.again ≡ length a.places
+turn_again labels a b h = h.again.is
+
+turn_next : (labels : TurnLabels) (a b : Written) → FreshTurn labels a b → labels.next ≡ length a.places + 1
+turn_next labels a b h = h.next.is ∙ fresh_length labels.again a h.second h.again
+
+turn_over : (labels : TurnLabels) (a b : Written) → FreshTurn labels a b → labels.over ≡ length a.places + 2
+turn_over labels a b h =
+    let l1 = fresh_length labels.again a h.second h.again in
+    let l2 = fresh_length labels.next h.second h.third h.next in
+    omega (arith, h.over.is, l1, l2)
+
+turn_length : (labels : TurnLabels) (a b : Written) → FreshTurn labels a b → length b.places ≡ length a.places + 3
+turn_length labels a b h =
+    let l1 = fresh_length labels.again a h.second h.again in
+    let l2 = fresh_length labels.next h.second h.third h.next in
+    let l3 = fresh_length labels.over h.third b h.over in
+    omega (arith, l1, l2, l3)
+
+goes_turn : (n : ℕ) (labels : TurnLabels) (r : Part) (a b c : Written) → n ≤ length a.places → FreshTurn labels a b
+    → Goes n r b c → Goes n r a c
+goes_turn n labels r a b c le h g =
+    let l1 = fresh_length labels.again a h.second h.again in
+    let l2 = fresh_length labels.next h.second h.third h.next in
+    goes_fresh n labels.again r a h.second c le h.again
+    (goes_fresh n labels.next r h.second h.third c (omega (arith, l1)) h.next
+    (goes_fresh n labels.over r h.third b c (omega (arith, l1, l2)) h.over g))
+
+next_free : (labels : TurnLabels) (a b : Written) → FreshTurn labels a b → IsFree labels.next b
+next_free labels a b h =
+    free_fresh labels.next labels.over h.third b h.over (free_new labels.next h.second h.third h.next)
+
+over_free : (labels : TurnLabels) (a b : Written) → FreshTurn labels a b → IsFree labels.over b
+over_free labels a b h = free_new labels.over h.third b h.over
+
+pub begins_do : (labels : TurnLabels) (a b c : Written) → FreshTurn labels a b → Defines labels.again b c
+    → BeginsTurn labels (do_begin labels) a c
+begins_do labels a b c h e = record {
+  next = record {
+    goes = goes;
+    above = omega (arith, l2);
+    free = free_define labels.next labels.again b c (λ q. omega (arith, q, l1, l2)) e
+        (next_free labels a b h);
+  };
+  over = record {
+    goes = goes;
+    above = omega (arith, l3);
+    free = free_define labels.over labels.again b c (λ q. omega (arith, q, l1, l3)) e
+        (over_free labels a b h);
+  };
+  apart = omega (arith, l2, l3);
+}
+  where
+    l1 : labels.again ≡ length a.places
+    l1 = turn_again labels a b h
+
+    l2 : labels.next ≡ length a.places + 1
+    l2 = turn_next labels a b h
+
+    l3 : labels.over ≡ length a.places + 2
+    l3 = turn_over labels a b h
+
+    goes : Goes (length a.places) (do_begin labels) a c
+    goes = goes_turn _ labels _ a b c (omega arith) h (goes_here _ labels.again (λ done at. end) b c c
+        (omega (arith, l1)) e (goes_end _ c))
+
+pub begins_turn : (labels : TurnLabels) (r s : Part) (a b c d e : Written) → FreshTurn labels a b → Emits r b c
+    → Defines labels.again c d → Emits s d e
+    → BeginsTurn labels (λ done at. part (r done at) (here (at labels.again) (s done at))) a e
+begins_turn labels r s a b c d e h f g k = record {
+  next = record {
+    goes = goes;
+    above = omega (arith, l2);
+    free = free_emits labels.next s d e
+        (free_define labels.next labels.again c d (λ q. omega (arith, q, l1, l2)) g
+        (free_emits labels.next r b c (next_free labels a b h) f)) k;
+  };
+  over = record {
+    goes = goes;
+    above = omega (arith, l3);
+    free = free_emits labels.over s d e
+        (free_define labels.over labels.again c d (λ q. omega (arith, q, l1, l3)) g
+        (free_emits labels.over r b c (over_free labels a b h) f)) k;
+  };
+  apart = omega (arith, l2, l3);
+}
+  where
+    l1 : labels.again ≡ length a.places
+    l1 = turn_again labels a b h
+
+    l2 : labels.next ≡ length a.places + 1
+    l2 = turn_next labels a b h
+
+    l3 : labels.over ≡ length a.places + 2
+    l3 = turn_over labels a b h
+
+    l4 : length b.places ≡ length a.places + 3
+    l4 = turn_length labels a b h
+
+    l5 : length d.places ≡ length c.places
+    l5 = define_length labels.again c d g
+
+    goes : Goes (length a.places) (λ done at. part (r done at) (here (at labels.again) (s done at))) a e
+    goes = goes_turn _ labels _ a b e (omega arith) h
+        (goes_part _ r (λ done at. here (at labels.again) (s done at)) b c e (omega (arith, l4)) f
+        (goes_here _ labels.again s c d e (omega (arith, l1)) g
+        (goes_less _ _ s d e (omega (arith, l4, l5, f.keeps.more)) k)))
+
+-- the end of a loop in which `continue` does not go to its begin
+pub ends_turn : (next over : ℕ) (r s : Part) (a b c d : Written) → IsFree next a → next < over → Defines next a b
+    → Emits r b c → Goes over s c d
+    → Goes next (λ done at. here (at next) (part (r done at) (s done at))) a d
+ends_turn next over r s a b c d f apart h e g =
+    let w = free_within next a f in
+    let l = define_length next a b h in
+    goes_here next next (λ done at. part (r done at) (s done at)) a b d (omega arith) h
+    (goes_part next r s b c d (omega (arith, l, w)) e (goes_less next over s c d (omega arith) g))
+
+-- ---- worksharing
+
+pub begins_sections : (names : Numbered) (l : ℕ) (clauses : List ResolvedClauseTree) (sections : Parts)
+    (labels : LoopLabels) (a b c d e f g h : Written)
+    → Fresh labels.again a b → Fresh labels.over b c → Emits (λ done at. starts (site names done) l clauses) c d
+    → Puts l (i.Sections sections.count) d e
+    → Defines labels.again e f → Puts l (i.Grab labels.over) f g → Puts l (i.Pick sections.number) g h
+    → Begins labels.over (sections_begin names l clauses sections labels) a h
+begins_sections names l clauses sections labels a b c d e f g h s1 s2 s3 s4 s5 s6 s7 =
+    let n = length a.places in
+    let l1 = fresh_length labels.again a b s1 in
+    let l2 = fresh_length labels.over b c s2 in
+    record {
+      goes = goes_fresh n labels.again _ a b h (omega arith) s1 (goes_fresh n labels.over _ b c h (omega (arith, l1)) s2
+          (goes_part n (λ done at. starts (site names done) l clauses) (λ done at. ins (site names done) l
+          (i.Sections sections.count) ▸ here (at labels.again)
+          ▸ ins (site names done) l (i.Grab (at labels.over)) ▸ ins (site names done) l (i.Pick sections.number) ▸
+          end) c d h (omega (arith, l1, l2)) s3
+          (goes_put names n l (i.Sections sections.count) (λ done at. here (at labels.again)
+          ▸ ins (site names done) l (i.Grab (at labels.over)) ▸ ins (site names done) l (i.Pick sections.number) ▸
+          end) d e h s4
+          (goes_here n labels.again (λ done at. ins (site names done) l (i.Grab (at labels.over)) ▸ ins
+          (site names done) l (i.Pick sections.number) ▸ end) e f h (omega (arith, s1.is)) s5
+          (goes_put names n l (i.Grab labels.over) (λ done at. ins (site names done) l (i.Pick sections.number) ▸
+          end) f g h s6
+          (goes_put names n l (i.Pick sections.number) (λ done at. end) g h h s7 (goes_end n h)))))));
+      above = omega (arith, s2.is, l1);
+      free = free_put labels.over l (i.Pick sections.number) g h s7 (free_put labels.over l (i.Grab labels.over) f g s6
+          (free_define labels.over labels.again e f (λ q. omega (arith, q, s1.is, s2.is, l1)) s5
+          (free_put labels.over l (i.Sections sections.count) d e s4
+          (free_emits labels.over (λ done at. starts (site names done) l clauses) c d
+          (free_new labels.over b c s2) s3))));
+    }
+
+pub begins_worksharing : (names : Numbered) (l : ℕ) (clauses : List ResolvedClauseTree) (loop : ResolvedLoopTree)
+    (comparison : Comparison) (slot_number chunk : ℕ) (labels : LoopLabels)
+    → (a b c d e f g h j k : Written)
+    → comparison_of loop.comparison ≡ Some comparison → ((done : Finished) → slot (site names done) loop.variable
+    ≡ slot_number)
+    → Fresh chunk a b → Fresh labels.again b c → Fresh labels.over c d
+    → Emits (λ done at. bounds_row l clauses loop (site names done)) d e
+    → Puts l (i.Loop (form_with loop comparison)) e f → Defines chunk f g → Puts l (i.Grab labels.over) g h
+    → Defines labels.again h j
+    → Puts l (i.Iterate slot_number chunk) j k
+    → Begins labels.over (worksharing_begin names l clauses loop labels) a k
+begins_worksharing names l clauses loop comparison slot_number chunk labels a b c d e f g h j k is same s1 s2 s3 s4
+    s5 s6 s7 s8 s9 =
+    record {
+      goes = goes_as n (λ done at. part (bounds_row l clauses loop (site names done)) ▸ ins (site names done) l
+          (i.Loop (form_with loop comparison))
+          ▸ here (at chunk) ▸ ins (site names done) l (i.Grab (at labels.over))
+          ▸ here (at labels.again) ▸ ins (site names done) l (i.Iterate slot_number (at chunk)) ▸ end) _ a k named
+          (goes_fresh n chunk _ a b k (omega arith) s1 (goes_fresh n labels.again _ b c k (omega (arith, l1)) s2
+          (goes_fresh n labels.over _ c d k (omega (arith, l1, l2)) s3
+          (goes_part n (λ done at. bounds_row l clauses loop (site names done)) _ d e k (omega (arith, l1, l2, l3)) s4
+          (goes_put names n l (i.Loop (form_with loop comparison)) _ e f k s5
+          (goes_here n chunk _ f g k (omega (arith, s1.is)) s6
+          (goes_put names n l (i.Grab labels.over) _ g h k s7
+          (goes_here n labels.again _ h j k (omega (arith, s2.is, l1)) s8
+          (goes_put names n l (i.Iterate slot_number chunk) (λ done at. end) j k k s9 (goes_end n k))))))))));
+      above = omega (arith, s3.is, l1, l2);
+      free = free_put labels.over l (i.Iterate slot_number chunk) j k s9 (free_define labels.over labels.again h j
+          (λ q. omega (arith, q, s2.is, s3.is, l1, l2)) s8 (free_put labels.over l (i.Grab labels.over) g h s7
+          (free_define labels.over chunk f g (λ q. omega (arith, q, s1.is, s3.is, l1, l2)) s6
+          (free_put labels.over l (i.Loop (form_with loop comparison)) e f s5
+          (free_emits labels.over (λ done at. bounds_row l clauses loop (site names done)) d e
+          (free_new labels.over c d s3) s4)))));
+    }
+  where
+    n : ℕ
+    n = length a.places
+
+    l1 : length b.places ≡ length a.places + 1
+    l1 = fresh_length chunk a b s1
+
+    l2 : length c.places ≡ length b.places + 1
+    l2 = fresh_length labels.again b c s2
+
+    l3 : length d.places ≡ length c.places + 1
+    l3 = fresh_length labels.over c d s3
+
+    named : (done : Finished) (at : Labels) (p q : ℕ)
+        → (part (bounds_row l clauses loop (site names done)) ▸ ins (site names done) l
+        (i.Loop (form_with loop comparison))
+        ▸ here (at chunk) ▸ ins (site names done) l (i.Grab (at labels.over))
+        ▸ here (at labels.again) ▸ ins (site names done) l (i.Iterate slot_number (at chunk)) ▸ end) p q
+        → worksharing_begin names l clauses loop labels done at p q
+    named done at p q r = (
+      chunk,
+      rw is (subst (λ x. (part (bounds_row l clauses loop (site names done)) ▸ ins (site names done) l
+          (i.Loop (form_with loop comparison))
+          ▸ here (at chunk) ▸ ins (site names done) l (i.Grab (at labels.over))
+          ▸ here (at labels.again) ▸ ins (site names done) l (i.Iterate x (at chunk)) ▸ end) p q) (sym (same done)) r),
+    )

@@ -1,0 +1,125 @@
+//! A `parallel` and a `task`, in the body that meets them. Their own bodies stand by themselves.
+
+ghost use Rattle.std.specs.Prelude.{◌≡◌, ◌≤◌, IfOk, IfSome, OnOk, is_some, length, map};
+ghost use Rattle.om_lower.specs.Regions.{EmitsRegion, IsKnownThere, clauses_of, given_to, parallel_of, slots_of};
+ghost use Rattle.om_lower.specs.Regions.{task_of};
+ghost use Rattle.om_lower.specs.Words.{Appends, EmitsRow, GivesBehind, ValueHasCode, each, first_copies_of};
+ghost use Rattle.om_lower.specs.Words.{numbered_by, perhaps, view_resolved_clause};
+ghost use Rattle.om_rows.specs.Expressions as expressions;
+ghost use Rattle.om_rows.specs.Statements as rows;
+
+use om_code::Instr;
+use om_emit::draft::Draft;
+use om_emit::{Done, Here, value};
+use om_resolved::{Made, ResolvedClause};
+use om_rows::{BodyTables, FirstCopy, Numbers, Region, Variables, given_copies};
+use om_statements::clause::clause_value;
+use std::alloc::Global;
+
+/// Writes what stands in the place of a `parallel`, and gives the numbers behind it. Its body gets
+/// the number of the next one.
+pub(crate) fn parallel(
+    alloc: Global,
+    draft: &mut Draft,
+    tables: &BodyTables<'_>,
+    numbers: Numbers,
+    region: &Region<'_>,
+) -> Made<Numbers>
+    requires code { IfSome (rows.clause_value (clauses_of region.now)) ValueHasCode }
+    requires known { IsKnownThere tables.now numbers region.now }
+    ensures behind { GivesBehind result numbers (parallel_of region.now) }
+    ensures emitted { EmitsRegion result tables.now numbers (parallel_of region.now) draft.old
+        draft.new }
+{
+    let at = region.at;
+    let sized = team_size(draft, &Here { tables, at }, region.clauses)?;
+    let variables = tables.region_variables(numbers.bodies);
+    let count = load_given(alloc, draft, tables, region, variables)?;
+    // At most 256: one for a slot.
+    let values = count as u16;
+    let body = numbers.bodies;
+    draft.put(
+        at.line,
+        Instr::Fork {
+            body,
+            sized,
+            values,
+        },
+    )?;
+    Ok(tables.behind_region(numbers.bodies))
+}
+
+/// Writes what stands in the place of a `task`, and gives the numbers behind it. Its body gets the
+/// number of the next one.
+pub(crate) fn task(
+    alloc: Global,
+    draft: &mut Draft,
+    tables: &BodyTables<'_>,
+    numbers: Numbers,
+    region: &Region<'_>,
+) -> Made<Numbers>
+    requires known { IsKnownThere tables.now numbers region.now }
+    ensures behind { GivesBehind result numbers (task_of region.now) }
+    ensures emitted { EmitsRegion result tables.now numbers (task_of region.now) draft.old draft.new }
+{
+    let variables = tables.region_variables(numbers.bodies);
+    let count = load_given(alloc, draft, tables, region, variables)?;
+    // At most 256: one for a slot.
+    let values = count as u16;
+    let body = numbers.bodies;
+    draft.put(region.at.line, Instr::Spawn { body, values })?;
+    Ok(tables.behind_region(numbers.bodies))
+}
+
+/// Loads the originals of the firstprivate copies of a region whose body has these variables, and says how
+/// many there are.
+fn load_given(
+    alloc: Global,
+    draft: &mut Draft,
+    tables: &BodyTables<'_>,
+    region: &Region<'_>,
+    variables: &Variables,
+) -> Made<usize>
+    requires variables { variables.now ≡ slots_of region.now }
+    requires few { length variables.now ≤ 256 }
+    ensures few { IfOk result (λ count. count ≤ 256) }
+    ensures count { IfOk result (λ count. count ≡ length (given_to region.now)) }
+    ensures emitted { let given = given_to region.now in
+        OnOk result
+        (EmitsRow (numbered_by tables.now)
+        (λ at. each (rows.load_original at region.now.at.line) given) draft.old draft.new) }
+{
+    let copies = given_copies(alloc, region.clauses, region.captures, variables)?;
+    let at = region.at;
+    load_originals(draft, &Here { tables, at }, copies.as_slice())?;
+    Ok(copies.len())
+}
+
+/// Writes the size that a `parallel` asks for, if one of its clauses does (OpenMP API 5.2, section
+/// 10.1.2), and says whether one does.
+fn team_size(draft: &mut Draft, here: &Here<'_>, clauses: &[ResolvedClause]) -> Made<bool>
+    requires { IfSome (rows.clause_value (map view_resolved_clause clauses.now)) ValueHasCode }
+    ensures sized { IfOk result
+        (λ sized. sized ≡ is_some (rows.clause_value (map view_resolved_clause clauses.now))) }
+    ensures emitted { Appends result here.now (λ at l. perhaps (expressions.value at l))
+        (rows.clause_value (map view_resolved_clause clauses.now)) draft.old draft.new }
+{
+    match clause_value(clauses) {
+        None => Ok(false),
+        Some(size) => {
+            value(draft, here, size)?;
+            Ok(true)
+        }
+    }
+}
+
+/// Loads the originals of the firstprivate copies of a region, by the slots of the copies.
+fn load_originals(draft: &mut Draft, here: &Here<'_>, copies: &[FirstCopy]) -> Done
+    ensures { Appends result here.now (λ at l. each (rows.load_original at l))
+        (first_copies_of copies.now) draft.old draft.new }
+{
+    for copy in copies {
+        draft.put(here.at.line, Instr::Load(here.tables.place(copy.original)))?;
+    }
+    Ok(())
+}

@@ -1,0 +1,157 @@
+//! The heads and the ends of `if`, `while`, `do` and `for`.
+
+ghost use Rattle.std.specs.Prelude.{◌≡◌, ◌<◌, IfOk, IfSome, None, OnOk, Some, option_map, slice_get};
+ghost use Rattle.om_lower.specs.Words.{AppendsEnd, AppendsHead, AppendsScopes, Begins, BeginsTurn};
+ghost use Rattle.om_lower.specs.Words.{EffectHasCode, Ends, FreshTurn, Numbered, Opens, StartHasCode};
+ghost use Rattle.om_lower.specs.Words.{ValueHasCode, do_begin, do_end, else_begin, for_begin, for_end};
+ghost use Rattle.om_lower.specs.Words.{for_head, loop_end, names_at, test_at, view_resolved_expression};
+ghost use Rattle.om_lower.specs.Words.{view_resolved_start, while_begin};
+
+use om_emit::draft::{Draft, Jump};
+use om_emit::{Done, Here};
+use om_resolved::{Made, ResolvedExpression, ResolvedStart};
+use om_statements::declaration::{perhaps_effect, perhaps_test, start, test};
+use om_statements::spot::{LoopLabels, TurnLabels};
+use om_statements::writing::Writing;
+
+/// Writes the head of a `while` (C17 6.8.5.1).
+pub(crate) fn begin_while(
+    draft: &mut Draft,
+    here: &Here<'_>,
+    condition: &ResolvedExpression,
+) -> Made<LoopLabels>
+    requires { ValueHasCode (view_resolved_expression condition.now) }
+    ensures { AppendsHead result here.now while_begin (view_resolved_expression condition.now)
+        draft.old draft.new }
+{
+    let again = draft.fresh()?;
+    let over = draft.fresh()?;
+    draft.define(again);
+    test(draft, here, condition, over)?;
+    Ok(LoopLabels { again, over })
+}
+
+/// Writes the end of a loop: it begins again.
+pub(crate) fn end_loop(draft: &mut Draft, line: u32, labels: LoopLabels) -> Done
+    requires { slice_get draft.old.places labels.over ≡ Some None }
+    ensures { OnOk result
+        ((names : Numbered) → Ends labels.over (loop_end names line labels) draft.old draft.new) }
+{
+    draft.put_jump(line, Jump::Always, labels.again)?;
+    draft.define(labels.over);
+    Ok(())
+}
+
+/// Makes the labels of a loop in which `continue` does not go to its begin.
+fn turn_labels(draft: &mut Draft) -> Made<TurnLabels>
+    ensures { IfOk result (λ labels. FreshTurn labels draft.old draft.new) }
+{
+    let again = draft.fresh()?;
+    let next = draft.fresh()?;
+    let over = draft.fresh()?;
+    Ok(TurnLabels { again, next, over })
+}
+
+/// Writes the head of a `do` (C17 6.8.5.2).
+pub(crate) fn begin_do(draft: &mut Draft) -> Made<TurnLabels>
+    ensures { IfOk result (λ labels. BeginsTurn labels (do_begin labels) draft.old draft.new) }
+{
+    let labels = turn_labels(draft)?;
+    draft.define(labels.again);
+    Ok(labels)
+}
+
+/// Writes the end of a `do`: its condition is tested, and it begins again.
+pub(crate) fn end_do(
+    draft: &mut Draft,
+    here: &Here<'_>,
+    labels: TurnLabels,
+    condition: &ResolvedExpression,
+) -> Done
+    requires condition { ValueHasCode (view_resolved_expression condition.now) }
+    requires next { slice_get draft.old.places labels.next ≡ Some None }
+    requires over { slice_get draft.old.places labels.over ≡ Some None }
+    requires apart { labels.next < labels.over }
+    ensures { AppendsEnd result here.now labels.next (λ names l. do_end names l labels)
+        (view_resolved_expression condition.now) draft.old draft.new }
+{
+    let TurnLabels { again, next, over } = labels;
+    draft.define(next);
+    test(draft, here, condition, over)?;
+    end_loop(draft, here.at.line, LoopLabels { again, over })?;
+    Ok(())
+}
+
+/// Writes the head of a `for` (C17 6.8.5.3): without a condition nothing is tested.
+pub(crate) fn begin_for(
+    writing: &mut Writing,
+    here: &Here<'_>,
+    begin: &ResolvedStart,
+    condition: &Option<ResolvedExpression>,
+) -> Made<TurnLabels>
+    requires start { StartHasCode (view_resolved_start begin.now) }
+    requires condition { IfSome (option_map view_resolved_expression condition.now) ValueHasCode }
+    ensures code { let stretch = for_begin (names_at here.now) here.now.at.line
+        (view_resolved_start begin.now) (option_map view_resolved_expression condition.now) in
+        IfOk result
+        (λ labels. BeginsTurn labels (stretch labels) writing.old.draft writing.new.draft) }
+    ensures scopes { AppendsScopes result here.now
+        (λ at l. for_head at l (view_resolved_start begin.now))
+        (option_map view_resolved_expression condition.now) writing.old writing.new }
+{
+    let labels = turn_labels(&mut writing.draft)?;
+    start(writing, here, begin)?;
+    writing.draft.define(labels.again);
+    perhaps_test(&mut writing.draft, here, condition, labels.over)?;
+    Ok(labels)
+}
+
+/// Writes the end of a `for`: its step is taken, and it begins again.
+pub(crate) fn end_for(
+    draft: &mut Draft,
+    here: &Here<'_>,
+    labels: TurnLabels,
+    step: &Option<ResolvedExpression>,
+) -> Done
+    requires step { IfSome (option_map view_resolved_expression step.now) EffectHasCode }
+    requires next { slice_get draft.old.places labels.next ≡ Some None }
+    requires over { slice_get draft.old.places labels.over ≡ Some None }
+    requires apart { labels.next < labels.over }
+    ensures { AppendsEnd result here.now labels.next (λ names l. for_end names l labels)
+        (option_map view_resolved_expression step.now) draft.old draft.new }
+{
+    let TurnLabels { again, next, over } = labels;
+    draft.define(next);
+    perhaps_effect(draft, here, step)?;
+    end_loop(draft, here.at.line, LoopLabels { again, over })?;
+    Ok(())
+}
+
+/// Writes the head of an `if` (C17 6.8.4.1). The label is to be placed behind what it guards.
+pub(crate) fn begin_if(
+    draft: &mut Draft,
+    here: &Here<'_>,
+    condition: &ResolvedExpression,
+) -> Made<usize>
+    requires { ValueHasCode (view_resolved_expression condition.now) }
+    ensures { let tree = view_resolved_expression condition.now in
+        IfOk result (λ label. Begins label (test_at (names_at here.now) here.now.at.line label tree)
+        draft.old draft.new) }
+{
+    let label = draft.fresh()?;
+    test(draft, here, condition, label)?;
+    Ok(label)
+}
+
+/// Writes what stands between the two statements of an `if` with `else`: the first goes on behind the
+/// second, which begins at the head's label. The new label is to be placed behind the second.
+pub(crate) fn begin_else(draft: &mut Draft, line: u32, head: usize) -> Made<usize>
+    requires { slice_get draft.old.places head ≡ Some None }
+    ensures { IfOk result (λ label. (names : Numbered) →
+        Opens head label (else_begin names line head label) draft.old draft.new) }
+{
+    let label = draft.fresh()?;
+    draft.put_jump(line, Jump::Always, label)?;
+    draft.define(head);
+    Ok(label)
+}

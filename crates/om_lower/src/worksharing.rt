@@ -1,0 +1,138 @@
+//! The begins and the ends of worksharing loops and of `sections`.
+
+ghost use Rattle.std.specs.Prelude.{◌<◌, ◌≤◌, IfOk, length, map};
+ghost use Rattle.om_lower.specs.Words.{Appends, AppendsHead, AppendsScopes, LoopHasCode, OpensParts, closes};
+ghost use Rattle.om_lower.specs.Words.{loop_head, names_at, part_head, sections_head, view_resolved_clause};
+ghost use Rattle.om_lower.specs.Words.{view_resolved_loop, worksharing_begin};
+
+use crate::loop_form::{comparison_of, form_with};
+use om_code::Instr;
+use om_emit::draft::{Draft, Jump};
+use om_emit::{Done, Here, value};
+use om_resolved::{Made, ResolvedClause, ResolvedLoop, ResolvedPart};
+use om_rows::Numbers;
+use om_statements::alone::worksharing_end;
+use om_statements::clause::{reductions, starts};
+use om_statements::spot::LoopLabels;
+use om_statements::writing::Writing;
+use std::alloc::Global;
+
+/// A `sections`, where it stands: the numbers of the next body and of its own list of PICK.
+#[derive(Clone, Copy)]
+pub(crate) struct SectionsHead<'a> {
+    pub(crate) numbers: Numbers,
+    pub(crate) clauses: &'a [ResolvedClause],
+}
+
+/// Where the parts of a `sections` are written.
+#[derive(Clone, Copy)]
+pub(crate) struct PartsSpot {
+    pub(crate) line: u32,
+    /// The numbers of the next body and of the next list of PICK.
+    pub(crate) numbers: Numbers,
+    /// The label at which the next part is taken.
+    pub(crate) again: usize,
+    /// The label behind all parts.
+    pub(crate) over: usize,
+    /// The label of the first part. Those of the others follow it.
+    pub(crate) first: usize,
+}
+
+/// Writes the begin of a worksharing loop (OpenMP API 5.2, section 11.5): chunks of iterations are
+/// taken, and each iteration puts its value into the loop's variable, which is in scope from there on.
+/// The bounds stand on the line of the `for`.
+pub(crate) fn begin_worksharing(
+    writing: &mut Writing,
+    here: &Here<'_>,
+    clauses: &[ResolvedClause],
+    repeated: &ResolvedLoop,
+) -> Made<LoopLabels>
+    requires { LoopHasCode (view_resolved_loop repeated.now) }
+    ensures code { AppendsHead result here.now
+        (λ names l. worksharing_begin names l (map view_resolved_clause clauses.now))
+        (view_resolved_loop repeated.now) writing.old.draft writing.new.draft }
+    ensures scopes { AppendsScopes result here.now
+        (λ at l. loop_head at l (map view_resolved_clause clauses.now))
+        (view_resolved_loop repeated.now) writing.old writing.new }
+{
+    let Some(comparison) = comparison_of(repeated.comparison) else {
+        unreachable!();
+    };
+    let line = here.at.line;
+    let chunk = writing.draft.fresh()?;
+    let again = writing.draft.fresh()?;
+    let over = writing.draft.fresh()?;
+    let bounds = Here {
+        tables: here.tables,
+        at: repeated.at,
+    };
+    value(&mut writing.draft, &bounds, &repeated.from)?;
+    value(&mut writing.draft, &bounds, &repeated.to)?;
+    starts(writing, here, clauses)?;
+    let from = writing.draft.place();
+    writing.scopes.begin(from, None, &repeated.variable)?;
+    let draft = &mut writing.draft;
+    draft.put(line, Instr::Loop(form_with(repeated, comparison)))?;
+    draft.define(chunk);
+    draft.put_jump(line, Jump::Grab, over)?;
+    draft.define(again);
+    let slot = here.tables.slot(&repeated.variable);
+    draft.put_jump(line, Jump::Iterate { slot }, chunk)?;
+    Ok(LoopLabels { again, over })
+}
+
+/// Writes what stands behind a worksharing loop or the parts of `sections`: the copies of reductions
+/// are combined, and all threads wait for each other, unless it is `nowait`.
+pub(crate) fn end_worksharing(
+    draft: &mut Draft,
+    here: &Here<'_>,
+    clauses: &[ResolvedClause],
+    nowait: bool,
+) -> Done
+    ensures { Appends result here.now (λ at l clauses. closes at l clauses nowait)
+        (map view_resolved_clause clauses.now) draft.old draft.new }
+{
+    reductions(draft, here, clauses)?;
+    worksharing_end(draft, here.at.line, nowait)?;
+    Ok(())
+}
+
+/// Writes what stands before the parts of a `sections` (OpenMP API 5.2, section 11.3), and makes the
+/// labels at which they begin.
+pub(crate) fn begin_parts(
+    alloc: Global,
+    writing: &mut Writing,
+    here: &Here<'_>,
+    head: &SectionsHead<'_>,
+    parts: &[ResolvedPart],
+) -> Made<PartsSpot>
+    requires few { length parts.now ≤ 256 }
+    requires numbered { head.now.numbers.picks < 4294967295 }
+    ensures code { let begin = part_head here.now.at.line head.now.numbers
+        (map view_resolved_clause head.now.clauses.now) (length parts.now) in
+        IfOk result (λ spot. OpensParts (names_at here.now) begin spot writing.old.draft
+        writing.new.draft) }
+    ensures scopes { AppendsScopes result here.now sections_head
+        (map view_resolved_clause head.now.clauses.now) writing.old writing.new }
+{
+    let line = here.at.line;
+    let number = head.numbers.picks;
+    let count = parts.len() as u32;
+    let again = writing.draft.fresh()?;
+    let over = writing.draft.fresh()?;
+    starts(writing, here, head.clauses)?;
+    let draft = &mut writing.draft;
+    draft.put(line, Instr::Sections(count))?;
+    draft.define(again);
+    draft.put_jump(line, Jump::Grab, over)?;
+    draft.put(line, Instr::Pick(number))?;
+    let first = draft.fresh_list(alloc, number, count)?;
+    let numbers = head.numbers.next_pick();
+    Ok(PartsSpot {
+        line,
+        numbers,
+        again,
+        over,
+        first,
+    })
+}

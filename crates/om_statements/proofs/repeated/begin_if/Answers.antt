@@ -1,5 +1,0 @@
-use Rattle.om_statements.proofs.Opened.{begins}
-use Rattle.om_statements.proofs.repeated.begin_if.Goals as goal
-
-pub returns : goal.returns
-returns c = begins _ _ _ _ _ c.in_ok-label.ensures c.in_ok-test.ensures

@@ -1,7 +1,0 @@
-use Rattle.om_emit.specs.Emits.{names_at}
-use Rattle.om_statements.proofs.Leaves.{emits_then}
-use Rattle.om_statements.proofs.worksharing.end_worksharing.Goals as goal
-
-pub returns : goal.returns
-returns c = emits_then _ _ _ _ _ c.in_ok-reductions.ensures
-    (c.in_ok-worksharing_end.ensures (names_at c.args.here.now))
