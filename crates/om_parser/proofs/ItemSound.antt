@@ -13,7 +13,7 @@ use Rattle.om_parser.specs.declared.start.Start.TheVariants as starts
 use Rattle.om_parser.specs.ConstructReading.{line_start, misplaced, unknown_line, stand_alone_at, item_of, part_item_at, is_section_line, ends_part, ends_parts, section_of, part_at}
 use Rattle.om_parser.specs.OneOrMore.{one_or_more}
 use Rattle.om_parts.specs.Reading.{Reader, choose, take_mark, take_word, mark_at, word_at}
-use Rattle.om_tree.specs.Spelling.{mark, word, expression_spelling, condition_spelling, for_start_spelling, for_head_spelling, statement_spelling, statements_spelling, parts_spelling, part_spelling, section_spelling}
+use Rattle.om_tree.specs.Spelling.{mark, word, perhaps, expression_spelling, condition_spelling, for_start_spelling, for_head_spelling, statement_spelling, statements_spelling, parts_spelling, part_spelling, section_spelling}
 use Rattle.om_tree.specs.Formed.{IsForHead, ends_open, IsStatement, IsSection, IsOptionalSection}
 use Rattle.om_tree.specs.Limits.{Limits}
 use Rattle.om_tree.specs.Sizes.{HasForms, section_longest, section_nesting}
@@ -30,6 +30,12 @@ use Rattle.om_parser.proofs.StatementParts.{IsWholeOptional, IsWholeStart, IsWho
 
 never : {A : Type 0} → false ≡ true → A
 never e = absurd cc
+
+-- a token at the end of one part stands before the next one
+flat_parts : (ts start front : List Token) (t : Token) (back rest : List Token)
+    → ts ≡ (start ++ ((front ++ t ∷ []) ++ back)) ++ rest → ts ≡ ((start ++ front) ++ t ∷ back) ++ rest
+flat_parts ts start front t back rest e = e ∙ ap (λ w. w ++ rest)
+    (ap (λ w. start ++ w) (append_assoc front (t ∷ []) back) ∙ sym (append_assoc start front (t ∷ back)))
 
 module _ (p : Parts) (l : Limits) (one : 1 ≤ l.nested) (sound : ArePartsSound p l) where
   pub condition_sound : IsSound condition_spelling (λ c. IsWhole l 1 c.value) (condition_at p)
@@ -94,8 +100,10 @@ module _ (p : Parts) (l : Limits) (one : 1 ≤ l.nested) (sound : ArePartsSound 
       let step = optional_sound 1 punctuators.CloseParen p.enclosed one sound.enclosed c.0.1 e.0 e.1 in
       let back = after_front s.0.1 (optional_spelling punctuators.Semicolon c.0.0) c.0.1 (optional_spelling punctuators.CloseParen e.0.0) e.0.1 condition.parts step.parts in
       let inner = after_front o.0.1 (for_start_spelling s.0.0) s.0.1 (optional_spelling punctuators.Semicolon c.0.0 ++ optional_spelling punctuators.CloseParen e.0.0) e.0.1 start.parts back in
+      let flat = flat_parts o.0.1 (for_start_spelling s.0.0) (perhaps expression_spelling c.0.0.0)
+          (mark punctuators.Semicolon c.0.0.1) (optional_spelling punctuators.CloseParen e.0.0) e.0.1 inner in
       subst (IsRead for_head_spelling (IsWholeHead l) (word keywords.For at ∷ ts)) (ok_is _ x e.2) (record {
-        parts = ap (λ w. word keywords.For at ∷ w) (mark_at_is punctuators.OpenParen ts o.0 o.1 ∙ ap (λ w. mark punctuators.OpenParen o.0.0 ∷ w) inner) ∙ simp append_assoc;
+        parts = ap (λ w. word keywords.For at ∷ w) (mark_at_is punctuators.OpenParen ts o.0 o.1 ∙ ap (λ w. mark punctuators.OpenParen o.0.0 ∷ w) flat);
         formed = record { start = start.formed; condition = condition.formed; step = step.formed };
       })
 

@@ -68,6 +68,20 @@ within_err beyond s rest r f e = go (nat_le beyond (length rest)) refl e
     go true is h = inr (leb-true _ _ is, h)
     go false is h = inl (leb-false _ _ is, ap (λ (g : SourceFault). g.at) (err_is (too_deep s) f h))
 
+-- ---- where the parts of a call stand
+
+-- a token behind two lists, of which it ends the second one
+token_behind : (first second : List Token) (t : Token) (rest : List Token)
+    → first ++ ((second ++ t ∷ []) ++ rest) ≡ (first ++ second) ++ t ∷ rest
+token_behind first second t rest = ap (λ w. first ++ w) (append_assoc second (t ∷ []) rest)
+    ∙ sym (append_assoc first second (t ∷ rest))
+
+-- the one argument of a call, and the parenthesis behind it
+one_closed : (begun : List Token) (t : Token) (more : List Token) (close : Token)
+    → ((begun ++ t ∷ more) ++ []) ++ close ∷ [] ≡ begun ++ t ∷ (more ++ close ∷ [])
+one_closed begun t more close = append_assoc (begun ++ t ∷ more) [] (close ∷ [])
+    ∙ append_assoc begun (t ∷ more) (close ∷ [])
+
 -- ---- brackets are closed
 
 abbrev mark_opens : (p : Punctuator) → Type 0
@@ -338,6 +352,72 @@ module _ (beyond room : ℕ) (whole : Reader ExpressionTree) (sound : IsExpressi
         subst (λ (y : List (Option Span × ExpressionTree) × Span × List Token). beyond ≤ suc (length y.2)) (ok_is (a.0.0 ∷ b.0.0, b.0.1, b.0.2) x b.2) (until_left k a.0.1 b.0 (argument_left ts a.0 a.1) b.1)
   ]
 
+  -- a call whose parenthesis stands behind the limit
+  closing_cut : (n : names.Name) (left : Span) (us : List Token) (f : SourceFault) (a : ExpressionTree × List Token)
+      (xs : List (Option Span × ExpressionTree)) (s : Span) (rest : List Token) → beyond ≤ length us
+      → first_at beyond whole n us ≡ ok a
+      → until (take_mark punctuators.CloseParen) (argument_at beyond whole) (length a.1) a.1 ≡ ok (xs, s, rest)
+      → within {A = ExpressionTree × List Token} beyond s rest
+          (ok (Call n left (arguments ((None, a.0) ∷ xs)) s, rest)) ≡ Err f
+      → IsExpressionCut 11 beyond (suc room) (name n ∷ mark punctuators.OpenParen left ∷ us) f.at
+  unfolding expression_spelling arguments_spelling IsExpression
+  closing_cut n left us f a xs s rest le reads many made = elim (within_err beyond s rest _ f made) [
+    | inr (in_limit, no_err) ↦ absurd cc
+    | inl (over, place) ↦
+        let first = first_sound beyond room whole sound n us a reads in
+        let r = until_sound argument_spelling (IsGoodArgument room) (mark punctuators.CloseParen)
+            (take_mark punctuators.CloseParen) (argument_at beyond whole) (take_mark_is punctuators.CloseParen)
+            (argument_sound beyond room whole sound) (length a.1) a.1 (xs, s, rest) many in
+        let flat : a.1 ≡ (arguments_spelling (arguments xs) ++ mark punctuators.CloseParen s ∷ []) ++ rest = r.parts
+            ∙ ap (λ w. (w ++ mark punctuators.CloseParen s ∷ []) ++ rest) (sym (arguments_flat xs)) in
+        record {
+          tree = Call n left (Argument None a.0 (arguments xs)) s;
+          formed = (first.formed.0, (arguments_good room xs r.formed).0);
+          tight = omega arith;
+          begun = name n ∷ mark punctuators.OpenParen left ∷ (expression_spelling a.0 ++ arguments_spelling (arguments xs));
+          token = mark punctuators.CloseParen s;
+          after = rest;
+          more = [];
+          stands = ap (λ w. name n ∷ mark punctuators.OpenParen left ∷ w) (first.parts
+              ∙ ap (λ w. expression_spelling a.0 ++ w) flat
+              ∙ token_behind (expression_spelling a.0) (arguments_spelling (arguments xs))
+              (mark punctuators.CloseParen s) rest);
+          spelled = refl;
+          at_place = place;
+          too_much = inl (omega (arith, over, until_left (length a.1) a.1 (xs, s, rest) (first_left n us a le reads) many));
+        }
+  ]
+
+  -- a call with an argument behind the first one that passes a limit
+  further_cut : (n : names.Name) (left : Span) (us : List Token) (f : SourceFault) (a : ExpressionTree × List Token)
+      → beyond ≤ length us → first_at beyond whole n us ≡ ok a
+      → until (take_mark punctuators.CloseParen) (argument_at beyond whole) (length a.1) a.1 ≡ Err f
+      → f.code ≡ codes.TooDeep
+      → IsExpressionCut 11 beyond (suc room) (name n ∷ mark punctuators.OpenParen left ∷ us) f.at
+  unfolding expression_spelling arguments_spelling IsExpression still_open
+  further_cut n left us f a le reads fails deep =
+      let first = first_sound beyond room whole sound n us a reads in
+      let opening : List Token = name n ∷ mark punctuators.OpenParen left ∷ expression_spelling a.0 in
+      let c = arguments_cut (length a.1) a.1 f (first_left n us a le reads) fails deep in
+      record {
+        tree = Call n left (Argument None a.0 (arguments c.values)) c.close;
+        formed = (first.formed.0, c.formed);
+        tight = omega arith;
+        begun = opening ++ c.begun;
+        token = c.token;
+        after = c.after;
+        more = c.more;
+        stands = ap (λ w. name n ∷ mark punctuators.OpenParen left ∷ w) (first.parts
+            ∙ ap (λ w. expression_spelling a.0 ++ w) c.stands
+            ∙ sym (append_assoc (expression_spelling a.0) c.begun (c.token ∷ c.after)));
+        spelled = ap (λ w. name n ∷ mark punctuators.OpenParen left ∷ w)
+            (append_assoc (expression_spelling a.0) (arguments_spelling (arguments c.values))
+            (mark punctuators.CloseParen c.close ∷ []))
+            ∙ ap (λ w. opening ++ w) c.spelled ∙ sym (append_assoc opening c.begun (c.token ∷ c.more));
+        at_place = c.at_place;
+        too_much = behind beyond room opening c.begun c.token c.after (λ d us. balanced a.0 (d + 1) us) c.too_much;
+      }
+
   pub call_cut : (n : names.Name) (left : Span) (us : List Token) (f : SourceFault) → beyond ≤ length us → call_after beyond whole n left us ≡ Err f → f.code ≡ codes.TooDeep → IsExpressionCut 11 beyond (suc room) (name n ∷ mark punctuators.OpenParen left ∷ us) f.at
   unfolding call_after arguments_after arguments_at expression_spelling arguments_spelling IsExpression still_open
   call_cut n left us f le h deep = elim (choose_cases (take_mark punctuators.CloseParen us) _ _ (Err f) h) [
@@ -359,58 +439,23 @@ module _ (beyond room : ℕ) (whole : Reader ExpressionTree) (sound : IsExpressi
             after = c.after;
             more = c.more ++ mark punctuators.CloseParen c.token.span ∷ [];
             stands = ap (λ w. name n ∷ mark punctuators.OpenParen left ∷ w) c.stands;
-            spelled = ap (λ w. name n ∷ mark punctuators.OpenParen left ∷ ((w ++ []) ++ mark punctuators.CloseParen c.token.span ∷ [])) c.spelled ∙ simp append_assoc;
+            spelled = ap (λ w. name n ∷ mark punctuators.OpenParen left ∷ w)
+                (ap (λ w. (w ++ []) ++ mark punctuators.CloseParen c.token.span ∷ []) c.spelled
+                ∙ one_closed c.begun c.token c.more (mark punctuators.CloseParen c.token.span));
             at_place = c.at_place;
             too_much = behind beyond room (name n ∷ mark punctuators.OpenParen left ∷ []) c.begun c.token c.after (λ d us. refl) c.too_much;
           }
       | inr (a, reads, q) ↦
-          let first = first_sound beyond room whole sound n us a reads in
-          let opening : List Token = name n ∷ mark punctuators.OpenParen left ∷ expression_spelling a.0 in
           elim (bind_err (until (take_mark punctuators.CloseParen) (argument_at beyond whole) (length a.1) a.1 >>= λ m. ok ((None, a.0) ∷ m.0, m.1, m.2)) _ f q) [
             | inl e ↦ elim (bind_err (until (take_mark punctuators.CloseParen) (argument_at beyond whole) (length a.1) a.1) _ f e) [
               | inr (m, more, no_err) ↦ absurd cc
-              | inl fails ↦
-                  let c = arguments_cut (length a.1) a.1 f (first_left n us a le reads) fails deep in
-                  record {
-                    tree = Call n left (Argument None a.0 (arguments c.values)) c.close;
-                    formed = (first.formed.0, c.formed);
-                    tight = omega arith;
-                    begun = opening ++ c.begun;
-                    token = c.token;
-                    after = c.after;
-                    more = c.more;
-                    stands = ap (λ w. name n ∷ mark punctuators.OpenParen left ∷ w) (first.parts ∙ ap (λ w. expression_spelling a.0 ++ w) c.stands) ∙ simp append_assoc;
-                    spelled =
-                        let grouped : name n ∷ mark punctuators.OpenParen left ∷ ((expression_spelling a.0 ++ arguments_spelling (arguments c.values)) ++ mark punctuators.CloseParen c.close ∷ []) ≡ opening ++ (arguments_spelling (arguments c.values) ++ mark punctuators.CloseParen c.close ∷ []) = simp append_assoc in
-                        grouped ∙ ap (λ w. opening ++ w) c.spelled ∙ simp append_assoc;
-                    at_place = c.at_place;
-                    too_much = behind beyond room opening c.begun c.token c.after (λ d us. balanced a.0 (d + 1) us) c.too_much;
-                  }
+              | inl fails ↦ further_cut n left us f a le reads fails deep
             ]
             | inr (m, many, k) ↦
                 let u = bind_ok (until (take_mark punctuators.CloseParen) (argument_at beyond whole) (length a.1) a.1) _ m many in
                 let same = ok_is ((None, a.0) ∷ u.0.0, u.0.1, u.0.2) m u.2 in
                 let made = subst (λ (y : List (Option Span × ExpressionTree) × Span × List Token). within {A = ExpressionTree × List Token} beyond y.1 y.2 (ok (Call n left (arguments y.0) y.1, y.2)) ≡ Err f) (sym same) k in
-                elim (within_err beyond u.0.1 u.0.2 _ f made) [
-                  | inr (in_limit, no_err) ↦ absurd cc
-                  | inl (over, place) ↦
-                      let r = until_sound argument_spelling (IsGoodArgument room) (mark punctuators.CloseParen) (take_mark punctuators.CloseParen) (argument_at beyond whole) (take_mark_is punctuators.CloseParen) (argument_sound beyond room whole sound) (length a.1) a.1 u.0 u.1 in
-                      let good = arguments_good room u.0.0 r.formed in
-                      let values = arguments u.0.0 in
-                      record {
-                        tree = Call n left (Argument None a.0 values) u.0.1;
-                        formed = (first.formed.0, good.0);
-                        tight = omega arith;
-                        begun = opening ++ arguments_spelling values;
-                        token = mark punctuators.CloseParen u.0.1;
-                        after = u.0.2;
-                        more = [];
-                        stands = ap (λ w. name n ∷ mark punctuators.OpenParen left ∷ w) (first.parts ∙ ap (λ w. expression_spelling a.0 ++ w) (r.parts ∙ ap (λ w. (w ++ mark punctuators.CloseParen u.0.1 ∷ []) ++ u.0.2) (sym (arguments_flat u.0.0)))) ∙ simp append_assoc;
-                        spelled = simp append_assoc;
-                        at_place = place;
-                        too_much = inl (omega (arith, over, until_left (length a.1) a.1 u.0 (first_left n us a le reads) u.1));
-                      }
-                ]
+                closing_cut n left us f a u.0.0 u.0.1 u.0.2 le reads u.1 made
           ]
     ]
   ]
