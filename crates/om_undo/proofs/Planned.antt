@@ -1,6 +1,6 @@
 -- What a plan says of the step that it stands for.
 use Rattle.std.proofs.Common.{◌≡◌, ap, sym, ◌∙◌, subst, ◌+◌, ℕ, true, false, Option, List}
-use Rattle.std.specs.Prelude.{unwrap_or, Result, Ok, Err, OnOk, OnErr}
+use Rattle.std.specs.Prelude.{unwrap_or, Result, Ok, Err, IfOk, OnOk, OnErr}
 use Rattle.std.specs.Global.{Box}
 use Rattle.om_foot.specs.declared.object.Obj.TheVariants as obj
 use Rattle.om_cells.specs.declared.step.Blocked.{Blocked}
@@ -16,18 +16,18 @@ use Rattle.om_cells.specs.State.{State}
 use Rattle.om_cells.specs.Values.{control_in}
 use Rattle.om_task.specs.declared.planned.Plan.{Plan}
 use Rattle.om_task.specs.declared.planned.Plan.TheVariants as plan
-use Rattle.om_task.specs.Plans.{StandsFor, PlanHasRoom}
+use Rattle.om_task.specs.Plans.{PlanHasRoom}
 use Rattle.om_history.specs.declared.history.History as kept
 use Rattle.om_history.specs.declared.reply.StepReply.{StepReply}
 use Rattle.om_history.specs.declared.reply.StepReply.TheVariants as step_reply
 use Rattle.om_history.specs.Choices.{choice_of, label_by}
-use Rattle.om_history.specs.Runs.{History, entry_for, reply_for, history_with, reply_to_step, after_step}
+use Rattle.om_history.specs.Runs.{entry_for, reply_for, history_with, reply_to_step, after_step}
 use Rattle.om_history.specs.Runs.{state_of_entries}
 use Rattle.om_history.specs.Pasts.{past_in, history_in, IsHeld, IsPlanned, IsReplay, Stays, step_for}
 use Rattle.om_history.specs.Replayed.{ReplaysTo-replay}
 use Rattle.om_code.specs.declared.raw.Raw.{Raw}
 use Rattle.om_task.specs.Rules.{rules_of}
-use Rattle.om_undo.specs.Machines.{IsPlan, MachineView, PlansAt, TakesPlan, rules_for, state_in}
+use Rattle.om_undo.specs.Machines.{IsPlan, MachineView, PlansAt, RepliesToPlan, TakesPlan, rules_for, state_in}
 use Rattle.om_undo.specs.PlannedSteps.{IsPlanAt, PlannedView, is_made, planned_at}
 use Rattle.om_undo.proofs.Views.{view_of}
 
@@ -125,6 +125,17 @@ plan_taken program workers h m at l k p v seen held view planned is same =
           (plan_of program workers h m l p seen held here),
       same ∙ ap (λ (w : PlannedView). w.label) view,
     )
+
+-- what is replied where a plan is taken is the reply at the machine
+pub replied_at : {E : Type 0} (result : Result StepReply E) (program : Raw) (workers : ℕ) (h : kept.History)
+    (m : MachineView) (k l : Label) (p : Plan) → view_of program workers (history_in h) ≡ m → k ≡ l
+    → IsPlan (rules_of program workers) h k p → IfOk result (RepliesToPlan k p h)
+    → IfOk result (λ x. x ≡ reply_to_step (rules_for m) m.history l)
+replied_at (Ok x) program workers h m k l p seen same is replies =
+    replies (rules_of program workers) is
+    ∙ ap (reply_to_step (rules_of program workers) (history_in h)) same
+    ∙ ap (λ (v : MachineView). reply_to_step (rules_for v) v.history l) seen
+replied_at (Err e) program workers h m k l p seen same is replies = tt
 
 -- whatever comes of taking a plan, the history is held
 pub held_after : {T E : Type 0} (result : Result T E) (r : Rules) (old new : kept.History) (l : Label) (p : Plan)

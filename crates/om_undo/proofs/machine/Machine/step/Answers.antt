@@ -1,14 +1,14 @@
 -- What the history takes is the step of the label under the program's rules.
-use Rattle.std.proofs.Common.{◌≡◌, ◌∙◌, ap, sym, subst, IfOk}
-use Rattle.std.proofs.lemmas.Result.{IfOk-weaker, on_ok_weaker}
+use Rattle.std.proofs.Common.{◌≡◌, ◌∙◌, ap, sym, subst}
+use Rattle.std.proofs.lemmas.Result.{on_ok_weaker}
 use Rattle.om_cells.specs.declared.step.Label.{Label}
 use Rattle.om_cells.specs.Rules.{Rules}
 use Rattle.om_task.specs.Rules.{rules_of}
 use Rattle.om_history.specs.Choices.{label_by}
-use Rattle.om_history.specs.Runs.{History, reply_to_step, after_step}
+use Rattle.om_history.specs.Runs.{History, after_step}
 use Rattle.om_history.specs.Pasts.{history_in}
-use Rattle.om_undo.specs.Machines.{IsPlan, MachineView, rules_for}
-use Rattle.om_undo.proofs.Planned.{label_is}
+use Rattle.om_undo.specs.Machines.{IsPlan}
+use Rattle.om_undo.proofs.Planned.{label_is, replied_at}
 use Rattle.om_undo.proofs.Views.{changed_view}
 use Rattle.om_undo.proofs.machine.Machine.step.Goals as goal
 
@@ -29,10 +29,8 @@ returns-clause-reply c =
     label_is c.args.worker c.in_ok-start.start c.args.choice c.in_ok-start.ensures in
     let is = subst (λ (k : Label). IsPlan r c.self.inside.history k c.in_ok-plan.plan)
     (c.label-label.ensures ∙ sym same) c.in_ok-plan.ensures in
-    subst (λ (m : MachineView). IfOk c.taken.result (λ x. x ≡ reply_to_step (rules_for m) m.history l)) c.self.view_is
-    (IfOk-weaker c.taken.result _ _
-    (λ x replies. replies r is ∙ ap (reply_to_step r (history_in c.self.inside.history)) same)
-    c.taken.ensures.reply)
+    replied_at c.taken.result c.self.inside.program c.self.inside.workers c.self.inside.history c.args.self.now
+    (label_by c.args.worker c.in_ok-start.start) l c.in_ok-plan.plan c.self.view_is same is c.taken.ensures.reply
 
 pub returns-clause-after : goal.returns-clause-after
 returns-clause-after c =

@@ -1,14 +1,13 @@
 -- What was planned at the machine is the plan where its history stands.
-use Rattle.std.proofs.Common.{◌≡◌, ◌∙◌, ap, refl, subst, IfOk}
-use Rattle.std.proofs.lemmas.Result.{IfOk-weaker, on_ok_weaker}
+use Rattle.std.proofs.Common.{◌∙◌, ap, refl}
+use Rattle.std.proofs.lemmas.Result.{on_ok_weaker}
 use Rattle.om_cells.specs.declared.step.Label.{Label}
 use Rattle.om_cells.specs.Rules.{Rules}
 use Rattle.om_task.specs.Rules.{rules_of}
 use Rattle.om_history.specs.Choices.{label_by}
-use Rattle.om_history.specs.Runs.{History, reply_to_step, after_step}
+use Rattle.om_history.specs.Runs.{History, after_step}
 use Rattle.om_history.specs.Pasts.{history_in}
-use Rattle.om_undo.specs.Machines.{MachineView, rules_for}
-use Rattle.om_undo.proofs.Planned.{held_after, plan_taken}
+use Rattle.om_undo.proofs.Planned.{held_after, plan_taken, replied_at}
 use Rattle.om_undo.proofs.Views.{changed_view}
 use Rattle.om_undo.proofs.machine.Machine.take.Goals as goal
 
@@ -37,16 +36,12 @@ invariant_of-self c =
 
 pub returns-clause-reply : goal.returns-clause-reply
 returns-clause-reply c =
-    let r : Rules = rules_of c.self.inside.program c.self.inside.workers in
     let l : Label = label_by c.step.inside.worker c.step.inside.start in
     let is = plan_taken c.self.inside.program c.self.inside.workers c.self.inside.history c.args.self.now
     c.step.inside.at.value l l c.step.inside.plan c.args.step c.self.view_is
     c.self.invariant.held c.step.view_is c.requires.planned c.step.invariant refl in
-    subst (λ (m : MachineView). IfOk c.taken.result (λ x. x ≡ reply_to_step (rules_for m) m.history c.args.step.label))
-    c.self.view_is
-    (IfOk-weaker c.taken.result _ _
-    (λ x replies. replies r is.0 ∙ ap (reply_to_step r (history_in c.self.inside.history)) is.1)
-    c.taken.ensures.reply)
+    replied_at c.taken.result c.self.inside.program c.self.inside.workers c.self.inside.history c.args.self.now
+    l c.args.step.label c.step.inside.plan c.self.view_is is.1 is.0 c.taken.ensures.reply
 
 pub returns-clause-after : goal.returns-clause-after
 returns-clause-after c =
