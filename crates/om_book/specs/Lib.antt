@@ -1,3 +1,5 @@
+pub mod Books
+pub mod AddedRecords
 pub mod Replies
 pub mod Crossing
 pub mod Seats

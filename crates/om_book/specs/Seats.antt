@@ -2,7 +2,7 @@
 use Rattle.std.specs.Prelude.{◌≡◌, ℕ, zero, suc, List, [], ◌∷◌, ◌++◌}
 use Rattle.om_journal.specs.Runs.{IsReply}
 use Rattle.om_journal.specs.Journals.{IsLegal}
-use Rattle.om_journal.specs.Books.{BookView, machine_of, records_of}
+use Rattle.om_book.specs.Books.{BookView, machine_of, records_of}
 use Rattle.om_journal.specs.declared.command.Command.{Command}
 use Rattle.om_journal.specs.declared.reply.Reply.{Reply}
 use Rattle.om_book.specs.declared.receipt.Receipt.{Receipt}

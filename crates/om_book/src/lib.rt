@@ -1,11 +1,12 @@
-//! Sessions: seats that share a book under one lock, their receipts, orders, and the answers that receipts
-//! back.
+//! Books and sessions. A book is a machine with the journal of its calls. In a session seats share a book
+//! under one lock; here are their receipts, orders, and the answers that receipts back.
 //!
 //! Of answers to orders those are kept that the receipts of their seats back. The items of the journal are
 //! at this root too.
 #![tactic(auto)]
 
 mod backing;
+mod book;
 mod numbers;
 mod order;
 mod receipt;
@@ -13,10 +14,9 @@ mod rounds;
 mod session;
 
 pub use backing::{KeptAnswers, Rows, keep_backed};
+pub use book::{Book, CallError, MAX_RECORDS};
 pub use numbers::numbers_differ;
-pub use om_journal::{
-    Book, CallError, Command, JournalRecord, KeptCommand, KeptUndoReply, MAX_RECORDS, Query, Reply,
-};
+pub use om_journal::{Command, JournalRecord, KeptCommand, KeptUndoReply, Query, Reply};
 pub use order::{Answer, Fault, Order};
 pub use receipt::Receipt;
 pub use rounds::{most_rounds, order_at};

@@ -2,7 +2,8 @@
 
 ghost use Rattle.std.specs.Prelude.{◌↔◌, IsSome, IsOk};
 
-use om_journal::{CallError, Command, Reply};
+use crate::book::CallError;
+use om_journal::{Command, Reply};
 
 /// A call that a worker is told to make.
 #[derive(Clone, Copy)]

@@ -2,12 +2,13 @@
 
 ghost use Rattle.std.specs.Prelude.{◌≡◌, ℕ, ◌<◌, ◌≤◌, ◌+◌, [], ◌↔◌, IfOk, IfErr, OnOk, OnErr, IsOk, length, vec_len, sum_by, ◌^◌};
 ghost use Rattle.om_journal.specs.Runs.{IsInRange};
-ghost use Rattle.om_journal.specs.Books.{BookView, records_of, with_record, IsGrown};
+ghost use Rattle.om_book.specs.Books.{BookView, records_of, with_record, IsGrown};
 ghost use Rattle.om_book.specs.Seats.{IsAnsweredBy, seats_below, with_receipt};
 ghost use Rattle.om_book.specs.Standing.{CountsAll, Covers, AllDiffer, receipts_in};
 
+use crate::book::{Book, CallError};
 use crate::receipt::{Receipt, standing};
-use om_journal::{Book, CallError, Command, JournalRecord, KeptCommand, Reply};
+use om_journal::{Command, JournalRecord, KeptCommand, Reply};
 use std::alloc::{AllocError, Global};
 use std::marker::{Brand, Model};
 use std::sync::ledger::{Ledger, Share};
@@ -26,7 +27,7 @@ pub trait Sitting: Ledger {
 }
 
 impl Sitting for Brand {
-    ghost use Rattle.om_journal.specs.Books.{no_book};
+    ghost use Rattle.om_book.specs.Books.{no_book};
 
     ghost opened = { no_book };
 
@@ -173,7 +174,7 @@ pub struct Session<L: Sitting> {
 
 impl<L: Sitting> Model for Session<L> {
     ghost use Rattle.std.specs.Prelude.{◌≡◌};
-    ghost use Rattle.om_journal.specs.Books.{records_of};
+    ghost use Rattle.om_book.specs.Books.{records_of};
     ghost use Rattle.om_book.specs.Seats.{SessionView};
 
     ghost Value = { SessionView };

@@ -1,6 +1,6 @@
 //! The book that a session leaves.
 
-use om_journal::Book;
+use om_book::Book;
 use om_shell::{Ended, Options, run};
 use std::alloc::{AllocError, Global};
 use std::sync::Wait;

@@ -4,7 +4,7 @@ use Rattle.std.specs.Prelude.{map, codes, Contains}
 use Rattle.om_code.specs.declared.raw.Raw.{Raw}
 use Rattle.om_history.specs.Cones.{transitions}
 use Rattle.om_undo.specs.Machines.{MachineView, rules_for}
-use Rattle.om_journal.specs.Books.{BookView}
+use Rattle.om_book.specs.Books.{BookView}
 use Rattle.om_picture.specs.declared.traced.Traced.{Traced}
 use Rattle.om_picture.specs.declared.picture.StepBox.{StepBox}
 use Rattle.om_picture.specs.declared.picture.Arrow.{Arrow}

@@ -2,7 +2,7 @@
 use Rattle.std.specs.Prelude.{◌≡◌, ◌↔◌, ◌++◌, ℕ, List, [], Option, None, Some, map, codes, Contains}
 use Rattle.om_history.specs.Cones.{transitions}
 use Rattle.om_undo.specs.Machines.{MachineView, rules_for}
-use Rattle.om_journal.specs.Books.{BookView, machine_of}
+use Rattle.om_book.specs.Books.{BookView, machine_of}
 use Rattle.om_shell.specs.Files.{ReadsAll}
 use Rattle.om_shell.specs.Ends.{RunsToEnd}
 use Rattle.om_shell.specs.Progress.{moment_of}

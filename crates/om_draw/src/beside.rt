@@ -6,8 +6,8 @@ use crate::marks::push_box;
 use crate::scale::Scale;
 use crate::story::{Story, story_of};
 use crate::strokes::push_arrow;
+use om_book::Book;
 use om_code::Program;
-use om_journal::Book;
 use om_picture::{Picture, StepBox, Traced};
 use std::alloc::{AllocError, Global};
 

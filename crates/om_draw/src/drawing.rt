@@ -1,7 +1,7 @@
 //! The page of a session: it is run, and the history that it leaves is drawn.
 
 ghost use Rattle.std.specs.Prelude.{◌≡◌, ◌<◌, ◌≤◌, ◌++◌, codes, IfOk, option_copied};
-ghost use Rattle.om_journal.specs.Books.{machine_of};
+ghost use Rattle.om_book.specs.Books.{machine_of};
 ghost use Rattle.om_draw.specs.Marks.{boxes_text};
 ghost use Rattle.om_draw.specs.Strokes.{arrows_text};
 ghost use Rattle.om_draw.specs.Pages.{IsDrawing, IsPage, IsShown, Leaves};
@@ -13,8 +13,8 @@ use crate::outcome::Page;
 use crate::scale::Scale;
 use crate::strokes::push_arrows;
 use crate::style::FOOT;
+use om_book::Book;
 use om_code::Program;
-use om_journal::Book;
 use om_picture::{Picture, picture_of, trace};
 use om_shell::{Ended, Options, ShellFault, read_all, run, session_bytes};
 use std::alloc::{AllocError, Global};

@@ -4,8 +4,8 @@ use Rattle.std.proofs.Common.{sym, ◌∙◌, ap, subst, arith, append-nil, take
 use Rattle.std.proofs.lemmas.List.{drop_all}
 use Rattle.om_journal.specs.Runs.{after}
 use Rattle.om_journal.specs.Journals.{IsLegal, left_by}
-use Rattle.om_journal.specs.Books.{BookView, IsGrown, machine_of}
-use Rattle.om_journal.specs.declared.book.JournalRecord.{JournalRecord}
+use Rattle.om_book.specs.Books.{BookView, IsGrown, machine_of}
+use Rattle.om_journal.specs.declared.journal.JournalRecord.{JournalRecord}
 use Rattle.om_undo.specs.Machines.{MachineView}
 use Rattle.om_drive.specs.FreeRuns.{GoesOn, gained, with_records}
 

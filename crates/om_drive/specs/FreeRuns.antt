@@ -1,7 +1,7 @@
 -- What a free run adds to a book.
 use Rattle.std.specs.Prelude.{◌≡◌, List, ◌++◌, drop, length}
-use Rattle.om_journal.specs.declared.book.JournalRecord.{JournalRecord}
-use Rattle.om_journal.specs.Books.{BookView, machine_of}
+use Rattle.om_journal.specs.declared.journal.JournalRecord.{JournalRecord}
+use Rattle.om_book.specs.Books.{BookView, machine_of}
 use Rattle.om_journal.specs.Journals.{IsLegal}
 
 -- the records that a book has gained

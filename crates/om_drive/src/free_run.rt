@@ -8,8 +8,7 @@ ghost use Rattle.om_drive.specs.OwnCalls.{AreOwnCalls};
 
 use crate::{Fault, Freed, Gate, free};
 use core::mem::replace_with;
-use om_book::{Blank, Closed, NotOpened, Seat, Session, Sitting};
-use om_journal::Book;
+use om_book::{Blank, Book, Closed, NotOpened, Seat, Session, Sitting};
 use std::alloc::{AllocError, Global};
 use std::marker::Brand;
 use std::sync::Wait;

@@ -6,7 +6,7 @@ use Rattle.om_schedules.specs.declared.hunted.Hunted.TheVariants as hunted
 use Rattle.om_schedules.specs.Bad.{IsEnd, NothingIsBad, wanted_by}
 use Rattle.om_schedules.specs.Schedules.{schedule_text}
 use Rattle.om_schedules.specs.Texts.{text_in}
-use Rattle.om_journal.specs.Books.{BookView, machine_of}
+use Rattle.om_book.specs.Books.{BookView, machine_of}
 use Rattle.om_script.specs.Runs.{Leaves}
 
 -- The script is that of the schedule. What ompback writes for it is what was printed, and what it leaves is bad.

@@ -1,6 +1,6 @@
 pub mod Runs
 pub mod Journals
-pub mod Books
 pub mod Kept
 pub mod Histories
-pub mod AddedRecords
+pub mod Growing
+pub mod RunLeft

@@ -1,23 +1,23 @@
-//! Sessions, below the lock: a book, which is a machine with the journal of its calls, and whether two
-//! values of the machine are the same.
+//! What a journal of calls has in it: commands, replies and records; and whether two values of the
+//! machine are the same.
 #![tactic(auto)]
 
-mod book;
 mod code;
 mod command;
 mod control;
 mod event;
 mod foot;
+mod journal;
 mod kept;
 mod machine_reply;
-mod replies;
+pub mod replies;
 mod reply;
 mod same;
 mod step;
 mod value;
 
-pub use book::{Book, CallError, JournalRecord, MAX_RECORDS};
 pub use command::{Command, Query};
+pub use journal::{JournalRecord, done_in};
 pub use kept::{KeptCommand, KeptUndoReply, UndoneStep};
 pub use reply::Reply;
 pub use same::{Same, same_items};

@@ -10,26 +10,22 @@ use crate::kept::KeptUndoReply;
 use crate::reply::Reply;
 use om_seq::Seq;
 use om_undo::laws::{one_ready_list, ready_names_are_ready};
-use om_undo::{Machine, RollReply, StepReply, Taken, UndoReply};
+use om_undo::{Machine, PlannedStep, RollReply, StepReply, Taken, UndoReply};
 use std::alloc::{AllocError, Global};
 
 /// One reply, three times.
 #[derive(Drop)]
-pub(crate) struct Replies {
+pub struct Replies {
     /// For the caller.
-    pub(crate) answer: Reply,
+    pub answer: Reply,
     /// For the receipt of its seat.
-    pub(crate) receipt: Reply,
+    pub receipt: Reply,
     /// For the journal.
-    pub(crate) kept: Reply,
+    pub kept: Reply,
 }
 
 /// Does what a command asks. Its only error is out of memory, and then nothing changes.
-pub(crate) fn done(
-    alloc: Global,
-    machine: &mut Machine,
-    command: &Command,
-) -> Result<Reply, AllocError>
+pub fn done(alloc: Global, machine: &mut Machine, command: &Command) -> Result<Reply, AllocError>
     requires in_range { IsInRange machine.old.workers command.now }
     requires few_made { machine.old.history.made < 2 ^ 63 }
     ensures reply { IfOk result (λ x. IsReply machine.old command.now x) }
@@ -46,8 +42,14 @@ pub(crate) fn done(
     }
 }
 
+/// Lets a step go that was planned, and is not taken. Crates with books call this, and do not prove anew how
+/// each part of a step is dropped.
+pub fn let_go(step: PlannedStep) {
+    drop(step);
+}
+
 /// As `done`, and answers the reply three times.
-pub(crate) fn done_thrice(
+pub fn done_thrice(
     alloc: Global,
     machine: &mut Machine,
     command: &Command,
@@ -81,7 +83,7 @@ fn stepped(reply: &StepReply) -> Replies
 
 /// Takes a worker's last step back. Only an undo that is refused, and so changes nothing, asks for memory.
 #[tactic(auto, using(crate::proofs::Undos::refused_same))]
-pub(crate) fn undo(alloc: Global, machine: &mut Machine, worker: u8) -> Result<Reply, AllocError>
+pub fn undo(alloc: Global, machine: &mut Machine, worker: u8) -> Result<Reply, AllocError>
     requires { worker < machine.old.workers }
     ensures reply { IfOk result (λ x. IsReply machine.old (Command.Undo worker) x) }
     ensures after { OnOk result (machine.new ≡ after machine.old (Command.Undo worker)) }

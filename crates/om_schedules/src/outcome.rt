@@ -2,12 +2,12 @@
 
 ghost use Rattle.std.specs.Prelude.{◌≡◌, IfOk};
 ghost use Rattle.std.specs.Option.{option_copied};
-ghost use Rattle.om_journal.specs.Books.{machine_of};
+ghost use Rattle.om_book.specs.Books.{machine_of};
 ghost use Rattle.om_schedules.specs.Bad.{EndsWith, wanted_by};
 ghost use Rattle.om_schedules.specs.Texts.{text_in};
 
 use crate::judge::{Badness, Wanted, output};
-use om_journal::Book;
+use om_book::Book;
 use om_undo::Machine;
 use std::alloc::{AllocError, Global};
 

@@ -2,7 +2,7 @@
 use Rattle.std.proofs.Common.{◌≡◌, ℕ, List, [], ◌++◌, Option, None, Some, IfSome, refl, sym, ap, subst, ◌∙◌, append-nil, inl, inr}
 use Rattle.std.specs.Io.KnownBytes.{Appends, Consumes}
 use Rattle.std.specs.Str.Lines.{lines}
-use Rattle.om_journal.specs.Books.{BookView}
+use Rattle.om_book.specs.Books.{BookView}
 use Rattle.om_shell.specs.Ends.{RunsToEnd}
 use Rattle.om_shell.specs.Files.{ReadsAll}
 use Rattle.om_shell.specs.Progress.{moment_of}

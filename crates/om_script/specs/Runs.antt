@@ -1,7 +1,7 @@
 -- What a run of the debugger over a source and commands writes, and the book that it leaves.
 use Rattle.std.specs.Prelude.{◌≡◌, ℕ, List, Option, Some}
 use Rattle.om_cells.specs.declared.step.Entry.{Entry}
-use Rattle.om_journal.specs.Books.{BookView, machine_of}
+use Rattle.om_book.specs.Books.{BookView, machine_of}
 use Rattle.om_shell.specs.Script.{IsScript, book_of}
 use Rattle.om_shell.specs.Transcript.{Transcript}
 use Rattle.om_view.specs.declared.debugger.Debugger.{Debugger}

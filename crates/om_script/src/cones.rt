@@ -2,16 +2,16 @@
 
 ghost use Rattle.std.specs.Prelude.{◌≡◌, ◌<◌, ◌≤◌, ◌++◌, Some, map, reverse, IfOk, OnOk, IfSome};
 ghost use Rattle.std.specs.Option.{option_copied};
-ghost use Rattle.om_journal.specs.Books.{machine_of};
+ghost use Rattle.om_book.specs.Books.{machine_of};
 ghost use Rattle.om_command.specs.Lists.{joined, roll_text};
 ghost use Rattle.om_script.specs.Cones.{cone_line, cone_text, IsConeOf};
 ghost use Rattle.om_script.specs.Sessions.{IsConeFor};
 
 use crate::answer::{Script, ScriptFault};
 use crate::run::{Ran, run_over};
+use om_book::Book;
 use om_command::{push_numbered, push_roll};
 use om_history::{RollReply, Taken};
-use om_journal::Book;
 use om_shell::{Options, SessionBytes, read_all, session_bytes};
 use std::alloc::{AllocError, Global};
 use std::io::Read;

@@ -3,7 +3,7 @@
 ghost use Rattle.std.specs.Prelude.{◌<◌, ◌≤◌, IfOk};
 ghost use Rattle.om_script.specs.Runs.{IsRun};
 
-use om_journal::Book;
+use om_book::Book;
 use om_shell::{Options, ShellFault, run};
 use std::alloc::Global;
 use std::sync::Wait;

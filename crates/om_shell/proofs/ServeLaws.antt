@@ -6,7 +6,7 @@ use Rattle.om_lexer.specs.declared.fault.FaultCode.TheVariants.{Memory}
 use Rattle.om_lexer.specs.declared.fault.SourceFault.{SourceFault}
 use Rattle.om_lexer.specs.Faults.{no_memory}
 use Rattle.om_code.specs.declared.raw.Raw.{Raw}
-use Rattle.om_journal.specs.Books.{BookView}
+use Rattle.om_book.specs.Books.{BookView}
 use Rattle.om_view.specs.declared.debugger.Debugger.{Debugger}
 use Rattle.om_view.specs.Freed.{FreeRun}
 use Rattle.om_shell.specs.declared.fault.ShellFault.{ShellFault}

@@ -1,7 +1,7 @@
 //! How a run ended.
 ghost use Rattle.std.specs.Prelude.{◌≡◌, None, Some};
 
-use om_journal::Book;
+use om_book::Book;
 
 // The exit status after an accepted source, and after a refused one.
 const ACCEPTED: u8 = 0;

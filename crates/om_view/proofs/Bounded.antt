@@ -26,11 +26,11 @@ use Rattle.om_undo.specs.PlannedSteps.{PlannedView, is_made, planned_at}
 use Rattle.om_view.specs.declared.marks.Marks.{Marks}
 use Rattle.om_view.specs.declared.runs.Moved.{Moved}
 use Rattle.om_view.specs.Moves.{goes_on, steps_within, undoes_within, next_within, back_within}
-use Rattle.om_journal.specs.Books.{BookView, is_full, machine_of}
+use Rattle.om_book.specs.Books.{BookView, is_full, machine_of}
 use Rattle.om_journal.specs.Journals.{IsLegal}
 use Rattle.om_journal.specs.Runs.{after, is_step_made, reply_to}
-use Rattle.om_journal.specs.declared.book.JournalRecord.{JournalRecord}
-use Rattle.om_journal.specs.AddedRecords.{left_by-snoc}
+use Rattle.om_journal.specs.declared.journal.JournalRecord.{JournalRecord}
+use Rattle.om_journal.specs.Growing.{left_by-snoc}
 use Rattle.om_journal.specs.declared.command.Command.TheVariants as call
 use Rattle.om_journal.specs.declared.command.Query.{Query}
 use Rattle.om_journal.specs.declared.reply.Reply.TheVariants as reply

@@ -5,7 +5,7 @@ use Rattle.om_cells.specs.declared.step.Label.{Label}
 use Rattle.om_history.specs.declared.reply.StepReply.{StepReply}
 use Rattle.om_history.specs.declared.reply.UndoReply.{UndoReply}
 use Rattle.om_history.specs.Runs.{reply_to_step, reply_to_undo}
-use Rattle.om_journal.specs.Books.{BookView, machine_of, with_record}
+use Rattle.om_book.specs.Books.{BookView, machine_of, with_record}
 use Rattle.om_journal.specs.declared.command.Command.{Command}
 use Rattle.om_journal.specs.declared.command.Command.TheVariants as call
 use Rattle.om_journal.specs.Runs.{reply_to}

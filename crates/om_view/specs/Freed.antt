@@ -3,10 +3,10 @@ use Rattle.std.specs.Prelude.{◌≡◌, ℕ, Bool, true, false, cond, List, [],
 use Rattle.std.specs.List.{AllByRecursion}
 use Rattle.om_drive.specs.FreeRuns.{with_records}
 use Rattle.om_drive.specs.OwnCalls.{is_own_call}
-use Rattle.om_journal.specs.Books.{BookView, machine_of}
+use Rattle.om_book.specs.Books.{BookView, machine_of}
 use Rattle.om_journal.specs.Journals.{done_in}
 use Rattle.om_journal.specs.Runs.{after, reply_to}
-use Rattle.om_journal.specs.declared.book.JournalRecord.{JournalRecord}
+use Rattle.om_journal.specs.declared.journal.JournalRecord.{JournalRecord}
 use Rattle.om_journal.specs.declared.command.Command.{Command}
 use Rattle.om_command.specs.Steps.{full_text}
 use Rattle.om_command.specs.Stops.{freed_text}

@@ -14,7 +14,7 @@ use Rattle.om_command.specs.Values.{local_text, print_text}
 use Rattle.om_task.specs.Rules.{line_in}
 use Rattle.om_undo.specs.Machines.{MachineView, state_in}
 use Rattle.om_undo.specs.ReadyNames.{ready_names}
-use Rattle.om_journal.specs.Books.{BookView, machine_of}
+use Rattle.om_book.specs.Books.{BookView, machine_of}
 use Rattle.om_journal.specs.declared.command.Command.TheVariants as call
 use Rattle.om_journal.specs.declared.command.Query.{Query}
 use Rattle.om_journal.specs.declared.command.Query.TheVariants as query

@@ -5,7 +5,7 @@ use Rattle.om_cells.specs.declared.step.Choice.TheVariants.{Next}
 use Rattle.om_history.specs.declared.reply.UndoReply.{UndoReply}
 use Rattle.om_history.specs.declared.reply.UndoReply.TheVariants as undo_reply
 use Rattle.om_history.specs.Cones.{reply_to_roll}
-use Rattle.om_journal.specs.Books.{BookView, machine_of}
+use Rattle.om_book.specs.Books.{BookView, machine_of}
 use Rattle.om_journal.specs.Runs.{is_step_made}
 use Rattle.om_journal.specs.declared.command.Command.TheVariants as call
 use Rattle.om_journal.specs.declared.reply.Reply.TheVariants as reply

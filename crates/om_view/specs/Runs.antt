@@ -17,7 +17,7 @@ use Rattle.om_view.specs.declared.marks.Marks.{Marks}
 use Rattle.om_view.specs.declared.runs.Moved.{Moved}
 use Rattle.om_view.specs.declared.runs.Moved.TheVariants as moved
 use Rattle.om_undo.specs.ReadyNames.{ready_names}
-use Rattle.om_journal.specs.Books.{BookView, is_full, machine_of}
+use Rattle.om_book.specs.Books.{BookView, is_full, machine_of}
 use Rattle.om_journal.specs.Runs.{is_step_made}
 use Rattle.om_journal.specs.declared.reply.Reply.TheVariants as reply
 use Rattle.om_view.specs.Calls.{label_of, step_reply_of, with_step}

@@ -1,6 +1,6 @@
 -- What a command says, and what it leaves of the book.
 use Rattle.std.specs.Prelude.{ℕ, List, cond}
-use Rattle.om_journal.specs.Books.{BookView, is_full}
+use Rattle.om_book.specs.Books.{BookView, is_full}
 use Rattle.om_command.specs.Steps.{full_text}
 
 pub record Said : Type 0 where

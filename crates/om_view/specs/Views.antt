@@ -25,7 +25,7 @@ use Rattle.om_view.specs.Looks.{local_said, print_said, where_said, history_said
 use Rattle.om_view.specs.Locals.{seen_by}
 use Rattle.om_view.specs.Marked.{with_break, with_watch, without_break}
 use Rattle.om_view.specs.Moves.{step_said, undo_said, next_said, back_said, roll_said}
-use Rattle.om_journal.specs.Books.{machine_of}
+use Rattle.om_book.specs.Books.{machine_of}
 use Rattle.om_journal.specs.Runs.{fresh}
 use Rattle.om_view.specs.Runs.{run_within}
 use Rattle.om_view.specs.Said.{Said}

@@ -3,7 +3,7 @@
 ghost use Rattle.std.specs.Prelude.{◌≡◌, ◌<◌, ℕ, IfOk, OnOk};
 ghost use Rattle.om_foot.specs.declared.object.Obj.{Obj};
 ghost use Rattle.om_history.specs.Cones.{reply_to_roll};
-ghost use Rattle.om_journal.specs.Books.{BookView, machine_of, records_of};
+ghost use Rattle.om_book.specs.Books.{BookView, machine_of, records_of};
 ghost use Rattle.om_journal.specs.Runs.{IsInRange, reply_to};
 ghost use Rattle.om_journal.specs.declared.command.Command.{Command as Asked};
 ghost use Rattle.om_journal.specs.declared.command.Query.TheVariants as query;
@@ -11,9 +11,10 @@ ghost use Rattle.om_undo.specs.Machines.{rules_for, state_in};
 ghost use Rattle.om_undo.specs.ReadyNames.{ready_names};
 ghost use Rattle.om_view.specs.Calls.{label_of, step_reply_of, undo_reply_of, with_call, with_step};
 
+use om_book::{Book, CallError};
 use om_cells::Val;
 use om_foot::Name;
-use om_journal::{Book, CallError, Command, KeptUndoReply, Reply};
+use om_journal::{Command, KeptUndoReply, Reply};
 use om_seq::Seq;
 use om_task::Choice;
 use om_undo::{Entry, PlannedStep, RollReply, StepReply};

@@ -14,12 +14,12 @@ use crate::marks::Marks;
 use crate::moves::{back, next, roll, start, step, undo};
 use crate::runs::run;
 use crate::variable::cell_of;
+use om_book::Book;
 use om_code::Program;
 use om_command::{
     Command, CommandFault, Request, Variable, push_break, push_command_fault, push_deleted,
     push_watch, request_of,
 };
-use om_journal::Book;
 use om_seq::Seq;
 use std::alloc::{AllocError, Global};
 use std::sync::Wait;

@@ -3,9 +3,9 @@
 ghost use Rattle.std.specs.Prelude.{◌≡◌, ◌++◌, OnOk};
 ghost use Rattle.om_view.specs.Freed.{FreeRun, free_said};
 
+use om_book::Book;
 use om_command::{push_freed, push_full};
 use om_drive::{Errand, run_freely};
-use om_journal::Book;
 use std::alloc::{AllocError, Global};
 use std::sync::Wait;
 use std::thread::Threads;

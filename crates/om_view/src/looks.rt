@@ -11,6 +11,7 @@ ghost use Rattle.om_cells.specs.Values.{control_in};
 ghost use Rattle.om_view.specs.Looks.{local_said, print_said, where_said, history_said, events_said, output_said, directive_line, ready_line, tasks_text, tasks_said};
 
 use crate::calls::{call, entries_told, names_told, value_told};
+use om_book::Book;
 use om_cells::value::Task;
 use om_cells::{Control, Val};
 use om_code::Program;
@@ -19,7 +20,7 @@ use om_command::{
     push_output, push_print, push_task, push_where,
 };
 use om_foot::{Name, Obj};
-use om_journal::{Book, Command, Query};
+use om_journal::{Command, Query};
 use om_lookup::line_of;
 use om_undo::Machine;
 use std::alloc::{AllocError, Global};

@@ -5,14 +5,15 @@ ghost use Rattle.om_cells.specs.declared.step.Choice.TheVariants as choices;
 ghost use Rattle.om_command.specs.Steps.{undo_text};
 ghost use Rattle.om_view.specs.Looks.{line_at};
 ghost use Rattle.om_journal.specs.declared.reply.Reply.TheVariants as replies;
-ghost use Rattle.om_journal.specs.Books.{machine_of};
+ghost use Rattle.om_book.specs.Books.{machine_of};
 ghost use Rattle.om_journal.specs.Runs.{is_step_made};
 ghost use Rattle.om_view.specs.Moves.{goes_on, is_undone, step_said, undo_said, next_within, next_said, back_within, back_said, roll_said};
 
 use crate::calls;
+use om_book::Book;
 use om_code::Program;
 use om_command::{TaskName, push_full, push_roll, push_step, push_undo, push_undone};
-use om_journal::{Book, Command, KeptUndoReply};
+use om_journal::{Command, KeptUndoReply};
 use om_task::Choice;
 use om_undo::{Machine, StepReply};
 use std::alloc::{AllocError, Global};

@@ -5,15 +5,15 @@ ghost use Rattle.std.specs.Option.{option_copied};
 ghost use Rattle.om_live.specs.Stores.{plain_or_idle};
 ghost use Rattle.om_undo.specs.ReadyNames.{ready_names};
 ghost use Rattle.om_command.specs.Stops.{ran_text};
-ghost use Rattle.om_journal.specs.Books.{machine_of};
+ghost use Rattle.om_book.specs.Books.{machine_of};
 ghost use Rattle.om_view.specs.Calls.{label_of};
 ghost use Rattle.om_undo.specs.Machines.{state_in};
 ghost use Rattle.om_view.specs.Runs.{can_step, planned_if, planned_for, planned_move, start_among, move_of, move_among, first_move, has_ended, stop_without_move, moved_by, behind_move, moved_of, after_move, run_within};
 
 use crate::marks::Marks;
 use crate::stops::step_and_stop;
+use om_book::Book;
 use om_command::{Stop, push_full, push_ran};
-use om_journal::Book;
 use om_live::Control;
 use om_task::Choice;
 use om_task::laws::starts_at_scheduling_points;

@@ -3,15 +3,15 @@
 ghost use Rattle.std.specs.Prelude.{◌≡◌, ◌<◌, ◌≤◌, nat_le, map, IfOk, OnOk};
 ghost use Rattle.om_undo.specs.Machines.{state_in};
 ghost use Rattle.om_view.specs.Looks.{line_at};
-ghost use Rattle.om_journal.specs.Books.{machine_of, records_of};
+ghost use Rattle.om_book.specs.Books.{machine_of, records_of};
 ghost use Rattle.om_view.specs.Calls.{with_step};
 ghost use Rattle.om_view.specs.Stops.{or_else, fault_stop, break_stop, cell_eq, value_of, watched, watch_stop, stop_behind};
 
 use crate::calls::take;
 use crate::marks::{Marks, has_line};
+use om_book::Book;
 use om_code::frame::Cell;
 use om_command::{GlobalCell, Stop};
-use om_journal::Book;
 use om_undo::{Machine, PlannedStep, StepReply};
 use std::alloc::{AllocError, Global};
 

@@ -1,5 +1,5 @@
 use Rattle.std.proofs.lemmas.Result.{IfOk-weaker}
-use Rattle.om_journal.specs.Books.{machine_of}
+use Rattle.om_book.specs.Books.{machine_of}
 use Rattle.om_draw.proofs.Drawings.{drawing_of}
 use Rattle.om_draw.proofs.drawing.drawn.Goals as goal
 

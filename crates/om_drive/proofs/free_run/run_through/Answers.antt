@@ -1,7 +1,7 @@
 use Rattle.std.proofs.Common.{◌≡◌, None, arith, length}
 use Rattle.std.proofs.lemmas.Bool.Decides.{nat_tests}
 use Rattle.std.proofs.lemmas.Result.{IfOk-weaker}
-use Rattle.om_journal.specs.Books.{IsGrown}
+use Rattle.om_book.specs.Books.{IsGrown}
 use Rattle.om_book.specs.Standing.{Covers}
 use Rattle.om_drive.specs.FreeRuns.{gained}
 use Rattle.om_drive.specs.OwnCalls.{AreOwnCalls}

@@ -1,7 +1,7 @@
 use Rattle.std.proofs.Common.{◌≡◌, subst}
 use Rattle.std.specs.Prelude.{Result, OnOk}
 use Rattle.om_cells.specs.declared.step.Label.{Label}
-use Rattle.om_journal.specs.Books.{BookView}
+use Rattle.om_book.specs.Books.{BookView}
 use Rattle.om_undo.specs.Machines.{MachineView}
 use Rattle.om_undo.specs.PlannedSteps.{PlannedView, planned_at}
 use Rattle.om_view.specs.Calls.{label_of, with_step}

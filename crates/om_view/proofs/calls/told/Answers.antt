@@ -1,8 +1,8 @@
 use Rattle.std.proofs.Common.{◌≡◌, ◌∙◌, ap, sym, subst, ◌<◌}
-use Rattle.om_journal.specs.Books.{BookView, last_reply, records_of}
+use Rattle.om_book.specs.Books.{BookView, last_reply, records_of}
 use Rattle.om_journal.specs.Runs.{reply_to}
-use Rattle.om_journal.specs.Books.{machine_of}
-use Rattle.om_journal.specs.AddedRecords.{last_of_record, some_record}
+use Rattle.om_book.specs.Books.{machine_of}
+use Rattle.om_book.specs.AddedRecords.{last_of_record, some_record}
 use Rattle.om_view.proofs.Bounded.{some_same}
 use Rattle.om_view.proofs.calls.told.Goals as goal
 

@@ -1,7 +1,7 @@
 use Rattle.std.proofs.Common.{◌≡◌, ◌∙◌, ◌++◌, Bool, true, false, ap, map}
 use Rattle.std.proofs.lemmas.Result.{on_ok_weaker}
 use Rattle.om_drive.specs.FreeRuns.{gained, with_records}
-use Rattle.om_journal.specs.Books.{machine_of}
+use Rattle.om_book.specs.Books.{machine_of}
 use Rattle.om_journal.specs.Journals.{done_in}
 use Rattle.om_command.specs.Stops.{freed_text}
 use Rattle.om_view.specs.Freed.{FreeRun, made_by}

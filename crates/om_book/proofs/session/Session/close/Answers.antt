@@ -1,6 +1,6 @@
 use Rattle.std.proofs.Common.{◌≡◌, ◌+◌, ◌-◌, length, sum_by, arith, sym}
 use Rattle.std.proofs.lemmas.Grind.{common_steps}
-use Rattle.om_journal.specs.Books.{records_of}
+use Rattle.om_book.specs.Books.{records_of}
 use Rattle.om_book.specs.Standing.{CountsAll, receipts_in}
 use Rattle.om_book.proofs.Pigeons.{covers}
 use Rattle.om_book.proofs.session.Session.close.Goals as goal

@@ -1,6 +1,6 @@
 use Rattle.std.proofs.Common.{◌≡◌, ◌≤◌, ◌+◌, drop}
 use Rattle.om_journal.specs.Journals.{done_in}
-use Rattle.om_journal.proofs.book.done_in.Given as goal
+use Rattle.om_journal.proofs.journal.done_in.Given as goal
 
 abbrev pub invariant-loop-answered : goal.invariant-loop-answered
 invariant-loop-answered l = record {

@@ -1,9 +1,9 @@
 use Rattle.std.proofs.Common.{rules, refl, subst, sym, ◌<◌, length}
-use Rattle.om_journal.specs.Books.{BookView}
+use Rattle.om_book.specs.Books.{BookView}
 use Rattle.om_journal.specs.Runs.{reply_to}
-use Rattle.om_journal.proofs.Growing.{sound_next, sound_same}
-use Rattle.om_journal.proofs.book.Book.call.Goals.{in-Ok, in-Err}
-use Rattle.om_journal.proofs.book.Book.call.Goals as goal
+use Rattle.om_journal.specs.Growing.{sound_next, sound_same}
+use Rattle.om_book.proofs.book.Book.call.Goals.{in-Ok, in-Err}
+use Rattle.om_book.proofs.book.Book.call.Goals as goal
 
 pub invariant_of-self : goal.invariant_of-self
 invariant_of-self c =

@@ -1,8 +1,8 @@
 use Rattle.std.proofs.Common.{rules, subst, sym, ◌<◌, length}
-use Rattle.om_journal.specs.Books.{BookView}
-use Rattle.om_journal.proofs.Growing.{sound_next, sound_same}
-use Rattle.om_journal.proofs.book.Book.apply_with_copy.Goals.{in-Ok, in-Err}
-use Rattle.om_journal.proofs.book.Book.apply_with_copy.Goals as goal
+use Rattle.om_book.specs.Books.{BookView}
+use Rattle.om_journal.specs.Growing.{sound_next, sound_same}
+use Rattle.om_book.proofs.book.Book.apply_with_copy.Goals.{in-Ok, in-Err}
+use Rattle.om_book.proofs.book.Book.apply_with_copy.Goals as goal
 
 pub invariant_of-self : goal.invariant_of-self
 invariant_of-self c =

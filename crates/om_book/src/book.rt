@@ -1,53 +1,24 @@
 //! The book: a machine beside the journal of all calls that it answered.
 
-ghost use Rattle.std.specs.Prelude.{◌≡◌, ◌<◌, ◌≤◌, ◌+◌, ◌^◌, ◌++◌, ◌∷◌, [], ◌↔◌, IfOk, IfErr, OnOk, OnErr, drop, length, vec_capacity, Some};
+ghost use Rattle.std.specs.Prelude.{◌≡◌, ◌<◌, ◌≤◌, ◌^◌, ◌++◌, ◌∷◌, [], ◌↔◌, IfOk, IfErr, OnOk, OnErr, drop, length, vec_capacity, Some};
 ghost use Rattle.om_journal.specs.Runs.{IsInRange, IsReply, after, fresh, reply_to, step_command};
 ghost use Rattle.om_journal.specs.Journals.{IsLegal, IsSound, done_in};
-ghost use Rattle.om_journal.specs.Books.{is_full, last_reply, machine_of, records_of, with_record};
 ghost use Rattle.om_journal.specs.Histories.{told_in};
+ghost use Rattle.om_book.specs.Books.{is_full, last_reply, machine_of, records_of, with_record};
 ghost use Rattle.om_history.specs.Commands.{run};
 ghost use Rattle.om_history.specs.Runs.{reply_to_step};
 ghost use Rattle.om_undo.specs.Machines.{rules_for};
 
-use crate::command::Command;
-use crate::kept::KeptCommand;
-use crate::replies::{done, done_thrice, undo};
-use crate::reply::Reply;
 use om_code::Program;
+use om_journal::replies::{done, done_thrice, let_go, undo};
+use om_journal::{Command, JournalRecord, KeptCommand, Reply, done_in};
 use om_undo::{Machine, PlannedStep, StepReply};
 use std::alloc::{AllocError, Global};
 use std::marker::Model;
-use std::mem::size_of;
 use std::snapshot::Snapshot;
 
 /// How many records there are at most.
 pub const MAX_RECORDS: u64 = 200_000;
-
-/// A call that was answered.
-pub struct JournalRecord {
-    /// The number of the seat that made it, from 0.
-    pub seat: u8,
-    /// What was asked.
-    pub command: KeptCommand,
-    /// What was answered.
-    pub reply: Reply,
-}
-
-// By hand: crates above call this, and do not prove anew how each part is dropped.
-impl Drop for JournalRecord {
-    fn drop(self) {
-        let JournalRecord {
-            seat: _,
-            command,
-            reply,
-        } = self;
-        drop(command);
-        drop(reply);
-    }
-}
-
-// There are up to 200,000 of them.
-const _: () = prove!(size_of::<JournalRecord>() <= 100);
 
 /// Why a call was not made. It has then changed nothing.
 #[derive(Clone, Copy)]
@@ -83,7 +54,7 @@ impl Drop for Book {
 }
 
 impl Model for Book {
-    ghost use Rattle.om_journal.specs.Books.{BookView};
+    ghost use Rattle.om_book.specs.Books.{BookView};
     ghost use Rattle.om_journal.specs.Journals.{IsSound};
 
     ghost Value = { BookView };
@@ -218,7 +189,7 @@ impl Book {
         ensures room { OnOk result (records_of self.old < 200000) }
     {
         if let Err(error) = self.has_room() {
-            drop(step);
+            let_go(step);
             return Err(error);
         }
         match append_step(alloc, &mut self.machine, &mut self.journal, seat, step) {
@@ -352,7 +323,7 @@ fn append_step(
     ensures unchanged_journal { OnErr result (journal.new.items ≡ journal.old.items) }
 {
     let Ok(asked) = prepared(alloc, journal, &step) else {
-        drop(step);
+        let_go(step);
         return Err(AllocError);
     };
     let reply = machine.take(alloc, step)?;
@@ -421,18 +392,4 @@ fn append_thrice(
         reply: replies.kept,
     });
     Ok((replies.answer, replies.receipt))
-}
-
-/// How many steps the calls of a journal made.
-fn done_in(journal: &[JournalRecord]) -> u64
-    ensures made { result ≡ done_in journal.now }
-    ensures most { result ≤ length journal.now }
-{
-    let mut made = 0;
-    for answered in journal {
-        if answered.reply.is_step_made() {
-            made += 1;
-        }
-    }
-    made
 }

@@ -1,4 +1,4 @@
--- A journal that grows by one record.
+-- Matter of proofs, for crates with books: a journal that grows by one record.
 use Rattle.std.specs.Prelude.{◌≡◌, ◌≤◌, ◌<◌, ◌+◌, ℕ, List, [], ◌∷◌, ◌++◌, length, refl, Option, Some, None}
 use Rattle.std.proofs.Common.{sym, ◌∙◌, ◌-◌, ap, subst, arith, take, drop, take_all, length-append, length-drop}
 use Rattle.om_cells.specs.declared.step.Entry.{Entry}
@@ -15,10 +15,14 @@ use Rattle.om_undo.specs.Machines.{MachineView, rules_for}
 use Rattle.om_journal.specs.declared.command.Command.{Command}
 use Rattle.om_journal.specs.declared.command.Command.TheVariants as command
 use Rattle.om_journal.specs.declared.reply.Reply.{Reply}
-use Rattle.om_journal.specs.declared.book.JournalRecord.{JournalRecord}
-use Rattle.om_journal.specs.AddedRecords.{left_by-snoc}
+use Rattle.om_journal.specs.declared.journal.JournalRecord.{JournalRecord}
 use Rattle.om_journal.specs.Runs.{IsReply, after, history_behind}
 use Rattle.om_journal.specs.Journals.{IsLegal, IsSound, left_by}
+
+pub left_by-snoc : (m : MachineView) (rs : List JournalRecord) (r : JournalRecord)
+    → left_by m (rs ++ r ∷ []) ≡ after (left_by m rs) r.command
+left_by-snoc m [] r = refl
+left_by-snoc m (x ∷ xs) r = left_by-snoc (after m x.command) xs r
 
 made_with : (h : History) (e : Entry) (o : Outcome) → (history_with h e o).made ≤ h.made + 1
 made_with h e (outcome.Updates us) = omega arith

@@ -1,8 +1,8 @@
 use Rattle.std.proofs.Common.{◌∙◌, ap, drop}
-use Rattle.om_journal.specs.Books.{BookView}
+use Rattle.om_book.specs.Books.{BookView}
 use Rattle.om_journal.specs.Journals.{done_in}
-use Rattle.om_journal.proofs.Growing.{slice_to_end}
-use Rattle.om_journal.proofs.book.Book.steps_behind.Goals as goal
+use Rattle.om_journal.specs.Growing.{slice_to_end}
+use Rattle.om_book.proofs.book.Book.steps_behind.Goals as goal
 
 pub returns : goal.returns
 returns c = c.done_in.ensures.made ∙ ap done_in (slice_to_end c.as_slice.result.now c.args.calls)

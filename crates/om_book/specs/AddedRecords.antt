@@ -1,20 +1,12 @@
--- Matter of proofs, for om_view too: what is left behind a record that is added, and its reply.
+-- Matter of proofs, for om_view too: the reply of a record that is added to a book.
 use Rattle.std.specs.Prelude.{◌≡◌, ◌<◌, ◌+◌, ℕ, List, [], ◌∷◌, ◌++◌, length, option_map, refl, Some}
 use Rattle.std.proofs.Common.{sym, ◌-◌, ap, arith, length-append}
 use Rattle.std.proofs.lemmas.List.{get_or_push}
 use Rattle.std.proofs.lemmas.Option.{slice_get_read}
-use Rattle.om_undo.specs.Machines.{MachineView}
 use Rattle.om_journal.specs.declared.command.Command.{Command}
 use Rattle.om_journal.specs.declared.reply.Reply.{Reply}
-use Rattle.om_journal.specs.declared.book.JournalRecord.{JournalRecord}
-use Rattle.om_journal.specs.Books.{BookView, last_reply, records_of, with_record}
-use Rattle.om_journal.specs.Runs.{after}
-use Rattle.om_journal.specs.Journals.{left_by}
-
-pub left_by-snoc : (m : MachineView) (rs : List JournalRecord) (r : JournalRecord)
-    → left_by m (rs ++ r ∷ []) ≡ after (left_by m rs) r.command
-left_by-snoc m [] r = refl
-left_by-snoc m (x ∷ xs) r = left_by-snoc (after m x.command) xs r
+use Rattle.om_journal.specs.declared.journal.JournalRecord.{JournalRecord}
+use Rattle.om_book.specs.Books.{BookView, last_reply, records_of, with_record}
 
 -- the last reply is that of the record that was added
 pub some_record : (b : BookView) (seat : ℕ) (c : Command) (x : Reply) → 0 < records_of (with_record b seat c x)

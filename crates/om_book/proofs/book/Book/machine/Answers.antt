@@ -1,6 +1,6 @@
 use Rattle.std.proofs.Common.{rules, ◌≡◌}
-use Rattle.om_journal.proofs.Histories.{sound_run}
-use Rattle.om_journal.proofs.book.Book.machine.Goals as goal
+use Rattle.om_journal.specs.RunLeft.{sound_run}
+use Rattle.om_book.proofs.book.Book.machine.Goals as goal
 
 pub returns-clause-run : goal.returns-clause-run
 returns-clause-run c =

@@ -1,10 +1,10 @@
--- What a journal leaves is the run of its steps, undos and rolls.
+-- Matter of proofs, for crates with books: what a journal leaves is the run of its steps, undos and rolls.
 use Rattle.std.specs.Prelude.{◌≡◌, List, [], ◌∷◌, ◌++◌, refl}
 use Rattle.std.proofs.Common.{◌∙◌, ap}
 use Rattle.om_history.specs.Commands as told
 use Rattle.om_history.specs.Commands.{run}
 use Rattle.om_undo.specs.Machines.{MachineView, rules_for}
-use Rattle.om_journal.specs.declared.book.JournalRecord.{JournalRecord}
+use Rattle.om_journal.specs.declared.journal.JournalRecord.{JournalRecord}
 use Rattle.om_journal.specs.declared.command.Command.{Command}
 use Rattle.om_journal.specs.declared.command.Command.TheVariants as command
 use Rattle.om_journal.specs.Runs.{after, history_behind}
