@@ -7,15 +7,14 @@ ghost use Rattle.om_history.specs.Runs.{label_of};
 ghost use Rattle.om_history.specs.Cones.{transitions};
 ghost use Rattle.om_history.specs.Pasts.{past_in, IsHeld};
 ghost use Rattle.om_undo.specs.Machines.{rules_for, IsPlan};
-ghost use Rattle.om_picture.specs.Pictures.{transition_of};
-ghost use Rattle.om_picture.specs.Traces.{CanReplay, CanBeMade, footprint_for, transition_for, IsLonger};
+ghost use Rattle.om_traces.specs.Traces.{transition_of, CanReplay, CanBeMade, footprint_for, transition_for, IsLonger};
 
-use crate::traced::Traced;
 use crate::words::{Spoken, Words};
 use om_cells::{Footprint, Label};
 use om_code::Program;
 use om_foot::{Access, Mode, Obj};
 use om_history::History;
+use om_picture::Traced;
 use om_seq::Seq;
 use om_task::laws::low_counters;
 use om_task::start::started;

@@ -7,7 +7,7 @@ use Rattle.om_cells.specs.Rules.{replay}
 use Rattle.om_task.specs.Rules.{rules_of}
 use Rattle.om_history.specs.Runs.{label_of}
 use Rattle.om_undo.specs.Machines.{MachineView, rules_for, state_in}
-use Rattle.om_picture.specs.Traces.{CanReplay}
+use Rattle.om_traces.specs.Traces.{CanReplay}
 
 -- a machine's entries can be made in turn
 pub all_replay : (m : MachineView) (program : Raw) (workers : ℕ) (es : List Entry) → program ≡ m.program

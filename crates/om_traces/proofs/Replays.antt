@@ -32,8 +32,7 @@ use Rattle.om_history.specs.Records.{entries_of, ReplaysTo}
 use Rattle.om_history.specs.Pasts.{past_in, history_in, IsHeld, IsPlanned, IsReplay, step_for}
 use Rattle.om_undo.specs.Machines.{IsPlan, PlansAt}
 use Rattle.om_picture.specs.declared.traced.Traced.{Traced}
-use Rattle.om_picture.specs.Pictures.{transition_of}
-use Rattle.om_picture.specs.Traces.{CanBeMade, footprint_for, transition_for, IsLonger, IsRemade}
+use Rattle.om_traces.specs.Traces.{transition_of, CanBeMade, footprint_for, transition_for, IsLonger, IsRemade}
 
 -- ---- a plan, and the step that it stands for
 

@@ -1,5 +1,5 @@
-use Rattle.om_picture.proofs.Replays.{is_planned, has_room}
-use Rattle.om_picture.proofs.replay.remade.Goals as goal
+use Rattle.om_traces.proofs.Replays.{is_planned, has_room}
+use Rattle.om_traces.proofs.replay.remade.Goals as goal
 
 pub take-requires-clause-room : goal.take-requires-clause-room
 take-requires-clause-room c = has_room c.requires.planned.0 c.args.history.now c.args.label.now c.args.plan

@@ -1,6 +1,6 @@
 use Rattle.std.proofs.Common.{◌∙◌}
-use Rattle.om_picture.proofs.Entries.{all_replay}
-use Rattle.om_picture.proofs.replay.trace.Goals as goal
+use Rattle.om_traces.proofs.Entries.{all_replay}
+use Rattle.om_traces.proofs.replay.trace.Goals as goal
 
 pub retraced-requires-clause-replayed : goal.retraced-requires-clause-replayed
 retraced-requires-clause-replayed c =

@@ -1,7 +1,7 @@
 use Rattle.std.proofs.Common.{take}
 use Rattle.om_task.specs.Rules.{rules_of}
-use Rattle.om_picture.specs.Traces.{IsRemade}
-use Rattle.om_picture.proofs.replay.retraced.Given as goal
+use Rattle.om_traces.specs.Traces.{IsRemade}
+use Rattle.om_traces.proofs.replay.retraced.Given as goal
 
 -- the entries so far were made again
 abbrev pub invariant-loop-entry : goal.invariant-loop-entry

@@ -10,7 +10,10 @@ use Rattle.om_history.specs.Runs.{label_of}
 use Rattle.om_history.specs.Cones.{Transition, transitions}
 use Rattle.om_history.specs.Pasts.{past_in, history_in, IsHeld}
 use Rattle.om_picture.specs.declared.traced.Traced.{Traced}
-use Rattle.om_picture.specs.Pictures.{transition_of}
+
+-- an entry with what its step touched; what it did is left out
+abbrev pub transition_of : Traced → Transition
+transition_of t = record { entry = t.entry; footprint = t.footprint }
 
 -- entries can be made in turn from the start
 abbrev pub CanReplay : Rules → List Entry → Type 0

@@ -8,8 +8,8 @@ use Rattle.om_task.specs.Rules.{rules_of}
 use Rattle.om_history.specs.declared.records.UndoRecord.{UndoRecord}
 use Rattle.om_history.specs.Runs.{label_of}
 use Rattle.om_history.specs.Pasts.{past_in, history_in}
-use Rattle.om_picture.proofs.Replays.{is_plan}
-use Rattle.om_picture.proofs.replay.planned.Goals as goal
+use Rattle.om_traces.proofs.Replays.{is_plan}
+use Rattle.om_traces.proofs.replay.planned.Goals as goal
 
 -- what holds of an answer by two clauses
 both_ok : {T E : Type 0} (r : Result T E) (P Q R : T → Type 0) → ((x : T) → P x → Q x → R x) → IfOk r P → IfOk r Q

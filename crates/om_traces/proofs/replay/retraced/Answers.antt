@@ -7,10 +7,9 @@ use Rattle.om_history.specs.Runs.{label_of}
 use Rattle.om_history.specs.Records.{entries_of}
 use Rattle.om_history.specs.Pasts.{Past}
 use Rattle.om_picture.specs.declared.traced.Traced.{Traced}
-use Rattle.om_picture.specs.Pictures.{transition_of}
-use Rattle.om_picture.specs.Traces.{IsRemade}
-use Rattle.om_picture.proofs.Replays.{can_be_made, remade_more, split_at, taken_more}
-use Rattle.om_picture.proofs.replay.retraced.Goals as goal
+use Rattle.om_traces.specs.Traces.{transition_of, IsRemade}
+use Rattle.om_traces.proofs.Replays.{can_be_made, remade_more, split_at, taken_more}
+use Rattle.om_traces.proofs.replay.retraced.Goals as goal
 
 pub loop-entry-init : goal.loop-entry-init
 loop-entry-init c = record {
