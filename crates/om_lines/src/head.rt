@@ -1,7 +1,7 @@
 //! The head of a report: the verdict, with its place.
 
-ghost use Rattle.std.specs.Prelude.{◌≡◌, ◌++◌, decimal, codes, OnOk};
-ghost use Rattle.om_report.specs.Reports.{accepted_head, place_text, refused_head};
+ghost use Rattle.std.specs.Prelude.{◌≡◌, ◌++◌, OnOk};
+ghost use Rattle.om_lines.specs.Heads.{accepted_head, place_text, refused_head};
 
 use om_command::push_numbered;
 use om_lexer::SourceFault;
@@ -9,12 +9,7 @@ use om_shell::{column_behind, front_of, line_behind};
 use std::alloc::AllocError;
 
 /// Appends `FILE:LINE:COLUMN` of a byte of the source.
-pub(crate) fn push_place(
-    text: &mut Vec<u8>,
-    file: &str,
-    source: &[u8],
-    at: u32,
-) -> Result<(), AllocError>
+pub fn push_place(text: &mut Vec<u8>, file: &str, source: &[u8], at: u32) -> Result<(), AllocError>
     ensures { OnOk result
         (text.new.items ≡ text.old.items ++ place_text file.now source.now at) }
 {

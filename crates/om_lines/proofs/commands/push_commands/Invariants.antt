@@ -1,7 +1,7 @@
 use Rattle.std.proofs.Common.{◌≡◌, ◌++◌, drop}
 use Rattle.om_command.specs.Lists.{joined}
-use Rattle.om_script.specs.Steps.{command_line}
-use Rattle.om_script.proofs.text.push_commands.Given as goal
+use Rattle.om_lines.specs.Commands.{command_line}
+use Rattle.om_lines.proofs.commands.push_commands.Given as goal
 
 -- the commands so far and those of what is left are all
 abbrev pub invariant-loop-entry : goal.invariant-loop-entry

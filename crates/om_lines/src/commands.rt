@@ -2,15 +2,14 @@
 
 ghost use Rattle.std.specs.Prelude.{◌≡◌, ◌++◌, IfOk, OnOk};
 ghost use Rattle.om_command.specs.Lists.{joined};
-ghost use Rattle.om_script.specs.Steps.{command_line, script_text};
+ghost use Rattle.om_lines.specs.Commands.{command_line, script_text};
 
-use om_cells::Choice;
+use om_cells::{Choice, Entry};
 use om_command::push_numbered;
-use om_undo::Entry;
 use std::alloc::{AllocError, Global};
 
-/// The commands that make the steps of entries.
-pub(crate) fn commands_for(alloc: Global, entries: &[Entry]) -> Result<Vec<u8>, AllocError>
+/// The commands that make the steps of entries, a line each. The only error is out of memory.
+pub fn commands_for(alloc: Global, entries: &[Entry]) -> Result<Vec<u8>, AllocError>
     ensures { IfOk result (λ text. text.items ≡ script_text entries.now) }
 {
     let mut text = Vec::new(alloc);
