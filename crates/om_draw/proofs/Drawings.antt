@@ -8,7 +8,8 @@ use Rattle.om_book.specs.Books.{BookView}
 use Rattle.om_picture.specs.declared.traced.Traced.{Traced}
 use Rattle.om_picture.specs.declared.picture.StepBox.{StepBox}
 use Rattle.om_picture.specs.declared.picture.Arrow.{Arrow}
-use Rattle.om_picture.specs.Pictures.{transition_of, box_of, IsArrow}
+use Rattle.om_picture.specs.Pictures.{box_of, IsArrow}
+use Rattle.om_traces.specs.Traces.{transition_of}
 use Rattle.om_draw.specs.declared.scale.Scale.{Scale}
 use Rattle.om_draw.specs.declared.outcome.Page as outcome
 use Rattle.om_draw.specs.Marks.{boxes_text}

@@ -11,7 +11,8 @@ use Rattle.om_picture.specs.declared.picture.Arrow.{Arrow}
 use Rattle.om_draw.specs.declared.scale.Scale.{Scale}
 use Rattle.om_draw.specs.declared.outcome.Page as outcome
 use Rattle.om_draw.specs.declared.outcome.Page.TheVariants.{Drawn, Refused}
-use Rattle.om_picture.specs.Pictures.{transition_of, box_of, IsArrow}
+use Rattle.om_picture.specs.Pictures.{box_of, IsArrow}
+use Rattle.om_traces.specs.Traces.{transition_of}
 use Rattle.om_draw.specs.Marks.{boxes_text}
 use Rattle.om_draw.specs.Strokes.{arrows_text}
 

@@ -1,8 +1,8 @@
 -- Where lines end.
 use Rattle.std.proofs.Common.{◌≡◌, ℕ, ◌+◌, ◌<◌, subst, Bool, true, false, cond, not, nat_lt, List, [], ◌∷◌, ◌++◌}
-use Rattle.std.proofs.Common.{◌==◌, Some, None, length, take, drop, get_or, refl, sym, ap, ◌∙◌, arith, ltb-true, ltb-false}
+use Rattle.std.proofs.Common.{◌==◌, Some, None, length, take, drop, get_or, refl, sym, ap, ◌∙◌, arith, ltb-true}
 use Rattle.std.proofs.Common.{eqb-true}
-use Rattle.std.proofs.lemmas.List.Sums.{prefix_len-le-length, take_while-cons, split_at_first, passes_at_first}
+use Rattle.std.proofs.lemmas.List.Sums.{take_while-cons, split_at_first, passes_at_first}
 use Rattle.std.specs.List.{position, position_or_len, prefix_len, take_while, before_first, after_first}
 use Rattle.om_shell.specs.Lines.{HasNoLineEnd}
 
@@ -10,22 +10,12 @@ some_case : (b : Bool) (n m : ℕ) → Some n ≡ cond b (Some m) None → (n �
 some_case true n m e = (cc, refl)
 some_case false n m e = cc
 
-none_case : (b : Bool) (m : ℕ) → None ≡ cond b (Some m) None → b ≡ false
-none_case true m e = cc
-none_case false m e = refl
-
 pub position_some : (p : ℕ → Bool) (xs : List ℕ) (n : ℕ) → Some n ≡ position p xs → (n ≡ position_or_len p xs)
     × (n < length xs)
 position_some p xs n e =
     let found = some_case (nat_lt (position_or_len p xs) (length xs)) n (position_or_len p xs) e in
     let below = ltb-true _ _ found.1 in
     (found.0, omega arith)
-
-pub position_none : (p : ℕ → Bool) (xs : List ℕ) → None ≡ position p xs → position_or_len p xs ≡ length xs
-position_none p xs e =
-    let none = ltb-false _ _ (none_case (nat_lt (position_or_len p xs) (length xs)) (position_or_len p xs) e) in
-    let most = prefix_len-le-length (λ x. not (p x)) xs in
-    omega arith
 
 unended_cons : (q : ℕ → Bool) (x : ℕ) (ys : List ℕ) (b : Bool) → q x ≡ b → prefix_len q ys ≡ length ys
     → prefix_len q (cond b (x ∷ ys) []) ≡ length (cond b (x ∷ ys) [])

@@ -1,6 +1,6 @@
 -- Parts that are passed on, one behind another.
-use Rattle.std.proofs.Common.{◌≡◌, ℕ, ◌+◌, ◌≤◌, List, [], ◌∷◌, ◌++◌, ◌==◌, Option, Some, None, length}
-use Rattle.std.proofs.Common.{take, drop, refl, sym, ap, ◌∙◌, subst, codes, arith, append_assoc, append-nil, length-append}
+use Rattle.std.proofs.Common.{◌≡◌, ℕ, ◌+◌, ◌≤◌, List, [], ◌∷◌, ◌++◌, ◌==◌, Option, Some, length}
+use Rattle.std.proofs.Common.{take, drop, refl, sym, ap, ◌∙◌, subst, arith, append_assoc, append-nil, length-append}
 use Rattle.std.proofs.Common.{length-drop, take-append-drop, zero-add}
 use Rattle.std.specs.List.{position}
 use Rattle.std.specs.Io.KnownBytes.{Consumes, Appends, IsAtEnd}
@@ -9,30 +9,11 @@ use Rattle.om_command.specs.Words.{words_of}
 use Rattle.om_shell.specs.declared.fault.ShellFault.{ShellFault}
 use Rattle.om_shell.specs.Lines.{HasNoLineEnd}
 use Rattle.om_shell.specs.Progress.{AppendsPart, ReadFails}
-use Rattle.om_notes.specs.Parts.{IsPart, announced, no_words, with_words, as_they_are, a_line, no_part, one_more}
-use Rattle.om_notes.specs.Passing.{Passed, PassesPart, BreaksPart, PassesAll, PassesBeginning, HasTail, IsNoted}
+use Rattle.om_lines.specs.Tails.{IsNoted}
+use Rattle.om_notes.specs.Parts.{IsPart, announced, as_they_are, a_line, no_part, one_more}
+use Rattle.om_notes.specs.Passing.{Passed, PassesPart, BreaksPart, PassesAll, PassesBeginning}
 use Rattle.om_notes.specs.Passing.{GoesOn, BreaksOff}
-use Rattle.om_notes.proofs.LineLaws.{position_none, cut_at_end}
-
--- ---- one line
-
-pub no_tail : (text : List ℕ) → HasTail text text
-no_tail text = record { tail = []; is_tail = no_words; is = sym (append-nil text) }
-
-pub a_tail : (text marked all line : List ℕ) → None ≡ position (λ byte. byte == 10) line
-    → marked ≡ text ++ codes " | " → all ≡ marked ++ line → HasTail text all
-a_tail text marked all line none mark more = record {
-  tail = codes " | " ++ line;
-  is_tail = with_words line (position_none (λ byte. byte == 10) line none);
-  is = more ∙ ap (λ t. t ++ line) mark ∙ append_assoc text (codes " | ") line;
-}
-
-pub noted : (line text all : List ℕ) → HasTail line text → all ≡ text ++ 10 ∷ [] → IsNoted line all
-noted line text all tail ended = record {
-  tail = tail.tail;
-  is_tail = tail.is_tail;
-  is = ended ∙ ap (λ t. t ++ 10 ∷ []) tail.is;
-}
+use Rattle.om_notes.proofs.LineLaws.{cut_at_end}
 
 -- ---- one part
 

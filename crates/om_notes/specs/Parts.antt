@@ -4,11 +4,7 @@ use Rattle.std.specs.Str.{bytes_eq}
 use Rattle.om_command.specs.Arguments.{number_of}
 use Rattle.om_command.specs.Words.{words_of}
 use Rattle.om_shell.specs.Lines.{HasNoLineEnd}
-
--- what may stand behind a line: nothing, or the mark and words, which end no line
-pub data IsTail : List ℕ → Type 0 where
-  no_words : IsTail []
-  with_words : (text : List ℕ) → HasNoLineEnd text → IsTail (codes " | " ++ text)
+use Rattle.om_lines.specs.Tails.{IsTail}
 
 abbrev pub or_none : Option ℕ → ℕ
 or_none None = 0

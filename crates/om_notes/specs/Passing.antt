@@ -1,8 +1,8 @@
 -- What has been read and written so far.
-use Rattle.std.specs.Prelude.{◌≡◌, ℕ, List, [], ◌∷◌, ◌++◌, Option}
+use Rattle.std.specs.Prelude.{◌≡◌, ℕ, List, ◌++◌, Option}
 use Rattle.std.specs.Io.KnownBytes.{Consumes, Appends, IsAtEnd}
 use Rattle.om_shell.specs.Progress.{IsBeginning, AppendsPart}
-use Rattle.om_notes.specs.Parts.{AreParts, IsAnnotated, IsPart, IsTail}
+use Rattle.om_notes.specs.Parts.{AreParts, IsAnnotated, IsPart}
 
 -- The bytes that were taken are parts, for which all was written, and those that are pending.
 pub record Passed (left_before left_after held_before held_after : Option (List ℕ)) (pending : List ℕ) (due : ℕ) : Type
@@ -52,18 +52,6 @@ pub record PassesBeginning (left_before left_after held_before held_after : Opti
   pub begins : IsBeginning came taken
   pub annotated : IsAnnotated came written
   pub appends : AppendsPart held_before held_after written
-
--- a text, and behind it what may stand behind a line
-pub record HasTail (front text : List ℕ) : Type 0 where
-  pub tail : List ℕ
-  pub is_tail : IsTail tail
-  pub is : text ≡ front ++ tail
-
--- a line of these bytes as it is written
-pub record IsNoted (line text : List ℕ) : Type 0 where
-  pub tail : List ℕ
-  pub is_tail : IsTail tail
-  pub is : text ≡ line ++ tail ++ 10 ∷ []
 
 -- whatever was passed on before: it is so behind the call, with this pending and due
 abbrev pub GoesOn : Option (List ℕ) → Option (List ℕ) → List ℕ → List ℕ → ℕ → ℕ → Type 0

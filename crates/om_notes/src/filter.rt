@@ -1,42 +1,21 @@
 //! The filter: what is read is passed on part by part, with words behind its lines.
-ghost use Rattle.std.specs.Prelude.{◌≡◌, ◌==◌, ◌+◌, ◌++◌, ◌<◌, ◌≤◌, true, false, [], Some, length, take, IfOk, OnErr, OnOk};
+ghost use Rattle.std.specs.Prelude.{◌≡◌, ◌==◌, ◌+◌, ◌<◌, ◌≤◌, true, false, [], Some, length, take, IfOk, OnErr, OnOk};
 ghost use Rattle.std.specs.List.{position};
 ghost use Rattle.om_command.specs.Words.{words_of};
 ghost use Rattle.om_shell.specs.Lines.{HasNoLineEnd};
 ghost use Rattle.om_notes.specs.Parts.{announced};
-ghost use Rattle.om_notes.specs.Passing.{BreaksOff, BreaksPart, GoesOn, HasTail, IsNoted};
+ghost use Rattle.om_lines.specs.Tails.{IsNoted};
+ghost use Rattle.om_notes.specs.Passing.{BreaksOff, BreaksPart, GoesOn};
 ghost use Rattle.om_notes.specs.Passing.{PassesAll, PassesBeginning, PassesPart};
 
 use crate::names::Names;
 use crate::remark::remark;
 use crate::waiting::Waiting;
 use crate::words::{announced, words_of};
+use om_lines::noted;
 use om_shell::{ShellFault, first_line_end, send};
 use std::alloc::{AllocError, Global};
 use std::io::{Read, Write};
-
-// Appends the mark and words; nothing where there are none, or where they would end the line.
-#[tactic(auto, using(crate::proofs::PassLaws::no_tail, crate::proofs::PassLaws::a_tail))]
-fn push_tail(text: &mut Vec<u8>, words: &[u8]) -> Result<(), AllocError>
-    ensures { OnOk result (HasTail text.old.items text.new.items) }
-{
-    if words.is_empty() || first_line_end(words).is_some() {
-        return Ok(());
-    }
-    text.extend_from_slice(b" | ")?;
-    text.extend_from_slice(words)
-}
-
-// A line with what stands behind it, and its end.
-#[tactic(auto, using(crate::proofs::PassLaws::noted))]
-fn noted(alloc: Global, line: &[u8], words: &[u8]) -> Result<Vec<u8>, AllocError>
-    ensures { IfOk result (λ text. IsNoted line.now text.items) }
-{
-    let mut text = Vec::from_slice(alloc, line)?;
-    push_tail(&mut text, words)?;
-    text.extend_from_slice(b"\n")?;
-    Ok(text)
-}
 
 // The line up to `end` as it is written, and how many bytes are due as they are behind it.
 fn answer(names: &Names<'_>, pending: &[u8], end: usize) -> Result<(Vec<u8>, usize), AllocError>

@@ -1,4 +1,2 @@
 pub mod Apart
-pub mod Entries
 pub mod Exactly
-pub mod Replays

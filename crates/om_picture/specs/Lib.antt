@@ -1,3 +1,2 @@
 pub mod Pictures
 pub mod Sets
-pub mod Traces

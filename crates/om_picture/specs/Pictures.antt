@@ -5,14 +5,10 @@ use Rattle.std.specs.List.{AllByRecursion}
 use Rattle.om_foot.specs.declared.object.Obj.{Obj}
 use Rattle.om_foot.specs.Footprint.{conflict_of}
 use Rattle.om_history.specs.Laws.{Apart}
-use Rattle.om_history.specs.Cones.{Transition}
 use Rattle.om_picture.specs.declared.traced.Traced.{Traced}
 use Rattle.om_picture.specs.declared.picture.StepBox.{StepBox}
 use Rattle.om_picture.specs.declared.picture.End.{End}
 use Rattle.om_picture.specs.declared.picture.Arrow.{Arrow}
-
-abbrev pub transition_of : Traced → Transition
-transition_of t = record { entry = t.entry; footprint = t.footprint }
 
 abbrev pub box_of : Traced → StepBox
 box_of t = record {

@@ -3,13 +3,9 @@
 
 mod arrows;
 mod picture;
-mod replay;
 mod sets;
 mod sketch;
 mod traced;
-mod variable;
-mod words;
 
 pub use picture::{Arrow, End, Picture, StepBox, picture_of};
-pub use replay::trace;
 pub use traced::Traced;

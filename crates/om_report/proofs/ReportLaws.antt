@@ -1,17 +1,13 @@
 -- A report, by its verdict.
-use Rattle.std.proofs.Common.{◌≡◌, ◌≢◌, ℕ, List, [], ◌++◌, Result, Ok, Err, IfOk, ap, ◌∙◌}
+use Rattle.std.proofs.Common.{◌≡◌, ◌≢◌, ℕ, List, Result, Ok, Err, IfOk, ap}
 use Rattle.om_code.specs.declared.raw.Raw.{Raw}
 use Rattle.om_lexer.specs.declared.fault.FaultCode.TheVariants.{Memory}
 use Rattle.om_lexer.specs.declared.fault.SourceFault.{SourceFault}
 use Rattle.om_lexer.specs.Faults.{no_memory}
 use Rattle.om_shell.specs.Verdict.{IsProgramOf, IsRefused}
-use Rattle.om_report.specs.declared.written.Report.{Report}
-use Rattle.om_report.specs.Reports.{BeginsWith, Reports, accepted_head, refused_head}
-
--- a text that begins with what was written first, whatever was written behind it
-pub begins_behind : (front text all rest : List ℕ) → text ≡ [] ++ front → all ≡ text ++ rest → BeginsWith front all
-begins_behind front text all rest written more =
-    record { rest = rest; is = more ∙ ap (λ t. t ++ rest) written }
+use Rattle.om_lines.specs.declared.report.Report.{Report}
+use Rattle.om_lines.specs.Heads.{BeginsWith, accepted_head, refused_head}
+use Rattle.om_report.specs.Reports.{Reports}
 
 pub reports_accepted : {E : Type 0} (file source : List ℕ) (program : Raw) (r : Result Report E)
     → IsProgramOf source program

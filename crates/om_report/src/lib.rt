@@ -2,11 +2,9 @@
 #![tactic(auto)]
 
 mod excerpt;
-mod head;
 mod team;
 mod token;
 mod verdict;
-mod written;
 
+pub use om_lines::Report;
 pub use verdict::report;
-pub use written::Report;

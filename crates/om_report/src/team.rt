@@ -1,8 +1,8 @@
 //! Teams that a source asks more threads for than there are workers.
 
-use crate::head::push_place;
 use om_command::push_numbered;
 use om_lexer::{FaultCode, Punctuator, Token, TokenKind, lex};
+use om_lines::push_place;
 use std::alloc::{AllocError, Global};
 
 // Whether a token is this punctuator.

@@ -1,32 +1,27 @@
 //! The report on a source, by its verdict.
 
 ghost use Rattle.std.specs.Prelude.{◌≡◌, IfOk};
-ghost use Rattle.om_report.specs.Reports.{BeginsWith, Reports, accepted_head, refused_head};
+ghost use Rattle.om_lines.specs.Heads.{BeginsWith, accepted_head, refused_head};
+ghost use Rattle.om_report.specs.Reports.{Reports};
 
 use crate::excerpt::explanation;
-use crate::head::{push_accepted, push_refused};
 use crate::team::{Checked, team_notes};
-use crate::written::Report;
 use om_lexer::{FaultCode, SourceFault};
+use om_lines::{Report, accepted_report, refused_report};
 use om_shell::program_of;
 use std::alloc::{AllocError, Global};
 
 // The report on an accepted source.
-#[tactic(auto, using(crate::proofs::ReportLaws::begins_behind))]
 fn accepted(alloc: Global, checked: Checked<'_>) -> Result<Report, AllocError>
     ensures begins { IfOk result
         (λ report. BeginsWith (accepted_head checked.entry.file.now) report.text.items) }
     ensures status { IfOk result (λ report. report.status ≡ 0) }
 {
-    let mut text = Vec::new(alloc);
-    push_accepted(&mut text, checked.file)?;
     let notes = team_notes(alloc, checked)?;
-    text.extend_from_slice(&notes)?;
-    Ok(Report { text, status: 0 })
+    accepted_report(alloc, checked.file, &notes)
 }
 
 // The report on a refused source.
-#[tactic(auto, using(crate::proofs::ReportLaws::begins_behind))]
 fn refused(
     alloc: Global,
     file: &str,
@@ -37,11 +32,8 @@ fn refused(
         (λ report. BeginsWith (refused_head file.now source.now fault) report.text.items) }
     ensures status { IfOk result (λ report. report.status ≡ 1) }
 {
-    let mut text = Vec::new(alloc);
-    push_refused(&mut text, file, source, fault)?;
     let explanation = explanation(alloc, source, fault)?;
-    text.extend_from_slice(&explanation)?;
-    Ok(Report { text, status: 1 })
+    refused_report(alloc, file, source, fault, &explanation)
 }
 
 /// The report on a source that stands in this file, as compilers write it.

@@ -3,11 +3,12 @@ use Rattle.std.specs.Prelude.{◌≡◌, ℕ, List, map, Option, None, Some}
 use Rattle.om_cells.specs.declared.step.Entry.{Entry}
 use Rattle.om_book.specs.Books.{BookView, machine_of}
 use Rattle.om_shell.specs.Script.{source_of}
+use Rattle.om_lines.specs.Commands.{script_text}
 use Rattle.om_script.specs.declared.answer.Script.{Script}
 use Rattle.om_script.specs.declared.answer.Script.TheVariants.{Steps, Refused}
 use Rattle.om_script.specs.Cones.{IsConeOf}
 use Rattle.om_script.specs.Runs.{Leaves, entries_in}
-use Rattle.om_script.specs.Steps.{script_text, unnumbered}
+use Rattle.om_script.specs.Steps.{unnumbered}
 
 -- commands over a source lead to the same history but for serials
 pub record LeadsTo (workers : ℕ) (source commands : List ℕ) (entries : List Entry) : Type 0 where

@@ -5,7 +5,6 @@ mod answer;
 mod cones;
 mod run;
 mod steps;
-mod text;
 
 pub use answer::{Script, ScriptFault};
 pub use cones::cone;

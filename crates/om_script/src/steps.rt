@@ -2,15 +2,16 @@
 
 ghost use Rattle.std.specs.Prelude.{◌≡◌, ◌<◌, ◌≤◌, Some, map, true, IfOk, IfSome};
 ghost use Rattle.std.specs.Option.{option_copied};
-ghost use Rattle.om_script.specs.Steps.{script_text, unnumbered};
+ghost use Rattle.om_lines.specs.Commands.{script_text};
+ghost use Rattle.om_script.specs.Steps.{unnumbered};
 ghost use Rattle.om_script.specs.Runs.{entries_in};
 ghost use Rattle.om_script.specs.Sessions.{LeadsTo, IsScriptFor};
 
 use crate::answer::{Script, ScriptFault};
 use crate::run::{Ran, run_over};
-use crate::text::commands_for;
 use om_book::Book;
 use om_journal::same_items;
+use om_lines::commands_for;
 use om_shell::{Options, SessionBytes, ShellFault, read_all, session_bytes};
 use om_undo::Entry;
 use std::alloc::{AllocError, Global};

@@ -1,4 +1,4 @@
-use Rattle.om_notes.proofs.LineLaws.{position_none}
+use Rattle.om_lines.specs.Unended.{position_none}
 use Rattle.om_notes.proofs.filter.pass_part.Goals as goal
 
 pub returns-in_default-clause-unended : goal.returns-in_default-clause-unended

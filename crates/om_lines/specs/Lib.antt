@@ -1,0 +1,4 @@
+pub mod Commands
+pub mod Heads
+pub mod Tails
+pub mod Unended

@@ -1,0 +1,31 @@
+//! A line with words behind it.
+
+ghost use Rattle.std.specs.Prelude.{IfOk, OnOk};
+ghost use Rattle.om_lines.specs.Tails.{HasTail, IsNoted};
+
+use om_shell::first_line_end;
+use std::alloc::{AllocError, Global};
+
+/// A line with the mark and words behind it, and its end; without the mark where there are no words, or where
+/// they would end the line. The only error is out of memory.
+#[tactic(auto, using(crate::proofs::TailLaws::noted))]
+pub fn noted(alloc: Global, line: &[u8], words: &[u8]) -> Result<Vec<u8>, AllocError>
+    ensures { IfOk result (λ text. IsNoted line.now text.items) }
+{
+    let mut text = Vec::from_slice(alloc, line)?;
+    push_tail(&mut text, words)?;
+    text.extend_from_slice(b"\n")?;
+    Ok(text)
+}
+
+// Appends the mark and words; nothing where there are none, or where they would end the line.
+#[tactic(auto, using(crate::proofs::TailLaws::no_tail, crate::proofs::TailLaws::a_tail))]
+fn push_tail(text: &mut Vec<u8>, words: &[u8]) -> Result<(), AllocError>
+    ensures { OnOk result (HasTail text.old.items text.new.items) }
+{
+    if words.is_empty() || first_line_end(words).is_some() {
+        return Ok(());
+    }
+    text.extend_from_slice(b" | ")?;
+    text.extend_from_slice(words)
+}

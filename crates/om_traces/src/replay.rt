@@ -1,0 +1,168 @@
+//! The steps of a history, made again one by one, with what each touched and did.
+
+ghost use Rattle.std.specs.Prelude.{◌≡◌, ◌≤◌, ◌<◌, ◌^◌, map, length, IfOk, OnOk};
+ghost use Rattle.om_cells.specs.Rules.{Rules};
+ghost use Rattle.om_task.specs.Rules.{rules_of};
+ghost use Rattle.om_history.specs.Runs.{label_of};
+ghost use Rattle.om_history.specs.Cones.{transitions};
+ghost use Rattle.om_history.specs.Pasts.{past_in, IsHeld};
+ghost use Rattle.om_undo.specs.Machines.{rules_for, IsPlan};
+ghost use Rattle.om_traces.specs.Traces.{transition_of, CanReplay, CanBeMade, footprint_for, transition_for, IsLonger};
+
+use crate::words::{Spoken, Words};
+use om_cells::{Footprint, Label};
+use om_code::Program;
+use om_foot::{Access, Mode, Obj};
+use om_history::History;
+use om_picture::Traced;
+use om_seq::Seq;
+use om_task::laws::low_counters;
+use om_task::start::started;
+use om_task::{Plan, plan};
+use om_undo::laws::{shaped_rules, steady_rules};
+use om_undo::{Entry, Machine};
+use std::alloc::{AllocError, Global};
+
+/// The steps of a machine's history, each with what it touched and did at its place in the replay.
+/// They are made again, each once. The only error is out of memory.
+pub fn trace(alloc: Global, machine: &Machine) -> Result<Vec<Traced>, AllocError>
+    ensures { IfOk result (λ steps. map transition_of steps.items
+        ≡ transitions (rules_for machine.now) machine.now.history.entries) }
+{
+    let entries = machine.history(alloc)?;
+    retraced(alloc, machine.program(), machine.workers(), &entries)
+}
+
+/// The steps of entries that can be made in turn from the start of a program with so many workers. The
+/// only error is out of memory.
+fn retraced(
+    alloc: Global,
+    program: &Program,
+    workers: u8,
+    entries: &[Entry],
+) -> Result<Vec<Traced>, AllocError>
+    requires at_least_one { 1 ≤ workers }
+    requires few { length entries.now < 2 ^ 63 }
+    requires replayed { CanReplay (rules_of program.now workers) entries.now }
+    ensures { IfOk result (λ steps. map transition_of steps.items
+        ≡ transitions (rules_of program.now workers) entries.now) }
+{
+    steady_rules();
+    shaped_rules();
+    let mut history = History::new(alloc, started(alloc, program, workers)?);
+    let mut steps = Vec::new(alloc);
+    for entry in entries {
+        match traced(alloc, program, workers, &mut history, entry) {
+            Ok(step) => steps.push(step)?,
+            Err(error) => return Err(error),
+        }
+    }
+    Ok(steps)
+}
+
+/// Makes the step of an entry again. The only error is out of memory.
+fn traced(
+    alloc: Global,
+    program: &Program,
+    workers: u8,
+    history: &mut History,
+    entry: &Entry,
+) -> Result<Traced, AllocError>
+    requires held { IsHeld (rules_of program.now workers) history.old }
+    requires few_made { (past_in history.old).made < 2 ^ 63 }
+    requires made { CanBeMade (rules_of program.now workers) history.old (label_of entry.now) }
+    ensures noted { IfOk result (λ step. transition_of step
+        ≡ transition_for (rules_of program.now workers) history.old entry.now) }
+    ensures longer { OnOk result (IsLonger (rules_of program.now workers) history.old history.new
+        (label_of entry.now)) }
+{
+    let label = label_of(entry);
+    let plan = planned(alloc, program, workers, history, &label)?;
+    let words = Words::of(alloc, program, history.store(), &label, &plan)?;
+    match remade(alloc, history, &label, plan) {
+        Ok(footprint) => {
+            let Spoken {
+                instruction,
+                variable,
+                value,
+                is_fault,
+            } = words.behind(history.store(), label.worker)?;
+            Ok(Traced {
+                entry: *entry,
+                footprint,
+                instruction,
+                variable,
+                value,
+                is_fault,
+            })
+        }
+        Err(error) => Err(error),
+    }
+}
+
+/// Which step an entry is of.
+fn label_of(entry: &Entry) -> Label
+    ensures { result ≡ label_of entry.now }
+{
+    Label {
+        worker: entry.worker,
+        choice: entry.choice,
+    }
+}
+
+/// The plan of a label's step where a history stands. The only error is out of memory.
+fn planned(
+    alloc: Global,
+    program: &Program,
+    workers: u8,
+    history: &History,
+    label: &Label,
+) -> Result<Plan, AllocError>
+    requires { IsHeld (rules_of program.now workers) history.now }
+    ensures { IfOk result
+        (λ plan. IsPlan (rules_of program.now workers) history.now label.now plan) }
+{
+    low_counters();
+    plan(alloc, program, history.store(), workers, label)
+}
+
+/// The accesses of a footprint, that of its worker's control first. The only error is out of memory.
+fn listed(alloc: Global, footprint: &Footprint) -> Result<Seq<Access>, AllocError>
+    ensures { IfOk result (λ accesses. accesses ≡ footprint.now) }
+{
+    let (worker, others) = footprint.parts();
+    let mut accesses = Vec::new(alloc);
+    accesses.push(Access {
+        object: Obj::Control(worker),
+        mode: Mode::Write,
+    })?;
+    accesses.extend_from_slice(others)?;
+    Ok(Seq::of(accesses))
+}
+
+/// Takes the step of a plan, and answers what it touches. When out of memory, the history may be longer
+/// or not.
+fn remade(
+    alloc: Global,
+    history: &mut History,
+    label: &Label,
+    plan: Plan,
+) -> Result<Seq<Access>, AllocError>
+    requires few_made { (past_in history.old).made < 2 ^ 63 }
+    requires planned { (r : Rules)
+        × IsPlan r history.old label.now plan × CanBeMade r history.old label.now }
+    ensures footprint { IfOk result (λ footprint. (r : Rules) → IsPlan r history.old label.now plan
+        → footprint ≡ footprint_for r history.old label.now) }
+    ensures longer { OnOk result ((r : Rules) → IsPlan r history.old label.now plan
+        → IsLonger r history.old history.new label.now) }
+{
+    match plan {
+        Plan::Updates(change) => {
+            let footprint = listed(alloc, &change.footprint)?;
+            let _reply = history.take(alloc, label, change)?;
+            Ok(footprint)
+        }
+        Plan::Blocked(_) => unreachable!(),
+        Plan::Ended => unreachable!(),
+    }
+}
