@@ -12,7 +12,7 @@ ghost use Rattle.om_cells.specs.Values.{cell_in};
 ghost use Rattle.om_steps.specs.Objects.{read, write, object_of};
 ghost use Rattle.om_steps.specs.SerialRows.{row_of, put_of, unsets, cleared, serial_row, slots_in};
 
-use crate::names::{name_slot, object_of, operands_of};
+use crate::names::{name_place, name_slot, operands_of};
 use crate::parts::name_one;
 use crate::row::only;
 use crate::updates::put_cell;
@@ -126,21 +126,14 @@ fn at_cell(
               (cell_in (state_of met.now.store.now (object_of (plain_context met.now.context.now) place index))));
         }) }
 {
-    let object = &object_of(met.context, place, index);
-    let cell = met.store.cell(alloc, object);
-    // An access is large: there is room for no others, and it is copied from where the object was made.
-    let mut names = Vec::with_capacity(alloc, 1)?;
-    names.push_reserved(Access {
-        object: *object,
-        mode,
-    });
+    // An access is large: there is room for no others.
+    let mut names = Seq::of(Vec::with_capacity(alloc, 1)?);
+    name_place(&mut names, met.context, place, index, mode)?;
+    let cell = met.store.cell(alloc, &names.as_slice()[0].object);
     let operands = &operands_of(met.context);
     let turn = turn_of(met.raw, met.slots, met.instr, operands, cell);
     let row = row_of(alloc, met.context.frame.next, Seq::new(alloc), turn)?;
-    Ok(Answer {
-        names: Seq::of(names),
-        row,
-    })
+    Ok(Answer { names, row })
 }
 
 /// The answer where a slot becomes unset, and the turn is this one.
