@@ -12,8 +12,9 @@ ghost use Rattle.om_cells.specs.Values.{cell_in};
 ghost use Rattle.om_steps.specs.Objects.{read, write, object_of};
 ghost use Rattle.om_steps.specs.SerialRows.{row_of, put_of, unsets, cleared, serial_row, slots_in};
 
-use crate::names::{name, name_slot, object_of, operands_of};
+use crate::names::{name_place, name_slot, operands_of};
 use crate::parts::name_one;
+use crate::row::only;
 use crate::updates::put_cell;
 use crate::{Answer, Row};
 use om_cells::{Edit, Tail, Update, Val};
@@ -66,7 +67,7 @@ fn row_of(alloc: Global, next: u32, updates: Seq<Update>, turn: Turn) -> Result<
                 None => updates,
             };
             let to = jump.unwrap_or(next + 1);
-            let edits = Seq::one(alloc, Edit::Go { to, takes, pushed })?;
+            let edits = only(alloc, Edit::Go { to, takes, pushed })?;
             Ok(Row::Goes { edits, updates })
         }
         Turn::Faults(fault) => Ok(Row::Faults(fault)),
@@ -125,11 +126,10 @@ fn at_cell(
               (cell_in (state_of met.now.store.now (object_of (plain_context met.now.context.now) place index))));
         }) }
 {
-    let object = object_of(met.context, place, index);
-    let cell = met.store.cell(alloc, &object);
     // An access is large: there is room for no others.
     let mut names = Seq::of(Vec::with_capacity(alloc, 1)?);
-    name(&mut names, object, mode)?;
+    name_place(&mut names, met.context, place, index, mode)?;
+    let cell = met.store.cell(alloc, &names.as_slice()[0].object);
     let operands = &operands_of(met.context);
     let turn = turn_of(met.raw, met.slots, met.instr, operands, cell);
     let row = row_of(alloc, met.context.frame.next, Seq::new(alloc), turn)?;

@@ -41,6 +41,80 @@ fn cell_at(task: &Name, frame: u64, slot: u32, index: u32) -> Obj
     }
 }
 
+// A cell of a task's frame.
+#[derive(Clone, Copy)]
+struct Spot<'a> {
+    task: &'a Name,
+    frame: u64,
+    slot: u32,
+    index: u32,
+}
+
+// Appends a cell of a frame. It stands apart, so that the name in it is copied into the access at once.
+#[inline(never)]
+fn name_spot(names: &mut Seq<Access>, spot: &Spot<'_>, mode: Mode) -> Result<(), AllocError>
+    ensures { OnOk result (names.new ≡ names.old
+        ++ record { object = obj.Cell spot.now.task.now spot.now.frame spot.now.slot spot.now.index; mode = mode } ∷ []) }
+{
+    let object = Obj::Cell {
+        task: *spot.task,
+        frame: spot.frame,
+        slot: spot.slot,
+        index: spot.index,
+    };
+    name(names, object, mode)
+}
+
+// Appends a cell of a global variable. It stands apart, as an access is large.
+#[inline(never)]
+fn name_global(
+    names: &mut Seq<Access>,
+    variable: u32,
+    index: u32,
+    mode: Mode,
+) -> Result<(), AllocError>
+    ensures { OnOk result
+        (names.new ≡ names.old ++ record { object = obj.Global variable index; mode = mode } ∷ []) }
+{
+    name(names, Obj::Global { variable, index }, mode)
+}
+
+/// Appends a variable's cell, in the running frame of a context.
+pub fn name_place(
+    names: &mut Seq<Access>,
+    context: &Context,
+    place: Place,
+    index: u32,
+    mode: Mode,
+) -> Result<(), AllocError>
+    ensures { OnOk result (names.new ≡ names.old
+        ++ record { object = object_of (plain_context context.now) place index; mode = mode } ∷ []) }
+{
+    match place {
+        Place::Global(variable) => name_global(names, variable, index, mode),
+        Place::Slot(slot) => match context.frame.homes.get().as_slice().get(slot as usize) {
+            Some(Home::Elsewhere { task, frame, slot }) => {
+                let spot = Spot {
+                    task: task.get(),
+                    frame: *frame,
+                    slot: *slot,
+                    index,
+                };
+                name_spot(names, &spot, mode)
+            }
+            Some(Home::Own) | None => {
+                let spot = Spot {
+                    task: context.task.get(),
+                    frame: context.frame.ordinal,
+                    slot,
+                    index,
+                };
+                name_spot(names, &spot, mode)
+            }
+        },
+    }
+}
+
 /// The object of a variable's cell, in the running frame of a context.
 pub fn object_of(context: &Context, place: Place, index: u32) -> Obj
     ensures { result ≡ object_of (plain_context context.now) place index }

@@ -4,6 +4,7 @@ ghost use Rattle.std.specs.Prelude.{◌≡◌, ◌∷◌, [], None, IfOk};
 ghost use Rattle.om_steps.specs.Objects.{events, event};
 
 use crate::names::name_events;
+use crate::row::only;
 use crate::updates::put_event;
 use crate::{Answer, Row};
 use om_cells::{Edit, Update};
@@ -28,7 +29,7 @@ pub fn go_on(alloc: Global, to: u32) -> Result<Seq<Edit>, AllocError>
         takes: 0,
         pushed: None,
     };
-    Seq::one(alloc, go)
+    only(alloc, go)
 }
 
 /// The edits that go to a place with so many operands taken, and then make one more.

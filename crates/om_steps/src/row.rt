@@ -1,6 +1,6 @@
 //! What an instruction asks of the state, and what comes of it.
 
-ghost use Rattle.std.specs.Prelude.{◌≡◌, [], IfOk};
+ghost use Rattle.std.specs.Prelude.{◌≡◌, ◌∷◌, [], IfOk};
 ghost use Rattle.om_steps.specs.Rows.{goes};
 
 use om_cells::{Blocked, Edit, Update};
@@ -45,6 +45,17 @@ pub struct Launch {
     pub body: u32,
 }
 
+// One item alone, with room for no others: it is let go within the step.
+pub(crate) fn only<T>(alloc: Global, item: T) -> Result<Seq<T>, AllocError>
+where
+    T: Drop,
+    ensures { IfOk result (λ only. only ≡ item ∷ []) }
+{
+    let mut items = Vec::with_capacity(alloc, 1)?;
+    items.push_reserved(item);
+    Ok(Seq::of(items))
+}
+
 impl Answer {
     /// The answer that control, program and choice decide alone. It takes no memory.
     pub fn decided(alloc: Global, row: Row) -> Answer
@@ -68,7 +79,7 @@ impl Row {
     ) -> Result<Row, AllocError>
         ensures { IfOk result (λ row. row ≡ goes to takes pushed updates) }
     {
-        let edits = Seq::one(alloc, Edit::Go { to, takes, pushed })?;
+        let edits = only(alloc, Edit::Go { to, takes, pushed })?;
         Ok(Row::Goes { edits, updates })
     }
 }

@@ -4,6 +4,7 @@ use Rattle.om_foot.specs.declared.footprint.Access.{Access}
 use Rattle.om_foot.specs.declared.object.Obj.TheVariants as obj
 use Rattle.om_code.specs.declared.raw.Raw.{Raw}
 use Rattle.om_cells.specs.declared.control.Control.{Control}
+use Rattle.om_cells.specs.declared.step.Choice.{Choice}
 use Rattle.om_cells.specs.declared.step.Label.{Label}
 use Rattle.om_cells.specs.declared.step.Outcome.TheVariants as outcome
 use Rattle.om_cells.specs.declared.step.Step.{Step}
@@ -18,6 +19,10 @@ use Rattle.om_steps.specs.declared.row.Row.TheVariants.{Goes}
 use Rattle.om_task.specs.declared.planned.Plan.{Plan}
 use Rattle.om_task.specs.declared.planned.Plan.TheVariants as plan
 use Rattle.om_task.specs.Rules.{further_in, row_in, outcome_after, line_in}
+
+-- the label of a worker by a choice
+abbrev pub label_at : ℕ → Choice → Label
+label_at worker choice = record { worker = worker; choice = choice }
 
 -- what it names besides the control, and its row
 abbrev pub answer_in : Raw → ℕ → State → Label → Control → Answer

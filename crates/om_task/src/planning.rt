@@ -1,17 +1,18 @@
 //! What the choice of a worker names, what comes of it, and the plan of its step.
 
 ghost use Rattle.std.specs.Prelude.{◌≡◌, ◌∷◌, ◌^◌, IfOk};
+ghost use Rattle.om_foot.specs.declared.footprint.Mode.TheVariants as mode;
 ghost use Rattle.om_foot.specs.declared.object.Obj.TheVariants as obj;
 ghost use Rattle.om_code.specs.Places.{instruction_at};
 ghost use Rattle.om_cells.specs.declared.control.Control as plain_controls;
-ghost use Rattle.om_cells.specs.Rules.{control_access, step_at};
+ghost use Rattle.om_cells.specs.Rules.{step_at};
 ghost use Rattle.om_cells.specs.Values.{control_in};
 ghost use Rattle.om_live.specs.Plain.{plain_control, plain_stack};
 ghost use Rattle.om_live.specs.Stores.{state_of};
 ghost use Rattle.om_steps.specs.Rows.{answered};
 ghost use Rattle.om_team.specs.Counters.{IsWithin, ControlWithin, StateWithin};
 ghost use Rattle.om_team.specs.Sites.{site};
-ghost use Rattle.om_task.specs.Plans.{answer_in, step_by, RowHasRoom, names_of, effect_at, StandsFor, PlanHasRoom};
+ghost use Rattle.om_task.specs.Plans.{label_at, answer_in, step_by, RowHasRoom, names_of, effect_at, StandsFor, PlanHasRoom};
 ghost use Rattle.om_task.specs.Rules.{asked, next_row, is_at_scheduling_point, outcome_after, line_in, rules_of};
 
 use crate::admit::{admits, instruction, leaving};
@@ -24,9 +25,19 @@ use om_foot::Access;
 use om_live::{Control, Stack, Store};
 use om_seq::Seq;
 use om_steps::{Answer, Row};
-use om_team::answers::{Planning, footprint};
+use om_team::answers::footprint;
 use om_team::table::{Doing, instruction_of};
 use std::alloc::{AllocError, Global};
+
+/// A choice of one of so many workers. A choice is large, so it stays where it is.
+#[derive(Clone, Copy)]
+pub struct Planning<'a> {
+    /// The worker, from 0.
+    pub worker: u8,
+    /// How many workers there are, 1 to 32.
+    pub workers: u8,
+    pub choice: &'a Choice,
+}
 
 /// The answer of the instruction at which a stack stands.
 fn next_answer(
@@ -39,7 +50,7 @@ fn next_answer(
     requires { IsWithin (2 ^ 63) (plain_stack stack.now).top }
     ensures { IfOk result
         (λ answer. answer ≡ answered
-        (next_row (site program.now planning.now.workers planning.now.label.now.worker
+        (next_row (site program.now planning.now.workers planning.now.worker
         (plain_stack stack.now))
         (instruction_at program.now (plain_stack stack.now).top.frame.body
         (plain_stack stack.now).top.frame.next))
@@ -49,7 +60,7 @@ fn next_answer(
         return Ok(Answer::decided(alloc, Row::Lacks));
     };
     let doing = Doing {
-        worker: planning.label.worker,
+        worker: planning.worker,
         workers: planning.workers,
         instruction,
     };
@@ -67,15 +78,15 @@ fn choice_answer(
     requires { IsWithin (2 ^ 63) (plain_stack stack.now).top }
     ensures { IfOk result
         (λ answer. answer ≡ answered
-        (asked (site program.now planning.now.workers planning.now.label.now.worker
+        (asked (site program.now planning.now.workers planning.now.worker
         (plain_stack stack.now))
-        planning.now.label.now.choice) (state_of store.now)) }
+        planning.now.choice.now) (state_of store.now)) }
 {
-    match &planning.label.choice {
+    match planning.choice {
         Choice::Next => next_answer(alloc, program, store, stack, planning),
         Choice::Start(name) => {
             let starting = Starting {
-                worker: planning.label.worker,
+                worker: planning.worker,
                 status: leaving(instruction(program, &stack.top)),
                 admits: admits(program, name, stack),
             };
@@ -95,7 +106,7 @@ fn control_answer(
     requires { ControlWithin (2 ^ 63) (plain_control control.now) }
     ensures { IfOk result
         (λ answer. answer ≡ answer_in program.now planning.now.workers (state_of store.now)
-        planning.now.label.now (plain_control control.now)) }
+        (label_at planning.now.worker planning.now.choice.now) (plain_control control.now)) }
 {
     match control {
         Control::Running(stack) => choice_answer(alloc, program, store, stack, planning),
@@ -109,14 +120,14 @@ fn control_answer(
 #[tactic(auto, using(crate::proofs::Plans::fault_room))]
 fn planned(
     alloc: Global,
-    label: &Label,
+    worker: u8,
     line: u32,
     names: Seq<Access>,
     row: Row,
 ) -> Result<Plan, AllocError>
     ensures plan { (c : plain_controls.Control) →
         IfOk result (λ plan. StandsFor plan c (record {
-          footprint = control_access label.now ∷ names;
+          footprint = record { object = obj.Control worker; mode = mode.Write } ∷ names;
           outcome = outcome_after c row;
           line = line;
         })) }
@@ -129,7 +140,7 @@ fn planned(
         Row::Blocked(why) => return Ok(Plan::Blocked(why)),
         Row::Lacks => return Ok(Plan::Ended),
     };
-    let footprint = Footprint::of(label.worker, names);
+    let footprint = Footprint::of(worker, names);
     Ok(Plan::Updates(Change {
         footprint,
         edits,
@@ -171,14 +182,16 @@ fn control_plan(
     requires control { ControlWithin (2 ^ 63) (plain_control control.now) }
     requires state { StateWithin (2 ^ 63) (state_of store.now) }
     ensures plan { IfOk result (λ plan. StandsFor plan (plain_control control.now)
-        (step_by program.now planning.now.label.now (plain_control control.now)
-        (answer_in program.now planning.now.workers (state_of store.now) planning.now.label.now
+        (step_by program.now (label_at planning.now.worker planning.now.choice.now)
+        (plain_control control.now)
+        (answer_in program.now planning.now.workers (state_of store.now)
+        (label_at planning.now.worker planning.now.choice.now)
         (plain_control control.now)))) }
     ensures room { IfOk result (λ plan. PlanHasRoom (plain_control control.now) plan) }
 {
     let Answer { names, row } = control_answer(alloc, program, store, control, planning)?;
     let line = line(program, control);
-    planned(alloc, planning.label, line, names, row)
+    planned(alloc, planning.worker, line, names, row)
 }
 
 /// What the choice of a worker touches that has this control, which comes first.
@@ -196,7 +209,11 @@ pub fn names(
     ensures { IfOk result
         (λ names. names ≡ names_of program.now workers label.now (plain_control control.now)) }
 {
-    let planning = &Planning { label, workers };
+    let planning = &Planning {
+        worker: label.worker,
+        workers,
+        choice: &label.choice,
+    };
     let store = &Store::new(alloc);
     let Answer { names, row } = control_answer(alloc, program, store, control, planning)?;
     drop(row);
@@ -214,7 +231,7 @@ fn control_row(
     requires { ControlWithin (2 ^ 63) (plain_control control.now) }
     ensures { IfOk result
         (λ row. row ≡ (answer_in program.now planning.now.workers (state_of store.now)
-        planning.now.label.now (plain_control control.now)).row) }
+        (label_at planning.now.worker planning.now.choice.now) (plain_control control.now)).row) }
 {
     let Answer { names, row } = control_answer(alloc, program, store, control, planning)?;
     drop(names);
@@ -237,15 +254,20 @@ pub fn effect(
     ensures { IfOk result
         (λ row. row ≡ effect_at program.now workers label.now (state_of store.now)) }
 {
-    let planning = &Planning { label, workers };
+    let planning = &Planning {
+        worker: label.worker,
+        workers,
+        choice: &label.choice,
+    };
     match store.control(label.worker) {
         Some(control) => control_row(alloc, program, store, control, planning),
         None => control_row(alloc, program, store, &Control::Idle, planning),
     }
 }
 
-/// The plan of the step that a worker would take by its choice at a store's state.
-fn choice_plan(
+/// The plan of the step that a worker would take by its choice at a store's state: what `plan` answers, of a
+/// choice that stays where it is.
+pub fn plan_by(
     alloc: Global,
     program: &Program,
     store: &Store,
@@ -253,13 +275,13 @@ fn choice_plan(
 ) -> Result<Plan, AllocError>
     requires { StateWithin (2 ^ 63) (state_of store.now) }
     ensures plan { IfOk result (λ plan. StandsFor plan
-        (control_in (state_of store.now (obj.Control planning.now.label.now.worker)))
+        (control_in (state_of store.now (obj.Control planning.now.worker)))
         (step_at (rules_of program.now planning.now.workers) (state_of store.now)
-        planning.now.label.now)) }
+        (label_at planning.now.worker planning.now.choice.now))) }
     ensures room { IfOk result (λ plan. PlanHasRoom
-        (control_in (state_of store.now (obj.Control planning.now.label.now.worker))) plan) }
+        (control_in (state_of store.now (obj.Control planning.now.worker))) plan) }
 {
-    match store.control(planning.label.worker) {
+    match store.control(planning.worker) {
         Some(control) => control_plan(alloc, program, store, control, planning),
         None => control_plan(alloc, program, store, &Control::Idle, planning),
     }
@@ -284,5 +306,10 @@ pub fn plan(
     ensures room { IfOk result (λ plan. PlanHasRoom
         (control_in (state_of store.now (obj.Control label.now.worker))) plan) }
 {
-    choice_plan(alloc, program, store, &Planning { label, workers })
+    let planning = &Planning {
+        worker: label.worker,
+        workers,
+        choice: &label.choice,
+    };
+    plan_by(alloc, program, store, planning)
 }

@@ -7,6 +7,7 @@ ghost use Rattle.om_cells.specs.Ready.{first_behind, AreReady};
 ghost use Rattle.om_cells.specs.Rules.{Rules, replay};
 ghost use Rattle.om_cells.specs.Values.{control_in};
 ghost use Rattle.om_live.specs.Stores.{plain_or_idle};
+ghost use Rattle.om_task.specs.Plans.{label_at};
 ghost use Rattle.om_task.specs.Rules.{rules_of, line_in, is_at_scheduling_point};
 ghost use Rattle.om_history.specs.Choices.{choice_of, label_by};
 ghost use Rattle.om_history.specs.Runs.{no_history, label_of, reply_to_step, after_step, reply_to_undo, after_undo};
@@ -26,9 +27,9 @@ use om_history::choice::{choice_of, start_of};
 use om_history::{History, RollReply, StepReply, Taken, UndoReply};
 use om_live::Control;
 use om_task::laws::low_counters;
-use om_task::planning::{is_at_scheduling_point, line};
+use om_task::planning::{Planning, is_at_scheduling_point, line, plan_by};
 use om_task::start::started;
-use om_task::{Choice, Plan, plan};
+use om_task::{Choice, Plan};
 use std::alloc::{AllocError, Global};
 use std::marker::Model;
 use std::snapshot::Snapshot;
@@ -132,6 +133,22 @@ fn label(worker: u8, choice: &Choice) -> Label
     }
 }
 
+/// The plan of a choice's step where a history stands. Its only error is out of memory.
+fn planned_by(
+    alloc: Global,
+    program: &Program,
+    history: &History,
+    planning: &Planning<'_>,
+) -> Result<Plan, AllocError>
+    requires { IsHeld (rules_of program.now planning.now.workers) history.now }
+    ensures { IfOk result
+        (λ plan. IsPlan (rules_of program.now planning.now.workers) history.now
+        (label_at planning.now.worker planning.now.choice.now) plan) }
+{
+    low_counters();
+    plan_by(alloc, program, history.store(), planning)
+}
+
 /// The plan of a label's step where a history stands. Its only error is out of memory.
 fn planned(
     alloc: Global,
@@ -144,8 +161,12 @@ fn planned(
     ensures { IfOk result
         (λ plan. IsPlan (rules_of program.now workers) history.now label.now plan) }
 {
-    low_counters();
-    plan(alloc, program, history.store(), workers, label)
+    let planning = &Planning {
+        worker: label.worker,
+        workers,
+        choice: &label.choice,
+    };
+    planned_by(alloc, program, history, planning)
 }
 
 /// What `taken` of a plan for a worker's label would answer now: the reply of the definition of a run.
@@ -258,8 +279,12 @@ impl Machine {
             (λ p. p ≡ planned_at self.now (record { worker = worker; choice = choice.now })) }
     {
         let start = start_of(alloc, choice)?;
-        let label = label(worker, choice);
-        let plan = planned(alloc, &self.program, self.workers, &self.history, &label)?;
+        let planning = &Planning {
+            worker,
+            workers: self.workers,
+            choice,
+        };
+        let plan = planned_by(alloc, &self.program, &self.history, planning)?;
         Ok(PlannedStep {
             worker,
             start,

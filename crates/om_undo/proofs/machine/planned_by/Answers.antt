@@ -4,12 +4,13 @@ use Rattle.std.specs.Prelude.{map, Result, Ok, Err}
 use Rattle.std.proofs.lemmas.List.{length-map}
 use Rattle.om_live.specs.Stores.{state_of}
 use Rattle.om_cells.specs.declared.step.Entry.{Entry}
+use Rattle.om_task.specs.Plans.{label_at}
 use Rattle.om_task.specs.Rules.{rules_of}
 use Rattle.om_history.specs.declared.records.UndoRecord.{UndoRecord}
 use Rattle.om_history.specs.Runs.{label_of}
 use Rattle.om_history.specs.Pasts.{past_in, history_in}
 use Rattle.om_undo.proofs.Planned.{is_plan}
-use Rattle.om_undo.proofs.machine.planned.Goals as goal
+use Rattle.om_undo.proofs.machine.planned_by.Goals as goal
 
 -- what holds of an answer by two clauses
 both_ok : {T E : Type 0} (r : Result T E) (P Q R : T → Type 0) → ((x : T) → P x → Q x → R x) → IfOk r P → IfOk r Q
@@ -17,12 +18,13 @@ both_ok : {T E : Type 0} (r : Result T E) (P Q R : T → Type 0) → ((x : T) �
 both_ok (Ok x) P Q R h p q = h x p q
 both_ok (Err e) P Q R h p q = tt
 
-pub plan-requires : goal.plan-requires
-plan-requires c =
+pub plan_by-requires : goal.plan_by-requires
+plan_by-requires c =
     let records : List UndoRecord = (past_in c.args.history.now).records in
     let es : List Entry = (history_in c.args.history.now).entries in
-    c.low_counters.ensures c.args.program.now c.args.workers (2 ^ 63) (map label_of es) (state_of c.store.result.now)
-    (c.store.ensures.replayed (rules_of c.args.program.now c.args.workers) c.requires)
+    c.low_counters.ensures c.args.program.now c.args.planning.now.workers (2 ^ 63) (map label_of es)
+    (state_of c.store.result.now)
+    (c.store.ensures.replayed (rules_of c.args.program.now c.args.planning.now.workers) c.requires)
     (omega (
       arith,
       c.requires.past.few,
@@ -33,7 +35,8 @@ plan-requires c =
     ))
 
 pub returns : goal.returns
-returns c = both_ok c.plan.result _ _ _
-    (λ p is room. is_plan (rules_of c.args.program.now c.args.workers) c.args.history.now c.args.label.now
+returns c = both_ok c.plan_by.result _ _ _
+    (λ p is room. is_plan (rules_of c.args.program.now c.args.planning.now.workers) c.args.history.now
+    (label_at c.args.planning.now.worker c.args.planning.now.choice.now)
     (state_of c.store.result.now) p c.requires c.store.ensures.state c.store.ensures.replayed is room)
-    c.plan.ensures.plan c.plan.ensures.room
+    c.plan_by.ensures.plan c.plan_by.ensures.room
