@@ -1,6 +1,7 @@
 -- Statements one behind the other.
 use Rattle.std.proofs.Common.{◌≡◌, refl, Bool, ℕ, suc, ◌+◌, ◌<◌, ◌≤◌, List, ◌∷◌, map, get_or, drop, drop-cons, add-one}
 use Rattle.std.proofs.Common.{length, sym, ap, ◌∙◌, subst, arith}
+use Rattle.std.specs.Prelude.{Err, IfOk, Result}
 use Rattle.om_emit.specs.Drafts.{Written}
 use Rattle.om_emit.specs.Emits.{site}
 use Rattle.om_emit.specs.Writing.{goes_end}
@@ -112,6 +113,10 @@ pub numbers_are : (names : Numbered) (n m : Numbers) (s : ResolvedStatementTree)
     → n ≡ m
     → EmitsStatement names n s jumps a b → EmitsStatement names m s jumps a b
 numbers_are names n m s jumps a b e h = subst (λ z. EmitsStatement names z s jumps a b) e h
+
+-- where memory runs out, nothing is promised
+pub nothing_on_error : {T E : Type 0} (r : Result T E) (P : T → Type 0) (e : E) → r ≡ Err e → IfOk r P
+nothing_on_error r P e is = subst (λ found. IfOk found P) (sym is) tt
 
 pub no_atomic : (kind : ConstructKind) → (kind ≡ constructs.Atomic → ⊥) → IsNoAtomic kind
 no_atomic (constructs.Single nowait) h = search

@@ -1,6 +1,7 @@
 use Rattle.std.proofs.Common.{◌≡◌, ◌≤◌, ◌+◌, ◌^◌, List, arith, drop, refl, length, map, option_map, sym, ap, subst, ◌∙◌}
 use denote.Param.Weighed.{most}
 use Rattle.std.proofs.lemmas.List.{drop_all}
+use Rattle.std.proofs.lemmas.Result.{err_from_is_err_and}
 use Rattle.om_emit.specs.Drafts.{Written}
 use Rattle.om_emit.specs.Writing.{goes_end}
 use Rattle.om_lexer.specs.declared.token.Span.{Span}
@@ -18,7 +19,7 @@ use Rattle.om_rows.specs.Numbered.{Numbered}
 use Rattle.om_rows.specs.Numbering.{numbers_of}
 use Rattle.om_statements.specs.Going.{free_with, with_none}
 use Rattle.om_lower.proofs.Lists.{left_item, left_next, no_atomic, numbers_are, onward_begin, onward_done, spot_is}
-use Rattle.om_lower.proofs.Lists.{statement_is}
+use Rattle.om_lower.proofs.Lists.{nothing_on_error, statement_is}
 use Rattle.om_lower.proofs.RegionEnds.{sections_ends}
 use Rattle.om_lower.proofs.RegionEnds.{ends_here, ends_next, parallel_ends, parts_ends_here, parts_ends_next}
 use Rattle.om_lower.proofs.RegionEnds.{task_ends}
@@ -760,3 +761,125 @@ statement-begin_parts-requires t c = record {
   numbered = (sections_ends _ _ c.args.tree.now c.in-Sections.at c.in-Sections.clauses c.in-Sections.nowait
       c.in-Sections.sections c.in-Sections.is c.requires.ends).0;
 }
+
+pub statement-begin_else-requires : goal.statement-begin_else-requires
+statement-begin_else-requires t c =
+    free_with _ _ _ _ _ c.in_ok-head-in-IfElse.ensures.free c.in_ok-between-in-IfElse.ensures.emitted
+
+pub statement-define-requires : goal.statement-define-requires
+statement-define-requires t c =
+    free_with _ _ _ _ _ c.in_ok-end-in-If.ensures.free c.in_ok-after-in-If.ensures.emitted
+
+pub statement-returns-in_ok-declarators-in-Declaration-clause-emitted :
+    goal.statement-returns-in_ok-declarators-in-Declaration-clause-emitted
+statement-returns-in_ok-declarators-in-Declaration-clause-emitted t c =
+    statement_is (numbered_by c.args.tables.now) (numbers_of c.args.spot.numbers) _ _ c.args.spot.jumps _ _
+    (ap (λ xs. trees.Declaration c.in-Declaration.at (map view_resolved_declarator xs)) c.as_slice.ensures.value
+    ∙ sym (ap view_resolved_statement c.in-Declaration.is
+    ∙ view_declaration c.in-Declaration.at c.in-Declaration.declared))
+    (with_none _ _ _ _ c.in_ok-declarators-in-Declaration.ensures.code)
+
+pub statement-returns-in_ok-end-in-Block-clause-emitted : goal.statement-returns-in_ok-end-in-Block-clause-emitted
+statement-returns-in_ok-end-in-Block-clause-emitted t c =
+    statement_is (numbered_by c.args.tables.now) (numbers_of c.args.spot.numbers) _ _ c.args.spot.jumps _ _
+    (ap (λ xs. trees.Block c.in-Block.at (trees.statements (map view_resolved_statement xs)))
+    c.as_slice-in-Block.ensures.value
+    ∙ sym (ap view_resolved_statement c.in-Block.is ∙ view_block c.in-Block.at c.in-Block.items))
+    c.in_ok-after-in-Block.ensures.emitted
+
+pub statement-returns-in-Empty-clause-emitted : goal.statement-returns-in-Empty-clause-emitted
+statement-returns-in-Empty-clause-emitted t c =
+    statement_is (numbered_by c.args.tables.now) (numbers_of c.args.spot.numbers) _ _ c.args.spot.jumps _ _
+    (sym (ap view_resolved_statement c.in-Empty.is ∙ view_empty _))
+    (with_none _ _ _ _ (goes_end _ c.args.writing.now.draft))
+
+pub statement-returns-in_ok-effect-in-Expression-clause-emitted :
+    goal.statement-returns-in_ok-effect-in-Expression-clause-emitted
+statement-returns-in_ok-effect-in-Expression-clause-emitted t c =
+    statement_is (numbered_by c.args.tables.now) (numbers_of c.args.spot.numbers) _ _ c.args.spot.jumps _ _
+    (sym (ap view_resolved_statement c.in-Expression.is
+    ∙ view_expression c.in-Expression.at c.in-Expression.expression))
+    (with_none _ _ _ _ c.in_ok-effect-in-Expression.ensures)
+
+pub statement-returns-in_ok-returned-in-Return-clause-emitted :
+    goal.statement-returns-in_ok-returned-in-Return-clause-emitted
+statement-returns-in_ok-returned-in-Return-clause-emitted t c =
+    statement_is (numbered_by c.args.tables.now) (numbers_of c.args.spot.numbers) _ _ c.args.spot.jumps _ _
+    (sym (ap view_resolved_statement c.in-Return.is ∙ view_return c.in-Return.at c.in-Return.answer))
+    (with_none _ _ _ _ c.in_ok-returned-in-Return.ensures)
+
+pub statement-returns-in_ok-update-in-Update-clause-emitted :
+    goal.statement-returns-in_ok-update-in-Update-clause-emitted
+statement-returns-in_ok-update-in-Update-clause-emitted t c =
+    statement_is (numbered_by c.args.tables.now) (numbers_of c.args.spot.numbers) _ _ c.args.spot.jumps _ _
+    (ap (λ z. trees.Update c.in-Update.at (view_resolved_update z)) c.deref-in-Update.ensures
+    ∙ sym (ap view_resolved_statement c.in-Update.is ∙ view_update c.in-Update.at c.in-Update.updated))
+    (with_none _ _ _ _ c.in_ok-update-in-Update.ensures)
+
+-- where memory runs out, nothing is promised
+pub statement-returns-in_err-end-in-For-clause-behind : goal.statement-returns-in_err-end-in-For-clause-behind
+statement-returns-in_err-end-in-For-clause-behind t c =
+    let failed = err_from_is_err_and c.from_residual-in_err-end-in-For.result
+    c.from_residual-in_err-end-in-For.ensures.1 in
+    nothing_on_error _ _ _ failed.1
+
+pub statement-returns-in_err-end-in-For-clause-emitted : goal.statement-returns-in_err-end-in-For-clause-emitted
+statement-returns-in_err-end-in-For-clause-emitted t c =
+    let failed = err_from_is_err_and c.from_residual-in_err-end-in-For.result
+    c.from_residual-in_err-end-in-For.ensures.1 in
+    nothing_on_error _ _ _ failed.1
+
+pub statement-returns-in_err-end-in-For-clause-scopes : goal.statement-returns-in_err-end-in-For-clause-scopes
+statement-returns-in_err-end-in-For-clause-scopes t c =
+    let failed = err_from_is_err_and c.from_residual-in_err-end-in-For.result
+    c.from_residual-in_err-end-in-For.ensures.1 in
+    nothing_on_error _ _ _ failed.1
+
+pub statement-returns-in_err-end-in-Loop-clause-behind : goal.statement-returns-in_err-end-in-Loop-clause-behind
+statement-returns-in_err-end-in-Loop-clause-behind t c =
+    let failed = err_from_is_err_and c.from_residual-in_err-end-in-Loop.result
+    c.from_residual-in_err-end-in-Loop.ensures.1 in
+    nothing_on_error _ _ _ failed.1
+
+pub statement-returns-in_err-end-in-Loop-clause-emitted : goal.statement-returns-in_err-end-in-Loop-clause-emitted
+statement-returns-in_err-end-in-Loop-clause-emitted t c =
+    let failed = err_from_is_err_and c.from_residual-in_err-end-in-Loop.result
+    c.from_residual-in_err-end-in-Loop.ensures.1 in
+    nothing_on_error _ _ _ failed.1
+
+pub statement-returns-in_err-end-in-Loop-clause-scopes : goal.statement-returns-in_err-end-in-Loop-clause-scopes
+statement-returns-in_err-end-in-Loop-clause-scopes t c =
+    let failed = err_from_is_err_and c.from_residual-in_err-end-in-Loop.result
+    c.from_residual-in_err-end-in-Loop.ensures.1 in
+    nothing_on_error _ _ _ failed.1
+
+pub statement-returns-in_err-end-in-Sections-clause-behind :
+    goal.statement-returns-in_err-end-in-Sections-clause-behind
+statement-returns-in_err-end-in-Sections-clause-behind t c =
+    let failed = err_from_is_err_and c.from_residual-in_err-end-in-Sections.result
+    c.from_residual-in_err-end-in-Sections.ensures.1 in
+    nothing_on_error _ _ _ failed.1
+
+pub statement-returns-in_err-end-in-Sections-clause-emitted :
+    goal.statement-returns-in_err-end-in-Sections-clause-emitted
+statement-returns-in_err-end-in-Sections-clause-emitted t c =
+    let failed = err_from_is_err_and c.from_residual-in_err-end-in-Sections.result
+    c.from_residual-in_err-end-in-Sections.ensures.1 in
+    nothing_on_error _ _ _ failed.1
+
+pub statement-returns-in_err-end-in-Sections-clause-scopes :
+    goal.statement-returns-in_err-end-in-Sections-clause-scopes
+statement-returns-in_err-end-in-Sections-clause-scopes t c =
+    let failed = err_from_is_err_and c.from_residual-in_err-end-in-Sections.result
+    c.from_residual-in_err-end-in-Sections.ensures.1 in
+    nothing_on_error _ _ _ failed.1
+
+pub statement-returns-in_err-end-in-Construct : goal.statement-returns-in_err-end-in-Construct
+statement-returns-in_err-end-in-Construct t c =
+    let failed = err_from_is_err_and c.from_residual-in_err-end-in-Construct.result
+    c.from_residual-in_err-end-in-Construct.ensures.1 in
+    record {
+      behind = nothing_on_error _ _ _ failed.1;
+      emitted = nothing_on_error _ _ _ failed.1;
+      scopes = nothing_on_error _ _ _ failed.1;
+    }
