@@ -101,7 +101,7 @@ module _ (p : Parts) (l : Limits) (one : 1 ≤ l.nested) (sound : ArePartsSound 
       let back = after_front s.0.1 (optional_spelling punctuators.Semicolon c.0.0) c.0.1 (optional_spelling punctuators.CloseParen e.0.0) e.0.1 condition.parts step.parts in
       let inner = after_front o.0.1 (for_start_spelling s.0.0) s.0.1 (optional_spelling punctuators.Semicolon c.0.0 ++ optional_spelling punctuators.CloseParen e.0.0) e.0.1 start.parts back in
       let flat = flat_parts o.0.1 (for_start_spelling s.0.0) (perhaps expression_spelling c.0.0.0)
-          (mark punctuators.Semicolon c.0.0.1) (optional_spelling punctuators.CloseParen e.0.0) e.0.1 inner in
+      (mark punctuators.Semicolon c.0.0.1) (optional_spelling punctuators.CloseParen e.0.0) e.0.1 inner in
       subst (IsRead for_head_spelling (IsWholeHead l) (word keywords.For at ∷ ts)) (ok_is _ x e.2) (record {
         parts = ap (λ w. word keywords.For at ∷ w) (mark_at_is punctuators.OpenParen ts o.0 o.1 ∙ ap (λ w. mark punctuators.OpenParen o.0.0 ∷ w) flat);
         formed = record { start = start.formed; condition = condition.formed; step = step.formed };

@@ -358,7 +358,7 @@ module _ (beyond room : ℕ) (whole : Reader ExpressionTree) (sound : IsExpressi
       → first_at beyond whole n us ≡ ok a
       → until (take_mark punctuators.CloseParen) (argument_at beyond whole) (length a.1) a.1 ≡ ok (xs, s, rest)
       → within {A = ExpressionTree × List Token} beyond s rest
-          (ok (Call n left (arguments ((None, a.0) ∷ xs)) s, rest)) ≡ Err f
+      (ok (Call n left (arguments ((None, a.0) ∷ xs)) s, rest)) ≡ Err f
       → IsExpressionCut 11 beyond (suc room) (name n ∷ mark punctuators.OpenParen left ∷ us) f.at
   unfolding expression_spelling arguments_spelling IsExpression
   closing_cut n left us f a xs s rest le reads many made = elim (within_err beyond s rest _ f made) [
@@ -366,10 +366,10 @@ module _ (beyond room : ℕ) (whole : Reader ExpressionTree) (sound : IsExpressi
     | inl (over, place) ↦
         let first = first_sound beyond room whole sound n us a reads in
         let r = until_sound argument_spelling (IsGoodArgument room) (mark punctuators.CloseParen)
-            (take_mark punctuators.CloseParen) (argument_at beyond whole) (take_mark_is punctuators.CloseParen)
-            (argument_sound beyond room whole sound) (length a.1) a.1 (xs, s, rest) many in
+        (take_mark punctuators.CloseParen) (argument_at beyond whole) (take_mark_is punctuators.CloseParen)
+        (argument_sound beyond room whole sound) (length a.1) a.1 (xs, s, rest) many in
         let flat : a.1 ≡ (arguments_spelling (arguments xs) ++ mark punctuators.CloseParen s ∷ []) ++ rest = r.parts
-            ∙ ap (λ w. (w ++ mark punctuators.CloseParen s ∷ []) ++ rest) (sym (arguments_flat xs)) in
+        ∙ ap (λ w. (w ++ mark punctuators.CloseParen s ∷ []) ++ rest) (sym (arguments_flat xs)) in
         record {
           tree = Call n left (Argument None a.0 (arguments xs)) s;
           formed = (first.formed.0, (arguments_good room xs r.formed).0);
