@@ -1,23 +1,16 @@
 -- A line, and what stands behind it.
-use Rattle.std.proofs.Common.{◌≡◌, ℕ, List, [], ◌∷◌, ◌++◌, ◌==◌, None, sym, ap, ◌∙◌, codes, append_assoc, append-nil}
-use Rattle.std.specs.List.{position}
-use Rattle.om_lines.specs.Tails.{HasTail, IsNoted, no_words, with_words}
-use Rattle.om_lines.specs.Unended.{position_none}
+use Rattle.std.proofs.Common.{◌≡◌, ℕ, Bool, true, false, cond, List, [], ◌∷◌, ◌++◌, sym, ap, ◌∙◌, codes, append_assoc, append-nil}
+use Rattle.om_lines.specs.Tails.{fits_behind, tail_of}
 
-pub no_tail : (text : List ℕ) → HasTail text text
-no_tail text = record { tail = []; is_tail = no_words; is = sym (append-nil text) }
+pub no_tail : (text words : List ℕ) → fits_behind words ≡ false → text ≡ text ++ tail_of words
+no_tail text words none = sym (append-nil text) ∙ ap (λ (b : Bool). text ++ cond b (codes " | " ++ words) []) (sym none)
 
-pub a_tail : (text marked all line : List ℕ) → None ≡ position (λ byte. byte == 10) line
-    → marked ≡ text ++ codes " | " → all ≡ marked ++ line → HasTail text all
-a_tail text marked all line none mark more = record {
-  tail = codes " | " ++ line;
-  is_tail = with_words line (position_none (λ byte. byte == 10) line none);
-  is = more ∙ ap (λ t. t ++ line) mark ∙ append_assoc text (codes " | ") line;
-}
+pub a_tail : (text marked all words : List ℕ) → fits_behind words ≡ true → marked ≡ text ++ codes " | "
+    → all ≡ marked ++ words → all ≡ text ++ tail_of words
+a_tail text marked all words fits mark more =
+    more ∙ ap (λ t. t ++ words) mark ∙ append_assoc text (codes " | ") words
+    ∙ ap (λ (b : Bool). text ++ cond b (codes " | " ++ words) []) (sym fits)
 
-pub noted : (line text all : List ℕ) → HasTail line text → all ≡ text ++ 10 ∷ [] → IsNoted line all
-noted line text all tail ended = record {
-  tail = tail.tail;
-  is_tail = tail.is_tail;
-  is = ended ∙ ap (λ t. t ++ 10 ∷ []) tail.is;
-}
+pub noted : (line text all words : List ℕ) → text ≡ line ++ tail_of words → all ≡ text ++ 10 ∷ []
+    → all ≡ line ++ tail_of words ++ 10 ∷ []
+noted line text all words tail ended = ended ∙ ap (λ t. t ++ 10 ∷ []) tail

@@ -1,4 +1,4 @@
-//! What omplab writes, to the byte: the head of a report, a step as a command, and a line with words behind it.
+//! Lines that omplab writes, to the byte: a report behind its head, steps as commands, a line with words behind it.
 #![tactic(auto)]
 
 mod commands;

@@ -1,7 +1,7 @@
 //! A report as it is written: the head by the verdict, and what stands behind it.
 
-ghost use Rattle.std.specs.Prelude.{◌≡◌, IfOk};
-ghost use Rattle.om_lines.specs.Heads.{BeginsWith, accepted_head, refused_head};
+ghost use Rattle.std.specs.Prelude.{◌≡◌, ◌++◌, IfOk};
+ghost use Rattle.om_lines.specs.Heads.{accepted_head, refused_head};
 
 use crate::head::{push_accepted, push_refused};
 use om_lexer::SourceFault;
@@ -17,10 +17,10 @@ pub struct Report {
 }
 
 /// The report on the accepted source of a file, with notes behind its head. The only error is out of memory.
-#[tactic(auto, using(crate::proofs::HeadLaws::begins_behind))]
+#[tactic(auto, using(crate::proofs::HeadLaws::stands_behind))]
 pub fn accepted_report(alloc: Global, file: &str, notes: &[u8]) -> Result<Report, AllocError>
-    ensures begins { IfOk result
-        (λ report. BeginsWith (accepted_head file.now) report.text.items) }
+    ensures text { IfOk result
+        (λ report. report.text.items ≡ accepted_head file.now ++ notes.now) }
     ensures status { IfOk result (λ report. report.status ≡ 0) }
 {
     let mut text = Vec::new(alloc);
@@ -31,7 +31,7 @@ pub fn accepted_report(alloc: Global, file: &str, notes: &[u8]) -> Result<Report
 
 /// The report on the refused source of a file, with an explanation behind its head. The only error is out of
 /// memory.
-#[tactic(auto, using(crate::proofs::HeadLaws::begins_behind))]
+#[tactic(auto, using(crate::proofs::HeadLaws::stands_behind))]
 pub fn refused_report(
     alloc: Global,
     file: &str,
@@ -39,8 +39,8 @@ pub fn refused_report(
     fault: SourceFault,
     explanation: &[u8],
 ) -> Result<Report, AllocError>
-    ensures begins { IfOk result
-        (λ report. BeginsWith (refused_head file.now source.now fault) report.text.items) }
+    ensures text { IfOk result
+        (λ report. report.text.items ≡ refused_head file.now source.now fault ++ explanation.now) }
     ensures status { IfOk result (λ report. report.status ≡ 1) }
 {
     let mut text = Vec::new(alloc);

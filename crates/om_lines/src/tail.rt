@@ -1,7 +1,7 @@
 //! A line with words behind it.
 
-ghost use Rattle.std.specs.Prelude.{IfOk, OnOk};
-ghost use Rattle.om_lines.specs.Tails.{HasTail, IsNoted};
+ghost use Rattle.std.specs.Prelude.{◌≡◌, ◌++◌, ◌∷◌, [], IfOk, OnOk};
+ghost use Rattle.om_lines.specs.Tails.{fits_behind, tail_of};
 
 use om_shell::first_line_end;
 use std::alloc::{AllocError, Global};
@@ -10,7 +10,7 @@ use std::alloc::{AllocError, Global};
 /// they would end the line. The only error is out of memory.
 #[tactic(auto, using(crate::proofs::TailLaws::noted))]
 pub fn noted(alloc: Global, line: &[u8], words: &[u8]) -> Result<Vec<u8>, AllocError>
-    ensures { IfOk result (λ text. IsNoted line.now text.items) }
+    ensures { IfOk result (λ text. text.items ≡ line.now ++ tail_of words.now ++ 10 ∷ []) }
 {
     let mut text = Vec::from_slice(alloc, line)?;
     push_tail(&mut text, words)?;
@@ -18,12 +18,19 @@ pub fn noted(alloc: Global, line: &[u8], words: &[u8]) -> Result<Vec<u8>, AllocE
     Ok(text)
 }
 
+// Whether words can stand behind a line: there are some, and none of their bytes would end it.
+fn fits_behind(words: &[u8]) -> bool
+    ensures { result ≡ fits_behind words.now }
+{
+    !words.is_empty() && first_line_end(words).is_none()
+}
+
 // Appends the mark and words; nothing where there are none, or where they would end the line.
 #[tactic(auto, using(crate::proofs::TailLaws::no_tail, crate::proofs::TailLaws::a_tail))]
 fn push_tail(text: &mut Vec<u8>, words: &[u8]) -> Result<(), AllocError>
-    ensures { OnOk result (HasTail text.old.items text.new.items) }
+    ensures { OnOk result (text.new.items ≡ text.old.items ++ tail_of words.now) }
 {
-    if words.is_empty() || first_line_end(words).is_some() {
+    if !fits_behind(words) {
         return Ok(());
     }
     text.extend_from_slice(b" | ")?;

@@ -10,6 +10,7 @@ use Rattle.om_shell.specs.declared.fault.ShellFault.{ShellFault}
 use Rattle.om_shell.specs.Lines.{HasNoLineEnd}
 use Rattle.om_shell.specs.Progress.{AppendsPart, ReadFails}
 use Rattle.om_lines.specs.Tails.{IsNoted}
+pub use Rattle.om_lines.specs.Unended.{is_noted}
 use Rattle.om_notes.specs.Parts.{IsPart, announced, as_they_are, a_line, no_part, one_more}
 use Rattle.om_notes.specs.Passing.{Passed, PassesPart, BreaksPart, PassesAll, PassesBeginning}
 use Rattle.om_notes.specs.Passing.{GoesOn, BreaksOff}

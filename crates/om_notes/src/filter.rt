@@ -18,6 +18,7 @@ use std::alloc::{AllocError, Global};
 use std::io::{Read, Write};
 
 // The line up to `end` as it is written, and how many bytes are due as they are behind it.
+#[tactic(auto, using(crate::proofs::PassLaws::is_noted))]
 fn answer(names: &Names<'_>, pending: &[u8], end: usize) -> Result<(Vec<u8>, usize), AllocError>
     requires within { end ≤ length pending.now }
     ensures text { IfOk result (λ r. IsNoted (take end pending.now) r.0.items) }

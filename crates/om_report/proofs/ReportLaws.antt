@@ -1,5 +1,5 @@
 -- A report, by its verdict.
-use Rattle.std.proofs.Common.{◌≡◌, ◌≢◌, ℕ, List, Result, Ok, Err, IfOk, ap}
+use Rattle.std.proofs.Common.{◌≡◌, ◌≢◌, ℕ, List, ◌++◌, Result, Ok, Err, IfOk, ap}
 use Rattle.om_code.specs.declared.raw.Raw.{Raw}
 use Rattle.om_lexer.specs.declared.fault.FaultCode.TheVariants.{Memory}
 use Rattle.om_lexer.specs.declared.fault.SourceFault.{SourceFault}
@@ -8,6 +8,12 @@ use Rattle.om_shell.specs.Verdict.{IsProgramOf, IsRefused}
 use Rattle.om_lines.specs.declared.report.Report.{Report}
 use Rattle.om_lines.specs.Heads.{BeginsWith, accepted_head, refused_head}
 use Rattle.om_report.specs.Reports.{Reports}
+
+-- a text that is a head and what stands behind it begins with the head
+pub begins_with : {E : Type 0} (front rest : List ℕ) (r : Result Report E)
+    → IfOk r (λ report. report.text.items ≡ front ++ rest) → IfOk r (λ report. BeginsWith front report.text.items)
+begins_with front rest (Ok report) is = record { rest = rest; is = is }
+begins_with front rest (Err e) is = tt
 
 pub reports_accepted : {E : Type 0} (file source : List ℕ) (program : Raw) (r : Result Report E)
     → IsProgramOf source program

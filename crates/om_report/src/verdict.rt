@@ -12,6 +12,7 @@ use om_shell::program_of;
 use std::alloc::{AllocError, Global};
 
 // The report on an accepted source.
+#[tactic(auto, using(crate::proofs::ReportLaws::begins_with))]
 fn accepted(alloc: Global, checked: Checked<'_>) -> Result<Report, AllocError>
     ensures begins { IfOk result
         (λ report. BeginsWith (accepted_head checked.entry.file.now) report.text.items) }
@@ -22,6 +23,7 @@ fn accepted(alloc: Global, checked: Checked<'_>) -> Result<Report, AllocError>
 }
 
 // The report on a refused source.
+#[tactic(auto, using(crate::proofs::ReportLaws::begins_with))]
 fn refused(
     alloc: Global,
     file: &str,
