@@ -1,8 +1,8 @@
 //! Books and sessions. A book is a machine with the journal of its calls. In a session seats share a book
 //! under one lock; here are their receipts, orders, and the answers that receipts back.
 //!
-//! Of answers to orders those are kept that the receipts of their seats back. The items of the journal are
-//! at this root too.
+//! Of answers to orders those are kept that the receipts of their seats back. The commands, replies and
+//! records of om_journal are at this root too.
 #![tactic(auto)]
 
 mod backing;

@@ -23,3 +23,4 @@ pub use name::{
 pub use nesting::is_parallel;
 pub use refusal::refuse_if;
 pub use symbols::{Symbols, add_predeclared};
+pub use table::Table;

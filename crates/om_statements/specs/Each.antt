@@ -1,4 +1,4 @@
--- How the rows of a list are written one behind the other.
+-- Matter of proofs, for om_lower too: how the rows of a list are written one behind the other.
 use Rattle.std.specs.Prelude.{slice_index_or}
 use Rattle.std.specs.List.{All}
 use Rattle.std.proofs.lemmas.List.{length-map}

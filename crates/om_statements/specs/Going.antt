@@ -1,4 +1,4 @@
--- How stretches are written one behind the other, with the lists of PICK of both.
+-- Matter of proofs, for om_lower too: how stretches are written one behind the other, with the lists of PICK of both.
 use Rattle.std.proofs.Common.{◌≡◌, ℕ, ◌<◌, ◌≤◌, List, [], ◌++◌, Some, None, length, map, sym, ap, subst, ◌∙◌, arith}
 use Rattle.std.specs.Prelude.{slice_get}
 use Rattle.std.proofs.lemmas.List.{append_assoc, append-nil}

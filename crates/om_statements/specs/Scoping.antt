@@ -1,4 +1,4 @@
--- How the scopes of stretches are written one behind the other.
+-- Matter of proofs, for om_lower too: how the scopes of stretches are written one behind the other.
 use Rattle.std.proofs.Common.{◌≡◌, ℕ, suc, ◌+◌, ◌<◌, ◌≤◌, List, [], ◌∷◌, ◌++◌, Option, length, map, drop, take, refl, sym, ap, subst, ◌∙◌}
 use Rattle.std.proofs.Common.{arith, length-append}
 use Rattle.std.specs.Prelude.{reverse}

@@ -1,7 +1,7 @@
 //! Lowering: writes what stands in statements besides the statements in them.
 //!
-//! What has a statement in it is written by a begin, the statement and an end. The begin makes the
-//! labels, and the end places those that stand behind the statement.
+//! A construct with a statement in it is written by a begin, the statement and an end. The begin makes the
+//! label, and the end places it. The begins and ends of `if`, of loops and of `sections` stand in om_lower.
 #![tactic(auto)]
 
 pub mod alone;

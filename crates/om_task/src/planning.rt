@@ -36,6 +36,7 @@ pub struct Planning<'a> {
     pub worker: u8,
     /// How many workers there are, 1 to 32.
     pub workers: u8,
+    /// What the worker would do.
     pub choice: &'a Choice,
 }
 

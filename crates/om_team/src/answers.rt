@@ -18,12 +18,12 @@ use om_seq::Seq;
 use om_steps::{Answer, Row};
 use std::alloc::{AllocError, Global};
 
-/// A choice of one of so many workers.
+// A choice of one of so many workers.
 #[derive(Clone, Copy)]
-pub struct Planning<'a> {
-    pub label: &'a Label,
-    /// How many workers there are, 1 to 32.
-    pub workers: u8,
+struct Planning<'a> {
+    label: &'a Label,
+    // 1 to 32.
+    workers: u8,
 }
 
 /// What a worker's step touches that names these objects beside its control. Its only error is out of

@@ -1,4 +1,4 @@
--- For proofs: what a function returned that makes a part of a tree out of tokens, or of its own parts.
+-- What a function returns that makes a part of a tree out of tokens, or of its own parts.
 use Rattle.std.specs.Prelude.{◌≡◌, List, Result, Ok, Err, ◌⊎◌}
 use Rattle.std.specs.Global.{Box}
 use denote.Ref.{Bor}
