@@ -1,9 +1,10 @@
 #!/usr/bin/env python3
-"""machine.py PROGRAM: how fast PROGRAM steps and undoes with one worker and with four, and below many frames.
+"""machine.py PROGRAM [RUNS]: how fast PROGRAM steps and undoes with one worker and with four, and below many frames.
 
-Each program counts for ever. It runs three times, on one core: without a step, with every step, and with every step and then
-every undo. The differences give steps and undos a second. For the frames it is what a step costs once `f` has called itself so
-often. Nothing here is a test: nothing fails.
+Each program counts for ever. It runs in three ways, on one core: without a step, with every step, and with every step and then
+every undo. The differences give steps and undos a second. Each way counts by the best of that many runs (3 if not given): on a
+host that others share, more runs come nearer to an idle core. For the frames it is what a step costs once `f` has called itself
+so often. Nothing here is a test: nothing fails.
 """
 from timing import seconds, words
 
@@ -36,10 +37,10 @@ def rounds(command, workers):
     return "".join(f"{command} {worker}\n" for worker in workers) * (STEPS // len(workers))
 
 
-def rates(program, text, count):
+def rates(program, text, count, runs):
     """The steps and the undos a second of so many workers."""
     def taken(commands):
-        return seconds(program, (text + commands).encode(), arguments=["--threads", str(count)])
+        return seconds(program, (text + commands).encode(), times=runs, arguments=["--threads", str(count)])
 
     forwards = rounds("step", range(count))
     backwards = rounds("undo", range(count - 1, -1, -1))
@@ -47,20 +48,20 @@ def rates(program, text, count):
     return STEPS / max(there - idle, 1e-9), STEPS / max(both - there, 1e-9)
 
 
-def below(program, frames):
+def below(program, frames, runs):
     """The microseconds of a step below so many frames."""
     text = DEEP % (frames - 1, STEPS_OF_CALL * frames)
-    idle = seconds(program, text.encode())
-    return (seconds(program, (text + "step 0\n" * STEPS_BELOW).encode()) - idle) / STEPS_BELOW * 1e6
+    idle = seconds(program, text.encode(), times=runs)
+    return (seconds(program, (text + "step 0\n" * STEPS_BELOW).encode(), times=runs) - idle) / STEPS_BELOW * 1e6
 
 
 def main():
-    program, _ = words(__doc__, 0)
+    program, runs = words(__doc__, 3)
     for name, text, count in (("one worker", ONE, 1), ("four workers", FOUR, 4)):
-        steps, undos = rates(program, text, count)
+        steps, undos = rates(program, text, count, runs)
         print(f"{name}: {steps:,.0f} steps a second, {undos:,.0f} undos a second")
     for name, frames in (("one frame", 1), ("900 frames", 900)):
-        print(f"below {name}: {below(program, frames):.2f} us a step")
+        print(f"below {name}: {below(program, frames, runs):.2f} us a step")
 
 
 if __name__ == "__main__":
