@@ -19,9 +19,8 @@ use Rattle.om_cells.specs.contracts.part.PartOrd.TheImpl.{cmp-value}
 use Rattle.om_cells.specs.declared.value.Val.{Val}
 use Rattle.om_cells.specs.Parts.{name_of, part_of}
 use Rattle.om_cells.specs.Places.{Places, value_at, PutsAt, StaysAt}
-use Rattle.om_cells.specs.declared.store.Store.{Store}
 use Rattle.om_cells.specs.Named.{Named, value_among, value_of, PutsOf, StaysOf}
-use Rattle.om_cells.specs.Stores.{places_in, kept_in, kept_at}
+use Rattle.om_cells.specs.Stores.{places_in, kept_in}
 
 abbrev pub same_name : List ℕ → List ℕ → Bool
 same_name m n = is_at (slice_cmp nat_cmp m) n
@@ -228,15 +227,15 @@ pub owner_some : (r : Option (Bor (List ℕ))) (o : Option (List ℕ)) (n : Bor 
     → o ≡ Some n.now
 owner_some r o n h e = sym h ∙ ap option_copied e
 
-pub kept_unnamed : (s : Store) (q : Obj) (p : Part) → name_of q ≡ None → p ≡ part_of q
-    → value_at s.unnamed p ≡ kept_at s q
-kept_unnamed s q p none parted =
-    (λ i. value_among (places_in s.unnamed s.named (sym none i)) (parted i))
+pub kept_unnamed : (u : Places) (es : Named) (q : Obj) (p : Part) → name_of q ≡ None → p ≡ part_of q
+    → value_at u p ≡ kept_in u es q
+kept_unnamed u es q p none parted =
+    (λ i. value_among (places_in u es (sym none i)) (parted i))
 
-pub kept_named : (s : Store) (q : Obj) (n : List ℕ) (p : Part) → name_of q ≡ Some n → p ≡ part_of q
-    → value_of s.named n p ≡ kept_at s q
-kept_named s q n p named parted =
-    (λ i. value_among (places_in s.unnamed s.named (sym named i)) (parted i))
+pub kept_named : (u : Places) (es : Named) (q : Obj) (n : List ℕ) (p : Part) → name_of q ≡ Some n → p ≡ part_of q
+    → value_of es n p ≡ kept_in u es q
+kept_named u es q n p named parted =
+    (λ i. value_among (places_in u es (sym named i)) (parted i))
 
 pub puts_part : (p r : Part) (v : Option Val) (u w : Places) → p ≡ r → PutsAt p v u w → PutsAt r v u w
 puts_part p r v u w e h = subst (λ x. PutsAt x v u w) e h
@@ -246,18 +245,3 @@ pub stays_as : {T E : Type 0} (r : Result T E) (old new : Places) → new ≡ ol
     → OnErr r (StaysAt old new)
 stays_as (Ok v) old new same = tt
 stays_as (Err e) old new same = λ q. ap (lookup (same_part q)) same
-
--- what a look-up of the places of a name found, or not
-
-pub value_through : (s : Store) (q : Obj) (r : Option (Bor Places)) (ps : Bor Places) (p : Part) (o : Option (List ℕ))
-    → option_copied r ≡ places_in s.unnamed s.named o → r ≡ Some ps → o ≡ name_of q → p ≡ part_of q
-    → value_at ps.now p ≡ kept_at s q
-value_through s q r ps p o found is named parted =
-    ap (λ x. value_among x p) (sym (ap option_copied is) ∙ found)
-    ∙ (λ i. value_among (places_in s.unnamed s.named (named i)) (parted i))
-
-pub none_through : (s : Store) (q : Obj) (r : Option (Bor Places)) (o : Option (List ℕ))
-    → option_copied r ≡ places_in s.unnamed s.named o → r ≡ None → o ≡ name_of q → None ≡ kept_at s q
-none_through s q r o found is named =
-    ap (λ x. value_among x (part_of q)) (sym (ap option_copied is) ∙ found)
-    ∙ ap (λ x. value_among (places_in s.unnamed s.named x) (part_of q)) named

@@ -4,8 +4,7 @@ ghost use Rattle.std.specs.Prelude.{◌≡◌, ◌∷◌};
 ghost use Rattle.om_foot.specs.declared.footprint.Mode.TheVariants as mode;
 ghost use Rattle.om_foot.specs.declared.object.Obj.TheVariants as obj;
 
-use om_foot::Access;
-use om_seq::Seq;
+use crate::names::Names;
 use std::marker::Model;
 
 /// What a step touches. The first access is always the write of the worker's control. An access is
@@ -15,7 +14,7 @@ use std::marker::Model;
 #[derive(Drop)]
 pub struct Footprint {
     worker: u8,
-    others: Seq<Access>,
+    others: Names,
 }
 
 impl Model for Footprint {
@@ -31,17 +30,17 @@ impl Model for Footprint {
 
 impl Footprint {
     /// What a worker's step touches that names these objects beside its control. It takes no memory.
-    pub fn of(worker: u8, others: Seq<Access>) -> Footprint
+    pub fn of(worker: u8, others: Names) -> Footprint
         ensures { result ≡ record { object = obj.Control worker; mode = mode.Write } ∷ others }
     {
         Footprint { worker, others }
     }
 
-    /// The worker, whose control is written, and the accesses behind that.
-    pub fn parts(&self) -> (u8, &[Access])
+    /// The worker, whose control is written, and what is named beside that.
+    pub fn parts(&self) -> (u8, &Names)
         ensures { self.now
             ≡ record { object = obj.Control result.0; mode = mode.Write } ∷ result.1.now }
     {
-        (self.worker, self.others.as_slice())
+        (self.worker, &self.others)
     }
 }

@@ -1,6 +1,6 @@
 //! The places of the objects of each name.
 
-ghost use Rattle.std.specs.Prelude.{◌≡◌, ℕ, Bool, List, [], Option, None, Some, true, false, not, cond, is_some, IfOk, OnOk, OnErr};
+ghost use Rattle.std.specs.Prelude.{◌≡◌, ◌<◌, ℕ, Bool, List, [], Option, None, Some, true, false, not, cond, is_some, IfOk, OnOk, OnErr};
 ghost use Rattle.std.specs.BTreeMap.{is_at};
 ghost use Rattle.std.specs.Cmp.Lexicographic.{slice_cmp};
 ghost use Rattle.std.specs.Option.{option_copied};
@@ -12,6 +12,7 @@ ghost use Rattle.om_cells.specs.Ready.{is_ready, is_from, is_the, AreAll, IsNext
 ghost use Rattle.om_cells.specs.ReadyEntries.{is_ready_in, name_if_ready};
 ghost use Rattle.om_cells.specs.Values.{task_in};
 
+use crate::cells::SlotName;
 use crate::part::Part;
 use crate::place::Place;
 use crate::places::Places;
@@ -119,6 +120,17 @@ impl Named {
     {
         remove(&mut self.places, name, part);
         note(&self.places, &mut self.first, name, part);
+    }
+
+    /// Whether none of the first cells of a slot is kept.
+    pub fn holds_none(&self, slot: &SlotName, count: u32) -> bool
+        ensures { result ≡ true → (i : ℕ) → i < count
+            → value_of self.now slot.now.task (parts.Cell slot.now.frame slot.now.slot i) ≡ None }
+    {
+        match self.places.get(&slot.task) {
+            Some(places) => places.holds_none(slot, count),
+            None => true,
+        }
     }
 }
 

@@ -1,10 +1,12 @@
 //! The places of the objects of one name.
 
-ghost use Rattle.std.specs.Prelude.{◌≡◌, None, Some, true, is_some, OnOk, OnErr};
+ghost use Rattle.std.specs.Prelude.{◌≡◌, ◌<◌, ℕ, None, Some, true, is_some, OnOk, OnErr};
 ghost use Rattle.std.specs.Option.{option_copied};
 ghost use Rattle.om_cells.specs.declared.part.Part.{Part};
+ghost use Rattle.om_cells.specs.declared.part.Part.TheVariants as parts;
 ghost use Rattle.om_cells.specs.Places.{value_at, PutsAt, StaysAt};
 
+use crate::cells::SlotName;
 use crate::part::Part;
 use crate::place::Place;
 use crate::value::Val;
@@ -71,5 +73,26 @@ impl Places {
         ensures { PutsAt part.now None self.old self.new }
     {
         drop(self.places.remove(part));
+    }
+
+    /// Whether none of the first cells of a slot is kept.
+    pub fn holds_none(&self, slot: &SlotName, count: u32) -> bool
+        ensures { result ≡ true → (i : ℕ) → i < count
+            → value_at self.now (parts.Cell slot.now.frame slot.now.slot i) ≡ None }
+    {
+        let first = part_at(slot, 0);
+        let end = part_at(slot, count);
+        self.places.range(&first..&end).next().is_none()
+    }
+}
+
+/// The part of a cell.
+fn part_at(slot: &SlotName, index: u32) -> Part
+    ensures { result ≡ parts.Cell slot.now.frame slot.now.slot index }
+{
+    Part::Cell {
+        frame: slot.frame,
+        slot: slot.slot,
+        index,
     }
 }

@@ -1,6 +1,6 @@
 //! The store: what each object holds.
 
-ghost use Rattle.std.specs.Prelude.{◌≡◌, ◌<◌, [], true, false, IfOk, OnOk, OnErr, unwrap_or, neg_ℤ, length, slice_get};
+ghost use Rattle.std.specs.Prelude.{◌≡◌, ◌<◌, [], All, true, false, IfOk, OnOk, OnErr, unwrap_or, neg_ℤ, length, slice_get};
 ghost use Rattle.std.specs.Option.{option_copied};
 ghost use Rattle.om_foot.specs.declared.object.Obj.{Obj};
 ghost use Rattle.om_foot.specs.declared.object.Obj.TheVariants as obj;
@@ -8,7 +8,8 @@ ghost use Rattle.om_cells.specs.declared.value.Val.TheVariants as value;
 ghost use Rattle.om_cells.specs.declared.value.Task.TheVariants as task;
 ghost use Rattle.om_cells.specs.Edits.{changed, HaveRoom};
 ghost use Rattle.om_cells.specs.Values.{default_of, control_in, is_idle, cell_in, task_in, number_in, holder_in, count_of, items_of, value_plus, value_with, value_cut, SumFits};
-ghost use Rattle.om_cells.specs.State.{with_value};
+ghost use Rattle.om_cells.specs.State.{with_value, updated, taken_back, undo_record};
+ghost use Rattle.om_cells.specs.Cells.{cells_of, puts_of, were_listed};
 ghost use Rattle.om_cells.specs.Ready.{is_ready_at, AreReady, IsNext};
 ghost use Rattle.om_live.specs.Stores.{worker_of, is_trailed, plain_or_idle, state_of, is_kept, pasts_of, noted_at, popped_at, begun_at, first_or, GrowTo};
 
@@ -18,7 +19,8 @@ use crate::copy::plain_of;
 use crate::live::control_of;
 use crate::trail::Trail;
 use om_cells::{
-    Control as PlainControl, Edit, SharedControl, SharedObject, Store as Values, Tail, Task, Val,
+    Cells, Control as PlainControl, Edit, SharedCells, SharedControl, SharedObject,
+    Store as Values, Tail, Task, Val, Was,
 };
 use om_code::frame::Cell;
 use om_foot::{Name, Obj};
@@ -401,5 +403,49 @@ impl Store {
             Some(_) => {}
             None => self.values.cut(object, count),
         }
+    }
+
+    /// Keeps cells of a slot, with the values that they hold, and answers them, shared with all that name
+    /// them. No value changes, also when out of memory.
+    pub fn keep_cells(&mut self, alloc: Global, cells: &Cells) -> Result<SharedCells, AllocError>
+        ensures shared { IfOk result (λ shared. shared ≡ cells.now) }
+        ensures state { state_of self.new ≡ state_of self.old }
+        ensures pasts { pasts_of self.new ≡ pasts_of self.old }
+        ensures kept { OnOk result
+            (All (λ a. is_kept self.new a.object ≡ true) (cells_of cells.now)) }
+        ensures others_kept { (q : Obj) → is_kept self.old q ≡ true → is_kept self.new q ≡ true }
+    {
+        self.values.keep_cells(alloc, cells)
+    }
+
+    /// Puts a value into cells of a slot that are kept, and answers what they held. When out of memory,
+    /// nothing changes.
+    pub fn put_cells(
+        &mut self,
+        alloc: Global,
+        cells: &SharedCells,
+        cell: Cell,
+    ) -> Result<Seq<Was>, AllocError>
+        requires kept { All (λ a. is_kept self.old a.object ≡ true) (cells_of cells.now) }
+        ensures was { IfOk result (λ was. were_listed was
+            ≡ undo_record (cells_of cells.now) (puts_of cell cells.now.count) (state_of self.old)) }
+        ensures state { OnOk result (state_of self.new
+            ≡ updated (cells_of cells.now) (puts_of cell cells.now.count) (state_of self.old)) }
+        ensures pasts { pasts_of self.new ≡ pasts_of self.old }
+        ensures kept { (q : Obj) → is_kept self.new q ≡ is_kept self.old q }
+        ensures same_state_on_error { OnErr result (state_of self.new ≡ state_of self.old) }
+    {
+        self.values.put_cells(alloc, cells, cell)
+    }
+
+    /// Puts what cells of a slot held back into them, which are kept. It takes no memory.
+    pub fn put_cells_back(&mut self, cells: &SharedCells, was: Seq<Was>)
+        requires kept { All (λ a. is_kept self.old a.object ≡ true) (cells_of cells.now) }
+        ensures state { state_of self.new
+            ≡ taken_back (cells_of cells.now) (were_listed was) (state_of self.old) }
+        ensures pasts { pasts_of self.new ≡ pasts_of self.old }
+        ensures kept { (q : Obj) → is_kept self.new q ≡ is_kept self.old q }
+    {
+        self.values.put_cells_back(cells, was)
     }
 }

@@ -1,29 +1,33 @@
-use Rattle.std.proofs.Common.{◌∙◌, ap}
-use Rattle.std.specs.Prelude.{is_some}
-use Rattle.om_cells.proofs.PlaceLemmas.{put_unnamed, put_named, owner_none, owner_some, kept_unnamed, kept_named, puts_part}
+use Rattle.std.proofs.Common.{◌∙◌, sym, ap}
+use Rattle.om_foot.specs.Footprint.{obj_eq}
+use Rattle.om_foot.specs.Objects.{obj_eq-true}
+use Rattle.om_cells.specs.Slots.{slot_value}
+use Rattle.om_cells.specs.Stores.{kept_in}
+use Rattle.om_cells.proofs.CellStates.{over_single, over_none, slot_some, single_none, single_some, single_put, slot_put}
 use Rattle.om_cells.proofs.store.Store.put.Goals as goal
 
 pub put-requires : goal.put-requires
-put-requires c = ap is_some (kept_unnamed c.args.self.now c.args.object.now c.part_of-part.result
-    (owner_none c.name_of.result _ c.name_of.ensures c.in-None.is) c.part_of-part.ensures) ∙ c.requires
+put-requires c = slot_some _ _ (sym c.lies_in_slot.ensures ∙ c.if-lies_in_slot.true)
 
-pub returns-in-None-clause-before : goal.returns-in-None-clause-before
-returns-in-None-clause-before c = c.put.ensures.before
-    ∙ kept_unnamed c.args.self.now c.args.object.now c.part_of-part.result
-    (owner_none c.name_of.result _ c.name_of.ensures c.in-None.is) c.part_of-part.ensures
+pub put_single-requires : goal.put_single-requires
+put_single-requires c = single_some (slot_value c.args.self.now.slots c.args.object.now) _
+    (sym c.lies_in_slot.ensures ∙ c.if-lies_in_slot.false) c.requires
 
-pub returns-in-None-clause-after : goal.returns-in-None-clause-after
-returns-in-None-clause-after c = put_unnamed c.args.self.now.unnamed c.put.new.self c.args.self.now.named
-    c.args.object.now _ (owner_none c.name_of.result _ c.name_of.ensures c.in-None.is)
-    (puts_part c.part_of-part.result _ _ c.args.self.now.unnamed c.put.new.self c.part_of-part.ensures
-    c.put.ensures.after)
+pub returns-then-lies_in_slot-clause-before : goal.returns-then-lies_in_slot-clause-before
+returns-then-lies_in_slot-clause-before c =
+    over_none _ _ _ (sym (single_none _ _ (sym c.lies_in_slot.ensures ∙ c.if-lies_in_slot.true))) c.put.ensures.before
 
-pub returns-in-Some-clause-before : goal.returns-in-Some-clause-before
-returns-in-Some-clause-before c = c.put-in-Some.ensures.before
-    ∙ kept_named c.args.self.now c.args.object.now c.in-Some.name.now c.part_of-part.result
-    (owner_some c.name_of.result _ c.in-Some.name c.name_of.ensures c.in-Some.is) c.part_of-part.ensures
+pub returns-then-lies_in_slot-clause-after : goal.returns-then-lies_in_slot-clause-after
+returns-then-lies_in_slot-clause-after c = λ q.
+    let ks = kept_in c.args.self.now.unnamed c.args.self.now.named in
+    slot_put (obj_eq c.args.object.now q) c.args.value (slot_value c.args.self.now.slots q) (ks q) _
+    (λ e. ap ks (sym (obj_eq-true c.args.object.now q e))
+    ∙ single_none _ _ (sym c.lies_in_slot.ensures ∙ c.if-lies_in_slot.true)) (c.put.ensures.after q)
 
-pub returns-in-Some-clause-after : goal.returns-in-Some-clause-after
-returns-in-Some-clause-after c = put_named c.args.self.now.unnamed c.args.self.now.named c.put-in-Some.new.self
-    c.in-Some.name.now c.part_of-part.result _ c.put-in-Some.ensures.after c.args.object.now
-    (owner_some c.name_of.result _ c.in-Some.name c.name_of.ensures c.in-Some.is) c.part_of-part.ensures
+pub returns-else-lies_in_slot-clause-before : goal.returns-else-lies_in_slot-clause-before
+returns-else-lies_in_slot-clause-before c = over_single c.put_single.result _ _ c.put_single.ensures.before
+
+pub returns-else-lies_in_slot-clause-after : goal.returns-else-lies_in_slot-clause-after
+returns-else-lies_in_slot-clause-after c = λ q.
+    single_put (obj_eq c.args.object.now q) c.args.value (slot_value c.args.self.now.slots q) _ _
+    (c.put_single.ensures.after q)
