@@ -6,11 +6,10 @@ ghost use Rattle.om_cells.specs.declared.value.Val.TheVariants as value;
 ghost use Rattle.om_fork.specs.Teams.{member, workers_from, busy_in, member_controls, member_cells, member_puts};
 
 use om_cells::{
-    Context, Control, Frame, Kind, SharedControl, SharedPile, Stack, Team, Update, Val,
+    Context, Control, Frame, Kind, Names, Puts, SharedControl, SharedPile, Stack, Team, Update, Val,
 };
-use om_foot::{Access, Mode, Name, Obj};
+use om_foot::{Mode, Name, Obj};
 use om_live::Store;
-use om_seq::Seq;
 use om_steps::begin::{in_no_group, new_context};
 use om_steps::names::{name, name_given};
 use om_steps::updates::put_ints;
@@ -29,7 +28,7 @@ fn member_name(team: &Name, number: u8) -> Name
 }
 
 /// Appends the controls of the workers that a team of this size needs, as what is written.
-pub(crate) fn name_workers(names: &mut Seq<Access>, size: u8) -> Result<(), AllocError>
+pub(crate) fn name_workers(names: &mut Names, size: u8) -> Result<(), AllocError>
     ensures { OnOk result (names.new ≡ names.old ++ workers_from 1 (size - 1)) }
 {
     for worker in 1..size {
@@ -54,7 +53,7 @@ pub(crate) fn busy(store: &Store, size: u8) -> Option<u8>
 /// Appends the cells of the firstprivate copies of a team's members, as what is written.
 #[tactic(auto, using(crate::proofs::Counting::members_past))]
 pub(crate) fn name_members(
-    names: &mut Seq<Access>,
+    names: &mut Names,
     team: &Name,
     given: &[u32],
     size: u8,
@@ -82,7 +81,7 @@ pub(crate) fn member(alloc: Global, team: &Team, frame: &Frame) -> Result<Contex
 /// Appends the control that another worker becomes: a member of a team.
 fn put_member(
     alloc: Global,
-    updates: &mut Seq<Update>,
+    updates: &mut Puts,
     team: &Team,
     frame: &Frame,
 ) -> Result<(), AllocError>
@@ -109,7 +108,7 @@ fn put_member(
 #[tactic(auto, using(crate::proofs::Counting::controls_past))]
 pub(crate) fn put_members(
     alloc: Global,
-    updates: &mut Seq<Update>,
+    updates: &mut Puts,
     team: &Team,
     frame: &Frame,
 ) -> Result<(), AllocError>
@@ -131,11 +130,7 @@ pub(crate) fn put_members(
 
 /// Appends what is put into the firstprivate copies of a team's members.
 #[tactic(auto, using(crate::proofs::Counting::given_past))]
-pub(crate) fn put_given(
-    updates: &mut Seq<Update>,
-    values: &[i32],
-    size: u8,
-) -> Result<(), AllocError>
+pub(crate) fn put_given(updates: &mut Puts, values: &[i32], size: u8) -> Result<(), AllocError>
     ensures { OnOk result (updates.new ≡ updates.old ++ member_puts values.now size) }
 {
     for _number in 0..size {

@@ -12,13 +12,13 @@ ghost use Rattle.om_steps.specs.Begins.{first_frame};
 ghost use Rattle.om_fork.specs.Rows.{team_updates, forked, team_row, team_of, named_row, sized_row, fork_row};
 
 use crate::members::{busy, member, name_members, name_workers, put_given, put_members};
-use om_cells::{Blocked, Edit, Frame, Shared, Team, Update};
+use om_cells::{Blocked, Edit, Frame, Names, Puts, Shared, Team, Update};
 use om_code::Body;
 use om_code::frame::Fault;
 use om_code::print::ints_on;
 use om_code::serial::int_at;
 use om_events::Record;
-use om_foot::{Access, Name};
+use om_foot::Name;
 use om_live::{Context, Store};
 use om_seq::Seq;
 use om_steps::begin::first_frame;
@@ -83,18 +83,13 @@ fn team_of(workers: u8, context: &Context, asked: Option<u32>) -> Team
 
 /// What a FORK names that makes this team.
 #[tactic(auto, using(crate::proofs::Counting::regrouped))]
-fn team_names(
-    alloc: Global,
-    worker: u8,
-    team: &Team,
-    given: &[u32],
-) -> Result<Seq<Access>, AllocError>
+fn team_names(alloc: Global, worker: u8, team: &Team, given: &[u32]) -> Result<Names, AllocError>
     requires { length team.now.name ≤ 63 }
     ensures { IfOk result
         (λ names. names ≡ workers_from 1 (team.now.size - 1)
         ++ (member_cells team.now.name given.now 0 team.now.size ++ events worker ∷ [])) }
 {
-    let mut names = Seq::new(alloc);
+    let mut names = Names::new(alloc);
     name_workers(&mut names, team.size)?;
     name_members(&mut names, &team.name, given, team.size)?;
     name_events(&mut names, worker)?;
@@ -109,12 +104,12 @@ fn team_updates(
     team: &Team,
     frame: &Frame,
     values: &[i32],
-) -> Result<Seq<Update>, AllocError>
+) -> Result<Puts, AllocError>
     requires { length team.now.name ≤ 63 }
     ensures { IfOk result
         (λ updates. updates ≡ team_updates task.now team.now frame.now values.now) }
 {
-    let mut updates = Seq::new(alloc);
+    let mut updates = Puts::new(alloc);
     put_members(alloc, &mut updates, team, frame)?;
     put_given(&mut updates, values, team.size)?;
     let begun = Record::ParallelBegin {

@@ -4,16 +4,15 @@ ghost use Rattle.std.specs.Prelude.{◌≡◌, ◌++◌, ◌+◌, OnOk, replicat
 ghost use Rattle.om_live.specs.Stores.{state_of};
 ghost use Rattle.om_share.specs.Barriers.{arrivals, barrier, open_in};
 
-use om_cells::{Team, Update};
-use om_foot::{Access, Mode, Name, Obj};
+use om_cells::{Names, Puts, Team, Update};
+use om_foot::{Mode, Name, Obj};
 use om_live::Store;
-use om_seq::Seq;
 use om_steps::counts::is_zero;
 use om_steps::names::name;
 use std::alloc::{AllocError, Global};
 
 /// Appends how far each member of a team of this size came, as what is read.
-fn name_arrivals(names: &mut Seq<Access>, team: &Name, size: u8) -> Result<(), AllocError>
+fn name_arrivals(names: &mut Names, team: &Name, size: u8) -> Result<(), AllocError>
     ensures { OnOk result (names.new ≡ names.old ++ arrivals team.now 0 size) }
 {
     for number in 0..size {
@@ -27,11 +26,7 @@ fn name_arrivals(names: &mut Seq<Access>, team: &Name, size: u8) -> Result<(), A
 }
 
 /// Appends what a member reads that goes on from the barrier of a phase.
-pub(crate) fn name_barrier(
-    names: &mut Seq<Access>,
-    team: &Team,
-    phase: u64,
-) -> Result<(), AllocError>
+pub(crate) fn name_barrier(names: &mut Names, team: &Team, phase: u64) -> Result<(), AllocError>
     ensures { OnOk result (names.new ≡ names.old ++ barrier team.now phase) }
 {
     name_arrivals(names, &team.name, team.size)?;
@@ -65,7 +60,7 @@ pub(crate) fn is_open(alloc: Global, store: &Store, team: &Team, phase: u64) -> 
 
 /// Appends that what a member of a team of this size reads at a barrier stays.
 #[tactic(auto, using(crate::proofs::Counting::replicate_past))]
-pub(crate) fn put_kept(updates: &mut Seq<Update>, size: u8) -> Result<(), AllocError>
+pub(crate) fn put_kept(updates: &mut Puts, size: u8) -> Result<(), AllocError>
     ensures { OnOk result (updates.new ≡ updates.old ++ replicate (size + 1) Update.Keep) }
 {
     for _number in 0..size {

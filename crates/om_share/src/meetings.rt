@@ -12,17 +12,17 @@ ghost use Rattle.om_share.specs.Barriers.{barrier};
 ghost use Rattle.om_share.specs.Rows.{sync_of, team_at_end, reached_row, is_misplaced_barrier, arrive_row, kept, departed, depart_row, region_end, left_records, left, left_row, leave_row};
 
 use crate::barrier::{is_open, name_barrier, put_kept};
-use om_cells::{Blocked, Edit, Kind, Tail, Team, Update, Val};
+use om_cells::{Blocked, Edit, Kind, Names, Puts, Tail, Team, Update, Val};
 use om_code::frame::Fault;
 use om_code::instruction::Barrier;
 use om_code::raw::Slot;
 use om_events::Record;
 use om_events::kind::{Endpoint, Sync, TaskFlag};
-use om_foot::{Access, Mode, Name, Obj};
+use om_foot::{Mode, Name, Obj};
 use om_live::{Context, Stack, Store, Tape};
 use om_seq::Seq;
 use om_steps::names::{is_misplaced, name, name_events, own_cells};
-use om_steps::parts::go_and;
+use om_steps::parts::{go_and, one_put};
 use om_steps::updates::{put_deaths, put_event};
 use om_steps::{Answer, At, Row};
 use std::alloc::{AllocError, Global};
@@ -60,7 +60,7 @@ fn is_misplaced_barrier(barrier: Barrier, context: &Context) -> bool
 }
 
 /// The names of a member that reaches a barrier.
-fn reached_names(alloc: Global, worker: u8, team: &Team) -> Result<Seq<Access>, AllocError>
+fn reached_names(alloc: Global, worker: u8, team: &Team) -> Result<Names, AllocError>
     ensures { IfOk result
         (λ names. names ≡ write (obj.Arrived team.now.name team.now.number) ∷ events worker ∷ []) }
 {
@@ -68,7 +68,7 @@ fn reached_names(alloc: Global, worker: u8, team: &Team) -> Result<Seq<Access>, 
         team: team.name,
         number: team.number,
     };
-    let mut names = Seq::new(alloc);
+    let mut names = Names::new(alloc);
     name(&mut names, reached, Mode::Write)?;
     name_events(&mut names, worker)?;
     Ok(names)
@@ -89,7 +89,7 @@ fn reached_turn(
         (Record.SyncRegion (sync_of barrier) Endpoint.Begin context.now.team.name context.now.task)
         ∷ [])) }
 {
-    let mut updates = Seq::one(alloc, Update::Put(Val::Number(context.phase + 1)))?;
+    let mut updates = one_put(alloc, Update::Put(Val::Number(context.phase + 1)))?;
     let begun = Record::SyncRegion {
         sync: sync_of(barrier),
         endpoint: Endpoint::Begin,
@@ -137,32 +137,28 @@ fn barrier_names(
     alloc: Global,
     worker: u8,
     context: &Context,
-    own: &[Access],
-) -> Result<Seq<Access>, AllocError>
+    own: &Names,
+) -> Result<Names, AllocError>
     ensures { IfOk result
         (λ names. names ≡ barrier context.now.team context.now.phase
         ++ (own.now ++ events worker ∷ [])) }
 {
-    let mut names = Seq::new(alloc);
+    let mut names = Names::new(alloc);
     name_barrier(&mut names, context.team.get(), context.phase)?;
-    names.append(Seq::of(Vec::from_slice(alloc, own)?))?;
+    names.push_all(own)?;
     name_events(&mut names, worker)?;
     Ok(names)
 }
 
 /// The updates of a member that goes on from a barrier.
-fn departed_updates(
-    alloc: Global,
-    barrier: Barrier,
-    context: &Context,
-) -> Result<Seq<Update>, AllocError>
+fn departed_updates(alloc: Global, barrier: Barrier, context: &Context) -> Result<Puts, AllocError>
     ensures { IfOk result
         (λ updates. updates ≡ kept context.now.team.size
         ++ event
         (Record.SyncRegion (sync_of barrier) Endpoint.End
         (team_at_end barrier context.now.team.name) context.now.task) ∷ []) }
 {
-    let mut updates = Seq::new(alloc);
+    let mut updates = Puts::new(alloc);
     put_kept(&mut updates, context.team.get().size)?;
     let ended = Record::SyncRegion {
         sync: sync_of(barrier),
@@ -206,7 +202,7 @@ pub fn depart(
         (λ answer. answer ≡ answered
         (depart_row at.worker at.to barrier (plain_context context.now)) (state_of store.now)) }
 {
-    let names = barrier_names(alloc, at.worker, context, &[])?;
+    let names = barrier_names(alloc, at.worker, context, &Names::new(alloc))?;
     let opens = is_open(alloc, store, context.team.get(), context.phase);
     let row = departed(alloc, at.to, barrier, context, opens)?;
     Ok(Answer { names, row })
@@ -277,15 +273,15 @@ fn left_updates(
     alloc: Global,
     context: &Context,
     below: &Tape<Box<Context>>,
-    own: &[Access],
-) -> Result<Seq<Update>, AllocError>
+    own: &Names,
+) -> Result<Puts, AllocError>
     ensures { IfOk result
         (λ updates. updates ≡ kept context.now.team.size
         ++ (deaths own.now
         ++ Update.Append (Tail.Events
         (left_records (plain_context context.now) (map plain_held below.now.items))) ∷ [])) }
 {
-    let mut updates = Seq::new(alloc);
+    let mut updates = Puts::new(alloc);
     put_kept(&mut updates, context.team.get().size)?;
     put_deaths(&mut updates, own)?;
     let records = left_records(alloc, context, below)?;
@@ -298,7 +294,7 @@ fn left(
     alloc: Global,
     context: &Context,
     below: &Tape<Box<Context>>,
-    own: &[Access],
+    own: &Names,
     opens: bool,
 ) -> Result<Row, AllocError>
     ensures { IfOk result
@@ -320,7 +316,7 @@ fn left_answer(
     store: &Store,
     worker: u8,
     stack: &Stack,
-    own: &[Access],
+    own: &Names,
 ) -> Result<Answer, AllocError>
     ensures { IfOk result
         (λ answer. answer ≡ answered
@@ -362,5 +358,5 @@ pub fn leave(
         return Ok(Answer::decided(alloc, Row::Lacks));
     }
     let own = own_cells(alloc, &stack.top, slots)?;
-    left_answer(alloc, store, worker, stack, own.as_slice())
+    left_answer(alloc, store, worker, stack, &own)
 }

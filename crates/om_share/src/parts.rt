@@ -5,7 +5,7 @@ ghost use Rattle.om_live.specs.Plain.{plain_context};
 ghost use Rattle.om_steps.specs.Rows.{goes};
 ghost use Rattle.om_share.specs.Rows.{edits, begun, share_of, share_in};
 
-use om_cells::{Construct, Edit, Share, Shared};
+use om_cells::{Construct, Edit, Puts, Share, Shared};
 use om_events::{Endpoint, Record, Work};
 use om_live::Context;
 use om_seq::Seq;
@@ -53,7 +53,7 @@ pub(crate) fn begun(
 pub(crate) fn jump(alloc: Global, to: u32, takes: u32) -> Result<Row, AllocError>
     ensures { IfOk result (λ row. row ≡ goes to takes None []) }
 {
-    Row::goes(alloc, to, takes, None, Seq::new(alloc))
+    Row::goes(alloc, to, takes, None, Puts::new(alloc))
 }
 
 /// The record that a worksharing region begins or ends.

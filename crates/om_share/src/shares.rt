@@ -14,15 +14,15 @@ ghost use Rattle.om_share.specs.Rows.{edits, is_right_schedule, is_right_form, l
 
 use crate::chunk::{Chunk, chunk_within, count_of, static_chunk, step_size};
 use crate::parts::{Branch, begun, jump, share_in, work_record};
-use om_cells::{Construct, Edit, Share, Shared, Sharing, Update, Val};
+use om_cells::{Construct, Edit, Puts, Share, Shared, Sharing, Update, Val};
 use om_code::frame::{Cell, Fault};
 use om_code::instruction::{LoopForm, Place, Schedule};
 use om_events::{Endpoint, Work};
 use om_foot::{Mode, Obj};
 use om_live::{Context, Store};
 use om_seq::Seq;
-use om_steps::names::{is_misplaced, object_of};
-use om_steps::parts::{go_and, name_one, recorded};
+use om_steps::names::{is_misplaced, name_one, object_of};
+use om_steps::parts::{go_and, one_put, recorded};
 use om_steps::{Answer, At, Row};
 use std::alloc::{AllocError, Global};
 
@@ -191,7 +191,7 @@ fn take(
     };
     let region = &in_chunk(share, share.taken + 1, chunk);
     let edits = replaced(alloc, branch.to, region)?;
-    let updates = Seq::new(alloc);
+    let updates = Puts::new(alloc);
     Ok(Row::Goes { edits, updates })
 }
 
@@ -209,7 +209,7 @@ fn give(
     };
     let region = &in_chunk(share, share.taken, chunk);
     let edits = replaced(alloc, branch.to, region)?;
-    let updates = Seq::one(alloc, Update::Put(Val::Number(chunk.end)))?;
+    let updates = one_put(alloc, Update::Put(Val::Number(chunk.end)))?;
     Ok(Row::Goes { edits, updates })
 }
 
@@ -322,7 +322,7 @@ fn iterated(alloc: Global, to: u32, share: Share, value: i32) -> Result<Row, All
     let next = share.next + 1;
     let region = &Construct::Share(Share { next, ..share });
     let edits = replaced(alloc, to, region)?;
-    let updates = Seq::one(alloc, Update::Put(Val::Cell(Cell::Int(value))))?;
+    let updates = one_put(alloc, Update::Put(Val::Cell(Cell::Int(value))))?;
     Ok(Row::Goes { edits, updates })
 }
 

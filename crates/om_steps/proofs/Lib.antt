@@ -1,3 +1,4 @@
 mod Lists
 mod CountLemmas
 pub mod Returns
+pub mod Same

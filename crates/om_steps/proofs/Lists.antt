@@ -1,31 +1,15 @@
 -- Lists that are made from the front: what is there, and what is left.
-use Rattle.std.proofs.Common.{◌≡◌, refl, sym, ◌∙◌, ap, ℕ, ℤ, suc, ◌+◌, ◌-◌, ◌<◌, arith, List, [], ◌∷◌, ◌++◌, Option}
+use Rattle.std.proofs.Common.{◌≡◌, refl, sym, ◌∙◌, ap, ℕ, ℤ, ◌+◌, ◌<◌, List, [], ◌∷◌, ◌++◌, Option}
 use Rattle.std.proofs.Common.{None, Some, Bool, true, false, append_assoc, get_or, drop, length, slice_get}
 use Rattle.std.specs.Prelude.{is_some, if◌then◌else◌}
 use Rattle.std.proofs.lemmas.List.{drop_more}
 use Rattle.std.proofs.lemmas.Option.{get_or_from_slice_get, slice_get_within}
-use Rattle.om_foot.specs.declared.footprint.Access.{Access}
-use Rattle.om_foot.specs.declared.object.Obj.{Obj}
 use Rattle.om_code.specs.declared.frame.Cell.TheVariants as cell
-use Rattle.om_cells.specs.declared.control.Home.{Home}
 use Rattle.om_cells.specs.declared.control.Construct.{Construct}
 use Rattle.om_cells.specs.declared.step.Update.{Update}
 use Rattle.om_cells.specs.declared.step.Update.TheVariants.{Put}
 use Rattle.om_cells.specs.declared.value.Val.TheVariants as value
-use Rattle.om_cells.specs.Homes.{cell_of}
-use Rattle.om_steps.specs.Objects.{write, slot_cells, puts, group_name, group_in, or_else, is_in_region}
-
-one_less : (n size : ℕ) → n < size → size - n ≡ suc (size - (n + 1))
-one_less n size h = omega arith
-
--- the cells behind one more
-pub slot_past : (names : List Access) (task : List ℕ) (frame slot : ℕ) (home : Home) (n count : ℕ) (o : Obj)
-    → n < count → o ≡ cell_of task frame slot n home → (names ++ write o ∷ []) ++ slot_cells task frame slot home
-    (n + 1) (count - (n + 1)) ≡ names ++ slot_cells task frame slot home n (count - n)
-slot_past names task frame slot home n count o h is =
-    ap (λ q. (names ++ write q ∷ []) ++ slot_cells task frame slot home (n + 1) (count - (n + 1))) is
-    ∙ append_assoc names (write (cell_of task frame slot n home) ∷ []) _
-    ∙ ap (λ k. names ++ slot_cells task frame slot home n k) (sym (one_less n count h))
+use Rattle.om_steps.specs.Objects.{puts, group_name, group_in, or_else, is_in_region}
 
 -- the puts behind one more
 pub puts_past : (us : List Update) (xs : List ℤ) (i : ℕ) (x d : ℤ) → i < length xs → x ≡ get_or xs i d

@@ -1,6 +1,6 @@
 //! The rows of the frame machine: objects for its variables, updates for what it puts.
 
-ghost use Rattle.std.specs.Prelude.{◌≡◌, ◌++◌, ◌<◌, ◌+◌, ◌^◌, ◌∷◌, [], Some, IfOk, OnOk, slice_get, unwrap_or, option_map};
+ghost use Rattle.std.specs.Prelude.{◌≡◌, ◌++◌, ◌<◌, ◌+◌, ◌^◌, ◌∷◌, [], Some, IfOk, slice_get, unwrap_or, option_map};
 ghost use Rattle.om_foot.specs.declared.object.Obj.TheVariants as obj;
 ghost use Rattle.om_code.specs.Frames.{act};
 ghost use Rattle.om_code.specs.Places.{slots_of};
@@ -12,12 +12,12 @@ ghost use Rattle.om_cells.specs.Values.{cell_in};
 ghost use Rattle.om_steps.specs.Objects.{read, write, object_of};
 ghost use Rattle.om_steps.specs.SerialRows.{row_of, put_of, unsets, cleared, serial_row, slots_in};
 
-use crate::names::{name_place, name_slot, operands_of};
-use crate::parts::name_one;
+use crate::names::{name_one, name_place, name_slot, operands_of};
+use crate::parts::one_put;
 use crate::row::only;
-use crate::updates::put_cell;
+use crate::updates::put_each;
 use crate::{Answer, Row};
-use om_cells::{Edit, Tail, Update, Val};
+use om_cells::{Edit, Names, Puts, Tail, Update, Val};
 use om_code::frame::Cell;
 use om_code::instruction::Place;
 use om_code::print::print_bytes;
@@ -39,19 +39,15 @@ pub(crate) fn slots_of(raw: &Raw, body: u32) -> &[Slot]
     }
 }
 
-/// A put of an int before these updates. The record of a step keeps them, so there is room for no others.
-fn with_put(updates: Seq<Update>, value: i32) -> Result<Seq<Update>, AllocError>
+/// A put of an int before these updates.
+fn with_put(updates: Puts, value: i32) -> Result<Puts, AllocError>
     ensures { IfOk result (λ all. all ≡ put_of (Some value) ++ updates) }
 {
-    let mut items = updates.into_vec();
-    items.reserve_exact(1)?;
-    let mut all = Seq::of(items);
-    all.push_front(Update::Put(Val::Cell(Cell::Int(value))))?;
-    Ok(all)
+    updates.behind(Update::Put(Val::Cell(Cell::Int(value))))
 }
 
 /// What a turn makes of its worker, with these updates behind what it puts.
-fn row_of(alloc: Global, next: u32, updates: Seq<Update>, turn: Turn) -> Result<Row, AllocError>
+fn row_of(alloc: Global, next: u32, updates: Puts, turn: Turn) -> Result<Row, AllocError>
     requires { next + 1 < 2 ^ 32 }
     ensures { IfOk result (λ row. row ≡ row_of (next + 1) updates turn) }
 {
@@ -85,14 +81,14 @@ fn cells_of(slots: &[Slot], slot: u32) -> u32
     }
 }
 
-/// Appends that cells become unset, one for each of these accesses.
-fn put_unset(updates: &mut Seq<Update>, cells: &[Access]) -> Result<(), AllocError>
-    ensures { OnOk result (updates.new ≡ updates.old ++ unsets cells.now) }
+/// That cells become unset, one for each of these names.
+#[tactic(auto, using(crate::proofs::Same::unsets_same))]
+fn unset(alloc: Global, names: &Names) -> Result<Puts, AllocError>
+    ensures { IfOk result (λ updates. updates ≡ unsets names.now) }
 {
-    for _cell in cells {
-        put_cell(updates, Cell::Unset)?;
-    }
-    Ok(())
+    let mut updates = Puts::new(alloc);
+    put_each(&mut updates, Cell::Unset, names)?;
+    Ok(updates)
 }
 
 /// An instruction of the frame machine where it is met: its program, the slots of its body, the context
@@ -132,8 +128,11 @@ fn at_cell(
     let cell = met.store.cell(alloc, &names.as_slice()[0].object);
     let operands = &operands_of(met.context);
     let turn = turn_of(met.raw, met.slots, met.instr, operands, cell);
-    let row = row_of(alloc, met.context.frame.next, Seq::new(alloc), turn)?;
-    Ok(Answer { names, row })
+    let row = row_of(alloc, met.context.frame.next, Puts::new(alloc), turn)?;
+    Ok(Answer {
+        names: Names::of(alloc, names),
+        row,
+    })
 }
 
 /// The answer where a slot becomes unset, and the turn is this one.
@@ -150,10 +149,9 @@ fn clearing(
         (λ answer. answer ≡ cleared raw.now (plain_context context.now) slot turn) }
 {
     let cells = cells_of(slots_of(raw, context.frame.body), slot);
-    let mut names = Seq::new(alloc);
+    let mut names = Names::new(alloc);
     name_slot(&mut names, context, slot, cells)?;
-    let mut updates = Seq::new(alloc);
-    put_unset(&mut updates, names.as_slice())?;
+    let updates = unset(alloc, &names)?;
     let row = row_of(alloc, context.frame.next, updates, turn)?;
     Ok(Answer { names, row })
 }
@@ -170,7 +168,7 @@ fn printing(alloc: Global, next: u32, bytes: Seq<u8>, turn: Turn) -> Result<Answ
               (Update.Append (Tail.Bytes bytes) ∷ []) turn;
         }) }
 {
-    let updates = Seq::one(alloc, Update::Append(Tail::Bytes(bytes)))?;
+    let updates = one_put(alloc, Update::Append(Tail::Bytes(bytes)))?;
     let names = name_one(alloc, &Obj::Output, Mode::Write)?;
     let row = row_of(alloc, next, updates, turn)?;
     Ok(Answer { names, row })
@@ -204,7 +202,7 @@ pub fn serial(
     match touch_of(raw, slots, instr, operands) {
         Touch::Nothing => {
             let turn = turn_of(raw, slots, instr, operands, Cell::Unset);
-            let row = row_of(alloc, next, Seq::new(alloc), turn)?;
+            let row = row_of(alloc, next, Puts::new(alloc), turn)?;
             Ok(Answer::decided(alloc, row))
         }
         Touch::Reads { place, index } => at_cell(alloc, met, place, index, Mode::Read),

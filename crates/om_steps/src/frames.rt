@@ -9,9 +9,10 @@ ghost use Rattle.om_steps.specs.SerialRows.{number_row, call_row, return_row, re
 
 use crate::acts::{read, write};
 use crate::names::{homes_in, name, name_given, object_of, own_cells};
+use crate::parts::one_put;
 use crate::updates::{put_cell, put_deaths, put_ints};
 use crate::{Answer, Launch, Row};
-use om_cells::{Edit, Shared, Update};
+use om_cells::{Edit, Names, Puts, Shared, Update};
 use om_code::Body;
 use om_code::arithmetic::combine;
 use om_code::frame::{Cell, Fault, Operand};
@@ -33,7 +34,7 @@ pub fn number(alloc: Global, context: &Context, number: u8) -> Result<Answer, Al
 {
     let to = context.frame.next + 1;
     let pushed = Some(Operand::Int(i32::from(number)));
-    let row = Row::goes(alloc, to, 0, pushed, Seq::new(alloc))?;
+    let row = Row::goes(alloc, to, 0, pushed, Puts::new(alloc))?;
     Ok(Answer::decided(alloc, row))
 }
 
@@ -57,14 +58,14 @@ pub fn call(
         return Ok(Answer::decided(alloc, Row::Faults(Fault::Frames)));
     }
     let homes = homes_in(alloc, context, body.slots.as_slice())?;
-    let mut names = Seq::new(alloc);
+    let mut names = Names::new(alloc);
     name_given(
         &mut names,
         context.task.get(),
         context.frames,
         body.given.as_slice(),
     )?;
-    let mut updates = Seq::new(alloc);
+    let mut updates = Puts::new(alloc);
     put_ints(&mut updates, values.as_slice())?;
     let homes = Shared::of(alloc, homes)?;
     let begin = Edit::BeginFrame {
@@ -98,8 +99,8 @@ pub fn give_back(
         return Ok(Answer::decided(alloc, Row::Lacks));
     };
     let names = own_cells(alloc, context, slots)?;
-    let mut updates = Seq::new(alloc);
-    put_deaths(&mut updates, names.as_slice())?;
+    let mut updates = Puts::new(alloc);
+    put_deaths(&mut updates, &names)?;
     let edits = Seq::one(alloc, Edit::EndFrame(value))?;
     Ok(Answer {
         names,
@@ -124,7 +125,7 @@ fn reduced(
     };
     match combine(reduction, original, copy) {
         Ok(value) => {
-            let mut updates = Seq::one(alloc, Update::Keep)?;
+            let mut updates = one_put(alloc, Update::Keep)?;
             put_cell(&mut updates, Cell::Int(value))?;
             Row::goes(alloc, to, 0, None, updates)
         }
@@ -158,7 +159,7 @@ pub fn reduce(
     let copy = &read(object_of(context, Place::Slot(combining.copy), 0));
     let original = &write(object_of(context, combining.original, 0));
     let to = context.frame.next + 1;
-    let mut names = Seq::new(alloc);
+    let mut names = Names::new(alloc);
     name(&mut names, copy.object, copy.mode)?;
     name(&mut names, original.object, original.mode)?;
     let row = reduced(

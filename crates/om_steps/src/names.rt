@@ -2,10 +2,10 @@
 
 ghost use Rattle.std.specs.Prelude.{◌≡◌, ◌++◌, ◌∷◌, [], ◌≤◌, ◌^◌, IfOk, OnOk, length, option_map, slice_get};
 ghost use Rattle.om_live.specs.Plain.{plain_context};
-ghost use Rattle.om_steps.specs.Objects.{read, write, object_of, slot_cells, given_cells, own_slot, own_cells, home_at, home_from, home_for, homes_for, homes_in, innermost, group_name, group_in, is_in_region, is_misplaced_in, is_misplaced};
+ghost use Rattle.om_steps.specs.Objects.{read, write, object_of, slot_in, slot_cells, given_cells, own_slot, own_cells, home_at, home_from, home_for, homes_for, homes_in, innermost, group_name, group_in, is_in_region, is_misplaced_in, is_misplaced};
 ghost use Rattle.om_foot.specs.declared.object.Obj.TheVariants as obj;
 
-use om_cells::{Construct, Home, Kind, Shared};
+use om_cells::{Cells, Construct, Home, Kind, Names, Shared, SlotName};
 use om_code::frame::Operands;
 use om_code::instruction::Place;
 use om_code::raw::{Slot, Source};
@@ -14,15 +14,31 @@ use om_live::{Context, Tape};
 use om_seq::Seq;
 use std::alloc::{AllocError, Global};
 
-/// Appends an access.
-pub fn name(names: &mut Seq<Access>, object: Obj, mode: Mode) -> Result<(), AllocError>
+// Appends an access to a list.
+fn push(names: &mut Seq<Access>, object: Obj, mode: Mode) -> Result<(), AllocError>
     ensures { OnOk result (names.new ≡ names.old ++ record { object = object; mode = mode } ∷ []) }
 {
     names.push(Access { object, mode })
 }
 
+/// An object alone. An access is large: there is room for no others.
+pub fn name_one(alloc: Global, object: &Obj, mode: Mode) -> Result<Names, AllocError>
+    ensures { IfOk result (λ names. names ≡ record { object = object.now; mode = mode } ∷ []) }
+{
+    let mut names = Seq::of(Vec::with_capacity(alloc, 1)?);
+    push(&mut names, *object, mode)?;
+    Ok(Names::of(alloc, names))
+}
+
+/// Appends an access.
+pub fn name(names: &mut Names, object: Obj, mode: Mode) -> Result<(), AllocError>
+    ensures { OnOk result (names.new ≡ names.old ++ record { object = object; mode = mode } ∷ []) }
+{
+    names.push(&Access { object, mode })
+}
+
 /// Appends the event records of a worker, as what is written.
-pub fn name_events(names: &mut Seq<Access>, worker: u8) -> Result<(), AllocError>
+pub fn name_events(names: &mut Names, worker: u8) -> Result<(), AllocError>
     ensures { OnOk result (names.new ≡ names.old ++ write (obj.Events worker) ∷ []) }
 {
     name(names, Obj::Events(worker), Mode::Write)
@@ -62,7 +78,7 @@ fn name_spot(names: &mut Seq<Access>, spot: &Spot<'_>, mode: Mode) -> Result<(),
         slot: spot.slot,
         index: spot.index,
     };
-    name(names, object, mode)
+    push(names, object, mode)
 }
 
 // Appends a cell of a global variable. It stands apart, as an access is large.
@@ -76,11 +92,11 @@ fn name_global(
     ensures { OnOk result
         (names.new ≡ names.old ++ record { object = obj.Global variable index; mode = mode } ∷ []) }
 {
-    name(names, Obj::Global { variable, index }, mode)
+    push(names, Obj::Global { variable, index }, mode)
 }
 
 /// Appends a variable's cell, in the running frame of a context.
-pub fn name_place(
+pub(crate) fn name_place(
     names: &mut Seq<Access>,
     context: &Context,
     place: Place,
@@ -143,30 +159,55 @@ fn home_at<'a>(homes: &'a [Home], slot: u32, own: &'a Home) -> &'a Home
     }
 }
 
+/// The slot in which the cells of a slot lie.
+fn slot_in(context: &Context, slot: u32, home: &Home) -> SlotName
+    ensures { result ≡ slot_in (plain_context context.now).task
+        (plain_context context.now).frame.ordinal slot home.now }
+{
+    match home {
+        Home::Own => SlotName {
+            task: *context.task.get(),
+            frame: context.frame.ordinal,
+            slot,
+        },
+        Home::Elsewhere { task, frame, slot } => SlotName {
+            task: *task.get(),
+            frame: *frame,
+            slot: *slot,
+        },
+    }
+}
+
+/// The slot in which the cells of a slot of the running frame lie.
+fn slot_of(context: &Context, slot: u32) -> SlotName
+    ensures { result ≡ slot_in (plain_context context.now).task
+        (plain_context context.now).frame.ordinal slot
+        (home_at (plain_context context.now).frame.homes slot) }
+{
+    let own = Home::Own;
+    let home = home_at(context.frame.homes.get().as_slice(), slot, &own);
+    slot_in(context, slot, home)
+}
+
 /// Appends the cells of a slot of the running frame, as what is written.
 pub fn name_slot(
-    names: &mut Seq<Access>,
+    names: &mut Names,
     context: &Context,
     slot: u32,
-    cells: u32,
+    count: u32,
 ) -> Result<(), AllocError>
     ensures { OnOk result
         (names.new ≡ names.old ++ slot_cells (plain_context context.now).task
         (plain_context context.now).frame.ordinal slot
-        (home_at (plain_context context.now).frame.homes slot) 0 cells) }
+        (home_at (plain_context context.now).frame.homes slot) 0 count) }
 {
-    let own = Home::Own;
-    let home = home_at(context.frame.homes.get().as_slice(), slot, &own);
-    for index in 0..cells {
-        let cell = home.cell(context.task.get(), context.frame.ordinal, slot, index);
-        name(names, cell, Mode::Write)?;
-    }
-    Ok(())
+    let slot = slot_of(context, slot);
+    names.push_cells(&Cells { slot, count })
 }
 
 /// Appends the first cells of these slots, in the frame of a task with this ordinal, as what is written.
 pub fn name_given(
-    names: &mut Seq<Access>,
+    names: &mut Names,
     task: &Name,
     frame: u64,
     slots: &[u32],
@@ -186,12 +227,7 @@ pub fn name_given(
 }
 
 /// Appends the cells of a slot of the running frame, where they lie in the frame itself.
-fn name_own(
-    own: &mut Seq<Access>,
-    context: &Context,
-    slot: u32,
-    cells: u32,
-) -> Result<(), AllocError>
+fn name_own(own: &mut Names, context: &Context, slot: u32, cells: u32) -> Result<(), AllocError>
     ensures { OnOk result
         (own.new ≡ own.old ++ own_slot (plain_context context.now) slot cells
         (home_at (plain_context context.now).frame.homes slot)) }
@@ -203,15 +239,11 @@ fn name_own(
 }
 
 /// The cells of the running frame's own slots, as what is written.
-pub fn own_cells(
-    alloc: Global,
-    context: &Context,
-    slots: &[Slot],
-) -> Result<Seq<Access>, AllocError>
+pub fn own_cells(alloc: Global, context: &Context, slots: &[Slot]) -> Result<Names, AllocError>
     requires { length slots.now ≤ 2 ^ 32 }
     ensures { IfOk result (λ own. own ≡ own_cells (plain_context context.now) slots.now) }
 {
-    let mut own = Seq::new(alloc);
+    let mut own = Names::new(alloc);
     for (number, slot) in slots.iter().enumerate() {
         name_own(&mut own, context, number as u32, slot.cells)?;
     }

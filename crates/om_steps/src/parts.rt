@@ -3,13 +3,13 @@
 ghost use Rattle.std.specs.Prelude.{◌≡◌, ◌∷◌, [], None, IfOk};
 ghost use Rattle.om_steps.specs.Objects.{events, event};
 
-use crate::names::name_events;
+use crate::names::{name_events, name_one};
 use crate::row::only;
 use crate::updates::put_event;
 use crate::{Answer, Row};
-use om_cells::{Edit, Update};
+use om_cells::{Edit, Names, Puts, Update};
 use om_events::Record;
-use om_foot::{Access, Mode, Obj};
+use om_foot::{Mode, Obj};
 use om_seq::Seq;
 use std::alloc::{AllocError, Global};
 
@@ -57,15 +57,11 @@ pub fn go_and_then(
     Ok(edits)
 }
 
-/// An object alone.
-pub fn name_one(alloc: Global, object: &Obj, mode: Mode) -> Result<Seq<Access>, AllocError>
-    ensures { IfOk result (λ names. names ≡ record { object = object.now; mode = mode } ∷ []) }
+/// An update alone.
+pub fn one_put(alloc: Global, update: Update) -> Result<Puts, AllocError>
+    ensures { IfOk result (λ updates. updates ≡ update ∷ []) }
 {
-    let access = Access {
-        object: *object,
-        mode,
-    };
-    Seq::one(alloc, access)
+    Ok(Puts::of(alloc, Seq::one(alloc, update)?))
 }
 
 /// An object, and behind it the event records of a worker, as what is written.
@@ -74,7 +70,7 @@ pub fn name_with_events(
     object: &Obj,
     mode: Mode,
     worker: u8,
-) -> Result<Seq<Access>, AllocError>
+) -> Result<Names, AllocError>
     ensures { IfOk result
         (λ names. names ≡ record { object = object.now; mode = mode } ∷ events worker ∷ []) }
 {
@@ -84,30 +80,26 @@ pub fn name_with_events(
 }
 
 /// The event records of a worker alone, as what is written.
-pub fn own_events(alloc: Global, worker: u8) -> Result<Seq<Access>, AllocError>
+pub fn own_events(alloc: Global, worker: u8) -> Result<Names, AllocError>
     ensures { IfOk result (λ names. names ≡ events worker ∷ []) }
 {
     name_one(alloc, &Obj::Events(worker), Mode::Write)
 }
 
 /// An update, and behind it that an event record is appended.
-pub fn update_with_event(
-    alloc: Global,
-    update: Update,
-    entry: Record,
-) -> Result<Seq<Update>, AllocError>
+pub fn update_with_event(alloc: Global, update: Update, entry: Record) -> Result<Puts, AllocError>
     ensures { IfOk result (λ updates. updates ≡ update ∷ event entry ∷ []) }
 {
-    let mut updates = Seq::one(alloc, update)?;
+    let mut updates = one_put(alloc, update)?;
     put_event(alloc, &mut updates, entry)?;
     Ok(updates)
 }
 
 /// That an event record is appended, alone.
-fn one_event(alloc: Global, entry: Record) -> Result<Seq<Update>, AllocError>
+fn one_event(alloc: Global, entry: Record) -> Result<Puts, AllocError>
     ensures { IfOk result (λ updates. updates ≡ event entry ∷ []) }
 {
-    let mut updates = Seq::new(alloc);
+    let mut updates = Puts::new(alloc);
     put_event(alloc, &mut updates, entry)?;
     Ok(updates)
 }

@@ -3,9 +3,8 @@
 ghost use Rattle.std.specs.Prelude.{◌≡◌, ◌∷◌, [], IfOk};
 ghost use Rattle.om_steps.specs.Rows.{goes};
 
-use om_cells::{Blocked, Edit, Update};
+use om_cells::{Blocked, Edit, Names, Puts, Update};
 use om_code::frame::{Fault, Operand};
-use om_foot::Access;
 use om_seq::Seq;
 use std::alloc::{AllocError, Global};
 
@@ -14,10 +13,7 @@ use std::alloc::{AllocError, Global};
 pub enum Row {
     /// It can be taken: the edits of its worker's control, and an update for each further object
     /// that it names, or for as many as it changes.
-    Goes {
-        edits: Seq<Edit>,
-        updates: Seq<Update>,
-    },
+    Goes { edits: Seq<Edit>, updates: Puts },
     /// The worker meets a fault, and nothing else changes.
     Faults(Fault),
     /// It can't be taken now.
@@ -30,7 +26,7 @@ pub enum Row {
 /// What an instruction names beside its worker's control, and what comes of the values there.
 #[derive(Drop)]
 pub struct Answer {
-    pub names: Seq<Access>,
+    pub names: Names,
     pub row: Row,
 }
 
@@ -62,7 +58,7 @@ impl Answer {
         ensures { result ≡ record { names = []; row = row } }
     {
         Answer {
-            names: Seq::new(alloc),
+            names: Names::new(alloc),
             row,
         }
     }
@@ -75,7 +71,7 @@ impl Row {
         to: u32,
         takes: u32,
         pushed: Option<Operand>,
-        updates: Seq<Update>,
+        updates: Puts,
     ) -> Result<Row, AllocError>
         ensures { IfOk result (λ row. row ≡ goes to takes pushed updates) }
     {

@@ -1,10 +1,11 @@
 //! What is put at the objects that instructions name.
 
 ghost use Rattle.std.specs.Prelude.{◌≡◌, ◌++◌, ◌∷◌, [], IfOk, OnOk};
-ghost use Rattle.om_steps.specs.Objects.{puts, deaths, event};
+ghost use Rattle.om_cells.specs.Cells.{cells_listed};
+ghost use Rattle.om_steps.specs.Objects.{puts, same_puts, deaths, event};
 ghost use Rattle.om_cells.specs.declared.value.Val.TheVariants as value;
 
-use om_cells::{Tail, Update, Val};
+use om_cells::{Cells, Names, Puts, Run, Tail, Update, Val};
 use om_code::frame::Cell;
 use om_events::Record;
 use om_foot::Access;
@@ -12,14 +13,14 @@ use om_seq::Seq;
 use std::alloc::{AllocError, Global};
 
 /// Appends a put of a cell.
-pub fn put_cell(updates: &mut Seq<Update>, cell: Cell) -> Result<(), AllocError>
+pub fn put_cell(updates: &mut Puts, cell: Cell) -> Result<(), AllocError>
     ensures { OnOk result (updates.new ≡ updates.old ++ Update.Put (value.Cell cell) ∷ []) }
 {
     updates.push(Update::Put(Val::Cell(cell)))
 }
 
 /// Appends puts of ints.
-pub fn put_ints(updates: &mut Seq<Update>, ints: &[i32]) -> Result<(), AllocError>
+pub fn put_ints(updates: &mut Puts, ints: &[i32]) -> Result<(), AllocError>
     ensures { OnOk result (updates.new ≡ updates.old ++ puts ints.now) }
 {
     for value in ints {
@@ -28,18 +29,51 @@ pub fn put_ints(updates: &mut Seq<Update>, ints: &[i32]) -> Result<(), AllocErro
     Ok(())
 }
 
-/// Appends the deaths of cells, one for each of these accesses.
-pub fn put_deaths(updates: &mut Seq<Update>, cells: &[Access]) -> Result<(), AllocError>
-    ensures { OnOk result (updates.new ≡ updates.old ++ deaths cells.now) }
+/// Appends puts of a cell, one for each of these accesses.
+fn put_single(updates: &mut Puts, cell: Cell, names: &[Access]) -> Result<(), AllocError>
+    ensures { OnOk result (updates.new ≡ updates.old ++ same_puts cell names.now) }
 {
-    for _cell in cells {
-        put_cell(updates, Cell::Dead)?;
+    for _name in names {
+        updates.push(Update::Put(Val::Cell(cell)))?;
     }
     Ok(())
 }
 
+/// Appends runs of puts of a cell, one for the cells of each of these.
+fn put_runs(updates: &mut Puts, cell: Cell, names: &[Cells]) -> Result<(), AllocError>
+    ensures { OnOk result (updates.new ≡ updates.old ++ same_puts cell (cells_listed names.now)) }
+{
+    for cells in names {
+        updates.push_run(Run {
+            cell,
+            count: cells.count,
+        })?;
+    }
+    Ok(())
+}
+
+/// Appends puts of a cell, one for each of these names, at once for those that are named at once. Its only
+/// error is out of memory.
+#[tactic(auto, using(crate::proofs::Same::same_parts))]
+pub(crate) fn put_each(updates: &mut Puts, cell: Cell, names: &Names) -> Result<(), AllocError>
+    ensures { OnOk result (updates.new ≡ updates.old ++ same_puts cell names.now) }
+{
+    let (first, cells, last) = names.parts();
+    put_single(updates, cell, first)?;
+    put_runs(updates, cell, cells)?;
+    put_single(updates, cell, last)
+}
+
+/// Appends the deaths of cells, one for each of these names.
+#[tactic(auto, using(crate::proofs::Same::deaths_same))]
+pub fn put_deaths(updates: &mut Puts, names: &Names) -> Result<(), AllocError>
+    ensures { OnOk result (updates.new ≡ updates.old ++ deaths names.now) }
+{
+    put_each(updates, Cell::Dead, names)
+}
+
 /// Appends that an event record is appended.
-pub fn put_event(alloc: Global, updates: &mut Seq<Update>, entry: Record) -> Result<(), AllocError>
+pub fn put_event(alloc: Global, updates: &mut Puts, entry: Record) -> Result<(), AllocError>
     ensures { OnOk result (updates.new ≡ updates.old ++ event entry ∷ []) }
 {
     let records = Seq::one(alloc, entry)?;

@@ -1,5 +1,5 @@
 -- The start of a program, a global and a worker after the other.
-use Rattle.std.proofs.Common.{◌≡◌, refl, ◌∙◌, ap, Bool, true, false, cond, ◌&&◌, List, [], ◌∷◌, ℕ, zero, suc, ◌<◌, ◌≤◌}
+use Rattle.std.proofs.Common.{◌≡◌, refl, ◌∙◌, ap, Bool, true, false, cond, ◌&&◌, List, [], ◌∷◌, ℕ, zero, suc, ◌+◌, ◌<◌, ◌≤◌}
 use Rattle.std.proofs.Common.{ℤ, pos, length, take, arith, nat_eq, get_or, Some}
 use Rattle.std.proofs.Math.Path.{fun_ext}
 use Rattle.std.specs.Prelude.{if◌then◌else◌, slice_get, nat_lt}
@@ -168,3 +168,10 @@ at_worker program n h obj.Output = refl
 pub worker-more : (program : Raw) (n : ℕ) → 1 ≤ n → with_value (obj.Events n) (value.Events other_records)
     (start_of program n) ≡ start_of program (suc n)
 worker-more program n h = fun_ext (at_worker program n h)
+
+pub worker-next : (program : Raw) (n : ℕ) → 1 ≤ n → with_value (obj.Events n) (value.Events other_records)
+    (start_of program n) ≡ start_of program (n + 1)
+worker-next program n h = worker-more program n h ∙ ap (start_of program) (next n)
+  where
+    next : (k : ℕ) → suc k ≡ k + 1
+    next k = omega arith

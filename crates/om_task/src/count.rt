@@ -6,15 +6,14 @@ ghost use Rattle.om_live.specs.Plain.{plain_context};
 ghost use Rattle.om_steps.specs.Objects.{add};
 ghost use Rattle.om_task.specs.Tasks.{group_count, counts, additions};
 
-use om_cells::Update;
-use om_foot::{Access, Mode, Name, Obj};
+use om_cells::{Names, Puts, Update};
+use om_foot::{Mode, Name, Obj};
 use om_live::Context;
-use om_seq::Seq;
 use om_steps::names::name;
 use std::alloc::AllocError;
 
 /// Appends the count of a task group, where there is a group.
-fn name_group(names: &mut Seq<Access>, group: &Option<Name>) -> Result<(), AllocError>
+fn name_group(names: &mut Names, group: &Option<Name>) -> Result<(), AllocError>
     ensures { OnOk result (names.new ≡ names.old ++ group_count group.now) }
 {
     let Some(group) = group else {
@@ -26,7 +25,7 @@ fn name_group(names: &mut Seq<Access>, group: &Option<Name>) -> Result<(), Alloc
 /// Appends the counts in which a context's phase has a task of this parent and group, as what is
 /// added to.
 pub(crate) fn name_counts(
-    names: &mut Seq<Access>,
+    names: &mut Names,
     parent: &Name,
     context: &Context,
     group: &Option<Name>,
@@ -45,7 +44,7 @@ pub(crate) fn name_counts(
 
 /// Appends the additions to the counts in which a task of this group stands.
 pub(crate) fn add_to_counts(
-    updates: &mut Seq<Update>,
+    updates: &mut Puts,
     number: i128,
     group: &Option<Name>,
 ) -> Result<(), AllocError>

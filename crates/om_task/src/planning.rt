@@ -19,7 +19,7 @@ use crate::admit::{admits, instruction, leaving};
 use crate::planned::Plan;
 use crate::table::answer;
 use crate::task_start::{Starting, start};
-use om_cells::{Blocked, Change, Choice, Edit, Footprint, Label};
+use om_cells::{Blocked, Change, Choice, Edit, Footprint, Label, Names, Puts};
 use om_code::Program;
 use om_foot::Access;
 use om_live::{Control, Stack, Store};
@@ -119,13 +119,7 @@ fn control_answer(
 
 /// The plan of a step, by what it names and by its row. A fault is an edit of the control.
 #[tactic(auto, using(crate::proofs::Plans::fault_room))]
-fn planned(
-    alloc: Global,
-    worker: u8,
-    line: u32,
-    names: Seq<Access>,
-    row: Row,
-) -> Result<Plan, AllocError>
+fn planned(alloc: Global, worker: u8, line: u32, names: Names, row: Row) -> Result<Plan, AllocError>
     ensures plan { (c : plain_controls.Control) →
         IfOk result (λ plan. StandsFor plan c (record {
           footprint = record { object = obj.Control worker; mode = mode.Write } ∷ names;
@@ -137,7 +131,7 @@ fn planned(
 {
     let (edits, updates) = match row {
         Row::Goes { edits, updates } => (edits, updates),
-        Row::Faults(fault) => (Seq::one(alloc, Edit::Fail(fault))?, Seq::new(alloc)),
+        Row::Faults(fault) => (Seq::one(alloc, Edit::Fail(fault))?, Puts::new(alloc)),
         Row::Blocked(why) => return Ok(Plan::Blocked(why)),
         Row::Lacks => return Ok(Plan::Ended),
     };
@@ -218,7 +212,7 @@ pub fn names(
     let store = &Store::new(alloc);
     let Answer { names, row } = control_answer(alloc, program, store, control, planning)?;
     drop(row);
-    footprint(label.worker, names)
+    footprint(label.worker, names.into_seq()?)
 }
 
 /// What comes of the choice of a worker that has this control.

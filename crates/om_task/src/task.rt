@@ -11,17 +11,19 @@ ghost use Rattle.om_task.specs.Tasks.{born, group_of, ready_of};
 ghost use Rattle.om_task.specs.Rows.{made_names, values_given, made_row, spawn_row, ended_names, ended_updates, task_end_row, task_yield_row};
 
 use crate::count::{add_to_counts, name_counts};
-use om_cells::{Edit, Kind, Ready, Shared, Task, Update, Val};
+use om_cells::{Edit, Kind, Names, Puts, Ready, Shared, Task, Update, Val};
 use om_code::Body;
 use om_code::frame::Fault;
 use om_code::print::ints_on;
 use om_code::raw::Slot;
 use om_events::{Record, TaskStatus};
-use om_foot::{Access, Mode, Name, Obj};
+use om_foot::{Mode, Name, Obj};
 use om_live::{Context, Stack, Tape};
 use om_seq::Seq;
-use om_steps::names::{group_of, homes_in, name_events, name_given, operands_of, own_cells};
-use om_steps::parts::{go_and, name_one};
+use om_steps::names::{
+    group_of, homes_in, name_events, name_given, name_one, operands_of, own_cells,
+};
+use om_steps::parts::{go_and, one_put};
 use om_steps::updates::{put_deaths, put_event, put_ints};
 use om_steps::{Answer, Launch, Row};
 use std::alloc::{AllocError, Global};
@@ -51,7 +53,7 @@ fn made_names(
     body: &Body,
     context: &Context,
     new: &Name,
-) -> Result<Seq<Access>, AllocError>
+) -> Result<Names, AllocError>
     ensures { IfOk result
         (λ names. names ≡ made_names worker body.now (plain_context context.now) new.now) }
 {
@@ -90,7 +92,7 @@ fn ready_of(
 /// Appends that the values of a task go to its cells, that its counts have one more, and its event.
 fn give_values(
     alloc: Global,
-    updates: &mut Seq<Update>,
+    updates: &mut Puts,
     context: &Context,
     new: &Name,
     values: &[i32],
@@ -113,14 +115,14 @@ fn put_ready(
     making: &Making,
     body: &Body,
     context: &Context,
-) -> Result<Seq<Update>, AllocError>
+) -> Result<Puts, AllocError>
     ensures { IfOk result
         (λ updates. updates ≡ Update.Put
         (value.Task (task.Ready (ready_of making.now body.now (plain_context context.now)))) ∷ []) }
 {
     let ready = ready_of(alloc, making, body, context)?;
     let ready = Shared::of(alloc, ready)?;
-    Seq::one(alloc, Update::Put(Val::Task(Task::Ready(ready))))
+    one_put(alloc, Update::Put(Val::Task(Task::Ready(ready))))
 }
 
 /// The answer where a task is made with these values.
@@ -179,14 +181,14 @@ fn ended_names(
     alloc: Global,
     worker: u8,
     context: &Context,
-    own: Seq<Access>,
+    own: &Names,
     parent: &Name,
-) -> Result<Seq<Access>, AllocError>
+) -> Result<Names, AllocError>
     ensures { IfOk result
-        (λ names. names ≡ ended_names worker (plain_context context.now) own parent.now) }
+        (λ names. names ≡ ended_names worker (plain_context context.now) own.now parent.now) }
 {
     let mut names = name_one(alloc, &Obj::Task(*context.task.get()), Mode::Write)?;
-    names.append(own)?;
+    names.push_all(own)?;
     name_counts(&mut names, parent, context, context.group.get())?;
     name_events(&mut names, worker)?;
     Ok(names)
@@ -196,13 +198,13 @@ fn ended_names(
 fn ended_updates(
     alloc: Global,
     context: &Context,
-    own: &[Access],
+    own: &Names,
     next: &Name,
-) -> Result<Seq<Update>, AllocError>
+) -> Result<Puts, AllocError>
     ensures { IfOk result
         (λ updates. updates ≡ ended_updates (plain_context context.now) own.now next.now) }
 {
-    let mut updates = Seq::one(alloc, Update::Put(Val::Task(Task::Done)))?;
+    let mut updates = one_put(alloc, Update::Put(Val::Task(Task::Done)))?;
     put_deaths(&mut updates, own)?;
     add_to_counts(&mut updates, -1, context.group.get())?;
     let entry = Record::TaskSchedule {
@@ -231,12 +233,7 @@ fn next_below(below: &Tape<Box<Context>>) -> Option<&Context>
 }
 
 /// The row of the end of a task, above a context that goes on.
-fn ended(
-    alloc: Global,
-    context: &Context,
-    own: &[Access],
-    next: &Context,
-) -> Result<Row, AllocError>
+fn ended(alloc: Global, context: &Context, own: &Names, next: &Context) -> Result<Row, AllocError>
     ensures { IfOk result
         (λ row. row ≡ Row.Goes (Edit.EndContext ∷ [])
         (ended_updates (plain_context context.now) own.now next.now.task)) }
@@ -269,8 +266,8 @@ pub fn task_end(
         return Ok(Answer::decided(alloc, Row::Lacks));
     };
     let own = own_cells(alloc, context, slots)?;
-    let row = ended(alloc, context, own.as_slice(), next)?;
-    let names = ended_names(alloc, worker, context, own, parent)?;
+    let row = ended(alloc, context, &own, next)?;
+    let names = ended_names(alloc, worker, context, &own, parent)?;
     Ok(Answer { names, row })
 }
 
@@ -280,6 +277,6 @@ pub fn task_end(
 pub fn task_yield(alloc: Global, to: u32) -> Result<Answer, AllocError>
     ensures { IfOk result (λ answer. (s : State) → answer ≡ answered (task_yield_row to) s) }
 {
-    let row = Row::goes(alloc, to, 0, None, Seq::new(alloc))?;
+    let row = Row::goes(alloc, to, 0, None, Puts::new(alloc))?;
     Ok(Answer::decided(alloc, row))
 }

@@ -9,7 +9,9 @@ ghost use Rattle.om_steps.specs.Rows.{answered};
 ghost use Rattle.om_task.specs.Tasks.{task_context};
 ghost use Rattle.om_task.specs.Rows.{begun_updates, ready_for, start_row};
 
-use om_cells::{Blocked, Context as PlainContext, Edit, Kind, Ready, Shared, Task, Update, Val};
+use om_cells::{
+    Blocked, Context as PlainContext, Edit, Kind, Puts, Ready, Shared, Task, Update, Val,
+};
 use om_events::{Record, TaskStatus};
 use om_foot::{Mode, Name, Obj};
 use om_live::{Context, Store};
@@ -75,7 +77,7 @@ fn begun_updates(
     prior: &Name,
     status: TaskStatus,
     next: &Name,
-) -> Result<Seq<Update>, AllocError>
+) -> Result<Puts, AllocError>
     ensures { IfOk result (λ updates. updates ≡ begun_updates worker prior.now status next.now) }
 {
     let entry = Record::TaskSchedule {

@@ -140,7 +140,7 @@ pub fn names(
     };
     let Answer { names, row } = answer;
     drop(row);
-    Ok(Some(footprint(label.worker, names)?))
+    Ok(Some(footprint(label.worker, names.into_seq()?)?))
 }
 
 /// What comes of the choice of a worker that has this control.

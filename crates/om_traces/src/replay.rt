@@ -10,7 +10,7 @@ ghost use Rattle.om_undo.specs.Machines.{rules_for, IsPlan};
 ghost use Rattle.om_traces.specs.Traces.{transition_of, CanReplay, CanBeMade, footprint_for, transition_for, IsLonger};
 
 use crate::words::{Spoken, Words};
-use om_cells::{Footprint, Label};
+use om_cells::{Footprint, Label, Names};
 use om_code::Program;
 use om_foot::{Access, Mode, Obj};
 use om_history::History;
@@ -131,13 +131,14 @@ fn listed(alloc: Global, footprint: &Footprint) -> Result<Seq<Access>, AllocErro
     ensures { IfOk result (λ accesses. accesses ≡ footprint.now) }
 {
     let (worker, others) = footprint.parts();
-    let mut accesses = Vec::new(alloc);
-    accesses.push(Access {
+    let control = Access {
         object: Obj::Control(worker),
         mode: Mode::Write,
-    })?;
-    accesses.extend_from_slice(others)?;
-    Ok(Seq::of(accesses))
+    };
+    let mut accesses = Names::new(alloc);
+    accesses.push(&control)?;
+    accesses.push_all(others)?;
+    accesses.into_seq()
 }
 
 /// Takes the step of a plan, and answers what it touches. When out of memory, the history may be longer

@@ -3,7 +3,7 @@
 use om_code::instruction::Place;
 use om_code::{Instr, Program};
 use om_command::push_numbered;
-use om_foot::Obj;
+use om_foot::{Access, Obj};
 use om_live::Frame;
 use om_lookup::{Var, variable_at};
 use om_task::Plan;
@@ -74,6 +74,17 @@ pub(crate) fn local_at<'a>(program: &'a Program, frame: &Frame, slot: u32) -> Op
     None
 }
 
+/// The index of the first cell of a variable among these accesses, if there is one.
+fn index_among(accesses: &[Access]) -> Option<u32> {
+    for access in accesses {
+        match &access.object {
+            Obj::Cell { index, .. } | Obj::Global { index, .. } => return Some(*index),
+            _ => {}
+        }
+    }
+    None
+}
+
 /// The index of the first cell of a variable that the step of a plan touches, if it touches one. A step
 /// that meets a fault at an index outside of its array touches none.
 fn index_touched(plan: &Plan) -> Option<u32> {
@@ -81,13 +92,13 @@ fn index_touched(plan: &Plan) -> Option<u32> {
         return None;
     };
     let (_, others) = change.footprint.parts();
-    for access in others {
-        match &access.object {
-            Obj::Cell { index, .. } | Obj::Global { index, .. } => return Some(*index),
-            _ => {}
-        }
+    let (first, cells, last) = others.parts();
+    match index_among(first) {
+        Some(index) => Some(index),
+        // Cells that are named at once begin with the first of their slot.
+        None if !cells.is_empty() => Some(0),
+        None => index_among(last),
     }
-    None
 }
 
 /// Appends the index of the element that the step of a plan touches, behind the name of an array.

@@ -180,17 +180,27 @@ fn push_place(
     }
 }
 
-/// The number that the step of a plan puts into a variable, if it puts one.
-fn number_put(plan: &Plan) -> Option<i32> {
-    let Plan::Updates(change) = plan else {
-        return None;
-    };
-    for update in change.updates.as_slice() {
+/// The first number that one of these updates puts into a variable, if one does.
+fn number_among(updates: &[Update]) -> Option<i32> {
+    for update in updates {
         if let Update::Put(Val::Cell(Cell::Int(number))) = update {
             return Some(*number);
         }
     }
     None
+}
+
+/// The number that the step of a plan puts into a variable, if it puts one.
+fn number_put(plan: &Plan) -> Option<i32> {
+    let Plan::Updates(change) = plan else {
+        return None;
+    };
+    // No cells that are put at once get a number: they become unset, or dead.
+    let (first, _, last) = change.updates.parts();
+    match number_among(first) {
+        Some(number) => Some(number),
+        None => number_among(last),
+    }
 }
 
 /// Appends a number, behind a name with ` = ` between them.
