@@ -1,1 +1,7 @@
 pub mod OffsetLemmas
+pub mod SpanLemmas
+pub mod SlotLemmas
+pub mod CellLemmas
+pub mod PartLemmas
+pub mod RangeLemmas
+pub mod Forgetting

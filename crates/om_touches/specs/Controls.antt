@@ -10,10 +10,9 @@ use Rattle.om_foot.specs.Footprint.{obj_eq}
 use Rattle.om_touches.specs.declared.by_mode.Touches.{Touches}
 use Rattle.om_touches.specs.declared.controls.ControlTouches.{ControlTouches}
 use Rattle.om_touches.specs.declared.objects.ObjectTouches.{ObjectTouches}
-use Rattle.om_touches.specs.declared.touches.TouchLists.{TouchLists}
-use Rattle.om_touches.specs.Touches.{mode_eq, names, list_of, has_in, has_touch, has_control_touch, has_object_touch}
-use Rattle.om_touches.specs.Touches.{control_of, SameControls, SameObjects, AreSame}
-use Rattle.om_touches.specs.Lists.{AreSet}
+use Rattle.om_touches.specs.declared.singles.SingleTouches.{SingleTouches}
+use Rattle.om_touches.specs.Touches.{mode_eq, names, list_of, has_in, has_single_touch, has_control_touch, has_object_touch}
+use Rattle.om_touches.specs.Touches.{control_of, SameControls, SameObjects, IsSet}
 use Rattle.om_touches.specs.Serials.{has}
 use Rattle.om_touches.specs.Workers.{kept-set, kept-unset}
 
@@ -72,36 +71,36 @@ unnamed b true n x h = ap (λ y. cond (cond y true false) b x) (sym h)
 unnamed b false n x h = refl
 
 -- other touches of controls alone
-abbrev pub with_controls : TouchLists → ControlTouches → TouchLists
+abbrev pub with_controls : SingleTouches → ControlTouches → SingleTouches
 with_controls lists controls = record { controls = controls; objects = lists.objects }
 
 -- other touches of the other objects alone
-abbrev pub with_objects : TouchLists → ObjectTouches → TouchLists
+abbrev pub with_objects : SingleTouches → ObjectTouches → SingleTouches
 with_objects lists objects = record { controls = lists.controls; objects = objects }
 
-at_control : (b : Bool) (lists : TouchLists) (new : ControlTouches) (worker : ℕ) (mode : Mode) (serial : ℕ)
+at_control : (b : Bool) (lists : SingleTouches) (new : ControlTouches) (worker : ℕ) (mode : Mode) (serial : ℕ)
     → ControlsSet b worker mode serial lists.controls new
-    → (o : Obj) (m : Mode) (s : ℕ) → has_touch (with_controls lists new) o m s
+    → (o : Obj) (m : Mode) (s : ℕ) → has_single_touch (with_controls lists new) o m s
     ≡ cond (nat_eq serial s && cond (obj_eq (object.Control worker) o && mode_eq mode m) true false) b
-    (has_touch lists o m s)
+    (has_single_touch lists o m s)
 at_control b lists new worker mode serial set (object.Control v) m s =
     set v m s ∙ named b (nat_eq serial s) (nat_eq worker v && mode_eq mode m) (has_control_touch lists.controls v m s)
 at_control b lists new worker mode serial set o m s =
     unnamed b (nat_eq serial s) false (has_object_touch lists.objects o m s) refl
 
 -- a change of the touches of a control is one of the lists
-pub lists-control : (b : Bool) (lists : TouchLists) (new : ControlTouches) (a : Access) (worker serial : ℕ)
+pub lists-control : (b : Bool) (lists : SingleTouches) (new : ControlTouches) (a : Access) (worker serial : ℕ)
     → Some worker ≡ control_of a.object → ControlsSet b worker a.mode serial lists.controls new
-    → AreSet b (a ∷ []) serial lists (with_controls lists new)
+    → IsSet b (a ∷ []) serial (has_single_touch lists) (has_single_touch (with_controls lists new))
 lists-control b lists new a worker serial is set o m s =
     at_control b lists new worker a.mode serial set o m s
-    ∙ ap (λ p. cond (nat_eq serial s && cond (obj_eq p o && mode_eq a.mode m) true false) b (has_touch lists o m s))
+    ∙ ap (λ p. cond (nat_eq serial s && cond (obj_eq p o && mode_eq a.mode m) true false) b (has_single_touch lists o m s))
     (sym (control_is a.object worker is))
 
 -- and so is one of the touches of an object that is no control
-pub lists-object : (b : Bool) (lists : TouchLists) (new : ObjectTouches) (a : Access) (serial : ℕ)
+pub lists-object : (b : Bool) (lists : SingleTouches) (new : ObjectTouches) (a : Access) (serial : ℕ)
     → None ≡ control_of a.object → ObjectsSet b a serial lists.objects new
-    → AreSet b (a ∷ []) serial lists (with_objects lists new)
+    → IsSet b (a ∷ []) serial (has_single_touch lists) (has_single_touch (with_objects lists new))
 lists-object b lists new a serial is set (object.Control v) m s =
     unnamed b (nat_eq serial s) (obj_eq a.object (object.Control v) && mode_eq a.mode m)
     (has_control_touch lists.controls v m s)
@@ -109,19 +108,19 @@ lists-object b lists new a serial is set (object.Control v) m s =
 lists-object b lists new a serial is set o m s = set o m s
 
 -- where no touch changes, none of the lists does
-pub same-controls : (lists : TouchLists) (new : ControlTouches) → SameControls lists.controls new
-    → AreSame lists (with_controls lists new)
+pub same-controls : (lists : SingleTouches) (new : ControlTouches) → SameControls lists.controls new
+    → (o : Obj) (m : Mode) (s : ℕ) → has_single_touch (with_controls lists new) o m s ≡ has_single_touch lists o m s
 same-controls lists new same (object.Control v) m s = same v m s
 same-controls lists new same o m s = refl
 
-pub same-objects : (lists : TouchLists) (new : ObjectTouches) → SameObjects lists.objects new
-    → AreSame lists (with_objects lists new)
+pub same-objects : (lists : SingleTouches) (new : ObjectTouches) → SameObjects lists.objects new
+    → (o : Obj) (m : Mode) (s : ℕ) → has_single_touch (with_objects lists new) o m s ≡ has_single_touch lists o m s
 same-objects lists new same (object.Control v) m s = refl
 same-objects lists new same o m s = same o m s
 
 -- where neither has a touch, the lists have none
-pub no-touches : (lists : TouchLists) → ((w : ℕ) (m : Mode) (s : ℕ) → has_control_touch lists.controls w m s ≡ false)
+pub no-touches : (lists : SingleTouches) → ((w : ℕ) (m : Mode) (s : ℕ) → has_control_touch lists.controls w m s ≡ false)
     → ((o : Obj) (m : Mode) (s : ℕ) → has_object_touch lists.objects o m s ≡ false)
-    → (o : Obj) (m : Mode) (s : ℕ) → has_touch lists o m s ≡ false
+    → (o : Obj) (m : Mode) (s : ℕ) → has_single_touch lists o m s ≡ false
 no-touches lists none others (object.Control v) m s = none v m s
 no-touches lists none others o m s = others o m s

@@ -1,8 +1,10 @@
 pub mod Offsets
 pub mod Blocks
 pub mod Serials
+pub mod Slots
 pub mod Touches
 pub mod Lists
 pub mod Searches
 pub mod Workers
 pub mod Controls
+pub mod Accesses

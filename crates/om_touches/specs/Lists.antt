@@ -16,13 +16,12 @@ use Rattle.om_foot.specs.contracts.object.ObjOrd.TheImpl.{cmp-value}
 use Rattle.om_foot.specs.Objects.{lookup-is_at, cmp-is_eq, obj_eq-true, obj_eq-same}
 use Rattle.om_touches.specs.declared.by_mode.Touches.{Touches}
 use Rattle.om_touches.specs.declared.touches.TouchLists.{TouchLists}
-use Rattle.om_touches.specs.Touches.{mode_eq, names, list_of, has_in, has_touch, AreSame}
+use Rattle.om_touches.specs.Touches.{mode_eq, names, list_of, has_in, has_touch, Touching, IsSet, AreSame, AreOnly}
 use Rattle.om_touches.specs.Serials.{has}
 
 -- lists with one entry's touches there, or not there
 abbrev pub AreSet : Bool → List Access → ℕ → TouchLists → TouchLists → Type 0
-AreSet b footprint serial old new = (o : Obj) (m : Mode) (s : ℕ)
-    → has_touch new o m s ≡ cond (nat_eq serial s && names o m footprint) b (has_touch old o m s)
+AreSet b footprint serial old new = IsSet b footprint serial (has_touch old) (has_touch new)
 
 -- fs is es with w at k
 abbrev pub Sets : List (Obj × Touches) → List (Obj × Touches) → Obj → Touches → Type 0
@@ -150,14 +149,14 @@ known_same es fs k w none sets new q m s =
     go true is = new m s
         ∙ sym (ap (λ o. has_in o m s) (ap (λ o. lookup (obj_eq o) es) (sym (obj_eq-true k q is)) ∙ none))
 
--- a footprint with an access more
-names-push : (o : Obj) (m : Mode) (xs : List Access) (a : Access)
-    → names o m (xs ++ a ∷ []) ≡ cond (names o m xs) true (names o m (a ∷ []))
-names-push o m [] a = refl
-names-push o m (x ∷ xs) a = more (obj_eq x.object o && mode_eq x.mode m) (names-push o m xs a)
+-- a footprint and what is behind it
+pub names-append : (o : Obj) (m : Mode) (xs ys : List Access)
+    → names o m (xs ++ ys) ≡ cond (names o m xs) true (names o m ys)
+names-append o m [] ys = refl
+names-append o m (x ∷ xs) ys = more (obj_eq x.object o && mode_eq x.mode m) (names-append o m xs ys)
   where
-    more : (b : Bool) → names o m (xs ++ a ∷ []) ≡ cond (names o m xs) true (names o m (a ∷ []))
-        → cond b true (names o m (xs ++ a ∷ [])) ≡ cond (cond b true (names o m xs)) true (names o m (a ∷ []))
+    more : (b : Bool) → names o m (xs ++ ys) ≡ cond (names o m xs) true (names o m ys)
+        → cond b true (names o m (xs ++ ys)) ≡ cond (cond b true (names o m xs)) true (names o m ys)
     more true h = refl
     more false h = h
 
@@ -167,27 +166,27 @@ set_more b true true true x = refl
 set_more b true true false x = refl
 set_more b true false q x = refl
 
-pub set-push : (b : Bool) (xs : List Access) (a : Access) (serial : ℕ) (old mid new : TouchLists)
-    → AreSet b xs serial old mid → AreSet b (a ∷ []) serial mid new → AreSet b (xs ++ a ∷ []) serial old new
-set-push b xs a serial old mid new first second o m s =
+pub set-append : (b : Bool) (xs ys : List Access) (serial : ℕ) (old mid new : Touching)
+    → IsSet b xs serial old mid → IsSet b ys serial mid new → IsSet b (xs ++ ys) serial old new
+set-append b xs ys serial old mid new first second o m s =
     second o m s
-    ∙ ap (cond (nat_eq serial s && names o m (a ∷ [])) b) (first o m s)
-    ∙ set_more b (nat_eq serial s) (names o m xs) (names o m (a ∷ [])) (has_touch old o m s)
-    ∙ ap (λ n. cond (nat_eq serial s && n) b (has_touch old o m s)) (sym (names-push o m xs a))
+    ∙ ap (cond (nat_eq serial s && names o m ys) b) (first o m s)
+    ∙ set_more b (nat_eq serial s) (names o m xs) (names o m ys) (old o m s)
+    ∙ ap (λ n. cond (nat_eq serial s && n) b (old o m s)) (sym (names-append o m xs ys))
 
 -- one turn of a loop over a footprint
-pub set_next : (b : Bool) (footprint : List Access) (i : ℕ) (a : Access) (serial : ℕ) (old mid new : TouchLists)
+pub set_next : (b : Bool) (footprint : List Access) (i : ℕ) (a : Access) (serial : ℕ) (old mid new : Touching)
     → i < length footprint → a ≡ get_or footprint i a
-    → AreSet b (take i footprint) serial old mid → AreSet b (a ∷ []) serial mid new
-    → AreSet b (take (i + 1) footprint) serial old new
+    → IsSet b (take i footprint) serial old mid → IsSet b (a ∷ []) serial mid new
+    → IsSet b (take (i + 1) footprint) serial old new
 set_next b footprint i a serial old mid new within is first second =
-    subst (λ xs. AreSet b xs serial old new)
+    subst (λ xs. IsSet b xs serial old new)
     (ap (λ x. take i footprint ++ x ∷ []) is ∙ sym (take_more footprint i a within))
-    (set-push b (take i footprint) a serial old mid new first second)
+    (set-append b (take i footprint) (a ∷ []) serial old mid new first second)
 
 -- before the first turn
-pub set_none : (b : Bool) (serial : ℕ) (old : TouchLists) → AreSet b [] serial old old
-set_none b serial old o m s = elsewhere b (nat_eq serial s) (has_touch old o m s)
+pub set_none : (b : Bool) (serial : ℕ) (old : Touching) → IsSet b [] serial old old
+set_none b serial old o m s = elsewhere b (nat_eq serial s) (old o m s)
 
 front : (b p q : Bool) → (p ≡ false → q ≡ false) → cond b true p ≡ false → cond b true q ≡ false
 front true p q f h = h
@@ -198,6 +197,36 @@ names-front zero o m xs h = refl
 names-front (suc n) o m [] h = refl
 names-front (suc n) o m (x ∷ xs) h = front (obj_eq x.object o && mode_eq x.mode m) (names o m xs)
     (names o m (take n xs)) (λ e. names-front n o m xs e) h
+
+names-in : (n : ℕ) (o : Obj) (m : Mode) (xs : List Access) → names o m (take n xs) ≡ true → names o m xs ≡ true
+names-in n o m xs h = go (names o m xs) refl
+  where
+    go : (b : Bool) → names o m xs ≡ b → b ≡ true
+    go true e = refl
+    go false e = let none : names o m (take n xs) ≡ false = names-front n o m xs e in cc
+
+-- where an entry had no touch, all of it are of the footprint that was added
+pub only_added : (footprint : List Access) (serial : ℕ) (old new : TouchLists)
+    → ((o : Obj) (m : Mode) → has_touch old o m serial ≡ false)
+    → AreSet true footprint serial old new → AreOnly footprint serial new
+only_added footprint serial old new fresh set o m h = go (names o m footprint) refl
+  where
+    none : (e x : Bool) → x ≡ false → cond (e && false) true x ≡ false
+    none true x h = h
+    none false x h = h
+
+    go : (b : Bool) → names o m footprint ≡ b → b ≡ true
+    go true e = refl
+    go false e =
+        let no : has_touch new o m serial ≡ false = set o m serial
+        ∙ ap (λ n. cond (nat_eq serial serial && n) true (has_touch old o m serial)) e
+        ∙ none (nat_eq serial serial) (has_touch old o m serial) (fresh o m) in cc
+
+pub only_some_added : (footprint : List Access) (n serial : ℕ) (old new : TouchLists)
+    → ((o : Obj) (m : Mode) → has_touch old o m serial ≡ false)
+    → AreSet true (take n footprint) serial old new → AreOnly footprint serial new
+only_some_added footprint n serial old new fresh set o m h =
+    names-in n o m footprint (only_added (take n footprint) serial old new fresh set o m h)
 
 -- what was added in part is taken out
 pub taken_out : (footprint : List Access) (n serial : ℕ) (old mid new : TouchLists)

@@ -69,21 +69,20 @@ IsFirst-same P Q s (Some a) same h =
 pub IsFirst-none : (P : ℕ → Bool) (s : ℕ) → ((t : ℕ) → P t ≡ false) → IsFirst P s None
 IsFirst-none P s h = λ t above. h t
 
--- a search of a footprint goes on by one access
-pub meets-push : (touch : Obj → Mode → ℕ → Bool) (footprint : List Access) (a : Access) (s : ℕ)
-    → meets touch (footprint ++ a ∷ []) s ≡ cond (meets touch footprint s) true (meets_at (touch a.object) a.mode s)
-meets-push touch [] a s = last (meets_at (touch a.object) a.mode s)
+-- a search of a footprint goes on behind it
+pub meets-append : (touch : Obj → Mode → ℕ → Bool) (xs ys : List Access) (s : ℕ)
+    → meets touch (xs ++ ys) s ≡ cond (meets touch xs s) true (meets touch ys s)
+meets-append touch [] ys s = refl
+meets-append touch (x ∷ xs) ys s = more (meets_at (touch x.object) x.mode s) (meets-append touch xs ys s)
   where
-    last : (b : Bool) → cond b true false ≡ b
-    last true = refl
-    last false = refl
-meets-push touch (x ∷ xs) a s = more (meets_at (touch x.object) x.mode s) (meets-push touch xs a s)
-  where
-    more : (b : Bool) → meets touch (xs ++ a ∷ []) s ≡ cond (meets touch xs s) true (meets_at (touch a.object) a.mode s)
-        → cond b true (meets touch (xs ++ a ∷ []) s) ≡ cond (cond b true (meets touch xs s)) true
-        (meets_at (touch a.object) a.mode s)
+    more : (b : Bool) → meets touch (xs ++ ys) s ≡ cond (meets touch xs s) true (meets touch ys s)
+        → cond b true (meets touch (xs ++ ys) s) ≡ cond (cond b true (meets touch xs s)) true (meets touch ys s)
     more true h = refl
     more false h = h
+
+last_one : (b : Bool) → cond b true false ≡ b
+last_one true = refl
+last_one false = refl
 
 pub meets_next : (touch : Obj → Mode → ℕ → Bool) (footprint : List Access) (i : ℕ) (a : Access) (s : ℕ)
     → i < length footprint → a ≡ get_or footprint i a
@@ -91,7 +90,8 @@ pub meets_next : (touch : Obj → Mode → ℕ → Bool) (footprint : List Acces
     ≡ cond (meets touch (take i footprint) s) true (meets_at (touch a.object) a.mode s)
 meets_next touch footprint i a s within is =
     ap (λ xs. meets touch xs s) (take_more footprint i a within ∙ ap (λ x. take i footprint ++ x ∷ []) (sym is))
-    ∙ meets-push touch (take i footprint) a s
+    ∙ meets-append touch (take i footprint) (a ∷ []) s
+    ∙ ap (cond (meets touch (take i footprint) s) true) (last_one (meets_at (touch a.object) a.mode s))
 
 pub meets_at_none : (touch : Mode → ℕ → Bool) (m : Mode) (s : ℕ) → ((k : Mode) → touch k s ≡ false)
     → meets_at touch m s ≡ false
@@ -105,6 +105,38 @@ meets_at_none touch m s h =
     none Read = refl
     none Write = refl
     none Add = refl
+
+-- touches of two kinds
+
+or_four : (a b c d : Bool) → cond (cond a true b) true (cond c true d) ≡ cond (cond a true c) true (cond b true d)
+or_four true b c d = refl
+or_four false true true d = refl
+or_four false true false d = refl
+or_four false false c d = refl
+
+and_or : (c a b : Bool) → c && cond a true b ≡ cond (c && a) true (c && b)
+and_or true a b = refl
+and_or false a b = refl
+
+pub meets_at-either : (f g : Mode → ℕ → Bool) (m : Mode) (s : ℕ)
+    → meets_at (λ k t. cond (f k t) true (g k t)) m s ≡ cond (meets_at f m s) true (meets_at g m s)
+meets_at-either f g m s =
+    (λ i. cond (and_or (modes_conflict m Read) (f Read s) (g Read s) i) true
+    (cond (and_or (modes_conflict m Write) (f Write s) (g Write s) i) true
+    (and_or (modes_conflict m Add) (f Add s) (g Add s) i)))
+    ∙ ap (cond (cond (modes_conflict m Read && f Read s) true (modes_conflict m Read && g Read s)) true)
+    (or_four (modes_conflict m Write && f Write s) (modes_conflict m Write && g Write s)
+    (modes_conflict m Add && f Add s) (modes_conflict m Add && g Add s))
+    ∙ or_four (modes_conflict m Read && f Read s) (modes_conflict m Read && g Read s)
+    (cond (modes_conflict m Write && f Write s) true (modes_conflict m Add && f Add s))
+    (cond (modes_conflict m Write && g Write s) true (modes_conflict m Add && g Add s))
+
+pub meets-either : (f g : Obj → Mode → ℕ → Bool) (footprint : List Access) (s : ℕ)
+    → meets (λ o k t. cond (f o k t) true (g o k t)) footprint s ≡ cond (meets f footprint s) true (meets g footprint s)
+meets-either f g [] s = refl
+meets-either f g (a ∷ rest) s =
+    (λ i. cond (meets_at-either (f a.object) (g a.object) a.mode s i) true (meets-either f g rest s i))
+    ∙ or_four (meets_at (f a.object) a.mode s) (meets_at (g a.object) a.mode s) (meets f rest s) (meets g rest s)
 
 -- a search by what one footprint names is a search for a conflict with it
 

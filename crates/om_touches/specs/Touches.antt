@@ -13,8 +13,11 @@ use Rattle.om_touches.specs.declared.controls.ControlTouches.{ControlTouches}
 use Rattle.om_touches.specs.declared.objects.ObjectTouches.{ObjectTouches}
 use Rattle.om_touches.specs.declared.own.OwnEntries.{OwnEntries}
 use Rattle.om_touches.specs.declared.serials.Serials.{Serials}
+use Rattle.om_touches.specs.declared.singles.SingleTouches.{SingleTouches}
+use Rattle.om_touches.specs.declared.slots.SlotTouches.{SlotTouches}
 use Rattle.om_touches.specs.declared.touches.TouchLists.{TouchLists}
 use Rattle.om_touches.specs.Serials.{has}
+use Rattle.om_touches.specs.Slots.{has_span, spans_of}
 
 abbrev pub mode_eq : Mode → Mode → Bool
 mode_eq Read Read = true
@@ -83,20 +86,58 @@ abbrev pub ControlsWithout : ℕ → Mode → ℕ → ControlTouches → Control
 ControlsWithout worker mode serial old new = (w : ℕ) (m : Mode) (s : ℕ) → has_control_touch new w m s
     ≡ cond (nat_eq serial s && (nat_eq worker w && mode_eq mode m)) false (has_control_touch old w m s)
 
--- of all objects
+-- of single objects
 
 -- the worker whose control an object is
 abbrev pub control_of : Obj → Option ℕ
 control_of (object.Control w) = Some w
 control_of _ = None
 
-abbrev pub has_touch_by : TouchLists → Option ℕ → Obj → Mode → ℕ → Bool
-has_touch_by lists (Some w) o m s = has_control_touch lists.controls w m s
-has_touch_by lists None o m s = has_object_touch lists.objects o m s
+abbrev pub has_single_by : SingleTouches → Option ℕ → Obj → Mode → ℕ → Bool
+has_single_by singles (Some w) o m s = has_control_touch singles.controls w m s
+has_single_by singles None o m s = has_object_touch singles.objects o m s
+
+-- whether there is a touch of an object that was named singly
+abbrev pub has_single_touch : SingleTouches → Obj → Mode → ℕ → Bool
+has_single_touch singles o m s = has_single_by singles (control_of o) o m s
+
+-- of cells that were named at once
+
+abbrev pub has_slot_write : SlotTouches → Obj → ℕ → Bool
+has_slot_write slots (object.Cell t f n i) s = has_span (spans_of slots (record { task = t; frame = f; slot = n })) i s
+has_slot_write slots _ s = false
+
+-- whether there is a touch of a cell as one of a beginning of its slot, which is a write
+abbrev pub has_slot_touch : SlotTouches → Obj → Mode → ℕ → Bool
+has_slot_touch slots o Read s = false
+has_slot_touch slots o Write s = has_slot_write slots o s
+has_slot_touch slots o Add s = false
+
+-- of all objects
 
 -- whether there is a touch of an object, with a mode, by the entry of a serial
 abbrev pub has_touch : TouchLists → Obj → Mode → ℕ → Bool
-has_touch lists o m s = has_touch_by lists (control_of o) o m s
+has_touch lists o m s = cond (has_single_touch lists.singles o m s) true (has_slot_touch lists.slots o m s)
+
+-- what touches there are: of an object, with a mode, by the entry of a serial
+abbrev pub Touching : Type 0
+Touching = Obj → Mode → ℕ → Bool
+
+-- the touches of one entry are there, or are not there; the others are as before
+abbrev pub IsSet : Bool → List Access → ℕ → Touching → Touching → Type 0
+IsSet b footprint serial old new = (o : Obj) (m : Mode) (s : ℕ)
+    → new o m s ≡ cond (nat_eq serial s && names o m footprint) b (old o m s)
+
+-- no touch comes, and of those that go all are of one entry; those of its footprint are gone
+pub record IsLess (footprint : List Access) (serial : ℕ) (old new : Touching) : Type 0 where
+  pub others : (o : Obj) (m : Mode) (s : ℕ) → nat_eq serial s ≡ false → new o m s ≡ old o m s
+  pub fewer : (o : Obj) (m : Mode) (s : ℕ) → new o m s ≡ true → old o m s ≡ true
+  pub gone : (o : Obj) (m : Mode) → names o m footprint ≡ true → new o m serial ≡ false
+
+-- all touches of an entry are of this footprint
+abbrev pub AreOnly : List Access → ℕ → TouchLists → Type 0
+AreOnly footprint serial lists = (o : Obj) (m : Mode)
+    → has_touch lists o m serial ≡ true → names o m footprint ≡ true
 
 -- no touch changes; those of one entry come, or go
 abbrev pub AreSame : TouchLists → TouchLists → Type 0

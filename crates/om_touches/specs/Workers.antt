@@ -22,7 +22,7 @@ pub number_is : (k q : ℕ) → nat_eq k q ≡ true → k ≡ q
 number_is k q h = (Decides-eqb k q).0 h
 
 -- what is kept for each worker, where x is put at one that has something
-puts_at : {X : Type 0} (xs : List X) (worker : ℕ) (old x : X) → slice_get xs worker ≡ Some old → (w : ℕ)
+pub puts_at : {X : Type 0} (xs : List X) (worker : ℕ) (old x : X) → slice_get xs worker ≡ Some old → (w : ℕ)
     → slice_get (set xs worker x) w ≡ cond (nat_eq worker w) (Some x) (slice_get xs w)
 puts_at xs worker old x there w = go (nat_eq worker w) refl
   where

@@ -71,6 +71,16 @@ impl Touches {
         }
     }
 
+    /// Takes the touches of an entry out, of every mode. It takes no memory.
+    pub(crate) fn forget(&mut self, serial: u64)
+        ensures { (m : Mode) (s : ℕ) → has (list_of self.new m) s
+            ≡ cond (nat_eq serial s) false (has (list_of self.old m) s) }
+    {
+        self.reads.take(serial);
+        self.writes.take(serial);
+        self.additions.take(serial);
+    }
+
     /// The first touch after a serial that conflicts with an access of the mode.
     pub(crate) fn first_conflict(&self, mode: Mode, serial: u64) -> Option<u64>
         ensures { IsFirst (meets_at (λ m s. has (list_of self.now m) s) mode) serial result }

@@ -4,40 +4,34 @@
 ghost use Rattle.std.specs.Prelude.{◌≡◌, ℕ, ◌∷◌, [], false, take as first_so_many, OnOk, OnErr};
 ghost use Rattle.om_foot.specs.declared.object.Obj.{Obj};
 ghost use Rattle.om_foot.specs.declared.footprint.Mode.{Mode};
-ghost use Rattle.om_touches.specs.Touches.{control_of, IsFirst, meets_at, meets, has_touch, AreSame, AreWith, AreWithout};
+ghost use Rattle.om_cells.specs.Cells.{cells_of, cells_listed};
+ghost use Rattle.om_touches.specs.Accesses.{accesses_of};
+ghost use Rattle.om_touches.specs.Touches.{IsFirst, meets_at, meets, has_touch, AreSame, AreWith, AreWithout, AreOnly, IsLess};
 
-use crate::controls::ControlTouches;
-use crate::objects::ObjectTouches;
+use crate::accesses::Accesses;
 use crate::shared_access::SharedAccess;
+use crate::singles::SingleTouches;
+use crate::slots::SlotTouches;
 use crate::sooner::sooner;
-use om_foot::Obj;
+use om_cells::SharedCells;
 use std::alloc::{AllocError, Global};
-
-/// The worker whose control an object is.
-fn control_of(object: &Obj) -> Option<u8>
-    ensures { result ≡ control_of object.now }
-{
-    let Obj::Control(worker) = object else {
-        return None;
-    };
-    Some(*worker)
-}
 
 /// For each object its touches.
 ///
 /// Contracts see which entry touches an object, and how (`has_touch`).
 pub struct TouchLists {
-    /// Each step touches its worker's control, so these lie apart, where they are found at once.
-    controls: ControlTouches,
-    objects: ObjectTouches,
+    /// The touches by accesses of single objects.
+    singles: SingleTouches,
+    /// The touches of cells that were named at once.
+    slots: SlotTouches,
 }
 
 // By hand: crates above call this, and do not prove anew how each part is dropped.
 impl Drop for TouchLists {
     fn drop(self) {
-        let TouchLists { controls, objects } = self;
-        drop(controls);
-        drop(objects);
+        let TouchLists { singles, slots } = self;
+        drop(singles);
+        drop(slots);
     }
 }
 
@@ -47,29 +41,8 @@ impl TouchLists {
         ensures { (o : Obj) (m : Mode) (s : ℕ) → has_touch result o m s ≡ false }
     {
         TouchLists {
-            controls: ControlTouches::new(alloc),
-            objects: ObjectTouches::new(alloc),
-        }
-    }
-
-    /// Adds a touch. When out of memory, no touch changes.
-    fn add(&mut self, alloc: Global, access: &SharedAccess, serial: u64) -> Result<(), AllocError>
-        ensures added { OnOk result (AreWith (access.now ∷ []) serial self.old self.new) }
-        ensures unchanged_on_error { OnErr result (AreSame self.old self.new) }
-    {
-        match control_of(access.object().get()) {
-            Some(worker) => self.controls.add(alloc, worker, access.mode(), serial),
-            None => self.objects.add(alloc, access, serial),
-        }
-    }
-
-    /// Takes a touch out, if it is there. It takes no memory.
-    fn remove(&mut self, access: &SharedAccess, serial: u64)
-        ensures { AreWithout (access.now ∷ []) serial self.old self.new }
-    {
-        match control_of(access.object().get()) {
-            Some(worker) => self.controls.remove(worker, access.mode(), serial),
-            None => self.objects.remove(access, serial),
+            singles: SingleTouches::new(alloc),
+            slots: SlotTouches::new(alloc),
         }
     }
 
@@ -77,31 +50,28 @@ impl TouchLists {
     pub fn add_each(
         &mut self,
         alloc: Global,
-        footprint: &[SharedAccess],
+        footprint: &Accesses,
         serial: u64,
     ) -> Result<(), AllocError>
-        ensures added { OnOk result (AreWith footprint.now serial self.old self.new) }
+        ensures added { OnOk result (AreWith (accesses_of footprint.now) serial self.old self.new) }
         ensures some_on_error { OnErr result
-            ((n : ℕ) × AreWith (first_so_many n footprint.now) serial self.old self.new) }
+            ((n : ℕ) × AreWith (first_so_many n (accesses_of footprint.now)) serial self.old self.new) }
     {
-        for access in footprint {
-            match self.add(alloc, access, serial) {
-                Ok(()) => {}
-                Err(error) => return Err(error),
-            }
-        }
-        Ok(())
+        let (first, cells, last) = footprint.parts();
+        self.singles.add_each(alloc, first, serial)?;
+        self.slots.add_each(alloc, cells, serial)?;
+        self.singles.add_each(alloc, last, serial)
     }
 
     /// Adds the touches of an entry that has none yet. When out of memory, no touch changes.
     pub fn add_all(
         &mut self,
         alloc: Global,
-        footprint: &[SharedAccess],
+        footprint: &Accesses,
         serial: u64,
     ) -> Result<(), AllocError>
         requires { (o : Obj) (m : Mode) → has_touch self.old o m serial ≡ false }
-        ensures added { OnOk result (AreWith footprint.now serial self.old self.new) }
+        ensures added { OnOk result (AreWith (accesses_of footprint.now) serial self.old self.new) }
         ensures unchanged_on_error { OnErr result (AreSame self.old self.new) }
     {
         match self.add_each(alloc, footprint, serial) {
@@ -113,13 +83,50 @@ impl TouchLists {
         }
     }
 
-    /// Takes the touches of an entry out. It takes no memory.
-    pub fn remove_all(&mut self, footprint: &[SharedAccess], serial: u64)
-        ensures { AreWithout footprint.now serial self.old self.new }
+    /// Takes the touches of a single object by an entry out.
+    fn remove(&mut self, access: &SharedAccess, serial: u64)
+        ensures { IsLess (access.now ∷ []) serial (has_touch self.old) (has_touch self.new) }
     {
-        for access in footprint {
+        self.singles.remove(access, serial);
+        self.slots.remove_at(access.object().get(), serial);
+    }
+
+    /// Takes the touches of single objects by an entry out.
+    fn remove_each(&mut self, accesses: &[SharedAccess], serial: u64)
+        ensures { IsLess accesses.now serial (has_touch self.old) (has_touch self.new) }
+    {
+        for access in accesses {
             self.remove(access, serial);
         }
+    }
+
+    /// Takes the touches of cells by an entry out.
+    fn remove_in(&mut self, cells: &SharedCells, serial: u64)
+        ensures { IsLess (cells_of cells.now) serial (has_touch self.old) (has_touch self.new) }
+    {
+        self.singles.remove_in(cells, serial);
+        self.slots.remove(cells, serial);
+    }
+
+    /// Takes the touches of all of these cells by an entry out.
+    fn remove_each_in(&mut self, all: &[SharedCells], serial: u64)
+        ensures { IsLess (cells_listed all.now) serial (has_touch self.old) (has_touch self.new) }
+    {
+        for cells in all {
+            self.remove_in(cells, serial);
+        }
+    }
+
+    /// Takes the touches of an entry out. It may have been added in other parts, so all its touches
+    /// are to be of this footprint. It takes no memory.
+    pub fn remove_all(&mut self, footprint: &Accesses, serial: u64)
+        requires { AreOnly (accesses_of footprint.now) serial self.old }
+        ensures { AreWithout (accesses_of footprint.now) serial self.old self.new }
+    {
+        let (first, cells, last) = footprint.parts();
+        self.remove_each(first, serial);
+        self.remove_each_in(cells, serial);
+        self.remove_each(last, serial);
     }
 
     /// The first touch after a serial that conflicts with an access.
@@ -127,21 +134,54 @@ impl TouchLists {
         ensures { IsFirst (meets_at (has_touch self.now access.now.object) access.now.mode) serial
             result }
     {
-        match control_of(access.object().get()) {
-            Some(worker) => self.controls.first_at(worker, access.mode(), serial),
-            None => self.objects.first_at(access, serial),
+        sooner(
+            self.singles.first_at(access, serial),
+            self.slots.first_at(access.object().get(), serial),
+        )
+    }
+
+    /// The first touch after a serial that conflicts with one of these accesses.
+    fn first_of(&self, accesses: &[SharedAccess], serial: u64) -> Option<u64>
+        ensures { IsFirst (meets (has_touch self.now) accesses.now) serial result }
+    {
+        let mut first = None;
+        for access in accesses {
+            first = sooner(first, self.first_at(access, serial));
         }
+        first
+    }
+
+    /// The first touch after a serial that conflicts with a write of one of these cells.
+    fn first_in(&self, cells: &SharedCells, serial: u64) -> Option<u64>
+        ensures { IsFirst (meets (has_touch self.now) (cells_of cells.now)) serial result }
+    {
+        sooner(
+            self.singles.first_in(cells, serial),
+            self.slots.first_in(cells, serial),
+        )
+    }
+
+    /// The first touch after a serial that conflicts with a write of a cell of all of these.
+    fn first_in_any(&self, all: &[SharedCells], serial: u64) -> Option<u64>
+        ensures { IsFirst (meets (has_touch self.now) (cells_listed all.now)) serial result }
+    {
+        let mut first = None;
+        for cells in all {
+            first = sooner(first, self.first_in(cells, serial));
+        }
+        first
     }
 
     /// The serial of the first entry after a serial that conflicts with a footprint: the least one
     /// over its objects. It takes no memory.
-    pub fn first_conflict(&self, footprint: &[SharedAccess], serial: u64) -> Option<u64>
-        ensures { IsFirst (meets (has_touch self.now) footprint.now) serial result }
+    pub fn first_conflict(&self, footprint: &Accesses, serial: u64) -> Option<u64>
+        ensures { IsFirst (meets (has_touch self.now) (accesses_of footprint.now)) serial result }
     {
-        let mut first = None;
-        for access in footprint {
-            first = sooner(first, self.first_at(access, serial));
-        }
-        first
+        let (front, cells, last) = footprint.parts();
+        let before = sooner(
+            self.first_of(front, serial),
+            self.first_in_any(cells, serial),
+        );
+        sooner(before, self.first_of(last, serial))
     }
 }

@@ -1,17 +1,16 @@
-use Rattle.std.proofs.Common.{◌∙◌, ap, subst}
-use Rattle.om_touches.specs.Touches.{control_of, has_control_touch, has_touch_by, meets_at, IsFirst}
+use Rattle.std.proofs.Common.{◌∙◌, sym, subst}
+use Rattle.om_touches.specs.Touches.{has_touch, has_single_touch, has_slot_touch, has_slot_write, meets_at, IsFirst}
+use Rattle.om_touches.proofs.CellLemmas.{meets_slot}
+use Rattle.om_touches.proofs.PartLemmas.{first_access}
 use Rattle.om_touches.proofs.touches.TouchLists.first_at.Goals as goal
 
-pub returns-in-Some : goal.returns-in-Some
-returns-in-Some c =
+pub returns : goal.returns
+returns c =
+    let lists = c.args.self.now in
     let a = c.args.access.now in
-    subst (λ o. IsFirst (meets_at (has_touch_by c.args.self.now o a.object) a.mode) c.args.serial c.first_at.result)
-    (c.in-Some.ensures ∙ ap control_of (c.get.ensures ∙ c.object.ensures))
-    (subst (λ m. IsFirst (meets_at (has_control_touch c.args.self.now.controls c.in-Some.worker) m) c.args.serial
-    c.first_at.result) c.mode.ensures c.first_at.ensures)
-
-pub returns-in-None : goal.returns-in-None
-returns-in-None c =
-    let a = c.args.access.now in
-    subst (λ o. IsFirst (meets_at (has_touch_by c.args.self.now o a.object) a.mode) c.args.serial c.first_at-in-None.result)
-    (c.in-None.ensures ∙ ap control_of (c.get.ensures ∙ c.object.ensures)) c.first_at-in-None.ensures
+    subst (IsFirst (meets_at (has_touch lists a.object) a.mode) c.args.serial) (sym c.sooner.ensures)
+    (first_access (has_single_touch lists.singles) (has_slot_touch lists.slots) (has_slot_write lists.slots a.object)
+    a.object a.mode c.args.serial c.first_at.result c.first_at-2.result (meets_slot lists.slots a.object a.mode)
+    c.first_at.ensures
+    (subst (λ o. IsFirst (has_slot_write lists.slots o) c.args.serial c.first_at-2.result)
+    (c.get.ensures ∙ c.object.ensures) c.first_at-2.ensures))

@@ -1,17 +1,17 @@
-use Rattle.std.proofs.Common.{sym, subst, take, ◌+◌}
-use Rattle.om_touches.specs.Touches.{has_touch, meets_at, meets, sooner, IsFirst}
-use Rattle.om_touches.specs.Searches.{sooner-first, IsFirst-same, meets_next}
+use Rattle.std.proofs.Common.{◌++◌, ◌∙◌, ap, sym, subst}
+use Rattle.om_cells.specs.Cells.{cells_listed}
+use Rattle.om_touches.specs.Touches.{has_touch, meets, sooner, IsFirst}
+use Rattle.om_touches.proofs.PartLemmas.{first_parts}
 use Rattle.om_touches.proofs.touches.TouchLists.first_conflict.Goals as goal
 
-pub loop-access-preserved : goal.loop-access-preserved
-loop-access-preserved c =
+pub returns : goal.returns
+returns c =
     let touch = has_touch c.args.self.now in
-    let footprint = c.args.footprint.now in
-    let i = c.loop-access.access-index in
-    let a = c.access-item.result in
-    subst (IsFirst (meets touch (take (i + 1) footprint)) c.args.serial) (sym c.sooner-first.ensures)
-    (IsFirst-same _ (meets touch (take (i + 1) footprint)) c.args.serial
-    (sooner c.loop-access.first c.first_at.result)
-    (λ s. sym (meets_next touch footprint i a s c.loop-access-test.true c.access-item.is))
-    (sooner-first (meets touch (take i footprint)) (meets_at (touch a.object) a.mode) c.args.serial
-    c.loop-access.first c.first_at.result c.loop-access.invariant c.first_at.ensures))
+    let xs = c.parts.result.0.now in
+    let ys = cells_listed c.parts.result.1.now in
+    let zs = c.parts.result.2.now in
+    subst (λ l. IsFirst (meets touch l) c.args.serial c.sooner.result) (sym c.parts.ensures.all)
+    (subst (IsFirst (meets touch (xs ++ (ys ++ zs))) c.args.serial)
+    (sym (c.sooner.ensures ∙ ap (λ x. sooner x c.first_of-2.result) c.sooner-before.ensures))
+    (first_parts touch xs ys zs c.args.serial c.first_of.result c.first_in_any.result c.first_of-2.result
+    c.first_of.ensures c.first_in_any.ensures c.first_of-2.ensures))

@@ -1,16 +1,16 @@
-use Rattle.std.proofs.Common.{false, ◌∙◌, ap, subst}
-use Rattle.om_touches.specs.Touches.{control_of, ControlsWithout}
-use Rattle.om_touches.specs.Controls.{lists-control, lists-object}
+use Rattle.std.proofs.Common.{◌∷◌, [], ◌∙◌, subst}
+use Rattle.om_foot.specs.declared.footprint.Access.{Access}
+use Rattle.om_touches.specs.Touches.{has_single_touch, has_slot_touch, IsLess}
+use Rattle.om_touches.proofs.PartLemmas.{less_either, set_less}
 use Rattle.om_touches.proofs.touches.TouchLists.remove.Goals as goal
 
-pub returns-in-Some : goal.returns-in-Some
-returns-in-Some c =
-    lists-control false c.args.self.now c.remove.new.self c.args.access.now c.in-Some.worker c.args.serial
-    (c.in-Some.ensures ∙ ap control_of (c.get.ensures ∙ c.object.ensures))
-    (subst (λ m. ControlsWithout c.in-Some.worker m c.args.serial c.args.self.now.controls c.remove.new.self)
-    c.mode.ensures c.remove.ensures)
-
-pub returns-in-None : goal.returns-in-None
-returns-in-None c =
-    lists-object false c.args.self.now c.remove-in-None.new.self c.args.access.now c.args.serial
-    (c.in-None.ensures ∙ ap control_of (c.get.ensures ∙ c.object.ensures)) c.remove-in-None.ensures
+pub returns : goal.returns
+returns c =
+    let a = c.args.access.now in
+    let lists = c.args.self.now in
+    let slots = c.remove_at.new.self in
+    less_either (a ∷ []) c.args.serial (has_single_touch lists.singles) (has_single_touch c.remove.new.self)
+    (has_slot_touch lists.slots) (has_slot_touch slots)
+    (set_less (a ∷ []) c.args.serial (has_single_touch lists.singles) (has_single_touch c.remove.new.self) c.remove.ensures)
+    (subst (λ o. IsLess (record { object = o; mode = a.mode } ∷ []) c.args.serial (has_slot_touch lists.slots)
+    (has_slot_touch slots)) (c.get.ensures ∙ c.object.ensures) (c.remove_at.ensures a.mode))

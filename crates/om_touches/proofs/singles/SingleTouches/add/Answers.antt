@@ -2,7 +2,7 @@ use Rattle.std.proofs.Common.{true, ◌∙◌, ap, subst}
 use Rattle.om_touches.specs.Touches.{control_of, ControlsWith}
 use Rattle.om_touches.specs.Lists.{on_ok, on_err}
 use Rattle.om_touches.specs.Controls.{lists-control, lists-object, same-controls, same-objects}
-use Rattle.om_touches.proofs.touches.TouchLists.add.Goals as goal
+use Rattle.om_touches.proofs.singles.SingleTouches.add.Goals as goal
 
 pub returns-in-Some-clause-added : goal.returns-in-Some-clause-added
 returns-in-Some-clause-added c =

@@ -1,0 +1,21 @@
+-- The accesses of a step, as its record and the lists of touches keep them.
+use Rattle.std.specs.Prelude.{List, [], ◌∷◌, ◌++◌}
+use Rattle.om_foot.specs.declared.footprint.Access.{Access}
+use Rattle.om_cells.specs.Cells.{cells_listed}
+use Rattle.om_cells.specs.declared.cells.Cells.{Cells}
+use Rattle.om_touches.specs.declared.accesses.Kept.{Kept}
+use Rattle.om_touches.specs.declared.accesses.Kept.TheVariants as kept
+
+-- single accesses, then cells that are named at once, then single accesses again
+pub record Parts : Type 0 where
+  pub first : List Access
+  pub cells : List Cells
+  pub last : List Access
+
+abbrev pub accesses_of : Parts → List Access
+accesses_of p = p.first ++ (cells_listed p.cells ++ p.last)
+
+abbrev pub parts_in : Kept → Parts
+parts_in (kept.One a) = record { first = a ∷ []; cells = []; last = [] }
+parts_in (kept.Many xs) = record { first = xs; cells = []; last = [] }
+parts_in (kept.Parts p) = record { first = p.value.first; cells = p.value.cells; last = p.value.last }
