@@ -18,9 +18,9 @@ use Rattle.om_history.specs.Runs.{conflict_or}
 use Rattle.om_history.specs.Records.{kept_reply, AreBelow}
 use Rattle.om_touches.specs.Touches.{names as names_it, has_touch, meets, IsFirst, AreSame, AreWith}
 use Rattle.om_history.specs.Touches.{touched, AreBySerial, AreListsOf}
-use Rattle.om_touches.specs.Touches.{AreWithout, is_own, SameOwn, WithOwn, WithoutOwn}
+use Rattle.om_touches.specs.Touches.{AreOnly, AreWithout, is_own, SameOwn, WithOwn, WithoutOwn}
 use Rattle.om_history.specs.Touches.{AreOwnOf, IsIndexed}
-use Rattle.om_history.proofs.Touched.{touched-below, touched-remove}
+use Rattle.om_history.proofs.Touched.{touched-at, touched-below, touched-remove}
 use Rattle.om_history.proofs.BySerial.{rising, IsFound, is_found, Stands, stands, values-push, by_serial-push}
 use Rattle.om_history.proofs.Members.{lists-push}
 use Rattle.om_history.proofs.OwnEntries.{own-push, own-remove}
@@ -168,3 +168,11 @@ none_behind es lists footprint serial h are none s behind = go (meets (has_touch
     go true is =
         let who = found_behind (values_of es) lists footprint s are is in
         absurd (not_missing es who.who.i s who.who.made h who.who.at who.who.serial_is (none s behind))
+
+-- all touches of a record that stands are of its footprint
+pub only_of : (es : List (ℕ × UndoRecord)) (serial : ℕ) (k : UndoRecord) (lists : TouchLists) (own : OwnEntries)
+    → IsIndexed es lists own → lookup (is_at (nat_cmp serial)) es ≡ Some k → AreOnly k.footprint k.entry.serial lists
+only_of es serial k lists own h there o m is =
+    let place : Stands es serial k = stands 0 es serial k h.by_serial there in
+    sym (touched-at footprint_of 0 (values_of es) place.i k o m (rising 0 es h.by_serial) place.at)
+    ∙ sym (h.touches o m k.entry.serial) ∙ is

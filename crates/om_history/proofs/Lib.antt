@@ -8,6 +8,10 @@ pub mod Logs
 pub mod Fills
 pub mod Removed
 pub mod Marks
+pub mod Parts
+pub mod CellParts
+pub mod Conflicts
+pub mod FurtherParts
 pub mod Making
 pub mod TakingBack
 pub mod Halfway

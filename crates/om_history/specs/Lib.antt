@@ -5,9 +5,9 @@ pub mod Runs
 pub mod Cones
 pub mod Commands
 pub mod Records
-pub mod Accesses
 pub mod Choices
 pub mod Replayed
+pub mod Backs
 pub mod Takes
 pub mod Undos
 pub mod Bounds

@@ -1,14 +1,13 @@
 //! Undo records as the history keeps them, in its rows.
 
-ghost use Rattle.std.specs.Prelude.{◌≡◌, []};
+ghost use Rattle.std.specs.Prelude.{◌≡◌};
+ghost use Rattle.om_touches.specs.Accesses.{accesses_of};
 
-use crate::accesses::Accesses;
+use crate::backs::Backs;
 use crate::choice::choice_of;
-use om_cells::{Choice, Update};
+use om_cells::Choice;
 use om_foot::Name;
-use om_seq::Seq;
-use om_touches::SharedAccess;
-use std::alloc::Global;
+use om_touches::Accesses;
 use std::marker::Model;
 
 /// An entry, as its record keeps it.
@@ -33,13 +32,13 @@ impl Model for SmallEntry {
 }
 
 /// An undo record. It shares the objects of its footprint with other records, so that each access takes
-/// 16 bytes.
+/// 16 bytes. What takes updates back goes along with the footprint, part by part.
 ///
 /// Contracts see the record alone.
 pub struct Kept {
     entry: SmallEntry,
     footprint: Accesses,
-    back: Seq<Update>,
+    back: Backs,
 }
 
 // By hand: crates above call this, and do not prove anew how each part is dropped.
@@ -57,22 +56,30 @@ impl Drop for Kept {
 }
 
 impl Model for Kept {
+    ghost use Rattle.om_touches.specs.Accesses.{accesses_of};
     ghost use Rattle.om_history.specs.declared.records.UndoRecord.{UndoRecord};
+    ghost use Rattle.om_history.specs.Backs.{back_in, GoAlong};
 
     ghost Value = { UndoRecord };
 
-    ghost view = { λ k. record { entry = k.entry; footprint = k.footprint; back = k.back } };
+    ghost view = { λ k. record { entry = k.entry; footprint = accesses_of k.footprint; back = back_in k.back } };
+
+    ghost invariant = { λ k. GoAlong k.footprint k.back };
 }
 
 impl Kept {
-    /// The record of an entry with this footprint, without what takes its updates back.
-    pub fn of(alloc: Global, entry: SmallEntry, footprint: Accesses) -> Kept
-        ensures { result ≡ record { entry = entry; footprint = footprint; back = [] } }
+    ghost use Rattle.om_history.specs.Backs.{back_in, GoAlong};
+
+    /// The record of an entry with this footprint, and what takes its updates back.
+    pub(crate) fn of(entry: SmallEntry, footprint: Accesses, back: Backs) -> Kept
+        requires { GoAlong footprint back }
+        ensures { result
+            ≡ record { entry = entry; footprint = accesses_of footprint; back = back_in back } }
     {
         Kept {
             entry,
             footprint,
-            back: Seq::new(alloc),
+            back,
         }
     }
 
@@ -105,16 +112,17 @@ impl Kept {
     }
 
     /// Its footprint.
-    pub fn footprint(&self) -> &[SharedAccess]
-        ensures { result.now ≡ self.now.footprint }
+    pub fn footprint(&self) -> &Accesses
+        ensures { accesses_of result.now ≡ self.now.footprint }
     {
-        self.footprint.as_slice()
+        &self.footprint
     }
 
     /// Its footprint, and what takes its updates back. It takes no memory.
-    pub fn into_changes(self) -> (Accesses, Seq<Update>)
-        ensures footprint { result.0 ≡ self.footprint }
-        ensures back { result.1 ≡ self.back }
+    pub(crate) fn into_changes(self) -> (Accesses, Backs)
+        ensures footprint { accesses_of result.0 ≡ self.footprint }
+        ensures back { back_in result.1 ≡ self.back }
+        ensures along { GoAlong result.0 result.1 }
     {
         let Kept {
             entry: _,
@@ -122,12 +130,5 @@ impl Kept {
             back,
         } = self;
         (footprint, back)
-    }
-
-    /// Puts what takes its updates back.
-    pub fn set_back(&mut self, back: Seq<Update>)
-        ensures { self.new ≡ record self.old { back = back } }
-    {
-        self.back = back;
     }
 }

@@ -2,12 +2,14 @@
 //! they rest on.
 #![tactic(auto)]
 
-mod accesses;
+mod backs;
 mod by_serial;
 pub mod choice;
+mod further;
 pub mod history;
 mod kept;
 pub mod laws;
+mod planning;
 pub mod records;
 pub mod reply;
 mod steps;

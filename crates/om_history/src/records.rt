@@ -7,7 +7,9 @@ ghost use Rattle.std.specs.BTreeMap.{is_at};
 ghost use Rattle.om_foot.specs.declared.object.Obj.{Obj};
 ghost use Rattle.om_foot.specs.declared.footprint.Mode.{Mode};
 ghost use Rattle.om_foot.specs.Footprint.{conflicts_with_any, conflict_of};
-ghost use Rattle.om_touches.specs.Touches.{has_touch, meets, IsFirst, AreSame, AreWith, AreWithout, SameOwn, WithOwn, WithoutOwn};
+ghost use Rattle.om_cells.specs.Cells.{cell_access, cells_of, cells_listed};
+ghost use Rattle.om_touches.specs.Accesses.{accesses_of};
+ghost use Rattle.om_touches.specs.Touches.{has_touch, meets, IsFirst, AreOnly, AreSame, AreWith, AreWithout, SameOwn, WithOwn, WithoutOwn};
 ghost use Rattle.om_history.specs.Cones.{meets_one, is_member as is_member_of, cone, taken_of};
 ghost use Rattle.om_history.specs.Runs.{conflict_or};
 ghost use Rattle.om_history.specs.Records.{entries_of, transition_of, transitions_of, kept_reply, LastHasSerial, HasSerial, AreBelow, AreAbove};
@@ -17,10 +19,10 @@ ghost use Rattle.om_history.specs.Touches.{AreBySerial, AreListsOf, IsIndexed};
 use crate::by_serial::BySerial;
 use crate::kept::Kept;
 use crate::reply::{Taken, UndoReply};
-use om_cells::{Entry, Update};
-use om_foot::{Access, Obj, is_in_conflict};
+use om_cells::{Cells, Entry, SharedCells, SlotName, Update};
+use om_foot::{Access, Mode, Obj, is_in_conflict};
 use om_seq::Seq;
-use om_touches::{OwnEntries, SharedAccess, TouchLists};
+use om_touches::{Accesses, OwnEntries, SharedAccess, TouchLists};
 use std::alloc::{AllocError, Global};
 use std::marker::Model;
 
@@ -72,7 +74,7 @@ impl Model for Records {
 }
 
 /// Adds the touches of an entry to both lists. When out of memory, no touch changes.
-#[tactic(auto, using(om_touches::specs::Lists::added_out))]
+#[tactic(auto, using(om_touches::specs::Lists::added_out, om_touches::specs::Lists::only_added))]
 fn note(
     lists: &mut TouchLists,
     own: &mut OwnEntries,
@@ -97,6 +99,7 @@ fn note(
 
 /// Takes the touches of an entry out of both lists. It takes no memory.
 fn forget(lists: &mut TouchLists, own: &mut OwnEntries, made: &Kept)
+    requires { AreOnly made.now.footprint made.now.entry.serial lists.old }
     ensures lists { AreWithout made.now.footprint made.now.entry.serial lists.old lists.new }
     ensures own { WithoutOwn made.now.entry.worker made.now.entry.serial own.old own.new }
 {
@@ -154,7 +157,7 @@ fn leave(kept: &mut BySerial, lists: &mut TouchLists, own: &mut OwnEntries, seri
     }
 }
 
-/// Whether an access conflicts with one of a footprint.
+/// Whether an access conflicts with one of these.
 fn meets_one_of(access: &Access, others: &[SharedAccess]) -> bool
     ensures { result ≡ conflicts_with_any access.now others.now }
 {
@@ -166,17 +169,107 @@ fn meets_one_of(access: &Access, others: &[SharedAccess]) -> bool
     false
 }
 
-/// The first object of `first` at which two footprints conflict, as `om_foot::conflict` has it.
-fn conflict(first: &[SharedAccess], others: &[SharedAccess]) -> Option<Obj>
-    ensures { result ≡ conflict_of first.now others.now }
+/// A cell of a slot, written.
+fn cell_access(slot: &SlotName, index: u32) -> Access
+    ensures { result ≡ cell_access slot.now index }
+{
+    Access {
+        object: Obj::Cell {
+            task: slot.task,
+            frame: slot.frame,
+            slot: slot.slot,
+            index,
+        },
+        mode: Mode::Write,
+    }
+}
+
+/// Whether an access conflicts with one of the first cells of a slot, written.
+#[tactic(auto, using(crate::proofs::Conflicts::cells_next))]
+fn meets_slot(access: &Access, cells: &Cells) -> bool
+    ensures { result ≡ conflicts_with_any access.now (cells_of cells.now) }
+{
+    for index in 0..cells.count {
+        if is_in_conflict(access, &cell_access(&cells.slot, index)) {
+            return true;
+        }
+    }
+    false
+}
+
+/// Whether an access conflicts with one of these cells.
+fn meets_cells(access: &Access, others: &[SharedCells]) -> bool
+    ensures { result ≡ conflicts_with_any access.now (cells_listed others.now) }
+{
+    for other in others {
+        if meets_slot(access, &other.cells()) {
+            return true;
+        }
+    }
+    false
+}
+
+/// Whether an access conflicts with one of a footprint.
+#[tactic(auto, using(crate::proofs::Conflicts::met_append))]
+fn meets_any(access: &Access, others: &Accesses) -> bool
+    ensures { result ≡ conflicts_with_any access.now (accesses_of others.now) }
+{
+    let (first, cells, last) = others.parts();
+    meets_one_of(access, first) || (meets_cells(access, cells) || meets_one_of(access, last))
+}
+
+/// The first object of `first` at which it conflicts with a footprint.
+fn conflict_at(first: &[SharedAccess], others: &Accesses) -> Option<Obj>
+    ensures { result ≡ conflict_of first.now (accesses_of others.now) }
 {
     for shared in first {
         let access = shared.access();
-        if meets_one_of(&access, others) {
+        if meets_any(&access, others) {
             return Some(access.object);
         }
     }
     None
+}
+
+/// The first of the first cells of a slot at which a footprint conflicts with a write of them.
+#[tactic(auto, using(crate::proofs::Conflicts::cells_next))]
+fn conflict_in_slot(cells: &Cells, others: &Accesses) -> Option<Obj>
+    ensures { result ≡ conflict_of (cells_of cells.now) (accesses_of others.now) }
+{
+    for index in 0..cells.count {
+        let access = cell_access(&cells.slot, index);
+        if meets_any(&access, others) {
+            return Some(access.object);
+        }
+    }
+    None
+}
+
+/// The first of these cells at which a footprint conflicts with a write of them.
+fn conflict_in_cells(all: &[SharedCells], others: &Accesses) -> Option<Obj>
+    ensures { result ≡ conflict_of (cells_listed all.now) (accesses_of others.now) }
+{
+    for cells in all {
+        match conflict_in_slot(&cells.cells(), others) {
+            Some(object) => return Some(object),
+            None => {}
+        }
+    }
+    None
+}
+
+/// The first object of `first` at which two footprints conflict, as `om_foot::conflict` has it.
+fn conflict(first: &Accesses, others: &Accesses) -> Option<Obj>
+    ensures { result ≡ conflict_of (accesses_of first.now) (accesses_of others.now) }
+{
+    let (singles, cells, last) = first.parts();
+    match conflict_at(singles, others) {
+        Some(object) => Some(object),
+        None => match conflict_in_cells(cells, others) {
+            Some(object) => Some(object),
+            None => conflict_at(last, others),
+        },
+    }
 }
 
 /// The reply that names the record with the serial `first` where it conflicts with the one of another

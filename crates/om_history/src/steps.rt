@@ -4,29 +4,21 @@ ghost use Rattle.std.specs.Prelude.{◌≡◌, ℕ, ◌<◌, ◌∷◌, ◌++◌
 ghost use Rattle.om_foot.specs.declared.object.Obj.{Obj};
 ghost use Rattle.om_cells.specs.State.{updated, taken_back};
 ghost use Rattle.om_live.specs.Stores.{state_of, is_kept, pasts_of};
+ghost use Rattle.om_touches.specs.Accesses.{accesses_of};
+ghost use Rattle.om_history.specs.Backs.{wanted, back_in, GoAlong, CanGoAlong};
 ghost use Rattle.om_history.specs.Fills.{small_record, noted_all, full, before};
 ghost use Rattle.om_history.specs.Records.{HasRoom, AreBelow, HasSerial};
 ghost use Rattle.om_history.specs.Takes.{updates_by, small_for, CanMake, CanLeave};
 ghost use Rattle.om_history.specs.declared.records.UndoRecord.{UndoRecord};
 
+use crate::further::{make_further, take_further_back};
 use crate::kept::{Kept, SmallEntry};
+use crate::planning::{Making, planned};
 use crate::records::Records;
-use crate::updates::{keep_footprint, make_all, take_back_all};
-use om_cells::{Change, Edit, Update};
+use om_cells::{Change, Edit};
 use om_live::Store;
 use om_seq::Seq;
-use om_touches::SharedAccess;
 use std::alloc::{AllocError, Global};
-
-/// The accesses behind the first one.
-fn further(footprint: &[SharedAccess]) -> &[SharedAccess]
-    ensures { result.now ≡ drop 1 footprint.now }
-{
-    match footprint.split_first() {
-        Some((_, rest)) => rest,
-        None => footprint,
-    }
-}
 
 /// Takes the changes of a record back. It takes no memory.
 fn take_back(store: &mut Store, made: Kept)
@@ -37,41 +29,50 @@ fn take_back(store: &mut Store, made: Kept)
     ensures kept { (q : Obj) → is_kept store.new q ≡ is_kept store.old q }
 {
     let worker = made.worker();
-    let (footprint, back) = made.into_changes();
-    let mut back = back.into_vec();
-    take_back_all(store, further(footprint.as_slice()), &mut back);
+    let (footprint, mut back) = made.into_changes();
+    take_further_back(store, &footprint, &mut back);
     store.undo(worker);
 }
 
-/// Makes edits of the control of a record's worker, and then the updates behind its first access,
-/// and leaves in the place of these what the record holds of them. When out of memory, no value changes.
-/// What the updates are then is not said.
+/// Makes edits of a worker's control, and then the updates behind a step's first access, and leaves in
+/// the place of these what the record holds of them. When out of memory, no value changes. What the
+/// updates are then is not said.
 fn make_changes(
     store: &mut Store,
     alloc: Global,
-    made: &Kept,
+    owner: u8,
     edits: Seq<Edit>,
-    updates: &mut Vec<Update>,
+    making: &mut Making,
 ) -> Result<(), AllocError>
-    requires room { HasRoom store.old made.now }
-    requires can { CanMake made.now.entry.worker made.now.footprint edits updates.old.items
-        (state_of store.old) }
-    ensures state { OnOk result (state_of store.new ≡ updated made.now.footprint
-        (updates_by made.now.entry.worker edits updates.old.items (state_of store.old))
+    requires room { All (λ a. is_kept store.old a.object ≡ true)
+        (accesses_of making.old.footprint) }
+    requires along { CanGoAlong making.old.footprint making.old.back making.old.runs }
+    requires can { CanMake owner (accesses_of making.old.footprint) edits
+        (wanted making.old.back making.old.runs) (state_of store.old) }
+    ensures state { OnOk result (state_of store.new ≡ updated (accesses_of making.old.footprint)
+        (updates_by owner edits (wanted making.old.back making.old.runs) (state_of store.old))
         (state_of store.old)) }
-    ensures pasts { OnOk result (pasts_of store.new ≡ noted_all made.now.footprint
-        (updates_by made.now.entry.worker edits updates.old.items (state_of store.old))
+    ensures pasts { OnOk result (pasts_of store.new ≡ noted_all (accesses_of making.old.footprint)
+        (updates_by owner edits (wanted making.old.back making.old.runs) (state_of store.old))
         (state_of store.old) (pasts_of store.old)) }
-    ensures small { OnOk result (updates.new.items ≡ drop 1 (small_record made.now.footprint
-        (updates_by made.now.entry.worker edits updates.old.items (state_of store.old))
+    ensures small { OnOk result (back_in making.new.back
+        ≡ drop 1 (small_record (accesses_of making.old.footprint)
+        (updates_by owner edits (wanted making.old.back making.old.runs) (state_of store.old))
         (state_of store.old))) }
+    ensures along { OnOk result (GoAlong making.old.footprint making.new.back) }
+    ensures same_footprint { making.new.footprint ≡ making.old.footprint }
     ensures kept { (q : Obj) → is_kept store.new q ≡ is_kept store.old q }
     ensures same_state_on_error { OnErr result (state_of store.new ≡ state_of store.old) }
     ensures same_pasts_on_error { OnErr result (pasts_of store.new ≡ pasts_of store.old) }
 {
-    store.change(alloc, made.worker(), edits)?;
-    if let Err(error) = make_all(store, alloc, further(made.footprint()), updates) {
-        store.undo(made.worker());
+    store.change(alloc, owner, edits)?;
+    let Making {
+        footprint,
+        back,
+        runs,
+    } = making;
+    if let Err(error) = make_further(store, alloc, footprint, runs.as_slice(), back) {
+        store.undo(owner);
         return Err(error);
     }
     Ok(())
@@ -105,17 +106,14 @@ fn make(
         updates,
         line: _,
     } = change;
-    let shared = keep_footprint(store, alloc, &footprint)?;
-    let mut made = Kept::of(alloc, entry, shared);
-    let mut back = updates.into_vec();
-    back.shrink_to_fit();
-    match make_changes(store, alloc, &made, edits, &mut back) {
-        Ok(()) => {
-            made.set_back(Seq::of(back));
-            Ok(made)
-        }
-        Err(error) => Err(error),
-    }
+    let mut making = planned(store, alloc, &footprint, updates)?;
+    make_changes(store, alloc, entry.worker, edits, &mut making)?;
+    let Making {
+        footprint,
+        back,
+        runs: _,
+    } = making;
+    Ok(Kept::of(entry, footprint, back))
 }
 
 /// Makes a change of an entry's worker, and adds the record of it at the end. When out of memory, no

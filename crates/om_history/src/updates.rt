@@ -1,18 +1,19 @@
 //! Updates of a store, each exchanged for what a small record holds of it.
 
-ghost use Rattle.std.specs.Prelude.{◌≡◌, ◌<◌, ◌≤◌, ◌∷◌, [], true, false, All, OnOk, OnErr, IfOk, length, take, drop};
+ghost use Rattle.std.specs.Prelude.{◌≡◌, ◌<◌, ◌≤◌, ◌∷◌, ◌++◌, true, false, All, OnOk, OnErr, IfOk, length, take, drop};
 ghost use Rattle.om_foot.specs.declared.object.Obj.{Obj};
 ghost use Rattle.om_foot.specs.declared.object.Obj.TheVariants as obj;
+ghost use Rattle.om_cells.specs.Cells.{cells_listed};
 ghost use Rattle.om_cells.specs.State.{undo_of, state_after, state_before, updated, taken_back};
 ghost use Rattle.om_live.specs.Stores.{state_of, is_kept, pasts_of, is_trailed};
 ghost use Rattle.om_history.specs.Bounds.{FitsAt, FitsAtBack, FitsAll};
 ghost use Rattle.om_history.specs.Shapes.{IsShapedAt, AreShaped};
 ghost use Rattle.om_history.specs.Fills.{small_at, noted, small_record, noted_all, filled_at, popped, filled, popped_all, IfControl, CanTakeBack, control_at};
 
-use crate::accesses::Accesses;
-use om_cells::{Control, Footprint, Update, Val};
+use om_cells::{Cells, Control, SharedCells, Update, Val};
 use om_foot::{Access, Mode, Obj};
 use om_live::{Store, worker_of};
+use om_seq::Seq;
 use om_touches::SharedAccess;
 use std::alloc::{AllocError, Global};
 use std::mem;
@@ -211,22 +212,13 @@ fn exchange(
     Ok(())
 }
 
-/// Keeps the object of an access, and answers the access of it, shared. No value changes, also
-/// when out of memory.
-fn keep(store: &mut Store, alloc: Global, access: &Access) -> Result<SharedAccess, AllocError>
-    ensures shared { IfOk result (λ shared. shared ≡ access.now) }
-    ensures same { state_of store.new ≡ state_of store.old }
-    ensures same_pasts { pasts_of store.new ≡ pasts_of store.old }
-    ensures kept { OnOk result (is_kept store.new access.now.object ≡ true) }
-    ensures others_kept { (q : Obj) → is_kept store.old q ≡ true → is_kept store.new q ≡ true }
-{
-    let object = store.keep(alloc, &access.object)?;
-    Ok(SharedAccess::of(object, access.mode))
-}
-
 /// Keeps a worker's control, and answers that it is written, shared. No value changes, also when out of
 /// memory.
-fn keep_control(store: &mut Store, alloc: Global, worker: u8) -> Result<SharedAccess, AllocError>
+pub(crate) fn keep_control(
+    store: &mut Store,
+    alloc: Global,
+    worker: u8,
+) -> Result<SharedAccess, AllocError>
     ensures shared { IfOk result (λ shared. shared ≡ control_at worker Mode.Write) }
     ensures same { state_of store.new ≡ state_of store.old }
     ensures same_pasts { pasts_of store.new ≡ pasts_of store.old }
@@ -237,9 +229,30 @@ fn keep_control(store: &mut Store, alloc: Global, worker: u8) -> Result<SharedAc
     Ok(SharedAccess::of(object, Mode::Write))
 }
 
-/// Keeps each of these objects, so that its value can be put back without memory, and answers the accesses
-/// of them, shared, behind a first one. No value changes, also when out of memory.
-fn keep_all(
+/// Keeps each of these objects, so that its value can be put back without memory, and adds the accesses
+/// of them, shared. No value changes, also when out of memory.
+pub(crate) fn keep_each(
+    store: &mut Store,
+    alloc: Global,
+    shared: &mut Vec<SharedAccess>,
+    others: &[Access],
+) -> Result<(), AllocError>
+    ensures shared { OnOk result (shared.new.items ≡ shared.old.items ++ others.now) }
+    ensures same { state_of store.new ≡ state_of store.old }
+    ensures same_pasts { pasts_of store.new ≡ pasts_of store.old }
+    ensures kept { OnOk result (All (λ a. is_kept store.new a.object ≡ true) others.now) }
+    ensures others_kept { (q : Obj) → is_kept store.old q ≡ true → is_kept store.new q ≡ true }
+{
+    for access in others {
+        let object = store.keep(alloc, &access.object)?;
+        shared.push(SharedAccess::of(object, access.mode))?;
+    }
+    Ok(())
+}
+
+/// Keeps each of these objects, and answers the accesses of them, shared, behind a first one. No value
+/// changes, also when out of memory.
+pub(crate) fn keep_all(
     store: &mut Store,
     alloc: Global,
     first: SharedAccess,
@@ -254,32 +267,29 @@ fn keep_all(
 {
     let mut shared = Vec::with_capacity(alloc, others.len().saturating_add(1))?;
     shared.push(first)?;
-    for access in others {
-        shared.push(keep(store, alloc, access)?)?;
-    }
+    keep_each(store, alloc, &mut shared, others)?;
     Ok(shared)
 }
 
-/// Keeps each object of a footprint, so that its value can be put back without memory, and answers the
-/// accesses of them, shared. Where there is one, its access takes no memory. No value changes, also when
-/// out of memory.
-pub(crate) fn keep_footprint(
+/// Keeps the cells of each of these slots, and answers them, shared. No value changes, also when out of
+/// memory.
+pub(crate) fn keep_cells(
     store: &mut Store,
     alloc: Global,
-    footprint: &Footprint,
-) -> Result<Accesses, AllocError>
-    ensures shared { IfOk result (λ shared. shared ≡ footprint.now) }
+    all: &[Cells],
+) -> Result<Seq<SharedCells>, AllocError>
+    ensures shared { IfOk result (λ shared. shared ≡ all.now) }
     ensures same { state_of store.new ≡ state_of store.old }
     ensures same_pasts { pasts_of store.new ≡ pasts_of store.old }
-    ensures kept { OnOk result (All (λ a. is_kept store.new a.object ≡ true) footprint.now) }
+    ensures kept { OnOk result
+        (All (λ a. is_kept store.new a.object ≡ true) (cells_listed all.now)) }
     ensures others_kept { (q : Obj) → is_kept store.old q ≡ true → is_kept store.new q ≡ true }
 {
-    let (worker, others) = footprint.parts();
-    let control = keep_control(store, alloc, worker)?;
-    if others.is_empty() {
-        return Ok(Accesses::one(control));
+    let mut shared = Seq::new(alloc);
+    for cells in all {
+        shared.push(store.keep_cells(alloc, cells)?)?;
     }
-    Ok(Accesses::many(keep_all(store, alloc, control, others)?))
+    Ok(shared)
 }
 
 /// Makes the updates of a footprint, and leaves in their place what a small record holds of them.

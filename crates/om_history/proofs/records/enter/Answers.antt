@@ -1,9 +1,9 @@
 use Rattle.std.proofs.Common.{◌∙◌, sym, ap, subst}
 use Rattle.std.specs.Map.{values_of}
 use Rattle.om_history.specs.declared.records.UndoRecord.{UndoRecord}
-use Rattle.om_touches.specs.Touches.{AreWithout, WithoutOwn}
+use Rattle.om_touches.specs.Touches.{AreOnly, AreWithout, WithoutOwn}
 use Rattle.om_history.specs.Touches.{IsIndexed}
-use Rattle.om_touches.specs.Lists.{added_out}
+use Rattle.om_touches.specs.Lists.{added_out, only_added}
 use Rattle.om_history.proofs.OwnEntries.{own-added_out}
 use Rattle.om_history.proofs.Replies.{footprint_of}
 use Rattle.om_history.proofs.BySerial.{values-push}
@@ -32,6 +32,15 @@ returns-clause-indexed c = subst (λ es. IsIndexed es c.note.new.lists c.note.ne
 pub returns-clause-entered : goal.returns-clause-entered
 returns-clause-entered c = ap values_of c.in_default.ensures.pushed
     ∙ values-push c.args.kept.now c.args.made.entry.serial c.args.made
+
+pub forget-requires : goal.forget-requires
+forget-requires c =
+    let made : UndoRecord = c.args.made in
+    subst (λ (k : UndoRecord). AreOnly k.footprint k.entry.serial c.note.new.lists)
+    (sym c.in-Err-push.ensures.returned)
+    (only_added made.footprint made.entry.serial c.args.lists.now c.note.new.lists
+    (fresh footprint_of (values_of c.args.kept.now) c.args.lists.now made.entry.serial c.requires.indexed.touches
+    c.requires.latest) c.in-Ok.ensures.lists)
 
 pub returns-in-Err-push-clause-indexed : goal.returns-in-Err-push-clause-indexed
 returns-in-Err-push-clause-indexed c =

@@ -1,9 +1,13 @@
 use Rattle.std.proofs.Common.{◌∙◌, sym, ap, subst}
 use Rattle.std.specs.Map.{values_of}
 use Rattle.om_history.specs.Touches.{IsIndexed}
-use Rattle.om_history.proofs.Indexed.{indexed_without, left_by, found_by, not_missing}
+use Rattle.om_history.proofs.Indexed.{only_of, indexed_without, left_by, found_by, not_missing}
 use Rattle.om_history.proofs.Removed.{same_record}
 use Rattle.om_history.proofs.records.leave.Goals as goal
+
+pub forget-requires : goal.forget-requires
+forget-requires c = only_of c.args.kept.now c.args.serial c.in-Some.made c.args.lists.now c.args.own.now
+    c.requires.indexed c.in-Some.ensures.found
 
 pub returns-clause-indexed : goal.returns-clause-indexed
 returns-clause-indexed c = subst (λ es. IsIndexed es c.forget.new.lists c.forget.new.own)

@@ -1,7 +1,0 @@
-use Rattle.std.proofs.Common.{◌≡◌, drop}
-use Rattle.om_foot.specs.Footprint.{conflict_of}
-use Rattle.om_history.proofs.records.conflict.Given as goal
-
--- the answer for what is left is the answer for all
-abbrev pub invariant-loop-shared : goal.invariant-loop-shared
-invariant-loop-shared l = conflict_of (drop l.shared-index l.first) l.others ≡ conflict_of l.first l.others

@@ -1,0 +1,245 @@
+//! Updates of a store in parts: at single accesses, at the cells of slots, and at single accesses again.
+
+ghost use Rattle.std.specs.Prelude.{◌≡◌, true, suc, ◌++◌, drop, length, All, OnOk, OnErr, IfOk};
+ghost use Rattle.om_foot.specs.declared.object.Obj.{Obj};
+ghost use Rattle.om_cells.specs.Cells.{cells_of, cells_listed, puts_of, runs_listed, were_listed};
+ghost use Rattle.om_cells.specs.State.{updated, undo_record, taken_back};
+ghost use Rattle.om_live.specs.Stores.{state_of, is_kept, pasts_of};
+ghost use Rattle.om_touches.specs.Accesses.{accesses_of};
+ghost use Rattle.om_history.specs.Backs.{backs_listed, back_in, wanted, are_along, WereAlong, GoAlong, CanGoAlong};
+ghost use Rattle.om_history.specs.Bounds.{FitsAll};
+ghost use Rattle.om_history.specs.Shapes.{AreShaped};
+ghost use Rattle.om_history.specs.Fills.{small_record, noted_all, filled, popped_all, CanTakeBack};
+
+use crate::backs::{BackParts, Backs};
+use crate::updates::{make_all, take_back_all};
+use om_cells::{Run, SharedCells, Was};
+use om_live::Store;
+use om_seq::Seq;
+use om_touches::{Accesses, SharedAccess};
+use std::alloc::{AllocError, Global};
+use std::mem;
+
+/// The accesses behind the first one.
+fn further(footprint: &[SharedAccess]) -> &[SharedAccess]
+    ensures { result.now ≡ drop 1 footprint.now }
+{
+    match footprint.split_first() {
+        Some((_, rest)) => rest,
+        None => footprint,
+    }
+}
+
+/// Takes what is put at the cells of slots back, the last slot first. It takes no memory.
+fn take_back_cells(store: &mut Store, all: &[SharedCells], were: &mut Vec<Seq<Was>>)
+    requires kept { All (λ a. is_kept store.old a.object ≡ true) (cells_listed all.now) }
+    requires along { WereAlong all.now were.old.items }
+    ensures state { state_of store.new
+        ≡ taken_back (cells_listed all.now) (backs_listed were.old.items) (state_of store.old) }
+    ensures pasts { pasts_of store.new ≡ pasts_of store.old }
+    ensures kept { (q : Obj) → is_kept store.new q ≡ is_kept store.old q }
+{
+    let Some((cells, earlier)) = all.split_last() else {
+        return;
+    };
+    let Some(was) = were.pop() else {
+        return;
+    };
+    store.put_cells_back(cells, was);
+    take_back_cells(store, earlier, were);
+}
+
+/// Puts the value of a run into the cells of a slot, and answers what they were. When out of memory, no
+/// value changes.
+fn put_run(
+    store: &mut Store,
+    alloc: Global,
+    cells: &SharedCells,
+    run: &Run,
+) -> Result<Seq<Was>, AllocError>
+    requires { All (λ a. is_kept store.old a.object ≡ true) (cells_of cells.now) }
+    ensures was { IfOk result (λ was. were_listed was
+        ≡ undo_record (cells_of cells.now) (puts_of run.now.cell cells.now.count)
+        (state_of store.old)) }
+    ensures state { OnOk result (state_of store.new
+        ≡ updated (cells_of cells.now) (puts_of run.now.cell cells.now.count) (state_of store.old)) }
+    ensures pasts { pasts_of store.new ≡ pasts_of store.old }
+    ensures same_state_on_error { OnErr result (state_of store.new ≡ state_of store.old) }
+    ensures kept { (q : Obj) → is_kept store.new q ≡ is_kept store.old q }
+{
+    store.put_cells(alloc, cells, run.cell)
+}
+
+/// Puts the value of a run into the cells of each of these slots, and answers what they were. When out of
+/// memory, no value changes.
+fn make_cells(
+    store: &mut Store,
+    alloc: Global,
+    all: &[SharedCells],
+    runs: &[Run],
+) -> Result<Vec<Seq<Was>>, AllocError>
+    requires kept { All (λ a. is_kept store.old a.object ≡ true) (cells_listed all.now) }
+    requires along { are_along all.now runs.now ≡ true }
+    ensures along { IfOk result (λ were. WereAlong all.now were.items) }
+    ensures were { IfOk result (λ were. backs_listed were.items
+        ≡ undo_record (cells_listed all.now) (runs_listed runs.now) (state_of store.old)) }
+    ensures state { OnOk result (state_of store.new
+        ≡ updated (cells_listed all.now) (runs_listed runs.now) (state_of store.old)) }
+    ensures pasts { pasts_of store.new ≡ pasts_of store.old }
+    ensures same_state_on_error { OnErr result (state_of store.new ≡ state_of store.old) }
+    ensures kept { (q : Obj) → is_kept store.new q ≡ is_kept store.old q }
+{
+    let count = all.len().min(runs.len());
+    let mut were = Vec::with_capacity(alloc, count)?;
+    for i in 0..count {
+        let Some(wanted) = runs.get(i) else {
+            unreachable!()
+        };
+        match put_run(store, alloc, &all[i], wanted) {
+            Ok(was) => were.push_reserved(was),
+            Err(error) => {
+                take_back_cells(store, &all[..i], &mut were);
+                return Err(error);
+            }
+        }
+    }
+    Ok(were)
+}
+
+/// Makes updates in parts, behind the first access, and leaves in their place what a small record holds
+/// of them. When out of memory, no value changes. What the updates are then is not said.
+fn make_parts(
+    store: &mut Store,
+    alloc: Global,
+    footprint: &Accesses,
+    runs: &[Run],
+    back: &mut BackParts,
+) -> Result<(), AllocError>
+    requires kept { All (λ a. is_kept store.old a.object ≡ true)
+        (drop 1 (accesses_of footprint.now)) }
+    requires first { length footprint.now.first ≡ suc (length back.old.first.items) }
+    requires along { are_along footprint.now.cells runs.now ≡ true }
+    requires fits { FitsAll (drop 1 (accesses_of footprint.now))
+        (back.old.first.items ++ (runs_listed runs.now ++ back.old.last.items)) (state_of store.old) }
+    requires shaped { AreShaped (drop 1 (accesses_of footprint.now))
+        (back.old.first.items ++ (runs_listed runs.now ++ back.old.last.items)) }
+    ensures state { OnOk result (state_of store.new ≡ updated (drop 1 (accesses_of footprint.now))
+        (back.old.first.items ++ (runs_listed runs.now ++ back.old.last.items))
+        (state_of store.old)) }
+    ensures small { OnOk result
+        (back.new.first.items ++ (backs_listed back.new.cells.items ++ back.new.last.items)
+        ≡ small_record (drop 1 (accesses_of footprint.now))
+        (back.old.first.items ++ (runs_listed runs.now ++ back.old.last.items))
+        (state_of store.old)) }
+    ensures pasts { OnOk result (pasts_of store.new ≡ noted_all (drop 1 (accesses_of footprint.now))
+        (back.old.first.items ++ (runs_listed runs.now ++ back.old.last.items))
+        (state_of store.old) (pasts_of store.old)) }
+    ensures first { OnOk result (length footprint.now.first ≡ suc (length back.new.first.items)) }
+    ensures along { OnOk result (WereAlong footprint.now.cells back.new.cells.items) }
+    ensures same_state_on_error { OnErr result (state_of store.new ≡ state_of store.old) }
+    ensures same_pasts_on_error { OnErr result (pasts_of store.new ≡ pasts_of store.old) }
+    ensures kept { (q : Obj) → is_kept store.new q ≡ is_kept store.old q }
+{
+    let (first, cells, last) = footprint.parts();
+    let first = further(first);
+    make_all(store, alloc, first, &mut back.first)?;
+    match make_cells(store, alloc, cells, runs) {
+        Ok(were) => drop(mem::replace(&mut back.cells, were)),
+        Err(error) => {
+            take_back_all(store, first, &mut back.first);
+            return Err(error);
+        }
+    }
+    match make_all(store, alloc, last, &mut back.last) {
+        Ok(()) => Ok(()),
+        Err(error) => {
+            take_back_cells(store, cells, &mut back.cells);
+            take_back_all(store, first, &mut back.first);
+            Err(error)
+        }
+    }
+}
+
+/// Makes updates behind the first access, and leaves in their place what a small record holds of them.
+/// When out of memory, no value changes. What the updates are then is not said.
+pub(crate) fn make_further(
+    store: &mut Store,
+    alloc: Global,
+    footprint: &Accesses,
+    runs: &[Run],
+    back: &mut Backs,
+) -> Result<(), AllocError>
+    requires kept { All (λ a. is_kept store.old a.object ≡ true)
+        (drop 1 (accesses_of footprint.now)) }
+    requires along { CanGoAlong footprint.now back.old runs.now }
+    requires fits { FitsAll (drop 1 (accesses_of footprint.now)) (wanted back.old runs.now)
+        (state_of store.old) }
+    requires shaped { AreShaped (drop 1 (accesses_of footprint.now)) (wanted back.old runs.now) }
+    ensures state { OnOk result (state_of store.new ≡ updated (drop 1 (accesses_of footprint.now))
+        (wanted back.old runs.now) (state_of store.old)) }
+    ensures small { OnOk result (back_in back.new ≡ small_record
+        (drop 1 (accesses_of footprint.now)) (wanted back.old runs.now) (state_of store.old)) }
+    ensures pasts { OnOk result (pasts_of store.new ≡ noted_all (drop 1 (accesses_of footprint.now))
+        (wanted back.old runs.now) (state_of store.old) (pasts_of store.old)) }
+    ensures along { OnOk result (GoAlong footprint.now back.new) }
+    ensures same_state_on_error { OnErr result (state_of store.new ≡ state_of store.old) }
+    ensures same_pasts_on_error { OnErr result (pasts_of store.new ≡ pasts_of store.old) }
+    ensures kept { (q : Obj) → is_kept store.new q ≡ is_kept store.old q }
+{
+    match back {
+        Backs::Plain(updates) => {
+            let (first, _, _) = footprint.parts();
+            make_all(store, alloc, further(first), updates)
+        }
+        Backs::Parts(parts) => make_parts(store, alloc, footprint, runs, parts),
+    }
+}
+
+/// Takes updates in parts back, behind the first access, by what a small record holds of them. It takes
+/// no memory.
+fn take_back_parts(store: &mut Store, footprint: &Accesses, back: &mut BackParts)
+    requires kept { All (λ a. is_kept store.old a.object ≡ true)
+        (drop 1 (accesses_of footprint.now)) }
+    requires first { length footprint.now.first ≡ suc (length back.old.first.items) }
+    requires along { WereAlong footprint.now.cells back.old.cells.items }
+    requires can { CanTakeBack (drop 1 (accesses_of footprint.now))
+        (back.old.first.items ++ (backs_listed back.old.cells.items ++ back.old.last.items))
+        (state_of store.old) (pasts_of store.old) }
+    ensures state { state_of store.new ≡ taken_back (drop 1 (accesses_of footprint.now))
+        (filled (drop 1 (accesses_of footprint.now))
+        (back.old.first.items ++ (backs_listed back.old.cells.items ++ back.old.last.items))
+        (pasts_of store.old)) (state_of store.old) }
+    ensures pasts { pasts_of store.new ≡ popped_all (drop 1 (accesses_of footprint.now))
+        (back.old.first.items ++ (backs_listed back.old.cells.items ++ back.old.last.items))
+        (pasts_of store.old) }
+    ensures kept { (q : Obj) → is_kept store.new q ≡ is_kept store.old q }
+{
+    let (first, cells, last) = footprint.parts();
+    take_back_all(store, last, &mut back.last);
+    take_back_cells(store, cells, &mut back.cells);
+    take_back_all(store, further(first), &mut back.first);
+}
+
+/// Takes the updates behind the first access back, the last one first, by what a small record holds of
+/// them. It takes no memory.
+pub(crate) fn take_further_back(store: &mut Store, footprint: &Accesses, back: &mut Backs)
+    requires kept { All (λ a. is_kept store.old a.object ≡ true)
+        (drop 1 (accesses_of footprint.now)) }
+    requires along { GoAlong footprint.now back.old }
+    requires can { CanTakeBack (drop 1 (accesses_of footprint.now)) (back_in back.old)
+        (state_of store.old) (pasts_of store.old) }
+    ensures state { state_of store.new ≡ taken_back (drop 1 (accesses_of footprint.now))
+        (filled (drop 1 (accesses_of footprint.now)) (back_in back.old) (pasts_of store.old))
+        (state_of store.old) }
+    ensures pasts { pasts_of store.new
+        ≡ popped_all (drop 1 (accesses_of footprint.now)) (back_in back.old) (pasts_of store.old) }
+    ensures kept { (q : Obj) → is_kept store.new q ≡ is_kept store.old q }
+{
+    match back {
+        Backs::Plain(small) => {
+            let (first, _, _) = footprint.parts();
+            take_back_all(store, further(first), small);
+        }
+        Backs::Parts(parts) => take_back_parts(store, footprint, parts),
+    }
+}
