@@ -7,10 +7,15 @@ use Rattle.om_cells.specs.contracts.part.Part as part
 use Rattle.om_cells.specs.contracts.place.Place as place
 use Rattle.om_cells.specs.contracts.places.Places as places
 use Rattle.om_cells.specs.contracts.shared.Shared as shared
+use Rattle.om_cells.specs.contracts.cells.Was as was
+use Rattle.om_cells.specs.contracts.shared_cells.SharedCells as shared_cells
 use Rattle.om_cells.specs.contracts.shared_object.SharedObject as shared_object
+use Rattle.om_cells.specs.contracts.slots.SlotPlace as slot_place
+use Rattle.om_cells.specs.contracts.slots.Slots as slots
 use Rattle.om_cells.specs.contracts.store.Store as values
 use Rattle.om_live.specs.contracts.control_objects.ControlObjects as control_objects
 use Rattle.om_live.specs.contracts.store.Store as store
+use Rattle.om_touches.specs.contracts.accesses.Accesses as accesses
 use Rattle.om_touches.specs.contracts.blocks.Blocks as blocks
 use Rattle.om_touches.specs.contracts.by_mode.Touches as touches
 use Rattle.om_touches.specs.contracts.controls.ControlTouches as control_touches
@@ -19,8 +24,11 @@ use Rattle.om_touches.specs.contracts.offsets.Offsets as offsets
 use Rattle.om_touches.specs.contracts.own.OwnEntries as own
 use Rattle.om_touches.specs.contracts.serials.Serials as serials
 use Rattle.om_touches.specs.contracts.shared_access.SharedAccess as shared_access
+use Rattle.om_touches.specs.contracts.singles.SingleTouches as single_touches
+use Rattle.om_touches.specs.contracts.slots.SlotTouches as slot_touches
+use Rattle.om_touches.specs.contracts.spans.Spans as spans
 use Rattle.om_touches.specs.contracts.touches.TouchLists as lists
-use Rattle.om_history.specs.contracts.accesses.Accesses as accesses
+use Rattle.om_history.specs.contracts.backs.Backs as backs
 use Rattle.om_history.specs.contracts.history.History as history
 use Rattle.om_history.specs.contracts.kept.Kept as kept
 use Rattle.om_history.specs.contracts.kept.SmallEntry as small_entry
@@ -42,6 +50,18 @@ shared_object_send = search (objects_send, sendable) depth 40
 place_send : IsSend place.the_row
 place_send = search (shared_object_send, value_send, sendable) depth 40
 
+shared_cells_send : IsSend shared_cells.the_row
+shared_cells_send = search (shared_object_send, sendable) depth 40
+
+was_send : IsSend was.the_field.row
+was_send = search (value_send, sendable) depth 40
+
+slot_place_send : IsSend slot_place.the_field.row
+slot_place_send = search (shared_object_send, shared_cells_send, value_send, maps, crosses, sendable) depth 40
+
+slots_send : IsSend slots.the_field.row
+slots_send = search (name_send, slot_place_send, maps, crosses, sendable) depth 40
+
 part_send : IsSend part.the_field.row
 part_send = search sendable depth 40
 
@@ -49,7 +69,7 @@ places_send : IsSend places.the_field.row
 places_send = search (part_send, place_send, maps, crosses, sendable) depth 40
 
 values_send : IsSend values.the_field.row
-values_send = search (name_send, places_send, maps, crosses, sendable) depth 40
+values_send = search (name_send, places_send, slots_send, maps, crosses, sendable) depth 40
 
 control_objects_send : IsSend control_objects.the_field.row
 control_objects_send = search (shared_object_send, crosses, sendable) depth 40
@@ -61,13 +81,16 @@ shared_access_send : IsSend shared_access.the_row
 shared_access_send = search (shared_object_send, sendable) depth 40
 
 accesses_send : IsSend accesses.the_row
-accesses_send = search (shared_access_send, seq_send, sendable) depth 40
+accesses_send = search (shared_access_send, shared_cells_send, seq_send, crosses, sendable) depth 40
+
+backs_send : IsSend backs.the_field.row
+backs_send = search (update_send, was_send, seq_send, crosses, sendable) depth 40
 
 small_entry_send : IsSend small_entry.the_row
 small_entry_send = search (name_send, crosses, sendable) depth 40
 
 kept_send : IsSend kept.the_row
-kept_send = search (small_entry_send, accesses_send, update_send, seq_send, crosses, sendable) depth 40
+kept_send = search (small_entry_send, accesses_send, backs_send, crosses, sendable) depth 40
 
 offsets_send : IsSend offsets.the_row
 offsets_send = search sendable depth 40
@@ -87,8 +110,17 @@ control_touches_send = search (touches_send, maps, crosses, sendable) depth 40
 object_touches_send : IsSend object_touches.the_field.row
 object_touches_send = search (shared_object_send, touches_send, maps, crosses, sendable) depth 40
 
+single_touches_send : IsSend single_touches.the_field.row
+single_touches_send = search (control_touches_send, object_touches_send, crosses, sendable) depth 40
+
+spans_send : IsSend spans.the_field.row
+spans_send = search (serials_send, maps, crosses, sendable) depth 40
+
+slot_touches_send : IsSend slot_touches.the_field.row
+slot_touches_send = search (name_send, spans_send, maps, crosses, sendable) depth 40
+
 lists_send : IsSend lists.the_field.row
-lists_send = search (control_touches_send, object_touches_send, crosses, sendable) depth 40
+lists_send = search (single_touches_send, slot_touches_send, crosses, sendable) depth 40
 
 own_send : IsSend own.the_field.row
 own_send = search (serials_send, maps, crosses, sendable) depth 40
