@@ -123,7 +123,8 @@ class Statements(Expressions):
             self.scalars.append(name)
         elif kind == 1 and self.happens(.4):
             name = self.fresh()
-            self.put(f"int {name}[2]; {name}[0] = 1; {name}[1] = 2;")
+            # The cells of the larger ones are named at once where the array begins and ends.
+            self.put(f"int {name}[{self.pick(2, 2, 9, 40)}]; {name}[0] = 1; {name}[1] = 2;")
             self.arrays.append((name, 2))
         elif kind == 2:
             is_nested = around["worksharing"] or around["task"]
