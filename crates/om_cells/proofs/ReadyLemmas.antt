@@ -12,11 +12,11 @@ use Rattle.std.specs.Cmp.Lexicographic.{slice_cmp}
 use Rattle.std.specs.declared.cmp.Ordering.TheVariants.{Less}
 use Rattle.std.proofs.lemmas.List.Elements.{All-head, All-tail, Contains-append_left, Contains-append_right}
 use Rattle.std.proofs.lemmas.List.Elements.{Contains-append_cases, Contains-push, Contains-push_cases}
-use Rattle.om_cells.specs.declared.part.Part.TheVariants as part
+use Rattle.om_foot.specs.declared.part.Part.TheVariants as part
 use Rattle.om_cells.specs.Places.{Places, value_at}
 use Rattle.om_cells.specs.Named.{Named, value_among}
-use Rattle.om_cells.specs.Ready.{AreAll, IsNext, is_behind, names_behind}
-use Rattle.om_cells.specs.NextNames.{next_of_all}
+use Rattle.om_values.specs.Ready.{AreAll, IsNext, is_behind, names_behind}
+use Rattle.om_values.specs.NextNames.{next_of_all}
 use Rattle.om_cells.specs.ReadyEntries.{is_ready_task, is_ready_in, name_if_ready, names_ready}
 use Rattle.om_cells.proofs.PlaceLemmas.{same_name, name_is}
 

@@ -2,9 +2,9 @@
 use Rattle.std.specs.Prelude.{◌≡◌, cond, Option, List}
 use Rattle.std.specs.Map.{lookup}
 use Rattle.std.specs.BTreeMap.{is_at}
-use Rattle.om_cells.specs.declared.part.Part.{Part}
-use Rattle.om_cells.specs.contracts.part.PartOrd.TheImpl.{cmp-value}
-use Rattle.om_cells.specs.declared.value.Val.{Val}
+use Rattle.om_foot.specs.declared.part.Part.{Part}
+use Rattle.om_foot.specs.contracts.part.PartOrd.TheImpl.{cmp-value}
+use Rattle.om_values.specs.declared.value.Val.{Val}
 
 -- the parts at which a value is kept, with it
 abbrev pub Places : Type 0

@@ -7,16 +7,16 @@ use Rattle.om_code.specs.declared.frame.Cell.TheVariants as cell
 use Rattle.om_foot.specs.declared.object.Obj.{Obj}
 use Rattle.om_foot.specs.declared.object.Obj.TheVariants as obj
 use Rattle.om_foot.specs.Footprint.{obj_eq}
-use Rattle.om_cells.specs.contracts.cells.SlotNameOrd.TheImpl.{cmp-value}
-use Rattle.om_cells.specs.declared.cells.SlotName.{SlotName}
-use Rattle.om_cells.specs.declared.cells.Cells.{Cells}
-use Rattle.om_cells.specs.declared.step.Update.{Update}
-use Rattle.om_cells.specs.declared.step.Update.TheVariants.{Put}
-use Rattle.om_cells.specs.declared.value.Val.{Val}
-use Rattle.om_cells.specs.declared.value.Val.TheVariants as value
-use Rattle.om_cells.specs.State.{State, with_value, updated}
-use Rattle.om_cells.specs.Values.{default_of}
-use Rattle.om_cells.specs.Cells.{cells_from}
+use Rattle.om_foot.specs.contracts.cells.SlotNameOrd.TheImpl.{cmp-value}
+use Rattle.om_foot.specs.declared.cells.SlotName.{SlotName}
+use Rattle.om_foot.specs.declared.cells.Cells.{Cells}
+use Rattle.om_values.specs.declared.step.Update.{Update}
+use Rattle.om_values.specs.declared.step.Update.TheVariants.{Put}
+use Rattle.om_values.specs.declared.value.Val.{Val}
+use Rattle.om_values.specs.declared.value.Val.TheVariants as value
+use Rattle.om_values.specs.State.{State, with_value, updated}
+use Rattle.om_values.specs.Values.{default_of}
+use Rattle.om_foot.specs.Cells.{cells_from}
 
 -- the slots that are kept, with the values of the first cells of each
 abbrev pub Slots : Type 0

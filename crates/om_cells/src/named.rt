@@ -5,19 +5,18 @@ ghost use Rattle.std.specs.BTreeMap.{is_at};
 ghost use Rattle.std.specs.Cmp.Lexicographic.{slice_cmp};
 ghost use Rattle.std.specs.Option.{option_copied};
 ghost use Rattle.std.specs.Ordering.{nat_cmp};
-ghost use Rattle.om_cells.specs.contracts.part.PartOrd.TheImpl.{cmp-value};
-ghost use Rattle.om_cells.specs.declared.part.Part.TheVariants as parts;
+ghost use Rattle.om_foot.specs.contracts.part.PartOrd.TheImpl.{cmp-value};
+ghost use Rattle.om_foot.specs.declared.part.Part.TheVariants as parts;
 ghost use Rattle.om_cells.specs.Named.{Named, places_of, value_of, PutsOf, StaysOf};
-ghost use Rattle.om_cells.specs.Ready.{is_ready, is_from, is_the, AreAll, IsNext};
+ghost use Rattle.om_values.specs.Ready.{is_ready, is_from, is_the, AreAll, IsNext};
 ghost use Rattle.om_cells.specs.ReadyEntries.{is_ready_in, name_if_ready};
-ghost use Rattle.om_cells.specs.Values.{task_in};
+ghost use Rattle.om_values.specs.Values.{task_in};
 
-use crate::cells::SlotName;
-use crate::part::Part;
 use crate::place::Place;
 use crate::places::Places;
-use crate::value::{Task, Val};
-use om_foot::Name;
+use om_foot::part::Part;
+use om_foot::{Name, SlotName};
+use om_values::{Task, Val};
 use std::alloc::{AllocError, Global};
 use std::cmp::Ordering;
 use std::collections::BTreeMap;
@@ -38,7 +37,7 @@ pub struct Named {
 impl Model for Named {
     ghost use Rattle.std.specs.Prelude.{None};
     ghost use Rattle.om_cells.specs.Named.{Named};
-    ghost use Rattle.om_cells.specs.Ready.{IsNext};
+    ghost use Rattle.om_values.specs.Ready.{IsNext};
     ghost use Rattle.om_cells.specs.ReadyEntries.{is_ready_in};
 
     ghost Value = { Named };

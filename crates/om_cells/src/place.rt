@@ -2,9 +2,8 @@
 
 ghost use Rattle.std.specs.Prelude.{◌≡◌, IfOk};
 
-use crate::shared_object::SharedObject;
-use crate::value::Val;
-use om_foot::Obj;
+use om_foot::{Obj, SharedObject};
+use om_values::Val;
 use std::alloc::{AllocError, Global};
 use std::marker::Model;
 use std::mem;
@@ -19,7 +18,7 @@ pub struct Place {
 }
 
 impl Model for Place {
-    ghost use Rattle.om_cells.specs.declared.value.Val.{Val};
+    ghost use Rattle.om_values.specs.declared.value.Val.{Val};
 
     ghost Value = { Val };
 

@@ -2,14 +2,14 @@
 
 ghost use Rattle.std.specs.Prelude.{◌≡◌, ◌<◌, ℕ, None, Some, true, is_some, OnOk, OnErr};
 ghost use Rattle.std.specs.Option.{option_copied};
-ghost use Rattle.om_cells.specs.declared.part.Part.{Part};
-ghost use Rattle.om_cells.specs.declared.part.Part.TheVariants as parts;
+ghost use Rattle.om_foot.specs.declared.part.Part.{Part};
+ghost use Rattle.om_foot.specs.declared.part.Part.TheVariants as parts;
 ghost use Rattle.om_cells.specs.Places.{value_at, PutsAt, StaysAt};
 
-use crate::cells::SlotName;
-use crate::part::Part;
 use crate::place::Place;
-use crate::value::Val;
+use om_foot::SlotName;
+use om_foot::part::Part;
+use om_values::Val;
 use std::alloc::{AllocError, Global};
 use std::collections::BTreeMap;
 use std::marker::Model;

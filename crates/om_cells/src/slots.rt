@@ -4,22 +4,20 @@ ghost use Rattle.std.specs.Prelude.{◌≡◌, ◌<◌, ◌≤◌, set, slice_ge
 ghost use Rattle.std.specs.Prelude.{List};
 ghost use Rattle.std.specs.Option.{option_copied};
 ghost use Rattle.om_foot.specs.declared.object.Obj.{Obj};
-ghost use Rattle.om_cells.specs.declared.cells.SlotName.{SlotName};
-ghost use Rattle.om_cells.specs.declared.step.Update.TheVariants as update;
-ghost use Rattle.om_cells.specs.declared.value.Val.{Val};
-ghost use Rattle.om_cells.specs.declared.value.Val.TheVariants as value;
-ghost use Rattle.om_cells.specs.Cells.{cells_of, puts_of, was_puts, were_listed};
-ghost use Rattle.om_cells.specs.State.{State, updated};
+ghost use Rattle.om_foot.specs.declared.cells.SlotName.{SlotName};
+ghost use Rattle.om_values.specs.declared.step.Update.TheVariants as update;
+ghost use Rattle.om_values.specs.declared.value.Val.{Val};
+ghost use Rattle.om_values.specs.declared.value.Val.TheVariants as value;
+ghost use Rattle.om_foot.specs.Cells.{cells_of};
+ghost use Rattle.om_values.specs.Runs.{puts_of, was_puts, were_listed};
+ghost use Rattle.om_values.specs.State.{State, updated};
 ghost use Rattle.om_cells.specs.Slots.{cell_at, spot_of, value_among, values_in, value_in, slot_value, ResetsIn, values_of, ReplacesAll, PutsIn, Grows, SlotsGrow, HasCells, KeepsCells, Mirrors, Writes, WritesAll, olds};
 
-use crate::cells::{Cells, Run, SlotName, Was};
-use crate::shared_cells::SharedCells;
-use crate::shared_object::SharedObject;
-use crate::value::Val;
-use crate::was::Noted;
 use om_code::frame::Cell;
-use om_foot::Obj;
+use om_foot::{Cells, Obj, SharedCells, SharedObject, SlotName};
 use om_seq::Seq;
+use om_values::was::Noted;
+use om_values::{Run, Val, Was};
 use std::alloc::{AllocError, Global};
 use std::collections::BTreeMap;
 use std::marker::Model;
@@ -38,7 +36,7 @@ pub struct SlotPlace {
 
 impl Model for SlotPlace {
     ghost use Rattle.std.specs.Prelude.{List};
-    ghost use Rattle.om_cells.specs.declared.value.Val.{Val};
+    ghost use Rattle.om_values.specs.declared.value.Val.{Val};
 
     ghost Value = { List Val };
 

@@ -1,12 +1,12 @@
 -- How many steps were ever made, behind one more.
 use Rattle.std.specs.Prelude.{◌≤◌, ◌+◌, ℕ}
 use Rattle.std.proofs.Common.{arith}
-use Rattle.om_cells.specs.declared.step.Entry.{Entry}
-use Rattle.om_cells.specs.declared.step.Label.{Label}
-use Rattle.om_cells.specs.declared.step.Step.{Step}
-use Rattle.om_cells.specs.declared.step.Outcome.{Outcome}
-use Rattle.om_cells.specs.declared.step.Outcome.TheVariants as outcome
-use Rattle.om_cells.specs.Rules.{Rules, step_at}
+use Rattle.om_values.specs.declared.step.Entry.{Entry}
+use Rattle.om_values.specs.declared.step.Label.{Label}
+use Rattle.om_values.specs.declared.step.Step.{Step}
+use Rattle.om_values.specs.declared.step.Outcome.{Outcome}
+use Rattle.om_values.specs.declared.step.Outcome.TheVariants as outcome
+use Rattle.om_values.specs.Rules.{Rules, step_at}
 use Rattle.om_history.specs.Runs.{History, after_step, entry_for, history_with, state_of_entries}
 
 made_with : (h : History) (e : Entry) (o : Outcome) → (history_with h e o).made ≤ h.made + 1

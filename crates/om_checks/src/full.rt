@@ -2,9 +2,9 @@
 
 use crate::book_of_two::BookOfTwo;
 use om_book::{CallError, Command, Query, Reply};
-use om_cells::Val;
 use om_foot::Obj;
 use om_task::Choice;
+use om_values::Val;
 use std::alloc::{AllocError, Global};
 
 /// A program of six steps.

@@ -2,11 +2,11 @@
 
 ghost use Rattle.std.specs.Prelude.{◌≡◌, ◌<◌, ◌≤◌, IfOk};
 
-use om_cells::Val;
 use om_foot::Obj;
 use om_shell::program_of;
 use om_task::Choice;
 use om_undo::{Machine, StepReply, UndoReply};
+use om_values::Val;
 use std::alloc::{AllocError, Global};
 
 /// How many steps are asked for at most.

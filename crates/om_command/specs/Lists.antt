@@ -1,7 +1,7 @@
 -- The texts of replies of many lines.
 use Rattle.std.specs.Prelude.{ℕ, List, [], ◌∷◌, ◌++◌, codes, decimal, length}
 use Rattle.om_foot.specs.Names.{name_text}
-use Rattle.om_cells.specs.declared.step.Entry.{Entry}
+use Rattle.om_values.specs.declared.step.Entry.{Entry}
 use Rattle.om_events.specs.declared.event.Record.{Record}
 use Rattle.om_events.specs.Records.{record_text}
 use Rattle.om_history.specs.declared.reply.Taken.{Taken}

@@ -3,9 +3,9 @@ use Rattle.std.specs.Prelude.{ℕ, List, [], ◌++◌, codes, decimal, Option, N
 use Rattle.om_code.specs.declared.raw.Raw.{Raw}
 use Rattle.om_code.specs.declared.frame.Fault.{Fault}
 use Rattle.om_code.specs.Faults.{fault_number}
-use Rattle.om_cells.specs.declared.step.Blocked.{Blocked}
-use Rattle.om_cells.specs.declared.step.Blocked.TheVariants as blocked
-use Rattle.om_cells.specs.Values.{blocked_number}
+use Rattle.om_values.specs.declared.step.Blocked.{Blocked}
+use Rattle.om_values.specs.declared.step.Blocked.TheVariants as blocked
+use Rattle.om_values.specs.Values.{blocked_number}
 use Rattle.om_command.specs.declared.command.CommandFault.{CommandFault}
 use Rattle.om_command.specs.declared.command.CommandFault.TheVariants.{UnknownCommand, BadArgument}
 use Rattle.om_history.specs.declared.reply.StepReply.{StepReply}

@@ -4,8 +4,8 @@ use Rattle.std.specs.Fmt.{signed_decimal}
 use Rattle.om_code.specs.declared.raw.Raw.{Raw}
 use Rattle.om_code.specs.declared.frame.Cell.{Cell}
 use Rattle.om_code.specs.declared.frame.Cell.TheVariants as cell
-use Rattle.om_cells.specs.declared.value.Val.{Val}
-use Rattle.om_cells.specs.Values.{cell_in}
+use Rattle.om_values.specs.declared.value.Val.{Val}
+use Rattle.om_values.specs.Values.{cell_in}
 use Rattle.om_command.specs.declared.command.Variable.{Variable}
 use Rattle.om_command.specs.declared.value.GlobalCell.{GlobalCell}
 use Rattle.om_command.specs.Objects.{variable_text}

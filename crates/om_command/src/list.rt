@@ -6,10 +6,10 @@ ghost use Rattle.om_command.specs.Lists.{joined, entry_line, history_text, event
 use crate::number::push_numbered;
 use crate::object::push_named;
 use crate::step::{push_entry, push_undone};
-use om_cells::Entry;
 use om_events::{Record, text_of};
 use om_foot::Name;
 use om_history::{RollReply, Taken};
+use om_values::Entry;
 use std::alloc::AllocError;
 
 fn push_entry_line(text: &mut Vec<u8>, entry: &Entry) -> Result<(), AllocError>

@@ -5,7 +5,7 @@ ghost use Rattle.om_command.specs.Places.{context_text, control_text, where_text
 
 use crate::number::push_numbered;
 use crate::object::push_named;
-use om_cells::{Context, Control};
+use om_values::{Context, Control};
 use std::alloc::AllocError;
 
 // The task that a worker runs, and its place in its team.

@@ -7,11 +7,11 @@ use crate::command::CommandFault;
 use crate::ending::{ROOM, put, put_entry, put_fault};
 use crate::number::{push_number, push_numbered};
 use crate::object::push_object;
-use om_cells::Blocked;
 use om_code::Program;
 use om_code::frame::Fault;
 use om_foot::Obj;
 use om_history::{StepReply, UndoReply};
+use om_values::Blocked;
 use std::alloc::AllocError;
 
 // `#S worker W line L`, and the fault that the step came to, on a line.

@@ -7,10 +7,10 @@ ghost use Rattle.om_command.specs.Values.{cell_text, local_text, print_text, wri
 use crate::command::Variable;
 use crate::number::{push_number, push_numbered};
 use crate::object::push_variable;
-use om_cells::Val;
 use om_code::Program;
 use om_code::frame::Cell;
 use om_foot::Obj;
+use om_values::Val;
 use std::alloc::AllocError;
 
 /// A cell of a global variable.

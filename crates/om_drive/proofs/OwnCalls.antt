@@ -6,7 +6,7 @@ use Rattle.std.proofs.Common.{◌∙◌, ap, subst, sym, arith, append-nil, inl,
 use Rattle.std.proofs.lemmas.Bool.Decides.{nat_tests}
 use Rattle.std.proofs.lemmas.List.{length-map, map-append}
 use Rattle.std.proofs.lemmas.List.Elements.{filter-append, recursion_from_All}
-use Rattle.om_cells.specs.declared.step.Choice.{Choice}
+use Rattle.om_values.specs.declared.step.Choice.{Choice}
 use Rattle.om_journal.specs.declared.journal.JournalRecord.{JournalRecord}
 use Rattle.om_journal.specs.declared.command.Command.TheVariants as command
 use Rattle.om_journal.specs.declared.command.Query.TheVariants as query

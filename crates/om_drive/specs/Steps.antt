@@ -1,6 +1,6 @@
 -- The steps that calls made.
 use Rattle.std.specs.Prelude.{ℕ, suc, Bool, true, false, cond, List, [], ◌∷◌}
-use Rattle.om_cells.specs.declared.step.Blocked.TheVariants as blocked
+use Rattle.om_values.specs.declared.step.Blocked.TheVariants as blocked
 use Rattle.om_history.specs.declared.reply.StepReply.TheVariants as step_reply
 use Rattle.om_journal.specs.Runs.{is_step_made}
 use Rattle.om_book.specs.Seats.{SeatView}

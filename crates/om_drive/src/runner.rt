@@ -7,10 +7,10 @@ ghost use Rattle.om_drive.specs.Steps.{makes_step, steps_in, waits_for_tasks};
 
 use crate::worker::{Debuggee, Gate, says_yes};
 use om_book::{CallError, Command, Query, Reply};
-use om_cells::Blocked;
 use om_foot::Name;
 use om_task::Choice;
 use om_undo::StepReply;
+use om_values::Blocked;
 use std::sync::Wait;
 
 /// A debuggee of which one worker is driven.

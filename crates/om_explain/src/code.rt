@@ -2,9 +2,9 @@
 
 ghost use Rattle.om_explain.specs.Words.{IsOneLine};
 
-use om_cells::Blocked;
 use om_code::frame::Fault;
 use om_command::CommandFault;
+use om_values::Blocked;
 
 /// What a code from B1 to B8 means and what to do, in one line.
 pub fn blocked_words(why: Blocked) -> &'static str

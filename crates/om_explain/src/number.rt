@@ -1,16 +1,16 @@
 //! Codes as answers write them, in words.
 
 ghost use Rattle.std.specs.Prelude.{◌≡◌, IfSome};
-ghost use Rattle.om_cells.specs.Values.{blocked_number};
+ghost use Rattle.om_values.specs.Values.{blocked_number};
 ghost use Rattle.om_code.specs.Faults.{fault_number};
 ghost use Rattle.om_lexer.specs.Faults.{number_of};
 ghost use Rattle.om_explain.specs.Words.{IsOneLine};
 
 use crate::code::{blocked_words, fault_words};
 use crate::refusal::refusal_words;
-use om_cells::Blocked;
 use om_code::frame::Fault;
 use om_lexer::FaultCode;
+use om_values::Blocked;
 
 // Why a step is blocked, by the number of its code. Of B2 and B4 the worker is not known from it.
 fn blocked_of(number: u8) -> Option<Blocked>

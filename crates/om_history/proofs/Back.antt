@@ -10,16 +10,16 @@ use Rattle.om_foot.specs.declared.footprint.Mode.TheVariants as mode
 use Rattle.om_foot.specs.declared.footprint.Access.{Access}
 use Rattle.om_foot.specs.Footprint.{obj_eq}
 use Rattle.om_foot.specs.Objects.{obj_eq-true}
-use Rattle.om_cells.specs.declared.value.Val.{Val}
-use Rattle.om_cells.specs.declared.value.Val.TheVariants.{Count, Output, Events}
-use Rattle.om_cells.specs.declared.step.Tail.{Tail}
-use Rattle.om_cells.specs.declared.step.Tail.TheVariants.{Bytes}
-use Rattle.om_cells.specs.declared.step.Tail.TheVariants as tail
-use Rattle.om_cells.specs.declared.step.Update.{Update}
-use Rattle.om_cells.specs.declared.step.Update.TheVariants as update
-use Rattle.om_cells.specs.Values.{value_plus, value_with, value_cut, items_of}
-use Rattle.om_cells.specs.State.{State, value_after, undo_of, value_before, state_after, state_before, updated}
-use Rattle.om_cells.specs.State.{undo_record, taken_back}
+use Rattle.om_values.specs.declared.value.Val.{Val}
+use Rattle.om_values.specs.declared.value.Val.TheVariants.{Count, Output, Events}
+use Rattle.om_values.specs.declared.step.Tail.{Tail}
+use Rattle.om_values.specs.declared.step.Tail.TheVariants.{Bytes}
+use Rattle.om_values.specs.declared.step.Tail.TheVariants as tail
+use Rattle.om_values.specs.declared.step.Update.{Update}
+use Rattle.om_values.specs.declared.step.Update.TheVariants as update
+use Rattle.om_values.specs.Values.{value_plus, value_with, value_cut, items_of}
+use Rattle.om_values.specs.State.{State, value_after, undo_of, value_before, state_after, state_before, updated}
+use Rattle.om_values.specs.State.{undo_record, taken_back}
 use Rattle.om_history.specs.Laws.{writes, adds, is_written, sum_added}
 
 value_plus-back : (d : ℤ) (v : Val) → value_plus (neg_ℤ d) (value_plus d v) ≡ v

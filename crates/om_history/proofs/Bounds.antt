@@ -8,18 +8,18 @@ use Rattle.om_foot.specs.declared.footprint.Mode.TheVariants as mode
 use Rattle.om_foot.specs.declared.footprint.Access.{Access}
 use Rattle.om_foot.specs.Footprint.{obj_eq}
 use Rattle.om_foot.specs.Objects.{obj_eq-true}
-use Rattle.om_cells.specs.declared.value.Val.{Val}
-use Rattle.om_cells.specs.declared.value.Val.TheVariants.{Count}
-use Rattle.om_cells.specs.declared.step.Tail.{Tail}
-use Rattle.om_cells.specs.declared.step.Tail.TheVariants as tail
-use Rattle.om_cells.specs.declared.step.Update.{Update}
-use Rattle.om_cells.specs.declared.step.Update.TheVariants as update
-use Rattle.om_cells.specs.declared.step.Label.{Label}
-use Rattle.om_cells.specs.declared.step.Outcome.TheVariants.{Updates}
-use Rattle.om_cells.specs.Values.{value_plus, value_with, value_cut, SumFits}
-use Rattle.om_cells.specs.State.{State, value_after, undo_of, value_before, state_after, updated, undo_record}
-use Rattle.om_cells.specs.State.{taken_back, values_read}
-use Rattle.om_cells.specs.Rules.{Rules, control_access, step_at, next_state}
+use Rattle.om_values.specs.declared.value.Val.{Val}
+use Rattle.om_values.specs.declared.value.Val.TheVariants.{Count}
+use Rattle.om_values.specs.declared.step.Tail.{Tail}
+use Rattle.om_values.specs.declared.step.Tail.TheVariants as tail
+use Rattle.om_values.specs.declared.step.Update.{Update}
+use Rattle.om_values.specs.declared.step.Update.TheVariants as update
+use Rattle.om_values.specs.declared.step.Label.{Label}
+use Rattle.om_values.specs.declared.step.Outcome.TheVariants.{Updates}
+use Rattle.om_values.specs.Values.{value_plus, value_with, value_cut, SumFits}
+use Rattle.om_values.specs.State.{State, value_after, undo_of, value_before, state_after, updated, undo_record}
+use Rattle.om_values.specs.State.{taken_back, values_read}
+use Rattle.om_values.specs.Rules.{Rules, control_access, step_at, next_state}
 use Rattle.om_history.specs.Runs.{label_of}
 use Rattle.om_history.specs.declared.records.UndoRecord.{UndoRecord}
 use Rattle.om_history.specs.Records.{ReplaysTo}

@@ -7,13 +7,14 @@ use Rattle.std.proofs.lemmas.List.{append-nil, length-append}
 use Rattle.std.proofs.lemmas.List.Elements.{All-from_recursion, recursion_from_All, All-append}
 use Rattle.om_foot.specs.declared.footprint.Access.{Access}
 use Rattle.om_code.specs.declared.frame.Cell as cells
-use Rattle.om_cells.specs.declared.cells.SlotName.{SlotName}
-use Rattle.om_cells.specs.declared.cells.Cells.{Cells}
-use Rattle.om_cells.specs.declared.cells.Run.{Run}
-use Rattle.om_cells.specs.declared.cells.Was.{Was}
-use Rattle.om_cells.specs.declared.step.Update.{Update}
-use Rattle.om_cells.specs.Cells.{cells_from, cells_of, cells_listed, puts_of, run_puts, runs_listed, were_listed}
-use Rattle.om_cells.specs.State.{State, updated, undo_record, taken_back}
+use Rattle.om_foot.specs.declared.cells.SlotName.{SlotName}
+use Rattle.om_foot.specs.declared.cells.Cells.{Cells}
+use Rattle.om_values.specs.declared.runs.Run.{Run}
+use Rattle.om_values.specs.declared.runs.Was.{Was}
+use Rattle.om_values.specs.declared.step.Update.{Update}
+use Rattle.om_foot.specs.Cells.{cells_from, cells_of, cells_listed}
+use Rattle.om_values.specs.Runs.{puts_of, run_puts, runs_listed, were_listed}
+use Rattle.om_values.specs.State.{State, updated, undo_record, taken_back}
 use Rattle.om_history.specs.Backs.{backs_listed, are_along, WereAlong}
 use Rattle.om_history.proofs.Back.{taken_back-updated}
 use Rattle.om_history.proofs.Parts.{updated-parts, undo_record-parts, taken_back-parts, length-undo_record, NoneTrailed}

@@ -8,11 +8,11 @@ use Rattle.om_foot.specs.declared.object.Obj.{Obj}
 use Rattle.om_foot.specs.declared.footprint.Mode.TheVariants as mode
 use Rattle.om_foot.specs.Footprint.{obj_eq}
 use Rattle.om_foot.specs.Objects.{obj_eq-true}
-use Rattle.om_cells.specs.declared.value.Val.{Val}
-use Rattle.om_cells.specs.declared.step.Update.{Update}
-use Rattle.om_cells.specs.declared.step.Update.TheVariants as update
-use Rattle.om_cells.specs.Values.{value_plus, value_cut}
-use Rattle.om_cells.specs.State.{State, with_value, state_after, state_before}
+use Rattle.om_values.specs.declared.value.Val.{Val}
+use Rattle.om_values.specs.declared.step.Update.{Update}
+use Rattle.om_values.specs.declared.step.Update.TheVariants as update
+use Rattle.om_values.specs.Values.{value_plus, value_cut}
+use Rattle.om_values.specs.State.{State, with_value, state_after, state_before}
 
 changed_value : (e : Bool) (f : Val → Val) (here there : Val) → (e ≡ true → here ≡ there)
     → cond e (f here) there ≡ cond e (f there) there

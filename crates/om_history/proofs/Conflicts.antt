@@ -4,9 +4,9 @@ use Rattle.std.proofs.Common.{◌++◌, Option, None, Some, drop, drop-cons, get
 use Rattle.om_foot.specs.declared.object.Obj.{Obj}
 use Rattle.om_foot.specs.declared.footprint.Access.{Access}
 use Rattle.om_foot.specs.Footprint.{obj_eq, modes_conflict, conflicts_with_any, conflict_of}
-use Rattle.om_cells.specs.declared.cells.SlotName.{SlotName}
-use Rattle.om_cells.specs.declared.cells.Cells.{Cells}
-use Rattle.om_cells.specs.Cells.{cell_access, cells_from, cells_of, cells_listed}
+use Rattle.om_foot.specs.declared.cells.SlotName.{SlotName}
+use Rattle.om_foot.specs.declared.cells.Cells.{Cells}
+use Rattle.om_foot.specs.Cells.{cell_access, cells_from, cells_of, cells_listed}
 
 pub cells_next : (slot : SlotName) (n count : ℕ) → n < count
     → cells_from slot n (count - n) ≡ cell_access slot n ∷ cells_from slot (n + 1) (count - (n + 1))

@@ -3,17 +3,17 @@ use Rattle.std.proofs.Common.{◌≡◌, refl, sym, ◌∙◌, ap, subst, Some, 
 use Rattle.om_foot.specs.declared.footprint.Mode.{Mode}
 use Rattle.om_foot.specs.declared.footprint.Access.{Access}
 use Rattle.om_foot.specs.Apart.{AllApart, AllApart-flip, all_apart}
-use Rattle.om_cells.specs.declared.value.Val.{Val}
-use Rattle.om_cells.specs.declared.step.Update.{Update}
-use Rattle.om_cells.specs.declared.step.Outcome.{Outcome}
-use Rattle.om_cells.specs.declared.step.Label.{Label}
-use Rattle.om_cells.specs.declared.step.Step.{Step}
-use Rattle.om_cells.specs.State.{State, updated}
-use Rattle.om_cells.specs.Rules.{Rules, step_at, state_after_outcome, next_state}
+use Rattle.om_values.specs.declared.value.Val.{Val}
+use Rattle.om_values.specs.declared.step.Update.{Update}
+use Rattle.om_values.specs.declared.step.Outcome.{Outcome}
+use Rattle.om_values.specs.declared.step.Label.{Label}
+use Rattle.om_values.specs.declared.step.Step.{Step}
+use Rattle.om_values.specs.State.{State, updated}
+use Rattle.om_values.specs.Rules.{Rules, step_at, state_after_outcome, next_state}
 use Rattle.om_history.specs.Laws.{IfRead, AgreeAt, Apart, Exchanged}
 use Rattle.om_history.proofs.Frame.{step_at-agree, updated-agree, updated-updated}
 use Rattle.om_foot.specs.declared.footprint.Mode.TheVariants as mode
-use Rattle.om_cells.specs.declared.step.Outcome.TheVariants as outcome
+use Rattle.om_values.specs.declared.step.Outcome.TheVariants as outcome
 
 -- what a step that was made did
 pub record Made (r : Rules) (s : State) (l : Label) (t : State) : Type 0 where

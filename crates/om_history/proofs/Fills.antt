@@ -8,11 +8,11 @@ use Rattle.om_foot.specs.declared.footprint.Access.{Access}
 use Rattle.om_foot.specs.Footprint.{obj_eq, modes_conflict}
 use Rattle.om_foot.specs.Objects.{obj_eq-true, obj_eq-same}
 use Rattle.om_foot.specs.Apart.{IsApart, AllApart, heads, tails, all_apart, AllApart-flip}
-use Rattle.om_cells.specs.declared.value.Val.{Val}
-use Rattle.om_cells.specs.declared.step.Entry.{Entry}
-use Rattle.om_cells.specs.declared.step.Update.{Update}
-use Rattle.om_cells.specs.declared.step.Update.TheVariants as update
-use Rattle.om_cells.specs.State.{State, undo_of, undo_record, state_after}
+use Rattle.om_values.specs.declared.value.Val.{Val}
+use Rattle.om_values.specs.declared.step.Entry.{Entry}
+use Rattle.om_values.specs.declared.step.Update.{Update}
+use Rattle.om_values.specs.declared.step.Update.TheVariants as update
+use Rattle.om_values.specs.State.{State, undo_of, undo_record, state_after}
 use Rattle.om_history.specs.declared.records.UndoRecord.{UndoRecord}
 use Rattle.om_live.specs.Stores.{Pasts, is_trailed}
 use Rattle.om_history.specs.Shapes.{IsShapedAt, AreShaped}

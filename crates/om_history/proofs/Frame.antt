@@ -8,16 +8,16 @@ use Rattle.om_foot.specs.declared.footprint.Access.{Access}
 use Rattle.om_foot.specs.Footprint.{obj_eq, modes_conflict}
 use Rattle.om_foot.specs.Apart.{IsApart, AllApart, heads, tails}
 use Rattle.om_foot.specs.Objects.{obj_eq-true}
-use Rattle.om_cells.specs.declared.value.Val.{Val}
-use Rattle.om_cells.specs.declared.value.Val.TheVariants.{Count}
-use Rattle.om_cells.specs.declared.step.Update.{Update}
-use Rattle.om_cells.specs.declared.step.Label.{Label}
-use Rattle.om_cells.specs.Values.{value_plus, items_of}
-use Rattle.om_cells.specs.State.{State, value_after, undo_of, state_after, updated, undo_record, read_by, values_read}
-use Rattle.om_cells.specs.Rules.{Rules, control_access, footprint_at, step_at}
+use Rattle.om_values.specs.declared.value.Val.{Val}
+use Rattle.om_values.specs.declared.value.Val.TheVariants.{Count}
+use Rattle.om_values.specs.declared.step.Update.{Update}
+use Rattle.om_values.specs.declared.step.Label.{Label}
+use Rattle.om_values.specs.Values.{value_plus, items_of}
+use Rattle.om_values.specs.State.{State, value_after, undo_of, state_after, updated, undo_record, read_by, values_read}
+use Rattle.om_values.specs.Rules.{Rules, control_access, footprint_at, step_at}
 use Rattle.om_history.specs.Laws.{IfRead, AgreeAt}
 use Rattle.om_foot.specs.declared.footprint.Mode.TheVariants as mode
-use Rattle.om_cells.specs.declared.step.Update.TheVariants as update
+use Rattle.om_values.specs.declared.step.Update.TheVariants as update
 
 -- dependence
 

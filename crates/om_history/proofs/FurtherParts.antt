@@ -3,12 +3,13 @@ use Rattle.std.proofs.Common.{◌≡◌, refl, sym, ◌∙◌, ap, subst, true, 
 use Rattle.std.specs.Prelude.{All}
 use Rattle.std.proofs.lemmas.List.{append-nil}
 use Rattle.om_foot.specs.declared.footprint.Access.{Access}
-use Rattle.om_cells.specs.declared.cells.Cells.{Cells}
-use Rattle.om_cells.specs.declared.cells.Run.{Run}
-use Rattle.om_cells.specs.declared.cells.Was.{Was}
-use Rattle.om_cells.specs.declared.step.Update.{Update}
-use Rattle.om_cells.specs.Cells.{cells_listed, runs_listed}
-use Rattle.om_cells.specs.State.{State, updated, undo_record, taken_back}
+use Rattle.om_foot.specs.declared.cells.Cells.{Cells}
+use Rattle.om_values.specs.declared.runs.Run.{Run}
+use Rattle.om_values.specs.declared.runs.Was.{Was}
+use Rattle.om_values.specs.declared.step.Update.{Update}
+use Rattle.om_foot.specs.Cells.{cells_listed}
+use Rattle.om_values.specs.Runs.{runs_listed}
+use Rattle.om_values.specs.State.{State, updated, undo_record, taken_back}
 use Rattle.om_live.specs.Stores.{Pasts}
 use Rattle.om_touches.specs.Accesses.{Parts, accesses_of}
 use Rattle.om_history.specs.Bounds.{FitsAll}

@@ -3,8 +3,8 @@ use Rattle.std.proofs.Common.{◌≡◌, sym, ◌∙◌, ap, subst, List, ℕ, �
 use Rattle.std.proofs.Common.{take, set}
 use Rattle.std.proofs.lemmas.List.{take-set}
 use Rattle.om_foot.specs.declared.footprint.Access.{Access}
-use Rattle.om_cells.specs.declared.step.Update.{Update}
-use Rattle.om_cells.specs.State.{State, updated, taken_back}
+use Rattle.om_values.specs.declared.step.Update.{Update}
+use Rattle.om_values.specs.State.{State, updated, taken_back}
 use Rattle.om_live.specs.Stores.{Pasts}
 use Rattle.om_history.specs.Bounds.{FitsAll}
 use Rattle.om_history.specs.Shapes.{AreShaped}

@@ -9,22 +9,22 @@ use Rattle.om_foot.specs.declared.object.Obj.{Obj}
 use Rattle.om_foot.specs.declared.object.Obj.TheVariants as obj
 use Rattle.om_foot.specs.declared.footprint.Mode.TheVariants as mode
 use Rattle.om_foot.specs.declared.footprint.Access.{Access}
-use Rattle.om_cells.specs.declared.control.Control as controls
-use Rattle.om_cells.specs.declared.control.Control.TheVariants.{Idle, Running, Faulted, Ended}
-use Rattle.om_cells.specs.declared.value.Val.TheVariants as value
-use Rattle.om_cells.specs.declared.edit.Edit.{Edit}
-use Rattle.om_cells.specs.declared.step.Change.{Change}
-use Rattle.om_cells.specs.declared.step.Entry.{Entry}
-use Rattle.om_cells.specs.declared.step.Label.{Label}
-use Rattle.om_cells.specs.declared.step.Step.{Step}
-use Rattle.om_cells.specs.declared.step.Outcome.TheVariants as outcome
-use Rattle.om_cells.specs.declared.step.Update.{Update}
-use Rattle.om_cells.specs.declared.step.Update.TheVariants.{Put, Keep}
-use Rattle.om_cells.specs.Changes.{step_of}
-use Rattle.om_cells.specs.Edits.{HaveRoom}
-use Rattle.om_cells.specs.Values.{control_in}
-use Rattle.om_cells.specs.State.{State, updated, undo_record, taken_back, values_read}
-use Rattle.om_cells.specs.Rules.{Rules, step_at, control_access}
+use Rattle.om_values.specs.declared.control.Control as controls
+use Rattle.om_values.specs.declared.control.Control.TheVariants.{Idle, Running, Faulted, Ended}
+use Rattle.om_values.specs.declared.value.Val.TheVariants as value
+use Rattle.om_values.specs.declared.edit.Edit.{Edit}
+use Rattle.om_values.specs.declared.step.Change.{Change}
+use Rattle.om_values.specs.declared.step.Entry.{Entry}
+use Rattle.om_values.specs.declared.step.Label.{Label}
+use Rattle.om_values.specs.declared.step.Step.{Step}
+use Rattle.om_values.specs.declared.step.Outcome.TheVariants as outcome
+use Rattle.om_values.specs.declared.step.Update.{Update}
+use Rattle.om_values.specs.declared.step.Update.TheVariants.{Put, Keep}
+use Rattle.om_values.specs.Changes.{step_of}
+use Rattle.om_values.specs.Edits.{HaveRoom}
+use Rattle.om_values.specs.Values.{control_in}
+use Rattle.om_values.specs.State.{State, updated, undo_record, taken_back, values_read}
+use Rattle.om_values.specs.Rules.{Rules, step_at, control_access}
 use Rattle.om_live.specs.declared.store.Store.{Store}
 use Rattle.om_live.specs.Faults.{fault_in}
 use Rattle.om_live.specs.Stores.{Pasts, state_of, is_kept, pasts_of}

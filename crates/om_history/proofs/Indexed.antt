@@ -16,7 +16,8 @@ use Rattle.om_touches.specs.declared.own.OwnEntries.{OwnEntries}
 use Rattle.om_touches.specs.declared.touches.TouchLists.{TouchLists}
 use Rattle.om_history.specs.Runs.{conflict_or}
 use Rattle.om_history.specs.Records.{kept_reply, AreBelow}
-use Rattle.om_touches.specs.Touches.{names as names_it, has_touch, meets, IsFirst, AreSame, AreWith}
+use Rattle.om_touches.specs.Touches.{names as names_it, has_touch, meets, AreSame, AreWith}
+use Rattle.om_foot.specs.Firsts.{IsFirst}
 use Rattle.om_history.specs.Touches.{touched, AreBySerial, AreListsOf}
 use Rattle.om_touches.specs.Touches.{AreOnly, AreWithout, is_own, SameOwn, WithOwn, WithoutOwn}
 use Rattle.om_history.specs.Touches.{AreOwnOf, IsIndexed}

@@ -4,10 +4,10 @@ use Rattle.std.specs.Prelude.{slice_get, unwrap_or}
 use Rattle.om_foot.specs.declared.footprint.Access.{Access}
 use Rattle.om_foot.specs.Footprint.{conflict_of}
 use Rattle.om_foot.specs.Apart.{AllApart, AllApart-flip, all_apart}
-use Rattle.om_cells.specs.declared.step.Label.{Label}
-use Rattle.om_cells.specs.declared.step.Step.{Step}
-use Rattle.om_cells.specs.State.{State, updated, taken_back}
-use Rattle.om_cells.specs.Rules.{Rules, step_at, next_state}
+use Rattle.om_values.specs.declared.step.Label.{Label}
+use Rattle.om_values.specs.declared.step.Step.{Step}
+use Rattle.om_values.specs.State.{State, updated, taken_back}
+use Rattle.om_values.specs.Rules.{Rules, step_at, next_state}
 use Rattle.om_history.specs.Laws.{Apart, updates_of}
 use Rattle.om_history.specs.Runs.{label_of, state_of_entries, state_after_step, conflict_or, first_conflict}
 use Rattle.om_history.specs.declared.reply.UndoReply.{UndoReply}

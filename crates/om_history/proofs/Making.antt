@@ -4,8 +4,8 @@ use Rattle.std.proofs.Common.{take, drop, get_or, set, arith, add-one}
 use Rattle.std.specs.Prelude.{min}
 use Rattle.std.proofs.lemmas.List.{take-append-drop}
 use Rattle.om_foot.specs.declared.footprint.Access.{Access}
-use Rattle.om_cells.specs.declared.step.Update.{Update}
-use Rattle.om_cells.specs.State.{State, state_after, updated}
+use Rattle.om_values.specs.declared.step.Update.{Update}
+use Rattle.om_values.specs.State.{State, state_after, updated}
 use Rattle.om_history.specs.Bounds.{FitsAt, FitsAll}
 use Rattle.om_live.specs.Stores.{Pasts, is_trailed}
 use Rattle.om_history.specs.Shapes.{IsShapedAt, AreShaped}

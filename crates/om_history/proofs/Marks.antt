@@ -2,12 +2,12 @@
 use Rattle.std.proofs.Common.{◌≡◌, refl, ap, subst, Bool, true, false, cond, List, [], ◌∷◌, ◌<◌, length, drop, arith}
 use Rattle.om_foot.specs.declared.footprint.Mode.{Mode}
 use Rattle.om_foot.specs.declared.footprint.Mode.TheVariants as mode
-use Rattle.om_cells.specs.declared.value.Val.{Val}
-use Rattle.om_cells.specs.declared.step.Update.{Update}
-use Rattle.om_cells.specs.declared.step.Update.TheVariants as update
-use Rattle.om_cells.specs.State.{undo_of, state_after}
+use Rattle.om_values.specs.declared.value.Val.{Val}
+use Rattle.om_values.specs.declared.step.Update.{Update}
+use Rattle.om_values.specs.declared.step.Update.TheVariants as update
+use Rattle.om_values.specs.State.{undo_of, state_after}
 use Rattle.om_foot.specs.declared.footprint.Access.{Access}
-use Rattle.om_cells.specs.State.{State, undo_record}
+use Rattle.om_values.specs.State.{State, undo_record}
 use Rattle.om_live.specs.Stores.{Pasts, is_trailed}
 use Rattle.om_history.specs.Shapes.{IsShapedAt, AreShaped}
 use Rattle.om_history.specs.Fills.{is_mark, is_put, first_put, popped_all, filled, small_record}

@@ -13,7 +13,8 @@ use Rattle.om_history.specs.declared.records.UndoRecord.{UndoRecord}
 use Rattle.om_touches.specs.declared.touches.TouchLists.{TouchLists}
 use Rattle.om_history.specs.Cones.{Transition, meets_one, is_member, cone_after, cone, taken_of}
 use Rattle.om_history.specs.Records.{transition_of, transitions_of, AreAbove}
-use Rattle.om_touches.specs.Touches.{names, has_touch, AreWith, meets_at, meets, IsFirst}
+use Rattle.om_touches.specs.Touches.{names, has_touch, AreWith, meets_at, meets}
+use Rattle.om_foot.specs.Firsts.{IsFirst}
 use Rattle.om_history.specs.Touches.{touched, AreListsOf}
 use Rattle.om_history.proofs.Rolls.{cond_false}
 use Rattle.om_touches.specs.Searches.{either_true, meets-alike, meets-none, meets-named, conflict-mutual}

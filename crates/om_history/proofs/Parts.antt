@@ -8,10 +8,10 @@ use Rattle.om_foot.specs.declared.footprint.Mode.{Mode}
 use Rattle.om_foot.specs.declared.footprint.Mode.TheVariants as mode
 use Rattle.om_foot.specs.declared.footprint.Access.{Access}
 use Rattle.om_foot.specs.Footprint.{obj_eq}
-use Rattle.om_cells.specs.declared.step.Update.{Update}
-use Rattle.om_cells.specs.declared.step.Update.TheVariants as update
-use Rattle.om_cells.specs.declared.value.Val.{Val}
-use Rattle.om_cells.specs.State.{State, undo_of, state_after, state_before, updated, undo_record, taken_back}
+use Rattle.om_values.specs.declared.step.Update.{Update}
+use Rattle.om_values.specs.declared.step.Update.TheVariants as update
+use Rattle.om_values.specs.declared.value.Val.{Val}
+use Rattle.om_values.specs.State.{State, undo_of, state_after, state_before, updated, undo_record, taken_back}
 use Rattle.om_live.specs.Stores.{Pasts, is_trailed}
 use Rattle.om_history.specs.Bounds.{FitsAll, FitsAtBack, FitsBack}
 use Rattle.om_history.specs.Shapes.{AreShaped}

@@ -5,7 +5,7 @@ use Rattle.std.specs.Prelude.{slice_get, All}
 use Rattle.std.specs.List.{AllByRecursion}
 use Rattle.std.proofs.lemmas.Bool.{ne_eqb}
 use Rattle.std.proofs.lemmas.List.{take-map, drop-map}
-use Rattle.om_cells.specs.declared.step.Entry.{Entry}
+use Rattle.om_values.specs.declared.step.Entry.{Entry}
 use Rattle.om_history.specs.Runs.{Place, last_or_first, last_place}
 use Rattle.om_history.specs.declared.records.UndoRecord.{UndoRecord}
 use Rattle.om_history.specs.Records.{entries_of, IsLastOf}

@@ -2,12 +2,12 @@
 use Rattle.std.proofs.Common.{◌≡◌, refl, sym, ◌∙◌, ap, subst, Some, List, [], ◌∷◌, ◌++◌, ℕ, ⊎_elim, arith}
 use Rattle.std.specs.Prelude.{map}
 use Rattle.std.proofs.lemmas.List.{map-append}
-use Rattle.om_cells.specs.declared.step.Outcome.{Outcome}
-use Rattle.om_cells.specs.declared.step.Outcome.TheVariants as outcome
-use Rattle.om_cells.specs.declared.step.Label.{Label}
-use Rattle.om_cells.specs.declared.step.Step.{Step}
-use Rattle.om_cells.specs.State.{State, updated}
-use Rattle.om_cells.specs.Rules.{Rules, step_at, state_after_outcome, next_state, replay}
+use Rattle.om_values.specs.declared.step.Outcome.{Outcome}
+use Rattle.om_values.specs.declared.step.Outcome.TheVariants as outcome
+use Rattle.om_values.specs.declared.step.Label.{Label}
+use Rattle.om_values.specs.declared.step.Step.{Step}
+use Rattle.om_values.specs.State.{State, updated}
+use Rattle.om_values.specs.Rules.{Rules, step_at, state_after_outcome, next_state, replay}
 use Rattle.om_history.specs.Runs.{History, no_history, label_of, state_of_entries, entry_for, history_with, after_undo}
 use Rattle.om_history.specs.Cones.{after_roll}
 use Rattle.om_history.specs.Commands.{Command, ToStep, ToUndo, ToRoll, after_command, run, RemainingSteps, Rise}

@@ -6,15 +6,15 @@ use Rattle.om_foot.specs.declared.footprint.Mode.{Mode}
 use Rattle.om_foot.specs.declared.footprint.Mode.TheVariants as mode
 use Rattle.om_foot.specs.declared.footprint.Access.{Access}
 use Rattle.om_foot.specs.Footprint.{obj_eq}
-use Rattle.om_cells.specs.declared.value.Val.{Val}
-use Rattle.om_cells.specs.declared.step.Update.TheVariants as update
+use Rattle.om_values.specs.declared.value.Val.{Val}
+use Rattle.om_values.specs.declared.step.Update.TheVariants as update
 use Rattle.om_foot.specs.Apart.{AllApart-flip, all_apart}
 use Rattle.om_foot.specs.Objects.{obj_eq-true}
-use Rattle.om_cells.specs.declared.step.Update.{Update}
-use Rattle.om_cells.specs.declared.step.Label.{Label}
-use Rattle.om_cells.specs.declared.step.Step.{Step}
-use Rattle.om_cells.specs.State.{State, updated, undo_record, taken_back}
-use Rattle.om_cells.specs.Rules.{Rules, step_at, next_state, and_then, replay_from, replay}
+use Rattle.om_values.specs.declared.step.Update.{Update}
+use Rattle.om_values.specs.declared.step.Label.{Label}
+use Rattle.om_values.specs.declared.step.Step.{Step}
+use Rattle.om_values.specs.State.{State, updated, undo_record, taken_back}
+use Rattle.om_values.specs.Rules.{Rules, step_at, next_state, and_then, replay_from, replay}
 use Rattle.om_history.specs.Laws.{IfRead, AgreeAt, steps_then, steps_from, ApartFromAll, writes, is_written, updates_of}
 use Rattle.om_history.specs.Laws.{TakenOut}
 use Rattle.om_history.proofs.Frame.{IfRead-trans, updated-agree, undo_record-agree}

@@ -11,7 +11,7 @@ use Rattle.om_foot.specs.declared.footprint.Mode.{Mode}
 use Rattle.om_foot.specs.declared.footprint.Mode.TheVariants.{Read, Write, Add}
 use Rattle.om_foot.specs.declared.footprint.Access.{Access}
 use Rattle.om_foot.specs.Footprint.{conflict_of, modes_conflict}
-use Rattle.om_cells.specs.declared.step.Entry.{Entry}
+use Rattle.om_values.specs.declared.step.Entry.{Entry}
 use Rattle.om_history.specs.declared.reply.UndoReply.{UndoReply}
 use Rattle.om_history.specs.declared.reply.UndoReply.TheVariants.{Undone}
 use Rattle.om_history.specs.declared.records.UndoRecord.{UndoRecord}
@@ -19,7 +19,8 @@ use Rattle.om_touches.specs.declared.own.OwnEntries.{OwnEntries}
 use Rattle.om_touches.specs.declared.touches.TouchLists.{TouchLists}
 use Rattle.om_history.specs.Runs.{conflict_or}
 use Rattle.om_history.specs.Records.{first_kept_conflict, reply_before, kept_reply, LastHasSerial}
-use Rattle.om_touches.specs.Touches.{names, has_touch, meets_at, meets, IsFirst, IsGreatest}
+use Rattle.om_touches.specs.Touches.{names, has_touch, meets_at, meets}
+use Rattle.om_foot.specs.Firsts.{IsFirst, IsGreatest}
 use Rattle.om_history.specs.Touches.{AreListsOf, own_footprint}
 use Rattle.om_touches.specs.Touches.{is_own}
 use Rattle.om_history.specs.Touches.{AreOwnOf}

@@ -2,7 +2,7 @@
 use Rattle.std.proofs.Common.{◌≡◌, ◌≢◌, List, [], ◌∷◌, ◌++◌, ℕ, ◌+◌, ◌<◌, ◌≤◌, ⊎_elim, arith, sym, ap, ◌∙◌, subst}
 use Rattle.std.specs.Prelude.{Contains}
 use Rattle.std.proofs.lemmas.List.{map-append}
-use Rattle.om_cells.specs.declared.step.Entry.{Entry}
+use Rattle.om_values.specs.declared.step.Entry.{Entry}
 use Rattle.om_history.specs.declared.records.UndoRecord.{UndoRecord}
 use Rattle.om_history.specs.Records.{entries_of, AreBelow}
 use Rattle.om_history.specs.Commands.{Rise}

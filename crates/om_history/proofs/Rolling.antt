@@ -6,9 +6,9 @@ use Rattle.std.proofs.lemmas.Bool.{ne_eqb, true≢false}
 use Rattle.std.proofs.lemmas.Bool.Decides.{Decides-eqb}
 use Rattle.std.proofs.lemmas.List.{length-map, length-reverse}
 use Rattle.std.proofs.lemmas.Simd.{map-map}
-use Rattle.om_cells.specs.declared.step.Entry.{Entry}
-use Rattle.om_cells.specs.State.{State}
-use Rattle.om_cells.specs.Rules.{Rules}
+use Rattle.om_values.specs.declared.step.Entry.{Entry}
+use Rattle.om_values.specs.State.{State}
+use Rattle.om_values.specs.Rules.{Rules}
 use Rattle.om_history.specs.Runs.{History, after_undo}
 use Rattle.om_history.specs.Cones.{Transition, is_member, cone_after, cone, taken_of, taken_by_roll, rolled, after_roll}
 use Rattle.om_history.specs.Commands.{UndosTo, IsGone, TakesCone}

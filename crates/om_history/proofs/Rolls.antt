@@ -6,8 +6,8 @@ use Rattle.std.proofs.lemmas.List.{map-append, reverse-append}
 use Rattle.om_foot.specs.declared.object.Obj.{Obj}
 use Rattle.om_foot.specs.declared.footprint.Access.{Access}
 use Rattle.om_foot.specs.Footprint.{conflict_of}
-use Rattle.om_cells.specs.State.{State}
-use Rattle.om_cells.specs.Rules.{Rules, next_state}
+use Rattle.om_values.specs.State.{State}
+use Rattle.om_values.specs.Rules.{Rules, next_state}
 use Rattle.om_history.specs.Laws.{Apart, steps_then, steps_from}
 use Rattle.om_history.specs.Runs.{History, label_of, after_undo}
 use Rattle.om_history.specs.Cones.{Transition, with_footprints, transitions, meets_one, is_member, cone_after}

@@ -6,12 +6,12 @@ use Rattle.std.proofs.lemmas.List.{length-take, map-append}
 use Rattle.std.proofs.lemmas.List.Edits.{length-remove}
 use Rattle.std.proofs.lemmas.Option.{slice_get_within}
 use Rattle.om_foot.specs.declared.footprint.Access.{Access}
-use Rattle.om_cells.specs.declared.step.Update.{Update}
-use Rattle.om_cells.specs.declared.step.Label.{Label}
-use Rattle.om_cells.specs.declared.step.Step.{Step}
-use Rattle.om_cells.specs.declared.step.Outcome.TheVariants as outcome
-use Rattle.om_cells.specs.State.{State, updated, undo_record, taken_back}
-use Rattle.om_cells.specs.Rules.{Rules, step_at, state_after_outcome, next_state}
+use Rattle.om_values.specs.declared.step.Update.{Update}
+use Rattle.om_values.specs.declared.step.Label.{Label}
+use Rattle.om_values.specs.declared.step.Step.{Step}
+use Rattle.om_values.specs.declared.step.Outcome.TheVariants as outcome
+use Rattle.om_values.specs.State.{State, updated, undo_record, taken_back}
+use Rattle.om_values.specs.Rules.{Rules, step_at, state_after_outcome, next_state}
 use Rattle.om_live.specs.declared.store.Store.{Store}
 use Rattle.om_live.specs.Stores.{state_of}
 use Rattle.om_history.specs.Laws.{updates_of}

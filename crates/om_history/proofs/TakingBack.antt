@@ -8,12 +8,12 @@ use Rattle.om_foot.specs.declared.footprint.Mode.{Mode}
 use Rattle.om_foot.specs.declared.footprint.Mode.TheVariants as mode
 use Rattle.om_foot.specs.declared.footprint.Access.{Access}
 use Rattle.om_foot.specs.Objects.{obj_eq-same}
-use Rattle.om_cells.specs.declared.value.Val.{Val}
-use Rattle.om_cells.specs.declared.value.Val.TheVariants.{Count}
-use Rattle.om_cells.specs.declared.step.Update.{Update}
-use Rattle.om_cells.specs.declared.step.Update.TheVariants as update
-use Rattle.om_cells.specs.State.{State, value_after, undo_of, state_after, state_before, updated, undo_record}
-use Rattle.om_cells.specs.State.{taken_back}
+use Rattle.om_values.specs.declared.value.Val.{Val}
+use Rattle.om_values.specs.declared.value.Val.TheVariants.{Count}
+use Rattle.om_values.specs.declared.step.Update.{Update}
+use Rattle.om_values.specs.declared.step.Update.TheVariants as update
+use Rattle.om_values.specs.State.{State, value_after, undo_of, state_after, state_before, updated, undo_record}
+use Rattle.om_values.specs.State.{taken_back}
 use Rattle.om_history.specs.Bounds.{FitsAt, FitsAll, FitsAtBack, FitsBack}
 use Rattle.om_live.specs.Stores.{Pasts}
 use Rattle.om_history.specs.Shapes.{AreShaped}

@@ -1,17 +1,17 @@
 -- A step and then its undo.
 use Rattle.std.proofs.Common.{◌≡◌, refl, ◌∙◌, ap, None, Some, List, [], ◌∷◌, ◌++◌, ℕ, ◌+◌, eq-eqb, append-nil, ◌==◌}
 use Rattle.std.proofs.Common.{Option}
-use Rattle.om_cells.specs.declared.step.Outcome.{Outcome}
-use Rattle.om_cells.specs.declared.step.Label.{Label}
-use Rattle.om_cells.specs.declared.step.Step.{Step}
-use Rattle.om_cells.specs.declared.step.Entry.{Entry}
-use Rattle.om_cells.specs.Rules.{Rules, step_at}
+use Rattle.om_values.specs.declared.step.Outcome.{Outcome}
+use Rattle.om_values.specs.declared.step.Label.{Label}
+use Rattle.om_values.specs.declared.step.Step.{Step}
+use Rattle.om_values.specs.declared.step.Entry.{Entry}
+use Rattle.om_values.specs.Rules.{Rules, step_at}
 use Rattle.om_history.specs.Runs.{History, state_of_entries, entry_for, reply_for, history_with, reply_to_step}
 use Rattle.om_history.specs.Runs.{last_or_first, last_place, reply_at, reply_to_undo, history_without, after_undo}
 use Rattle.om_history.specs.Runs.{Undoes}
 use Rattle.om_code.specs.declared.frame.Fault.{Fault}
 use Rattle.om_history.specs.declared.reply.UndoReply.TheVariants.{Undone}
-use Rattle.om_cells.specs.declared.step.Outcome.TheVariants as outcome
+use Rattle.om_values.specs.declared.step.Outcome.TheVariants as outcome
 use Rattle.om_history.specs.declared.reply.StepReply.TheVariants as step_reply
 
 last_place-push : (w : ℕ) (es : List Entry) (e : Entry) → e.worker ≡ w

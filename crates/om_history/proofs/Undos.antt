@@ -9,10 +9,10 @@ use Rattle.om_foot.specs.declared.object.Obj.TheVariants as obj
 use Rattle.om_foot.specs.declared.footprint.Access.{Access}
 use Rattle.om_foot.specs.Footprint.{conflict_of}
 use Rattle.om_foot.specs.Apart.{AllApart, all_apart}
-use Rattle.om_cells.specs.declared.step.Label.{Label}
-use Rattle.om_cells.specs.declared.step.Entry.{Entry}
-use Rattle.om_cells.specs.State.{State, taken_back}
-use Rattle.om_cells.specs.Rules.{Rules, control_access, step_at}
+use Rattle.om_values.specs.declared.step.Label.{Label}
+use Rattle.om_values.specs.declared.step.Entry.{Entry}
+use Rattle.om_values.specs.State.{State, taken_back}
+use Rattle.om_values.specs.Rules.{Rules, control_access, step_at}
 use Rattle.om_history.specs.Laws.{Apart}
 use Rattle.om_history.specs.Runs.{History, label_of, Place, last_or_first, last_place, state_after_step, conflict_or}
 use Rattle.om_history.specs.Runs.{first_conflict, reply_at, reply_to_undo, history_without, after_undo}

@@ -1,11 +1,11 @@
 -- What takes the updates of a step back, as its record keeps it: in one list, or in parts that go along with those of
 -- its accesses, where cells of slots were named at once.
 use Rattle.std.specs.Prelude.{◌≡◌, Bool, true, false, ◌&&◌, nat_eq, List, [], ◌∷◌, ◌++◌, length, suc}
-use Rattle.om_cells.specs.declared.cells.Cells.{Cells}
-use Rattle.om_cells.specs.declared.cells.Run.{Run}
-use Rattle.om_cells.specs.declared.cells.Was.{Was}
-use Rattle.om_cells.specs.declared.step.Update.{Update}
-use Rattle.om_cells.specs.Cells.{runs_listed, were_listed}
+use Rattle.om_foot.specs.declared.cells.Cells.{Cells}
+use Rattle.om_values.specs.declared.runs.Run.{Run}
+use Rattle.om_values.specs.declared.runs.Was.{Was}
+use Rattle.om_values.specs.declared.step.Update.{Update}
+use Rattle.om_values.specs.Runs.{runs_listed, were_listed}
 use Rattle.om_touches.specs.Accesses.{Parts}
 use Rattle.om_history.specs.declared.backs.BackParts.{BackParts}
 use Rattle.om_history.specs.declared.backs.Backs.{Backs}

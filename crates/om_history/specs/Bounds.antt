@@ -5,15 +5,15 @@ use Rattle.om_foot.specs.declared.footprint.Mode.{Mode}
 use Rattle.om_foot.specs.declared.footprint.Mode.TheVariants as mode
 use Rattle.om_foot.specs.declared.footprint.Access.{Access}
 use Rattle.om_foot.specs.Footprint.{obj_eq}
-use Rattle.om_cells.specs.declared.value.Val.{Val}
-use Rattle.om_cells.specs.declared.value.Val.TheVariants.{Count}
-use Rattle.om_cells.specs.declared.step.Label.{Label}
-use Rattle.om_cells.specs.declared.step.Update.{Update}
-use Rattle.om_cells.specs.declared.step.Update.TheVariants as update
-use Rattle.om_cells.specs.declared.step.Outcome.TheVariants.{Updates}
-use Rattle.om_cells.specs.Values.{SumFits}
-use Rattle.om_cells.specs.State.{State, state_after, taken_back}
-use Rattle.om_cells.specs.Rules.{Rules, control_access}
+use Rattle.om_values.specs.declared.value.Val.{Val}
+use Rattle.om_values.specs.declared.value.Val.TheVariants.{Count}
+use Rattle.om_values.specs.declared.step.Label.{Label}
+use Rattle.om_values.specs.declared.step.Update.{Update}
+use Rattle.om_values.specs.declared.step.Update.TheVariants as update
+use Rattle.om_values.specs.declared.step.Outcome.TheVariants.{Updates}
+use Rattle.om_values.specs.Values.{SumFits}
+use Rattle.om_values.specs.State.{State, state_after, taken_back}
+use Rattle.om_values.specs.Rules.{Rules, control_access}
 use Rattle.om_history.specs.Runs.{no_history, state_of_entries}
 use Rattle.om_history.specs.Commands.{Command, run}
 

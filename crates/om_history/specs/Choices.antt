@@ -1,9 +1,9 @@
 -- Choices as records keep them.
 use Rattle.std.specs.Prelude.{List, ℕ, Option, None, Some}
 use Rattle.std.specs.Global.{Box}
-use Rattle.om_cells.specs.declared.step.Choice.{Choice}
-use Rattle.om_cells.specs.declared.step.Choice.TheVariants.{Next, Start}
-use Rattle.om_cells.specs.declared.step.Label.{Label}
+use Rattle.om_values.specs.declared.step.Choice.{Choice}
+use Rattle.om_values.specs.declared.step.Choice.TheVariants.{Next, Start}
+use Rattle.om_values.specs.declared.step.Label.{Label}
 
 -- the choice that starts the task of this name, if there is one
 abbrev pub choice_of : Option (Box (List ℕ)) → Choice

@@ -1,9 +1,9 @@
 -- Runs: what lists of commands leave, and what is true of it.
 use Rattle.std.specs.Prelude.{◌≡◌, ◌≢◌, Some, List, [], ◌∷◌, map, ℕ, ◌<◌, ◌≤◌, All, Contains, ◌↔◌}
-use Rattle.om_cells.specs.declared.step.Label.{Label}
-use Rattle.om_cells.specs.declared.step.Entry.{Entry}
-use Rattle.om_cells.specs.State.{State}
-use Rattle.om_cells.specs.Rules.{Rules, replay}
+use Rattle.om_values.specs.declared.step.Label.{Label}
+use Rattle.om_values.specs.declared.step.Entry.{Entry}
+use Rattle.om_values.specs.State.{State}
+use Rattle.om_values.specs.Rules.{Rules, replay}
 use Rattle.om_history.specs.declared.reply.Taken.{Taken}
 use Rattle.om_history.specs.declared.reply.UndoReply.TheVariants.{Undone}
 use Rattle.om_history.specs.Runs.{History, no_history, label_of, after_step, reply_to_undo, after_undo}

@@ -3,9 +3,9 @@ use Rattle.std.specs.Prelude.{◌≡◌, ◌==◌, Bool, true, false, cond, is_s
 use Rattle.std.specs.Prelude.{Contains}
 use Rattle.om_foot.specs.declared.footprint.Access.{Access}
 use Rattle.om_foot.specs.Footprint.{conflict_of}
-use Rattle.om_cells.specs.declared.step.Step.{Step}
-use Rattle.om_cells.specs.declared.step.Entry.{Entry}
-use Rattle.om_cells.specs.Rules.{Rules}
+use Rattle.om_values.specs.declared.step.Step.{Step}
+use Rattle.om_values.specs.declared.step.Entry.{Entry}
+use Rattle.om_values.specs.Rules.{Rules}
 use Rattle.om_history.specs.declared.reply.Taken.{Taken}
 use Rattle.om_history.specs.declared.reply.RollReply.{RollReply}
 use Rattle.om_history.specs.declared.reply.RollReply.TheVariants.{Rolled, NoEntry}

@@ -1,13 +1,13 @@
 -- What contracts see of a history that is kept, and what is true of it under rules.
 use Rattle.std.specs.Prelude.{◌≡◌, Some, All, List, map, ℕ, ◌≤◌, ◌^◌, length}
 use Rattle.om_foot.specs.declared.object.Obj.TheVariants as obj
-use Rattle.om_cells.specs.declared.step.Change.{Change}
-use Rattle.om_cells.specs.declared.step.Label.{Label}
-use Rattle.om_cells.specs.declared.step.Step.{Step}
-use Rattle.om_cells.specs.Changes.{step_of}
-use Rattle.om_cells.specs.State.{State}
-use Rattle.om_cells.specs.Values.{control_in}
-use Rattle.om_cells.specs.Rules.{Rules, step_at, replay}
+use Rattle.om_values.specs.declared.step.Change.{Change}
+use Rattle.om_values.specs.declared.step.Label.{Label}
+use Rattle.om_values.specs.declared.step.Step.{Step}
+use Rattle.om_values.specs.Changes.{step_of}
+use Rattle.om_values.specs.State.{State}
+use Rattle.om_values.specs.Values.{control_in}
+use Rattle.om_values.specs.Rules.{Rules, step_at, replay}
 use Rattle.om_live.specs.declared.store.Store.{Store}
 use Rattle.om_live.specs.Stores.{state_of, pasts_of}
 use Rattle.om_history.specs.declared.records.UndoRecord.{UndoRecord}

@@ -4,11 +4,11 @@ use Rattle.std.specs.Prelude.{slice_get}
 use Rattle.std.specs.List.{AllByRecursion}
 use Rattle.om_foot.specs.declared.footprint.Access.{Access}
 use Rattle.om_foot.specs.Footprint.{conflict_of}
-use Rattle.om_cells.specs.declared.step.Update.{Update}
-use Rattle.om_cells.specs.declared.step.Step.{Step}
-use Rattle.om_cells.specs.declared.step.Entry.{Entry}
-use Rattle.om_cells.specs.State.{State, undo_record}
-use Rattle.om_cells.specs.Rules.{Rules, step_at, next_state}
+use Rattle.om_values.specs.declared.step.Update.{Update}
+use Rattle.om_values.specs.declared.step.Step.{Step}
+use Rattle.om_values.specs.declared.step.Entry.{Entry}
+use Rattle.om_values.specs.State.{State, undo_record}
+use Rattle.om_values.specs.Rules.{Rules, step_at, next_state}
 use Rattle.om_live.specs.declared.store.Store.{Store}
 use Rattle.om_live.specs.Stores.{is_kept}
 use Rattle.om_history.specs.declared.records.UndoRecord.{UndoRecord}

@@ -1,8 +1,8 @@
 -- Matter of proofs, for om_undo too: a state to which undo records replay is that of their steps.
 use Rattle.std.proofs.Common.{◌≡◌, ◌∙◌, ap, Some, List, [], ◌∷◌}
 use Rattle.std.specs.Prelude.{map}
-use Rattle.om_cells.specs.State.{State}
-use Rattle.om_cells.specs.Rules.{Rules, and_then, replay_from}
+use Rattle.om_values.specs.State.{State}
+use Rattle.om_values.specs.Rules.{Rules, and_then, replay_from}
 use Rattle.om_history.specs.Runs.{label_of}
 use Rattle.om_history.specs.declared.records.UndoRecord.{UndoRecord}
 use Rattle.om_history.specs.Records.{entries_of, ReplaysTo}

@@ -7,17 +7,17 @@ use Rattle.om_foot.specs.declared.object.Obj.{Obj}
 use Rattle.om_foot.specs.declared.footprint.Access.{Access}
 use Rattle.om_foot.specs.Footprint.{conflict_of}
 use Rattle.om_code.specs.declared.frame.Fault.{Fault}
-use Rattle.om_cells.specs.declared.control.Control.TheVariants.{Faulted}
-use Rattle.om_cells.specs.declared.value.Val.TheVariants as value
-use Rattle.om_cells.specs.declared.step.Update.{Update}
-use Rattle.om_cells.specs.declared.step.Update.TheVariants.{Put}
-use Rattle.om_cells.specs.declared.step.Outcome.{Outcome}
-use Rattle.om_cells.specs.declared.step.Outcome.TheVariants as outcome
-use Rattle.om_cells.specs.declared.step.Label.{Label}
-use Rattle.om_cells.specs.declared.step.Step.{Step}
-use Rattle.om_cells.specs.declared.step.Entry.{Entry}
-use Rattle.om_cells.specs.State.{State}
-use Rattle.om_cells.specs.Rules.{Rules, step_at, next_state, replay}
+use Rattle.om_values.specs.declared.control.Control.TheVariants.{Faulted}
+use Rattle.om_values.specs.declared.value.Val.TheVariants as value
+use Rattle.om_values.specs.declared.step.Update.{Update}
+use Rattle.om_values.specs.declared.step.Update.TheVariants.{Put}
+use Rattle.om_values.specs.declared.step.Outcome.{Outcome}
+use Rattle.om_values.specs.declared.step.Outcome.TheVariants as outcome
+use Rattle.om_values.specs.declared.step.Label.{Label}
+use Rattle.om_values.specs.declared.step.Step.{Step}
+use Rattle.om_values.specs.declared.step.Entry.{Entry}
+use Rattle.om_values.specs.State.{State}
+use Rattle.om_values.specs.Rules.{Rules, step_at, next_state, replay}
 use Rattle.om_history.specs.declared.reply.StepReply.{StepReply}
 use Rattle.om_history.specs.declared.reply.StepReply.TheVariants as step_reply
 use Rattle.om_history.specs.declared.reply.UndoReply.{UndoReply}

@@ -3,13 +3,13 @@ use Rattle.std.specs.Prelude.{◌≡◌, Bool, true, false, List, ◌∷◌}
 use Rattle.om_foot.specs.declared.footprint.Mode.{Mode}
 use Rattle.om_foot.specs.declared.footprint.Mode.TheVariants as mode
 use Rattle.om_foot.specs.declared.footprint.Access.{Access}
-use Rattle.om_cells.specs.declared.value.Val.{Val}
-use Rattle.om_cells.specs.declared.value.Val.TheVariants as value
-use Rattle.om_cells.specs.declared.step.Label.{Label}
-use Rattle.om_cells.specs.declared.step.Update.{Update}
-use Rattle.om_cells.specs.declared.step.Update.TheVariants as update
-use Rattle.om_cells.specs.declared.step.Outcome.TheVariants.{Updates}
-use Rattle.om_cells.specs.Rules.{Rules, control_access}
+use Rattle.om_values.specs.declared.value.Val.{Val}
+use Rattle.om_values.specs.declared.value.Val.TheVariants as value
+use Rattle.om_values.specs.declared.step.Label.{Label}
+use Rattle.om_values.specs.declared.step.Update.{Update}
+use Rattle.om_values.specs.declared.step.Update.TheVariants as update
+use Rattle.om_values.specs.declared.step.Outcome.TheVariants.{Updates}
+use Rattle.om_values.specs.Rules.{Rules, control_access}
 use Rattle.om_live.specs.Stores.{is_trailed}
 
 -- a value that is put at a control is a control

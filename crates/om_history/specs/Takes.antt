@@ -3,15 +3,15 @@ use Rattle.std.specs.Prelude.{◌≡◌, ℕ, List, ◌∷◌, drop}
 use Rattle.om_foot.specs.declared.object.Obj.TheVariants as obj
 use Rattle.om_foot.specs.declared.footprint.Mode.TheVariants as mode
 use Rattle.om_foot.specs.declared.footprint.Access.{Access}
-use Rattle.om_cells.specs.declared.edit.Edit.{Edit}
-use Rattle.om_cells.specs.declared.value.Val.TheVariants as value
-use Rattle.om_cells.specs.declared.step.Change.{Change}
-use Rattle.om_cells.specs.declared.step.Entry.{Entry}
-use Rattle.om_cells.specs.declared.step.Update.{Update}
-use Rattle.om_cells.specs.declared.step.Update.TheVariants.{Put}
-use Rattle.om_cells.specs.Edits.{changed, HaveRoom}
-use Rattle.om_cells.specs.Values.{control_in}
-use Rattle.om_cells.specs.State.{State}
+use Rattle.om_values.specs.declared.edit.Edit.{Edit}
+use Rattle.om_values.specs.declared.value.Val.TheVariants as value
+use Rattle.om_values.specs.declared.step.Change.{Change}
+use Rattle.om_values.specs.declared.step.Entry.{Entry}
+use Rattle.om_values.specs.declared.step.Update.{Update}
+use Rattle.om_values.specs.declared.step.Update.TheVariants.{Put}
+use Rattle.om_values.specs.Edits.{changed, HaveRoom}
+use Rattle.om_values.specs.Values.{control_in}
+use Rattle.om_values.specs.State.{State}
 use Rattle.om_live.specs.declared.store.Store.{Store}
 use Rattle.om_live.specs.Stores.{state_of, pasts_of}
 use Rattle.om_history.specs.declared.records.UndoRecord.{UndoRecord}

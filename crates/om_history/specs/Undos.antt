@@ -2,7 +2,7 @@
 use Rattle.std.specs.Prelude.{◌≡◌, ◌≢◌, ◌↔◌, Some, List, ◌∷◌, ◌++◌, ℕ, All}
 use Rattle.om_foot.specs.declared.object.Obj.{Obj}
 use Rattle.om_foot.specs.Footprint.{conflict_of}
-use Rattle.om_cells.specs.Rules.{Rules}
+use Rattle.om_values.specs.Rules.{Rules}
 use Rattle.om_history.specs.declared.reply.UndoReply.TheVariants.{Undone, Conflict, Nothing}
 use Rattle.om_history.specs.Laws.{Apart}
 use Rattle.om_history.specs.Runs.{History, no_history, reply_to_undo}

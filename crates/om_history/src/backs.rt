@@ -1,7 +1,7 @@
 //! What takes the updates of a step back, as its record keeps it.
 
-use om_cells::{Update, Was};
 use om_seq::Seq;
+use om_values::{Update, Was};
 
 /// What takes updates back at single accesses, at cells that were named at once, and at single accesses
 /// behind those.

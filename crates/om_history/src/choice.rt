@@ -3,8 +3,8 @@
 ghost use Rattle.std.specs.Prelude.{◌≡◌, IfOk};
 ghost use Rattle.om_history.specs.Choices.{choice_of};
 
-use om_cells::Choice;
 use om_foot::Name;
+use om_values::Choice;
 use std::alloc::{AllocError, Global};
 
 /// The name of the task that a choice starts, if it does. Its only error is out of memory.

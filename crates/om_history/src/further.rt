@@ -2,8 +2,9 @@
 
 ghost use Rattle.std.specs.Prelude.{◌≡◌, true, suc, ◌++◌, drop, length, All, OnOk, OnErr, IfOk};
 ghost use Rattle.om_foot.specs.declared.object.Obj.{Obj};
-ghost use Rattle.om_cells.specs.Cells.{cells_of, cells_listed, puts_of, runs_listed, were_listed};
-ghost use Rattle.om_cells.specs.State.{updated, undo_record, taken_back};
+ghost use Rattle.om_foot.specs.Cells.{cells_of, cells_listed};
+ghost use Rattle.om_values.specs.Runs.{puts_of, runs_listed, were_listed};
+ghost use Rattle.om_values.specs.State.{updated, undo_record, taken_back};
 ghost use Rattle.om_live.specs.Stores.{state_of, is_kept, pasts_of};
 ghost use Rattle.om_touches.specs.Accesses.{accesses_of};
 ghost use Rattle.om_history.specs.Backs.{backs_listed, back_in, wanted, are_along, WereAlong, GoAlong, CanGoAlong};
@@ -13,10 +14,11 @@ ghost use Rattle.om_history.specs.Fills.{small_record, noted_all, filled, popped
 
 use crate::backs::{BackParts, Backs};
 use crate::updates::{make_all, take_back_all};
-use om_cells::{Run, SharedCells, Was};
+use om_foot::{SharedAccess, SharedCells};
 use om_live::Store;
 use om_seq::Seq;
-use om_touches::{Accesses, SharedAccess};
+use om_touches::Accesses;
+use om_values::{Run, Was};
 use std::alloc::{AllocError, Global};
 use std::mem;
 

@@ -2,9 +2,9 @@
 
 ghost use Rattle.std.specs.Prelude.{◌≡◌, ◌<◌, ◌^◌, [], IfOk, OnOk, OnErr, IsNone, IfSome, ◌↔◌};
 ghost use Rattle.om_foot.specs.declared.object.Obj.TheVariants as obj;
-ghost use Rattle.om_cells.specs.Edits.{changed, HaveRoom};
-ghost use Rattle.om_cells.specs.Values.{control_in};
-ghost use Rattle.om_cells.specs.Rules.{Rules};
+ghost use Rattle.om_values.specs.Edits.{changed, HaveRoom};
+ghost use Rattle.om_values.specs.Values.{control_in};
+ghost use Rattle.om_values.specs.Rules.{Rules};
 ghost use Rattle.om_live.specs.Faults.{fault_in};
 ghost use Rattle.om_live.specs.Stores.{state_of};
 ghost use Rattle.om_history.specs.Bounds.{IsSteady};
@@ -21,11 +21,11 @@ use crate::kept::SmallEntry;
 use crate::records::Records;
 use crate::reply::{RollReply, StepReply, Taken, UndoReply};
 use crate::steps::{append, take_out};
-use om_cells::{Change, Edit, Entry, Label};
 use om_code::frame::Fault;
 use om_foot::Name;
 use om_live::{Control, Store, fault_after};
 use om_seq::Seq;
+use om_values::{Change, Edit, Entry, Label};
 use std::alloc::{AllocError, Global};
 
 /// The history of a run: its entries, each with a small record of what takes it back, and the store

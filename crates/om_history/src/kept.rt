@@ -5,9 +5,9 @@ ghost use Rattle.om_touches.specs.Accesses.{accesses_of};
 
 use crate::backs::Backs;
 use crate::choice::choice_of;
-use om_cells::Choice;
 use om_foot::Name;
 use om_touches::Accesses;
+use om_values::Choice;
 use std::marker::Model;
 
 /// An entry, as its record keeps it.
@@ -23,7 +23,7 @@ pub struct SmallEntry {
 }
 
 impl Model for SmallEntry {
-    ghost use Rattle.om_cells.specs.declared.step.Entry.{Entry};
+    ghost use Rattle.om_values.specs.declared.step.Entry.{Entry};
     ghost use Rattle.om_history.specs.Choices.{choice_of};
 
     ghost Value = { Entry };

@@ -3,18 +3,19 @@
 ghost use Rattle.std.specs.Prelude.{◌≡◌, true, ◌∷◌, ◌++◌, OnOk, IfOk, All, IsTrue};
 ghost use Rattle.om_foot.specs.declared.object.Obj.{Obj};
 ghost use Rattle.om_foot.specs.declared.footprint.Access.{Access};
-ghost use Rattle.om_cells.specs.Cells.{cells_listed, runs_listed};
+ghost use Rattle.om_foot.specs.Cells.{cells_listed};
+ghost use Rattle.om_values.specs.Runs.{runs_listed};
 ghost use Rattle.om_live.specs.Stores.{state_of, is_kept, pasts_of};
 ghost use Rattle.om_touches.specs.Accesses.{accesses_of};
 ghost use Rattle.om_history.specs.Backs.{wanted, are_along, CanGoAlong};
 
 use crate::backs::{BackParts, Backs};
 use crate::updates::{keep_all, keep_cells, keep_control, keep_each};
-use om_cells::{Cells, Footprint, Names, PutParts, Puts, Run, Update};
-use om_foot::Access;
+use om_foot::{Access, Cells, Names, SharedAccess};
 use om_live::Store;
 use om_seq::Seq;
-use om_touches::{Accesses, SharedAccess};
+use om_touches::Accesses;
+use om_values::{Footprint, PutParts, Puts, Run, Update};
 use std::alloc::{AllocError, Global};
 
 /// A step that is about to be made.

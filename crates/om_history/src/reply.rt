@@ -1,9 +1,9 @@
 //! What a history answers to a step, to an undo and to a roll.
 
-use om_cells::Blocked;
 use om_code::frame::Fault;
 use om_foot::Obj;
 use om_seq::Seq;
+use om_values::Blocked;
 
 /// What a step answers. Only `Done` changes anything.
 #[derive(Clone, Copy, PartialEq, Eq)]

@@ -2,7 +2,7 @@
 
 ghost use Rattle.std.specs.Prelude.{◌≡◌, ℕ, ◌<◌, ◌∷◌, ◌++◌, [], Some, IfOk, OnOk, OnErr, All, slice_get, remove, drop, true};
 ghost use Rattle.om_foot.specs.declared.object.Obj.{Obj};
-ghost use Rattle.om_cells.specs.State.{updated, taken_back};
+ghost use Rattle.om_values.specs.State.{updated, taken_back};
 ghost use Rattle.om_live.specs.Stores.{state_of, is_kept, pasts_of};
 ghost use Rattle.om_touches.specs.Accesses.{accesses_of};
 ghost use Rattle.om_history.specs.Backs.{wanted, back_in, GoAlong, CanGoAlong};
@@ -15,9 +15,9 @@ use crate::further::{make_further, take_further_back};
 use crate::kept::{Kept, SmallEntry};
 use crate::planning::{Making, planned};
 use crate::records::Records;
-use om_cells::{Change, Edit};
 use om_live::Store;
 use om_seq::Seq;
+use om_values::{Change, Edit};
 use std::alloc::{AllocError, Global};
 
 /// Takes the changes of a record back. It takes no memory.

@@ -3,18 +3,17 @@
 ghost use Rattle.std.specs.Prelude.{◌≡◌, ◌<◌, ◌≤◌, ◌∷◌, ◌++◌, true, false, All, OnOk, OnErr, IfOk, length, take, drop};
 ghost use Rattle.om_foot.specs.declared.object.Obj.{Obj};
 ghost use Rattle.om_foot.specs.declared.object.Obj.TheVariants as obj;
-ghost use Rattle.om_cells.specs.Cells.{cells_listed};
-ghost use Rattle.om_cells.specs.State.{undo_of, state_after, state_before, updated, taken_back};
+ghost use Rattle.om_foot.specs.Cells.{cells_listed};
+ghost use Rattle.om_values.specs.State.{undo_of, state_after, state_before, updated, taken_back};
 ghost use Rattle.om_live.specs.Stores.{state_of, is_kept, pasts_of, is_trailed};
 ghost use Rattle.om_history.specs.Bounds.{FitsAt, FitsAtBack, FitsAll};
 ghost use Rattle.om_history.specs.Shapes.{IsShapedAt, AreShaped};
 ghost use Rattle.om_history.specs.Fills.{small_at, noted, small_record, noted_all, filled_at, popped, filled, popped_all, IfControl, CanTakeBack, control_at};
 
-use om_cells::{Cells, Control, SharedCells, Update, Val};
-use om_foot::{Access, Mode, Obj};
+use om_foot::{Access, Cells, Mode, Obj, SharedAccess, SharedCells};
 use om_live::{Store, worker_of};
 use om_seq::Seq;
-use om_touches::SharedAccess;
+use om_values::{Control, Update, Val};
 use std::alloc::{AllocError, Global};
 use std::mem;
 

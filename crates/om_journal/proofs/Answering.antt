@@ -1,7 +1,7 @@
 -- The answer to the question which tasks are ready.
 use Rattle.std.specs.Prelude.{◌≡◌, ℕ, List}
 use Rattle.std.proofs.Common.{sym, ◌∙◌, ap, subst}
-use Rattle.om_cells.specs.Ready.{AreReady}
+use Rattle.om_values.specs.Ready.{AreReady}
 use Rattle.om_undo.specs.Laws.{OneReadyList, ReadyNamesAreReady}
 use Rattle.om_undo.specs.Machines.{MachineView, state_in}
 use Rattle.om_undo.specs.ReadyNames.{ready_names}

@@ -1,6 +1,6 @@
 -- Commands and replies of undos as a journal keeps them.
 use Rattle.std.specs.Prelude.{Bool, true, false, Option, Some, None}
-use Rattle.om_cells.specs.declared.step.Choice.TheVariants as choice
+use Rattle.om_values.specs.declared.step.Choice.TheVariants as choice
 use Rattle.om_foot.specs.declared.object.Obj.{Obj}
 use Rattle.om_foot.specs.declared.object.Obj.TheVariants as object
 use Rattle.om_history.specs.declared.reply.UndoReply.{UndoReply}

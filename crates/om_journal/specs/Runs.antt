@@ -1,7 +1,7 @@
 -- What a machine of one thread replies to a command, and what the command leaves.
 use Rattle.std.specs.Prelude.{◌≡◌, ◌<◌, ℕ, Bool, true, false}
 use Rattle.om_code.specs.declared.raw.Raw.{Raw}
-use Rattle.om_cells.specs.declared.step.Label.{Label}
+use Rattle.om_values.specs.declared.step.Label.{Label}
 use Rattle.om_history.specs.declared.reply.StepReply.TheVariants as step_reply
 use Rattle.om_history.specs.Runs.{History, no_history, reply_to_step, after_step, reply_to_undo, after_undo}
 use Rattle.om_history.specs.Cones.{reply_to_roll, after_roll}

@@ -1,7 +1,7 @@
 //! Whether two controls, or parts of them, are the same.
 
 use crate::same::Same;
-use om_cells::{Construct, Context, Control, Frame, Home, Share, Stack, Team};
+use om_values::{Construct, Context, Control, Frame, Home, Share, Stack, Team};
 
 impl Same for Home {
     fn is_same(&self, other: &Home) -> bool {

@@ -5,10 +5,10 @@ ghost use Rattle.om_journal.specs.Runs.{is_step_made};
 
 use crate::kept::KeptUndoReply;
 use crate::same::Same;
-use om_cells::Val;
 use om_foot::Name;
 use om_seq::Seq;
 use om_undo::{Entry, RollReply, StepReply};
+use om_values::Val;
 use std::alloc::{AllocError, Global};
 
 /// What is answered to a command: to each kind its own kind of reply.

@@ -2,8 +2,9 @@
 
 ghost use Rattle.std.specs.Prelude.{◌≡◌, ◌↔◌, IsTrue};
 
-use om_cells::{Shared, SharedPile};
+use om_foot::Shared;
 use om_seq::{Pile, Seq};
+use om_values::SharedPile;
 
 /// A type whose values can be told apart at run time: every part of them counts.
 pub trait Same {

@@ -3,7 +3,7 @@
 ghost use Rattle.std.specs.Prelude.{◌≡◌, ◌↔◌, IsTrue};
 
 use crate::same::Same;
-use om_cells::{Control, Ready, SharedControl, Task, Val};
+use om_values::{Control, Ready, SharedControl, Task, Val};
 
 impl Same for Ready {
     fn is_same(&self, other: &Ready) -> bool {

@@ -1,9 +1,9 @@
 -- Steps as commands.
 use Rattle.std.specs.Prelude.{ℕ, List, ◌++◌, codes, decimal}
 use Rattle.om_foot.specs.Names.{name_text}
-use Rattle.om_cells.specs.declared.step.Choice.{Choice}
-use Rattle.om_cells.specs.declared.step.Choice.TheVariants.{Next, Start}
-use Rattle.om_cells.specs.declared.step.Entry.{Entry}
+use Rattle.om_values.specs.declared.step.Choice.{Choice}
+use Rattle.om_values.specs.declared.step.Choice.TheVariants.{Next, Start}
+use Rattle.om_values.specs.declared.step.Entry.{Entry}
 use Rattle.om_command.specs.Lists.{joined}
 
 -- the command that makes a worker's step by a choice

@@ -4,8 +4,8 @@ ghost use Rattle.std.specs.Prelude.{◌≡◌, ◌++◌, IfOk, OnOk};
 ghost use Rattle.om_command.specs.Lists.{joined};
 ghost use Rattle.om_lines.specs.Commands.{command_line, script_text};
 
-use om_cells::{Choice, Entry};
 use om_command::push_numbered;
+use om_values::{Choice, Entry};
 use std::alloc::{AllocError, Global};
 
 /// The commands that make the steps of entries, a line each. The only error is out of memory.

@@ -1,12 +1,12 @@
 -- What a walk follows of a control decides its fault.
 use Rattle.std.proofs.Common.{◌≡◌, refl, sym, ◌∙◌, ap, List, [], ◌∷◌, length}
-use Rattle.om_cells.specs.declared.control.Context.{Context}
-use Rattle.om_cells.specs.declared.control.Control.{Control}
-use Rattle.om_cells.specs.declared.control.Control.TheVariants.{Idle, Running, Faulted, Ended}
-use Rattle.om_cells.specs.declared.control.Stack.{Stack}
-use Rattle.om_cells.specs.declared.edit.Edit.{Edit}
-use Rattle.om_cells.specs.declared.edit.Edit.TheVariants as edit
-use Rattle.om_cells.specs.Edits.{context_ended, edited, changed_by, changed}
+use Rattle.om_values.specs.declared.control.Context.{Context}
+use Rattle.om_values.specs.declared.control.Control.{Control}
+use Rattle.om_values.specs.declared.control.Control.TheVariants.{Idle, Running, Faulted, Ended}
+use Rattle.om_values.specs.declared.control.Stack.{Stack}
+use Rattle.om_values.specs.declared.edit.Edit.{Edit}
+use Rattle.om_values.specs.declared.edit.Edit.TheVariants as edit
+use Rattle.om_values.specs.Edits.{context_ended, edited, changed_by, changed}
 use Rattle.om_live.specs.Faults.{fault_in, fault_ahead, outlook_of, below_ended, ahead, outlook_after, outlook_behind}
 
 ended : (cs : List Context) → outlook_of (context_ended cs) ≡ below_ended (length cs)

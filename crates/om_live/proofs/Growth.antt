@@ -1,7 +1,7 @@
 -- An idle trail more, behind the others, changes nothing that is seen.
 use Rattle.std.proofs.Common.{◌≡◌, refl, ◌∙◌, ℕ, zero, suc, List, [], ◌∷◌, ◌++◌, true}
 use Rattle.std.specs.Prelude.{slice_get, is_some}
-use Rattle.om_cells.specs.declared.control.Control.TheVariants as plain
+use Rattle.om_values.specs.declared.control.Control.TheVariants as plain
 use Rattle.om_live.specs.Trails.{TrailView}
 use Rattle.om_live.specs.Stores.{now_at, past_at, GrowTo}
 

@@ -8,10 +8,10 @@ use Rattle.std.proofs.lemmas.Bool.{eqb-false}
 use Rattle.std.proofs.lemmas.Bool.Decides.{Decides-eqb}
 use Rattle.om_foot.specs.declared.object.Obj.{Obj}
 use Rattle.om_foot.specs.declared.object.Obj.TheVariants as obj
-use Rattle.om_cells.specs.declared.control.Control as plain_controls
-use Rattle.om_cells.specs.declared.value.Val.{Val}
-use Rattle.om_cells.specs.declared.value.Val.TheVariants as value
-use Rattle.om_cells.specs.State.{State, with_value}
+use Rattle.om_values.specs.declared.control.Control as plain_controls
+use Rattle.om_values.specs.declared.value.Val.{Val}
+use Rattle.om_values.specs.declared.value.Val.TheVariants as value
+use Rattle.om_values.specs.State.{State, with_value}
 use Rattle.om_live.specs.Trails.{TrailView, undone_to, undone}
 use Rattle.om_live.specs.Stores.{trail_now, trail_past, held_by, kept_by, pasts_by, noted_at, popped_at, begun_at}
 use Rattle.om_live.specs.Stores.{first_or}

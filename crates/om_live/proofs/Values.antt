@@ -6,10 +6,10 @@ use Rattle.om_foot.specs.declared.object.Obj.{Obj}
 use Rattle.om_foot.specs.declared.object.Obj.TheVariants as obj
 use Rattle.om_foot.specs.Footprint.{obj_eq}
 use Rattle.om_foot.specs.Objects.{obj_eq-true}
-use Rattle.om_cells.specs.declared.control.Control as plain_controls
-use Rattle.om_cells.specs.declared.value.Val.{Val}
-use Rattle.om_cells.specs.declared.value.Val.TheVariants as value
-use Rattle.om_cells.specs.State.{State, with_value}
+use Rattle.om_values.specs.declared.control.Control as plain_controls
+use Rattle.om_values.specs.declared.value.Val.{Val}
+use Rattle.om_values.specs.declared.value.Val.TheVariants as value
+use Rattle.om_values.specs.State.{State, with_value}
 use Rattle.om_live.specs.Trails.{TrailView}
 use Rattle.om_live.specs.Stores.{worker_of, is_trailed, held_by, kept_by, pasts_by, GrowTo}
 

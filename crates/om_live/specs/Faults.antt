@@ -1,10 +1,10 @@
 -- The fault that a worker comes to, and what of a control a walk over edits follows, to find it.
 use Rattle.std.specs.Prelude.{ℕ, zero, suc, ◌+◌, ◌<◌, ◌^◌, Option, None, Some, List, [], ◌∷◌, length}
 use Rattle.om_code.specs.declared.frame.Fault.{Fault}
-use Rattle.om_cells.specs.declared.control.Control.{Control}
-use Rattle.om_cells.specs.declared.control.Control.TheVariants.{Idle, Running, Faulted, Ended}
-use Rattle.om_cells.specs.declared.edit.Edit.{Edit}
-use Rattle.om_cells.specs.declared.edit.Edit.TheVariants as edit
+use Rattle.om_values.specs.declared.control.Control.{Control}
+use Rattle.om_values.specs.declared.control.Control.TheVariants.{Idle, Running, Faulted, Ended}
+use Rattle.om_values.specs.declared.edit.Edit.{Edit}
+use Rattle.om_values.specs.declared.edit.Edit.TheVariants as edit
 use Rattle.om_live.specs.declared.fault.Outlook.{Outlook}
 use Rattle.om_live.specs.declared.fault.Outlook.TheVariants.{Runs, Rests}
 

@@ -7,11 +7,11 @@ use Rattle.om_live.specs.declared.control.Context.{Context}
 use Rattle.om_live.specs.declared.control.Stack.{Stack}
 use Rattle.om_live.specs.declared.control.Control.{Control}
 use Rattle.om_live.specs.declared.control.Control.TheVariants.{Idle, Running, Faulted, Ended}
-use Rattle.om_cells.specs.declared.control.Frame as plain_frames
-use Rattle.om_cells.specs.declared.control.Context as plain_contexts
-use Rattle.om_cells.specs.declared.control.Stack as plain_stacks
-use Rattle.om_cells.specs.declared.control.Control as plain_controls
-use Rattle.om_cells.specs.declared.control.Control.TheVariants as plain
+use Rattle.om_values.specs.declared.control.Frame as plain_frames
+use Rattle.om_values.specs.declared.control.Context as plain_contexts
+use Rattle.om_values.specs.declared.control.Stack as plain_stacks
+use Rattle.om_values.specs.declared.control.Control as plain_controls
+use Rattle.om_values.specs.declared.control.Control.TheVariants as plain
 
 -- a frame: of its operands those that stand
 abbrev pub plain_frame : Frame → plain_frames.Frame

@@ -3,11 +3,11 @@ use Rattle.std.specs.Prelude.{◌≡◌, ℕ, Bool, true, cond, Option, None, So
 use Rattle.om_foot.specs.declared.object.Obj.{Obj}
 use Rattle.om_foot.specs.declared.object.Obj.TheVariants as obj
 use Rattle.om_foot.specs.Footprint.{obj_eq}
-use Rattle.om_cells.specs.declared.control.Control as plain_controls
-use Rattle.om_cells.specs.declared.control.Control.TheVariants as plain
-use Rattle.om_cells.specs.declared.value.Val.{Val}
-use Rattle.om_cells.specs.declared.value.Val.TheVariants as value
-use Rattle.om_cells.specs.State.{State}
+use Rattle.om_values.specs.declared.control.Control as plain_controls
+use Rattle.om_values.specs.declared.control.Control.TheVariants as plain
+use Rattle.om_values.specs.declared.value.Val.{Val}
+use Rattle.om_values.specs.declared.value.Val.TheVariants as value
+use Rattle.om_values.specs.State.{State}
 use Rattle.om_cells.specs.Stores as values
 use Rattle.om_live.specs.declared.control.Control.{Control}
 use Rattle.om_live.specs.declared.store.Store.{Store}

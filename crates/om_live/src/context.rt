@@ -1,16 +1,17 @@
 //! Edits of a context, each with what takes it back.
 
 ghost use Rattle.std.specs.Prelude.{◌≡◌, ◌<◌, ◌+◌, ◌^◌, [], ◌∷◌, None, IfOk, OnOk, OnErr, drop, List};
-ghost use Rattle.om_cells.specs.declared.control.Context as PlainContexts;
-ghost use Rattle.om_cells.specs.declared.control.Control.TheVariants as plain;
-ghost use Rattle.om_cells.specs.Edits.{context_at, frame_begun, value_given, edited, Counts};
+ghost use Rattle.om_values.specs.declared.control.Context as PlainContexts;
+ghost use Rattle.om_values.specs.declared.control.Control.TheVariants as plain;
+ghost use Rattle.om_values.specs.Edits.{context_at, frame_begun, value_given, edited, Counts};
 ghost use Rattle.om_live.specs.Plain.{plain_context, plain_frame, stack_of};
 ghost use Rattle.om_live.specs.Inverses.{turned_back, CanTurnBack, TurnsContext};
 
 use crate::control::{Context, Frame, Inverse};
 use crate::frame::new_frame;
-use om_cells::{Construct, Edit, Shared};
 use om_code::frame::Operand;
+use om_foot::Shared;
+use om_values::{Construct, Edit};
 use std::alloc::{AllocError, Global};
 
 impl Context {

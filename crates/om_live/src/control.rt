@@ -1,14 +1,14 @@
 //! A worker's control in the form that is changed in place, and what takes a change back.
 
 ghost use Rattle.std.specs.Prelude.{◌≡◌};
-ghost use Rattle.om_cells.specs.Values.{is_idle};
+ghost use Rattle.om_values.specs.Values.{is_idle};
 ghost use Rattle.om_live.specs.Plain.{plain_control};
 
 use crate::tape::Tape;
-use om_cells::{Construct, Home, Kind, Shared, Team};
 use om_code::frame::{Fault, Operand};
-use om_foot::Name;
+use om_foot::{Name, Shared};
 use om_seq::Seq;
+use om_values::{Construct, Home, Kind, Team};
 
 /// A body that is being run.
 #[derive(Drop)]

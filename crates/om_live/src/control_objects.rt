@@ -3,8 +3,7 @@
 ghost use Rattle.std.specs.Prelude.{◌≡◌, ◌<◌, IfOk, OnOk, length};
 ghost use Rattle.om_foot.specs.declared.object.Obj.TheVariants as obj;
 
-use om_cells::SharedObject;
-use om_foot::Obj;
+use om_foot::{Obj, SharedObject};
 use std::alloc::{AllocError, Global};
 
 /// The objects of the first workers' controls, in their order. Each step names a control, so these are

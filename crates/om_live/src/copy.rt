@@ -6,11 +6,12 @@ ghost use Rattle.om_live.specs.Plain.{plain_stack, plain_control};
 
 use crate::control::{Context, Control, Frame, Stack};
 use crate::live::{shares_of, ties_of};
-use om_cells::{
-    Context as PlainContext, Control as PlainControl, Frame as PlainFrame, Shared, SharedPile,
+use om_foot::Shared;
+use om_seq::Pile;
+use om_values::{
+    Context as PlainContext, Control as PlainControl, Frame as PlainFrame, SharedPile,
     Stack as PlainStack,
 };
-use om_seq::Pile;
 use std::alloc::{AllocError, Global};
 
 /// A plain copy of a frame; its only error is out of memory.

@@ -1,13 +1,13 @@
 //! Edits of a control in place, each with what takes it back.
 
 ghost use Rattle.std.specs.Prelude.{◌≡◌, IfOk, OnOk, OnErr};
-ghost use Rattle.om_cells.specs.Edits.{changed_by, HasRoom};
+ghost use Rattle.om_values.specs.Edits.{changed_by, HasRoom};
 ghost use Rattle.om_live.specs.Plain.{plain_control};
 ghost use Rattle.om_live.specs.Inverses.{reverted, CanRevert};
 
 use crate::control::{Control, Inverse};
-use om_cells::Edit;
 use om_code::frame::Fault;
+use om_values::Edit;
 use std::alloc::{AllocError, Global};
 use std::mem;
 

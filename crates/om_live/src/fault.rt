@@ -1,13 +1,13 @@
 //! The fault that a worker would come to by edits, without making them.
 
 ghost use Rattle.std.specs.Prelude.{◌≡◌, ◌<◌, ◌^◌};
-ghost use Rattle.om_cells.specs.Edits.{changed};
+ghost use Rattle.om_values.specs.Edits.{changed};
 ghost use Rattle.om_live.specs.Plain.{plain_control};
 ghost use Rattle.om_live.specs.Faults.{fault_in, outlook_of, outlook_after, IsLow};
 
 use crate::control::Control;
-use om_cells::Edit;
 use om_code::frame::Fault;
+use om_values::Edit;
 
 /// What of a worker's control decides whether it comes to a fault.
 #[derive(Clone, Copy)]

@@ -1,15 +1,16 @@
 //! Edits of a frame, each with what takes it back.
 
 ghost use Rattle.std.specs.Prelude.{◌≡◌, [], None, IfOk, OnOk, OnErr};
-ghost use Rattle.om_cells.specs.Edits.{frame_at};
+ghost use Rattle.om_values.specs.Edits.{frame_at};
 ghost use Rattle.om_live.specs.Plain.{plain_frame};
 ghost use Rattle.om_live.specs.Inverses.{passed_back, went_back, CanPassBack, CanGoBack};
 
 use crate::control::{Frame, Laid, Passed, Went};
 use crate::tape::Tape;
-use om_cells::{Home, Shared};
 use om_code::frame::Operand;
+use om_foot::Shared;
 use om_seq::Seq;
+use om_values::Home;
 use std::alloc::{AllocError, Global};
 use std::mem;
 

@@ -6,11 +6,11 @@ ghost use Rattle.om_live.specs.Plain.{plain_stack, plain_control};
 
 use crate::control::{Context, Control, Frame, Stack};
 use crate::tape::Tape;
-use om_cells::{
-    Construct, Context as PlainContext, Control as PlainControl, Frame as PlainFrame, Shared,
+use om_foot::{Name, Shared};
+use om_values::{
+    Construct, Context as PlainContext, Control as PlainControl, Frame as PlainFrame,
     Stack as PlainStack, Team,
 };
-use om_foot::Name;
 use std::alloc::{AllocError, Global};
 
 /// A frame that stands for a plain one; the only error is out of memory.

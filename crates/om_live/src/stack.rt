@@ -2,14 +2,14 @@
 //! edited.
 
 ghost use Rattle.std.specs.Prelude.{◌≡◌, ◌<◌, IfOk, OnOk, OnErr, length, map};
-ghost use Rattle.om_cells.specs.declared.control.Control.TheVariants as plain;
-ghost use Rattle.om_cells.specs.Edits.{context_ended, edited, Counts};
+ghost use Rattle.om_values.specs.declared.control.Control.TheVariants as plain;
+ghost use Rattle.om_values.specs.Edits.{context_ended, edited, Counts};
 ghost use Rattle.om_live.specs.Plain.{plain_stack, plain_held};
 ghost use Rattle.om_live.specs.Inverses.{stack_back, CanStackBack, StaysRunning};
 
 use crate::control::{Inverse, Stack};
 use crate::live::context_of;
-use om_cells::Edit;
+use om_values::Edit;
 use std::alloc::{AllocError, Global};
 
 impl Stack {

@@ -4,13 +4,14 @@ ghost use Rattle.std.specs.Prelude.{◌≡◌, ◌<◌, [], All, true, false, If
 ghost use Rattle.std.specs.Option.{option_copied};
 ghost use Rattle.om_foot.specs.declared.object.Obj.{Obj};
 ghost use Rattle.om_foot.specs.declared.object.Obj.TheVariants as obj;
-ghost use Rattle.om_cells.specs.declared.value.Val.TheVariants as value;
-ghost use Rattle.om_cells.specs.declared.value.Task.TheVariants as task;
-ghost use Rattle.om_cells.specs.Edits.{changed, HaveRoom};
-ghost use Rattle.om_cells.specs.Values.{default_of, control_in, is_idle, cell_in, task_in, number_in, holder_in, count_of, items_of, value_plus, value_with, value_cut, SumFits};
-ghost use Rattle.om_cells.specs.State.{with_value, updated, taken_back, undo_record};
-ghost use Rattle.om_cells.specs.Cells.{cells_of, puts_of, were_listed};
-ghost use Rattle.om_cells.specs.Ready.{is_ready_at, AreReady, IsNext};
+ghost use Rattle.om_values.specs.declared.value.Val.TheVariants as value;
+ghost use Rattle.om_values.specs.declared.value.Task.TheVariants as task;
+ghost use Rattle.om_values.specs.Edits.{changed, HaveRoom};
+ghost use Rattle.om_values.specs.Values.{default_of, control_in, is_idle, cell_in, task_in, number_in, holder_in, count_of, items_of, value_plus, value_with, value_cut, SumFits};
+ghost use Rattle.om_values.specs.State.{with_value, updated, taken_back, undo_record};
+ghost use Rattle.om_foot.specs.Cells.{cells_of};
+ghost use Rattle.om_values.specs.Runs.{puts_of, were_listed};
+ghost use Rattle.om_values.specs.Ready.{is_ready_at, AreReady, IsNext};
 ghost use Rattle.om_live.specs.Stores.{worker_of, is_trailed, plain_or_idle, state_of, is_kept, pasts_of, noted_at, popped_at, begun_at, first_or, GrowTo};
 
 use crate::control::Control;
@@ -18,13 +19,11 @@ use crate::control_objects::ControlObjects;
 use crate::copy::plain_of;
 use crate::live::control_of;
 use crate::trail::Trail;
-use om_cells::{
-    Cells, Control as PlainControl, Edit, SharedCells, SharedControl, SharedObject,
-    Store as Values, Tail, Task, Val, Was,
-};
+use om_cells::Store as Values;
 use om_code::frame::Cell;
-use om_foot::{Name, Obj};
+use om_foot::{Cells, Name, Obj, SharedCells, SharedObject};
 use om_seq::Seq;
+use om_values::{Control as PlainControl, Edit, SharedControl, Tail, Task, Val, Was};
 use std::alloc::{AllocError, Global};
 use std::mem;
 

@@ -1,8 +1,8 @@
 //! A worker's control with the trail of its changes, which leads back to its start.
 
 ghost use Rattle.std.specs.Prelude.{◌≡◌, ◌<◌, ◌∷◌, [], OnOk, OnErr, length};
-ghost use Rattle.om_cells.specs.declared.control.Control.TheVariants as plain;
-ghost use Rattle.om_cells.specs.Edits.{changed_by, changed, HasRoom, HaveRoom};
+ghost use Rattle.om_values.specs.declared.control.Control.TheVariants as plain;
+ghost use Rattle.om_values.specs.Edits.{changed_by, changed, HasRoom, HaveRoom};
 ghost use Rattle.om_live.specs.Plain.{plain_control};
 ghost use Rattle.om_live.specs.Inverses.{reverted, CanRevert};
 ghost use Rattle.om_live.specs.Trails.{CanRewind, past_of, begun, stepped, became, undone};
@@ -11,8 +11,8 @@ use crate::control::{Control, Inverse, Logged};
 use crate::edit::{apply, become_control, revert};
 use crate::live::control_of;
 use crate::log::Log;
-use om_cells::{Control as PlainControl, Edit};
 use om_seq::Seq;
+use om_values::{Control as PlainControl, Edit};
 use std::alloc::{AllocError, Global};
 use std::marker::Model;
 

@@ -1,8 +1,8 @@
 //! The entries of a history, each with what its step touched and what it did.
 
-use om_cells::Entry;
 use om_foot::Access;
 use om_seq::Seq;
+use om_values::Entry;
 
 /// An entry of a history, with the footprint of its step at its place in the replay.
 #[derive(Drop)]

@@ -1,7 +1,7 @@
 -- The moves of workers.
 use Rattle.std.proofs.Common.{◌≡◌, ◌<◌, ◌+◌, ℕ, zero, suc, true, false, is_some, List, [], ◌∷◌, length, drop, get_or}
 use Rattle.std.proofs.Common.{refl, sym, ap, ◌∙◌, arith}
-use Rattle.om_cells.specs.declared.step.Choice.TheVariants.{Start}
+use Rattle.om_values.specs.declared.step.Choice.TheVariants.{Start}
 use Rattle.om_undo.specs.Machines.{MachineView}
 use Rattle.om_view.specs.Runs.{can_step, start_among}
 

@@ -2,12 +2,12 @@
 use Rattle.std.proofs.Common.{◌≡◌, ◌<◌, ◌+◌, ℕ, zero, suc, Option, Some, List, [], ◌∷◌, ◌++◌, refl, sym, ap, ◌∙◌}
 use Rattle.std.proofs.Common.{append-nil, eq-eqb, ◌==◌, None, length, get_or, arith}
 use Rattle.std.proofs.lemmas.List.{map_push}
-use Rattle.om_cells.specs.declared.step.Entry.{Entry}
-use Rattle.om_cells.specs.declared.step.Label.{Label}
-use Rattle.om_cells.specs.declared.step.Outcome.{Outcome}
-use Rattle.om_cells.specs.declared.step.Outcome.TheVariants as outcome
-use Rattle.om_cells.specs.declared.step.Step.{Step}
-use Rattle.om_cells.specs.Rules.{Rules, step_at}
+use Rattle.om_values.specs.declared.step.Entry.{Entry}
+use Rattle.om_values.specs.declared.step.Label.{Label}
+use Rattle.om_values.specs.declared.step.Outcome.{Outcome}
+use Rattle.om_values.specs.declared.step.Outcome.TheVariants as outcome
+use Rattle.om_values.specs.declared.step.Step.{Step}
+use Rattle.om_values.specs.Rules.{Rules, step_at}
 use Rattle.om_code.specs.declared.frame.Fault.{Fault}
 use Rattle.om_history.specs.declared.reply.StepReply.TheVariants as step_reply
 use Rattle.om_history.specs.Runs.{History, after_step, after_undo, entry_for, history_with, last_or_first, last_place}

@@ -1,8 +1,8 @@
 -- What is bad about where a machine stands.
 use Rattle.std.specs.Prelude.{◌≡◌, ◌≢◌, ◌<◌, ℕ, true, false, cond, List, Option, None, Some, IsSomeAnd}
-use Rattle.om_cells.specs.declared.control.Control as controls
-use Rattle.om_cells.specs.declared.control.Control.TheVariants as control
-use Rattle.om_cells.specs.Values.{control_in, bytes_in}
+use Rattle.om_values.specs.declared.control.Control as controls
+use Rattle.om_values.specs.declared.control.Control.TheVariants as control
+use Rattle.om_values.specs.Values.{control_in, bytes_in}
 use Rattle.om_code.specs.declared.frame.Fault.{Fault}
 use Rattle.om_foot.specs.declared.object.Obj.TheVariants as object
 use Rattle.om_schedules.specs.declared.judge.Badness.{Badness}

@@ -3,8 +3,8 @@
 ghost use Rattle.std.specs.Prelude.{◌≡◌};
 ghost use Rattle.om_schedules.specs.Schedules.{steps_of};
 
-use om_cells::{Choice, Label};
 use om_foot::Name;
+use om_values::{Choice, Label};
 use std::alloc::AllocError;
 
 /// A part of a schedule.

@@ -10,12 +10,12 @@ ghost use Rattle.om_view.specs.Runs.{can_step, start_among, move_of, has_ended};
 ghost use Rattle.om_schedules.specs.Bad.{IsBad, IsJudged, NoneFaulted, NoneMoves, control_of, output_of, wanted_by, fault_of};
 ghost use Rattle.om_schedules.specs.Texts.{text_in};
 
-use om_cells::Choice;
 use om_code::frame::Fault;
 use om_foot::{Name, Obj};
 use om_live::Control;
 use om_undo::laws::{one_ready_list, ready_names_are_ready};
 use om_undo::{Machine, StepReply};
+use om_values::Choice;
 use std::alloc::{AllocError, Global};
 
 /// What is bad about an outcome.

@@ -4,10 +4,10 @@ ghost use Rattle.std.specs.Prelude.{◌≡◌, ◌<◌, ◌≤◌, ◌+◌, ◌^
 ghost use Rattle.om_history.specs.Runs.{no_history};
 ghost use Rattle.om_schedules.specs.Entries.{workers_of};
 
-use om_cells::{Choice, Label};
 use om_code::Program;
 use om_foot::Name;
 use om_undo::{Machine, StepReply};
+use om_values::{Choice, Label};
 use std::alloc::{AllocError, Global};
 
 // How many steps a player makes in its life. There are far more serials.

@@ -3,7 +3,7 @@
 use crate::block::{Block, push_step};
 use crate::judge::{Badness, Wanted};
 use crate::player::{Attempt, Player};
-use om_cells::{Choice, Label};
+use om_values::{Choice, Label};
 use std::alloc::{AllocError, Global};
 
 /// What a schedule came to.

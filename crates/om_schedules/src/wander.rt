@@ -3,8 +3,8 @@
 use crate::block::{Block, push_step};
 use crate::chance::Chance;
 use crate::player::{Attempt, Player};
-use om_cells::{Choice, Label};
 use om_foot::Name;
+use om_values::{Choice, Label};
 use std::alloc::{AllocError, Global};
 
 // What is to come of chance, and the schedule that came of it so far.

@@ -1,6 +1,6 @@
 -- What a run of the debugger over a source and commands writes, and the book that it leaves.
 use Rattle.std.specs.Prelude.{◌≡◌, ℕ, List, Option, Some}
-use Rattle.om_cells.specs.declared.step.Entry.{Entry}
+use Rattle.om_values.specs.declared.step.Entry.{Entry}
 use Rattle.om_book.specs.Books.{BookView, machine_of}
 use Rattle.om_shell.specs.Script.{IsScript, book_of}
 use Rattle.om_shell.specs.Transcript.{Transcript}

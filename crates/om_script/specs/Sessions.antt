@@ -1,6 +1,6 @@
 -- What is answered of a session: its steps as commands, or the steps that a roll would take.
 use Rattle.std.specs.Prelude.{◌≡◌, ℕ, List, map, Option, None, Some}
-use Rattle.om_cells.specs.declared.step.Entry.{Entry}
+use Rattle.om_values.specs.declared.step.Entry.{Entry}
 use Rattle.om_book.specs.Books.{BookView, machine_of}
 use Rattle.om_shell.specs.Script.{source_of}
 use Rattle.om_lines.specs.Commands.{script_text}

@@ -1,5 +1,5 @@
 -- Steps that are the same but for their numbers.
-use Rattle.om_cells.specs.declared.step.Entry.{Entry}
+use Rattle.om_values.specs.declared.step.Entry.{Entry}
 
 -- an entry without its serial
 abbrev pub unnumbered : Entry → Entry

@@ -4,10 +4,10 @@ use Rattle.std.proofs.Common.{false, if◌then◌else◌, replicate, append_asso
 use Rattle.std.specs.Prelude.{nat_lt}
 use Rattle.om_foot.specs.declared.object.Obj.TheVariants as obj
 use Rattle.om_foot.specs.declared.footprint.Access.{Access}
-use Rattle.om_cells.specs.declared.control.Team.{Team}
-use Rattle.om_cells.specs.declared.step.Update.{Update}
-use Rattle.om_cells.specs.State.{State, values_read}
-use Rattle.om_cells.specs.Values.{number_in}
+use Rattle.om_values.specs.declared.control.Team.{Team}
+use Rattle.om_values.specs.declared.step.Update.{Update}
+use Rattle.om_values.specs.State.{State, values_read}
+use Rattle.om_values.specs.Values.{number_in}
 use Rattle.om_steps.specs.Objects.{read}
 use Rattle.om_share.specs.Barriers.{arrivals, barrier, is_open, open_in}
 

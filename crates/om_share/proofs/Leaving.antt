@@ -3,8 +3,8 @@ use Rattle.std.proofs.Common.{◌≡◌, refl, ℕ, zero, suc, List, [], ◌∷�
 use Rattle.std.specs.declared.boxed.Box.{Box}
 use Rattle.std.specs.declared.alloc.Global.{Global}
 use Rattle.om_code.specs.declared.raw.Slot.{Slot}
-use Rattle.om_cells.specs.declared.control.Context as plain_contexts
-use Rattle.om_cells.specs.declared.control.Kind.TheVariants.{Implicit}
+use Rattle.om_values.specs.declared.control.Context as plain_contexts
+use Rattle.om_values.specs.declared.control.Kind.TheVariants.{Implicit}
 use Rattle.om_live.specs.declared.control.Context.{Context}
 use Rattle.om_live.specs.Plain.{plain_held}
 use Rattle.om_steps.specs.Objects.{own_cells}

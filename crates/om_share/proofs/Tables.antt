@@ -5,12 +5,12 @@ use Rattle.std.proofs.lemmas.Grind.{common_steps}
 use Rattle.om_foot.specs.declared.object.Obj.TheVariants as obj
 use Rattle.om_code.specs.declared.instruction.LoopForm.{LoopForm}
 use Rattle.om_code.specs.declared.instruction.Schedule.TheVariants as schedule
-use Rattle.om_cells.specs.declared.control.Construct.{Construct}
-use Rattle.om_cells.specs.declared.control.Construct.TheVariants as construct
-use Rattle.om_cells.specs.declared.control.Context.{Context}
-use Rattle.om_cells.specs.declared.control.Share.{Share}
+use Rattle.om_values.specs.declared.control.Construct.{Construct}
+use Rattle.om_values.specs.declared.control.Construct.TheVariants as construct
+use Rattle.om_values.specs.declared.control.Context.{Context}
+use Rattle.om_values.specs.declared.control.Share.{Share}
 use Rattle.om_events.specs.declared.kind.Work.{Work}
-use Rattle.om_cells.specs.State.{State}
+use Rattle.om_values.specs.State.{State}
 use Rattle.om_steps.specs.declared.row.Answer.{Answer}
 use Rattle.om_steps.specs.Objects.{write, events}
 use Rattle.om_steps.specs.Rows.{Asked, answered}

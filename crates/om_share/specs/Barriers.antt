@@ -3,10 +3,10 @@ use Rattle.std.specs.Prelude.{ℕ, zero, suc, ◌+◌, Bool, false, nat_lt, if�
 use Rattle.std.specs.Prelude.{◌∷◌, ◌++◌}
 use Rattle.om_foot.specs.declared.object.Obj.TheVariants as obj
 use Rattle.om_foot.specs.declared.footprint.Access.{Access}
-use Rattle.om_cells.specs.declared.control.Team.{Team}
-use Rattle.om_cells.specs.declared.value.Val.{Val}
-use Rattle.om_cells.specs.State.{State}
-use Rattle.om_cells.specs.Values.{number_in, count_in}
+use Rattle.om_values.specs.declared.control.Team.{Team}
+use Rattle.om_values.specs.declared.value.Val.{Val}
+use Rattle.om_values.specs.State.{State}
+use Rattle.om_values.specs.Values.{number_in, count_in}
 use Rattle.om_steps.specs.Objects.{read}
 use Rattle.om_steps.specs.Rows.{is_zero}
 

@@ -22,23 +22,23 @@ use Rattle.om_events.specs.declared.kind.Sync.TheVariants as sync
 use Rattle.om_events.specs.declared.kind.TaskFlag.TheVariants as flag
 use Rattle.om_events.specs.declared.kind.Work as works
 use Rattle.om_events.specs.declared.kind.Work.TheVariants as work
-use Rattle.om_cells.specs.declared.control.Context.{Context}
-use Rattle.om_cells.specs.declared.control.Construct.{Construct}
-use Rattle.om_cells.specs.declared.control.Construct.TheVariants as construct
-use Rattle.om_cells.specs.declared.control.Kind.{Kind}
-use Rattle.om_cells.specs.declared.control.Kind.TheVariants as kind
-use Rattle.om_cells.specs.declared.control.Share.{Share}
-use Rattle.om_cells.specs.declared.control.Sharing as sharings
-use Rattle.om_cells.specs.declared.control.Sharing.TheVariants as sharing
-use Rattle.om_cells.specs.declared.control.Team.{Team}
-use Rattle.om_cells.specs.declared.edit.Edit.{Edit}
-use Rattle.om_cells.specs.declared.edit.Edit.TheVariants.{Go, EndContext, Open, Close, Replace, CountRegion, CountPhase}
-use Rattle.om_cells.specs.declared.step.Blocked.TheVariants as blocked
-use Rattle.om_cells.specs.declared.step.Tail.TheVariants.{Events}
-use Rattle.om_cells.specs.declared.step.Update.{Update}
-use Rattle.om_cells.specs.declared.step.Update.TheVariants.{Put, Keep, Append}
-use Rattle.om_cells.specs.declared.value.Val.TheVariants as value
-use Rattle.om_cells.specs.Values.{number_in, holder_in}
+use Rattle.om_values.specs.declared.control.Context.{Context}
+use Rattle.om_values.specs.declared.control.Construct.{Construct}
+use Rattle.om_values.specs.declared.control.Construct.TheVariants as construct
+use Rattle.om_values.specs.declared.control.Kind.{Kind}
+use Rattle.om_values.specs.declared.control.Kind.TheVariants as kind
+use Rattle.om_values.specs.declared.control.Share.{Share}
+use Rattle.om_values.specs.declared.control.Sharing as sharings
+use Rattle.om_values.specs.declared.control.Sharing.TheVariants as sharing
+use Rattle.om_values.specs.declared.control.Team.{Team}
+use Rattle.om_values.specs.declared.edit.Edit.{Edit}
+use Rattle.om_values.specs.declared.edit.Edit.TheVariants.{Go, EndContext, Open, Close, Replace, CountRegion, CountPhase}
+use Rattle.om_values.specs.declared.step.Blocked.TheVariants as blocked
+use Rattle.om_values.specs.declared.step.Tail.TheVariants.{Events}
+use Rattle.om_values.specs.declared.step.Update.{Update}
+use Rattle.om_values.specs.declared.step.Update.TheVariants.{Put, Keep, Append}
+use Rattle.om_values.specs.declared.value.Val.TheVariants as value
+use Rattle.om_values.specs.Values.{number_in, holder_in}
 use Rattle.om_steps.specs.declared.row.Row.{Row}
 use Rattle.om_steps.specs.declared.row.Row.TheVariants.{Goes, Faults, Blocked, Lacks}
 use Rattle.om_steps.specs.Rows.{Asked, decided, goes, first_of}

@@ -4,11 +4,11 @@ ghost use Rattle.std.specs.Prelude.{◌≡◌, ◌++◌, ◌+◌, OnOk, replicat
 ghost use Rattle.om_live.specs.Stores.{state_of};
 ghost use Rattle.om_share.specs.Barriers.{arrivals, barrier, open_in};
 
-use om_cells::{Names, Puts, Team, Update};
-use om_foot::{Mode, Name, Obj};
+use om_foot::{Mode, Name, Names, Obj};
 use om_live::Store;
 use om_steps::counts::is_zero;
 use om_steps::names::name;
+use om_values::{Puts, Team, Update};
 use std::alloc::{AllocError, Global};
 
 /// Appends how far each member of a team of this size came, as what is read.

@@ -3,8 +3,8 @@
 ghost use Rattle.std.specs.Prelude.{◌≡◌, ◌<◌, ◌≤◌, ◌^◌, IfSome};
 ghost use Rattle.om_share.specs.Chunks.{upwards, step_size, rounded_up, rounded_down, count_of, chunk_within, round_robin, block_size, block, static_chunk};
 
-use om_cells::Team;
 use om_code::instruction::Comparison;
+use om_values::Team;
 
 /// Iterations that a member takes at once.
 #[derive(Clone, Copy)]

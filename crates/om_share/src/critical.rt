@@ -1,7 +1,7 @@
 //! Critical regions and their locks.
 
 ghost use Rattle.std.specs.Prelude.{◌≡◌, IfOk};
-ghost use Rattle.om_cells.specs.State.{State};
+ghost use Rattle.om_values.specs.State.{State};
 ghost use Rattle.om_live.specs.Plain.{plain_context};
 ghost use Rattle.om_live.specs.Stores.{state_of};
 ghost use Rattle.om_steps.specs.Objects.{innermost};
@@ -9,7 +9,6 @@ ghost use Rattle.om_steps.specs.Rows.{answered};
 ghost use Rattle.om_share.specs.Rows.{ask_critical_row, lock_row, enter_critical_row, is_critical, unlock_row, leave_critical_row};
 
 use crate::parts::opened;
-use om_cells::{Blocked, Construct, Edit, Update, Val};
 use om_events::Record;
 use om_foot::{Mode, Obj};
 use om_live::{Context, Store};
@@ -17,6 +16,7 @@ use om_seq::Seq;
 use om_steps::names::innermost;
 use om_steps::parts::{go_and, go_on, name_with_events, recorded, update_with_event};
 use om_steps::{Answer, At, Row};
+use om_values::{Blocked, Construct, Edit, Update, Val};
 use std::alloc::{AllocError, Global};
 
 /// The name of a lock, for a record.

@@ -2,19 +2,19 @@
 
 ghost use Rattle.std.specs.Prelude.{◌≡◌, pos, IfOk};
 ghost use Rattle.std.specs.Ordering.{int_eq};
-ghost use Rattle.om_cells.specs.State.{State};
+ghost use Rattle.om_values.specs.State.{State};
 ghost use Rattle.om_live.specs.Plain.{plain_context};
 ghost use Rattle.om_steps.specs.Objects.{innermost};
 ghost use Rattle.om_steps.specs.Rows.{answered};
 ghost use Rattle.om_share.specs.Rows.{filtered_row, masked_row, is_masked, end_masked_row};
 
 use crate::parts::{Branch, jump, opened};
-use om_cells::{Construct, Edit};
 use om_events::{Endpoint, Record};
 use om_live::Context;
 use om_steps::names::innermost;
 use om_steps::parts::{go_and, own_events, recorded};
 use om_steps::{Answer, At, Row};
+use om_values::{Construct, Edit};
 use std::alloc::{AllocError, Global};
 
 /// The record that a masked region begins or ends.

@@ -1,30 +1,30 @@
 //! ARRIVE, DEPART and LEAVE: a member at a barrier, and at the end of its region.
 
 ghost use Rattle.std.specs.Prelude.{◌≡◌, ◌++◌, ◌∷◌, [], ◌≤◌, ◌<◌, ◌+◌, ◌^◌, IfOk, OnOk, length, map, None, option_map, slice_get};
-ghost use Rattle.om_cells.specs.State.{State};
+ghost use Rattle.om_values.specs.State.{State};
 ghost use Rattle.om_live.specs.Plain.{plain_context, plain_held, plain_stack};
 ghost use Rattle.om_live.specs.Stores.{state_of};
 ghost use Rattle.om_steps.specs.Rows.{answered, goes};
 ghost use Rattle.om_steps.specs.Objects.{deaths, event, events, own_cells, write};
 ghost use Rattle.om_foot.specs.declared.object.Obj.TheVariants as obj;
-ghost use Rattle.om_cells.specs.declared.value.Val.TheVariants as value;
+ghost use Rattle.om_values.specs.declared.value.Val.TheVariants as value;
 ghost use Rattle.om_share.specs.Barriers.{barrier};
 ghost use Rattle.om_share.specs.Rows.{sync_of, team_at_end, reached_row, is_misplaced_barrier, arrive_row, kept, departed, depart_row, region_end, left_records, left, left_row, leave_row};
 
 use crate::barrier::{is_open, name_barrier, put_kept};
-use om_cells::{Blocked, Edit, Kind, Names, Puts, Tail, Team, Update, Val};
 use om_code::frame::Fault;
 use om_code::instruction::Barrier;
 use om_code::raw::Slot;
 use om_events::Record;
 use om_events::kind::{Endpoint, Sync, TaskFlag};
-use om_foot::{Mode, Name, Obj};
+use om_foot::{Mode, Name, Names, Obj};
 use om_live::{Context, Stack, Store, Tape};
 use om_seq::Seq;
 use om_steps::names::{is_misplaced, name, name_events, own_cells};
 use om_steps::parts::{go_and, one_put};
 use om_steps::updates::{put_deaths, put_event};
 use om_steps::{Answer, At, Row};
+use om_values::{Blocked, Edit, Kind, Puts, Tail, Team, Update, Val};
 use std::alloc::{AllocError, Global};
 
 /// The kind of synchronization that a barrier is.

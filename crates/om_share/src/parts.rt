@@ -5,13 +5,14 @@ ghost use Rattle.om_live.specs.Plain.{plain_context};
 ghost use Rattle.om_steps.specs.Rows.{goes};
 ghost use Rattle.om_share.specs.Rows.{edits, begun, share_of, share_in};
 
-use om_cells::{Construct, Edit, Puts, Share, Shared};
 use om_events::{Endpoint, Record, Work};
+use om_foot::Shared;
 use om_live::Context;
 use om_seq::Seq;
 use om_steps::Row;
 use om_steps::names::innermost;
 use om_steps::parts::{go_and, go_and_then};
+use om_values::{Construct, Edit, Puts, Share};
 use std::alloc::{AllocError, Global};
 
 /// The two places at which an instruction can go on.

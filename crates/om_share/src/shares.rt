@@ -1,12 +1,12 @@
 //! Loops and sections: how they are opened, and how their iterations are given out.
 
 ghost use Rattle.std.specs.Prelude.{◌≡◌, ◌<◌, ◌+◌, ◌^◌, ◌∷◌, [], true, slice_get, IfOk, IfSome};
-ghost use Rattle.om_cells.specs.State.{State};
+ghost use Rattle.om_values.specs.State.{State};
 ghost use Rattle.om_live.specs.Plain.{plain_context};
 ghost use Rattle.om_live.specs.Stores.{state_of};
 ghost use Rattle.om_foot.specs.declared.object.Obj.TheVariants as obj;
 ghost use Rattle.om_code.specs.declared.frame.Cell.TheVariants as cell;
-ghost use Rattle.om_cells.specs.declared.value.Val.TheVariants as values;
+ghost use Rattle.om_values.specs.declared.value.Val.TheVariants as values;
 ghost use Rattle.om_steps.specs.Objects.{write};
 ghost use Rattle.om_steps.specs.Rows.{answered};
 ghost use Rattle.om_share.specs.Chunks.{value_of};
@@ -14,16 +14,16 @@ ghost use Rattle.om_share.specs.Rows.{edits, is_right_schedule, is_right_form, l
 
 use crate::chunk::{Chunk, chunk_within, count_of, static_chunk, step_size};
 use crate::parts::{Branch, begun, jump, share_in, work_record};
-use om_cells::{Construct, Edit, Puts, Share, Shared, Sharing, Update, Val};
 use om_code::frame::{Cell, Fault};
 use om_code::instruction::{LoopForm, Place, Schedule};
 use om_events::{Endpoint, Work};
-use om_foot::{Mode, Obj};
+use om_foot::{Mode, Obj, Shared};
 use om_live::{Context, Store};
 use om_seq::Seq;
 use om_steps::names::{is_misplaced, name_one, object_of};
 use om_steps::parts::{go_and, one_put, recorded};
 use om_steps::{Answer, At, Row};
+use om_values::{Construct, Edit, Puts, Share, Sharing, Update, Val};
 use std::alloc::{AllocError, Global};
 
 /// The bounds of a loop, where they are ints.

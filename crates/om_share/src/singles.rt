@@ -1,7 +1,7 @@
 //! Single regions, and the end of each worksharing region.
 
 ghost use Rattle.std.specs.Prelude.{◌≡◌, true, false, IfOk};
-ghost use Rattle.om_cells.specs.State.{State};
+ghost use Rattle.om_values.specs.State.{State};
 ghost use Rattle.om_live.specs.Plain.{plain_context};
 ghost use Rattle.om_live.specs.Stores.{state_of};
 ghost use Rattle.om_steps.specs.Objects.{innermost};
@@ -10,7 +10,6 @@ ghost use Rattle.om_share.specs.Rows.{single_work, chosen_row, single_row, close
 
 use crate::parts::{Branch, begun, work_record};
 use crate::shares::work_of;
-use om_cells::{Construct, Edit, Update, Val};
 use om_code::frame::Fault;
 use om_events::{Endpoint, Work};
 use om_foot::{Mode, Obj};
@@ -18,6 +17,7 @@ use om_live::{Context, Store};
 use om_steps::names::{innermost, is_misplaced};
 use om_steps::parts::{go_and, name_with_events, recorded, update_with_event};
 use om_steps::{Answer, At, Row};
+use om_values::{Construct, Edit, Update, Val};
 use std::alloc::{AllocError, Global};
 
 /// The kind of a single region in its records, for the thread that runs it and for any other.

@@ -14,17 +14,17 @@ use Rattle.om_code.specs.Frames as frames
 use Rattle.om_code.specs.Frames.{FrameTurn, Finished}
 use Rattle.om_code.specs.Places.{no_body}
 use Rattle.om_code.specs.Validity.{IsKnown, IsValid, IsValidBody, CanBegin, FitsOuter}
-use Rattle.om_cells.specs.declared.control.Control.{Control}
-use Rattle.om_cells.specs.declared.control.Control.TheVariants.{Running, Faulted, Ended}
-use Rattle.om_cells.specs.declared.control.Control.TheVariants as controls
-use Rattle.om_cells.specs.declared.control.Home.{Home}
-use Rattle.om_cells.specs.declared.control.Home.TheVariants.{Own}
-use Rattle.om_cells.specs.declared.control.Stack.{Stack}
-use Rattle.om_cells.specs.declared.value.Val.{Val}
-use Rattle.om_cells.specs.declared.value.Val.TheVariants as value
-use Rattle.om_cells.specs.Rules.{step_at, next_state, state_after_outcome, and_then, control_access}
-use Rattle.om_cells.specs.State.{State, values_read}
-use Rattle.om_cells.specs.Values.{control_in}
+use Rattle.om_values.specs.declared.control.Control.{Control}
+use Rattle.om_values.specs.declared.control.Control.TheVariants.{Running, Faulted, Ended}
+use Rattle.om_values.specs.declared.control.Control.TheVariants as controls
+use Rattle.om_values.specs.declared.control.Home.{Home}
+use Rattle.om_values.specs.declared.control.Home.TheVariants.{Own}
+use Rattle.om_values.specs.declared.control.Stack.{Stack}
+use Rattle.om_values.specs.declared.value.Val.{Val}
+use Rattle.om_values.specs.declared.value.Val.TheVariants as value
+use Rattle.om_values.specs.Rules.{step_at, next_state, state_after_outcome, and_then, control_access}
+use Rattle.om_values.specs.State.{State, values_read}
+use Rattle.om_values.specs.Values.{control_in}
 use Rattle.om_steps.specs.Objects.{home_for, homes_for}
 use Rattle.std.proofs.lemmas.Bool.{cases_lt}
 use Rattle.std.proofs.lemmas.List.Elements.{All-head, All-tail}

@@ -4,23 +4,23 @@ use Rattle.std.proofs.Common.{◌≡◌, subst, ℕ, arith, Bool, true, false, i
 use Rattle.om_code.specs.declared.frame.Operand.{Operand}
 use Rattle.om_code.specs.declared.raw.Raw.{Raw}
 use Rattle.om_code.specs.Ways.{Way}
-use Rattle.om_cells.specs.declared.control.Context.{Context}
-use Rattle.om_cells.specs.declared.control.Frame.{Frame}
-use Rattle.om_cells.specs.declared.control.Stack.{Stack}
-use Rattle.om_cells.specs.declared.control.Control as controls
-use Rattle.om_cells.specs.declared.control.Control.TheVariants.{Idle, Running, Faulted, Ended}
-use Rattle.om_cells.specs.declared.edit.Edit.{Edit}
-use Rattle.om_cells.specs.declared.edit.Edit.TheVariants.{Go, BeginFrame, EndFrame, BeginContext, EndContext, Open}
-use Rattle.om_cells.specs.declared.edit.Edit.TheVariants.{Close, Replace, CountBirth, CountRegion, CountPhase, Fail}
-use Rattle.om_cells.specs.declared.edit.Edit.TheVariants.{End}
-use Rattle.om_cells.specs.declared.step.Update.{Update}
-use Rattle.om_cells.specs.declared.step.Update.TheVariants.{Put}
+use Rattle.om_values.specs.declared.control.Context.{Context}
+use Rattle.om_values.specs.declared.control.Frame.{Frame}
+use Rattle.om_values.specs.declared.control.Stack.{Stack}
+use Rattle.om_values.specs.declared.control.Control as controls
+use Rattle.om_values.specs.declared.control.Control.TheVariants.{Idle, Running, Faulted, Ended}
+use Rattle.om_values.specs.declared.edit.Edit.{Edit}
+use Rattle.om_values.specs.declared.edit.Edit.TheVariants.{Go, BeginFrame, EndFrame, BeginContext, EndContext, Open}
+use Rattle.om_values.specs.declared.edit.Edit.TheVariants.{Close, Replace, CountBirth, CountRegion, CountPhase, Fail}
+use Rattle.om_values.specs.declared.edit.Edit.TheVariants.{End}
+use Rattle.om_values.specs.declared.step.Update.{Update}
+use Rattle.om_values.specs.declared.step.Update.TheVariants.{Put}
 use Rattle.om_foot.specs.declared.footprint.Access.{Access}
 use Rattle.om_foot.specs.declared.object.Obj.TheVariants as obj
-use Rattle.om_cells.specs.declared.value.Task as tasks
-use Rattle.om_cells.specs.declared.value.Val.{Val}
-use Rattle.om_cells.specs.declared.value.Val.TheVariants as value
-use Rattle.om_cells.specs.Edits.{changed_by, changed, edited, context_ended, value_given}
+use Rattle.om_values.specs.declared.value.Task as tasks
+use Rattle.om_values.specs.declared.value.Val.{Val}
+use Rattle.om_values.specs.declared.value.Val.TheVariants as value
+use Rattle.om_values.specs.Edits.{changed_by, changed, edited, context_ended, value_given}
 use Rattle.om_steps.specs.declared.row.Row.{Row}
 use Rattle.om_steps.specs.declared.row.Row.TheVariants.{Goes}
 use Rattle.om_steps.specs.Rows.{Asked}

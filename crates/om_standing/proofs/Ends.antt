@@ -21,20 +21,20 @@ use Rattle.om_events.specs.declared.event.Record.{Record}
 use Rattle.om_events.specs.declared.event.Record.TheVariants as event_record
 use Rattle.om_events.specs.declared.kind.Endpoint.TheVariants as endpoint
 use Rattle.om_events.specs.declared.kind.TaskFlag.TheVariants as flag
-use Rattle.om_cells.specs.declared.control.Context.{Context}
-use Rattle.om_cells.specs.declared.control.Control.{Control}
-use Rattle.om_cells.specs.declared.control.Control.TheVariants.{Running, Ended}
-use Rattle.om_cells.specs.declared.control.Frame as controls
-use Rattle.om_cells.specs.declared.control.Stack.{Stack}
-use Rattle.om_cells.specs.declared.step.Update.TheVariants.{Put, Keep}
-use Rattle.om_cells.specs.declared.value.Val.{Val}
-use Rattle.om_cells.specs.declared.value.Val.TheVariants as value
-use Rattle.om_cells.specs.Edits.{value_given}
-use Rattle.om_cells.specs.Rules.{control_access}
-use Rattle.om_cells.specs.State.{State, state_after, updated}
+use Rattle.om_values.specs.declared.control.Context.{Context}
+use Rattle.om_values.specs.declared.control.Control.{Control}
+use Rattle.om_values.specs.declared.control.Control.TheVariants.{Running, Ended}
+use Rattle.om_values.specs.declared.control.Frame as controls
+use Rattle.om_values.specs.declared.control.Stack.{Stack}
+use Rattle.om_values.specs.declared.step.Update.TheVariants.{Put, Keep}
+use Rattle.om_values.specs.declared.value.Val.{Val}
+use Rattle.om_values.specs.declared.value.Val.TheVariants as value
+use Rattle.om_values.specs.Edits.{value_given}
+use Rattle.om_values.specs.Rules.{control_access}
+use Rattle.om_values.specs.State.{State, state_after, updated}
 use Rattle.om_steps.specs.Objects.{read, events, event, own_slot, own_from, own_cells, home_at, deaths}
 use Rattle.om_steps.specs.SerialRows.{return_row}
-use Rattle.om_fork.specs.Rows.{finished_row, finished}
+use Rattle.om_team.specs.Rows.{finished_row, finished}
 use Rattle.om_steps.specs.Rows.{is_zero}
 use Rattle.om_rows.specs.Running.{world_of}
 use Rattle.om_standing.specs.Alone.{Shows, Keeps, OwnsCells, dead, next_of}

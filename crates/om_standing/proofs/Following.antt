@@ -12,14 +12,14 @@ use Rattle.om_code.specs.Frames as frames
 use Rattle.om_code.specs.Frames.{Frame, FrameTurn, act, acted, frame_turn, turn_at}
 use Rattle.om_code.specs.Places.{slots_of, instruction_at}
 use Rattle.om_code.specs.Validity.{IsKnown, NamesKnown}
-use Rattle.om_cells.specs.declared.control.Control.{Control}
-use Rattle.om_cells.specs.declared.control.Control.TheVariants.{Running}
-use Rattle.om_cells.specs.declared.control.Stack.{Stack}
-use Rattle.om_cells.specs.declared.value.Val.{Val}
-use Rattle.om_cells.specs.declared.value.Val.TheVariants as value
-use Rattle.om_cells.specs.Rules.{step_at, next_state, state_after_outcome, and_then, control_access, replay_from}
-use Rattle.om_cells.specs.State.{State, values_read}
-use Rattle.om_cells.specs.Values.{control_in, count_in}
+use Rattle.om_values.specs.declared.control.Control.{Control}
+use Rattle.om_values.specs.declared.control.Control.TheVariants.{Running}
+use Rattle.om_values.specs.declared.control.Stack.{Stack}
+use Rattle.om_values.specs.declared.value.Val.{Val}
+use Rattle.om_values.specs.declared.value.Val.TheVariants as value
+use Rattle.om_values.specs.Rules.{step_at, next_state, state_after_outcome, and_then, control_access, replay_from}
+use Rattle.om_values.specs.State.{State, values_read}
+use Rattle.om_values.specs.Values.{control_in, count_in}
 use Rattle.om_task.specs.Rules.{rules_of, further_in, outcome_of, next_row}
 use Rattle.om_team.specs.Sites.{site}
 use Rattle.om_rows.specs.Running.{on_from, run, world_of}

@@ -11,8 +11,8 @@ use Rattle.om_code.specs.declared.raw.Raw.{Raw}
 use Rattle.om_code.specs.Places.{at_place, instruction_at, slots_of}
 use Rattle.om_code.specs.Validity.{IsValid, IsValidBody, NamesKnown, StaysInside}
 use Rattle.om_code.specs.Ways.{pops, pushes, successors, Way, starts, follows}
-use Rattle.om_cells.specs.declared.control.Frame.{Frame}
-use Rattle.om_cells.specs.Edits.{frame_at}
+use Rattle.om_values.specs.declared.control.Frame.{Frame}
+use Rattle.om_values.specs.Edits.{frame_at}
 use Rattle.om_standing.specs.Standing.{Owned, FitHomes, StandsWith, IsStandingFrame}
 
 -- what a frame has that stands at an instruction

@@ -7,17 +7,17 @@ use Rattle.om_code.specs.declared.raw.Slot.{Slot}
 use Rattle.om_code.specs.declared.raw.Source.{Source}
 use Rattle.om_code.specs.declared.raw.Source.TheVariants as source
 use Rattle.om_foot.specs.declared.object.Obj.TheVariants as obj
-use Rattle.om_cells.specs.declared.control.Context.{Context}
-use Rattle.om_cells.specs.declared.control.Control as controls
-use Rattle.om_cells.specs.declared.control.Control.TheVariants.{Running}
-use Rattle.om_cells.specs.State.{State}
-use Rattle.om_cells.specs.Values.{control_in}
+use Rattle.om_values.specs.declared.control.Context.{Context}
+use Rattle.om_values.specs.declared.control.Control as controls
+use Rattle.om_values.specs.declared.control.Control.TheVariants.{Running}
+use Rattle.om_values.specs.State.{State}
+use Rattle.om_values.specs.Values.{control_in}
 use Rattle.om_code.specs.Places.{slots_of, no_body}
 use Rattle.om_code.specs.Validity.{FitsOuter, CanBegin, IsKnownBody}
 use Rattle.om_code.specs.Ways.{starts}
-use Rattle.om_cells.specs.declared.control.Home.{Home}
-use Rattle.om_cells.specs.declared.control.Home.TheVariants as home
-use Rattle.om_cells.specs.declared.control.Frame.{Frame}
+use Rattle.om_values.specs.declared.control.Home.{Home}
+use Rattle.om_values.specs.declared.control.Home.TheVariants as home
+use Rattle.om_values.specs.declared.control.Frame.{Frame}
 use Rattle.om_steps.specs.Objects.{home_at, home_from, home_for, homes_for}
 use Rattle.om_team.specs.Sites.{body_of}
 use Rattle.om_standing.specs.Standing.{Owned, FitsHome, FitHomes, IsStandingFrame}

@@ -5,19 +5,19 @@ use Rattle.std.specs.Prelude.{All, IfSome}
 use Rattle.std.proofs.lemmas.List.Elements.{All-nil, All-cons, All-head, All-tail, All-drop}
 use Rattle.om_foot.specs.declared.footprint.Access.{Access}
 use Rattle.om_code.specs.declared.frame.Operand.{Operand}
-use Rattle.om_cells.specs.declared.control.Context.{Context}
-use Rattle.om_cells.specs.declared.control.Control as controls
-use Rattle.om_cells.specs.declared.control.Control.TheVariants.{Idle, Running, Faulted, Ended}
-use Rattle.om_cells.specs.declared.control.Frame.{Frame}
-use Rattle.om_cells.specs.declared.control.Stack.{Stack}
-use Rattle.om_cells.specs.declared.edit.Edit.{Edit}
-use Rattle.om_cells.specs.declared.edit.Edit.TheVariants.{Go, BeginFrame, EndFrame, BeginContext, EndContext, Open}
-use Rattle.om_cells.specs.declared.edit.Edit.TheVariants.{Close, Replace, CountBirth, CountRegion, CountPhase, Fail}
-use Rattle.om_cells.specs.declared.edit.Edit.TheVariants.{End}
-use Rattle.om_cells.specs.declared.step.Update.{Update}
-use Rattle.om_cells.specs.declared.value.Val.{Val}
-use Rattle.om_cells.specs.Edits.{frame_at, value_given, context_ended, edited, changed_by, changed}
-use Rattle.om_cells.specs.State.{State, updated}
+use Rattle.om_values.specs.declared.control.Context.{Context}
+use Rattle.om_values.specs.declared.control.Control as controls
+use Rattle.om_values.specs.declared.control.Control.TheVariants.{Idle, Running, Faulted, Ended}
+use Rattle.om_values.specs.declared.control.Frame.{Frame}
+use Rattle.om_values.specs.declared.control.Stack.{Stack}
+use Rattle.om_values.specs.declared.edit.Edit.{Edit}
+use Rattle.om_values.specs.declared.edit.Edit.TheVariants.{Go, BeginFrame, EndFrame, BeginContext, EndContext, Open}
+use Rattle.om_values.specs.declared.edit.Edit.TheVariants.{Close, Replace, CountBirth, CountRegion, CountPhase, Fail}
+use Rattle.om_values.specs.declared.edit.Edit.TheVariants.{End}
+use Rattle.om_values.specs.declared.step.Update.{Update}
+use Rattle.om_values.specs.declared.value.Val.{Val}
+use Rattle.om_values.specs.Edits.{frame_at, value_given, context_ended, edited, changed_by, changed}
+use Rattle.om_values.specs.State.{State, updated}
 use Rattle.om_steps.specs.declared.row.Row.{Row}
 use Rattle.om_steps.specs.declared.row.Row.TheVariants.{Goes}
 use Rattle.om_steps.specs.Rows.{Asked}

@@ -17,21 +17,21 @@ use Rattle.om_code.specs.declared.raw.Raw.{Raw}
 use Rattle.om_code.specs.Frames.{int_at}
 use Rattle.om_code.specs.Places.{instruction_at}
 use Rattle.om_code.specs.Printing.{ints_on}
-use Rattle.om_cells.specs.declared.control.Control as controls
-use Rattle.om_cells.specs.declared.control.Control.TheVariants.{Idle, Running, Faulted, Ended}
-use Rattle.om_cells.specs.declared.control.Stack.{Stack}
-use Rattle.om_cells.specs.declared.control.Team.{Team}
-use Rattle.om_cells.specs.declared.edit.Edit.TheVariants.{Fail}
-use Rattle.om_cells.specs.declared.step.Choice.{Choice}
-use Rattle.om_cells.specs.declared.step.Choice.TheVariants.{Next, Start}
-use Rattle.om_cells.specs.declared.step.Label.{Label}
-use Rattle.om_cells.specs.declared.step.Update.TheVariants.{Put}
-use Rattle.om_cells.specs.declared.value.Val.{Val}
-use Rattle.om_cells.specs.declared.value.Val.TheVariants as value
-use Rattle.om_cells.specs.Edits.{changed}
-use Rattle.om_cells.specs.Rules.{control_access, step_at, next_state, state_after_outcome, and_then, replay_from}
-use Rattle.om_cells.specs.State.{State, values_read, read_by, updated}
-use Rattle.om_cells.specs.Values.{control_in}
+use Rattle.om_values.specs.declared.control.Control as controls
+use Rattle.om_values.specs.declared.control.Control.TheVariants.{Idle, Running, Faulted, Ended}
+use Rattle.om_values.specs.declared.control.Stack.{Stack}
+use Rattle.om_values.specs.declared.control.Team.{Team}
+use Rattle.om_values.specs.declared.edit.Edit.TheVariants.{Fail}
+use Rattle.om_values.specs.declared.step.Choice.{Choice}
+use Rattle.om_values.specs.declared.step.Choice.TheVariants.{Next, Start}
+use Rattle.om_values.specs.declared.step.Label.{Label}
+use Rattle.om_values.specs.declared.step.Update.TheVariants.{Put}
+use Rattle.om_values.specs.declared.value.Val.{Val}
+use Rattle.om_values.specs.declared.value.Val.TheVariants as value
+use Rattle.om_values.specs.Edits.{changed}
+use Rattle.om_values.specs.Rules.{control_access, step_at, next_state, state_after_outcome, and_then, replay_from}
+use Rattle.om_values.specs.State.{State, values_read, read_by, updated}
+use Rattle.om_values.specs.Values.{control_in}
 use Rattle.om_steps.specs.declared.row.Row.{Row}
 use Rattle.om_steps.specs.declared.row.Row.TheVariants as row
 use Rattle.om_steps.specs.Objects.{innermost}

@@ -18,24 +18,24 @@ use Rattle.om_code.specs.declared.raw.Slot.{Slot}
 use Rattle.om_code.specs.Arithmetic.{combine}
 use Rattle.om_code.specs.Printing.{ints_on}
 use Rattle.om_events.specs.declared.kind.TaskStatus as statuses
-use Rattle.om_cells.specs.declared.control.Context.{Context}
-use Rattle.om_cells.specs.declared.control.Frame.{Frame}
-use Rattle.om_cells.specs.declared.control.Kind.{Kind}
-use Rattle.om_cells.specs.declared.control.Kind.TheVariants as kind
-use Rattle.om_cells.specs.declared.control.Stack.{Stack}
-use Rattle.om_cells.specs.declared.control.Team.{Team}
-use Rattle.om_cells.specs.declared.value.Ready.{Ready}
-use Rattle.om_cells.specs.declared.value.Val.{Val}
-use Rattle.om_cells.specs.Values.{cell_in, count_in, task_in}
+use Rattle.om_values.specs.declared.control.Context.{Context}
+use Rattle.om_values.specs.declared.control.Frame.{Frame}
+use Rattle.om_values.specs.declared.control.Kind.{Kind}
+use Rattle.om_values.specs.declared.control.Kind.TheVariants as kind
+use Rattle.om_values.specs.declared.control.Stack.{Stack}
+use Rattle.om_values.specs.declared.control.Team.{Team}
+use Rattle.om_values.specs.declared.value.Ready.{Ready}
+use Rattle.om_values.specs.declared.value.Val.{Val}
+use Rattle.om_values.specs.Values.{cell_in, count_in, task_in}
 use Rattle.om_steps.specs.declared.row.Launch.{Launch}
 use Rattle.om_steps.specs.Begins.{first_frame}
 use Rattle.om_steps.specs.Objects.{own_cells, deaths, puts, homes_in, innermost}
 use Rattle.om_steps.specs.Rows.{first_of, rest_of, is_zero}
 use Rattle.om_steps.specs.SerialRows.{call_row, return_row, put_combined, reduced, reduce_row}
 use Rattle.om_share.specs.Barriers.{is_open}
-use Rattle.om_fork.specs.Teams.{first_busy, member, member_controls, member_puts, size_of}
-use Rattle.om_fork.specs.Rows.{forked, team_of, named_row, sized_row, fork_row}
-use Rattle.om_fork.specs.Rows.{value_of, finished, finished_row, finish_row}
+use Rattle.om_team.specs.Teams.{first_busy, member, member_controls, member_puts, size_of}
+use Rattle.om_team.specs.Rows.{forked, team_of, named_row, sized_row, fork_row}
+use Rattle.om_team.specs.Rows.{value_of, finished, finished_row, finish_row}
 use Rattle.om_share.specs.Rows.{is_misplaced_barrier, arrive_row, kept, departed, depart_row, left, leave_row}
 use Rattle.om_task.specs.declared.task_start.Starting.{Starting}
 use Rattle.om_task.specs.declared.task.Making.{Making}

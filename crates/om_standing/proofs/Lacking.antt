@@ -11,23 +11,23 @@ use Rattle.om_code.specs.Frames.{int_at}
 use Rattle.om_code.specs.Places.{instruction_at}
 use Rattle.om_code.specs.Printing.{ints_on}
 use Rattle.om_code.specs.Ways.{pops}
-use Rattle.om_cells.specs.declared.control.Control as controls
-use Rattle.om_cells.specs.declared.control.Control.TheVariants.{Running}
-use Rattle.om_cells.specs.declared.control.Stack.{Stack}
-use Rattle.om_cells.specs.declared.step.Choice.{Choice}
-use Rattle.om_cells.specs.declared.step.Choice.TheVariants.{Next, Start}
-use Rattle.om_cells.specs.declared.step.Label.{Label}
-use Rattle.om_cells.specs.declared.step.Outcome.TheVariants as outcome
-use Rattle.om_cells.specs.declared.value.Val.{Val}
-use Rattle.om_cells.specs.declared.value.Val.TheVariants as value
-use Rattle.om_cells.specs.Rules.{step_at}
-use Rattle.om_cells.specs.State.{State, values_read}
-use Rattle.om_cells.specs.Values.{control_in}
+use Rattle.om_values.specs.declared.control.Control as controls
+use Rattle.om_values.specs.declared.control.Control.TheVariants.{Running}
+use Rattle.om_values.specs.declared.control.Stack.{Stack}
+use Rattle.om_values.specs.declared.step.Choice.{Choice}
+use Rattle.om_values.specs.declared.step.Choice.TheVariants.{Next, Start}
+use Rattle.om_values.specs.declared.step.Label.{Label}
+use Rattle.om_values.specs.declared.step.Outcome.TheVariants as outcome
+use Rattle.om_values.specs.declared.value.Val.{Val}
+use Rattle.om_values.specs.declared.value.Val.TheVariants as value
+use Rattle.om_values.specs.Rules.{step_at}
+use Rattle.om_values.specs.State.{State, values_read}
+use Rattle.om_values.specs.Values.{control_in}
 use Rattle.om_steps.specs.declared.row.Row.{Row}
 use Rattle.om_steps.specs.declared.row.Row.TheVariants as row
 use Rattle.om_steps.specs.Objects.{innermost}
 use Rattle.om_share.specs.Rows.{share_in}
-use Rattle.om_fork.specs.Rows.{value_of}
+use Rattle.om_team.specs.Rows.{value_of}
 use Rattle.om_task.specs.Tasks.{innermost_group}
 use Rattle.om_task.specs.Rules.{rules_of, choice_row, leaving, admits_all, further_in, row_in, outcome_after}
 use Rattle.om_team.specs.Sites.{site}

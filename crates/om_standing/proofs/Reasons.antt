@@ -25,11 +25,11 @@ use Rattle.om_code.specs.Printing.{ints_on}
 use Rattle.om_code.specs.Ways.{pops}
 use Rattle.om_steps.specs.declared.row.Row.{Row}
 use Rattle.om_steps.specs.declared.row.Row.TheVariants as row
-use Rattle.om_cells.specs.declared.step.Update.{Update}
-use Rattle.om_cells.specs.declared.control.Context.{Context}
-use Rattle.om_cells.specs.declared.control.Stack.{Stack}
-use Rattle.om_cells.specs.declared.value.Val.{Val}
-use Rattle.om_cells.specs.Values.{cell_in}
+use Rattle.om_values.specs.declared.step.Update.{Update}
+use Rattle.om_values.specs.declared.control.Context.{Context}
+use Rattle.om_values.specs.declared.control.Stack.{Stack}
+use Rattle.om_values.specs.declared.value.Val.{Val}
+use Rattle.om_values.specs.Values.{cell_in}
 use Rattle.om_steps.specs.Rows.{first_of}
 use Rattle.om_steps.specs.SerialRows.{row_of, touch_row, serial_row, slots_in, unsets, cells_of_slot}
 use Rattle.om_standing.specs.Reasons.{HasNoValue, MayLack}

@@ -6,13 +6,13 @@ use Rattle.om_code.specs.declared.raw.Raw.{Raw}
 use Rattle.om_code.specs.declared.raw.Slot.{Slot}
 use Rattle.om_code.specs.declared.raw.Source.TheVariants.{Own}
 use Rattle.om_code.specs.Validity.{IsValid}
-use Rattle.om_cells.specs.declared.control.Control.TheVariants.{Idle, Running, Faulted, Ended}
-use Rattle.om_cells.specs.declared.step.Label.{Label}
-use Rattle.om_cells.specs.declared.value.Val.{Val}
-use Rattle.om_cells.specs.declared.value.Val.TheVariants as value
-use Rattle.om_cells.specs.Rules.{Rules, next_state, and_then, replay, replay_from}
-use Rattle.om_cells.specs.State.{State}
-use Rattle.om_cells.specs.Values.{control_in}
+use Rattle.om_values.specs.declared.control.Control.TheVariants.{Idle, Running, Faulted, Ended}
+use Rattle.om_values.specs.declared.step.Label.{Label}
+use Rattle.om_values.specs.declared.value.Val.{Val}
+use Rattle.om_values.specs.declared.value.Val.TheVariants as value
+use Rattle.om_values.specs.Rules.{Rules, next_state, and_then, replay, replay_from}
+use Rattle.om_values.specs.State.{State}
+use Rattle.om_values.specs.Values.{control_in}
 use Rattle.om_task.specs.Rules.{rules_of}
 use Rattle.om_standing.specs.Laws.{StepsStand}
 use Rattle.om_standing.specs.Running.{HasRun}

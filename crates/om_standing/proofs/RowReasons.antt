@@ -22,18 +22,18 @@ use Rattle.om_code.specs.declared.raw.Slot.{Slot}
 use Rattle.om_code.specs.Arithmetic.{combine}
 use Rattle.om_code.specs.Printing.{ints_on}
 use Rattle.om_events.specs.declared.kind.TaskStatus as statuses
-use Rattle.om_cells.specs.declared.control.Construct.{Construct}
-use Rattle.om_cells.specs.declared.control.Construct.TheVariants as construct
-use Rattle.om_cells.specs.declared.control.Context.{Context}
-use Rattle.om_cells.specs.declared.control.Frame.{Frame}
-use Rattle.om_cells.specs.declared.control.Kind.{Kind}
-use Rattle.om_cells.specs.declared.control.Kind.TheVariants as kind
-use Rattle.om_cells.specs.declared.control.Share.{Share}
-use Rattle.om_cells.specs.declared.control.Team.{Team}
-use Rattle.om_cells.specs.declared.control.Stack.{Stack}
-use Rattle.om_cells.specs.declared.value.Ready.{Ready}
-use Rattle.om_cells.specs.declared.value.Val.{Val}
-use Rattle.om_cells.specs.Values.{cell_in, number_in, count_in, holder_in, task_in}
+use Rattle.om_values.specs.declared.control.Construct.{Construct}
+use Rattle.om_values.specs.declared.control.Construct.TheVariants as construct
+use Rattle.om_values.specs.declared.control.Context.{Context}
+use Rattle.om_values.specs.declared.control.Frame.{Frame}
+use Rattle.om_values.specs.declared.control.Kind.{Kind}
+use Rattle.om_values.specs.declared.control.Kind.TheVariants as kind
+use Rattle.om_values.specs.declared.control.Share.{Share}
+use Rattle.om_values.specs.declared.control.Team.{Team}
+use Rattle.om_values.specs.declared.control.Stack.{Stack}
+use Rattle.om_values.specs.declared.value.Ready.{Ready}
+use Rattle.om_values.specs.declared.value.Val.{Val}
+use Rattle.om_values.specs.Values.{cell_in, number_in, count_in, holder_in, task_in}
 use Rattle.om_steps.specs.declared.row.Launch.{Launch}
 use Rattle.om_steps.specs.declared.row.Row.{Row}
 use Rattle.om_steps.specs.Rows.{Asked, first_of, rest_of}
@@ -41,8 +41,8 @@ use Rattle.om_steps.specs.Objects.{own_cells, homes_in, is_misplaced}
 use Rattle.om_steps.specs.SerialRows.{call_row, return_row, put_combined, reduced, reduce_row}
 use Rattle.om_share.specs.Barriers.{is_open}
 use Rattle.om_steps.specs.Begins.{first_frame}
-use Rattle.om_fork.specs.Teams.{first_busy}
-use Rattle.om_fork.specs.Rows.{forked, team_of, named_row, sized_row, fork_row}
+use Rattle.om_team.specs.Teams.{first_busy}
+use Rattle.om_team.specs.Rows.{forked, team_of, named_row, sized_row, fork_row}
 use Rattle.om_share.specs.Rows.{is_misplaced_barrier, arrive_row, departed, depart_row, left, leave_row}
 use Rattle.om_share.specs.declared.chunk.Chunk.{Chunk}
 use Rattle.om_share.specs.Chunks.{static_chunk, chunk_within, value_of}
@@ -57,7 +57,7 @@ use Rattle.om_steps.specs.Rows.{is_zero}
 use Rattle.om_task.specs.Tasks.{born}
 use Rattle.om_task.specs.Rows.{made_row, given_row, spawn_row, ended_row, end_row_of, task_end_row, waited}
 use Rattle.om_task.specs.Rows.{wait_end_row, opened_row, group_begin_row, closed, closed_row}
-use Rattle.om_fork.specs.Rows.{finished, finished_row}
+use Rattle.om_team.specs.Rows.{finished, finished_row}
 use Rattle.om_task.specs.Rows.{ready_for, started, started_row, start_row}
 use Rattle.om_standing.specs.Ints.{ShareHasInts}
 use Rattle.om_standing.specs.Reasons.{is_in_loop, HasNoSection, is_worksharing}

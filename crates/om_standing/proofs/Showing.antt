@@ -20,17 +20,17 @@ use Rattle.om_code.specs.declared.instruction.Place.TheVariants as place
 use Rattle.om_code.specs.declared.raw.Raw.{Raw}
 use Rattle.om_code.specs.Frames.{cells_in}
 use Rattle.om_code.specs.Places.{slots_of}
-use Rattle.om_cells.specs.declared.control.Context.{Context}
-use Rattle.om_cells.specs.declared.control.Control.{Control}
-use Rattle.om_cells.specs.declared.control.Home.TheVariants.{Own}
-use Rattle.om_cells.specs.declared.step.Tail.TheVariants.{Bytes}
-use Rattle.om_cells.specs.declared.step.Update.{Update}
-use Rattle.om_cells.specs.declared.step.Update.TheVariants.{Put, Append}
-use Rattle.om_cells.specs.declared.value.Val.{Val}
-use Rattle.om_cells.specs.declared.value.Val.TheVariants as value
-use Rattle.om_cells.specs.Rules.{control_access}
-use Rattle.om_cells.specs.State.{State, state_after, updated, value_after}
-use Rattle.om_cells.specs.Values.{value_with}
+use Rattle.om_values.specs.declared.control.Context.{Context}
+use Rattle.om_values.specs.declared.control.Control.{Control}
+use Rattle.om_values.specs.declared.control.Home.TheVariants.{Own}
+use Rattle.om_values.specs.declared.step.Tail.TheVariants.{Bytes}
+use Rattle.om_values.specs.declared.step.Update.{Update}
+use Rattle.om_values.specs.declared.step.Update.TheVariants.{Put, Append}
+use Rattle.om_values.specs.declared.value.Val.{Val}
+use Rattle.om_values.specs.declared.value.Val.TheVariants as value
+use Rattle.om_values.specs.Rules.{control_access}
+use Rattle.om_values.specs.State.{State, state_after, updated, value_after}
+use Rattle.om_values.specs.Values.{value_with}
 use Rattle.om_steps.specs.Objects.{write, slot_cells}
 use Rattle.om_steps.specs.SerialRows.{unsets}
 use Rattle.om_rows.specs.Worlds.{World, with_held}

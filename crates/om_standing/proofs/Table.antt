@@ -10,9 +10,9 @@ use Rattle.om_code.specs.Frames.{Frame, Act, act, acted, int_at, print}
 use Rattle.om_code.specs.Places.{slots_of}
 use Rattle.om_code.specs.Printing.{ints_on}
 use Rattle.om_code.specs.Validity.{NamesKnown}
-use Rattle.om_cells.specs.declared.control.Control.TheVariants.{Running}
-use Rattle.om_cells.specs.declared.control.Stack.{Stack}
-use Rattle.om_cells.specs.State.{State}
+use Rattle.om_values.specs.declared.control.Control.TheVariants.{Running}
+use Rattle.om_values.specs.declared.control.Stack.{Stack}
+use Rattle.om_values.specs.State.{State}
 use Rattle.om_team.specs.Sites.{site}
 use Rattle.om_task.specs.Table.{row_of}
 use Rattle.om_steps.specs.SerialRows.{act_row}

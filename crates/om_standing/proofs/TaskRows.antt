@@ -25,24 +25,24 @@ use Rattle.om_code.specs.Arithmetic.{combine}
 use Rattle.om_code.specs.Frames.{act}
 use Rattle.om_code.specs.Printing.{ints_on}
 use Rattle.om_events.specs.declared.kind.TaskStatus as statuses
-use Rattle.om_cells.specs.declared.control.Context.{Context}
-use Rattle.om_cells.specs.declared.control.Frame.{Frame}
-use Rattle.om_cells.specs.declared.control.Kind.{Kind}
-use Rattle.om_cells.specs.declared.control.Kind.TheVariants as kind
-use Rattle.om_cells.specs.declared.control.Stack.{Stack}
-use Rattle.om_cells.specs.declared.control.Team.{Team}
-use Rattle.om_cells.specs.declared.control.Control.TheVariants.{Running}
-use Rattle.om_cells.specs.declared.edit.Edit.TheVariants.{BeginFrame, EndFrame, EndContext}
-use Rattle.om_cells.specs.declared.step.Update.{Update}
-use Rattle.om_cells.specs.declared.value.Ready.{Ready}
-use Rattle.om_cells.specs.declared.value.Task as tasks
-use Rattle.om_cells.specs.declared.value.Task.TheVariants as task
-use Rattle.om_cells.specs.declared.value.Val.{Val}
-use Rattle.om_cells.specs.declared.value.Val.TheVariants as value
+use Rattle.om_values.specs.declared.control.Context.{Context}
+use Rattle.om_values.specs.declared.control.Frame.{Frame}
+use Rattle.om_values.specs.declared.control.Kind.{Kind}
+use Rattle.om_values.specs.declared.control.Kind.TheVariants as kind
+use Rattle.om_values.specs.declared.control.Stack.{Stack}
+use Rattle.om_values.specs.declared.control.Team.{Team}
+use Rattle.om_values.specs.declared.control.Control.TheVariants.{Running}
+use Rattle.om_values.specs.declared.edit.Edit.TheVariants.{BeginFrame, EndFrame, EndContext}
+use Rattle.om_values.specs.declared.step.Update.{Update}
+use Rattle.om_values.specs.declared.value.Ready.{Ready}
+use Rattle.om_values.specs.declared.value.Task as tasks
+use Rattle.om_values.specs.declared.value.Task.TheVariants as task
+use Rattle.om_values.specs.declared.value.Val.{Val}
+use Rattle.om_values.specs.declared.value.Val.TheVariants as value
 use Rattle.om_foot.specs.declared.object.Obj.TheVariants as obj
-use Rattle.om_cells.specs.Edits.{edited}
-use Rattle.om_cells.specs.State.{State, values_read}
-use Rattle.om_cells.specs.Values.{cell_in, task_in, count_in}
+use Rattle.om_values.specs.Edits.{edited}
+use Rattle.om_values.specs.State.{State, values_read}
+use Rattle.om_values.specs.Values.{cell_in, task_in, count_in}
 use Rattle.om_steps.specs.declared.row.Launch.{Launch}
 use Rattle.om_steps.specs.Rows.{first_of, rest_of}
 use Rattle.om_steps.specs.Objects.{own_cells, deaths, puts, homes_in, innermost}
@@ -50,8 +50,8 @@ use Rattle.om_steps.specs.SerialRows.{put_of, row_of, unsets, cells_of_slot, tou
 use Rattle.om_steps.specs.SerialRows.{return_row, put_combined, reduced, reduce_row}
 use Rattle.om_share.specs.Barriers.{is_open}
 use Rattle.om_steps.specs.Begins.{first_frame}
-use Rattle.om_fork.specs.Teams.{first_busy, member, member_controls, member_puts, size_of}
-use Rattle.om_fork.specs.Rows.{forked, team_of, named_row, sized_row, fork_row, begin_row}
+use Rattle.om_team.specs.Teams.{first_busy, member, member_controls, member_puts, size_of}
+use Rattle.om_team.specs.Rows.{forked, team_of, named_row, sized_row, fork_row, begin_row}
 use Rattle.om_share.specs.Rows.{is_misplaced_barrier, arrive_row, kept, departed, depart_row, left, leave_row}
 use Rattle.om_task.specs.declared.task_start.Starting.{Starting}
 use Rattle.om_task.specs.declared.task.Making.{Making}
@@ -59,7 +59,7 @@ use Rattle.om_steps.specs.Rows.{is_zero}
 use Rattle.om_task.specs.Tasks.{born, group_of, innermost_group, ready_of}
 use Rattle.om_task.specs.Rows.{made_row, given_row, spawn_row, ended_row, end_row_of, task_end_row, wait_begin_row}
 use Rattle.om_task.specs.Rows.{waited, wait_end_row, opened_row, group_begin_row, closed, closed_row, group_end_row}
-use Rattle.om_fork.specs.Rows.{value_of, finished, finished_row, finish_row}
+use Rattle.om_team.specs.Rows.{value_of, finished, finished_row, finish_row}
 use Rattle.om_task.specs.Rows.{ready_for, started, started_row}
 use Rattle.om_task.specs.Rows.{start_row}
 use Rattle.om_standing.specs.Standing.{Owned, IsStandingFrame, IsStandingContext, IsStandingControl, IsStandingTask}

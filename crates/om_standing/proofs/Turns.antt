@@ -18,18 +18,18 @@ use Rattle.om_code.specs.declared.serial.Turn.TheVariants.{Goes, Returns, Finish
 use Rattle.om_code.specs.Frames as frames
 use Rattle.om_code.specs.Frames.{Frame, FrameTurn, Act, acted, turned, cells_in, cell_at, content, print_bytes}
 use Rattle.om_code.specs.Places.{slots_of}
-use Rattle.om_cells.specs.declared.control.Control.{Control}
-use Rattle.om_cells.specs.declared.control.Control.TheVariants.{Running, Faulted, Ended}
-use Rattle.om_cells.specs.declared.control.Stack.{Stack}
-use Rattle.om_cells.specs.declared.edit.Edit.TheVariants.{Go}
-use Rattle.om_cells.specs.declared.step.Tail.TheVariants.{Bytes}
-use Rattle.om_cells.specs.declared.step.Update.TheVariants.{Put, Append}
-use Rattle.om_cells.specs.declared.value.Val.TheVariants as value
-use Rattle.om_cells.specs.Edits.{value_given}
-use Rattle.om_cells.specs.Homes.{cell_of}
-use Rattle.om_cells.specs.Rules.{control_access, state_after_outcome}
-use Rattle.om_cells.specs.State.{State, state_after, values_read}
-use Rattle.om_cells.specs.Values.{cell_in}
+use Rattle.om_values.specs.declared.control.Control.{Control}
+use Rattle.om_values.specs.declared.control.Control.TheVariants.{Running, Faulted, Ended}
+use Rattle.om_values.specs.declared.control.Stack.{Stack}
+use Rattle.om_values.specs.declared.edit.Edit.TheVariants.{Go}
+use Rattle.om_values.specs.declared.step.Tail.TheVariants.{Bytes}
+use Rattle.om_values.specs.declared.step.Update.TheVariants.{Put, Append}
+use Rattle.om_values.specs.declared.value.Val.TheVariants as value
+use Rattle.om_values.specs.Edits.{value_given}
+use Rattle.om_values.specs.Homes.{cell_of}
+use Rattle.om_values.specs.Rules.{control_access, state_after_outcome}
+use Rattle.om_values.specs.State.{State, state_after, values_read}
+use Rattle.om_values.specs.Values.{cell_in}
 use Rattle.om_steps.specs.declared.row.Row.{Row}
 use Rattle.om_steps.specs.declared.row.Row.TheVariants as row
 use Rattle.om_steps.specs.Rows.{Asked}

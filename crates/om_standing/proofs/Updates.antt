@@ -7,14 +7,14 @@ use Rattle.om_foot.specs.declared.footprint.Access.{Access}
 use Rattle.om_foot.specs.declared.footprint.Mode.{Mode}
 use Rattle.om_foot.specs.declared.footprint.Mode.TheVariants as mode
 use Rattle.om_events.specs.declared.event.Record.{Record}
-use Rattle.om_cells.specs.declared.step.Tail.{Tail}
-use Rattle.om_cells.specs.declared.step.Tail.TheVariants as tail
-use Rattle.om_cells.specs.declared.step.Update.{Update}
-use Rattle.om_cells.specs.declared.step.Update.TheVariants.{Keep, Put, Add, Append, Cut}
-use Rattle.om_cells.specs.declared.value.Val.{Val}
-use Rattle.om_cells.specs.declared.value.Val.TheVariants as value
-use Rattle.om_cells.specs.State.{State, value_after, state_after, updated}
-use Rattle.om_cells.specs.Values.{value_plus, value_with}
+use Rattle.om_values.specs.declared.step.Tail.{Tail}
+use Rattle.om_values.specs.declared.step.Tail.TheVariants as tail
+use Rattle.om_values.specs.declared.step.Update.{Update}
+use Rattle.om_values.specs.declared.step.Update.TheVariants.{Keep, Put, Add, Append, Cut}
+use Rattle.om_values.specs.declared.value.Val.{Val}
+use Rattle.om_values.specs.declared.value.Val.TheVariants as value
+use Rattle.om_values.specs.State.{State, value_after, state_after, updated}
+use Rattle.om_values.specs.Values.{value_plus, value_with}
 use Rattle.om_steps.specs.Objects.{deaths}
 use Rattle.om_steps.specs.SerialRows.{unsets}
 use Rattle.om_task.specs.Tasks.{additions}

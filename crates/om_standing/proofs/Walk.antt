@@ -17,13 +17,13 @@ use Rattle.om_code.specs.Ways.{pops, pushes, exits, places, successors}
 use Rattle.om_code.specs.declared.instruction.Exits.TheVariants as leads_to
 use Rattle.om_code.specs.Contained.{Contains-here, Contains-there}
 use Rattle.om_code.specs.Rights.{act_right}
-use Rattle.om_cells.specs.declared.control.Stack.{Stack}
-use Rattle.om_cells.specs.declared.control.Control.TheVariants.{Running}
-use Rattle.om_cells.specs.declared.step.Choice.{Choice}
-use Rattle.om_cells.specs.declared.step.Choice.TheVariants.{Next, Start}
-use Rattle.om_cells.specs.declared.step.Label.{Label}
-use Rattle.om_cells.specs.declared.value.Val.{Val}
-use Rattle.om_cells.specs.State.{State, values_read}
+use Rattle.om_values.specs.declared.control.Stack.{Stack}
+use Rattle.om_values.specs.declared.control.Control.TheVariants.{Running}
+use Rattle.om_values.specs.declared.step.Choice.{Choice}
+use Rattle.om_values.specs.declared.step.Choice.TheVariants.{Next, Start}
+use Rattle.om_values.specs.declared.step.Label.{Label}
+use Rattle.om_values.specs.declared.value.Val.{Val}
+use Rattle.om_values.specs.State.{State, values_read}
 use Rattle.om_steps.specs.Objects.{innermost}
 use Rattle.om_steps.specs.SerialRows.{serial_row, slots_in}
 use Rattle.om_share.specs.Rows.{share_in}

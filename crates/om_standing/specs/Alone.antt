@@ -10,15 +10,15 @@ use Rattle.om_code.specs.declared.instruction.Place.TheVariants as place
 use Rattle.om_code.specs.declared.raw.Raw.{Raw}
 use Rattle.om_code.specs.Frames.{cells_in}
 use Rattle.om_code.specs.Places.{slots_of}
-use Rattle.om_cells.specs.declared.control.Context.{Context}
-use Rattle.om_cells.specs.declared.control.Control.{Control}
-use Rattle.om_cells.specs.declared.control.Home.TheVariants.{Own}
-use Rattle.om_cells.specs.declared.control.Stack.{Stack}
-use Rattle.om_cells.specs.declared.step.Choice.TheVariants.{Next}
-use Rattle.om_cells.specs.declared.step.Label.{Label}
-use Rattle.om_cells.specs.declared.value.Val.TheVariants as value
-use Rattle.om_cells.specs.Rules.{replay_from}
-use Rattle.om_cells.specs.State.{State}
+use Rattle.om_values.specs.declared.control.Context.{Context}
+use Rattle.om_values.specs.declared.control.Control.{Control}
+use Rattle.om_values.specs.declared.control.Home.TheVariants.{Own}
+use Rattle.om_values.specs.declared.control.Stack.{Stack}
+use Rattle.om_values.specs.declared.step.Choice.TheVariants.{Next}
+use Rattle.om_values.specs.declared.step.Label.{Label}
+use Rattle.om_values.specs.declared.value.Val.TheVariants as value
+use Rattle.om_values.specs.Rules.{replay_from}
+use Rattle.om_values.specs.State.{State}
 use Rattle.om_steps.specs.Objects.{home_at}
 use Rattle.om_task.specs.Rules.{rules_of}
 use Rattle.om_rows.specs.Worlds.{World}

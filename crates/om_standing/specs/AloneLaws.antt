@@ -11,17 +11,17 @@ use Rattle.om_code.specs.declared.raw.Raw.{Raw}
 use Rattle.om_code.specs.Frames as frames
 use Rattle.om_code.specs.Frames.{FrameTurn}
 use Rattle.om_code.specs.Validity.{IsKnown, IsValid}
-use Rattle.om_cells.specs.declared.control.Context.{Context}
-use Rattle.om_cells.specs.declared.control.Control.{Control}
-use Rattle.om_cells.specs.declared.control.Control.TheVariants.{Running, Faulted, Ended}
-use Rattle.om_cells.specs.declared.control.Frame as controls
-use Rattle.om_cells.specs.declared.control.Kind.TheVariants.{Initial}
-use Rattle.om_cells.specs.declared.control.Stack.{Stack}
-use Rattle.om_cells.specs.declared.value.Val.TheVariants as value
-use Rattle.om_cells.specs.Edits.{value_given}
-use Rattle.om_cells.specs.Rules.{replay}
-use Rattle.om_cells.specs.State.{State}
-use Rattle.om_cells.specs.Values.{count_in}
+use Rattle.om_values.specs.declared.control.Context.{Context}
+use Rattle.om_values.specs.declared.control.Control.{Control}
+use Rattle.om_values.specs.declared.control.Control.TheVariants.{Running, Faulted, Ended}
+use Rattle.om_values.specs.declared.control.Frame as controls
+use Rattle.om_values.specs.declared.control.Kind.TheVariants.{Initial}
+use Rattle.om_values.specs.declared.control.Stack.{Stack}
+use Rattle.om_values.specs.declared.value.Val.TheVariants as value
+use Rattle.om_values.specs.Edits.{value_given}
+use Rattle.om_values.specs.Rules.{replay}
+use Rattle.om_values.specs.State.{State}
+use Rattle.om_values.specs.Values.{count_in}
 use Rattle.om_task.specs.Rules.{first_context, initial_at, rules_of, start_of}
 use Rattle.om_resolved.specs.ResolvedTree.{ResolvedFunctionTree, ResolvedTree}
 use Rattle.om_resolved.specs.Uses.{is_main_function}

@@ -10,18 +10,18 @@ use Rattle.om_code.specs.declared.instruction.Instr.TheVariants.{Constant}
 use Rattle.om_code.specs.declared.raw.Body.{Body}
 use Rattle.om_code.specs.declared.raw.Raw.{Raw}
 use Rattle.om_code.specs.Arithmetic.{is_int}
-use Rattle.om_cells.specs.declared.control.Construct.{Construct}
-use Rattle.om_cells.specs.declared.control.Construct.TheVariants as construct
-use Rattle.om_cells.specs.declared.control.Context.{Context}
-use Rattle.om_cells.specs.declared.control.Control as controls
-use Rattle.om_cells.specs.declared.control.Control.TheVariants.{Running, Faulted}
-use Rattle.om_cells.specs.declared.control.Frame.{Frame}
-use Rattle.om_cells.specs.declared.control.Share.{Share}
-use Rattle.om_cells.specs.declared.control.Stack.{Stack}
-use Rattle.om_cells.specs.declared.control.Team.{Team}
-use Rattle.om_cells.specs.declared.value.Val.{Val}
-use Rattle.om_cells.specs.declared.value.Val.TheVariants as value
-use Rattle.om_cells.specs.State.{State}
+use Rattle.om_values.specs.declared.control.Construct.{Construct}
+use Rattle.om_values.specs.declared.control.Construct.TheVariants as construct
+use Rattle.om_values.specs.declared.control.Context.{Context}
+use Rattle.om_values.specs.declared.control.Control as controls
+use Rattle.om_values.specs.declared.control.Control.TheVariants.{Running, Faulted}
+use Rattle.om_values.specs.declared.control.Frame.{Frame}
+use Rattle.om_values.specs.declared.control.Share.{Share}
+use Rattle.om_values.specs.declared.control.Stack.{Stack}
+use Rattle.om_values.specs.declared.control.Team.{Team}
+use Rattle.om_values.specs.declared.value.Val.{Val}
+use Rattle.om_values.specs.declared.value.Val.TheVariants as value
+use Rattle.om_values.specs.State.{State}
 use Rattle.om_share.specs.Chunks.{value_of}
 use Rattle.om_share.specs.Rows.{is_loop}
 

@@ -6,13 +6,13 @@ use Rattle.om_code.specs.declared.raw.Raw.{Raw}
 use Rattle.om_code.specs.Places.{instruction_at, slots_of}
 use Rattle.om_code.specs.Validity.{IsValid, NamesKnown}
 use Rattle.om_code.specs.Ways.{pops}
-use Rattle.om_cells.specs.declared.control.Control.TheVariants.{Running}
-use Rattle.om_cells.specs.declared.control.Stack.{Stack}
-use Rattle.om_cells.specs.declared.step.Label.{Label}
-use Rattle.om_cells.specs.declared.value.Val.TheVariants.{Control}
-use Rattle.om_cells.specs.declared.step.Outcome.TheVariants.{Ended}
-use Rattle.om_cells.specs.Rules.{step_at, next_state, replay}
-use Rattle.om_cells.specs.State.{State}
+use Rattle.om_values.specs.declared.control.Control.TheVariants.{Running}
+use Rattle.om_values.specs.declared.control.Stack.{Stack}
+use Rattle.om_values.specs.declared.step.Label.{Label}
+use Rattle.om_values.specs.declared.value.Val.TheVariants.{Control}
+use Rattle.om_values.specs.declared.step.Outcome.TheVariants.{Ended}
+use Rattle.om_values.specs.Rules.{step_at, next_state, replay}
+use Rattle.om_values.specs.State.{State}
 use Rattle.om_task.specs.Rules.{rules_of, start_of}
 use Rattle.om_standing.specs.Ints.{IsOfInts, AreFew, HasInts}
 use Rattle.om_standing.specs.Reasons.{MayLack}

@@ -4,12 +4,12 @@ use Rattle.om_foot.specs.declared.object.Obj.TheVariants as obj
 use Rattle.om_code.specs.declared.raw.Raw.{Raw}
 use Rattle.om_code.specs.declared.raw.Source.TheVariants.{Own}
 use Rattle.om_code.specs.Places.{slots_of}
-use Rattle.om_cells.specs.declared.control.Control.TheVariants.{Running}
-use Rattle.om_cells.specs.declared.control.Stack.{Stack}
-use Rattle.om_cells.specs.declared.step.Label.{Label}
-use Rattle.om_cells.specs.declared.value.Val.TheVariants.{Control}
-use Rattle.om_cells.specs.Rules.{replay}
-use Rattle.om_cells.specs.State.{State}
+use Rattle.om_values.specs.declared.control.Control.TheVariants.{Running}
+use Rattle.om_values.specs.declared.control.Stack.{Stack}
+use Rattle.om_values.specs.declared.step.Label.{Label}
+use Rattle.om_values.specs.declared.value.Val.TheVariants.{Control}
+use Rattle.om_values.specs.Rules.{replay}
+use Rattle.om_values.specs.State.{State}
 use Rattle.om_task.specs.Rules.{rules_of}
 
 -- after some of the first steps of a run a worker ran the frame of this task and ordinal, and the body of that frame

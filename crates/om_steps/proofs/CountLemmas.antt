@@ -1,9 +1,9 @@
 -- Counts as numbers.
 use Rattle.std.proofs.Common.{◌≡◌, refl, pos}
 use Rattle.std.specs.Prelude.{unwrap_or}
-use Rattle.om_cells.specs.declared.value.Val.{Val}
-use Rattle.om_cells.specs.declared.value.Val.TheVariants as value
-use Rattle.om_cells.specs.Values.{count_of, count_in}
+use Rattle.om_values.specs.declared.value.Val.{Val}
+use Rattle.om_values.specs.declared.value.Val.TheVariants as value
+use Rattle.om_values.specs.Values.{count_of, count_in}
 
 -- what is no count counts as 0
 pub count_is : (v : Val) → unwrap_or (count_of v) (pos 0) ≡ count_in v

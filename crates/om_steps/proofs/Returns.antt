@@ -4,8 +4,8 @@ use Rattle.std.specs.declared.boxed.Box.{Box}
 use Rattle.std.specs.declared.alloc.Global.{Global}
 use Rattle.om_code.specs.declared.frame.Operand.{Operand}
 use Rattle.om_code.specs.declared.raw.Slot.{Slot}
-use Rattle.om_cells.specs.declared.control.Context.{Context}
-use Rattle.om_cells.specs.declared.edit.Edit.TheVariants.{EndFrame}
+use Rattle.om_values.specs.declared.control.Context.{Context}
+use Rattle.om_values.specs.declared.edit.Edit.TheVariants.{EndFrame}
 use Rattle.om_live.specs.declared.control.Frame.{Frame}
 use Rattle.om_live.specs.Plain.{plain_box}
 use Rattle.om_steps.specs.declared.row.Row.TheVariants.{Goes}

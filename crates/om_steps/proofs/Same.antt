@@ -5,14 +5,15 @@ use Rattle.std.proofs.lemmas.List.{drop_more}
 use Rattle.om_foot.specs.declared.footprint.Access.{Access}
 use Rattle.om_code.specs.declared.frame.Cell as cells
 use Rattle.om_code.specs.declared.frame.Cell.TheVariants as cell
-use Rattle.om_cells.specs.declared.cells.SlotName.{SlotName}
-use Rattle.om_cells.specs.declared.cells.Cells.{Cells}
-use Rattle.om_cells.specs.declared.control.Home.{Home}
-use Rattle.om_cells.specs.declared.control.Home.TheVariants.{Own, Elsewhere}
-use Rattle.om_cells.specs.declared.step.Update.{Update}
-use Rattle.om_cells.specs.declared.step.Update.TheVariants.{Put}
-use Rattle.om_cells.specs.declared.value.Val.TheVariants as value
-use Rattle.om_cells.specs.Cells.{cell_access, cells_from, cells_of, cells_listed, puts_of}
+use Rattle.om_foot.specs.declared.cells.SlotName.{SlotName}
+use Rattle.om_foot.specs.declared.cells.Cells.{Cells}
+use Rattle.om_values.specs.declared.control.Home.{Home}
+use Rattle.om_values.specs.declared.control.Home.TheVariants.{Own, Elsewhere}
+use Rattle.om_values.specs.declared.step.Update.{Update}
+use Rattle.om_values.specs.declared.step.Update.TheVariants.{Put}
+use Rattle.om_values.specs.declared.value.Val.TheVariants as value
+use Rattle.om_foot.specs.Cells.{cell_access, cells_from, cells_of, cells_listed}
+use Rattle.om_values.specs.Runs.{puts_of}
 use Rattle.om_steps.specs.Objects.{same_puts, deaths, slot_in, slot_cells}
 use Rattle.om_steps.specs.SerialRows.{unsets}
 

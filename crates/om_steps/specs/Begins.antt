@@ -1,10 +1,10 @@
 -- What a task begins with.
 use Rattle.std.specs.Prelude.{ℕ, Option, List, []}
-use Rattle.om_cells.specs.declared.control.Home.{Home}
-use Rattle.om_cells.specs.declared.control.Frame.{Frame}
-use Rattle.om_cells.specs.declared.control.Team.{Team}
-use Rattle.om_cells.specs.declared.control.Kind.{Kind}
-use Rattle.om_cells.specs.declared.control.Context.{Context}
+use Rattle.om_values.specs.declared.control.Home.{Home}
+use Rattle.om_values.specs.declared.control.Frame.{Frame}
+use Rattle.om_values.specs.declared.control.Team.{Team}
+use Rattle.om_values.specs.declared.control.Kind.{Kind}
+use Rattle.om_values.specs.declared.control.Context.{Context}
 
 -- the frame with which a task begins on a body
 abbrev pub first_frame : ℕ → List Home → Frame

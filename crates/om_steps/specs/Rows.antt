@@ -4,11 +4,11 @@ use Rattle.std.specs.Ordering.{int_eq}
 use Rattle.om_foot.specs.declared.footprint.Access.{Access}
 use Rattle.om_code.specs.declared.frame.Operand.{Operand}
 use Rattle.om_code.specs.declared.frame.Cell.TheVariants as cell
-use Rattle.om_cells.specs.declared.edit.Edit.TheVariants.{Go}
-use Rattle.om_cells.specs.declared.step.Update.{Update}
-use Rattle.om_cells.specs.declared.value.Val.{Val}
-use Rattle.om_cells.specs.declared.value.Val.TheVariants as value
-use Rattle.om_cells.specs.State.{State, values_read}
+use Rattle.om_values.specs.declared.edit.Edit.TheVariants.{Go}
+use Rattle.om_values.specs.declared.step.Update.{Update}
+use Rattle.om_values.specs.declared.value.Val.{Val}
+use Rattle.om_values.specs.declared.value.Val.TheVariants as value
+use Rattle.om_values.specs.State.{State, values_read}
 use Rattle.om_steps.specs.declared.row.Row.{Row}
 use Rattle.om_steps.specs.declared.row.Row.TheVariants.{Goes}
 use Rattle.om_steps.specs.declared.row.Answer.{Answer}

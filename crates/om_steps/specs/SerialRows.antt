@@ -23,14 +23,14 @@ use Rattle.om_code.specs.declared.serial.Turn.TheVariants as turn
 use Rattle.om_code.specs.Frames.{Act, act, cells_in, print_bytes}
 use Rattle.om_code.specs.Places.{slots_of}
 use Rattle.om_code.specs.Arithmetic.{combine}
-use Rattle.om_cells.specs.declared.control.Context.{Context}
-use Rattle.om_cells.specs.declared.control.Frame.{Frame}
-use Rattle.om_cells.specs.declared.edit.Edit.TheVariants.{Go, BeginFrame, EndFrame}
-use Rattle.om_cells.specs.declared.step.Tail.TheVariants.{Bytes}
-use Rattle.om_cells.specs.declared.step.Update.{Update}
-use Rattle.om_cells.specs.declared.step.Update.TheVariants.{Put, Keep, Append}
-use Rattle.om_cells.specs.declared.value.Val.TheVariants as value
-use Rattle.om_cells.specs.Values.{cell_in}
+use Rattle.om_values.specs.declared.control.Context.{Context}
+use Rattle.om_values.specs.declared.control.Frame.{Frame}
+use Rattle.om_values.specs.declared.edit.Edit.TheVariants.{Go, BeginFrame, EndFrame}
+use Rattle.om_values.specs.declared.step.Tail.TheVariants.{Bytes}
+use Rattle.om_values.specs.declared.step.Update.{Update}
+use Rattle.om_values.specs.declared.step.Update.TheVariants.{Put, Keep, Append}
+use Rattle.om_values.specs.declared.value.Val.TheVariants as value
+use Rattle.om_values.specs.Values.{cell_in}
 use Rattle.om_steps.specs.declared.row.Launch.{Launch}
 use Rattle.om_steps.specs.declared.row.Answer.{Answer}
 use Rattle.om_steps.specs.declared.row.Row.{Row}

@@ -8,7 +8,7 @@ ghost use Rattle.om_code.specs.Validity.{NamesKnown};
 ghost use Rattle.om_live.specs.Plain.{plain_context};
 ghost use Rattle.om_live.specs.Stores.{state_of};
 ghost use Rattle.om_steps.specs.Rows.{answered};
-ghost use Rattle.om_cells.specs.Values.{cell_in};
+ghost use Rattle.om_values.specs.Values.{cell_in};
 ghost use Rattle.om_steps.specs.Objects.{read, write, object_of};
 ghost use Rattle.om_steps.specs.SerialRows.{row_of, put_of, unsets, cleared, serial_row, slots_in};
 
@@ -17,16 +17,16 @@ use crate::parts::one_put;
 use crate::row::only;
 use crate::updates::put_each;
 use crate::{Answer, Row};
-use om_cells::{Edit, Names, Puts, Tail, Update, Val};
 use om_code::frame::Cell;
 use om_code::instruction::Place;
 use om_code::print::print_bytes;
 use om_code::raw::Slot;
 use om_code::serial::{Touch, Turn, touch_of, turn_of};
 use om_code::{Instr, Raw};
-use om_foot::{Access, Mode, Obj};
+use om_foot::{Access, Mode, Names, Obj};
 use om_live::{Context, Store};
 use om_seq::Seq;
+use om_values::{Edit, Puts, Tail, Update, Val};
 use std::alloc::{AllocError, Global};
 
 /// The slots of a body, by its number; none where there is no such body.

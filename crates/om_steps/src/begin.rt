@@ -3,9 +3,9 @@
 ghost use Rattle.std.specs.Prelude.{◌≡◌, [], IfOk, None};
 ghost use Rattle.om_steps.specs.Begins.{first_frame, new_context};
 
-use om_cells::{Construct, Context, Frame, Home, Kind, Shared, SharedPile, Team};
-use om_foot::Name;
+use om_foot::{Name, Shared};
 use om_seq::{Pile, Seq};
+use om_values::{Construct, Context, Frame, Home, Kind, SharedPile, Team};
 use std::alloc::{AllocError, Global};
 
 /// Where a task stands: its name, its place in its team, and the group in which it began.

@@ -1,7 +1,7 @@
 //! The counts of unfinished tasks.
 
 ghost use Rattle.std.specs.Prelude.{◌≡◌};
-ghost use Rattle.om_cells.specs.Values.{count_in};
+ghost use Rattle.om_values.specs.Values.{count_in};
 ghost use Rattle.om_live.specs.Stores.{state_of};
 ghost use Rattle.om_steps.specs.Rows.{is_zero};
 

@@ -1,7 +1,7 @@
 //! Calls, returns, reductions, and the numbers of threads.
 
 ghost use Rattle.std.specs.Prelude.{◌≡◌, ◌<◌, ◌≤◌, ◌+◌, ◌^◌, IfOk, length, option_map};
-ghost use Rattle.om_cells.specs.State.{State};
+ghost use Rattle.om_values.specs.State.{State};
 ghost use Rattle.om_live.specs.Plain.{plain_context};
 ghost use Rattle.om_live.specs.Stores.{state_of};
 ghost use Rattle.om_steps.specs.Rows.{answered};
@@ -12,14 +12,15 @@ use crate::names::{homes_in, name, name_given, object_of, own_cells};
 use crate::parts::one_put;
 use crate::updates::{put_cell, put_deaths, put_ints};
 use crate::{Answer, Launch, Row};
-use om_cells::{Edit, Names, Puts, Shared, Update};
 use om_code::Body;
 use om_code::arithmetic::combine;
 use om_code::frame::{Cell, Fault, Operand};
 use om_code::instruction::{Place, Reduction};
 use om_code::raw::Slot;
+use om_foot::{Names, Shared};
 use om_live::{Context, Store};
 use om_seq::Seq;
+use om_values::{Edit, Puts, Update};
 use std::alloc::{AllocError, Global};
 
 // How many frames of a task wait, at most, for the one that runs.

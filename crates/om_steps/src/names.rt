@@ -5,13 +5,13 @@ ghost use Rattle.om_live.specs.Plain.{plain_context};
 ghost use Rattle.om_steps.specs.Objects.{read, write, object_of, slot_in, slot_cells, given_cells, own_slot, own_cells, home_at, home_from, home_for, homes_for, homes_in, innermost, group_name, group_in, is_in_region, is_misplaced_in, is_misplaced};
 ghost use Rattle.om_foot.specs.declared.object.Obj.TheVariants as obj;
 
-use om_cells::{Cells, Construct, Home, Kind, Names, Shared, SlotName};
 use om_code::frame::Operands;
 use om_code::instruction::Place;
 use om_code::raw::{Slot, Source};
-use om_foot::{Access, Mode, Name, Obj};
+use om_foot::{Access, Cells, Mode, Name, Names, Obj, Shared, SlotName};
 use om_live::{Context, Tape};
 use om_seq::Seq;
+use om_values::{Construct, Home, Kind};
 use std::alloc::{AllocError, Global};
 
 // Appends an access to a list.

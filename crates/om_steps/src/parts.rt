@@ -7,10 +7,10 @@ use crate::names::{name_events, name_one};
 use crate::row::only;
 use crate::updates::put_event;
 use crate::{Answer, Row};
-use om_cells::{Edit, Names, Puts, Update};
 use om_events::Record;
-use om_foot::{Mode, Obj};
+use om_foot::{Mode, Names, Obj};
 use om_seq::Seq;
+use om_values::{Edit, Puts, Update};
 use std::alloc::{AllocError, Global};
 
 /// The worker that takes a step, from 0, and the place in its body at which it goes on.

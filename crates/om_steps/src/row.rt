@@ -3,9 +3,10 @@
 ghost use Rattle.std.specs.Prelude.{◌≡◌, ◌∷◌, [], IfOk};
 ghost use Rattle.om_steps.specs.Rows.{goes};
 
-use om_cells::{Blocked, Edit, Names, Puts, Update};
 use om_code::frame::{Fault, Operand};
+use om_foot::Names;
 use om_seq::Seq;
+use om_values::{Blocked, Edit, Puts, Update};
 use std::alloc::{AllocError, Global};
 
 /// What comes of an instruction, before its edits are made.

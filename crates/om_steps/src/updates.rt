@@ -1,15 +1,15 @@
 //! What is put at the objects that instructions name.
 
 ghost use Rattle.std.specs.Prelude.{◌≡◌, ◌++◌, ◌∷◌, [], IfOk, OnOk};
-ghost use Rattle.om_cells.specs.Cells.{cells_listed};
+ghost use Rattle.om_foot.specs.Cells.{cells_listed};
 ghost use Rattle.om_steps.specs.Objects.{puts, same_puts, deaths, event};
-ghost use Rattle.om_cells.specs.declared.value.Val.TheVariants as value;
+ghost use Rattle.om_values.specs.declared.value.Val.TheVariants as value;
 
-use om_cells::{Cells, Names, Puts, Run, Tail, Update, Val};
 use om_code::frame::Cell;
 use om_events::Record;
-use om_foot::Access;
+use om_foot::{Access, Cells, Names};
 use om_seq::Seq;
+use om_values::{Puts, Run, Tail, Update, Val};
 use std::alloc::{AllocError, Global};
 
 /// Appends a put of a cell.

@@ -8,7 +8,7 @@ use Rattle.std.proofs.lemmas.Option.{get_or_from_slice_get, slice_get_within, sl
 use Rattle.om_foot.specs.Names.{IsDescendant, is_below}
 use Rattle.om_foot.specs.Below.{below_to, below_from}
 use Rattle.om_code.specs.declared.raw.Raw.{Raw}
-use Rattle.om_cells.specs.declared.control.Context.{Context}
+use Rattle.om_values.specs.declared.control.Context.{Context}
 use Rattle.om_live.specs.declared.control.Context as live
 use Rattle.om_live.specs.Plain.{plain_held}
 use Rattle.om_task.specs.Rules.{admits_on, admits_all}

@@ -7,22 +7,22 @@ use Rattle.om_foot.specs.declared.object.Obj.TheVariants as obj
 use Rattle.om_foot.specs.declared.footprint.Access.{Access}
 use Rattle.om_foot.specs.declared.footprint.Mode.{Mode}
 use Rattle.om_foot.specs.declared.footprint.Mode.TheVariants as mode
-use Rattle.om_cells.specs.declared.control.Control as controls
-use Rattle.om_cells.specs.declared.control.Control.TheVariants.{Idle, Running}
-use Rattle.om_cells.specs.declared.edit.Edit.TheVariants.{Fail}
-use Rattle.om_cells.specs.declared.step.Label.{Label}
-use Rattle.om_cells.specs.declared.step.Tail.{Tail}
-use Rattle.om_cells.specs.declared.step.Tail.TheVariants as tail
-use Rattle.om_cells.specs.declared.step.Update.{Update}
-use Rattle.om_cells.specs.declared.step.Update.TheVariants.{Keep, Put, Add, Append, Cut}
-use Rattle.om_cells.specs.declared.value.Task as tasks
-use Rattle.om_cells.specs.declared.value.Task.TheVariants as task
-use Rattle.om_cells.specs.declared.value.Val.{Val}
-use Rattle.om_cells.specs.declared.value.Val.TheVariants as value
-use Rattle.om_cells.specs.Edits.{changed}
-use Rattle.om_cells.specs.Rules.{step_at, next_state, state_after_outcome, and_then, replay_from}
-use Rattle.om_cells.specs.State.{State, values_read, value_after, state_after, updated}
-use Rattle.om_cells.specs.Values.{control_in, value_plus, value_with}
+use Rattle.om_values.specs.declared.control.Control as controls
+use Rattle.om_values.specs.declared.control.Control.TheVariants.{Idle, Running}
+use Rattle.om_values.specs.declared.edit.Edit.TheVariants.{Fail}
+use Rattle.om_values.specs.declared.step.Label.{Label}
+use Rattle.om_values.specs.declared.step.Tail.{Tail}
+use Rattle.om_values.specs.declared.step.Tail.TheVariants as tail
+use Rattle.om_values.specs.declared.step.Update.{Update}
+use Rattle.om_values.specs.declared.step.Update.TheVariants.{Keep, Put, Add, Append, Cut}
+use Rattle.om_values.specs.declared.value.Task as tasks
+use Rattle.om_values.specs.declared.value.Task.TheVariants as task
+use Rattle.om_values.specs.declared.value.Val.{Val}
+use Rattle.om_values.specs.declared.value.Val.TheVariants as value
+use Rattle.om_values.specs.Edits.{changed}
+use Rattle.om_values.specs.Rules.{step_at, next_state, state_after_outcome, and_then, replay_from}
+use Rattle.om_values.specs.State.{State, values_read, value_after, state_after, updated}
+use Rattle.om_values.specs.Values.{control_in, value_plus, value_with}
 use Rattle.std.specs.Prelude.{ℤ, if◌then◌else◌, nat_eq}
 use Rattle.om_steps.specs.declared.row.Row.{Row}
 use Rattle.om_steps.specs.declared.row.Row.TheVariants as row

@@ -6,16 +6,16 @@ use Rattle.std.specs.Prelude.{nat_lt}
 use Rattle.om_foot.specs.declared.footprint.Access.{Access}
 use Rattle.om_code.specs.declared.frame.Fault.TheVariants as fault
 use Rattle.om_code.specs.declared.raw.Body.{Body}
-use Rattle.om_cells.specs.declared.control.Context.{Context}
-use Rattle.om_cells.specs.declared.control.Frame.{Frame}
-use Rattle.om_cells.specs.declared.control.Team.{Team}
-use Rattle.om_cells.specs.declared.step.Update.{Update}
+use Rattle.om_values.specs.declared.control.Context.{Context}
+use Rattle.om_values.specs.declared.control.Frame.{Frame}
+use Rattle.om_values.specs.declared.control.Team.{Team}
+use Rattle.om_values.specs.declared.step.Update.{Update}
 use Rattle.om_steps.specs.declared.row.Launch.{Launch}
 use Rattle.om_steps.specs.declared.row.Row.TheVariants.{Faults, Lacks}
 use Rattle.om_steps.specs.Begins.{first_frame}
 use Rattle.om_steps.specs.Objects.{events, homes_in}
-use Rattle.om_fork.specs.Teams.{first_busy, member_cells, member_controls, workers_from}
-use Rattle.om_fork.specs.Rows.{forked, team_row, team_of, named_row, sized_row, fork_row}
+use Rattle.om_team.specs.Teams.{first_busy, member_cells, member_controls, workers_from}
+use Rattle.om_team.specs.Rows.{forked, team_row, team_of, named_row, sized_row, fork_row}
 use Rattle.om_task.specs.Shapes.{AreShaped, PutCells}
 use Rattle.om_task.proofs.CellPuts.{RowPutsCells, only_cells, member_cells_put}
 use Rattle.om_task.proofs.NoControls.{NameNoControl, RowShaped, AskedShaped, none_append, none_shaped, members_none}

@@ -8,11 +8,11 @@ use Rattle.om_code.specs.declared.instruction.Place.TheVariants.{Slot}
 use Rattle.om_code.specs.declared.instruction.Schedule.{Schedule}
 use Rattle.om_code.specs.declared.instruction.Schedule.TheVariants as schedule
 use Rattle.om_events.specs.declared.event.Record.{Record}
-use Rattle.om_cells.specs.declared.control.Context.{Context}
-use Rattle.om_cells.specs.declared.control.Construct.{Construct}
-use Rattle.om_cells.specs.declared.control.Construct.TheVariants as construct
-use Rattle.om_cells.specs.declared.control.Share.{Share}
-use Rattle.om_cells.specs.declared.edit.Edit.{Edit}
+use Rattle.om_values.specs.declared.control.Context.{Context}
+use Rattle.om_values.specs.declared.control.Construct.{Construct}
+use Rattle.om_values.specs.declared.control.Construct.TheVariants as construct
+use Rattle.om_values.specs.declared.control.Share.{Share}
+use Rattle.om_values.specs.declared.edit.Edit.{Edit}
 use Rattle.om_steps.specs.declared.row.Row.TheVariants.{Faults, Lacks}
 use Rattle.om_steps.specs.Rows.{goes}
 use Rattle.om_steps.specs.Objects.{is_misplaced}

@@ -1,15 +1,15 @@
 -- What is true of the runs of every program.
 use Rattle.std.specs.Prelude.{◌≡◌, ℕ, ◌≤◌, ℤ, pos, true, Some, List, ◌∷◌, length}
 use Rattle.om_code.specs.declared.raw.Raw.{Raw}
-use Rattle.om_cells.specs.declared.step.Choice.TheVariants.{Start}
-use Rattle.om_cells.specs.declared.step.Label.{Label}
-use Rattle.om_cells.specs.declared.step.Outcome.TheVariants.{Updates}
-use Rattle.om_cells.specs.declared.step.Update.{Update}
-use Rattle.om_cells.specs.declared.value.Val.{Val}
-use Rattle.om_cells.specs.declared.value.Val.TheVariants.{Count}
-use Rattle.om_cells.specs.Rules.{Rules, replay, step_at, control_access}
-use Rattle.om_cells.specs.State.{State}
-use Rattle.om_cells.specs.Values.{control_in}
+use Rattle.om_values.specs.declared.step.Choice.TheVariants.{Start}
+use Rattle.om_values.specs.declared.step.Label.{Label}
+use Rattle.om_values.specs.declared.step.Outcome.TheVariants.{Updates}
+use Rattle.om_values.specs.declared.step.Update.{Update}
+use Rattle.om_values.specs.declared.value.Val.{Val}
+use Rattle.om_values.specs.declared.value.Val.TheVariants.{Count}
+use Rattle.om_values.specs.Rules.{Rules, replay, step_at, control_access}
+use Rattle.om_values.specs.State.{State}
+use Rattle.om_values.specs.Values.{control_in}
 use Rattle.om_foot.specs.declared.object.Obj.{Obj}
 use Rattle.om_foot.specs.declared.object.Obj.TheVariants as obj
 use Rattle.om_team.specs.Counters.{StateWithin}

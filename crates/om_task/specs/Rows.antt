@@ -17,20 +17,20 @@ use Rattle.om_events.specs.declared.kind.Sync as syncs
 use Rattle.om_events.specs.declared.kind.Sync.TheVariants as sync
 use Rattle.om_events.specs.declared.kind.TaskStatus as statuses
 use Rattle.om_events.specs.declared.kind.TaskStatus.TheVariants as status
-use Rattle.om_cells.specs.declared.control.Context.{Context}
-use Rattle.om_cells.specs.declared.control.Construct.TheVariants as construct
-use Rattle.om_cells.specs.declared.control.Kind.{Kind}
-use Rattle.om_cells.specs.declared.control.Kind.TheVariants as kind
-use Rattle.om_cells.specs.declared.control.Stack.{Stack}
-use Rattle.om_cells.specs.declared.edit.Edit.TheVariants.{Go, BeginContext, EndContext, Open, Close, CountBirth}
-use Rattle.om_cells.specs.declared.step.Blocked.TheVariants as blocked
-use Rattle.om_cells.specs.declared.step.Update.{Update}
-use Rattle.om_cells.specs.declared.step.Update.TheVariants.{Put, Keep}
-use Rattle.om_cells.specs.declared.value.Ready.{Ready}
-use Rattle.om_cells.specs.declared.value.Task as tasks
-use Rattle.om_cells.specs.declared.value.Task.TheVariants as task
-use Rattle.om_cells.specs.declared.value.Val.TheVariants as value
-use Rattle.om_cells.specs.Values.{task_in, count_in}
+use Rattle.om_values.specs.declared.control.Context.{Context}
+use Rattle.om_values.specs.declared.control.Construct.TheVariants as construct
+use Rattle.om_values.specs.declared.control.Kind.{Kind}
+use Rattle.om_values.specs.declared.control.Kind.TheVariants as kind
+use Rattle.om_values.specs.declared.control.Stack.{Stack}
+use Rattle.om_values.specs.declared.edit.Edit.TheVariants.{Go, BeginContext, EndContext, Open, Close, CountBirth}
+use Rattle.om_values.specs.declared.step.Blocked.TheVariants as blocked
+use Rattle.om_values.specs.declared.step.Update.{Update}
+use Rattle.om_values.specs.declared.step.Update.TheVariants.{Put, Keep}
+use Rattle.om_values.specs.declared.value.Ready.{Ready}
+use Rattle.om_values.specs.declared.value.Task as tasks
+use Rattle.om_values.specs.declared.value.Task.TheVariants as task
+use Rattle.om_values.specs.declared.value.Val.TheVariants as value
+use Rattle.om_values.specs.Values.{task_in, count_in}
 use Rattle.om_steps.specs.declared.row.Row.{Row}
 use Rattle.om_steps.specs.declared.row.Row.TheVariants.{Goes, Faults, Blocked, Lacks}
 use Rattle.om_steps.specs.Rows.{Asked, decided, goes, first_of, is_zero}

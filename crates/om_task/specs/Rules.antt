@@ -17,25 +17,25 @@ use Rattle.om_events.specs.declared.kind.Thread.TheVariants as thread
 use Rattle.om_events.specs.declared.kind.TaskFlag.TheVariants as flag
 use Rattle.om_events.specs.declared.kind.TaskStatus as statuses
 use Rattle.om_events.specs.declared.kind.TaskStatus.TheVariants as status
-use Rattle.om_cells.specs.declared.control.Context.{Context}
-use Rattle.om_cells.specs.declared.control.Stack.{Stack}
-use Rattle.om_cells.specs.declared.control.Kind.TheVariants as kind
-use Rattle.om_cells.specs.declared.control.Control as controls
-use Rattle.om_cells.specs.declared.control.Control.TheVariants.{Idle, Running, Faulted}
-use Rattle.om_cells.specs.declared.edit.Edit.TheVariants.{Fail}
-use Rattle.om_cells.specs.declared.step.Label.{Label}
-use Rattle.om_cells.specs.declared.step.Choice.{Choice}
-use Rattle.om_cells.specs.declared.step.Choice.TheVariants.{Next, Start}
-use Rattle.om_cells.specs.declared.step.Blocked.TheVariants as blocked
-use Rattle.om_cells.specs.declared.step.Outcome.{Outcome}
-use Rattle.om_cells.specs.declared.step.Outcome.TheVariants.{Updates, Blocked, Ended}
-use Rattle.om_cells.specs.declared.step.Update.TheVariants.{Put}
-use Rattle.om_cells.specs.declared.value.Val.{Val}
-use Rattle.om_cells.specs.declared.value.Val.TheVariants as value
-use Rattle.om_cells.specs.Edits.{changed}
-use Rattle.om_cells.specs.Values.{default_of, control_in}
-use Rattle.om_cells.specs.State.{State}
-use Rattle.om_cells.specs.Rules.{Rules}
+use Rattle.om_values.specs.declared.control.Context.{Context}
+use Rattle.om_values.specs.declared.control.Stack.{Stack}
+use Rattle.om_values.specs.declared.control.Kind.TheVariants as kind
+use Rattle.om_values.specs.declared.control.Control as controls
+use Rattle.om_values.specs.declared.control.Control.TheVariants.{Idle, Running, Faulted}
+use Rattle.om_values.specs.declared.edit.Edit.TheVariants.{Fail}
+use Rattle.om_values.specs.declared.step.Label.{Label}
+use Rattle.om_values.specs.declared.step.Choice.{Choice}
+use Rattle.om_values.specs.declared.step.Choice.TheVariants.{Next, Start}
+use Rattle.om_values.specs.declared.step.Blocked.TheVariants as blocked
+use Rattle.om_values.specs.declared.step.Outcome.{Outcome}
+use Rattle.om_values.specs.declared.step.Outcome.TheVariants.{Updates, Blocked, Ended}
+use Rattle.om_values.specs.declared.step.Update.TheVariants.{Put}
+use Rattle.om_values.specs.declared.value.Val.{Val}
+use Rattle.om_values.specs.declared.value.Val.TheVariants as value
+use Rattle.om_values.specs.Edits.{changed}
+use Rattle.om_values.specs.Values.{default_of, control_in}
+use Rattle.om_values.specs.State.{State}
+use Rattle.om_values.specs.Rules.{Rules}
 use Rattle.om_steps.specs.declared.row.Row.{Row}
 use Rattle.om_steps.specs.declared.row.Row.TheVariants as row
 use Rattle.om_steps.specs.Rows.{Asked, decided}

@@ -6,10 +6,10 @@ ghost use Rattle.om_live.specs.Plain.{plain_context};
 ghost use Rattle.om_steps.specs.Objects.{add};
 ghost use Rattle.om_task.specs.Tasks.{group_count, counts, additions};
 
-use om_cells::{Names, Puts, Update};
-use om_foot::{Mode, Name, Obj};
+use om_foot::{Mode, Name, Names, Obj};
 use om_live::Context;
 use om_steps::names::name;
+use om_values::{Puts, Update};
 use std::alloc::AllocError;
 
 /// Appends the count of a task group, where there is a group.

@@ -1,6 +1,6 @@
 //! Plans: what comes of a worker's choice.
 
-use om_cells::{Blocked, Change};
+use om_values::{Blocked, Change};
 
 /// What comes of a worker's choice: the plan of its step.
 #[derive(Drop)]

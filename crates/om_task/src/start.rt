@@ -5,23 +5,23 @@ ghost use Rattle.om_code.specs.declared.frame.Cell.TheVariants as cells;
 ghost use Rattle.om_events.specs.declared.kind.Thread.TheVariants as thread;
 ghost use Rattle.om_events.specs.declared.event.Record.TheVariants as event_record;
 ghost use Rattle.om_foot.specs.declared.object.Obj.TheVariants as obj;
-ghost use Rattle.om_cells.specs.declared.value.Val.TheVariants as value;
-ghost use Rattle.om_cells.specs.State.{with_value};
+ghost use Rattle.om_values.specs.declared.value.Val.TheVariants as value;
+ghost use Rattle.om_values.specs.State.{with_value};
 ghost use Rattle.om_live.specs.Stores.{state_of};
 ghost use Rattle.om_steps.specs.Begins.{new_context};
 ghost use Rattle.om_team.specs.Sites.{body_of};
 ghost use Rattle.om_task.specs.Rules.{first_context, first_control, first_records, initial_in, start_of};
 
-use om_cells::{Context, Control, Frame, Kind, Shared, SharedPile, Stack, Team, Val};
 use om_code::frame::Cell;
 use om_code::raw::GlobalVariable;
 use om_code::{Body, Program};
 use om_events::{Endpoint, Record, TaskFlag, Thread};
-use om_foot::{Name, Obj};
+use om_foot::{Name, Obj, Shared};
 use om_live::Store;
 use om_seq::Seq;
 use om_steps::begin::{first_frame, in_no_group, new_context};
 use om_steps::names::homes_for;
+use om_values::{Context, Control, Frame, Kind, SharedPile, Stack, Team, Val};
 use std::alloc::{AllocError, Global};
 
 /// The body of `main`.

@@ -2,22 +2,21 @@
 
 ghost use Rattle.std.specs.Prelude.{◌≡◌, ◌∷◌, [], ◌+◌, ◌<◌, ◌≤◌, ◌^◌, ◌++◌, IfOk, OnOk, length, map, option_map, slice_get};
 ghost use Rattle.om_foot.specs.Names.{parent_of};
-ghost use Rattle.om_cells.specs.State.{State};
-ghost use Rattle.om_cells.specs.declared.value.Task.TheVariants as task;
-ghost use Rattle.om_cells.specs.declared.value.Val.TheVariants as value;
+ghost use Rattle.om_values.specs.State.{State};
+ghost use Rattle.om_values.specs.declared.value.Task.TheVariants as task;
+ghost use Rattle.om_values.specs.declared.value.Val.TheVariants as value;
 ghost use Rattle.om_live.specs.Plain.{plain_context, plain_held, plain_stack};
 ghost use Rattle.om_steps.specs.Rows.{answered};
 ghost use Rattle.om_task.specs.Tasks.{born, group_of, ready_of};
 ghost use Rattle.om_task.specs.Rows.{made_names, values_given, made_row, spawn_row, ended_names, ended_updates, task_end_row, task_yield_row};
 
 use crate::count::{add_to_counts, name_counts};
-use om_cells::{Edit, Kind, Names, Puts, Ready, Shared, Task, Update, Val};
 use om_code::Body;
 use om_code::frame::Fault;
 use om_code::print::ints_on;
 use om_code::raw::Slot;
 use om_events::{Record, TaskStatus};
-use om_foot::{Mode, Name, Obj};
+use om_foot::{Mode, Name, Names, Obj, Shared};
 use om_live::{Context, Stack, Tape};
 use om_seq::Seq;
 use om_steps::names::{
@@ -26,6 +25,7 @@ use om_steps::names::{
 use om_steps::parts::{go_and, one_put};
 use om_steps::updates::{put_deaths, put_event, put_ints};
 use om_steps::{Answer, Launch, Row};
+use om_values::{Edit, Kind, Puts, Ready, Task, Update, Val};
 use std::alloc::{AllocError, Global};
 
 /// How a task is made.

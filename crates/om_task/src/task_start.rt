@@ -4,21 +4,19 @@ ghost use Rattle.std.specs.Prelude.{◌≡◌, ◌∷◌, [], IfOk, option_map};
 ghost use Rattle.om_foot.specs.declared.object.Obj.TheVariants as obj;
 ghost use Rattle.om_live.specs.Plain.{plain_context};
 ghost use Rattle.om_live.specs.Stores.{state_of};
-ghost use Rattle.om_cells.specs.Values.{task_in};
+ghost use Rattle.om_values.specs.Values.{task_in};
 ghost use Rattle.om_steps.specs.Rows.{answered};
 ghost use Rattle.om_task.specs.Tasks.{task_context};
 ghost use Rattle.om_task.specs.Rows.{begun_updates, ready_for, start_row};
 
-use om_cells::{
-    Blocked, Context as PlainContext, Edit, Kind, Puts, Ready, Shared, Task, Update, Val,
-};
 use om_events::{Record, TaskStatus};
-use om_foot::{Mode, Name, Obj};
+use om_foot::{Mode, Name, Obj, Shared};
 use om_live::{Context, Store};
 use om_seq::Seq;
 use om_steps::begin::{Standing, first_frame, new_context};
 use om_steps::parts::{name_with_events, update_with_event};
 use om_steps::{Answer, Row};
+use om_values::{Blocked, Context as PlainContext, Edit, Kind, Puts, Ready, Task, Update, Val};
 use std::alloc::{AllocError, Global};
 
 /// Where a task is to be started.

@@ -3,7 +3,7 @@
 ghost use Rattle.std.specs.Prelude.{◌≡◌, ◌∷◌, [], ◌+◌, ◌<◌, ◌^◌, IfOk};
 ghost use Rattle.om_events.specs.declared.kind.Endpoint.TheVariants as endpoint;
 ghost use Rattle.om_events.specs.declared.kind.Sync.TheVariants as sync;
-ghost use Rattle.om_cells.specs.State.{State};
+ghost use Rattle.om_values.specs.State.{State};
 ghost use Rattle.om_live.specs.Plain.{plain_context};
 ghost use Rattle.om_live.specs.Stores.{state_of};
 ghost use Rattle.om_steps.specs.Rows.{answered};
@@ -11,16 +11,16 @@ ghost use Rattle.om_steps.specs.Objects.{innermost};
 ghost use Rattle.om_task.specs.Tasks.{born, innermost_group};
 ghost use Rattle.om_task.specs.Rows.{sync_event, wait_begin_row, waited, wait_end_row, group_begin_row, closed, group_end_row};
 
-use om_cells::{Blocked, Construct, Edit, Shared, Update};
 use om_code::frame::Fault;
 use om_events::{Endpoint, Record, Sync};
-use om_foot::{Mode, Name, Obj};
+use om_foot::{Mode, Name, Obj, Shared};
 use om_live::{Context, Store};
 use om_seq::Seq;
 use om_steps::counts::is_zero;
 use om_steps::names::innermost;
 use om_steps::parts::{go_and, go_and_then, go_on, name_with_events, recorded, update_with_event};
 use om_steps::{Answer, Row};
+use om_values::{Blocked, Construct, Edit, Update};
 use std::alloc::{AllocError, Global};
 
 /// What a context's task records where it begins and ends to wait.

@@ -6,15 +6,15 @@ use Rattle.om_foot.specs.declared.object.Obj.TheVariants as obj
 use Rattle.om_code.specs.declared.instruction.Instr.{Instr}
 use Rattle.om_code.specs.declared.raw.Raw.{Raw}
 use Rattle.om_code.specs.Places.{instruction_at}
-use Rattle.om_cells.specs.declared.control.Control as controls
-use Rattle.om_cells.specs.declared.control.Control.TheVariants.{Idle, Running, Faulted, Ended}
-use Rattle.om_cells.specs.declared.step.Label.{Label}
-use Rattle.om_cells.specs.declared.step.Choice.{Choice}
-use Rattle.om_cells.specs.declared.step.Choice.TheVariants.{Next, Start}
-use Rattle.om_cells.specs.declared.step.Blocked.TheVariants as blocked
-use Rattle.om_cells.specs.Rules.{control_access}
-use Rattle.om_cells.specs.State.{State}
-use Rattle.om_cells.specs.Values.{control_in}
+use Rattle.om_values.specs.declared.control.Control as controls
+use Rattle.om_values.specs.declared.control.Control.TheVariants.{Idle, Running, Faulted, Ended}
+use Rattle.om_values.specs.declared.step.Label.{Label}
+use Rattle.om_values.specs.declared.step.Choice.{Choice}
+use Rattle.om_values.specs.declared.step.Choice.TheVariants.{Next, Start}
+use Rattle.om_values.specs.declared.step.Blocked.TheVariants as blocked
+use Rattle.om_values.specs.Rules.{control_access}
+use Rattle.om_values.specs.State.{State}
+use Rattle.om_values.specs.Values.{control_in}
 use Rattle.om_steps.specs.declared.row.Answer.{Answer}
 use Rattle.om_steps.specs.declared.row.Row.{Row}
 use Rattle.om_steps.specs.declared.row.Row.TheVariants.{Blocked, Lacks}

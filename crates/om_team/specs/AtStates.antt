@@ -1,7 +1,7 @@
 -- Matter of proofs, for om_task too: answers at a state.
 use Rattle.std.proofs.Common.{◌≡◌, subst}
 use Rattle.std.specs.Prelude.{Result, Ok, Err, IfOk}
-use Rattle.om_cells.specs.State.{State}
+use Rattle.om_values.specs.State.{State}
 use Rattle.om_steps.specs.declared.row.Answer.{Answer}
 use Rattle.om_steps.specs.Rows.{Asked, answered}
 

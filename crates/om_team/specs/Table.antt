@@ -9,7 +9,7 @@ use Rattle.om_steps.specs.declared.row.Row.TheVariants.{Lacks}
 use Rattle.om_steps.specs.Rows.{Asked, decided}
 use Rattle.om_steps.specs.Objects.{innermost}
 use Rattle.om_steps.specs.SerialRows.{serial_row, number_row, call_row, return_row, reduce_row}
-use Rattle.om_fork.specs.Rows.{fork_row, begin_row, finish_row}
+use Rattle.om_team.specs.Rows.{fork_row, begin_row, finish_row}
 use Rattle.om_share.specs.Rows.{arrive_row, depart_row, leave_row}
 use Rattle.om_share.specs.Rows.{share_in, loop_row, sections_row, grab_row, iterate_row, pick_row, single_row}
 use Rattle.om_share.specs.Rows.{end_worksharing_row, masked_row, end_masked_row, ask_critical_row, enter_critical_row}

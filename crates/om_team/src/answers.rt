@@ -2,7 +2,7 @@
 
 ghost use Rattle.std.specs.Prelude.{◌≡◌, ◌∷◌, ◌^◌, IfOk, Some};
 ghost use Rattle.om_code.specs.Places.{instruction_at};
-ghost use Rattle.om_cells.specs.Rules.{control_access};
+ghost use Rattle.om_values.specs.Rules.{control_access};
 ghost use Rattle.om_live.specs.Plain.{plain_control, plain_stack};
 ghost use Rattle.om_live.specs.Stores.{state_of};
 ghost use Rattle.om_team.specs.Asked.{next_asked, choice_asked, asked_in, answer_in, names_in, row_in, effect_at};
@@ -10,12 +10,12 @@ ghost use Rattle.om_team.specs.Counters.{IsWithin, ControlWithin, StateWithin};
 ghost use Rattle.om_team.specs.Sites.{site};
 
 use crate::table::{Doing, answer, instruction_of, is_of_tasks};
-use om_cells::{Blocked, Choice, Label};
 use om_code::Program;
 use om_foot::{Access, Mode, Obj};
 use om_live::{Control, Stack, Store};
 use om_seq::Seq;
 use om_steps::{Answer, Row};
+use om_values::{Blocked, Choice, Label};
 use std::alloc::{AllocError, Global};
 
 // A choice of one of so many workers.

@@ -11,14 +11,14 @@ ghost use Rattle.om_team.specs.Ready.{IsReady};
 ghost use Rattle.om_team.specs.Sites.{site, lock_of, targets_of};
 ghost use Rattle.om_team.specs.Table.{is_of_tasks, frame_row, team_row, share_row, region_row, row_of};
 
+use crate::begin::begin;
+use crate::ends::finish;
+use crate::teams::{Forking, fork};
 use om_code::frame::Operand;
 use om_code::print::ints_on;
 use om_code::raw::Slot;
 use om_code::serial::int_at;
 use om_code::{Instr, Program};
-use om_fork::begin::begin;
-use om_fork::ends::finish;
-use om_fork::teams::{Forking, fork};
 use om_live::{Context, Stack, Store};
 use om_share::{
     Bounds, Branch, arrive, ask_critical, depart, end_masked, end_worksharing, enter_critical,

@@ -10,18 +10,19 @@ use Rattle.om_foot.specs.declared.footprint.Mode.TheVariants.{Read, Write, Add}
 use Rattle.om_foot.specs.declared.footprint.Access.{Access}
 use Rattle.om_foot.specs.Footprint.{obj_eq, modes_conflict}
 use Rattle.om_foot.specs.Objects.{obj_eq-true}
-use Rattle.om_cells.specs.declared.cells.SlotName.{SlotName}
-use Rattle.om_cells.specs.declared.cells.Cells.{Cells}
-use Rattle.om_cells.specs.Cells.{cells_from, cells_of}
-use Rattle.om_cells.specs.SharedCells.{cell_in}
+use Rattle.om_foot.specs.declared.cells.SlotName.{SlotName}
+use Rattle.om_foot.specs.declared.cells.Cells.{Cells}
+use Rattle.om_foot.specs.Cells.{cells_from, cells_of}
+use Rattle.om_foot.specs.SharedCells.{cell_in}
 use Rattle.om_touches.specs.declared.slots.SlotTouches.{SlotTouches}
 use Rattle.om_touches.specs.declared.spans.SpanTouches.{SpanTouches}
 use Rattle.om_touches.specs.declared.objects.ObjectTouches.{ObjectTouches}
 use Rattle.om_touches.specs.declared.singles.SingleTouches.{SingleTouches}
 use Rattle.om_touches.specs.Controls.{with_objects}
-use Rattle.om_touches.specs.Serials.{has}
+use Rattle.om_foot.specs.Serials.{has}
 use Rattle.om_touches.specs.Slots.{slot_eq, has_span, spans_of, place_of, SlotsWith, SameSlots, SlotsWithout}
-use Rattle.om_touches.specs.Touches.{mode_eq, names, meets, meets_at, Touching, has_object_touch, has_single_touch, has_slot_write, has_slot_touch, IsSet, IsLess, IsFirst}
+use Rattle.om_touches.specs.Touches.{mode_eq, names, meets, meets_at, Touching, has_object_touch, has_single_touch, has_slot_write, has_slot_touch, IsSet, IsLess}
+use Rattle.om_foot.specs.Firsts.{IsFirst}
 use Rattle.om_touches.specs.Searches.{either_true}
 use Rattle.om_touches.proofs.SlotLemmas.{slot_eq-true, slot_eq-same}
 

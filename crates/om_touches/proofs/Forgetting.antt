@@ -6,7 +6,7 @@ use Rattle.om_foot.specs.declared.object.Obj.{Obj}
 use Rattle.om_foot.specs.declared.footprint.Mode.{Mode}
 use Rattle.om_foot.specs.Footprint.{obj_eq}
 use Rattle.om_touches.specs.declared.by_mode.Touches.{Touches}
-use Rattle.om_touches.specs.Serials.{has}
+use Rattle.om_foot.specs.Serials.{has}
 use Rattle.om_touches.specs.Touches.{list_of, has_in}
 
 -- the touches of an object without those of an entry

@@ -1,4 +1,3 @@
-pub mod OffsetLemmas
 pub mod SpanLemmas
 pub mod SlotLemmas
 pub mod CellLemmas

@@ -7,10 +7,11 @@ use Rattle.std.proofs.lemmas.Bool.Decides.{Decides-eqb}
 use Rattle.om_foot.specs.declared.object.Obj.{Obj}
 use Rattle.om_foot.specs.declared.footprint.Mode.{Mode}
 use Rattle.om_foot.specs.declared.footprint.Access.{Access}
-use Rattle.om_cells.specs.declared.cells.Cells.{Cells}
-use Rattle.om_cells.specs.Cells.{cells_of, cells_listed}
+use Rattle.om_foot.specs.declared.cells.Cells.{Cells}
+use Rattle.om_foot.specs.Cells.{cells_of, cells_listed}
 use Rattle.om_touches.specs.declared.touches.TouchLists.{TouchLists}
-use Rattle.om_touches.specs.Touches.{names, has_touch, Touching, IsSet, IsLess, AreOnly, AreWithout, meets, meets_at, sooner, IsFirst}
+use Rattle.om_touches.specs.Touches.{names, has_touch, Touching, IsSet, IsLess, AreOnly, AreWithout, meets, meets_at}
+use Rattle.om_foot.specs.Firsts.{sooner, IsFirst}
 use Rattle.om_touches.specs.Lists.{names-append, set-append}
 use Rattle.om_touches.specs.Searches.{either_true, meets-append, meets-either, meets_at-either, sooner-first, IsFirst-same}
 

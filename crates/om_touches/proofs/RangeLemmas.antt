@@ -20,14 +20,15 @@ use Rattle.om_foot.specs.declared.footprint.Mode.TheVariants.{Read, Write, Add}
 use Rattle.om_foot.specs.Footprint.{obj_eq}
 use Rattle.om_foot.specs.Objects.{obj_eq-true, obj_eq-same, lookup-is_at}
 use Rattle.om_foot.specs.contracts.object.ObjOrd.TheImpl.{cmp-value}
-use Rattle.om_cells.specs.declared.cells.Cells.{Cells}
-use Rattle.om_cells.specs.Cells.{cells_of}
-use Rattle.om_cells.specs.SharedCells.{cell_in}
+use Rattle.om_foot.specs.declared.cells.Cells.{Cells}
+use Rattle.om_foot.specs.Cells.{cells_of}
+use Rattle.om_foot.specs.SharedCells.{cell_in}
 use Rattle.om_touches.specs.declared.by_mode.Touches.{Touches}
 use Rattle.om_touches.specs.declared.objects.ObjectTouches.{ObjectTouches}
-use Rattle.om_touches.specs.Serials.{has}
+use Rattle.om_foot.specs.Serials.{has}
 use Rattle.om_touches.specs.Slots.{is_cell_in}
-use Rattle.om_touches.specs.Touches.{list_of, has_in, has_object_touch, meets, meets_at, IsFirst}
+use Rattle.om_touches.specs.Touches.{list_of, has_in, has_object_touch, meets, meets_at}
+use Rattle.om_foot.specs.Firsts.{IsFirst}
 use Rattle.om_touches.specs.Searches.{either_true}
 use Rattle.om_touches.proofs.CellLemmas.{meets_cell, met_in, same_truth}
 

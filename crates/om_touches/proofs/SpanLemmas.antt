@@ -5,7 +5,7 @@ use Rattle.std.specs.Prelude.{slice_get}
 use Rattle.std.proofs.lemmas.Bool.Decides.{nat_tests}
 use Rattle.std.proofs.lemmas.List.{take_more}
 use Rattle.om_touches.specs.declared.spans.SpanTouches.{SpanTouches}
-use Rattle.om_touches.specs.Serials.{has}
+use Rattle.om_foot.specs.Serials.{has}
 use Rattle.om_touches.specs.Slots.{has_span}
 use Rattle.om_touches.specs.Workers.{number_is, puts_at}
 

@@ -1,8 +1,8 @@
 -- The accesses of a step, as its record and the lists of touches keep them.
 use Rattle.std.specs.Prelude.{List, [], ◌∷◌, ◌++◌}
 use Rattle.om_foot.specs.declared.footprint.Access.{Access}
-use Rattle.om_cells.specs.Cells.{cells_listed}
-use Rattle.om_cells.specs.declared.cells.Cells.{Cells}
+use Rattle.om_foot.specs.Cells.{cells_listed}
+use Rattle.om_foot.specs.declared.cells.Cells.{Cells}
 use Rattle.om_touches.specs.declared.accesses.Kept.{Kept}
 use Rattle.om_touches.specs.declared.accesses.Kept.TheVariants as kept
 

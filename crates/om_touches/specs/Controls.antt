@@ -13,7 +13,7 @@ use Rattle.om_touches.specs.declared.objects.ObjectTouches.{ObjectTouches}
 use Rattle.om_touches.specs.declared.singles.SingleTouches.{SingleTouches}
 use Rattle.om_touches.specs.Touches.{mode_eq, names, list_of, has_in, has_single_touch, has_control_touch, has_object_touch}
 use Rattle.om_touches.specs.Touches.{control_of, SameControls, SameObjects, IsSet}
-use Rattle.om_touches.specs.Serials.{has}
+use Rattle.om_foot.specs.Serials.{has}
 use Rattle.om_touches.specs.Workers.{kept-set, kept-unset}
 
 -- one touch of a control there, or not there

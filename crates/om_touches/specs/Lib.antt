@@ -1,6 +1,3 @@
-pub mod Offsets
-pub mod Blocks
-pub mod Serials
 pub mod Slots
 pub mod Touches
 pub mod Lists

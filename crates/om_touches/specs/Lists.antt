@@ -17,7 +17,7 @@ use Rattle.om_foot.specs.Objects.{lookup-is_at, cmp-is_eq, obj_eq-true, obj_eq-s
 use Rattle.om_touches.specs.declared.by_mode.Touches.{Touches}
 use Rattle.om_touches.specs.declared.touches.TouchLists.{TouchLists}
 use Rattle.om_touches.specs.Touches.{mode_eq, names, list_of, has_in, has_touch, Touching, IsSet, AreSame, AreOnly}
-use Rattle.om_touches.specs.Serials.{has}
+use Rattle.om_foot.specs.Serials.{has}
 
 -- lists with one entry's touches there, or not there
 abbrev pub AreSet : Bool → List Access → ℕ → TouchLists → TouchLists → Type 0

@@ -10,7 +10,8 @@ use Rattle.om_foot.specs.declared.footprint.Access.{Access}
 use Rattle.om_foot.specs.Footprint.{obj_eq, modes_conflict, conflicts_with_any, conflict_of}
 use Rattle.om_foot.specs.Objects.{obj_eq-true, obj_eq-same}
 use Rattle.om_foot.specs.Apart.{IsApart, AllApart, ApartFrom, AllApart-flip, all_apart}
-use Rattle.om_touches.specs.Touches.{mode_eq, names, meets_at, meets, sooner, IsFirst}
+use Rattle.om_touches.specs.Touches.{mode_eq, names, meets_at, meets}
+use Rattle.om_foot.specs.Firsts.{sooner, IsFirst}
 
 pub either_true : (a b : Bool) → cond a true b ≡ true → (a ≡ true) ⊎ (b ≡ true)
 either_true true b h = inl refl

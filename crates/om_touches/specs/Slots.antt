@@ -4,12 +4,12 @@ use Rattle.std.specs.Cmp.Lexicographic.{pointwise}
 use Rattle.std.specs.Map.{lookup}
 use Rattle.om_foot.specs.declared.object.Obj.{Obj}
 use Rattle.om_foot.specs.declared.object.Obj.TheVariants as object
-use Rattle.om_cells.specs.declared.cells.SlotName.{SlotName}
-use Rattle.om_cells.specs.declared.cells.Cells.{Cells}
+use Rattle.om_foot.specs.declared.cells.SlotName.{SlotName}
+use Rattle.om_foot.specs.declared.cells.Cells.{Cells}
 use Rattle.om_touches.specs.declared.spans.SpanTouches.{SpanTouches}
 use Rattle.om_touches.specs.declared.spans.Spans.{Spans}
 use Rattle.om_touches.specs.declared.slots.SlotTouches.{SlotTouches}
-use Rattle.om_touches.specs.Serials.{has}
+use Rattle.om_foot.specs.Serials.{has}
 
 -- whether two names are of one slot
 abbrev pub slot_eq : SlotName → SlotName → Bool

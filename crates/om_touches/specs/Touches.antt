@@ -12,11 +12,11 @@ use Rattle.om_touches.specs.declared.by_mode.Touches.{Touches}
 use Rattle.om_touches.specs.declared.controls.ControlTouches.{ControlTouches}
 use Rattle.om_touches.specs.declared.objects.ObjectTouches.{ObjectTouches}
 use Rattle.om_touches.specs.declared.own.OwnEntries.{OwnEntries}
-use Rattle.om_touches.specs.declared.serials.Serials.{Serials}
+use Rattle.om_foot.specs.declared.serials.Serials.{Serials}
 use Rattle.om_touches.specs.declared.singles.SingleTouches.{SingleTouches}
 use Rattle.om_touches.specs.declared.slots.SlotTouches.{SlotTouches}
 use Rattle.om_touches.specs.declared.touches.TouchLists.{TouchLists}
-use Rattle.om_touches.specs.Serials.{has}
+use Rattle.om_foot.specs.Serials.{has}
 use Rattle.om_touches.specs.Slots.{has_span, spans_of}
 
 abbrev pub mode_eq : Mode → Mode → Bool
@@ -160,21 +160,6 @@ meets_at touch m s = cond (modes_conflict m Read && touch Read s) true
 abbrev pub meets : (Obj → Mode → ℕ → Bool) → List Access → ℕ → Bool
 meets touch [] s = false
 meets touch (a ∷ rest) s = cond (meets_at (touch a.object) a.mode s) true (meets touch rest s)
-
-abbrev pub sooner : Option ℕ → Option ℕ → Option ℕ
-sooner None y = y
-sooner (Some a) None = Some a
-sooner (Some a) (Some b) = Some (min a b)
-
--- the least number above another one that passes a test, if one does
-abbrev pub IsFirst : (ℕ → Bool) → ℕ → Option ℕ → Type 0
-IsFirst test above None = (s : ℕ) → above < s → test s ≡ false
-IsFirst test above (Some t) = (above < t) × (test t ≡ true) × ((s : ℕ) → above < s → s < t → test s ≡ false)
-
--- the greatest number that passes a test, if one does
-abbrev pub IsGreatest : (ℕ → Bool) → Option ℕ → Type 0
-IsGreatest test None = (s : ℕ) → test s ≡ false
-IsGreatest test (Some t) = (test t ≡ true) × ((s : ℕ) → test s ≡ true → s ≤ t)
 
 -- what is kept of each worker's own entries
 

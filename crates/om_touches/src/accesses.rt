@@ -1,11 +1,10 @@
 //! The accesses of a step, as its record keeps them and as the lists of touches take them.
 
 ghost use Rattle.std.specs.Prelude.{◌≡◌, ◌∷◌, ◌++◌, [], IfOk};
-ghost use Rattle.om_cells.specs.Cells.{cells_listed};
+ghost use Rattle.om_foot.specs.Cells.{cells_listed};
 ghost use Rattle.om_touches.specs.Accesses.{Parts, parts_in, accesses_of};
 
-use crate::shared_access::SharedAccess;
-use om_cells::SharedCells;
+use om_foot::{SharedAccess, SharedCells};
 use om_seq::Seq;
 use std::alloc::{AllocError, Global};
 use std::marker::Model;

@@ -3,12 +3,11 @@
 ghost use Rattle.std.specs.Prelude.{◌≡◌, ℕ, true, false, cond, nat_eq, ◌&&◌, OnOk, OnErr};
 ghost use Rattle.om_foot.specs.declared.footprint.Mode.{Mode};
 ghost use Rattle.om_foot.specs.Footprint.{modes_conflict};
-ghost use Rattle.om_touches.specs.Serials.{has};
-ghost use Rattle.om_touches.specs.Touches.{list_of, mode_eq, IsFirst, meets_at};
+ghost use Rattle.om_foot.specs.Serials.{has};
+ghost use Rattle.om_touches.specs.Touches.{list_of, mode_eq, meets_at};
+ghost use Rattle.om_foot.specs.Firsts.{IsFirst};
 
-use crate::serials::Serials;
-use crate::sooner::sooner;
-use om_foot::{Mode, Touch, first_touch};
+use om_foot::{Mode, Serials, Touch, first_touch, sooner};
 use std::alloc::{AllocError, Global};
 
 /// The touches of one object: the serials of the entries that name it, apart by mode. So a search

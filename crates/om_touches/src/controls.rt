@@ -3,7 +3,8 @@
 ghost use Rattle.std.specs.Prelude.{◌≡◌, ℕ, ◌<◌, false, length, slice_get, OnOk, OnErr};
 ghost use Rattle.std.specs.Option.{option_copied};
 ghost use Rattle.om_foot.specs.declared.footprint.Mode.{Mode};
-ghost use Rattle.om_touches.specs.Touches.{IsFirst, meets_at, has_control_touch, SameControls, ControlsWith, ControlsWithout};
+ghost use Rattle.om_foot.specs.Firsts.{IsFirst};
+ghost use Rattle.om_touches.specs.Touches.{meets_at, has_control_touch, SameControls, ControlsWith, ControlsWithout};
 
 use crate::by_mode::Touches;
 use om_foot::Mode;

@@ -4,16 +4,14 @@ ghost use Rattle.std.specs.Prelude.{◌≡◌, ℕ, true, false, cond, nat_eq, �
 ghost use Rattle.om_foot.specs.declared.object.Obj.{Obj};
 ghost use Rattle.om_foot.specs.declared.footprint.Mode.{Mode};
 ghost use Rattle.om_foot.specs.declared.footprint.Mode.TheVariants as mode;
-ghost use Rattle.om_cells.specs.Cells.{cells_of};
+ghost use Rattle.om_foot.specs.Cells.{cells_of};
 ghost use Rattle.om_touches.specs.Slots.{is_cell_in};
-ghost use Rattle.om_touches.specs.Touches.{list_of, IsFirst, meets_at, meets, has_object_touch, knows, SameObjects, ObjectsWith, ObjectsWithout, IsLess};
-ghost use Rattle.om_touches.specs.Serials.{has};
+ghost use Rattle.om_touches.specs.Touches.{list_of, meets_at, meets, has_object_touch, knows, SameObjects, ObjectsWith, ObjectsWithout, IsLess};
+ghost use Rattle.om_foot.specs.Firsts.{IsFirst};
+ghost use Rattle.om_foot.specs.Serials.{has};
 
 use crate::by_mode::Touches;
-use crate::shared_access::SharedAccess;
-use crate::sooner::sooner;
-use om_cells::{Cells, SharedCells, SharedObject};
-use om_foot::{Mode, Obj};
+use om_foot::{Cells, Mode, Obj, SharedAccess, SharedCells, SharedObject, sooner};
 use std::alloc::{AllocError, Global};
 use std::collections::BTreeMap;
 use std::ops::Bound;

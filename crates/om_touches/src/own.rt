@@ -2,9 +2,10 @@
 
 ghost use Rattle.std.specs.Prelude.{◌≡◌, ℕ, ◌<◌, false, length, slice_get, OnOk, OnErr};
 ghost use Rattle.std.specs.Option.{option_copied};
-ghost use Rattle.om_touches.specs.Touches.{is_own, IsGreatest, SameOwn, WithOwn, WithoutOwn};
+ghost use Rattle.om_touches.specs.Touches.{is_own, SameOwn, WithOwn, WithoutOwn};
+ghost use Rattle.om_foot.specs.Firsts.{IsGreatest};
 
-use crate::serials::Serials;
+use om_foot::Serials;
 use std::alloc::{AllocError, Global};
 
 /// For each worker the serials of its entries. Another worker's step may touch its control too, as

@@ -3,14 +3,13 @@
 ghost use Rattle.std.specs.Prelude.{◌≡◌, ℕ, ◌∷◌, [], true, false, take as first_so_many, OnOk, OnErr};
 ghost use Rattle.om_foot.specs.declared.object.Obj.{Obj};
 ghost use Rattle.om_foot.specs.declared.footprint.Mode.{Mode};
-ghost use Rattle.om_cells.specs.Cells.{cells_of};
-ghost use Rattle.om_touches.specs.Touches.{control_of, IsFirst, meets_at, meets, has_single_touch, IsSet, IsLess};
+ghost use Rattle.om_foot.specs.Cells.{cells_of};
+ghost use Rattle.om_touches.specs.Touches.{control_of, meets_at, meets, has_single_touch, IsSet, IsLess};
+ghost use Rattle.om_foot.specs.Firsts.{IsFirst};
 
 use crate::controls::ControlTouches;
 use crate::objects::ObjectTouches;
-use crate::shared_access::SharedAccess;
-use om_cells::SharedCells;
-use om_foot::Obj;
+use om_foot::{Obj, SharedAccess, SharedCells};
 use std::alloc::{AllocError, Global};
 
 /// The worker whose control an object is.

@@ -3,13 +3,13 @@
 ghost use Rattle.std.specs.Prelude.{◌≡◌, ℕ, ◌∷◌, [], true, false, take as first_so_many, OnOk, OnErr};
 ghost use Rattle.om_foot.specs.declared.object.Obj.{Obj};
 ghost use Rattle.om_foot.specs.declared.footprint.Mode.{Mode};
-ghost use Rattle.om_cells.specs.Cells.{cells_of, cells_listed};
+ghost use Rattle.om_foot.specs.Cells.{cells_of, cells_listed};
 ghost use Rattle.om_touches.specs.Slots.{has_span, spans_of, place_of, SameSlots, SlotsWith, SlotsWithout};
-ghost use Rattle.om_touches.specs.Touches.{IsFirst, meets, has_slot_write, has_slot_touch, IsSet, IsLess};
+ghost use Rattle.om_foot.specs.Firsts.{IsFirst};
+ghost use Rattle.om_touches.specs.Touches.{meets, has_slot_write, has_slot_touch, IsSet, IsLess};
 
 use crate::spans::Spans;
-use om_cells::{SharedCells, SlotName};
-use om_foot::Obj;
+use om_foot::{Obj, SharedCells, SlotName};
 use std::alloc::{AllocError, Global};
 use std::collections::BTreeMap;
 

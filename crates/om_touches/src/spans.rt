@@ -1,12 +1,11 @@
 //! The writes of beginnings of one slot.
 
 ghost use Rattle.std.specs.Prelude.{◌≡◌, ℕ, false, true, cond, nat_eq, nat_lt, ◌&&◌, OnOk, OnErr};
-ghost use Rattle.om_touches.specs.Serials.{has};
+ghost use Rattle.om_foot.specs.Serials.{has};
 ghost use Rattle.om_touches.specs.Slots.{has_span};
-ghost use Rattle.om_touches.specs.Touches.{IsFirst};
+ghost use Rattle.om_foot.specs.Firsts.{IsFirst};
 
-use crate::serials::Serials;
-use crate::sooner::sooner;
+use om_foot::{Serials, sooner};
 use std::alloc::{AllocError, Global};
 
 /// The entries that wrote the first cells of a slot at once, so many of them.

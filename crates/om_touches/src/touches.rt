@@ -4,16 +4,15 @@
 ghost use Rattle.std.specs.Prelude.{◌≡◌, ℕ, ◌∷◌, [], false, take as first_so_many, OnOk, OnErr};
 ghost use Rattle.om_foot.specs.declared.object.Obj.{Obj};
 ghost use Rattle.om_foot.specs.declared.footprint.Mode.{Mode};
-ghost use Rattle.om_cells.specs.Cells.{cells_of, cells_listed};
+ghost use Rattle.om_foot.specs.Cells.{cells_of, cells_listed};
 ghost use Rattle.om_touches.specs.Accesses.{accesses_of};
-ghost use Rattle.om_touches.specs.Touches.{IsFirst, meets_at, meets, has_touch, AreSame, AreWith, AreWithout, AreOnly, IsLess};
+ghost use Rattle.om_foot.specs.Firsts.{IsFirst};
+ghost use Rattle.om_touches.specs.Touches.{meets_at, meets, has_touch, AreSame, AreWith, AreWithout, AreOnly, IsLess};
 
 use crate::accesses::Accesses;
-use crate::shared_access::SharedAccess;
 use crate::singles::SingleTouches;
 use crate::slots::SlotTouches;
-use crate::sooner::sooner;
-use om_cells::SharedCells;
+use om_foot::{SharedAccess, SharedCells, sooner};
 use std::alloc::{AllocError, Global};
 
 /// For each object its touches.

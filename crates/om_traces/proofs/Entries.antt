@@ -2,8 +2,8 @@
 use Rattle.std.proofs.Common.{◌≡◌, sym, subst, ℕ, List, Some}
 use Rattle.std.specs.Prelude.{map}
 use Rattle.om_code.specs.declared.raw.Raw.{Raw}
-use Rattle.om_cells.specs.declared.step.Entry.{Entry}
-use Rattle.om_cells.specs.Rules.{replay}
+use Rattle.om_values.specs.declared.step.Entry.{Entry}
+use Rattle.om_values.specs.Rules.{replay}
 use Rattle.om_task.specs.Rules.{rules_of}
 use Rattle.om_history.specs.Runs.{label_of}
 use Rattle.om_undo.specs.Machines.{MachineView, rules_for, state_in}

@@ -6,20 +6,20 @@ use Rattle.std.proofs.lemmas.List.{map-append, take_more}
 use Rattle.std.proofs.Math.Seq.{drop-cons}
 use Rattle.om_foot.specs.declared.footprint.Access.{Access}
 use Rattle.om_foot.specs.declared.object.Obj.TheVariants as obj
-use Rattle.om_cells.specs.declared.step.Blocked.{Blocked}
-use Rattle.om_cells.specs.declared.step.Change.{Change}
-use Rattle.om_cells.specs.declared.step.Entry.{Entry}
-use Rattle.om_cells.specs.declared.step.Label.{Label}
-use Rattle.om_cells.specs.declared.step.Outcome.{Outcome}
-use Rattle.om_cells.specs.declared.step.Outcome.TheVariants as outcome
-use Rattle.om_cells.specs.declared.step.Step.{Step}
-use Rattle.om_cells.specs.declared.step.Update.{Update}
-use Rattle.om_cells.specs.declared.step.Update.TheVariants.{Put}
-use Rattle.om_cells.specs.declared.value.Val.TheVariants as value
-use Rattle.om_cells.specs.Edits.{changed, HaveRoom}
-use Rattle.om_cells.specs.Rules.{Rules, step_at, next_state, state_after_outcome, and_then, replay, replay_from}
-use Rattle.om_cells.specs.State.{State}
-use Rattle.om_cells.specs.Values.{control_in}
+use Rattle.om_values.specs.declared.step.Blocked.{Blocked}
+use Rattle.om_values.specs.declared.step.Change.{Change}
+use Rattle.om_values.specs.declared.step.Entry.{Entry}
+use Rattle.om_values.specs.declared.step.Label.{Label}
+use Rattle.om_values.specs.declared.step.Outcome.{Outcome}
+use Rattle.om_values.specs.declared.step.Outcome.TheVariants as outcome
+use Rattle.om_values.specs.declared.step.Step.{Step}
+use Rattle.om_values.specs.declared.step.Update.{Update}
+use Rattle.om_values.specs.declared.step.Update.TheVariants.{Put}
+use Rattle.om_values.specs.declared.value.Val.TheVariants as value
+use Rattle.om_values.specs.Edits.{changed, HaveRoom}
+use Rattle.om_values.specs.Rules.{Rules, step_at, next_state, state_after_outcome, and_then, replay, replay_from}
+use Rattle.om_values.specs.State.{State}
+use Rattle.om_values.specs.Values.{control_in}
 use Rattle.om_task.specs.declared.planned.Plan.{Plan}
 use Rattle.om_task.specs.declared.planned.Plan.TheVariants as plan
 use Rattle.om_task.specs.Plans.{PlanHasRoom}

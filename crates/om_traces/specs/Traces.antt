@@ -1,10 +1,10 @@
 -- Histories that are made again from their entries, with what each step touched.
 use Rattle.std.specs.Prelude.{◌≡◌, ◌+◌, Some, List, [], ◌∷◌, ◌++◌, map, length}
 use Rattle.om_foot.specs.declared.footprint.Access.{Access}
-use Rattle.om_cells.specs.declared.step.Label.{Label}
-use Rattle.om_cells.specs.declared.step.Entry.{Entry}
-use Rattle.om_cells.specs.State.{State}
-use Rattle.om_cells.specs.Rules.{Rules, step_at, next_state, replay}
+use Rattle.om_values.specs.declared.step.Label.{Label}
+use Rattle.om_values.specs.declared.step.Entry.{Entry}
+use Rattle.om_values.specs.State.{State}
+use Rattle.om_values.specs.Rules.{Rules, step_at, next_state, replay}
 use Rattle.om_history.specs.declared.history.History.{History}
 use Rattle.om_history.specs.Runs.{label_of}
 use Rattle.om_history.specs.Cones.{Transition, transitions}

@@ -1,7 +1,7 @@
 //! The steps of a history, made again one by one, with what each touched and did.
 
 ghost use Rattle.std.specs.Prelude.{◌≡◌, ◌≤◌, ◌<◌, ◌^◌, map, length, IfOk, OnOk};
-ghost use Rattle.om_cells.specs.Rules.{Rules};
+ghost use Rattle.om_values.specs.Rules.{Rules};
 ghost use Rattle.om_task.specs.Rules.{rules_of};
 ghost use Rattle.om_history.specs.Runs.{label_of};
 ghost use Rattle.om_history.specs.Cones.{transitions};
@@ -10,9 +10,8 @@ ghost use Rattle.om_undo.specs.Machines.{rules_for, IsPlan};
 ghost use Rattle.om_traces.specs.Traces.{transition_of, CanReplay, CanBeMade, footprint_for, transition_for, IsLonger};
 
 use crate::words::{Spoken, Words};
-use om_cells::{Footprint, Label, Names};
 use om_code::Program;
-use om_foot::{Access, Mode, Obj};
+use om_foot::{Access, Mode, Names, Obj};
 use om_history::History;
 use om_picture::Traced;
 use om_seq::Seq;
@@ -21,6 +20,7 @@ use om_task::start::started;
 use om_task::{Plan, plan};
 use om_undo::laws::{shaped_rules, steady_rules};
 use om_undo::{Entry, Machine};
+use om_values::{Footprint, Label};
 use std::alloc::{AllocError, Global};
 
 /// The steps of a machine's history, each with what it touched and did at its place in the replay.

@@ -1,7 +1,6 @@
 //! What a step did, in words: its instruction, the variable that it names, and a value.
 
 use crate::variable::{local_at, place_of, push_index, push_variable};
-use om_cells::{Label, Update, Val};
 use om_code::frame::{Cell, Fault, Operand};
 use om_code::instruction::Place;
 use om_code::{Instr, Program};
@@ -10,6 +9,7 @@ use om_explain::fault_words;
 use om_live::{Control, Frame, Store};
 use om_seq::Seq;
 use om_task::{Choice, Plan};
+use om_values::{Label, Update, Val};
 use std::alloc::{AllocError, Global};
 
 /// What is said of a step that was made.

@@ -6,12 +6,12 @@ use Rattle.om_foot.specs.declared.footprint.Mode.{Mode}
 use Rattle.om_foot.specs.declared.footprint.Mode.TheVariants as mode
 use Rattle.om_foot.specs.declared.footprint.Access.{Access}
 use Rattle.om_foot.specs.Footprint.{obj_eq}
-use Rattle.om_cells.specs.declared.step.Update.{Update}
-use Rattle.om_cells.specs.declared.step.Update.TheVariants as update
-use Rattle.om_cells.specs.declared.value.Val.{Val}
-use Rattle.om_cells.specs.declared.value.Val.TheVariants as value
-use Rattle.om_cells.specs.declared.value.Val.TheVariants.{Count}
-use Rattle.om_cells.specs.Rules.{Rules, control_access}
+use Rattle.om_values.specs.declared.step.Update.{Update}
+use Rattle.om_values.specs.declared.step.Update.TheVariants as update
+use Rattle.om_values.specs.declared.value.Val.{Val}
+use Rattle.om_values.specs.declared.value.Val.TheVariants as value
+use Rattle.om_values.specs.declared.value.Val.TheVariants.{Count}
+use Rattle.om_values.specs.Rules.{Rules, control_access}
 use Rattle.om_task.specs.Laws.{IsCalm}
 use Rattle.om_history.specs.Bounds.{IsSmall, is_addition, adds_to, IsSteadyAt, AreSteady, IsSteady}
 use Rattle.om_task.specs.Steps.{is_add, adds_at, AddOnce, IsNoCount, IsModest, AreModest}

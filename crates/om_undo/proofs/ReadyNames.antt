@@ -4,11 +4,11 @@ use Rattle.std.proofs.Common.{◌∷◌, ℕ, ◌⊎◌, inl, ⊎_elim, arith}
 use Rattle.std.specs.Prelude.{Contains, map, unwrap_or}
 use Rattle.std.specs.List.Sorted.{IsStrictlySortedBy}
 use Rattle.om_foot.specs.declared.object.Obj.TheVariants as obj
-use Rattle.om_cells.specs.declared.step.Label.{Label}
-use Rattle.om_cells.specs.State.{State}
-use Rattle.om_cells.specs.Ready.{is_ready, AreReady}
-use Rattle.om_cells.specs.Rules.{Rules, replay_from}
-use Rattle.om_cells.specs.Values.{task_in}
+use Rattle.om_values.specs.declared.step.Label.{Label}
+use Rattle.om_values.specs.State.{State}
+use Rattle.om_values.specs.Ready.{is_ready, AreReady}
+use Rattle.om_values.specs.Rules.{Rules, replay_from}
+use Rattle.om_values.specs.Values.{task_in}
 use Rattle.om_history.specs.Laws.{steps_from}
 use Rattle.om_history.specs.Runs.{label_of}
 use Rattle.om_undo.specs.Machines.{MachineView, rules_for, state_in}

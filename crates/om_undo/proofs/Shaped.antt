@@ -5,11 +5,11 @@ use Rattle.om_foot.specs.declared.object.Obj.TheVariants as obj
 use Rattle.om_foot.specs.declared.footprint.Mode.{Mode}
 use Rattle.om_foot.specs.declared.footprint.Mode.TheVariants as mode
 use Rattle.om_foot.specs.declared.footprint.Access.{Access}
-use Rattle.om_cells.specs.declared.step.Update.{Update}
-use Rattle.om_cells.specs.declared.step.Update.TheVariants as update
-use Rattle.om_cells.specs.declared.value.Val.{Val}
-use Rattle.om_cells.specs.declared.value.Val.TheVariants as value
-use Rattle.om_cells.specs.Rules.{Rules, control_access}
+use Rattle.om_values.specs.declared.step.Update.{Update}
+use Rattle.om_values.specs.declared.step.Update.TheVariants as update
+use Rattle.om_values.specs.declared.value.Val.{Val}
+use Rattle.om_values.specs.declared.value.Val.TheVariants as value
+use Rattle.om_values.specs.Rules.{Rules, control_access}
 use Rattle.om_live.specs.Stores.{is_trailed}
 use Rattle.om_task.specs.Shapes as rows
 use Rattle.om_history.specs.Shapes.{IsControl, IsShapedAt, AreShaped, IsShaped}

@@ -2,8 +2,8 @@
 use Rattle.std.proofs.Common.{◌≡◌, sym, ◌∙◌, ap, ℕ, Some}
 use Rattle.std.specs.Prelude.{map, unwrap_or}
 use Rattle.om_code.specs.declared.raw.Raw.{Raw}
-use Rattle.om_cells.specs.State.{State}
-use Rattle.om_cells.specs.Rules.{Rules, replay}
+use Rattle.om_values.specs.State.{State}
+use Rattle.om_values.specs.Rules.{Rules, replay}
 use Rattle.om_task.specs.Rules.{rules_of}
 use Rattle.om_history.specs.Runs.{History, label_of}
 use Rattle.om_undo.specs.Machines.{MachineView, rules_for, state_in}

@@ -2,8 +2,8 @@
 use Rattle.std.specs.Prelude.{◌≡◌, ℕ, Some, Option, List, map}
 use Rattle.om_code.specs.declared.raw.Raw.{Raw}
 use Rattle.om_code.specs.declared.frame.Fault.{Fault}
-use Rattle.om_cells.specs.declared.step.Label.{Label}
-use Rattle.om_cells.specs.Rules.{replay}
+use Rattle.om_values.specs.declared.step.Label.{Label}
+use Rattle.om_values.specs.Rules.{replay}
 use Rattle.om_task.specs.Rules.{rules_of}
 use Rattle.om_history.specs.declared.reply.StepReply.TheVariants.{Done}
 use Rattle.om_history.specs.Runs.{History, no_history, label_of, state_of_entries, reply_to_step, Undoes}

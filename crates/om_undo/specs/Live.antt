@@ -2,8 +2,8 @@
 use Rattle.std.proofs.Crossing.{crosses}
 use denote.RattleType.{RattleType}
 use denote.Param.Send.{IsSend, sendable}
-use Rattle.om_cells.specs.contracts.control.Construct as construct
-use Rattle.om_cells.specs.contracts.shared.Shared as shared
+use Rattle.om_values.specs.contracts.control.Construct as construct
+use Rattle.om_foot.specs.contracts.shared.Shared as shared
 use Rattle.om_live.specs.contracts.control.Context as context
 use Rattle.om_live.specs.contracts.control.Control as control
 use Rattle.om_live.specs.contracts.control.Frame as frame

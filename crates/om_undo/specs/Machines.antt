@@ -2,10 +2,10 @@
 use Rattle.std.specs.Prelude.{◌≡◌, ℕ, ◌≤◌}
 use Rattle.om_code.specs.declared.raw.Raw.{Raw}
 use Rattle.om_foot.specs.declared.object.Obj.TheVariants as obj
-use Rattle.om_cells.specs.State.{State}
-use Rattle.om_cells.specs.Values.{control_in}
-use Rattle.om_cells.specs.declared.step.Label.{Label}
-use Rattle.om_cells.specs.Rules.{Rules, step_at}
+use Rattle.om_values.specs.State.{State}
+use Rattle.om_values.specs.Values.{control_in}
+use Rattle.om_values.specs.declared.step.Label.{Label}
+use Rattle.om_values.specs.Rules.{Rules, step_at}
 use Rattle.om_task.specs.declared.planned.Plan.{Plan}
 use Rattle.om_task.specs.Plans.{StandsFor, PlanHasRoom}
 use Rattle.om_task.specs.Rules.{rules_of}

@@ -1,8 +1,8 @@
 -- What contracts see of a planned step, and what is true of its fields.
 use Rattle.std.specs.Prelude.{Bool, true, false}
 use Rattle.om_foot.specs.declared.object.Obj.TheVariants as obj
-use Rattle.om_cells.specs.Values.{control_in}
-use Rattle.om_cells.specs.declared.step.Label.{Label}
+use Rattle.om_values.specs.Values.{control_in}
+use Rattle.om_values.specs.declared.step.Label.{Label}
 use Rattle.om_task.specs.declared.planned.Plan.{Plan}
 use Rattle.om_task.specs.Plans.{PlanHasRoom}
 use Rattle.om_history.specs.declared.reply.StepReply.{StepReply}

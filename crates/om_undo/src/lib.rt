@@ -6,5 +6,5 @@ pub mod laws;
 pub mod machine;
 
 pub use machine::{Machine, PlannedStep};
-pub use om_cells::Entry;
 pub use om_history::{RollReply, StepReply, Taken, UndoReply};
+pub use om_values::Entry;

@@ -3,9 +3,9 @@
 ghost use Rattle.std.specs.Prelude.{◌≡◌, ◌<◌, ◌≤◌, ◌^◌, ℕ, IfOk, OnOk, OnErr, IsNone, IfSome, ◌↔◌, Some, map};
 ghost use Rattle.std.specs.Option.{option_copied};
 ghost use Rattle.om_foot.specs.declared.object.Obj.TheVariants as obj;
-ghost use Rattle.om_cells.specs.Ready.{first_behind, AreReady};
-ghost use Rattle.om_cells.specs.Rules.{Rules, replay};
-ghost use Rattle.om_cells.specs.Values.{control_in};
+ghost use Rattle.om_values.specs.Ready.{first_behind, AreReady};
+ghost use Rattle.om_values.specs.Rules.{Rules, replay};
+ghost use Rattle.om_values.specs.Values.{control_in};
 ghost use Rattle.om_live.specs.Stores.{plain_or_idle};
 ghost use Rattle.om_task.specs.Plans.{label_at};
 ghost use Rattle.om_task.specs.Rules.{rules_of, line_in, is_at_scheduling_point};
@@ -20,7 +20,6 @@ ghost use Rattle.om_undo.specs.PlannedSteps.{is_made, planned_at};
 ghost use Rattle.om_undo.specs.ReadyNames.{ready_names};
 
 use crate::laws::{headline, shaped_rules, steady_rules};
-use om_cells::{Entry, Label, Val};
 use om_code::Program;
 use om_foot::{Name, Obj};
 use om_history::choice::{choice_of, start_of};
@@ -30,6 +29,7 @@ use om_task::laws::low_counters;
 use om_task::planning::{Planning, is_at_scheduling_point, line, plan_by};
 use om_task::start::started;
 use om_task::{Choice, Plan};
+use om_values::{Entry, Label, Val};
 use std::alloc::{AllocError, Global};
 use std::marker::Model;
 use std::snapshot::Snapshot;

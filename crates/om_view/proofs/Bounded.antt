@@ -1,19 +1,19 @@
 -- Commands of many steps, one step at a time.
 use Rattle.std.proofs.Common.{◌≡◌, refl, sym, ap, ◌∙◌, ◌<◌, ◌≤◌, ◌-◌, ◌+◌, zero, suc, true, false, None, Some, ℕ, List}
 use Rattle.std.proofs.Common.{Option, cond, [], ◌∷◌, ◌++◌, length, drop, get_or, append_assoc, arith, Bool, map}
-use Rattle.om_cells.specs.declared.step.Choice.{Choice}
-use Rattle.om_cells.specs.declared.step.Choice.TheVariants.{Next, Start}
-use Rattle.om_cells.specs.declared.step.Outcome.{Outcome}
-use Rattle.om_cells.specs.declared.step.Outcome.TheVariants as outcome
-use Rattle.om_cells.specs.declared.step.Update.{Update}
+use Rattle.om_values.specs.declared.step.Choice.{Choice}
+use Rattle.om_values.specs.declared.step.Choice.TheVariants.{Next, Start}
+use Rattle.om_values.specs.declared.step.Outcome.{Outcome}
+use Rattle.om_values.specs.declared.step.Outcome.TheVariants as outcome
+use Rattle.om_values.specs.declared.step.Update.{Update}
 use Rattle.om_command.specs.Steps.{full_text, step_text, undo_text}
 use Rattle.om_command.specs.Lists.{joined}
 use Rattle.om_command.specs.declared.stop.Stop.TheVariants as stop
-use Rattle.om_cells.specs.Values.{control_in}
+use Rattle.om_values.specs.Values.{control_in}
 use Rattle.om_foot.specs.declared.object.Obj.TheVariants as object
-use Rattle.om_cells.specs.declared.step.Entry.{Entry}
-use Rattle.om_cells.specs.declared.step.Label.{Label}
-use Rattle.om_cells.specs.declared.value.Val.{Val}
+use Rattle.om_values.specs.declared.step.Entry.{Entry}
+use Rattle.om_values.specs.declared.step.Label.{Label}
+use Rattle.om_values.specs.declared.value.Val.{Val}
 use Rattle.om_history.specs.declared.reply.RollReply.{RollReply}
 use Rattle.om_history.specs.declared.reply.UndoReply.{UndoReply}
 use Rattle.om_history.specs.Runs.{reply_for, reply_to_step}

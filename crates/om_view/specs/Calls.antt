@@ -1,7 +1,7 @@
 -- The calls of a debugger: it makes them through one seat, 0, of its book.
 use Rattle.std.specs.Prelude.{ℕ}
-use Rattle.om_cells.specs.declared.step.Choice.{Choice}
-use Rattle.om_cells.specs.declared.step.Label.{Label}
+use Rattle.om_values.specs.declared.step.Choice.{Choice}
+use Rattle.om_values.specs.declared.step.Label.{Label}
 use Rattle.om_history.specs.declared.reply.StepReply.{StepReply}
 use Rattle.om_history.specs.declared.reply.UndoReply.{UndoReply}
 use Rattle.om_history.specs.Runs.{reply_to_step, reply_to_undo}

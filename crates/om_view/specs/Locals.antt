@@ -1,8 +1,8 @@
 -- What a worker sees by the name of a variable: the innermost one in scope at its next instruction.
 use Rattle.std.specs.Prelude.{ℕ, Option, None, Some}
-use Rattle.om_cells.specs.declared.control.Context.{Context}
-use Rattle.om_cells.specs.declared.control.Control as controls
-use Rattle.om_cells.specs.declared.control.Control.TheVariants as control
+use Rattle.om_values.specs.declared.control.Context.{Context}
+use Rattle.om_values.specs.declared.control.Control as controls
+use Rattle.om_values.specs.declared.control.Control.TheVariants as control
 use Rattle.om_code.specs.declared.instruction.Place.TheVariants as place
 use Rattle.om_code.specs.declared.raw.Raw.{Raw}
 use Rattle.om_command.specs.declared.command.Variable.{Variable}

@@ -2,10 +2,10 @@
 use Rattle.std.specs.Prelude.{ℕ, List, [], ◌∷◌}
 use Rattle.om_foot.specs.declared.object.Obj.{Obj}
 use Rattle.om_foot.specs.declared.object.Obj.TheVariants as object
-use Rattle.om_cells.specs.declared.value.Task as tasks
-use Rattle.om_cells.specs.declared.value.Task.TheVariants as task
-use Rattle.om_cells.specs.State.{State}
-use Rattle.om_cells.specs.Values.{bytes_in, control_in, records_in, task_in}
+use Rattle.om_values.specs.declared.value.Task as tasks
+use Rattle.om_values.specs.declared.value.Task.TheVariants as task
+use Rattle.om_values.specs.State.{State}
+use Rattle.om_values.specs.Values.{bytes_in, control_in, records_in, task_in}
 use Rattle.om_command.specs.declared.command.Variable.{Variable}
 use Rattle.om_command.specs.declared.value.GlobalCell.{GlobalCell}
 use Rattle.om_command.specs.Lists.{history_text, events_text, output_text, task_text, no_tasks_text, joined}

@@ -1,12 +1,12 @@
 -- Runs: the least worker that has a move makes it, so many times at most.
 use Rattle.std.specs.Prelude.{ℕ, zero, suc, ◌+◌, ◌-◌, Bool, true, false, cond, List, [], ◌∷◌, Option, None, Some}
 use Rattle.om_foot.specs.declared.object.Obj.TheVariants as object
-use Rattle.om_cells.specs.declared.control.Control as controls
-use Rattle.om_cells.specs.declared.control.Control.TheVariants as control
-use Rattle.om_cells.specs.declared.step.Choice.{Choice}
-use Rattle.om_cells.specs.declared.step.Choice.TheVariants.{Next, Start}
-use Rattle.om_cells.specs.declared.step.Label.{Label}
-use Rattle.om_cells.specs.Values.{control_in}
+use Rattle.om_values.specs.declared.control.Control as controls
+use Rattle.om_values.specs.declared.control.Control.TheVariants as control
+use Rattle.om_values.specs.declared.step.Choice.{Choice}
+use Rattle.om_values.specs.declared.step.Choice.TheVariants.{Next, Start}
+use Rattle.om_values.specs.declared.step.Label.{Label}
+use Rattle.om_values.specs.Values.{control_in}
 use Rattle.om_command.specs.declared.stop.Stop.{Stop}
 use Rattle.om_command.specs.declared.stop.Stop.TheVariants as stop
 use Rattle.om_command.specs.Steps.{full_text}

@@ -4,9 +4,9 @@ use Rattle.std.specs.Ordering.{int_eq}
 use Rattle.om_code.specs.declared.frame.Cell.{Cell}
 use Rattle.om_code.specs.declared.frame.Cell.TheVariants as cell
 use Rattle.om_foot.specs.declared.object.Obj.TheVariants as object
-use Rattle.om_cells.specs.declared.step.Label.{Label}
-use Rattle.om_cells.specs.State.{State}
-use Rattle.om_cells.specs.Values.{cell_in}
+use Rattle.om_values.specs.declared.step.Label.{Label}
+use Rattle.om_values.specs.State.{State}
+use Rattle.om_values.specs.Values.{cell_in}
 use Rattle.om_history.specs.declared.reply.StepReply.{StepReply}
 use Rattle.om_history.specs.declared.reply.StepReply.TheVariants as step_reply
 use Rattle.om_command.specs.declared.stop.Stop.{Stop}

@@ -1,7 +1,7 @@
 -- What a line of commands is answered, and what it leaves.
 use Rattle.std.specs.Prelude.{◌≡◌, ℕ, Bool, true, false, List, [], ◌∷◌, ◌++◌, Option, None, Some}
-use Rattle.om_cells.specs.declared.step.Choice.TheVariants.{Next, Start}
-use Rattle.om_cells.specs.Values.{control_in}
+use Rattle.om_values.specs.declared.step.Choice.TheVariants.{Next, Start}
+use Rattle.om_values.specs.Values.{control_in}
 use Rattle.om_command.specs.declared.command.Command.{Command}
 use Rattle.om_command.specs.declared.command.Command.TheVariants as command
 use Rattle.om_command.specs.declared.command.CommandFault.{CommandFault}

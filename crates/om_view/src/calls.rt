@@ -12,12 +12,12 @@ ghost use Rattle.om_undo.specs.ReadyNames.{ready_names};
 ghost use Rattle.om_view.specs.Calls.{label_of, step_reply_of, undo_reply_of, with_call, with_step};
 
 use om_book::{Book, CallError};
-use om_cells::Val;
 use om_foot::Name;
 use om_journal::{Command, KeptUndoReply, Reply};
 use om_seq::Seq;
 use om_task::Choice;
 use om_undo::{Entry, PlannedStep, RollReply, StepReply};
+use om_values::Val;
 use std::alloc::{AllocError, Global};
 
 // The debugger's seat.

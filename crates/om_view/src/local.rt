@@ -1,7 +1,7 @@
 //! The cell that a worker sees by the name of a variable.
 
 ghost use Rattle.std.specs.Prelude.{◌≡◌};
-ghost use Rattle.om_cells.specs.Values.{control_in};
+ghost use Rattle.om_values.specs.Values.{control_in};
 ghost use Rattle.om_foot.specs.declared.object.Obj.TheVariants as object;
 ghost use Rattle.om_live.specs.Plain.{plain_context, plain_control};
 ghost use Rattle.om_undo.specs.Machines.{state_in};

@@ -2,18 +2,16 @@
 
 ghost use Rattle.std.specs.Prelude.{◌≡◌, ◌<◌, ◌++◌, unwrap_or, OnOk};
 ghost use Rattle.std.specs.Option.{option_copied};
-ghost use Rattle.om_cells.specs.declared.value.Task.TheVariants as tasks;
+ghost use Rattle.om_values.specs.declared.value.Task.TheVariants as tasks;
 ghost use Rattle.om_command.specs.Lists.{joined};
 ghost use Rattle.om_task.specs.Rules.{line_in};
 ghost use Rattle.om_undo.specs.Machines.{state_in};
 ghost use Rattle.om_command.specs.Places.{where_text};
-ghost use Rattle.om_cells.specs.Values.{control_in};
+ghost use Rattle.om_values.specs.Values.{control_in};
 ghost use Rattle.om_view.specs.Looks.{local_said, print_said, where_said, history_said, events_said, output_said, directive_line, ready_line, tasks_text, tasks_said};
 
 use crate::calls::{call, entries_told, names_told, value_told};
 use om_book::Book;
-use om_cells::value::Task;
-use om_cells::{Control, Val};
 use om_code::Program;
 use om_command::{
     GlobalCell, Variable, push_events, push_full, push_history, push_local, push_no_tasks,
@@ -23,6 +21,7 @@ use om_foot::{Name, Obj};
 use om_journal::{Command, Query};
 use om_lookup::line_of;
 use om_undo::Machine;
+use om_values::{Control, Task, Val};
 use std::alloc::{AllocError, Global};
 
 /// Answers `print VAR`.

@@ -1,7 +1,7 @@
 //! The commands of one worker's steps and undos, and rolls.
 
 ghost use Rattle.std.specs.Prelude.{◌≡◌, ◌<◌, ◌++◌, ◌&&◌, nat_eq, true, OnOk};
-ghost use Rattle.om_cells.specs.declared.step.Choice.TheVariants as choices;
+ghost use Rattle.om_values.specs.declared.step.Choice.TheVariants as choices;
 ghost use Rattle.om_command.specs.Steps.{undo_text};
 ghost use Rattle.om_view.specs.Looks.{line_at};
 ghost use Rattle.om_journal.specs.declared.reply.Reply.TheVariants as replies;

@@ -1,7 +1,7 @@
 use Rattle.std.proofs.Common.{◌∙◌, sym, true, ◌≡◌, rules}
 use Rattle.std.proofs.lemmas.List.Elements.{All-weaker}
 use Rattle.om_foot.specs.declared.footprint.Access.{Access}
-use Rattle.om_cells.specs.Cells.{cells_listed}
+use Rattle.om_foot.specs.Cells.{cells_listed}
 use Rattle.om_live.specs.Stores.{state_of, is_kept}
 use Rattle.om_history.proofs.CellParts.{last_split, were_split, slot_back, none_back}
 use Rattle.om_history.proofs.further.+take_back_cells.Goals as goal

@@ -3,10 +3,11 @@ use Rattle.std.specs.Prelude.{All}
 use Rattle.std.proofs.lemmas.List.{take_more}
 use Rattle.std.proofs.lemmas.List.Elements.{All-weaker}
 use Rattle.om_foot.specs.declared.footprint.Access.{Access}
-use Rattle.om_cells.specs.declared.cells.Cells.{Cells}
-use Rattle.om_cells.specs.declared.cells.Run.{Run}
-use Rattle.om_cells.specs.Cells.{cells_of, cells_listed, runs_listed}
-use Rattle.om_cells.specs.State.{updated, undo_record}
+use Rattle.om_foot.specs.declared.cells.Cells.{Cells}
+use Rattle.om_values.specs.declared.runs.Run.{Run}
+use Rattle.om_foot.specs.Cells.{cells_of, cells_listed}
+use Rattle.om_values.specs.Runs.{runs_listed}
+use Rattle.om_values.specs.State.{updated, undo_record}
 use Rattle.om_live.specs.Stores.{state_of, is_kept}
 use Rattle.om_history.specs.Backs.{backs_listed, WereAlong}
 use Rattle.om_history.proofs.CellParts.{CellsMade, All-at, All-first, along_all, one_slot_more, cells_back}

@@ -2,7 +2,7 @@
 use Rattle.std.proofs.Common.{◌≡◌, ◌∙◌, ap, true, length}
 use Rattle.std.proofs.lemmas.List.Elements.{All-weaker}
 use Rattle.om_foot.specs.declared.footprint.Access.{Access}
-use Rattle.om_cells.specs.Cells.{cells_listed}
+use Rattle.om_foot.specs.Cells.{cells_listed}
 use Rattle.om_live.specs.Stores.{state_of, is_kept, pasts_of}
 use Rattle.om_history.proofs.Parts.{length-small_record}
 use Rattle.om_history.proofs.FurtherParts.{kept_parts, parts_can, parts_made, all_can, all_back, all_popped}

@@ -1,8 +1,8 @@
 use Rattle.std.proofs.Common.{◌≡◌, refl, ◌∙◌, sym, ap, subst, true}
 use Rattle.std.proofs.lemmas.List.Elements.{All-weaker}
 use Rattle.om_foot.specs.declared.footprint.Access.{Access}
-use Rattle.om_cells.specs.Cells.{cells_listed}
-use Rattle.om_cells.specs.State.{State, taken_back}
+use Rattle.om_foot.specs.Cells.{cells_listed}
+use Rattle.om_values.specs.State.{State, taken_back}
 use Rattle.om_live.specs.Stores.{Pasts, state_of, is_kept, pasts_of}
 use Rattle.om_history.specs.Backs.{backs_listed}
 use Rattle.om_history.specs.Fills.{filled, popped_all, CanTakeBack}

@@ -1,5 +1,5 @@
 use Rattle.std.proofs.Common.{◌≡◌, ◌++◌, drop}
-use Rattle.om_cells.specs.Cells.{runs_listed}
+use Rattle.om_values.specs.Runs.{runs_listed}
 use Rattle.om_history.proofs.planning.push_runs.Given as goal
 
 -- what is there and what is left are all

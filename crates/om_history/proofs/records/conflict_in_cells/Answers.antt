@@ -1,7 +1,7 @@
 use Rattle.std.proofs.Common.{◌≡◌, ◌∙◌, sym, ap, drop, ◌+◌, Some, None}
 use Rattle.om_foot.specs.Footprint.{conflict_of}
-use Rattle.om_cells.specs.declared.cells.Cells.{Cells}
-use Rattle.om_cells.specs.Cells.{cells_of, cells_listed}
+use Rattle.om_foot.specs.declared.cells.Cells.{Cells}
+use Rattle.om_foot.specs.Cells.{cells_of, cells_listed}
 use Rattle.om_touches.specs.Accesses.{accesses_of}
 use Rattle.om_history.proofs.Conflicts.{slots_next, conflict_first, conflict_not_first}
 use Rattle.om_history.proofs.records.conflict_in_cells.Goals as goal

@@ -1,5 +1,6 @@
 use Rattle.std.proofs.Common.{subst}
-use Rattle.om_touches.specs.Touches.{has_touch, meets, IsFirst}
+use Rattle.om_touches.specs.Touches.{has_touch, meets}
+use Rattle.om_foot.specs.Firsts.{IsFirst}
 use Rattle.om_history.proofs.Indexed.{none_behind}
 use Rattle.om_history.proofs.records.first_conflict.Goals as goal
 

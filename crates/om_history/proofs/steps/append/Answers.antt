@@ -1,5 +1,5 @@
 use Rattle.std.proofs.Common.{◌∙◌, ap, sym, subst}
-use Rattle.om_cells.specs.State.{taken_back}
+use Rattle.om_values.specs.State.{taken_back}
 use Rattle.om_live.specs.Stores.{state_of, pasts_of}
 use Rattle.om_history.specs.declared.records.UndoRecord.{UndoRecord}
 use Rattle.om_history.specs.Fills.{full, before}

@@ -3,8 +3,8 @@ use Rattle.std.specs.Prelude.{All}
 use Rattle.std.proofs.lemmas.List.{take_more}
 use Rattle.std.proofs.lemmas.List.Elements.{All-weaker, All-append}
 use Rattle.om_foot.specs.declared.footprint.Access.{Access}
-use Rattle.om_cells.specs.declared.cells.Cells.{Cells}
-use Rattle.om_cells.specs.Cells.{cells_of, cells_listed}
+use Rattle.om_foot.specs.declared.cells.Cells.{Cells}
+use Rattle.om_foot.specs.Cells.{cells_of, cells_listed}
 use Rattle.om_live.specs.Stores.{is_kept}
 use Rattle.om_history.proofs.CellParts.{cells_listed-more}
 use Rattle.om_history.proofs.updates.keep_cells.Goals as goal

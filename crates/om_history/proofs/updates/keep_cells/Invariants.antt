@@ -1,7 +1,7 @@
 use Rattle.std.proofs.Common.{◌≡◌, take, true}
 use Rattle.std.specs.Prelude.{All}
 use Rattle.om_foot.specs.declared.object.Obj.{Obj}
-use Rattle.om_cells.specs.Cells.{cells_listed}
+use Rattle.om_foot.specs.Cells.{cells_listed}
 use Rattle.om_live.specs.Stores.{state_of, is_kept, pasts_of}
 use Rattle.om_history.proofs.updates.keep_cells.Given as goal
 

@@ -2,7 +2,7 @@ use Rattle.std.proofs.Common.{◌∙◌, sym, ap, rules}
 use Rattle.std.specs.Prelude.{FitsSigned}
 use Rattle.std.specs.Int.{w128}
 use Rattle.om_foot.specs.declared.footprint.Mode.TheVariants as mode
-use Rattle.om_cells.specs.State.{state_after}
+use Rattle.om_values.specs.State.{state_after}
 use Rattle.om_live.specs.Stores.{state_of}
 use Rattle.om_history.proofs.Changes.{added_at}
 use Rattle.om_history.proofs.updates.make_addition.Goals as goal

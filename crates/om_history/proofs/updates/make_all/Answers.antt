@@ -1,8 +1,8 @@
 use Rattle.std.proofs.Common.{◌∙◌, ap, subst, sym, arith, List, take, set}
 use Rattle.std.proofs.Math.ListN.{length-set}
 use Rattle.om_foot.specs.declared.footprint.Access.{Access}
-use Rattle.om_cells.specs.declared.step.Update.{Update}
-use Rattle.om_cells.specs.State.{taken_back}
+use Rattle.om_values.specs.declared.step.Update.{Update}
+use Rattle.om_values.specs.State.{taken_back}
 use Rattle.om_live.specs.Stores.{state_of, pasts_of}
 use Rattle.om_history.specs.Fills.{filled, popped_all, CanTakeBack}
 use Rattle.om_history.proofs.Making.{fits_at, shaped_at, one_more, all_made}

@@ -2,8 +2,8 @@ use Rattle.std.proofs.Common.{◌≡◌, ◌∙◌, sym, ap, subst, arith, take,
 use Rattle.std.proofs.Math.ListN.{length-set}
 use Rattle.std.proofs.lemmas.List.{take-set}
 use Rattle.om_foot.specs.declared.footprint.Access.{Access}
-use Rattle.om_cells.specs.declared.step.Update.{Update}
-use Rattle.om_cells.specs.State.{State, state_before, taken_back}
+use Rattle.om_values.specs.declared.step.Update.{Update}
+use Rattle.om_values.specs.State.{State, state_before, taken_back}
 use Rattle.om_live.specs.Stores.{Pasts, state_of, pasts_of}
 use Rattle.om_history.specs.Fills.{filled_at, filled, popped, popped_all, CanTakeBack}
 use Rattle.om_history.proofs.TakingBack.{BackTurn, back_turn}

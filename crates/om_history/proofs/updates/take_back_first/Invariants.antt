@@ -1,6 +1,6 @@
 use Rattle.std.proofs.Common.{◌≡◌, take, length}
 use Rattle.om_foot.specs.declared.object.Obj.{Obj}
-use Rattle.om_cells.specs.State.{taken_back}
+use Rattle.om_values.specs.State.{taken_back}
 use Rattle.om_live.specs.Stores.{state_of, is_kept, pasts_of}
 use Rattle.om_history.specs.Fills.{filled, popped_all, CanTakeBack}
 use Rattle.om_history.proofs.updates.take_back_first.Given as goal

@@ -1,6 +1,6 @@
 use Rattle.std.proofs.Common.{◌∙◌, sym, ap}
 use Rattle.om_foot.specs.declared.footprint.Mode.TheVariants as mode
-use Rattle.om_cells.specs.State.{state_before}
+use Rattle.om_values.specs.State.{state_before}
 use Rattle.om_live.specs.Stores.{state_of}
 use Rattle.om_history.proofs.Changes.{cut_at}
 use Rattle.om_history.proofs.updates.take_write_back.Goals as goal

@@ -1,6 +1,6 @@
 -- The edits that are left lead to the fault to which all lead.
 use Rattle.std.proofs.Common.{◌≡◌, drop}
-use Rattle.om_cells.specs.Edits.{changed}
+use Rattle.om_values.specs.Edits.{changed}
 use Rattle.om_live.specs.Plain.{plain_control}
 use Rattle.om_live.specs.Faults.{fault_in, fault_ahead, outlook_behind, IsLow}
 use Rattle.om_live.proofs.fault.fault_after.Given as goal

@@ -2,7 +2,7 @@
 use Rattle.std.proofs.Common.{◌≡◌}
 use Rattle.std.specs.Prelude.{true, not}
 use Rattle.std.specs.Vec.Iter.{into_iter_items}
-use Rattle.om_cells.specs.Edits.{HaveRoom, changed}
+use Rattle.om_values.specs.Edits.{HaveRoom, changed}
 use Rattle.om_live.specs.Plain.{plain_control}
 use Rattle.om_live.specs.Trails.{CanRewind, past_of, begun}
 use Rattle.om_live.proofs.trail.edit_all.Given as goal

@@ -1,5 +1,5 @@
 use Rattle.std.proofs.Common.{◌≡◌, ◌++◌, ◌+◌, ◌-◌, replicate}
-use Rattle.om_cells.specs.declared.step.Update.TheVariants as update
+use Rattle.om_values.specs.declared.step.Update.TheVariants as update
 use Rattle.om_share.proofs.barrier.put_kept.Given as goal
 
 -- the updates so far and those of what is left are all

@@ -1,5 +1,5 @@
 use Rattle.std.proofs.Common.{◌≡◌, ◌++◌, drop}
-use Rattle.om_cells.specs.Cells.{cells_listed}
+use Rattle.om_foot.specs.Cells.{cells_listed}
 use Rattle.om_steps.specs.Objects.{same_puts}
 use Rattle.om_steps.proofs.updates.put_runs.Given as goal
 

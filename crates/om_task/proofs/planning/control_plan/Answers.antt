@@ -1,4 +1,4 @@
-use Rattle.om_cells.specs.declared.step.Label.{Label}
+use Rattle.om_values.specs.declared.step.Label.{Label}
 use Rattle.om_live.specs.Plain.{plain_control}
 use Rattle.om_live.specs.Stores.{state_of}
 use Rattle.om_task.proofs.Plans.{room_in, stands_for}

@@ -1,4 +1,4 @@
-use Rattle.om_cells.specs.declared.control.Control.TheVariants.{Idle}
+use Rattle.om_values.specs.declared.control.Control.TheVariants.{Idle}
 use Rattle.om_live.specs.Plain.{plain_control}
 use Rattle.om_live.specs.Stores.{state_of}
 use Rattle.om_task.specs.Plans.{label_at}

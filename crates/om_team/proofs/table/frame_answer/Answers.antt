@@ -1,7 +1,7 @@
 use Rattle.std.proofs.Common.{◌∙◌, ap, sym}
 use Rattle.om_live.specs.Plain.{plain_context, plain_stack}
 use Rattle.om_live.specs.Stores.{state_of}
-use Rattle.om_cells.specs.declared.control.Team.{Team}
+use Rattle.om_values.specs.declared.control.Team.{Team}
 use Rattle.om_live.specs.declared.control.Context.{Context}
 use Rattle.om_steps.specs.SerialRows.{number_row}
 use Rattle.om_team.specs.Sites.{site}

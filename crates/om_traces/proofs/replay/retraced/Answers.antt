@@ -1,7 +1,7 @@
 use Rattle.std.proofs.Common.{◌≡◌, sym, ◌∙◌, ap, subst, ℕ, suc, ◌+◌, ◌<◌, List, ◌∷◌, ◌++◌, [], take, drop, length, arith}
 use Rattle.std.specs.Prelude.{map}
-use Rattle.om_cells.specs.declared.step.Entry.{Entry}
-use Rattle.om_cells.specs.Rules.{Rules, replay}
+use Rattle.om_values.specs.declared.step.Entry.{Entry}
+use Rattle.om_values.specs.Rules.{Rules, replay}
 use Rattle.om_task.specs.Rules.{rules_of}
 use Rattle.om_history.specs.Runs.{label_of}
 use Rattle.om_history.specs.Records.{entries_of}

@@ -1,6 +1,6 @@
 use Rattle.std.proofs.Common.{◌∙◌, sym, ap, Some}
 use Rattle.std.specs.Prelude.{unwrap_or}
-use Rattle.om_cells.specs.Rules.{Rules}
+use Rattle.om_values.specs.Rules.{Rules}
 use Rattle.om_task.specs.Rules.{rules_of}
 use Rattle.om_history.specs.Commands.{IsReplayed}
 use Rattle.om_undo.specs.Headline.{history_after}

@@ -3,7 +3,7 @@ use Rattle.std.proofs.Common.{arith, ◌^◌, List, IfOk}
 use Rattle.std.specs.Prelude.{map, Result, Ok, Err}
 use Rattle.std.proofs.lemmas.List.{length-map}
 use Rattle.om_live.specs.Stores.{state_of}
-use Rattle.om_cells.specs.declared.step.Entry.{Entry}
+use Rattle.om_values.specs.declared.step.Entry.{Entry}
 use Rattle.om_task.specs.Plans.{label_at}
 use Rattle.om_task.specs.Rules.{rules_of}
 use Rattle.om_history.specs.declared.records.UndoRecord.{UndoRecord}

@@ -1,6 +1,6 @@
 use Rattle.std.proofs.Common.{◌≡◌, subst}
 use Rattle.std.specs.Prelude.{Result, IfOk, OnOk}
-use Rattle.om_cells.specs.declared.step.Label.{Label}
+use Rattle.om_values.specs.declared.step.Label.{Label}
 use Rattle.om_history.specs.declared.reply.StepReply.{StepReply}
 use Rattle.om_book.specs.Books.{BookView, machine_of}
 use Rattle.om_undo.specs.Machines.{MachineView}

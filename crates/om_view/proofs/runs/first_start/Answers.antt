@@ -1,7 +1,7 @@
 use Rattle.std.proofs.Common.{sym, ap, ◌∙◌, arith, length, Some}
-use Rattle.om_cells.specs.declared.step.Choice.TheVariants.{Start}
-use Rattle.om_cells.specs.Ready.{first_behind, names_behind}
-use Rattle.om_cells.specs.NextNames.{behind_all, behind_none, behind_next}
+use Rattle.om_values.specs.declared.step.Choice.TheVariants.{Start}
+use Rattle.om_values.specs.Ready.{first_behind, names_behind}
+use Rattle.om_values.specs.NextNames.{behind_all, behind_none, behind_next}
 use Rattle.om_undo.specs.ReadyNames.{ready_names}
 use Rattle.om_view.specs.Runs.{planned_for, start_among}
 use Rattle.om_view.proofs.Bounded.{no_start, can_where_planned, cannot_where_none, planned_is, start_here, start_behind}

@@ -1,5 +1,5 @@
 use Rattle.std.proofs.Common.{◌≡◌, length}
-use Rattle.om_cells.specs.Ready.{names_behind}
+use Rattle.om_values.specs.Ready.{names_behind}
 use Rattle.om_undo.specs.ReadyNames.{ready_names}
 use Rattle.om_view.specs.Runs.{start_among}
 use Rattle.om_view.proofs.runs.first_start.Given as goal

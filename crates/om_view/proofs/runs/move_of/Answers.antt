@@ -1,5 +1,5 @@
 use Rattle.std.proofs.Common.{sym, ap, ◌∙◌, cond, Some}
-use Rattle.om_cells.specs.declared.step.Choice.TheVariants.{Next}
+use Rattle.om_values.specs.declared.step.Choice.TheVariants.{Next}
 use Rattle.om_undo.specs.ReadyNames.{ready_names}
 use Rattle.om_view.specs.Runs.{planned_for, start_among}
 use Rattle.om_view.proofs.Bounded.{can_where_planned, cannot_where_none, planned_is}

@@ -1,6 +1,6 @@
 use Rattle.std.proofs.Common.{ap}
 use Rattle.std.specs.Prelude.{Some}
-use Rattle.om_cells.specs.declared.part.Part.TheVariants as part
+use Rattle.om_foot.specs.declared.part.Part.TheVariants as part
 use Rattle.om_cells.specs.ReadyEntries.{is_ready_task, is_ready_in}
 use Rattle.om_cells.proofs.FirstReady.{same_next}
 use Rattle.om_cells.proofs.named.Named.enter.Goals as goal

@@ -1,10 +1,10 @@
 -- What edits come to is what the step puts first.
 use Rattle.std.proofs.Common.{◌∙◌, ap, sym, ◌+◌, ℕ}
 use Rattle.om_foot.specs.declared.object.Obj.TheVariants as obj
-use Rattle.om_cells.specs.declared.control.Control as controls
-use Rattle.om_cells.specs.declared.step.Label.{Label}
-use Rattle.om_cells.specs.Edits.{changed}
-use Rattle.om_cells.specs.Values.{control_in}
+use Rattle.om_values.specs.declared.control.Control as controls
+use Rattle.om_values.specs.declared.step.Label.{Label}
+use Rattle.om_values.specs.Edits.{changed}
+use Rattle.om_values.specs.Values.{control_in}
 use Rattle.om_live.specs.Faults.{fault_in}
 use Rattle.om_live.specs.Stores.{state_of}
 use Rattle.om_history.specs.declared.reply.StepReply.TheVariants.{Done}

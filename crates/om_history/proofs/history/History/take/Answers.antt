@@ -1,8 +1,8 @@
 -- The choice that is kept is the label's.
 use Rattle.std.proofs.Common.{◌≡◌, sym, ap, subst, refl, IfOk, OnOk}
-use Rattle.om_cells.specs.declared.step.Choice.{Choice}
-use Rattle.om_cells.specs.declared.step.Label.{Label}
-use Rattle.om_cells.specs.Rules.{Rules}
+use Rattle.om_values.specs.declared.step.Choice.{Choice}
+use Rattle.om_values.specs.declared.step.Label.{Label}
+use Rattle.om_values.specs.Rules.{Rules}
 use Rattle.om_history.specs.Pasts.{IsPlanned, RepliesToStep, TakesStep, step_for}
 use Rattle.om_history.proofs.history.History.take.Goals as goal
 

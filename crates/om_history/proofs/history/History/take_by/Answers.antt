@@ -1,6 +1,6 @@
 -- What was planned is the step at the replay of the entries.
 use Rattle.std.proofs.Common.{◌∙◌, sym, ap, refl, subst}
-use Rattle.om_cells.specs.declared.step.Label.{Label}
+use Rattle.om_values.specs.declared.step.Label.{Label}
 use Rattle.om_live.specs.Stores.{state_of, pasts_of}
 use Rattle.om_history.specs.Choices.{label_by}
 use Rattle.om_history.specs.Commands.{Rise}

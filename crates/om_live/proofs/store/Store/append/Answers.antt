@@ -1,11 +1,11 @@
 use Rattle.std.proofs.Common.{◌≡◌, ◌∙◌, sym, ap, refl}
 use Rattle.std.proofs.lemmas.Result.{on_ok_weaker, on_err_weaker}
-use Rattle.om_cells.specs.declared.control.Control as plain_controls
-use Rattle.om_cells.specs.declared.step.Tail.{Tail}
-use Rattle.om_cells.specs.declared.step.Tail.TheVariants as tail
-use Rattle.om_cells.specs.declared.value.Val.TheVariants as value
+use Rattle.om_values.specs.declared.control.Control as plain_controls
+use Rattle.om_values.specs.declared.step.Tail.{Tail}
+use Rattle.om_values.specs.declared.step.Tail.TheVariants as tail
+use Rattle.om_values.specs.declared.value.Val.TheVariants as value
 use Rattle.om_cells.specs.Stores as values
-use Rattle.om_cells.specs.Values.{value_with}
+use Rattle.om_values.specs.Values.{value_with}
 use Rattle.om_live.specs.Stores.{state_of, is_kept, pasts_of, held_by}
 use Rattle.om_live.proofs.Values.{control_stays, value_changed, kept_alike, kept_too, untrailed}
 use Rattle.om_live.proofs.store.Store.append.Goals as goal

@@ -1,7 +1,7 @@
 use Rattle.std.proofs.Common.{◌∙◌, ap}
 use Rattle.om_foot.specs.declared.object.Obj.TheVariants as obj
-use Rattle.om_cells.specs.declared.value.Val.TheVariants as value
-use Rattle.om_cells.specs.State.{with_value}
+use Rattle.om_values.specs.declared.value.Val.TheVariants as value
+use Rattle.om_values.specs.State.{with_value}
 use Rattle.om_cells.specs.Stores as values
 use Rattle.om_live.specs.Stores.{state_of, is_kept, pasts_of, held_by, begun_at}
 use Rattle.om_live.proofs.Held.{held_put, begun_put, kept_put, there}

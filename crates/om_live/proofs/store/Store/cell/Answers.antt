@@ -1,7 +1,7 @@
 use Rattle.std.proofs.Common.{◌∙◌, sym, refl}
 use Rattle.om_code.specs.declared.frame.Cell.TheVariants as cell
 use Rattle.om_cells.specs.Stores as values
-use Rattle.om_cells.specs.Values.{cell_in}
+use Rattle.om_values.specs.Values.{cell_in}
 use Rattle.om_live.specs.Stores.{state_of}
 use Rattle.om_live.proofs.Values.{read_control, read_other}
 use Rattle.om_live.proofs.store.Store.cell.Goals as goal

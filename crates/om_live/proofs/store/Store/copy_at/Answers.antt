@@ -2,7 +2,7 @@ use Rattle.std.proofs.Common.{◌∙◌, ap, sym}
 use Rattle.std.proofs.lemmas.Result.{IfOk-weaker}
 use Rattle.std.specs.Option.{option_copied}
 use Rattle.om_cells.specs.Stores as values
-use Rattle.om_cells.specs.declared.value.Val.TheVariants as value
+use Rattle.om_values.specs.declared.value.Val.TheVariants as value
 use Rattle.om_live.specs.Stores.{state_of, plain_or_idle}
 use Rattle.om_live.proofs.Values.{value_there, untrailed, is_control}
 use Rattle.om_live.proofs.store.Store.copy_at.Goals as goal

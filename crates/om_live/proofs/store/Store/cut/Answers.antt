@@ -1,6 +1,6 @@
 use Rattle.std.proofs.Common.{◌∙◌, sym, refl}
 use Rattle.om_cells.specs.Stores as values
-use Rattle.om_cells.specs.Values.{value_cut}
+use Rattle.om_values.specs.Values.{value_cut}
 use Rattle.om_live.specs.Stores.{state_of, is_kept, pasts_of}
 use Rattle.om_live.proofs.Values.{control_stays, value_changed, kept_alike, kept_too, untrailed}
 use Rattle.om_live.proofs.store.Store.cut.Goals as goal

@@ -1,6 +1,6 @@
 use Rattle.std.proofs.Common.{◌∙◌, sym, refl}
 use Rattle.om_cells.specs.Stores as values
-use Rattle.om_cells.specs.Values.{items_of}
+use Rattle.om_values.specs.Values.{items_of}
 use Rattle.om_live.specs.Stores.{state_of, is_kept}
 use Rattle.om_live.proofs.Values.{read_control, read_other, kept_too, untrailed}
 use Rattle.om_live.proofs.store.Store.items.Goals as goal

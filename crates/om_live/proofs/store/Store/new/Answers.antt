@@ -3,7 +3,7 @@ use Rattle.std.proofs.Math.Path.{fun_ext}
 use Rattle.om_foot.specs.declared.object.Obj.{Obj}
 use Rattle.om_foot.specs.declared.object.Obj.TheVariants as obj
 use Rattle.om_cells.specs.Stores as values
-use Rattle.om_cells.specs.Values.{default_of}
+use Rattle.om_values.specs.Values.{default_of}
 use Rattle.om_live.specs.Stores.{state_of, pasts_of, held_by, pasts_by}
 use Rattle.om_live.proofs.store.Store.new.Goals as goal
 

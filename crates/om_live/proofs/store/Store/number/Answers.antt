@@ -1,6 +1,6 @@
 use Rattle.std.proofs.Common.{◌∙◌, sym, refl}
 use Rattle.om_cells.specs.Stores as values
-use Rattle.om_cells.specs.Values.{number_in}
+use Rattle.om_values.specs.Values.{number_in}
 use Rattle.om_live.specs.Stores.{state_of}
 use Rattle.om_live.proofs.Values.{read_control, read_other}
 use Rattle.om_live.proofs.store.Store.number.Goals as goal

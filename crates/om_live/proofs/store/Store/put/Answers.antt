@@ -4,8 +4,8 @@ use Rattle.std.proofs.lemmas.List.{set-get_or}
 use Rattle.std.proofs.lemmas.Option.{slice_get-get_or}
 use Rattle.std.proofs.lemmas.Result.{on_ok_weaker, on_err_weaker}
 use Rattle.om_foot.specs.declared.object.Obj.TheVariants as obj
-use Rattle.om_cells.specs.declared.value.Val.TheVariants as value
-use Rattle.om_cells.specs.State.{with_value}
+use Rattle.om_values.specs.declared.value.Val.TheVariants as value
+use Rattle.om_values.specs.State.{with_value}
 use Rattle.om_cells.specs.Stores as values
 use Rattle.om_live.specs.Stores.{state_of, is_kept, pasts_of, held_by, pasts_by}
 use Rattle.om_live.proofs.Held.{held_put, noted_put, kept_put, within}

@@ -1,6 +1,6 @@
 use Rattle.std.proofs.Common.{◌∙◌, ap, refl}
 use Rattle.std.proofs.lemmas.Result.{IfOk-weaker, on_ok_weaker, on_err_weaker}
-use Rattle.om_cells.specs.Cells.{puts_of}
+use Rattle.om_values.specs.Runs.{puts_of}
 use Rattle.om_cells.specs.Stores as values
 use Rattle.om_live.specs.Stores.{state_of, is_kept, pasts_of, held_by}
 use Rattle.om_live.proofs.CellRuns.{cells_updated, cells_undo, values_kept}

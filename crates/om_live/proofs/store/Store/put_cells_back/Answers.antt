@@ -1,5 +1,5 @@
 use Rattle.std.proofs.Common.{refl}
-use Rattle.om_cells.specs.Cells.{were_listed}
+use Rattle.om_values.specs.Runs.{were_listed}
 use Rattle.om_cells.specs.Stores as values
 use Rattle.om_live.specs.Stores.{state_of, is_kept, pasts_of}
 use Rattle.om_live.proofs.CellRuns.{cells_taken, values_kept}

@@ -2,9 +2,9 @@ use Rattle.std.proofs.Common.{◌∙◌, sym, ap, subst, refl, rules}
 use Rattle.std.specs.Prelude.{FitsSigned, neg_ℤ}
 use Rattle.std.specs.Int.{w128}
 use Rattle.std.proofs.lemmas.Int.{to_z-of_z}
-use Rattle.om_cells.specs.State.{with_value}
+use Rattle.om_values.specs.State.{with_value}
 use Rattle.om_cells.specs.Stores as values
-use Rattle.om_cells.specs.Values.{value_plus, SumFits}
+use Rattle.om_values.specs.Values.{value_plus, SumFits}
 use Rattle.om_live.specs.Stores.{state_of, is_kept, pasts_of}
 use Rattle.om_live.proofs.Values.{control_stays, value_changed, value_there, kept_alike, kept_too, untrailed}
 use Rattle.om_live.proofs.store.Store.subtract.Goals as goal

@@ -2,8 +2,8 @@ use Rattle.std.proofs.Common.{◌∙◌, arith, ap, sym, map}
 use Rattle.std.specs.Prelude.{slice_get, Some}
 use Rattle.std.proofs.lemmas.Option.{slice_get-get_or}
 use Rattle.om_foot.specs.declared.object.Obj.TheVariants as obj
-use Rattle.om_cells.specs.declared.value.Val.TheVariants as value
-use Rattle.om_cells.specs.State.{with_value}
+use Rattle.om_values.specs.declared.value.Val.TheVariants as value
+use Rattle.om_values.specs.State.{with_value}
 use Rattle.om_cells.specs.Stores as values
 use Rattle.om_live.specs.Stores.{state_of, is_kept, pasts_of, held_by, trail_now, trail_past, first_or}
 use Rattle.om_live.proofs.Held.{held_put, popped_put, kept_put, within, with_past, undone-now, undone-past, some_past}

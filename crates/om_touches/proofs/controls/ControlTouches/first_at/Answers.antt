@@ -1,6 +1,7 @@
 use Rattle.std.proofs.Common.{◌∙◌, sym, ap, subst}
 use Rattle.std.specs.Prelude.{slice_get}
-use Rattle.om_touches.specs.Touches.{has_in, has_control_touch, meets_at, IsFirst}
+use Rattle.om_touches.specs.Touches.{has_in, has_control_touch, meets_at}
+use Rattle.om_foot.specs.Firsts.{IsFirst}
 use Rattle.om_touches.specs.Searches.{meets_at_none}
 use Rattle.om_touches.proofs.controls.ControlTouches.first_at.Goals as goal
 

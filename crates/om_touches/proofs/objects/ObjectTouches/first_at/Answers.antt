@@ -1,7 +1,8 @@
 use Rattle.std.proofs.Common.{◌≡◌, sym, ap, subst, Some, None}
 use Rattle.std.specs.Map.{lookup}
 use Rattle.om_foot.specs.Footprint.{obj_eq}
-use Rattle.om_touches.specs.Touches.{has_in, has_object_touch, meets_at, IsFirst}
+use Rattle.om_touches.specs.Touches.{has_in, has_object_touch, meets_at}
+use Rattle.om_foot.specs.Firsts.{IsFirst}
 use Rattle.om_touches.specs.Lists.{known_at, unknown_at}
 use Rattle.om_touches.specs.Searches.{meets_at_none}
 use Rattle.om_touches.proofs.objects.ObjectTouches.first_at.Goals as goal

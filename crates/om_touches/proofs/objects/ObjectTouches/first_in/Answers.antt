@@ -8,10 +8,11 @@ use Rattle.std.proofs.lemmas.List.Elements.{All-weaker}
 use Rattle.om_foot.specs.declared.object.Obj.{Obj}
 use Rattle.om_touches.specs.declared.by_mode.Touches.{Touches}
 use Rattle.om_foot.specs.contracts.object.ObjOrd.TheImpl.{cmp-value}
-use Rattle.om_cells.specs.Cells.{cells_of}
-use Rattle.om_touches.specs.Serials.{has}
+use Rattle.om_foot.specs.Cells.{cells_of}
+use Rattle.om_foot.specs.Serials.{has}
 use Rattle.om_touches.specs.Slots.{is_cell_in}
-use Rattle.om_touches.specs.Touches.{list_of, meets_at, meets, has_object_touch, sooner, IsFirst}
+use Rattle.om_touches.specs.Touches.{list_of, meets_at, meets, has_object_touch}
+use Rattle.om_foot.specs.Firsts.{sooner, IsFirst}
 use Rattle.om_touches.specs.Searches.{sooner-first, IsFirst-same}
 use Rattle.om_touches.proofs.RangeLemmas.{met_here, any_in, between, is_forward, Found, range_is, turn}
 use Rattle.om_touches.proofs.objects.ObjectTouches.first_in.Goals as goal

@@ -1,5 +1,5 @@
 use Rattle.std.proofs.Common.{◌≡◌, ℕ, Bool, cond, true}
-use Rattle.om_touches.specs.Touches.{IsFirst}
+use Rattle.om_foot.specs.Firsts.{IsFirst}
 use Rattle.om_touches.proofs.RangeLemmas.{any_in, between}
 use Rattle.om_touches.proofs.objects.ObjectTouches.first_in.Given as goal
 

@@ -1,4 +1,4 @@
-use Rattle.om_cells.specs.Cells.{cells_of}
+use Rattle.om_foot.specs.Cells.{cells_of}
 use Rattle.om_touches.specs.Touches.{has_object_touch}
 use Rattle.om_touches.proofs.CellLemmas.{untouched_less, forgotten_less}
 use Rattle.om_touches.proofs.objects.ObjectTouches.remove_in.Goals as goal

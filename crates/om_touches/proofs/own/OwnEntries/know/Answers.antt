@@ -1,6 +1,6 @@
 use Rattle.std.proofs.Common.{refl, ◌∙◌, ap}
 use Rattle.std.specs.Prelude.{slice_get}
-use Rattle.om_touches.specs.declared.serials.Serials.TheVariants.{None}
+use Rattle.om_foot.specs.declared.serials.Serials.TheVariants.{None}
 use Rattle.om_touches.specs.Touches.{is_in}
 use Rattle.om_touches.specs.Workers.{kept-more}
 use Rattle.om_touches.proofs.own.OwnEntries.know.Goals as goal

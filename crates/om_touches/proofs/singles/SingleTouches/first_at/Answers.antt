@@ -1,5 +1,6 @@
 use Rattle.std.proofs.Common.{◌∙◌, ap, subst}
-use Rattle.om_touches.specs.Touches.{control_of, has_control_touch, has_single_by, meets_at, IsFirst}
+use Rattle.om_touches.specs.Touches.{control_of, has_control_touch, has_single_by, meets_at}
+use Rattle.om_foot.specs.Firsts.{IsFirst}
 use Rattle.om_touches.proofs.singles.SingleTouches.first_at.Goals as goal
 
 pub returns-in-Some : goal.returns-in-Some

@@ -1,5 +1,5 @@
 use Rattle.std.proofs.Common.{sym, refl}
-use Rattle.om_cells.specs.Cells.{cells_of}
+use Rattle.om_foot.specs.Cells.{cells_of}
 use Rattle.om_touches.specs.Touches.{meets, has_object_touch, has_single_touch}
 use Rattle.om_touches.specs.Searches.{IsFirst-same}
 use Rattle.om_touches.proofs.CellLemmas.{meets_alike}

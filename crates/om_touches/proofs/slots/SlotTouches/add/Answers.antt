@@ -1,5 +1,5 @@
 use Rattle.std.proofs.Common.{true, subst}
-use Rattle.om_cells.specs.Cells.{cells_of}
+use Rattle.om_foot.specs.Cells.{cells_of}
 use Rattle.om_touches.specs.Lists.{on_ok, on_err}
 use Rattle.om_touches.specs.Touches.{has_slot_touch, IsSet}
 use Rattle.om_touches.proofs.CellLemmas.{cells_added, cells_same}

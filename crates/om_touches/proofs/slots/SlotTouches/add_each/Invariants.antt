@@ -1,6 +1,6 @@
 -- the touches of the cells so far are added
 use Rattle.std.proofs.Common.{take, true}
-use Rattle.om_cells.specs.Cells.{cells_listed}
+use Rattle.om_foot.specs.Cells.{cells_listed}
 use Rattle.om_touches.specs.Touches.{has_slot_touch, IsSet}
 use Rattle.om_touches.proofs.slots.SlotTouches.add_each.Given as goal
 

@@ -1,7 +1,8 @@
 use Rattle.std.proofs.Common.{◌≡◌, ◌<◌, subst, arith}
-use Rattle.om_cells.specs.Cells.{cells_of}
+use Rattle.om_foot.specs.Cells.{cells_of}
 use Rattle.om_touches.specs.Slots.{has_span, spans_of}
-use Rattle.om_touches.specs.Touches.{meets, has_slot_touch, IsFirst}
+use Rattle.om_touches.specs.Touches.{meets, has_slot_touch}
+use Rattle.om_foot.specs.Firsts.{IsFirst}
 use Rattle.om_touches.specs.Searches.{IsFirst-same}
 use Rattle.om_touches.proofs.CellLemmas.{meets_first}
 use Rattle.om_touches.proofs.slots.SlotTouches.first_in.Goals as goal

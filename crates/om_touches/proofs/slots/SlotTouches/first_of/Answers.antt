@@ -1,6 +1,6 @@
 use Rattle.std.proofs.Common.{◌≡◌, sym, ap, subst}
 use Rattle.om_touches.specs.Slots.{has_span}
-use Rattle.om_touches.specs.Touches.{IsFirst}
+use Rattle.om_foot.specs.Firsts.{IsFirst}
 use Rattle.om_touches.proofs.SlotLemmas.{spans_there, no_spans}
 use Rattle.om_touches.proofs.slots.SlotTouches.first_of.Goals as goal
 

@@ -1,5 +1,5 @@
 use Rattle.std.proofs.Common.{subst}
-use Rattle.om_cells.specs.Cells.{cells_of}
+use Rattle.om_foot.specs.Cells.{cells_of}
 use Rattle.om_touches.specs.Touches.{has_slot_touch, IsLess}
 use Rattle.om_touches.proofs.CellLemmas.{cells_less}
 use Rattle.om_touches.proofs.slots.SlotTouches.remove.Goals as goal

@@ -2,7 +2,7 @@ use Rattle.std.proofs.Common.{◌≡◌, ◌∙◌, ap, sym, Some, arith, nat_eq
 use Rattle.std.proofs.lemmas.Option.{slice_get-get_or}
 use Rattle.std.specs.Prelude.{slice_get}
 use Rattle.om_touches.specs.declared.spans.SpanTouches.{SpanTouches}
-use Rattle.om_touches.specs.declared.serials.Serials.TheVariants as serials
+use Rattle.om_foot.specs.declared.serials.Serials.TheVariants as serials
 use Rattle.om_touches.specs.Lists.{on_ok, on_err}
 use Rattle.om_touches.specs.Slots.{has_span}
 use Rattle.om_touches.proofs.SpanLemmas.{span_put, span_push, span_added, span_one, span_kept, some_same}

@@ -1,6 +1,6 @@
 use Rattle.std.proofs.Common.{sym, subst, take, ◌+◌, cond, true}
 use Rattle.om_touches.specs.Slots.{has_span}
-use Rattle.om_touches.specs.Touches.{sooner, IsFirst}
+use Rattle.om_foot.specs.Firsts.{sooner, IsFirst}
 use Rattle.om_touches.specs.Searches.{sooner-first, IsFirst-same}
 use Rattle.om_touches.proofs.SpanLemmas.{span_at, span_next}
 use Rattle.std.proofs.Common.{Some}

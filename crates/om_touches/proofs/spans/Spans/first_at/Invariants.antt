@@ -1,7 +1,7 @@
 -- the first write in the places so far
 use Rattle.std.proofs.Common.{take}
 use Rattle.om_touches.specs.Slots.{has_span}
-use Rattle.om_touches.specs.Touches.{IsFirst}
+use Rattle.om_foot.specs.Firsts.{IsFirst}
 use Rattle.om_touches.proofs.spans.Spans.first_at.Given as goal
 
 abbrev pub invariant-loop-span : goal.invariant-loop-span

@@ -1,5 +1,5 @@
 use Rattle.std.proofs.Common.{sym, subst, ◌++◌, take, true, ℕ}
-use Rattle.om_cells.specs.Cells.{cells_listed}
+use Rattle.om_foot.specs.Cells.{cells_listed}
 use Rattle.om_touches.specs.Touches.{has_touch, has_single_touch, has_slot_touch, IsSet}
 use Rattle.om_touches.specs.Lists.{on_ok, on_err}
 use Rattle.om_touches.proofs.PartLemmas.{either, on_any, added_parts, added_front, added_cells, added_last}

@@ -1,5 +1,6 @@
 use Rattle.std.proofs.Common.{◌∙◌, sym, subst}
-use Rattle.om_touches.specs.Touches.{has_touch, has_single_touch, has_slot_touch, has_slot_write, meets_at, IsFirst}
+use Rattle.om_touches.specs.Touches.{has_touch, has_single_touch, has_slot_touch, has_slot_write, meets_at}
+use Rattle.om_foot.specs.Firsts.{IsFirst}
 use Rattle.om_touches.proofs.CellLemmas.{meets_slot}
 use Rattle.om_touches.proofs.PartLemmas.{first_access}
 use Rattle.om_touches.proofs.touches.TouchLists.first_at.Goals as goal

@@ -1,6 +1,7 @@
 use Rattle.std.proofs.Common.{◌++◌, ◌∙◌, ap, sym, subst}
-use Rattle.om_cells.specs.Cells.{cells_listed}
-use Rattle.om_touches.specs.Touches.{has_touch, meets, sooner, IsFirst}
+use Rattle.om_foot.specs.Cells.{cells_listed}
+use Rattle.om_touches.specs.Touches.{has_touch, meets}
+use Rattle.om_foot.specs.Firsts.{sooner, IsFirst}
 use Rattle.om_touches.proofs.PartLemmas.{first_parts}
 use Rattle.om_touches.proofs.touches.TouchLists.first_conflict.Goals as goal
 

@@ -1,6 +1,7 @@
 use Rattle.std.proofs.Common.{sym, subst}
-use Rattle.om_cells.specs.Cells.{cells_of}
-use Rattle.om_touches.specs.Touches.{has_touch, has_single_touch, has_slot_touch, meets, IsFirst}
+use Rattle.om_foot.specs.Cells.{cells_of}
+use Rattle.om_touches.specs.Touches.{has_touch, has_single_touch, has_slot_touch, meets}
+use Rattle.om_foot.specs.Firsts.{IsFirst}
 use Rattle.om_touches.proofs.PartLemmas.{first_either}
 use Rattle.om_touches.proofs.touches.TouchLists.first_in.Goals as goal
 

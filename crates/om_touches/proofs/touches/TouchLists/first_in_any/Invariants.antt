@@ -1,6 +1,7 @@
 use Rattle.std.proofs.Common.{take}
-use Rattle.om_cells.specs.Cells.{cells_listed}
-use Rattle.om_touches.specs.Touches.{has_touch, meets, IsFirst}
+use Rattle.om_foot.specs.Cells.{cells_listed}
+use Rattle.om_touches.specs.Touches.{has_touch, meets}
+use Rattle.om_foot.specs.Firsts.{IsFirst}
 use Rattle.om_touches.proofs.touches.TouchLists.first_in_any.Given as goal
 
 -- the first conflict with the cells so far

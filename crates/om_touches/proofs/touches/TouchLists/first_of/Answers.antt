@@ -1,5 +1,6 @@
 use Rattle.std.proofs.Common.{sym, subst, take, ◌+◌}
-use Rattle.om_touches.specs.Touches.{has_touch, meets_at, meets, sooner, IsFirst}
+use Rattle.om_touches.specs.Touches.{has_touch, meets_at, meets}
+use Rattle.om_foot.specs.Firsts.{sooner, IsFirst}
 use Rattle.om_touches.specs.Searches.{sooner-first, IsFirst-same, meets_next}
 use Rattle.om_touches.proofs.touches.TouchLists.first_of.Goals as goal
 

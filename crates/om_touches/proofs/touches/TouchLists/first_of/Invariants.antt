@@ -1,5 +1,6 @@
 use Rattle.std.proofs.Common.{take}
-use Rattle.om_touches.specs.Touches.{has_touch, meets, IsFirst}
+use Rattle.om_touches.specs.Touches.{has_touch, meets}
+use Rattle.om_foot.specs.Firsts.{IsFirst}
 use Rattle.om_touches.proofs.touches.TouchLists.first_of.Given as goal
 
 -- the first conflict with the accesses so far

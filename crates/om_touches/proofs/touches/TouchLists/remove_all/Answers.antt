@@ -1,5 +1,5 @@
 use Rattle.std.proofs.Common.{sym, subst, ◌++◌}
-use Rattle.om_cells.specs.Cells.{cells_listed}
+use Rattle.om_foot.specs.Cells.{cells_listed}
 use Rattle.om_touches.specs.Accesses.{accesses_of}
 use Rattle.om_touches.specs.Touches.{has_touch, IsLess}
 use Rattle.om_touches.proofs.PartLemmas.{less-append, less_out}

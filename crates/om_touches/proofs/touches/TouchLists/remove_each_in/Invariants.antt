@@ -1,5 +1,5 @@
 use Rattle.std.proofs.Common.{take}
-use Rattle.om_cells.specs.Cells.{cells_listed}
+use Rattle.om_foot.specs.Cells.{cells_listed}
 use Rattle.om_touches.specs.Touches.{has_touch, IsLess}
 use Rattle.om_touches.proofs.touches.TouchLists.remove_each_in.Given as goal
 

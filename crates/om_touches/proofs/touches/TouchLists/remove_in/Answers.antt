@@ -1,4 +1,4 @@
-use Rattle.om_cells.specs.Cells.{cells_of}
+use Rattle.om_foot.specs.Cells.{cells_of}
 use Rattle.om_touches.specs.Touches.{has_single_touch, has_slot_touch}
 use Rattle.om_touches.proofs.PartLemmas.{less_either}
 use Rattle.om_touches.proofs.touches.TouchLists.remove_in.Goals as goal

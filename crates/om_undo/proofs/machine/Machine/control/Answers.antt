@@ -1,6 +1,6 @@
 use Rattle.std.proofs.Common.{◌≡◌, ◌∙◌, ap}
 use Rattle.om_foot.specs.declared.object.Obj.TheVariants as obj
-use Rattle.om_cells.specs.Values.{control_in}
+use Rattle.om_values.specs.Values.{control_in}
 use Rattle.om_live.specs.Stores.{state_of}
 use Rattle.om_task.specs.Rules.{rules_of}
 use Rattle.om_history.specs.Pasts.{history_in}

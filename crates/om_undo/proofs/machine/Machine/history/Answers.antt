@@ -1,7 +1,7 @@
 -- The headline, at the commands that led to the history.
 use Rattle.std.proofs.Common.{◌≡◌, subst, Some}
 use Rattle.std.specs.Prelude.{map}
-use Rattle.om_cells.specs.Rules.{Rules, replay}
+use Rattle.om_values.specs.Rules.{Rules, replay}
 use Rattle.om_task.specs.Rules.{rules_of}
 use Rattle.om_history.specs.Commands.{IsRun}
 use Rattle.om_history.specs.Pasts.{history_in}

@@ -1,8 +1,8 @@
 use Rattle.std.proofs.Common.{◌∙◌, ap, subst}
 use Rattle.std.specs.Option.{option_copied}
-use Rattle.om_cells.specs.State.{State}
-use Rattle.om_cells.specs.Ready.{is_ready_at, IsNext}
-use Rattle.om_cells.specs.NextNames.{next_of_all, one_next}
+use Rattle.om_values.specs.State.{State}
+use Rattle.om_values.specs.Ready.{is_ready_at, IsNext}
+use Rattle.om_values.specs.NextNames.{next_of_all, one_next}
 use Rattle.om_live.specs.Stores.{state_of}
 use Rattle.om_task.specs.Rules.{rules_of}
 use Rattle.om_history.specs.Pasts.{history_in}

@@ -1,6 +1,6 @@
 -- The plan where the history stands is the plan at the machine.
 use Rattle.std.proofs.Common.{◌≡◌, sym, subst}
-use Rattle.om_cells.specs.declared.step.Label.{Label}
+use Rattle.om_values.specs.declared.step.Label.{Label}
 use Rattle.om_task.specs.Plans.{label_at}
 use Rattle.om_history.specs.Choices.{label_by}
 use Rattle.om_undo.specs.Machines.{MachineView}

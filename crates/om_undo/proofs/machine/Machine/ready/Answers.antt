@@ -1,6 +1,6 @@
 use Rattle.std.proofs.Common.{◌∙◌, ap, subst, IfOk}
-use Rattle.om_cells.specs.State.{State}
-use Rattle.om_cells.specs.Ready.{AreReady}
+use Rattle.om_values.specs.State.{State}
+use Rattle.om_values.specs.Ready.{AreReady}
 use Rattle.om_live.specs.Stores.{state_of}
 use Rattle.om_task.specs.Rules.{rules_of}
 use Rattle.om_history.specs.Pasts.{history_in}

@@ -1,7 +1,7 @@
 -- What the history replies under the program's rules.
 use Rattle.std.proofs.Common.{◌≡◌, subst, IfOk}
 use Rattle.std.proofs.lemmas.Result.{IfOk-weaker, on_ok_weaker}
-use Rattle.om_cells.specs.Rules.{Rules}
+use Rattle.om_values.specs.Rules.{Rules}
 use Rattle.om_task.specs.Rules.{rules_of}
 use Rattle.om_history.specs.Runs.{History}
 use Rattle.om_history.specs.Cones.{reply_to_roll, after_roll}

@@ -1,8 +1,8 @@
 -- What the history takes is the step of the label under the program's rules.
 use Rattle.std.proofs.Common.{◌≡◌, ◌∙◌, ap, sym, subst}
 use Rattle.std.proofs.lemmas.Result.{on_ok_weaker}
-use Rattle.om_cells.specs.declared.step.Label.{Label}
-use Rattle.om_cells.specs.Rules.{Rules}
+use Rattle.om_values.specs.declared.step.Label.{Label}
+use Rattle.om_values.specs.Rules.{Rules}
 use Rattle.om_task.specs.Rules.{rules_of}
 use Rattle.om_history.specs.Choices.{label_by}
 use Rattle.om_history.specs.Runs.{History, after_step}

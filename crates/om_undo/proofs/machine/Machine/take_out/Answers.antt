@@ -1,6 +1,6 @@
 -- What the history leaves under the program's rules.
 use Rattle.std.proofs.Common.{◌∙◌, sym, ap}
-use Rattle.om_cells.specs.Rules.{Rules}
+use Rattle.om_values.specs.Rules.{Rules}
 use Rattle.om_task.specs.Rules.{rules_of}
 use Rattle.om_history.specs.Runs.{History}
 use Rattle.om_history.specs.Cones.{taken_by_roll, after_roll}

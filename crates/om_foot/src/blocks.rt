@@ -1,0 +1,327 @@
+//! Sets of serials, by blocks of 64 serials that follow each other.
+
+ghost use Rattle.std.specs.Prelude.{◌≡◌, ℕ, ◌<◌, ◌+◌, ◌*◌, ◌/◌, ◌%◌, ◌^◌, cond, nat_eq, nat_lt, ◌&&◌, true, false, None, Some, is_some, OnOk, OnErr, IfSome, IfNone};
+ghost use Rattle.om_foot.specs.Offsets.{has_offset};
+ghost use Rattle.om_foot.specs.Blocks.{block_of, is_offset, in_older, in_newest, has_in, AreBefore, IsApart};
+ghost use Rattle.om_foot.specs.Firsts.{sooner, IsFirst, IsGreatest};
+
+use crate::offsets::Offsets;
+use crate::serials::sooner;
+use std::alloc::{AllocError, Global};
+use std::cmp::Ordering;
+use std::collections::BTreeMap;
+use std::marker::Model;
+use std::ops::Bound;
+
+/// How many serials a block has.
+const IN_BLOCK: u64 = 64;
+
+/// Block numbers are below this, since serials are below 2^64.
+const BLOCKS: u64 = 1 << 58;
+
+/// Serials by blocks. Most serials that come are above all others, so the block of the newest lies
+/// apart, where it is found at once.
+///
+/// Contracts see which serials are among them (`has_in`).
+#[derive(Drop)]
+pub struct Blocks {
+    /// The blocks before the newest one, by number.
+    older: BTreeMap<u64, Offsets>,
+    /// The number of the newest block.
+    number: u64,
+    /// What is in it, if something still is.
+    newest: Option<Offsets>,
+}
+
+impl Model for Blocks {
+    ghost use Rattle.std.specs.Prelude.{◌<◌, ◌^◌};
+    ghost use Rattle.om_foot.specs.Blocks.{BlocksView, AreBefore, IsApart};
+
+    ghost Value = { BlocksView };
+
+    ghost view = { λ b. record { older = b.older.entries; number = b.number; newest = b.newest } };
+
+    ghost invariant = { λ b. (b.number < 2 ^ 58) × AreBefore b.number b.older.entries
+        × IsApart b.newest b.older.entries };
+}
+
+/// Begins an older block with a serial. When out of memory, nothing changes.
+fn begin_older(older: &mut BTreeMap<u64, Offsets>, serial: u64) -> Result<(), AllocError>
+    requires { block_of older.old.entries (serial / 64) ≡ None }
+    ensures added { OnOk result
+        ((s : ℕ) → in_older older.new.entries s ≡ cond (nat_eq serial s) true (in_older older.old.entries s)) }
+    ensures others { (q : ℕ) → nat_eq (serial / 64) q ≡ false
+        → block_of older.new.entries q ≡ block_of older.old.entries q }
+    ensures unchanged_on_error { OnErr result
+        ((s : ℕ) → in_older older.new.entries s ≡ in_older older.old.entries s) }
+{
+    drop(older.insert(serial / IN_BLOCK, Offsets::of(serial % IN_BLOCK))?);
+    Ok(())
+}
+
+/// Adds a serial to the older blocks. When out of memory, nothing changes.
+fn put_older(older: &mut BTreeMap<u64, Offsets>, serial: u64) -> Result<(), AllocError>
+    ensures added { OnOk result
+        ((s : ℕ) → in_older older.new.entries s ≡ cond (nat_eq serial s) true (in_older older.old.entries s)) }
+    ensures others { (q : ℕ) → nat_eq (serial / 64) q ≡ false
+        → block_of older.new.entries q ≡ block_of older.old.entries q }
+    ensures unchanged_on_error { OnErr result
+        ((s : ℕ) → in_older older.new.entries s ≡ in_older older.old.entries s) }
+{
+    match older.get_mut(&(serial / IN_BLOCK)) {
+        Some(offsets) => {
+            offsets.add(serial % IN_BLOCK);
+            Ok(())
+        }
+        None => begin_older(older, serial),
+    }
+}
+
+/// Puts other offsets in the place of those of a block that is there.
+fn replace(older: &mut BTreeMap<u64, Offsets>, number: u64, offsets: Offsets)
+    requires { is_some (block_of older.old.entries number) ≡ true }
+    ensures { (q : ℕ) → block_of older.new.entries q
+        ≡ cond (nat_eq number q) (Some offsets) (block_of older.old.entries q) }
+{
+    match older.get_mut(&number) {
+        Some(place) => *place = offsets,
+        None => unreachable!(),
+    }
+}
+
+/// Takes a serial out of the older blocks, if it is there. It takes no memory.
+fn take_older(older: &mut BTreeMap<u64, Offsets>, serial: u64)
+    ensures taken { (s : ℕ) → in_older older.new.entries s
+        ≡ cond (nat_eq serial s) false (in_older older.old.entries s) }
+    ensures no_more { (q : ℕ) → block_of older.old.entries q ≡ None
+        → block_of older.new.entries q ≡ None }
+{
+    let number = serial / IN_BLOCK;
+    let others = match older.get(&number) {
+        Some(offsets) => offsets.without(serial % IN_BLOCK),
+        None => return,
+    };
+    match others {
+        Some(others) => replace(older, number, others),
+        None => drop(older.remove(&number)),
+    }
+}
+
+/// The first serial of the blocks behind one.
+fn first_behind(older: &BTreeMap<u64, Offsets>, number: u64) -> Option<u64>
+    ensures { IsFirst (λ s. nat_lt number (s / 64) && in_older older.now.entries s) (number * 64 + 63) result }
+{
+    let (number, offsets) = older
+        .range((Bound::Excluded(number), Bound::Unbounded))
+        .next()?;
+    serial_at(*number, offsets.first())
+}
+
+/// The serial at an offset of a block, where there is such a block.
+fn serial_at(number: u64, offset: u64) -> Option<u64>
+    requires { offset < 64 }
+    ensures { result ≡ cond (nat_lt number (2 ^ 58)) (Some (number * 64 + offset)) None }
+{
+    if number < BLOCKS {
+        Some(number * IN_BLOCK + offset)
+    } else {
+        None
+    }
+}
+
+/// The first serial of a block after one of it.
+fn first_within(offsets: &Offsets, serial: u64) -> Option<u64>
+    ensures { IsFirst (λ s. nat_eq (serial / 64) (s / 64) && has_offset offsets.now (s % 64)) serial
+        result }
+{
+    let offset = offsets.first_after(serial % IN_BLOCK)?;
+    serial_at(serial / IN_BLOCK, offset)
+}
+
+/// The first serial of the older blocks after another one.
+fn first_older(older: &BTreeMap<u64, Offsets>, serial: u64) -> Option<u64>
+    ensures { IsFirst (in_older older.now.entries) serial result }
+{
+    let number = serial / IN_BLOCK;
+    let within = match older.get(&number) {
+        Some(offsets) => first_within(offsets, serial),
+        None => None,
+    };
+    match within {
+        Some(first) => Some(first),
+        None => first_behind(older, number),
+    }
+}
+
+/// Puts the newest block with the others. When out of memory, nothing changes.
+fn retire(
+    older: &mut BTreeMap<u64, Offsets>,
+    number: u64,
+    newest: &mut Option<Offsets>,
+) -> Result<(), AllocError>
+    requires { AreBefore number older.old.entries }
+    ensures retired { OnOk result ((s : ℕ) → in_older older.new.entries s
+        ≡ cond (in_newest number newest.old s) true (in_older older.old.entries s)) }
+    ensures before { OnOk result (AreBefore (number + 1) older.new.entries) }
+    ensures unchanged_on_error { OnErr result
+        ((q : ℕ) → block_of older.new.entries q ≡ block_of older.old.entries q) }
+    ensures same_newest_on_error { OnErr result (newest.new ≡ newest.old) }
+{
+    let Some(offsets) = newest.take() else {
+        return Ok(());
+    };
+    match older.insert(number, offsets) {
+        Ok(_) => Ok(()),
+        Err(refused) => {
+            let (_, offsets) = refused.value;
+            *newest = Some(offsets);
+            Err(AllocError)
+        }
+    }
+}
+
+/// Takes the last block out, if there is one. It takes no memory.
+fn take_last(older: &mut BTreeMap<u64, Offsets>) -> Option<(u64, Offsets)>
+    ensures was { IfSome result (λ block. block_of older.old.entries block.0 ≡ Some block.1) }
+    ensures taken { IfSome result (λ block. (q : ℕ) → block_of older.new.entries q
+        ≡ cond (nat_eq block.0 q) None (block_of older.old.entries q)) }
+    ensures last { IfSome result (λ block. AreBefore block.0 older.new.entries) }
+    ensures none { IfNone result ((q : ℕ) → block_of older.new.entries q ≡ None) }
+    ensures none_before { IfNone result ((q : ℕ) → block_of older.old.entries q ≡ None) }
+{
+    older.pop_last()
+}
+
+/// Where the newest block is empty, the one before it takes its place. It takes no memory.
+fn refill(older: &mut BTreeMap<u64, Offsets>, number: &mut u64, newest: &mut Option<Offsets>)
+    requires low { number.old < 2 ^ 58 }
+    requires before { AreBefore number.old older.old.entries }
+    ensures same { (s : ℕ) →
+        cond (in_newest number.new newest.new s) true (in_older older.new.entries s)
+        ≡ cond (in_newest number.old newest.old s) true (in_older older.old.entries s) }
+    ensures low { number.new < 2 ^ 58 }
+    ensures before { AreBefore number.new older.new.entries }
+    ensures apart { IsApart newest.new older.new.entries }
+{
+    if newest.is_some() {
+        return;
+    }
+    if let Some((last, offsets)) = take_last(older) {
+        *number = last;
+        *newest = Some(offsets);
+    }
+}
+
+/// Takes a serial out of its block, if it is there.
+fn take_newest(newest: &mut Option<Offsets>, serial: u64)
+    ensures { (k : ℕ) → k < 64 → is_offset newest.new k
+        ≡ cond (nat_eq (serial % 64) k) false (is_offset newest.old k) }
+{
+    if let Some(offsets) = newest {
+        *newest = offsets.without(serial % IN_BLOCK);
+    }
+}
+
+impl Blocks {
+    /// One serial alone. It takes no memory.
+    pub(crate) fn of(alloc: Global, serial: u64) -> Blocks
+        ensures { (s : ℕ) → has_in result s ≡ nat_eq serial s }
+    {
+        Blocks {
+            older: BTreeMap::new(alloc),
+            number: serial / IN_BLOCK,
+            newest: Some(Offsets::of(serial % IN_BLOCK)),
+        }
+    }
+
+    /// Adds a serial to the newest block, of which it is one.
+    fn put_newest(&mut self, serial: u64)
+        requires { serial / 64 ≡ self.old.number }
+        ensures { (s : ℕ) → has_in self.new s ≡ cond (nat_eq serial s) true (has_in self.old s) }
+    {
+        match &mut self.newest {
+            Some(offsets) => offsets.add(serial % IN_BLOCK),
+            None => self.newest = Some(Offsets::of(serial % IN_BLOCK)),
+        }
+    }
+
+    /// Begins a new block with a serial. When out of memory, nothing changes.
+    fn begin(&mut self, serial: u64) -> Result<(), AllocError>
+        requires { self.old.number < serial / 64 }
+        ensures added { OnOk result
+            ((s : ℕ) → has_in self.new s ≡ cond (nat_eq serial s) true (has_in self.old s)) }
+        ensures unchanged_on_error { OnErr result
+            ((s : ℕ) → has_in self.new s ≡ has_in self.old s) }
+    {
+        retire(&mut self.older, self.number, &mut self.newest)?;
+        self.number = serial / IN_BLOCK;
+        self.newest = Some(Offsets::of(serial % IN_BLOCK));
+        Ok(())
+    }
+
+    /// Adds a serial. When out of memory, nothing changes.
+    pub(crate) fn put(&mut self, serial: u64) -> Result<(), AllocError>
+        ensures added { OnOk result
+            ((s : ℕ) → has_in self.new s ≡ cond (nat_eq serial s) true (has_in self.old s)) }
+        ensures unchanged_on_error { OnErr result
+            ((s : ℕ) → has_in self.new s ≡ has_in self.old s) }
+    {
+        let number = serial / IN_BLOCK;
+        if self.newest.is_none() {
+            self.number = number;
+        }
+        match number.cmp(&self.number) {
+            Ordering::Less => put_older(&mut self.older, serial),
+            Ordering::Equal => {
+                self.put_newest(serial);
+                Ok(())
+            }
+            Ordering::Greater => self.begin(serial),
+        }
+    }
+
+    /// Takes a serial out, if it is there. It takes no memory.
+    pub(crate) fn take(&mut self, serial: u64)
+        ensures { (s : ℕ) → has_in self.new s ≡ cond (nat_eq serial s) false (has_in self.old s) }
+    {
+        if serial / IN_BLOCK == self.number {
+            take_newest(&mut self.newest, serial);
+            refill(&mut self.older, &mut self.number, &mut self.newest);
+        } else {
+            take_older(&mut self.older, serial);
+        }
+    }
+
+    /// The first serial of the newest block after another one.
+    fn first_newest(&self, serial: u64) -> Option<u64>
+        ensures { IsFirst (in_newest self.now.number self.now.newest) serial result }
+    {
+        let Some(offsets) = &self.newest else {
+            return None;
+        };
+        match self.number.cmp(&(serial / IN_BLOCK)) {
+            Ordering::Less => None,
+            Ordering::Equal => first_within(offsets, serial),
+            Ordering::Greater => serial_at(self.number, offsets.first()),
+        }
+    }
+
+    /// The first serial after another one. The older blocks are asked only where it lies before the
+    /// newest one.
+    pub(crate) fn first_after(&self, serial: u64) -> Option<u64>
+        ensures { IsFirst (has_in self.now) serial result }
+    {
+        if serial / IN_BLOCK >= self.number {
+            return self.first_newest(serial);
+        }
+        sooner(first_older(&self.older, serial), self.first_newest(serial))
+    }
+
+    /// The last serial.
+    pub(crate) fn last(&self) -> Option<u64>
+        ensures { IsGreatest (has_in self.now) result }
+    {
+        let offsets = self.newest.as_ref()?;
+        serial_at(self.number, offsets.last())
+    }
+}

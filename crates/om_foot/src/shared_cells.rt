@@ -1,0 +1,97 @@
+//! Cells of a slot that a store shares with what else names them.
+
+ghost use Rattle.std.specs.Prelude.{◌≡◌, IfOk};
+ghost use Rattle.om_foot.specs.SharedCells.{cell_in};
+
+use crate::cells::{Cells, SlotName};
+use crate::name::Name;
+use crate::object::Obj;
+use crate::shared_object::SharedObject;
+use std::alloc::{AllocError, Global};
+use std::marker::Model;
+
+/// Cells of a slot, behind pointers: the first of them, and the one behind the last.
+///
+/// Contracts see the cells alone.
+#[derive(Drop)]
+pub struct SharedCells {
+    first: SharedObject,
+    end: SharedObject,
+}
+
+impl Model for SharedCells {
+    ghost use Rattle.std.specs.Prelude.{◌≡◌};
+    ghost use Rattle.om_foot.specs.SharedCells.{cell_in, cells_before};
+    ghost use Rattle.om_foot.specs.declared.cells.Cells.{Cells};
+
+    ghost Value = { Cells };
+
+    ghost view = { λ c. cells_before c.end };
+
+    ghost invariant = { λ c. (c.first ≡ cell_in (cells_before c.end) 0)
+        × (c.end ≡ cell_in (cells_before c.end) (cells_before c.end).count) };
+}
+
+impl SharedCells {
+    /// Cells that nothing shares yet. Its only error is out of memory.
+    pub fn of(alloc: Global, cells: &Cells) -> Result<SharedCells, AllocError>
+        ensures { IfOk result (λ shared. shared ≡ cells.now) }
+    {
+        let first = SharedObject::of(alloc, &cells.slot.cell(0))?;
+        let end = SharedObject::of(alloc, &cells.slot.cell(cells.count))?;
+        Ok(SharedCells { first, end })
+    }
+
+    /// The cells.
+    pub fn cells(&self) -> Cells
+        ensures { result ≡ self.now }
+    {
+        match self.end.get() {
+            Obj::Cell {
+                task,
+                frame,
+                slot,
+                index,
+            } => Cells {
+                slot: SlotName {
+                    task: *task,
+                    frame: *frame,
+                    slot: *slot,
+                },
+                count: *index,
+            },
+            _ => Cells {
+                slot: SlotName {
+                    task: Name::empty(),
+                    frame: 0,
+                    slot: 0,
+                },
+                count: 0,
+            },
+        }
+    }
+
+    /// The cell of index 0.
+    pub fn first(&self) -> &SharedObject
+        ensures { result.now ≡ cell_in self.now 0 }
+    {
+        &self.first
+    }
+
+    /// The cell behind the last.
+    pub fn end(&self) -> &SharedObject
+        ensures { result.now ≡ cell_in self.now self.now.count }
+    {
+        &self.end
+    }
+
+    /// The same cells for one owner more; its only error is out of memory.
+    pub fn copy(&self) -> Result<SharedCells, AllocError>
+        ensures { IfOk result (λ shared. shared ≡ self.now) }
+    {
+        Ok(SharedCells {
+            first: self.first.copy()?,
+            end: self.end.copy()?,
+        })
+    }
+}

@@ -1,9 +1,0 @@
-use Rattle.std.proofs.Common.{◌≡◌, ◌-◌}
-use Rattle.om_live.specs.Stores.{state_of}
-use Rattle.om_fork.specs.Teams.{busy_in}
-use Rattle.om_fork.proofs.members.busy.Given as goal
-
--- what is left has the first busy worker
-abbrev pub invariant-loop-worker : goal.invariant-loop-worker
-invariant-loop-worker l = busy_in (state_of l.store) l.worker (l.size - l.worker) ≡ busy_in (state_of l.store) 1
-    (l.size - 1)

@@ -1,2 +1,0 @@
-pub mod Teams
-pub mod Rows

@@ -1,0 +1,34 @@
+//! BEGIN: a member's task begins.
+
+ghost use Rattle.std.specs.Prelude.{◌≡◌, [], IfOk};
+ghost use Rattle.om_live.specs.Plain.{plain_context};
+ghost use Rattle.om_team.specs.Rows.{begin_row};
+
+use om_events::Record;
+use om_events::kind::{Endpoint, TaskFlag};
+use om_live::Context;
+use om_steps::parts::{go_on, recorded};
+use om_steps::{Answer, At};
+use std::alloc::{AllocError, Global};
+
+/// BEGIN: the begin of a member's task is recorded. The only error is out of memory.
+pub fn begin(alloc: Global, at: At, context: &Context) -> Result<Answer, AllocError>
+    ensures { IfOk result
+        (λ answer. answer
+        ≡ record {
+          names = (begin_row at.worker at.to (plain_context context.now)).names;
+          row =
+              (begin_row at.worker at.to (plain_context context.now)).row [];
+        }) }
+{
+    let edits = go_on(alloc, at.to)?;
+    let begun = Record::ImplicitTask {
+        endpoint: Endpoint::Begin,
+        team: context.team.get().name,
+        task: *context.task.get(),
+        size: context.team.get().size,
+        number: context.team.get().number,
+        flag: TaskFlag::Implicit,
+    };
+    recorded(alloc, at.worker, edits, begun)
+}

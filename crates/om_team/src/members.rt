@@ -1,0 +1,140 @@
+//! The members of a team: the workers that they need, and what they begin with.
+
+ghost use Rattle.std.specs.Prelude.{◌≡◌, ◌++◌, ◌∷◌, [], ◌-◌, ◌≤◌, IfOk, OnOk, length};
+ghost use Rattle.om_live.specs.Stores.{state_of};
+ghost use Rattle.om_values.specs.declared.value.Val.TheVariants as value;
+ghost use Rattle.om_team.specs.Teams.{member, workers_from, busy_in, member_controls, member_cells, member_puts};
+
+use om_foot::{Mode, Name, Names, Obj};
+use om_live::Store;
+use om_steps::begin::{in_no_group, new_context};
+use om_steps::names::{name, name_given};
+use om_steps::updates::put_ints;
+use om_values::{
+    Context, Control, Frame, Kind, Puts, SharedControl, SharedPile, Stack, Team, Update, Val,
+};
+use std::alloc::{AllocError, Global};
+
+/// The name of the task of a team's member.
+#[tactic(auto, using(crate::proofs::Counting::has_child))]
+fn member_name(team: &Name, number: u8) -> Name
+    requires { length team.now ≤ 63 }
+    ensures { result ≡ team.now ++ number ∷ [] }
+{
+    match team.child(u64::from(number)) {
+        Some(name) => name,
+        None => unreachable!(),
+    }
+}
+
+/// Appends the controls of the workers that a team of this size needs, as what is written.
+pub(crate) fn name_workers(names: &mut Names, size: u8) -> Result<(), AllocError>
+    ensures { OnOk result (names.new ≡ names.old ++ workers_from 1 (size - 1)) }
+{
+    for worker in 1..size {
+        name(names, Obj::Control(worker), Mode::Write)?;
+    }
+    Ok(())
+}
+
+/// The first of the workers that a team of this size needs that isn't idle.
+#[tactic(auto, using(crate::proofs::Counting::busy_in_next))]
+pub(crate) fn busy(store: &Store, size: u8) -> Option<u8>
+    ensures { result ≡ busy_in (state_of store.now) 1 (size - 1) }
+{
+    for worker in 1..size {
+        if !store.is_idle(worker) {
+            return Some(worker);
+        }
+    }
+    None
+}
+
+/// Appends the cells of the firstprivate copies of a team's members, as what is written.
+#[tactic(auto, using(crate::proofs::Counting::members_past))]
+pub(crate) fn name_members(
+    names: &mut Names,
+    team: &Name,
+    given: &[u32],
+    size: u8,
+) -> Result<(), AllocError>
+    requires { length team.now ≤ 63 }
+    ensures { OnOk result (names.new ≡ names.old ++ member_cells team.now given.now 0 size) }
+{
+    for number in 0..size {
+        let task = &member_name(team, number);
+        name_given(names, task, 0, given)?;
+    }
+    Ok(())
+}
+
+/// A member of a team, at the start of a frame.
+pub(crate) fn member(alloc: Global, team: &Team, frame: &Frame) -> Result<Context, AllocError>
+    requires { length team.now.name ≤ 63 }
+    ensures { IfOk result (λ context. context ≡ member team.now frame.now) }
+{
+    let frame = frame.copy(alloc)?;
+    let standing = in_no_group(alloc, &member_name(&team.name, team.number), team)?;
+    new_context(alloc, Kind::Implicit, 0, standing, frame)
+}
+
+/// Appends the control that another worker becomes: a member of a team.
+fn put_member(
+    alloc: Global,
+    updates: &mut Puts,
+    team: &Team,
+    frame: &Frame,
+) -> Result<(), AllocError>
+    requires { length team.now.name ≤ 63 }
+    ensures { OnOk result
+        (updates.new ≡ updates.old ++ Update.Put
+        (value.Control (Control.Running (record { top = member team.now frame.now; below = [] })))
+        ∷ []) }
+{
+    let top = member(alloc, team, frame)?;
+    match SharedPile::new(alloc) {
+        Ok(below) => {
+            let control = Control::Running(Stack { top, below });
+            updates.push(Update::Put(Val::Control(SharedControl::of(alloc, control)?)))
+        }
+        Err(error) => {
+            drop(top);
+            Err(error)
+        }
+    }
+}
+
+/// Appends the controls that the other workers of a team become.
+#[tactic(auto, using(crate::proofs::Counting::controls_past))]
+pub(crate) fn put_members(
+    alloc: Global,
+    updates: &mut Puts,
+    team: &Team,
+    frame: &Frame,
+) -> Result<(), AllocError>
+    requires { length team.now.name ≤ 63 }
+    ensures { OnOk result
+        (updates.new ≡ updates.old ++ member_controls team.now frame.now 1 (team.now.size - 1)) }
+{
+    for number in 1..team.size {
+        let place = &Team {
+            name: team.name,
+            number,
+            size: team.size,
+            level: team.level,
+        };
+        put_member(alloc, updates, place, frame)?;
+    }
+    Ok(())
+}
+
+/// Appends what is put into the firstprivate copies of a team's members.
+#[tactic(auto, using(crate::proofs::Counting::given_past))]
+pub(crate) fn put_given(updates: &mut Puts, values: &[i32], size: u8) -> Result<(), AllocError>
+    ensures { OnOk result (updates.new ≡ updates.old ++ member_puts values.now size) }
+{
+    for _number in 0..size {
+        put_ints(updates, values)?;
+    }
+    Ok(())
+}

@@ -1,5 +1,0 @@
-use Rattle.om_touches.proofs.OffsetLemmas.{alone}
-use Rattle.om_touches.proofs.offsets.Offsets.of.Goals as goal
-
-pub returns : goal.returns
-returns c k below = alone c.args.offset k c.requires

@@ -1,0 +1,10 @@
+pub mod Values
+pub mod Homes
+pub mod Edits
+pub mod Changes
+pub mod State
+pub mod Rules
+pub mod Ready
+pub mod NextNames
+pub mod Runs
+pub mod RunPuts
