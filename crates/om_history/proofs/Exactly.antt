@@ -44,7 +44,7 @@ from_none w (k ∷ ks) h = (
   from_none w ks (All-tail (IsOther w) (transition_of k) (transitions_of ks) h),
 )
 
-abbrev IsApartFrom : List Access → Transition → Type 0
+abbrev pub IsApartFrom : List Access → Transition → Type 0
 IsApartFrom footprint t = Apart footprint t.footprint
 
 to_free : (footprint : List Access) (ks : List UndoRecord) → NoneConflicts footprint ks
@@ -53,7 +53,7 @@ to_free footprint [] h = none_of (IsApartFrom footprint)
 to_free footprint (k ∷ ks) h =
     All-cons (IsApartFrom footprint) (transition_of k) (transitions_of ks) h.0 (to_free footprint ks h.1)
 
-from_free : (footprint : List Access) (ks : List UndoRecord) → All (IsApartFrom footprint) (transitions_of ks)
+pub from_free : (footprint : List Access) (ks : List UndoRecord) → All (IsApartFrom footprint) (transitions_of ks)
     → NoneConflicts footprint ks
 from_free footprint [] h = tt
 from_free footprint (k ∷ ks) h = (
@@ -62,17 +62,17 @@ from_free footprint (k ∷ ks) h = (
 )
 
 -- records, by a place among their transitions
-record PlacedAt (ks : List UndoRecord) (before : List Transition) (e : Transition)
+pub record PlacedAt (ks : List UndoRecord) (before : List Transition) (e : Transition)
     (later : List Transition) : Type 0 where
-  earlier : List UndoRecord
-  here : UndoRecord
-  rest : List UndoRecord
-  split : ks ≡ earlier ++ here ∷ rest
-  before_is : transitions_of earlier ≡ before
-  here_is : transition_of here ≡ e
-  later_is : transitions_of rest ≡ later
+  pub earlier : List UndoRecord
+  pub here : UndoRecord
+  pub rest : List UndoRecord
+  pub split : ks ≡ earlier ++ here ∷ rest
+  pub before_is : transitions_of earlier ≡ before
+  pub here_is : transition_of here ≡ e
+  pub later_is : transitions_of rest ≡ later
 
-placed : (ks : List UndoRecord) (before : List Transition) (e : Transition) (later : List Transition)
+pub placed : (ks : List UndoRecord) (before : List Transition) (e : Transition) (later : List Transition)
     → transitions_of ks ≡ before ++ e ∷ later → PlacedAt ks before e later
 placed [] [] e later h = cc
 placed [] (b ∷ bs) e later h = cc

@@ -35,3 +35,4 @@ pub mod Indexed
 pub mod Soundness
 pub mod Holding
 pub mod Rolling
+pub mod Leaves

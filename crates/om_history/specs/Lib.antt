@@ -14,3 +14,4 @@ pub mod Bounds
 pub mod Pasts
 pub mod Touches
 pub mod Rows
+pub mod Leaves

@@ -3,6 +3,7 @@
 ghost use Rattle.om_history.specs.Laws.{Dependence, Commutation, Removal};
 ghost use Rattle.om_history.specs.Runs.{StepThenUndo};
 ghost use Rattle.om_history.specs.Undos.{ExactlyWhere};
+ghost use Rattle.om_history.specs.Leaves.{EachLeaves};
 ghost use Rattle.om_history.specs.Bounds.{SmallCounts};
 ghost use Rattle.om_history.specs.Commands.{RemainingSteps, SerialsRise, SerialsIdentify, RollIsCone, RollTakesCone, RollIsUndos, Least};
 
@@ -43,6 +44,13 @@ pub fn remaining_steps()
 /// undo exactly where the worker has no entry.
 pub fn exactly_where()
     ensures { ExactlyWhere }
+{}
+
+/// After any run: a step that is made adds its entry behind the others, an undo that is done takes the
+/// worker's last entry out, and a command that is refused changes nothing. Each entry that stands keeps
+/// its serial, its line and its footprint.
+pub fn what_is_left()
+    ensures { EachLeaves }
 {}
 
 /// After any run the serials of the entries rise, and none is above the number of steps ever made.
