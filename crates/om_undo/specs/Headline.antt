@@ -9,12 +9,13 @@ use Rattle.om_history.specs.declared.reply.StepReply.TheVariants.{Done}
 use Rattle.om_history.specs.Runs.{History, no_history, label_of, state_of_entries, reply_to_step, Undoes}
 use Rattle.om_history.specs.Commands.{Command, run}
 use Rattle.om_history.specs.Undos.{UndoReplies}
+use Rattle.om_history.specs.Leaves.{Leaves}
 
 -- the history of a program with so many workers after steps, undos and rolls, by any workers in any interleaving
 abbrev pub history_after : Raw → ℕ → List Command → History
 history_after program workers commands = run (rules_of program workers) no_history commands
 
--- the three sentences, of a program with so many workers
+-- the three sentences, of a program with so many workers, and what each command leaves
 pub record Headline (program : Raw) (workers : ℕ) : Type 0 where
   -- after any commands the entries that remain can be made, in order, from the start; the state that they give is
   -- `state_of_entries`. That a machine's store holds that state is promised by `Machine::look` and `Machine::control`
@@ -29,6 +30,10 @@ pub record Headline (program : Raw) (workers : ℕ) : Type 0 where
   -- names the first
   pub undo_is_refused_exactly_at_conflicts : (commands : List Command) (worker : ℕ)
       → UndoReplies (rules_of program workers) (history_after program workers commands) worker
+  -- a step that is made adds its entry behind the others, an undo that is done takes out that entry and no other, and
+  -- a command that is refused changes nothing; so what remains after any commands are the very steps that stood
+  pub commands_leave_the_other_steps : (commands : List Command)
+      → Leaves (rules_of program workers) (history_after program workers commands)
 
 abbrev pub EveryHeadline : Type 0
 EveryHeadline = (program : Raw) (workers : ℕ) → Headline program workers

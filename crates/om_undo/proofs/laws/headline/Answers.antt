@@ -14,4 +14,5 @@ returns c = λ program workers. let r : Rules = rules_of program workers in reco
   undo_takes_the_step_back = λ commands label serial line fault.
       c.step_then_undo.ensures r (history_after program workers commands) label serial line fault;
   undo_is_refused_exactly_at_conflicts = c.exactly_where.ensures r;
+  commands_leave_the_other_steps = c.what_is_left.ensures r;
 }
