@@ -3,14 +3,15 @@
 ghost use Rattle.std.specs.Prelude.{◌≡◌, IfOk};
 
 use crate::kind::{Endpoint, Sync, TaskFlag, TaskStatus, Thread, Work};
-use om_foot::Name;
+use om_foot::{Name, Shared};
 use om_seq::Seq;
 use std::alloc::{AllocError, Global};
 
 /// An event of the run that OMPT has a callback for (OpenMP 5.2, 19.5.2).
 ///
 /// Only kinds and their numbers are OMPT's. Which values a record has, and in which order, is this
-/// project's choice. The team of the initial task has the name without numbers.
+/// project's choice. The team of the initial task has the name without numbers. Names are shared with
+/// what the record was made of.
 #[derive(Drop)]
 pub enum Record {
     /// A worker begins.
@@ -19,32 +20,32 @@ pub enum Record {
     },
     /// A task makes a team of so many members.
     ParallelBegin {
-        task: Name,
-        team: Name,
+        task: Shared<Name>,
+        team: Shared<Name>,
         size: u8,
     },
     /// A task goes on behind the parallel region of a team.
     ParallelEnd {
-        team: Name,
-        task: Name,
+        team: Shared<Name>,
+        task: Shared<Name>,
     },
     /// A task makes an explicit task.
     TaskCreate {
-        task: Name,
-        new: Name,
+        task: Shared<Name>,
+        new: Shared<Name>,
     },
     /// A worker leaves one task and goes on with the next.
     TaskSchedule {
-        prior: Name,
+        prior: Shared<Name>,
         status: TaskStatus,
-        next: Name,
+        next: Shared<Name>,
     },
     /// An initial or implicit task begins or ends. Its number is the thread number, and 1 for the
     /// initial task. At the end the team has no numbers and the size is 0.
     ImplicitTask {
         endpoint: Endpoint,
-        team: Name,
-        task: Name,
+        team: Shared<Name>,
+        task: Shared<Name>,
         size: u8,
         number: u8,
         flag: TaskFlag,
@@ -57,23 +58,23 @@ pub enum Record {
     Work {
         work: Work,
         endpoint: Endpoint,
-        team: Name,
-        task: Name,
+        team: Shared<Name>,
+        task: Shared<Name>,
         count: u64,
     },
     /// A `masked` region begins or ends.
     Masked {
         endpoint: Endpoint,
-        team: Name,
-        task: Name,
+        team: Shared<Name>,
+        task: Shared<Name>,
     },
     /// A barrier, a `taskwait` or a `taskgroup` begins or ends. The barrier of a parallel region
     /// ends with a team without numbers.
     SyncRegion {
         sync: Sync,
         endpoint: Endpoint,
-        team: Name,
-        task: Name,
+        team: Shared<Name>,
+        task: Shared<Name>,
     },
     /// A critical region's lock is asked for.
     MutexAcquire {
@@ -85,15 +86,19 @@ pub enum Record {
     },
 }
 
-// A copy by a table of the kinds: first those of plain fields, then those of a lock.
+// A copy by a table of the kinds: first those of names and plain fields, a kind's names before
+// its plain fields, then those of a lock.
 macro_rules! copied {
     (
         $record:expr, $alloc:expr;
-        $($kind:ident { $($field:ident),* })*;
+        $($kind:ident { $($name:ident),*; $($field:ident),* })*;
         $($mutex:ident)*
     ) => {
         match $record {
-            $(Record::$kind { $($field),* } => Ok(Record::$kind { $($field: *$field),* }),)*
+            $(Record::$kind { $($name,)* $($field),* } => Ok(Record::$kind {
+                $($name: $name.copy()?,)*
+                $($field: *$field),*
+            }),)*
             $(Record::$mutex { lock } => Ok(Record::$mutex { lock: copy_lock(lock, $alloc)? }),)*
         }
     };
@@ -106,15 +111,15 @@ impl Record {
     {
         copied! {
             self, alloc;
-            ThreadBegin { thread }
-            ParallelBegin { task, team, size }
-            ParallelEnd { team, task }
-            TaskCreate { task, new }
-            TaskSchedule { prior, status, next }
-            ImplicitTask { endpoint, team, task, size, number, flag }
-            Work { work, endpoint, team, task, count }
-            Masked { endpoint, team, task }
-            SyncRegion { sync, endpoint, team, task };
+            ThreadBegin {; thread }
+            ParallelBegin { task, team; size }
+            ParallelEnd { team, task; }
+            TaskCreate { task, new; }
+            TaskSchedule { prior, next; status }
+            ImplicitTask { team, task; endpoint, size, number, flag }
+            Work { team, task; work, endpoint, count }
+            Masked { team, task; endpoint }
+            SyncRegion { team, task; sync, endpoint };
             MutexReleased MutexAcquire MutexAcquired
         }
     }

@@ -8,7 +8,7 @@ ghost use Rattle.om_events.specs.Words.{has_endpoint};
 use crate::event::Record;
 use crate::kind::{Endpoint, Sync, TaskFlag, TaskStatus, Thread, Work};
 use crate::words::{Word, push_words};
-use om_foot::Name;
+use om_foot::{Name, Shared};
 use om_seq::Seq;
 use std::alloc::AllocError;
 
@@ -22,14 +22,16 @@ pub fn text_of(event: &Record, out: &mut Vec<u8>) -> Result<(), AllocError>
 {
     match event {
         Record::ThreadBegin { thread } => push_thread(*thread, out),
-        Record::ParallelBegin { task, team, size } => push_parallel_begin(task, team, *size, out),
-        Record::ParallelEnd { team, task } => push_parallel_end(team, task, out),
-        Record::TaskCreate { task, new } => push_task_create(task, new, out),
+        Record::ParallelBegin { task, team, size } => {
+            push_parallel_begin(task.get(), team.get(), *size, out)
+        },
+        Record::ParallelEnd { team, task } => push_parallel_end(team.get(), task.get(), out),
+        Record::TaskCreate { task, new } => push_task_create(task.get(), new.get(), out),
         Record::TaskSchedule {
             prior,
             status,
             next,
-        } => push_schedule(prior, *status, next, out),
+        } => push_schedule(prior.get(), *status, next.get(), out),
         Record::MutexReleased { lock } => push_mutex(b"17 mutex_released 5", lock, out),
         Record::MutexAcquire { lock } => push_mutex(b"26 mutex_acquire 5", lock, out),
         Record::MutexAcquired { lock } => push_mutex(b"27 mutex_acquired 5", lock, out),
@@ -160,14 +162,14 @@ fn push_end(event: &Record, out: &mut Vec<u8>) -> Result<(), AllocError>
     }
 }
 
-fn end_of<'a>(endpoint: Endpoint, team: &'a Name, task: &'a Name) -> RegionEnd<'a>
+fn end_of<'a>(endpoint: Endpoint, team: &'a Shared<Name>, task: &'a Shared<Name>) -> RegionEnd<'a>
     ensures { (result.endpoint ≡ endpoint) × (result.team.now ≡ team.now)
         × (result.task.now ≡ task.now) }
 {
     RegionEnd {
         endpoint,
-        team,
-        task,
+        team: team.get(),
+        task: task.get(),
     }
 }
 
