@@ -91,15 +91,29 @@ impl Frame {
 }
 
 /// A member's place in its team.
-#[derive(Clone, Copy, PartialEq, Eq)]
+#[derive(Drop)]
 pub struct Team {
     /// The team's name; the initial task's team is the name without numbers.
-    pub name: Name,
+    pub name: Shared<Name>,
     /// The thread number of the member, from 0.
     pub number: u8,
     pub size: u8,
     /// How many active regions it stands in: 0 or 1.
     pub level: u8,
+}
+
+impl Team {
+    /// The same place; its only error is out of memory.
+    pub fn copy(&self) -> Result<Team, AllocError>
+        ensures { IfOk result (λ team. team ≡ self.now) }
+    {
+        Ok(Team {
+            name: self.name.copy()?,
+            number: self.number,
+            size: self.size,
+            level: self.level,
+        })
+    }
 }
 
 /// What kind of task a context runs.
