@@ -1,14 +1,27 @@
--- The accesses that cells named at once stand for.
-use Rattle.std.specs.Prelude.{ℕ, zero, suc, ◌+◌, List, [], ◌∷◌, ◌++◌}
+-- The cells of a slot, and the accesses that cells named at once stand for.
+use Rattle.std.specs.Prelude.{ℕ, zero, suc, ◌+◌, Option, None, Some, List, [], ◌∷◌, ◌++◌}
+use Rattle.om_foot.specs.declared.object.Obj.{Obj}
 use Rattle.om_foot.specs.declared.object.Obj.TheVariants as obj
 use Rattle.om_foot.specs.declared.footprint.Mode.TheVariants as mode
 use Rattle.om_foot.specs.declared.footprint.Access.{Access}
 use Rattle.om_foot.specs.declared.cells.SlotName.{SlotName}
 use Rattle.om_foot.specs.declared.cells.Cells.{Cells}
 
+-- a place in a slot
+abbrev pub Spot : Type 0
+Spot = SlotName × ℕ
+
+abbrev pub cell_at : SlotName → ℕ → Obj
+cell_at slot index = obj.Cell slot.task slot.frame slot.slot index
+
+-- the slot and the index of a cell
+abbrev pub spot_of : Obj → Option Spot
+spot_of (obj.Cell t f s i) = Some (record { task = t; frame = f; slot = s }, i)
+spot_of _ = None
+
 -- a cell of a slot, written
 abbrev pub cell_access : SlotName → ℕ → Access
-cell_access slot index = record { object = obj.Cell slot.task slot.frame slot.slot index; mode = mode.Write }
+cell_access slot index = record { object = cell_at slot index; mode = mode.Write }
 
 -- so many cells of a slot, from an index on
 abbrev pub cells_from : SlotName → ℕ → ℕ → List Access

@@ -1,7 +1,7 @@
 //! The cells of a slot, named at once.
 
 ghost use Rattle.std.specs.Prelude.{◌≡◌};
-ghost use Rattle.om_foot.specs.declared.object.Obj.TheVariants as obj;
+ghost use Rattle.om_foot.specs.Cells.{cell_at, spot_of};
 
 use crate::name::Name;
 use crate::object::Obj;
@@ -19,7 +19,7 @@ pub struct SlotName {
 impl SlotName {
     /// The cell at an index.
     pub fn cell(&self, index: u32) -> Obj
-        ensures { result ≡ obj.Cell self.now.task self.now.frame self.now.slot index }
+        ensures { result ≡ cell_at self.now index }
     {
         Obj::Cell {
             task: self.task,
@@ -28,6 +28,27 @@ impl SlotName {
             index,
         }
     }
+}
+
+/// The slot and the index of a cell; `None` for another object.
+pub fn spot_of(object: &Obj) -> Option<(SlotName, u32)>
+    ensures { result ≡ spot_of object.now }
+{
+    let Obj::Cell {
+        task,
+        frame,
+        slot,
+        index,
+    } = object
+    else {
+        return None;
+    };
+    let slot = SlotName {
+        task: *task,
+        frame: *frame,
+        slot: *slot,
+    };
+    Some((slot, *index))
 }
 
 /// The first cells of a slot, written. An array of any size is named at once.

@@ -3,9 +3,8 @@
 ghost use Rattle.std.specs.Prelude.{◌≡◌, IfOk};
 ghost use Rattle.om_foot.specs.SharedCells.{cell_in};
 
-use crate::cells::{Cells, SlotName};
+use crate::cells::{Cells, SlotName, spot_of};
 use crate::name::Name;
-use crate::object::Obj;
 use crate::shared_object::SharedObject;
 use std::alloc::{AllocError, Global};
 use std::marker::Model;
@@ -46,21 +45,9 @@ impl SharedCells {
     pub fn cells(&self) -> Cells
         ensures { result ≡ self.now }
     {
-        match self.end.get() {
-            Obj::Cell {
-                task,
-                frame,
-                slot,
-                index,
-            } => Cells {
-                slot: SlotName {
-                    task: *task,
-                    frame: *frame,
-                    slot: *slot,
-                },
-                count: *index,
-            },
-            _ => Cells {
+        match spot_of(self.end.get()) {
+            Some((slot, count)) => Cells { slot, count },
+            None => Cells {
                 slot: SlotName {
                     task: Name::empty(),
                     frame: 0,
@@ -93,5 +80,17 @@ impl SharedCells {
             first: self.first.copy()?,
             end: self.end.copy()?,
         })
+    }
+
+    /// The cells, shared with these where they are the same ones. Its only error is out of memory.
+    pub fn share(&self, alloc: Global, cells: &Cells) -> Result<SharedCells, AllocError>
+        ensures { IfOk result (λ shared. shared ≡ cells.now) }
+    {
+        let own = self.cells();
+        if own.count == cells.count && own.slot == cells.slot {
+            self.copy()
+        } else {
+            SharedCells::of(alloc, cells)
+        }
     }
 }
