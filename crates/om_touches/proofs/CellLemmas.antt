@@ -12,7 +12,7 @@ use Rattle.om_foot.specs.Footprint.{obj_eq, modes_conflict}
 use Rattle.om_foot.specs.Objects.{obj_eq-true}
 use Rattle.om_foot.specs.declared.cells.SlotName.{SlotName}
 use Rattle.om_foot.specs.declared.cells.Cells.{Cells}
-use Rattle.om_foot.specs.Cells.{cells_from, cells_of}
+use Rattle.om_foot.specs.Cells.{cell_at, cells_from, cells_of, spot_of}
 use Rattle.om_foot.specs.SharedCells.{cell_in}
 use Rattle.om_touches.specs.declared.slots.SlotTouches.{SlotTouches}
 use Rattle.om_touches.specs.declared.spans.SpanTouches.{SpanTouches}
@@ -20,17 +20,13 @@ use Rattle.om_touches.specs.declared.objects.ObjectTouches.{ObjectTouches}
 use Rattle.om_touches.specs.declared.singles.SingleTouches.{SingleTouches}
 use Rattle.om_touches.specs.Controls.{with_objects}
 use Rattle.om_foot.specs.Serials.{has}
-use Rattle.om_touches.specs.Slots.{slot_eq, has_span, spans_of, place_of, SlotsWith, SameSlots, SlotsWithout}
+use Rattle.om_touches.specs.Slots.{slot_eq, has_span, spans_of, SlotsWith, SameSlots, SlotsWithout}
 use Rattle.om_touches.specs.Touches.{mode_eq, names, meets, meets_at, Touching, has_object_touch, has_single_touch, has_slot_write, has_slot_touch, IsSet, IsLess}
 use Rattle.om_foot.specs.Firsts.{IsFirst}
 use Rattle.om_touches.specs.Searches.{either_true}
 use Rattle.om_touches.proofs.SlotLemmas.{slot_eq-true, slot_eq-same}
 
 -- what names cells
-
--- a cell of a slot
-abbrev pub cell_at : SlotName → ℕ → Obj
-cell_at slot index = object.Cell slot.task slot.frame slot.slot index
 
 and_false : (x : Bool) → x && false ≡ false
 and_false true = refl
@@ -48,11 +44,11 @@ names_add : (slot : SlotName) (j n : ℕ) (o : Obj) → names o Add (cells_from 
 names_add slot j zero o = refl
 names_add slot j (suc n) o = not_named (obj_eq (cell_at slot j) o) _ (names_add slot (j + 1) n o)
 
-no_cell : (slot : SlotName) (j : ℕ) (o : Obj) → None ≡ place_of o → obj_eq (cell_at slot j) o ≡ false
+no_cell : (slot : SlotName) (j : ℕ) (o : Obj) → None ≡ spot_of o → obj_eq (cell_at slot j) o ≡ false
 no_cell slot j (object.Cell t f n i) h = cc
 no_cell slot j o h = refl
 
-names_none : (slot : SlotName) (j n : ℕ) (o : Obj) → None ≡ place_of o → names o Write (cells_from slot j n) ≡ false
+names_none : (slot : SlotName) (j n : ℕ) (o : Obj) → None ≡ spot_of o → names o Write (cells_from slot j n) ≡ false
 names_none slot j zero o h = refl
 names_none slot j (suc n) o h =
     ap (λ b. cond (b && true) true (names o Write (cells_from slot (j + 1) n))) (no_cell slot j o h)
@@ -154,7 +150,7 @@ is_of name _ = false
 
 pub slot_less : (footprint : List Access) (name : SlotName) (serial : ℕ) (old new : SlotTouches)
     → SlotsWithout name serial old new
-    → ((o : Obj) → names o Write footprint ≡ true → (is_of name o ≡ true) ⊎ (None ≡ place_of o))
+    → ((o : Obj) → names o Write footprint ≡ true → (is_of name o ≡ true) ⊎ (None ≡ spot_of o))
     → IsLess footprint serial (has_slot_touch old) (has_slot_touch new)
 slot_less footprint name serial old new h within = record { others = others; fewer = fewer; gone = gone }
   where
@@ -175,7 +171,7 @@ slot_less footprint name serial old new h within = record { others = others; few
     fewer o Read s e = e
     fewer o Add s e = e
 
-    at : (t : List ℕ) (f n i : ℕ) → (is_of name (object.Cell t f n i) ≡ true) ⊎ (None ≡ place_of (object.Cell t f n i))
+    at : (t : List ℕ) (f n i : ℕ) → (is_of name (object.Cell t f n i) ≡ true) ⊎ (None ≡ spot_of (object.Cell t f n i))
         → has_slot_write new (object.Cell t f n i) serial ≡ false
     at t f n i (inl is) =
         let q : SlotName = record { task = t; frame = f; slot = n } in
@@ -199,7 +195,7 @@ pub cells_less : (c : Cells) (serial : ℕ) (old new : SlotTouches) → SlotsWit
     → IsLess (cells_of c) serial (has_slot_touch old) (has_slot_touch new)
 cells_less c serial old new h = slot_less (cells_of c) c.slot serial old new h within
   where
-    within : (o : Obj) → names o Write (cells_of c) ≡ true → (is_of c.slot o ≡ true) ⊎ (None ≡ place_of o)
+    within : (o : Obj) → names o Write (cells_of c) ≡ true → (is_of c.slot o ≡ true) ⊎ (None ≡ spot_of o)
     within (object.Cell t f n i) e =
         let q : SlotName = record { task = t; frame = f; slot = n } in
         inl (first_true (slot_eq c.slot q) (nat_lt i c.count) (sym (names_cell c q i) ∙ e))
@@ -211,12 +207,12 @@ named_one false d h = cc
 
 -- those of the slot of one cell
 pub cell_less : (it : Obj) (p : SlotName × ℕ) (mode : Mode) (serial : ℕ) (old new : SlotTouches)
-    → Some p ≡ place_of it → SlotsWithout p.0 serial old new
+    → Some p ≡ spot_of it → SlotsWithout p.0 serial old new
     → IsLess (record { object = it; mode = mode } ∷ []) serial (has_slot_touch old) (has_slot_touch new)
 cell_less it p mode serial old new is h =
     slot_less (record { object = it; mode = mode } ∷ []) p.0 serial old new h within
   where
-    here : (o : Obj) → Some p ≡ place_of o → is_of p.0 o ≡ true
+    here : (o : Obj) → Some p ≡ spot_of o → is_of p.0 o ≡ true
     here (object.Cell t f n i) e =
         let same : p ≡ (record { task = t; frame = f; slot = n }, i) = cc in
         ap (λ (x : SlotName × ℕ). is_of x.0 (object.Cell t f n i)) same
@@ -224,10 +220,10 @@ cell_less it p mode serial old new is h =
     here o e = cc
 
     within : (o : Obj) → names o Write (record { object = it; mode = mode } ∷ []) ≡ true
-        → (is_of p.0 o ≡ true) ⊎ (None ≡ place_of o)
+        → (is_of p.0 o ≡ true) ⊎ (None ≡ spot_of o)
     within o e =
         let same : it ≡ o = obj_eq-true it o (named_one (obj_eq it o) (mode_eq mode Write) e) in
-        inl (here o (is ∙ ap place_of same))
+        inl (here o (is ∙ ap spot_of same))
 
 -- where an object is no cell, or no slot has a write, nothing is to go
 pub none_less : (it : Obj) (mode : Mode) (serial : ℕ) (slots : SlotTouches)

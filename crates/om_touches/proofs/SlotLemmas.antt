@@ -17,7 +17,8 @@ use Rattle.om_foot.specs.contracts.cells.SlotNameOrd.TheImpl.{cmp-value}
 use Rattle.om_touches.specs.declared.spans.SpanTouches.{SpanTouches}
 use Rattle.om_touches.specs.declared.spans.Spans.{Spans}
 use Rattle.om_touches.specs.declared.slots.SlotTouches.{SlotTouches}
-use Rattle.om_touches.specs.Slots.{slot_eq, has_span, spans_in, spans_of, place_of}
+use Rattle.om_foot.specs.Cells.{spot_of}
+use Rattle.om_touches.specs.Slots.{slot_eq, has_span, spans_in, spans_of}
 use Rattle.om_touches.specs.Touches.{has_slot_write}
 
 -- names of slots are told apart by `slot_eq`, as by their order
@@ -126,14 +127,14 @@ spans_unset es k serial none q i s = go (slot_eq k q) refl
         ∙ ap (λ xs. has_span xs i s) none)
 
 -- the writes of a cell are those of its index
-pub write_at : (slots : SlotTouches) (o : Obj) (p : SlotName × ℕ) → Some p ≡ place_of o
+pub write_at : (slots : SlotTouches) (o : Obj) (p : SlotName × ℕ) → Some p ≡ spot_of o
     → (s : ℕ) → has_slot_write slots o s ≡ has_span (spans_of slots p.0) p.1 s
 write_at slots (object.Cell t f n i) p h s =
     let is : p ≡ (record { task = t; frame = f; slot = n }, i) = cc in
     ap (λ (x : SlotName × ℕ). has_span (spans_of slots x.0) x.1 s) (sym is)
 write_at slots o p h s = cc
 
-pub no_write_at : (slots : SlotTouches) (o : Obj) → None ≡ place_of o → (s : ℕ) → has_slot_write slots o s ≡ false
+pub no_write_at : (slots : SlotTouches) (o : Obj) → None ≡ spot_of o → (s : ℕ) → has_slot_write slots o s ≡ false
 no_write_at slots (object.Cell t f n i) h s = cc
 no_write_at slots o h s = refl
 

@@ -28,11 +28,6 @@ spans_in (Some spans) = spans.spans.items
 abbrev pub spans_of : SlotTouches → SlotName → List SpanTouches
 spans_of slots name = spans_in (lookup (slot_eq name) slots.slots.entries)
 
--- the slot of a cell, and the cell's index in it
-abbrev pub place_of : Obj → Option (SlotName × ℕ)
-place_of (object.Cell t f n i) = Some (record { task = t; frame = f; slot = n }, i)
-place_of _ = None
-
 -- no write of a slot changes; those of one entry come, or go
 abbrev pub SameSlots : SlotTouches → SlotTouches → Type 0
 SameSlots old new = (q : SlotName) (i s : ℕ) → has_span (spans_of new q) i s ≡ has_span (spans_of old q) i s

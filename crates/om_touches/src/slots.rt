@@ -4,11 +4,12 @@ ghost use Rattle.std.specs.Prelude.{◌≡◌, ℕ, ◌∷◌, [], true, false, 
 ghost use Rattle.om_foot.specs.declared.object.Obj.{Obj};
 ghost use Rattle.om_foot.specs.declared.footprint.Mode.{Mode};
 ghost use Rattle.om_foot.specs.Cells.{cells_of, cells_listed};
-ghost use Rattle.om_touches.specs.Slots.{has_span, spans_of, place_of, SameSlots, SlotsWith, SlotsWithout};
+ghost use Rattle.om_touches.specs.Slots.{has_span, spans_of, SameSlots, SlotsWith, SlotsWithout};
 ghost use Rattle.om_foot.specs.Firsts.{IsFirst};
 ghost use Rattle.om_touches.specs.Touches.{meets, has_slot_write, has_slot_touch, IsSet, IsLess};
 
 use crate::spans::Spans;
+use om_foot::cells::spot_of;
 use om_foot::{Obj, SharedCells, SlotName};
 use std::alloc::{AllocError, Global};
 use std::collections::BTreeMap;
@@ -20,27 +21,6 @@ use std::collections::BTreeMap;
 #[derive(Drop)]
 pub struct SlotTouches {
     slots: BTreeMap<SlotName, Spans>,
-}
-
-/// The slot of a cell, and the cell's index in it.
-fn place_of(object: &Obj) -> Option<(SlotName, u32)>
-    ensures { result ≡ place_of object.now }
-{
-    let Obj::Cell {
-        task,
-        frame,
-        slot,
-        index,
-    } = object
-    else {
-        return None;
-    };
-    let slot = SlotName {
-        task: *task,
-        frame: *frame,
-        slot: *slot,
-    };
-    Some((slot, *index))
 }
 
 impl SlotTouches {
@@ -153,7 +133,7 @@ impl SlotTouches {
         if self.slots.is_empty() {
             return;
         }
-        if let Some((slot, _)) = place_of(object) {
+        if let Some((slot, _)) = spot_of(object) {
             self.remove_of(&slot, serial);
         }
     }
@@ -175,7 +155,7 @@ impl SlotTouches {
         if self.slots.is_empty() {
             return None;
         }
-        match place_of(object) {
+        match spot_of(object) {
             Some((slot, index)) => self.first_of(&slot, index, serial),
             None => None,
         }
