@@ -10,7 +10,7 @@ ghost use Rattle.om_history.specs.Bounds.{FitsAt, FitsAtBack, FitsAll};
 ghost use Rattle.om_history.specs.Shapes.{IsShapedAt, AreShaped};
 ghost use Rattle.om_history.specs.Fills.{small_at, noted, small_record, noted_all, filled_at, popped, filled, popped_all, IfControl, CanTakeBack, control_at};
 
-use om_foot::{Access, Cells, Mode, Obj, SharedAccess, SharedCells};
+use om_foot::{Access, Cells, Mode, Obj, SharedAccess, SharedCells, SharedObject};
 use om_live::{Store, worker_of};
 use om_seq::Seq;
 use om_values::{Control, Update, Val};
@@ -224,7 +224,8 @@ pub(crate) fn keep_control(
     ensures kept { OnOk result (is_kept store.new (obj.Control worker) ≡ true) }
     ensures others_kept { (q : Obj) → is_kept store.old q ≡ true → is_kept store.new q ≡ true }
 {
-    let object = store.keep_control(alloc, worker)?;
+    store.know_control(alloc, worker)?;
+    let object = SharedObject::of(alloc, &Obj::Control(worker))?;
     Ok(SharedAccess::of(object, Mode::Write))
 }
 

@@ -6,7 +6,6 @@
 
 pub mod context;
 pub mod control;
-mod control_objects;
 pub mod copy;
 pub mod edit;
 pub mod fault;

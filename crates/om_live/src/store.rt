@@ -15,7 +15,6 @@ ghost use Rattle.om_values.specs.Ready.{is_ready_at, AreReady, IsNext};
 ghost use Rattle.om_live.specs.Stores.{worker_of, is_trailed, plain_or_idle, state_of, is_kept, pasts_of, noted_at, popped_at, begun_at, first_or, GrowTo};
 
 use crate::control::Control;
-use crate::control_objects::ControlObjects;
 use crate::copy::plain_of;
 use crate::live::control_of;
 use crate::trail::Trail;
@@ -36,8 +35,6 @@ use std::mem;
 pub struct Store {
     /// The controls of the first workers; the others are idle.
     trails: Vec<Trail>,
-    /// The objects of these controls.
-    controls: ControlObjects,
     /// What the other objects hold.
     values: Values,
 }
@@ -45,13 +42,8 @@ pub struct Store {
 // By hand: crates above call this, and do not prove anew how each part is dropped.
 impl Drop for Store {
     fn drop(self) {
-        let Store {
-            trails,
-            controls,
-            values,
-        } = self;
+        let Store { trails, values } = self;
         drop(trails);
-        drop(controls);
         drop(values);
     }
 }
@@ -93,7 +85,6 @@ impl Store {
     {
         Store {
             trails: Vec::new(alloc),
-            controls: ControlObjects::new(alloc),
             values: Values::new(alloc),
         }
     }
@@ -213,21 +204,22 @@ impl Store {
         ensures others_kept { (q : Obj) → is_kept self.old q ≡ true → is_kept self.new q ≡ true }
     {
         match worker_of(object) {
-            Some(worker) => self.keep_control(alloc, worker),
+            Some(worker) => {
+                self.know_control(alloc, worker)?;
+                SharedObject::of(alloc, object)
+            }
             None => self.values.keep(alloc, object),
         }
     }
 
-    /// Keeps the control of a worker, and answers it, shared. No value changes, also when out of memory.
-    pub fn keep_control(&mut self, alloc: Global, worker: u8) -> Result<SharedObject, AllocError>
-        ensures shared { IfOk result (λ shared. shared ≡ obj.Control worker) }
+    /// Keeps the control of a worker. Its only error is out of memory. No value changes, also then.
+    pub fn know_control(&mut self, alloc: Global, worker: u8) -> Result<(), AllocError>
         ensures state { state_of self.new ≡ state_of self.old }
         ensures pasts { pasts_of self.new ≡ pasts_of self.old }
         ensures kept { OnOk result (is_kept self.new (obj.Control worker) ≡ true) }
         ensures others_kept { (q : Obj) → is_kept self.old q ≡ true → is_kept self.new q ≡ true }
     {
-        grow(alloc, &mut self.trails, worker)?;
-        self.controls.share(alloc, worker)
+        grow(alloc, &mut self.trails, worker)
     }
 
     /// Puts the first control of a worker, which made no step then. When out of memory, nothing

@@ -13,7 +13,6 @@ use Rattle.om_foot.specs.contracts.shared_object.SharedObject as shared_object
 use Rattle.om_cells.specs.contracts.slots.SlotPlace as slot_place
 use Rattle.om_cells.specs.contracts.slots.Slots as slots
 use Rattle.om_cells.specs.contracts.store.Store as values
-use Rattle.om_live.specs.contracts.control_objects.ControlObjects as control_objects
 use Rattle.om_live.specs.contracts.store.Store as store
 use Rattle.om_touches.specs.contracts.accesses.Accesses as accesses
 use Rattle.om_foot.specs.contracts.blocks.Blocks as blocks
@@ -71,11 +70,8 @@ places_send = search (part_send, place_send, maps, crosses, sendable) depth 40
 values_send : IsSend values.the_field.row
 values_send = search (name_send, places_send, slots_send, maps, crosses, sendable) depth 40
 
-control_objects_send : IsSend control_objects.the_field.row
-control_objects_send = search (shared_object_send, crosses, sendable) depth 40
-
 store_send : IsSend store.the_field.row
-store_send = search (trail_send, values_send, control_objects_send, crosses, sendable) depth 40
+store_send = search (trail_send, values_send, crosses, sendable) depth 40
 
 shared_access_send : IsSend shared_access.the_row
 shared_access_send = search (shared_object_send, sendable) depth 40

@@ -1,20 +1,15 @@
-use Rattle.std.proofs.Common.{◌≡◌, ◌∙◌, sym, ap, refl, subst, true}
-use Rattle.std.specs.Prelude.{IfOk, OnOk}
-use Rattle.std.proofs.lemmas.Result.{on_ok_weaker}
+use Rattle.std.proofs.Common.{◌∙◌, sym, ap, refl}
+use Rattle.std.proofs.lemmas.Result.{on_ok_weaker, IfOk-weaker}
 use Rattle.om_cells.specs.Stores as values
 use Rattle.om_live.specs.Stores.{state_of, is_kept, pasts_of, held_by}
 use Rattle.om_live.proofs.Values.{kept_more, kept_there, untrailed, is_control}
 use Rattle.om_live.proofs.store.Store.keep.Goals as goal
 
-pub returns-in-Some-clause-shared : goal.returns-in-Some-clause-shared
-returns-in-Some-clause-shared c =
-    subst (λ q. IfOk c.keep_control.result (λ shared. shared ≡ q))
-    (sym (is_control c.args.object.now _ (sym c.worker_of.ensures ∙ c.in-Some.is))) c.keep_control.ensures.shared
-
-pub returns-in-Some-clause-kept : goal.returns-in-Some-clause-kept
-returns-in-Some-clause-kept c =
-    subst (λ q. OnOk c.keep_control.result (is_kept c.keep_control.new.self q ≡ true))
-    (sym (is_control c.args.object.now _ (sym c.worker_of.ensures ∙ c.in-Some.is))) c.keep_control.ensures.kept
+pub returns-in_ok-know_control-in-Some-clause-kept : goal.returns-in_ok-know_control-in-Some-clause-kept
+returns-in_ok-know_control-in-Some-clause-kept c = IfOk-weaker c.of.result _ _
+    (λ shared is. ap (is_kept c.know_control.new.self)
+    (is_control c.args.object.now _ (sym c.worker_of.ensures ∙ c.in-Some.is)) ∙ c.in_ok-know_control-in-Some.ensures.kept)
+    c.of.ensures
 
 pub returns-in-None-clause-state : goal.returns-in-None-clause-state
 unfolding state_of

@@ -38,8 +38,8 @@ none_at (obj.Events a) = refl
 pub returns-clause-state : goal.returns-clause-state
 unfolding state_of
 returns-clause-state c =
-    ap (λ ts. held_by ts (values.state_of c.new-3.result)) c.new.ensures.items
-    ∙ ap (held_by []) c.new-3.ensures
+    ap (λ ts. held_by ts (values.state_of c.new-2.result)) c.new.ensures.items
+    ∙ ap (held_by []) c.new-2.ensures
     ∙ fun_ext λ q. idle_at q
 
 pub returns-clause-pasts : goal.returns-clause-pasts
