@@ -126,7 +126,7 @@ impl Context {
 
     /// Has another region in the place of the innermost one, or enters it where it is in none. When
     /// out of memory, nothing changes.
-    pub fn replace(&mut self, construct: Shared<Construct>) -> Result<Inverse, AllocError>
+    pub fn replace(&mut self, mut construct: Shared<Construct>) -> Result<Inverse, AllocError>
         ensures changed { OnOk result (plain_context self.new
             ≡ record (plain_context self.old)
             { constructs = construct ∷ drop 1 (plain_context self.old).constructs }) }
@@ -137,7 +137,8 @@ impl Context {
         if self.constructs.len() == 0 {
             return self.open(construct);
         }
-        Ok(Inverse::Replaced(self.constructs.exchange_top(construct)))
+        self.constructs.swap_top(&mut construct);
+        Ok(Inverse::Replaced(construct))
     }
 
     /// Makes an edit of the context. When out of memory, nothing changes.
@@ -202,7 +203,7 @@ impl Context {
             }
             Inverse::Opened(over) => self.constructs.unpush(over),
             Inverse::Closed => self.constructs.raise(1),
-            Inverse::Replaced(before) => drop(self.constructs.exchange_top(before)),
+            Inverse::Replaced(mut before) => self.constructs.swap_top(&mut before),
             Inverse::CountedBirth => self.births -= 1,
             Inverse::CountedRegion => self.regions -= 1,
             Inverse::CountedPhase => self.phase -= 1,

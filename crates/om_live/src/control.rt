@@ -1,9 +1,5 @@
 //! A worker's control in the form that is changed in place, and what takes a change back.
 
-ghost use Rattle.std.specs.Prelude.{◌≡◌};
-ghost use Rattle.om_values.specs.Values.{is_idle};
-ghost use Rattle.om_live.specs.Plain.{plain_control};
-
 use crate::tape::Tape;
 use om_code::frame::{Fault, Operand};
 use om_foot::{Name, Shared};
@@ -69,15 +65,6 @@ pub enum Control {
     Faulted(Fault, Stack),
     /// The initial task has ended, with the value that `main` returned.
     Ended(i32),
-}
-
-impl Control {
-    /// Whether it has no task.
-    pub fn is_idle(&self) -> bool
-        ensures { result ≡ is_idle (plain_control self.now) }
-    {
-        matches!(self, Control::Idle)
-    }
 }
 
 /// Where a frame went on from, and how many operands it took.

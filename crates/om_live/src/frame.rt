@@ -29,7 +29,7 @@ pub(crate) fn new_frame(
         body,
         next: 0,
         ordinal,
-        operands: Tape::new(alloc),
+        operands: Tape::of(Vec::new(alloc)),
         homes,
     };
     Ok(Box::new(alloc, frame)?)

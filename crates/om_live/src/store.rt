@@ -1,6 +1,6 @@
 //! The store: what each object holds.
 
-ghost use Rattle.std.specs.Prelude.{◌≡◌, ◌<◌, [], All, true, false, IfOk, OnOk, OnErr, unwrap_or, neg_ℤ, length, slice_get};
+ghost use Rattle.std.specs.Prelude.{◌≡◌, ◌<◌, [], All, true, false, IfOk, OnOk, OnErr, unwrap_or, neg_ℤ, length};
 ghost use Rattle.std.specs.Option.{option_copied};
 ghost use Rattle.om_foot.specs.declared.object.Obj.{Obj};
 ghost use Rattle.om_foot.specs.declared.object.Obj.TheVariants as obj;
@@ -65,16 +65,9 @@ fn grow(alloc: Global, trails: &mut Vec<Trail>, worker: u8) -> Result<(), AllocE
     ensures enough { OnOk result (worker < length trails.new.items) }
 {
     while trails.len() <= worker as usize {
-        trails.push(Trail::new(alloc))?;
+        trails.push(Trail::of(alloc, Control::Idle))?;
     }
     Ok(())
-}
-
-/// The trail of a worker, if it has one.
-fn trail_at(trails: &[Trail], worker: u8) -> Option<&Trail>
-    ensures { option_copied result ≡ slice_get trails.now worker }
-{
-    trails.get(worker as usize)
 }
 
 impl Store {
@@ -94,7 +87,7 @@ impl Store {
         ensures { plain_or_idle (option_copied result)
             ≡ control_in (state_of self.now (obj.Control worker)) }
     {
-        let trail = trail_at(&self.trails, worker)?;
+        let trail = self.trails.get(worker as usize)?;
         Some(trail.control())
     }
 
@@ -102,10 +95,7 @@ impl Store {
     pub fn is_idle(&self, worker: u8) -> bool
         ensures { result ≡ is_idle (control_in (state_of self.now (obj.Control worker))) }
     {
-        match self.control(worker) {
-            Some(control) => control.is_idle(),
-            None => true,
-        }
+        matches!(self.control(worker), None | Some(Control::Idle))
     }
 
     /// The cell that a cell of a variable holds.

@@ -3,7 +3,7 @@
 ghost use Rattle.std.specs.Prelude.{◌≡◌, ◌<◌, ◌≤◌, ◌↔◌, [], IsTrue, IfOk, OnOk, OnErr, length, slice_get, option_map, reverse, Some, None};
 ghost use Rattle.om_live.specs.Tapes.{pushed, unpushed, lowered, raised, swapped_down, swapped_up, exchanged};
 
-use std::alloc::{AllocError, Global};
+use std::alloc::AllocError;
 use std::marker::Model;
 use std::mem;
 
@@ -30,16 +30,6 @@ impl<T> Model for Tape<T> {
 }
 
 impl<T> Tape<T> {
-    /// The empty tape. It takes no memory.
-    pub fn new(alloc: Global) -> Tape<T>
-        ensures { result ≡ record { items = []; taken = [] } }
-    {
-        Tape {
-            slots: Vec::new(alloc),
-            height: 0,
-        }
-    }
-
     /// The tape of a vector's items, the last one on top. It takes no memory.
     pub fn of(items: Vec<T>) -> Tape<T>
         ensures { result ≡ record { items = reverse items.items; taken = [] } }
@@ -154,23 +144,14 @@ impl<T> Tape<T> {
         self.height += 1;
     }
 
-    /// Takes the top item in exchange for another one, which lies on top in its place.
-    fn swap_top(&mut self, item: &mut T)
+    /// Takes the top item in exchange for another one, which lies on top in its place. It takes no
+    /// memory.
+    pub fn swap_top(&mut self, item: &mut T)
         requires { 0 < length self.old.items }
         ensures top { Some item.new ≡ slice_get self.old.items 0 }
         ensures exchanged { self.new ≡ exchanged item.old self.old }
     {
         mem::swap(&mut self.slots[self.height - 1], item);
-    }
-
-    /// Puts an item in the place of the top one, and answers that one. It takes no memory.
-    pub fn exchange_top(&mut self, mut item: T) -> T
-        requires { 0 < length self.old.items }
-        ensures top { Some result ≡ slice_get self.old.items 0 }
-        ensures exchanged { self.new ≡ exchanged item self.old }
-    {
-        self.swap_top(&mut item);
-        item
     }
 
     /// Pushes the item that runs and has another one run, and answers the taken one that it lies

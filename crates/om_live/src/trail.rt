@@ -1,7 +1,6 @@
 //! A worker's control with the trail of its changes, which leads back to its start.
 
 ghost use Rattle.std.specs.Prelude.{◌≡◌, ◌<◌, ◌∷◌, [], OnOk, OnErr, length};
-ghost use Rattle.om_values.specs.declared.control.Control.TheVariants as plain;
 ghost use Rattle.om_values.specs.Edits.{changed_by, changed, HasRoom, HaveRoom};
 ghost use Rattle.om_live.specs.Plain.{plain_control};
 ghost use Rattle.om_live.specs.Inverses.{reverted, CanRevert};
@@ -137,16 +136,6 @@ fn rewind(control: &mut Control, inverses: &mut Log<Logged>)
 }
 
 impl Trail {
-    /// The trail of a worker that is idle and made no step. It takes no memory.
-    pub fn new(alloc: Global) -> Trail
-        ensures { result ≡ record { now = plain.Idle; past = [] } }
-    {
-        Trail {
-            control: Control::Idle,
-            inverses: Log::new(alloc),
-        }
-    }
-
     /// The trail of a worker that has this control and made no step. It takes no memory.
     pub fn of(alloc: Global, control: Control) -> Trail
         ensures { result ≡ record { now = plain_control control; past = [] } }
