@@ -21,9 +21,9 @@ use Rattle.om_values.specs.declared.step.Update.TheVariants.{Put}
 use Rattle.om_values.specs.declared.value.Val.{Val}
 use Rattle.om_values.specs.declared.value.Val.TheVariants as value
 use Rattle.om_values.specs.State.{State, with_value, updated, taken_back, undo_record}
-use Rattle.om_foot.specs.Cells.{cell_access, cells_from, cells_of}
+use Rattle.om_foot.specs.Cells.{Spot, cell_at, spot_of, cell_access, cells_from, cells_of}
 use Rattle.om_values.specs.Runs.{puts_of, were_listed}
-use Rattle.om_cells.specs.Slots.{Slots, Spot, cell_at, spot_of, value_in, slot_value, kept_over, KeepsCells, olds}
+use Rattle.om_cells.specs.Slots.{Slots, value_in, slot_value, kept_over, KeepsCells, olds}
 use Rattle.om_cells.specs.Stores.{lies_in}
 
 -- a single place before that in a slot

@@ -25,8 +25,8 @@ use Rattle.om_values.specs.declared.step.Update.TheVariants.{Put}
 use Rattle.om_values.specs.declared.value.Val.{Val}
 use Rattle.om_values.specs.State.{State, with_value, updated}
 use Rattle.om_values.specs.Values.{default_of}
-use Rattle.om_foot.specs.Cells.{cells_from, cells_of}
-use Rattle.om_cells.specs.Slots.{Slots, Spot, cell_at, spot_of, same_slot, values_in, value_among, value_in, slot_value}
+use Rattle.om_foot.specs.Cells.{Spot, cell_at, spot_of, cells_from, cells_of}
+use Rattle.om_cells.specs.Slots.{Slots, same_slot, values_in, value_among, value_in, slot_value}
 use Rattle.om_cells.specs.Slots.{value_with, kept_over, values_of, Replaces, PutsIn, unset, Grows, SlotsGrow, KeepsCells}
 use Rattle.om_cells.specs.Slots.{HasCells, Mirrors, Leads, ReplacesAll, olds, reset, ResetsIn}
 use Rattle.om_cells.proofs.StoreLemmas.{Kept, held}

@@ -5,7 +5,6 @@ use Rattle.std.specs.Map.{lookup}
 use Rattle.std.specs.BTreeMap.{is_at}
 use Rattle.om_code.specs.declared.frame.Cell.TheVariants as cell
 use Rattle.om_foot.specs.declared.object.Obj.{Obj}
-use Rattle.om_foot.specs.declared.object.Obj.TheVariants as obj
 use Rattle.om_foot.specs.Footprint.{obj_eq}
 use Rattle.om_foot.specs.contracts.cells.SlotNameOrd.TheImpl.{cmp-value}
 use Rattle.om_foot.specs.declared.cells.SlotName.{SlotName}
@@ -16,23 +15,11 @@ use Rattle.om_values.specs.declared.value.Val.{Val}
 use Rattle.om_values.specs.declared.value.Val.TheVariants as value
 use Rattle.om_values.specs.State.{State, with_value, updated}
 use Rattle.om_values.specs.Values.{default_of}
-use Rattle.om_foot.specs.Cells.{cells_from}
+use Rattle.om_foot.specs.Cells.{Spot, cell_at, spot_of, cells_from}
 
 -- the slots that are kept, with the values of the first cells of each
 abbrev pub Slots : Type 0
 Slots = List (SlotName × List Val)
-
--- a place in a slot
-abbrev pub Spot : Type 0
-Spot = SlotName × ℕ
-
-abbrev pub cell_at : SlotName → ℕ → Obj
-cell_at slot index = obj.Cell slot.task slot.frame slot.slot index
-
--- the slot and the index of a cell
-abbrev pub spot_of : Obj → Option Spot
-spot_of (obj.Cell t f s i) = Some (record { task = t; frame = f; slot = s }, i)
-spot_of _ = None
 
 abbrev pub same_slot : SlotName → SlotName → Bool
 same_slot a b = is_at (cmp-value.it a) b

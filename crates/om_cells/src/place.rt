@@ -53,10 +53,6 @@ impl Place {
     pub fn share(&self, alloc: Global, object: &Obj) -> Result<SharedObject, AllocError>
         ensures { IfOk result (λ shared. shared ≡ object.now) }
     {
-        if self.object.get() == object {
-            self.object.copy()
-        } else {
-            SharedObject::of(alloc, object)
-        }
+        self.object.share(alloc, object)
     }
 }

@@ -8,7 +8,7 @@ ghost use Rattle.om_cells.specs.Places.{value_at, PutsAt, StaysAt};
 
 use crate::place::Place;
 use om_foot::SlotName;
-use om_foot::part::Part;
+use om_foot::part::{Part, part_of};
 use om_values::Val;
 use std::alloc::{AllocError, Global};
 use std::collections::BTreeMap;
@@ -80,19 +80,8 @@ impl Places {
         ensures { result ≡ true → (i : ℕ) → i < count
             → value_at self.now (parts.Cell slot.now.frame slot.now.slot i) ≡ None }
     {
-        let first = part_at(slot, 0);
-        let end = part_at(slot, count);
+        let first = part_of(&slot.cell(0));
+        let end = part_of(&slot.cell(count));
         self.places.range(&first..&end).next().is_none()
-    }
-}
-
-/// The part of a cell.
-fn part_at(slot: &SlotName, index: u32) -> Part
-    ensures { result ≡ parts.Cell slot.now.frame slot.now.slot index }
-{
-    Part::Cell {
-        frame: slot.frame,
-        slot: slot.slot,
-        index,
     }
 }

@@ -8,12 +8,13 @@ ghost use Rattle.om_foot.specs.declared.cells.SlotName.{SlotName};
 ghost use Rattle.om_values.specs.declared.step.Update.TheVariants as update;
 ghost use Rattle.om_values.specs.declared.value.Val.{Val};
 ghost use Rattle.om_values.specs.declared.value.Val.TheVariants as value;
-ghost use Rattle.om_foot.specs.Cells.{cells_of};
+ghost use Rattle.om_foot.specs.Cells.{cell_at};
 ghost use Rattle.om_values.specs.Runs.{puts_of, was_puts, were_listed};
 ghost use Rattle.om_values.specs.State.{State, updated};
-ghost use Rattle.om_cells.specs.Slots.{cell_at, spot_of, value_among, values_in, value_in, slot_value, ResetsIn, values_of, ReplacesAll, PutsIn, Grows, SlotsGrow, HasCells, KeepsCells, Mirrors, Writes, WritesAll, olds};
+ghost use Rattle.om_cells.specs.Slots.{value_among, values_in, value_in, slot_value, ResetsIn, values_of, ReplacesAll, PutsIn, Grows, SlotsGrow, HasCells, KeepsCells, Mirrors, Writes, WritesAll, olds};
 
 use om_code::frame::Cell;
+use om_foot::cells::spot_of;
 use om_foot::{Cells, Obj, SharedCells, SharedObject, SlotName};
 use om_seq::Seq;
 use om_values::was::Noted;
@@ -59,46 +60,6 @@ impl Model for Slots {
     ghost view = { λ s. s.slots.entries };
 }
 
-/// The cell at an index of a slot.
-pub fn cell_at(slot: &SlotName, index: u32) -> Obj
-    ensures { result ≡ cell_at slot.now index }
-{
-    Obj::Cell {
-        task: slot.task,
-        frame: slot.frame,
-        slot: slot.slot,
-        index,
-    }
-}
-
-/// The slot and the index of a cell.
-fn spot_of(object: &Obj) -> Option<(SlotName, u32)>
-    ensures { result ≡ spot_of object.now }
-{
-    let Obj::Cell {
-        task,
-        frame,
-        slot,
-        index,
-    } = object
-    else {
-        return None;
-    };
-    let slot = SlotName {
-        task: *task,
-        frame: *frame,
-        slot: *slot,
-    };
-    Some((slot, *index))
-}
-
-/// The value at an index, if there is one.
-fn value_at(values: &[Val], index: u32) -> Option<&Val>
-    ensures { option_copied result ≡ slice_get values.now index }
-{
-    values.get(index as usize)
-}
-
 impl Slots {
     /// No slots. It takes no memory.
     pub fn new(alloc: Global) -> Slots
@@ -118,7 +79,7 @@ impl Slots {
         }
         let (slot, index) = spot_of(object)?;
         let place = self.slots.get(&slot)?;
-        value_at(place.values.as_slice(), index)
+        place.values.as_slice().get(index as usize)
     }
 
     /// Whether a cell is kept in its slot.
@@ -305,9 +266,7 @@ impl SlotPlace {
         ensures stays { self.new ≡ self.old }
     {
         if let Some(shared) = self.objects.get(&index) {
-            if shared.get() == object {
-                return shared.copy();
-            }
+            return shared.share(alloc, object);
         }
         let shared = SharedObject::of(alloc, object)?;
         drop(self.objects.insert(index, shared.copy()?)?);
@@ -321,19 +280,7 @@ impl SlotPlace {
         ensures enough { OnOk result (cells.now.count ≤ length self.new) }
     {
         grow(&mut self.values, cells.count)?;
-        share_cells(alloc, &self.cells, cells)
-    }
-}
-
-/// The cells, shared with the place of their slot where they are those of the place.
-fn share_cells(alloc: Global, known: &SharedCells, cells: &Cells) -> Result<SharedCells, AllocError>
-    ensures { IfOk result (λ shared. shared ≡ cells.now) }
-{
-    let own = known.cells();
-    if own.count == cells.count && own.slot == cells.slot {
-        known.copy()
-    } else {
-        SharedCells::of(alloc, cells)
+        self.cells.share(alloc, cells)
     }
 }
 

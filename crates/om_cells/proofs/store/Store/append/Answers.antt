@@ -8,4 +8,4 @@ pub returns-clause-unchanged_on_error : goal.returns-clause-unchanged_on_error
 returns-clause-unchanged_on_error c =
     put_back c.append-appended.result c.args.object.now _ _ _ (state_of c.args.self.now) _
     c.append-appended.ensures.unchanged_on_error c.put_present-value.ensures.before
-    (c.set.ensures.state ∙ ap (with_value c.args.object.now _) c.put_present-value.ensures.state)
+    (c.put_present.ensures.state ∙ ap (with_value c.args.object.now _) c.put_present-value.ensures.state)

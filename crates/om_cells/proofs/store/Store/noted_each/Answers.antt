@@ -11,6 +11,6 @@ loop-index-preserved c =
     let count = c.args.cells.now.count in
     let s = state_of c.args.self.now in
     ap (λ us. us ++ olds slot (i + 1) (count - (i + 1)) s) c.in_ok-note.ensures
-    ∙ olds_past c.loop-index.noted slot i count s c.in-Some.value.now c.loop-index-test.true
-    (sym (c.in-Some.ensures.value ∙ ap s c.cell_at.ensures))
+    ∙ olds_past c.loop-index.noted slot i count s c.kept.result.now c.loop-index-test.true
+    (sym (c.kept.ensures ∙ ap s c.cell.ensures))
     ∙ c.loop-index.invariant

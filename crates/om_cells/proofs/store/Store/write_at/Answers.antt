@@ -8,4 +8,4 @@ pub returns-then-index-cells-clause-written : goal.returns-then-index-cells-clau
 returns-then-index-cells-clause-written c =
     leads_one c.args.cells.now.slot c.args.index c.args.cells.now.count c.args.value (state_of c.args.self.now) _
     c.if-index-cells.true
-    (c.set.ensures.state ∙ ap (λ o. with_value o c.args.value (state_of c.args.self.now)) c.cell_at.ensures)
+    (c.put_present.ensures.state ∙ ap (λ o. with_value o c.args.value (state_of c.args.self.now)) c.cell.ensures)
