@@ -13,7 +13,7 @@ fn push_context(text: &mut Vec<u8>, context: &Context, line: u32) -> Result<(), 
     ensures { OnOk result (text.new.items ≡ text.old.items ++ context_text context.now line) }
 {
     push_named(text, b"task ", context.task.get())?;
-    push_named(text, b" team ", &context.team.get().name)?;
+    push_named(text, b" team ", context.team.get().name.get())?;
     push_numbered(text, b" number ", context.team.get().number)?;
     push_numbered(text, b" of ", context.team.get().size)?;
     push_numbered(text, b" line ", line)

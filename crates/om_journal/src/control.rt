@@ -32,7 +32,10 @@ impl Same for Frame {
 
 impl Same for Team {
     fn is_same(&self, other: &Team) -> bool {
-        self == other
+        self.name.is_same(&other.name)
+            && self.number == other.number
+            && self.size == other.size
+            && self.level == other.level
     }
 }
 

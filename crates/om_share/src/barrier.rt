@@ -29,9 +29,9 @@ fn name_arrivals(names: &mut Names, team: &Name, size: u8) -> Result<(), AllocEr
 pub(crate) fn name_barrier(names: &mut Names, team: &Team, phase: u64) -> Result<(), AllocError>
     ensures { OnOk result (names.new ≡ names.old ++ barrier team.now phase) }
 {
-    name_arrivals(names, &team.name, team.size)?;
+    name_arrivals(names, team.name.get(), team.size)?;
     let pending = Obj::Pending {
-        team: team.name,
+        team: *team.name.get(),
         phase,
     };
     name(names, pending, Mode::Read)
@@ -44,7 +44,7 @@ pub(crate) fn is_open(alloc: Global, store: &Store, team: &Team, phase: u64) -> 
 {
     for number in 0..team.size {
         let reached = &Obj::Arrived {
-            team: team.name,
+            team: *team.name.get(),
             number,
         };
         if store.number(alloc, reached) <= phase {
@@ -52,7 +52,7 @@ pub(crate) fn is_open(alloc: Global, store: &Store, team: &Team, phase: u64) -> 
         }
     }
     let pending = &Obj::Pending {
-        team: team.name,
+        team: *team.name.get(),
         phase,
     };
     is_zero(alloc, store, pending)

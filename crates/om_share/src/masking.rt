@@ -18,14 +18,15 @@ use om_values::{Construct, Edit};
 use std::alloc::{AllocError, Global};
 
 /// The record that a masked region begins or ends.
-fn masked_record(context: &Context, endpoint: Endpoint) -> Record
-    ensures { result ≡ Record.Masked endpoint context.now.team.name context.now.task }
+fn masked_record(context: &Context, endpoint: Endpoint) -> Result<Record, AllocError>
+    ensures { IfOk result
+        (λ entry. entry ≡ Record.Masked endpoint context.now.team.name context.now.task) }
 {
-    Record::Masked {
+    Ok(Record::Masked {
         endpoint,
-        team: context.team.get().name,
-        task: *context.task.get(),
-    }
+        team: context.team.get().name.copy()?,
+        task: context.task.copy()?,
+    })
 }
 
 /// The row of a thread that comes to a masked region, of the filter or not.
@@ -42,7 +43,7 @@ fn filter(
 {
     if runs {
         let edits = opened(alloc, branch.to, 1, &Construct::Masked)?;
-        let entry = masked_record(context, Endpoint::Begin);
+        let entry = masked_record(context, Endpoint::Begin)?;
         return recorded(alloc, worker, edits, entry);
     }
     let names = own_events(alloc, worker)?;
@@ -97,6 +98,6 @@ pub fn end_masked(alloc: Global, context: &Context, at: At) -> Result<Answer, Al
         return Ok(Answer::decided(alloc, Row::Lacks));
     }
     let edits = go_and(alloc, at.to, 0, Edit::Close)?;
-    let entry = masked_record(context, Endpoint::End);
+    let entry = masked_record(context, Endpoint::End)?;
     recorded(alloc, at.worker, edits, entry)
 }

@@ -17,7 +17,7 @@ use om_code::instruction::Barrier;
 use om_code::raw::Slot;
 use om_events::Record;
 use om_events::kind::{Endpoint, Sync, TaskFlag};
-use om_foot::{Mode, Name, Names, Obj};
+use om_foot::{Mode, Name, Names, Obj, Shared};
 use om_live::{Context, Stack, Store, Tape};
 use om_seq::Seq;
 use om_steps::names::{is_misplaced, name, name_events, own_cells};
@@ -39,13 +39,17 @@ fn sync_of(barrier: Barrier) -> Sync
 }
 
 /// The team that a barrier's end names; at the end of a parallel region it is no more.
-fn team_at_end(barrier: Barrier, team: &Name) -> Name
-    ensures { result ≡ team_at_end barrier team.now }
+fn team_at_end(
+    alloc: Global,
+    barrier: Barrier,
+    team: &Shared<Name>,
+) -> Result<Shared<Name>, AllocError>
+    ensures { IfOk result (λ name. name ≡ team_at_end barrier team.now) }
 {
     match barrier {
-        Barrier::Explicit => *team,
-        Barrier::Worksharing => *team,
-        Barrier::Parallel => Name::empty(),
+        Barrier::Explicit => team.copy(),
+        Barrier::Worksharing => team.copy(),
+        Barrier::Parallel => Shared::of(alloc, Name::empty()),
     }
 }
 
@@ -65,7 +69,7 @@ fn reached_names(alloc: Global, worker: u8, team: &Team) -> Result<Names, AllocE
         (λ names. names ≡ write (obj.Arrived team.now.name team.now.number) ∷ events worker ∷ []) }
 {
     let reached = Obj::Arrived {
-        team: team.name,
+        team: *team.name.get(),
         number: team.number,
     };
     let mut names = Names::new(alloc);
@@ -93,8 +97,8 @@ fn reached_turn(
     let begun = Record::SyncRegion {
         sync: sync_of(barrier),
         endpoint: Endpoint::Begin,
-        team: context.team.get().name,
-        task: *context.task.get(),
+        team: context.team.get().name.copy()?,
+        task: context.task.copy()?,
     };
     put_event(alloc, &mut updates, begun)?;
     Row::goes(alloc, to, 0, None, updates)
@@ -163,8 +167,8 @@ fn departed_updates(alloc: Global, barrier: Barrier, context: &Context) -> Resul
     let ended = Record::SyncRegion {
         sync: sync_of(barrier),
         endpoint: Endpoint::End,
-        team: team_at_end(barrier, &context.team.get().name),
-        task: *context.task.get(),
+        team: team_at_end(alloc, barrier, &context.team.get().name)?,
+        task: context.task.copy()?,
     };
     put_event(alloc, &mut updates, ended)?;
     Ok(updates)
@@ -234,8 +238,8 @@ fn put_region_end(
         return Ok(());
     };
     records.push(Record::ParallelEnd {
-        team: team.name,
-        task: *maker.task.get(),
+        team: team.name.copy()?,
+        task: maker.task.copy()?,
     })
 }
 
@@ -249,17 +253,18 @@ fn left_records(
         (λ records. records
         ≡ left_records (plain_context context.now) (map plain_held below.now.items)) }
 {
+    let no_team = Shared::of(alloc, Name::empty())?;
     let barrier_end = Record::SyncRegion {
         sync: Sync::BarrierParallel,
         endpoint: Endpoint::End,
-        team: Name::empty(),
-        task: *context.task.get(),
+        team: no_team.copy()?,
+        task: context.task.copy()?,
     };
     let mut records = Seq::one(alloc, barrier_end)?;
     records.push(Record::ImplicitTask {
         endpoint: Endpoint::End,
-        team: Name::empty(),
-        task: *context.task.get(),
+        team: no_team,
+        task: context.task.copy()?,
         size: 0,
         number: context.team.get().number,
         flag: TaskFlag::Implicit,

@@ -58,16 +58,23 @@ pub(crate) fn jump(alloc: Global, to: u32, takes: u32) -> Result<Row, AllocError
 }
 
 /// The record that a worksharing region begins or ends.
-pub(crate) fn work_record(context: &Context, work: Work, endpoint: Endpoint, count: u64) -> Record
-    ensures { result ≡ Record.Work work endpoint context.now.team.name context.now.task count }
+pub(crate) fn work_record(
+    context: &Context,
+    work: Work,
+    endpoint: Endpoint,
+    count: u64,
+) -> Result<Record, AllocError>
+    ensures { IfOk result
+        (λ entry. entry
+        ≡ Record.Work work endpoint context.now.team.name context.now.task count) }
 {
-    Record::Work {
+    Ok(Record::Work {
         work,
         endpoint,
-        team: context.team.get().name,
-        task: *context.task.get(),
+        team: context.team.get().name.copy()?,
+        task: context.task.copy()?,
         count,
-    }
+    })
 }
 
 /// The loop or the sections that a region is, if it is either.

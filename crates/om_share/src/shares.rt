@@ -102,7 +102,7 @@ fn open_share(
         work_of(share.sharing),
         Endpoint::Begin,
         share.count,
-    );
+    )?;
     recorded(alloc, at.worker, edits, entry)
 }
 
@@ -257,7 +257,7 @@ fn work_of_team(context: &Context, share: Share) -> Obj
     ensures { result ≡ obj.Work context.now.team.name share.region }
 {
     Obj::Work {
-        team: context.team.get().name,
+        team: *context.team.get().name.get(),
         region: share.region,
     }
 }

@@ -37,7 +37,7 @@ fn run(alloc: Global, context: &Context, to: u32) -> Result<Row, AllocError>
 {
     let region = &Construct::Single { runs: true };
     let edits = begun(alloc, to, 0, region)?;
-    let entry = work_record(context, single_work(true), Endpoint::Begin, 1);
+    let entry = work_record(context, single_work(true), Endpoint::Begin, 1)?;
     let updates = update_with_event(alloc, Update::Put(Val::Number(1)), entry)?;
     Ok(Row::Goes { edits, updates })
 }
@@ -49,7 +49,7 @@ fn pass(alloc: Global, context: &Context, otherwise: u32) -> Result<Row, AllocEr
 {
     let region = &Construct::Single { runs: false };
     let edits = begun(alloc, otherwise, 0, region)?;
-    let entry = work_record(context, single_work(false), Endpoint::Begin, 1);
+    let entry = work_record(context, single_work(false), Endpoint::Begin, 1)?;
     let updates = update_with_event(alloc, Update::Keep, entry)?;
     Ok(Row::Goes { edits, updates })
 }
@@ -88,7 +88,7 @@ pub fn single(
         return Ok(Answer::decided(alloc, Row::Faults(Fault::Nesting)));
     }
     let work = &Obj::Work {
-        team: context.team.get().name,
+        team: *context.team.get().name.get(),
         region: context.regions,
     };
     let is_first = store.number(alloc, work) == 0;
@@ -110,7 +110,7 @@ fn close(
         (closed_row at.worker at.to (plain_context context.now) work count) s) }
 {
     let edits = go_and(alloc, at.to, 0, Edit::Close)?;
-    let entry = work_record(context, work, Endpoint::End, count);
+    let entry = work_record(context, work, Endpoint::End, count)?;
     recorded(alloc, at.worker, edits, entry)
 }
 

@@ -22,7 +22,7 @@ pub fn in_no_group(alloc: Global, task: &Name, team: &Team) -> Result<Standing, 
 {
     Ok(Standing {
         task: Shared::of(alloc, *task)?,
-        team: Shared::of(alloc, *team)?,
+        team: Shared::of(alloc, team.copy()?)?,
         group: Shared::of(alloc, None)?,
     })
 }

@@ -34,7 +34,7 @@ pub(crate) fn name_counts(
         (names.new ≡ names.old ++ counts parent.now (plain_context context.now) group.now) }
 {
     let pending = Obj::Pending {
-        team: context.team.get().name,
+        team: *context.team.get().name.get(),
         phase: context.phase,
     };
     name(names, Obj::Kids(*parent), Mode::Add)?;

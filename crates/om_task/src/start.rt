@@ -63,7 +63,7 @@ fn first_context(alloc: Global, frame: Frame) -> Result<Context, AllocError>
         (record { name = []; number = 0; size = 1; level = 0 }) None frame) }
 {
     let team = &Team {
-        name: Name::empty(),
+        name: Shared::of(alloc, Name::empty())?,
         number: 0,
         size: 1,
         level: 0,
@@ -95,8 +95,8 @@ fn initial_records(alloc: Global) -> Result<Val, AllocError>
     let mut records = Seq::one(alloc, Record::ThreadBegin { thread })?;
     records.push(Record::ImplicitTask {
         endpoint: Endpoint::Begin,
-        team: Name::empty(),
-        task: first_task(),
+        team: Shared::of(alloc, Name::empty())?,
+        task: Shared::of(alloc, first_task())?,
         size: 1,
         number: 1,
         flag: TaskFlag::Initial,

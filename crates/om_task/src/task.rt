@@ -77,7 +77,7 @@ fn ready_of(
 {
     let homes = homes_in(alloc, context, body.slots.as_slice())?;
     let homes = Shared::of(alloc, homes)?;
-    let team = Shared::of(alloc, context.team.get().name)?;
+    let team = context.team.get().name.copy()?;
     let group = Shared::of(alloc, task_group(context))?;
     Ok(Ready {
         body: making.launch.body,
@@ -103,8 +103,8 @@ fn give_values(
     put_ints(updates, values)?;
     add_to_counts(updates, 1, &task_group(context))?;
     let entry = Record::TaskCreate {
-        task: *context.task.get(),
-        new: *new,
+        task: context.task.copy()?,
+        new: Shared::of(alloc, *new)?,
     };
     put_event(alloc, updates, entry)
 }
@@ -199,7 +199,7 @@ fn ended_updates(
     alloc: Global,
     context: &Context,
     own: &Names,
-    next: &Name,
+    next: &Shared<Name>,
 ) -> Result<Puts, AllocError>
     ensures { IfOk result
         (λ updates. updates ≡ ended_updates (plain_context context.now) own.now next.now) }
@@ -208,9 +208,9 @@ fn ended_updates(
     put_deaths(&mut updates, own)?;
     add_to_counts(&mut updates, -1, context.group.get())?;
     let entry = Record::TaskSchedule {
-        prior: *context.task.get(),
+        prior: context.task.copy()?,
         status: TaskStatus::Complete,
-        next: *next,
+        next: next.copy()?,
     };
     put_event(alloc, &mut updates, entry)?;
     Ok(updates)
@@ -238,7 +238,7 @@ fn ended(alloc: Global, context: &Context, own: &Names, next: &Context) -> Resul
         (λ row. row ≡ Row.Goes (Edit.EndContext ∷ [])
         (ended_updates (plain_context context.now) own.now next.now.task)) }
 {
-    let updates = ended_updates(alloc, context, own, next.task.get())?;
+    let updates = ended_updates(alloc, context, own, &next.task)?;
     let edits = Seq::one(alloc, Edit::EndContext)?;
     Ok(Row::Goes { edits, updates })
 }

@@ -34,7 +34,7 @@ pub struct Starting {
 /// Where the task of a name stands that is started on another context.
 fn task_standing(
     alloc: Global,
-    name: &Name,
+    name: &Shared<Name>,
     on: &Context,
     ready: &Ready,
 ) -> Result<Standing, AllocError>
@@ -46,7 +46,7 @@ fn task_standing(
         }) }
 {
     Ok(Standing {
-        task: Shared::of(alloc, *name)?,
+        task: name.copy()?,
         team: on.team.copy()?,
         group: ready.group.copy()?,
     })
@@ -55,7 +55,7 @@ fn task_standing(
 /// The context of a task that is started on another context.
 fn task_context(
     alloc: Global,
-    name: &Name,
+    name: &Shared<Name>,
     on: &Context,
     ready: &Ready,
 ) -> Result<PlainContext, AllocError>
@@ -72,16 +72,16 @@ fn task_context(
 fn begun_updates(
     alloc: Global,
     worker: u8,
-    prior: &Name,
+    prior: &Shared<Name>,
     status: TaskStatus,
-    next: &Name,
+    next: &Shared<Name>,
 ) -> Result<Puts, AllocError>
     ensures { IfOk result (λ updates. updates ≡ begun_updates worker prior.now status next.now) }
 {
     let entry = Record::TaskSchedule {
-        prior: *prior,
+        prior: prior.copy()?,
         status,
-        next: *next,
+        next: next.copy()?,
     };
     update_with_event(alloc, Update::Put(Val::Task(Task::Running(worker))), entry)
 }
@@ -89,7 +89,7 @@ fn begun_updates(
 /// The edit by which a task begins on a context.
 fn beginning(
     alloc: Global,
-    name: &Name,
+    name: &Shared<Name>,
     on: &Context,
     ready: &Ready,
 ) -> Result<Seq<Edit>, AllocError>
@@ -138,12 +138,13 @@ pub fn start(
         return Ok(Answer::decided(alloc, Row::Blocked(Blocked::Task)));
     }
     let names = name_with_events(alloc, &Obj::Task(*name), Mode::Write, starting.worker)?;
-    let Some(ready) = ready_for(store, name, &on.team.get().name) else {
+    let Some(ready) = ready_for(store, name, on.team.get().name.get()) else {
         let row = Row::Blocked(Blocked::Task);
         return Ok(Answer { names, row });
     };
-    let updates = begun_updates(alloc, starting.worker, on.task.get(), status, name)?;
-    let edits = beginning(alloc, name, on, ready)?;
+    let task = &Shared::of(alloc, *name)?;
+    let updates = begun_updates(alloc, starting.worker, &on.task, status, task)?;
+    let edits = beginning(alloc, task, on, ready)?;
     let row = Row::Goes { edits, updates };
     Ok(Answer { names, row })
 }

@@ -24,15 +24,15 @@ use om_values::{Blocked, Construct, Edit, Update};
 use std::alloc::{AllocError, Global};
 
 /// What a context's task records where it begins and ends to wait.
-fn sync_event(sync: Sync, endpoint: Endpoint, context: &Context) -> Record
-    ensures { result ≡ sync_event sync endpoint (plain_context context.now) }
+fn sync_event(sync: Sync, endpoint: Endpoint, context: &Context) -> Result<Record, AllocError>
+    ensures { IfOk result (λ entry. entry ≡ sync_event sync endpoint (plain_context context.now)) }
 {
-    Record::SyncRegion {
+    Ok(Record::SyncRegion {
         sync,
         endpoint,
-        team: context.team.get().name,
-        task: *context.task.get(),
-    }
+        team: context.team.get().name.copy()?,
+        task: context.task.copy()?,
+    })
 }
 
 /// TWB: a task begins to wait for its children, and goes on to a place.
@@ -49,7 +49,7 @@ pub fn wait_begin(
         (wait_begin_row worker to (plain_context context.now)) s) }
 {
     let edits = go_on(alloc, to)?;
-    let entry = sync_event(Sync::TaskWait, Endpoint::Begin, context);
+    let entry = sync_event(Sync::TaskWait, Endpoint::Begin, context)?;
     recorded(alloc, worker, edits, entry)
 }
 
@@ -60,7 +60,7 @@ fn waited(alloc: Global, to: u32, context: &Context, is_over: bool) -> Result<Ro
     if !is_over {
         return Ok(Row::Blocked(Blocked::Children));
     }
-    let entry = sync_event(Sync::TaskWait, Endpoint::End, context);
+    let entry = sync_event(Sync::TaskWait, Endpoint::End, context)?;
     let updates = update_with_event(alloc, Update::Keep, entry)?;
     Row::goes(alloc, to, 0, None, updates)
 }
@@ -113,7 +113,7 @@ pub fn group_begin(
         return Ok(Answer::decided(alloc, Row::Faults(Fault::Name)));
     };
     let edits = opening(alloc, to, group)?;
-    let entry = sync_event(Sync::TaskGroup, Endpoint::Begin, context);
+    let entry = sync_event(Sync::TaskGroup, Endpoint::Begin, context)?;
     recorded(alloc, worker, edits, entry)
 }
 
@@ -124,7 +124,7 @@ fn closed(alloc: Global, to: u32, context: &Context, is_over: bool) -> Result<Ro
     if !is_over {
         return Ok(Row::Blocked(Blocked::Group));
     }
-    let entry = sync_event(Sync::TaskGroup, Endpoint::End, context);
+    let entry = sync_event(Sync::TaskGroup, Endpoint::End, context)?;
     let updates = update_with_event(alloc, Update::Keep, entry)?;
     let edits = go_and(alloc, to, 0, Edit::Close)?;
     Ok(Row::Goes { edits, updates })

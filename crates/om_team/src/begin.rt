@@ -24,8 +24,8 @@ pub fn begin(alloc: Global, at: At, context: &Context) -> Result<Answer, AllocEr
     let edits = go_on(alloc, at.to)?;
     let begun = Record::ImplicitTask {
         endpoint: Endpoint::Begin,
-        team: context.team.get().name,
-        task: *context.task.get(),
+        team: context.team.get().name.copy()?,
+        task: context.task.copy()?,
         size: context.team.get().size,
         number: context.team.get().number,
         flag: TaskFlag::Implicit,

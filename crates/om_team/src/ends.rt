@@ -8,7 +8,7 @@ ghost use Rattle.om_team.specs.Rows.{value_of, finished, finish_row};
 
 use om_code::serial::int_at;
 use om_events::{Endpoint, Record, TaskFlag};
-use om_foot::{Mode, Name, Obj};
+use om_foot::{Mode, Name, Obj, Shared};
 use om_live::{Context, Store};
 use om_seq::Seq;
 use om_steps::counts::is_zero;
@@ -27,8 +27,8 @@ fn finished(alloc: Global, context: &Context, value: i32, is_over: bool) -> Resu
     }
     let entry = Record::ImplicitTask {
         endpoint: Endpoint::End,
-        team: Name::empty(),
-        task: *context.task.get(),
+        team: Shared::of(alloc, Name::empty())?,
+        task: context.task.copy()?,
         size: 0,
         number: 1,
         flag: TaskFlag::Initial,
@@ -67,7 +67,7 @@ pub fn finish(
         return Ok(Answer::decided(alloc, Row::Lacks));
     };
     let pending = &Obj::Pending {
-        team: context.team.get().name,
+        team: *context.team.get().name.get(),
         phase: context.phase,
     };
     let names = name_with_events(alloc, pending, Mode::Read, worker)?;

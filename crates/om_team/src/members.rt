@@ -74,7 +74,7 @@ pub(crate) fn member(alloc: Global, team: &Team, frame: &Frame) -> Result<Contex
     ensures { IfOk result (λ context. context ≡ member team.now frame.now) }
 {
     let frame = frame.copy(alloc)?;
-    let standing = in_no_group(alloc, &member_name(&team.name, team.number), team)?;
+    let standing = in_no_group(alloc, &member_name(team.name.get(), team.number), team)?;
     new_context(alloc, Kind::Implicit, 0, standing, frame)
 }
 
@@ -118,7 +118,7 @@ pub(crate) fn put_members(
 {
     for number in 1..team.size {
         let place = &Team {
-            name: team.name,
+            name: team.name.copy()?,
             number,
             size: team.size,
             level: team.level,

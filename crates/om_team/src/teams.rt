@@ -64,19 +64,25 @@ fn level_of(size: u8, level: u8) -> u8
 
 /// The team that the context's task makes, with the place of its first member.
 #[tactic(auto, using(crate::proofs::Counting::has_child))]
-fn team_of(workers: u8, context: &Context, asked: Option<u32>) -> Team
+fn team_of(
+    alloc: Global,
+    workers: u8,
+    context: &Context,
+    asked: Option<u32>,
+) -> Result<Team, AllocError>
     requires births { context.now.births + 1 < 2 ^ 64 }
     requires few { length context.now.task ≤ 62 }
-    ensures { result ≡ team_of workers (plain_context context.now) asked }
+    ensures { IfOk result
+        (λ team. team ≡ team_of workers (plain_context context.now) asked) }
 {
     let size = size_of(workers, context.team.get().level, asked);
     match context.task.get().child(context.births + 1) {
-        Some(name) => Team {
-            name,
+        Some(name) => Ok(Team {
+            name: Shared::of(alloc, name)?,
             number: 0,
             size,
             level: level_of(size, context.team.get().level),
-        },
+        }),
         None => unreachable!(),
     }
 }
@@ -91,7 +97,7 @@ fn team_names(alloc: Global, worker: u8, team: &Team, given: &[u32]) -> Result<N
 {
     let mut names = Names::new(alloc);
     name_workers(&mut names, team.size)?;
-    name_members(&mut names, &team.name, given, team.size)?;
+    name_members(&mut names, team.name.get(), given, team.size)?;
     name_events(&mut names, worker)?;
     Ok(names)
 }
@@ -100,7 +106,7 @@ fn team_names(alloc: Global, worker: u8, team: &Team, given: &[u32]) -> Result<N
 #[tactic(auto, using(crate::proofs::Counting::regrouped_updates))]
 fn team_updates(
     alloc: Global,
-    task: &Name,
+    task: &Shared<Name>,
     team: &Team,
     frame: &Frame,
     values: &[i32],
@@ -113,8 +119,8 @@ fn team_updates(
     put_members(alloc, &mut updates, team, frame)?;
     put_given(&mut updates, values, team.size)?;
     let begun = Record::ParallelBegin {
-        task: *task,
-        team: team.name,
+        task: task.copy()?,
+        team: team.name.copy()?,
         size: team.size,
     };
     put_event(alloc, &mut updates, begun)?;
@@ -152,7 +158,7 @@ fn made(
         values.now None) }
 {
     let edits = fork_edits(alloc, forking.launch, team, frame)?;
-    let updates = team_updates(alloc, forking.context.task.get(), team, frame, values)?;
+    let updates = team_updates(alloc, &forking.context.task, team, frame, values)?;
     Ok(Row::Goes { edits, updates })
 }
 
@@ -219,7 +225,7 @@ fn named(
     if forking.context.task.get().as_slice().len() > 62 {
         return Ok(Answer::decided(alloc, Row::Faults(Fault::Name)));
     }
-    let team = &team_of(forking.workers, forking.context, asked);
+    let team = &team_of(alloc, forking.workers, forking.context, asked)?;
     team_answer(alloc, store, forking, team, values)
 }
 

@@ -20,15 +20,15 @@ use Rattle.om_undo.specs.Lists.{seq_send, seq_sync, pile_send, pile_sync}
 use Rattle.om_undo.specs.Names.{name_send, name_sync}
 use Rattle.om_undo.specs.Shared.{shared_send, shared_sync, stack_send, stack_sync}
 
-event_send : IsSend event.the_row
-event_send = search (name_send, seq_send, sendable) depth 60 fits 20000
-
 -- ---- what contexts and tasks share
 pub names_send : IsSend (shared.the_row name.the_row)
 names_send = shared_send _ name_send name_sync
 
 names_sync : IsSync (shared.the_row name.the_row)
 names_sync = shared_sync _ name_send name_sync
+
+event_send : IsSend event.the_row
+event_send = search (names_send, seq_send, sendable) depth 60 fits 20000
 
 home_send : IsSend home.the_row
 home_send = search (names_send, sendable) depth 40
@@ -43,10 +43,10 @@ homes_sync : IsSync (shared.the_row (seq.the_row home.the_row))
 homes_sync = shared_sync _ (seq_send _ home_send) (seq_sync _ home_sync)
 
 team_send : IsSend team.the_row
-team_send = search (name_send, sendable) depth 40
+team_send = search (names_send, sendable) depth 40
 
 team_sync : IsSync team.the_row
-team_sync = search (name_sync, sendable) depth 40
+team_sync = search (names_sync, sendable) depth 40
 
 pub teams_send : IsSend (shared.the_row team.the_row)
 teams_send = shared_send _ team_send team_sync
