@@ -169,8 +169,8 @@ fn planned(
     planned_by(alloc, program, history, planning)
 }
 
-/// What `taken` of a plan for a worker's label would answer now: the reply of the definition of a run.
-/// Nothing changes.
+/// What `taken` of a plan for a worker's label would answer now: the reply that the definition of a run
+/// gives (`reply_to_step`). Nothing changes.
 fn replied(history: &History, worker: u8, plan: &Plan) -> StepReply
     requires { (r : Rules) × IsHeld r history.now }
     ensures { (label : Label) → label.worker ≡ worker
@@ -183,8 +183,8 @@ fn replied(history: &History, worker: u8, plan: &Plan) -> StepReply
     }
 }
 
-/// Takes the step of a plan for a worker's label, or says why it can't be taken: the reply of the
-/// definition of a run. When out of memory, nothing changes.
+/// Takes the step of a plan for a worker's label, or says why it can't be taken: the reply that the
+/// definition of a run gives (`reply_to_step`). When out of memory, nothing changes.
 fn taken(
     history: &mut History,
     alloc: Global,
@@ -224,7 +224,8 @@ impl Machine {
         })
     }
 
-    /// Takes a worker's step, or says why it can't be taken: the reply of the definition of a run.
+    /// Takes a worker's step, or says why it can't be taken: the reply that the definition of a run
+    /// gives (`reply_to_step`).
     ///
     /// Only `Done` changes anything: an entry is added, whose serial is one above the number of
     /// steps ever made. When out of memory, nothing changes.
@@ -317,7 +318,7 @@ impl Machine {
     }
 
     /// Takes a worker's last step out of the history, wherever it stands, unless a later step
-    /// conflicts with it: the reply of the definition of a run.
+    /// conflicts with it: the reply that the definition of a run gives (`reply_to_undo`).
     ///
     /// Only `Undone` changes anything, and the number of steps ever made stays even then, so no
     /// serial is given again. It takes no memory.
@@ -342,7 +343,8 @@ impl Machine {
         self.history.cone(alloc, serial)
     }
 
-    /// Takes the members of a cone out, which `cone` answered. It takes no memory.
+    /// Takes out the members of the cone that `cone` answered at this very history. The number of steps
+    /// ever made stays. It takes no memory.
     pub fn take_out(&mut self, taken: &[Taken])
         requires { (serial : ℕ)
             × (taken.now ≡ taken_by_roll (rules_for self.old) self.old.history serial) }
@@ -355,8 +357,8 @@ impl Machine {
         self.history.take_out(taken)
     }
 
-    /// Takes the entry with a serial and the rest of its cone out of the history: the reply of the
-    /// definition of a run.
+    /// Takes the entry with a serial and the rest of its cone out of the history: the reply that the
+    /// definition of a run gives (`reply_to_roll`).
     ///
     /// Only `Rolled` changes anything, and the number of steps ever made stays even then. Where no
     /// entry has that serial the answer is `NoEntry`. When out of memory, nothing changes.
