@@ -27,7 +27,7 @@ pub record IsSettled (verdict : Result Raw SourceFault) (workers : ℕ) (runs : 
       workers runs given taken
 
 -- A run that came to its end: it wrote the script of the bytes that it took and nothing else, and left its book;
--- and the input has ended, or nothing that could follow changes the script. No bytes are pending before a run.
+-- and the input has ended, or nothing that could follow changes the script
 pub record RunsToEnd (before after : Moment) (workers : ℕ) (given : Option (List ℕ)) (status : ℕ)
     (book : Option BookView) : Type 0 where
   pub taken : List ℕ

@@ -26,21 +26,22 @@ pub record IsTreeOfSource (source : List ℕ) (tree : UnitTree) : Type 0 where
   pub within_limits : IsWithinLimits tree
   pub forms : AtomicsHaveForms tree
 
--- and the tree has a resolution, as it breaks no rule on names
+-- the source has such a tree, which breaks no rule of om_rules, and this is its resolution
 pub record IsResolutionOfSource (source : List ℕ) (resolved : ResolvedTree) : Type 0 where
   pub tree : UnitTree
   pub has_tree : IsTreeOfSource source tree
   pub no_breach : breaches_of tree ≡ []
   pub resolves : resolution_of tree ≡ Some resolved
 
--- and the program is the code of the resolution, which is within the limits of code
+-- this is the code of the source's resolution, of which no body passes a limit
 pub record IsProgramOf (source : List ℕ) (program : Raw) : Type 0 where
   pub resolved : ResolvedTree
   pub has_resolution : IsResolutionOfSource source resolved
   pub within : AreWithin resolved
   pub code : IsCodeOf resolved program
 
--- no tree has these tokens, a limit is passed at this place, or a directive is refused there
+-- no tree has these tokens (at which of them S3 stands, only `refusal_of` says), a limit is passed at this place, or a
+-- directive is refused there
 abbrev pub IsSyntaxFault : List Token → SourceFault → Type 0
 IsSyntaxFault tokens fault = ((fault.code ≡ Syntax) × ((tree : UnitTree) → ¬ IsTreeOf tokens tree))
     ⊎ ((fault.code ≡ TooDeep) × IsLimitPassed tokens fault.at)

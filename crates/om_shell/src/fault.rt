@@ -16,7 +16,8 @@ pub enum ShellFault {
     /// A write or a flush failed, or a write took no byte.
     #[error("H4")]
     Write,
-    /// There was no memory, wherever it was asked for.
+    /// There was no memory, wherever it was asked for, no thread for a free run, or a receipt of one
+    /// did not stand.
     #[error("H5")]
     Memory,
 }

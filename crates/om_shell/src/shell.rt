@@ -84,7 +84,9 @@ fn run_by<H: Threads + Wait + Sync, R: Read, W: Write>(
 /// to its end is refused. A free run starts threads by `rt`, and joins them before its reply. Faults:
 /// - `Read` (H3): a read failed, or 2^32 reads were made.
 /// - `Write` (H4): a write or a flush failed.
-/// - `Memory` (H5): there was no memory, in whatever part.
+/// - `Memory` (H5): there was no memory, no thread for a free run, or a receipt of one did not stand.
+///
+/// No clause says when which fault comes. Where it is `Read`, every whole line before it was answered.
 pub fn run<H: Threads + Wait + Sync, R: Read, W: Write>(
     rt: &H,
     alloc: Global,
