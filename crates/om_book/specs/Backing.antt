@@ -52,7 +52,8 @@ Keeps (t ∷ ts) (a ∷ later) kept =
     (IsBacked t a × ((rest : List Answer) × (kept ≡ a ∷ rest) × Keeps ts later rest))
     ⊎ ((¬ IsBacked t a) × Keeps ts later kept)
 
--- these are kept of answers that came, whose numbers are a beginning of those that were due
+-- these are kept of *some* answers, whose numbers are a beginning of those that were due; it binds nothing to answers
+-- that really came
 abbrev pub AreKept : List ℕ → List Turn → List Answer → Type 0
 AreKept due ts kept = (came : List Answer) × Begins [] (map answer_number came) due × Keeps ts came kept
 

@@ -32,7 +32,7 @@ keeps_nothing (t ∷ ts) = refl
 -- where none came, none is kept
 pub none_kept : (due : List ℕ) (ts : List Turn) (kept : List Answer) → kept ≡ [] → AreKept due ts kept
 none_kept due ts kept e = subst (λ l. AreKept due ts l) (sym e)
-    ([], (due, record { text = []; added = refl; left = refl }), keeps_nothing ts)
+    ([], (due, record { front = []; added = refl; left = refl }), keeps_nothing ts)
 
 pub none_backed : (ts : List Turn) (kept : List Answer) → kept ≡ [] → All (IsOfOne ts) kept
 none_backed ts kept e = subst (λ l. All (IsOfOne ts) l) (sym e) (All-nil (IsOfOne ts))

@@ -30,11 +30,11 @@ abbrev pub in_rounds : {V : Type 0} → (V → List Order) → List V → List �
 in_rounds items vs = rounds items 0 (longest items vs) vs
 
 -- what was added is a beginning of what was due, and this is left
-pub record Part (old new due rest : List ℕ) : Type 0 where
-  pub text : List ℕ
-  pub added : new ≡ old ++ text
-  pub left : due ≡ text ++ rest
+pub record IsBeginning (old new due rest : List ℕ) : Type 0 where
+  pub front : List ℕ
+  pub added : new ≡ old ++ front
+  pub left : due ≡ front ++ rest
 
 -- what was added is a beginning of what was due
 abbrev pub Begins : List ℕ → List ℕ → List ℕ → Type 0
-Begins old new due = (rest : List ℕ) × Part old new due rest
+Begins old new due = (rest : List ℕ) × IsBeginning old new due rest

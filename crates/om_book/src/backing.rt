@@ -74,7 +74,7 @@ fn is_backed(receipts: &[Receipt], mark: &mut usize, order: &Order, answer: &Ans
 struct Walk {
     answers: Vec<Answer>,
     at: usize,
-    /// Whether an answer was left out.
+    /// `false` only where no answer was left out.
     strange: bool,
 }
 
@@ -91,7 +91,7 @@ pub struct Rows<'a, L: Sitting> {
 pub struct KeptAnswers {
     /// The answers that are kept, in their order.
     pub answers: Vec<Answer>,
-    /// Whether one was left out.
+    /// `false` only where none was left out.
     pub strange: bool,
 }
 

@@ -142,7 +142,7 @@ impl Book {
         ensures room { OnOk result (records_of self.now < 200000) }
         ensures full { IfErr result (λ e. (e ≡ CallError.Full) × (200000 ≤ records_of self.now)) }
     {
-        if self.records() >= MAX_RECORDS {
+        if self.is_full() {
             return Err(CallError::Full);
         }
         Ok(())
@@ -236,7 +236,7 @@ impl Book {
     }
 
     /// As `apply`, and answers its reply twice.
-    pub fn apply_with_copy(
+    pub(crate) fn apply_with_copy(
         &mut self,
         alloc: Global,
         seat: u8,

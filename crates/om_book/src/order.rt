@@ -30,7 +30,7 @@ pub struct Answer {
 pub enum Fault {
     /// V1: an answer of a strange number, or one for which its seat has no receipt.
     Strange,
-    /// V2: a channel was closed.
+    /// V2: a channel was closed, as where an order names a worker that there is not.
     Closed,
     /// V3: there was no memory, or no thread.
     Memory,

@@ -20,7 +20,7 @@ const _: () = prove!(size_of::<Receipt>() <= 100);
 
 impl Receipt {
     /// Whether it says that this command was answered this reply, with its record at this place.
-    pub fn is_of(&self, place: u64, command: &Command, reply: &Reply) -> bool
+    pub(crate) fn is_of(&self, place: u64, command: &Command, reply: &Reply) -> bool
         ensures { IsTrue result
             ↔ (self.now ≡ record { place = place; command = command.now; reply = reply.now }) }
     {

@@ -258,12 +258,13 @@ impl<L: Sitting> Session<L> {
         self.workers
     }
 
-    /// Calls through a seat. It waits for the lock.
+    /// Calls through a seat, once the lock is free.
     ///
-    /// A book answers to which the opened one has grown, by at least as many records as the seat has
-    /// receipts. The reply is the one that its machine gives, and the seat gets a receipt whose
-    /// place is the number of its records. On an error the seat is unchanged: the journal was full,
-    /// or it was out of memory.
+    /// The reply is the one that a book gives. That book is the opened one with more records, at
+    /// least as many as the seat has receipts. The seat gets a receipt, whose place is the number of
+    /// the book's records before this call. On an error (`Full` or out of memory, and no clause says
+    /// which) the seat is unchanged. That the book then has no record of the call either is known at
+    /// the close (`total`, `counted`).
     pub fn call<R: Wait>(
         &self,
         rt: &R,
@@ -285,7 +286,8 @@ impl<L: Sitting> Session<L> {
     ///
     /// The journal has grown by one record for each receipt. Where all receipts stand, each seat's
     /// receipts are its records since the opening, in their order, and there are no others. It
-    /// takes no memory.
+    /// takes no memory. Where fewer seats are given it is refused, and the session and these seats
+    /// come back as they were. The caller shows that no two seats have one number.
     pub fn close(self, mut seats: Vec<Seat<L>>) -> Result<Closed<L>, Unclosed<L>>
         requires { AllDiffer seats.items }
         ensures all { IsOk result ↔ (vec_len seats ≡ L.parts) }

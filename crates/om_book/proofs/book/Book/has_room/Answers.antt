@@ -1,5 +1,5 @@
 -- With an answer here, the prover refuses a mistake in this function without a search for further ones.
 use Rattle.om_book.proofs.book.Book.has_room.Goals as goal
 
-pub records-requires : goal.records-requires
-records-requires c = tt
+pub is_full-requires : goal.is_full-requires
+is_full-requires c = tt
