@@ -4,7 +4,7 @@ use Rattle.std.specs.Prelude.{Result, Ok, Err, OnErr}
 use Rattle.std.proofs.Common.{sym, ◌∙◌, ap, arith, add-one, drop, get_or, drop-cons, append_assoc, append-nil}
 use Rattle.std.proofs.lemmas.List.{take-append-drop, take_all, map-append}
 use Rattle.om_book.specs.declared.order.Answer.{Answer}
-use Rattle.om_book.specs.Rounds.{answer_number, listed, round_at, Part, Begins}
+use Rattle.om_book.specs.Rounds.{answer_number, listed, round_at, IsBeginning, Begins}
 use Rattle.om_book.specs.declared.order.Order.{Order}
 
 pub round_next : {V : Type 0} (items : V → List Order) (k : ℕ) (vs : List V) (i : ℕ) (v : V) → i < length vs → v
@@ -14,34 +14,34 @@ round_next items k vs i v within is =
     let e : drop i vs ≡ v ∷ drop (i + 1) vs = drop-cons vs i v within ∙ (λ j. sym is j ∷ drop (sym (add-one i) j) vs) in
     ap (λ ws. round_at items k ws) e
 
-abbrev pub part_none : (old due : List ℕ) → Part old old due due
-part_none old due = record { text = []; added = sym (append-nil old); left = refl }
+abbrev pub part_none : (old due : List ℕ) → IsBeginning old old due due
+part_none old due = record { front = []; added = sym (append-nil old); left = refl }
 
-abbrev pub part_more : (old new more due ns rest : List ℕ) → Part old new due (ns ++ rest) → more ≡ new ++ ns
-    → Part old more due rest
+abbrev pub part_more : (old new more due ns rest : List ℕ) → IsBeginning old new due (ns ++ rest) → more ≡ new ++ ns
+    → IsBeginning old more due rest
 part_more old new more due ns rest p e =
     record {
-      text = p.text ++ ns;
-      added = e ∙ ap (λ xs. xs ++ ns) p.added ∙ append_assoc old p.text ns;
+      front = p.front ++ ns;
+      added = e ∙ ap (λ xs. xs ++ ns) p.added ∙ append_assoc old p.front ns;
       left =
-          p.left ∙ sym (append_assoc p.text ns rest);
+          p.left ∙ sym (append_assoc p.front ns rest);
     }
 
 -- a beginning of what was left is one of all
-pub part_begins : (old new more due ns rest : List ℕ) → Part old new due (ns ++ rest) → Begins new more ns
+pub part_begins : (old new more due ns rest : List ℕ) → IsBeginning old new due (ns ++ rest) → Begins new more ns
     → Begins old more due
 part_begins old new more due ns rest p b = (
   b.0 ++ rest,
   record {
-    text = p.text ++ b.1.text;
-    added = b.1.added ∙ ap (λ xs. xs ++ b.1.text) p.added ∙ append_assoc old p.text b.1.text;
-    left = p.left ∙ ap (λ xs. p.text ++ (xs ++ rest)) b.1.left ∙ ap (λ xs. p.text ++ xs)
-        (append_assoc b.1.text b.0 rest) ∙ sym (append_assoc p.text b.1.text (b.0 ++ rest));
+    front = p.front ++ b.1.front;
+    added = b.1.added ∙ ap (λ xs. xs ++ b.1.front) p.added ∙ append_assoc old p.front b.1.front;
+    left = p.left ∙ ap (λ xs. p.front ++ (xs ++ rest)) b.1.left ∙ ap (λ xs. p.front ++ xs)
+        (append_assoc b.1.front b.0 rest) ∙ sym (append_assoc p.front b.1.front (b.0 ++ rest));
   },
 )
 
-pub begins_same : (old new more due rest : List ℕ) → Part old new due rest → more ≡ new → Begins old more due
-begins_same old new more due rest p e = (rest, record { text = p.text; added = e ∙ p.added; left = p.left })
+pub begins_same : (old new more due rest : List ℕ) → IsBeginning old new due rest → more ≡ new → Begins old more due
+begins_same old new more due rest p e = (rest, record { front = p.front; added = e ∙ p.added; left = p.left })
 
 pub on_err : {A B : Type 0} (r : Result A B) (P : Type 0) → P → OnErr r P
 on_err (Ok a) P p = tt
@@ -51,10 +51,10 @@ pub begins_none : (old due : List ℕ) → Begins old old due
 begins_none old due = (due, part_none old due)
 
 pub begins_all : (old new due : List ℕ) → new ≡ old ++ due → Begins old new due
-begins_all old new due e = ([], record { text = due; added = e; left = sym (append-nil due) })
+begins_all old new due e = ([], record { front = due; added = e; left = sym (append-nil due) })
 
 pub begins_same_yet : (old new due : List ℕ) → new ≡ old → Begins old new due
-begins_same_yet old new due e = (due, record { text = []; added = e ∙ sym (append-nil old); left = refl })
+begins_same_yet old new due e = (due, record { front = []; added = e ∙ sym (append-nil old); left = refl })
 
 -- what is left of the answers is a beginning too
 pub begins_taken : (old new : List Answer) (due : List ℕ) (n : ℕ) → new ≡ take n old
@@ -66,7 +66,7 @@ begins_taken old new due n e b =
     (drop n old) ∙ ap (λ xs. map answer_number xs ++ rest) (sym e) in (
       rest ++ b.0,
       record {
-        text = map answer_number new;
+        front = map answer_number new;
         added = refl;
         left = b.1.left ∙ ap (λ xs. xs ++ b.0) (sym b.1.added ∙ parted) ∙ append_assoc (map answer_number new) rest b.0;
       },
@@ -89,7 +89,7 @@ pub gathered_some : (old new taken : List Answer) (numbers : List ℕ) (n : ℕ)
 gathered_some old new taken numbers n e is = (
   drop n numbers,
   record {
-    text = take n numbers;
+    front = take n numbers;
     added = gathered old new taken numbers n e is;
     left = sym (take-append-drop n numbers);
   },

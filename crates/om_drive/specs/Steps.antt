@@ -1,14 +1,11 @@
 -- The steps that calls made.
 use Rattle.std.specs.Prelude.{ℕ, suc, Bool, true, false, cond, List, [], ◌∷◌}
-use Rattle.om_values.specs.declared.step.Blocked.TheVariants as blocked
-use Rattle.om_history.specs.declared.reply.StepReply.TheVariants as step_reply
 use Rattle.om_journal.specs.Runs.{is_step_made}
 use Rattle.om_book.specs.Seats.{SeatView}
 use Rattle.om_journal.specs.declared.command.Command.{Command}
 use Rattle.om_journal.specs.declared.command.Command.TheVariants as command
 use Rattle.om_book.specs.declared.receipt.Receipt.{Receipt}
 use Rattle.om_journal.specs.declared.reply.Reply.{Reply}
-use Rattle.om_journal.specs.declared.reply.Reply.TheVariants as reply
 
 -- the call asked for a step, and it was made
 abbrev pub makes_step : Command → Reply → Bool
@@ -23,10 +20,3 @@ steps_in (r ∷ rs) = cond (makes_step r.command r.reply) (suc (steps_in rs)) (s
 -- how many steps a seat made
 abbrev pub steps_of : SeatView → ℕ
 steps_of s = steps_in s.receipts
-
--- the step waits at a barrier or for tasks, so another task may be begun there
-abbrev pub waits_for_tasks : Reply → Bool
-waits_for_tasks (reply.Step (step_reply.Blocked blocked.Barrier)) = true
-waits_for_tasks (reply.Step (step_reply.Blocked blocked.Children)) = true
-waits_for_tasks (reply.Step (step_reply.Blocked blocked.Group)) = true
-waits_for_tasks _ = false

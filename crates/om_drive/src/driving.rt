@@ -27,7 +27,8 @@ pub struct DrivenOver<D: Debuggee + Drop> {
 /// There is a gate and a list of orders for each debuggee. In a round each debuggee gets the next
 /// order of its list, and then one answer comes from each.
 /// Without a fault each order has one answer, in this order; with one, those before the fault. The
-/// debuggees always come back in their places.
+/// debuggees always come back in their places, of which alone `back` speaks. That a debuggee keeps the
+/// calls that it had is promised by each of its calls, and not here.
 pub fn drive_over<G: Gate + Drop + Send, D: Debuggee + Drop + Send, R: Threads + Wait + Sync>(
     rt: &R,
     debuggees: Vec<D>,
@@ -307,7 +308,8 @@ impl<G: Drop> Ring<G> {
     }
 }
 
-/// Asks all orders, and answers what broke off, if something did.
+/// Asks all orders, and answers what broke off, if something did. There are as many ends of each kind
+/// as lists of orders. They differ only where there was no memory for an end.
 #[tactic(auto, using(crate::proofs::Rounding::begins_none, crate::proofs::Rounding::begins_all))]
 fn asked<R: Wait>(
     rt: &R,

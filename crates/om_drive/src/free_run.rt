@@ -1,6 +1,6 @@
 //! Free runs over a book: all workers step at once, each in a thread and through a seat of its own.
 
-ghost use Rattle.std.specs.Prelude.{◌≡◌, ◌≤◌, IfOk, IfErr, None, true, drop, length, vec_len};
+ghost use Rattle.std.specs.Prelude.{◌≡◌, ◌≤◌, IfOk, IfErr, true, drop, length, vec_len};
 ghost use Rattle.om_book.specs.Seats.{seats_below};
 ghost use Rattle.om_journal.specs.Journals.{IsLegal, done_in};
 ghost use Rattle.om_drive.specs.FreeRuns.{GoesOn, gained};
@@ -38,8 +38,9 @@ pub struct Count {
 /// closes it. Their calls are added to the journal: of each its own steps, and its questions which
 /// tasks are ready.
 ///
-/// The only error is out of memory, or no thread; the calls that were made are in the journal then
-/// too. It is also the error of a session in which a receipt does not stand.
+/// Without an error each call that was added is a worker's own. `AllocError` stands for three things:
+/// no memory, no thread, or a receipt that does not stand. Then the book still has only legal records
+/// more (`goes_on`), but of whom they are is not said.
 pub fn run_freely<R: Threads + Wait + Sync>(
     book: &mut Book,
     errand: Errand<'_, R>,
@@ -152,38 +153,31 @@ fn run_through<L: Sitting + Send + Sync, R: Threads + Wait + Sync>(
                 standing,
                 ..
             },
-        ) => counted(book, before, full, fault_where(standing == calls, fault)),
+        ) => counted(book, before, full, is_whole(standing == calls, fault)),
         Err(_) => unreachable!(),
     }
 }
 
-/// What broke off a run. It is a fault too that a receipt does not stand.
-fn fault_where(all_stand: bool, fault: Option<Fault>) -> Option<Fault>
-    ensures { result ≡ None → all_stand ≡ true }
+/// Whether nothing broke off a run: neither a fault, nor a receipt that does not stand. The clause
+/// speaks of the receipts alone.
+fn is_whole(all_stand: bool, fault: Option<Fault>) -> bool
+    ensures { result ≡ true → all_stand ≡ true }
 {
-    if all_stand {
-        fault
-    } else {
-        Some(Fault::Strange)
-    }
+    all_stand && fault.is_none()
 }
 
-/// A book behind a free run that found it with so many calls, and what the run came to.
-fn counted(
-    book: Book,
-    before: usize,
-    full: bool,
-    fault: Option<Fault>,
-) -> (Book, Result<Count, AllocError>)
+/// A book behind a free run that found it with so many calls, and what the run came to. It is out of
+/// memory where the run is not whole.
+fn counted(book: Book, before: usize, full: bool, whole: bool) -> (Book, Result<Count, AllocError>)
     requires { before ≤ length book.journal }
     ensures book { result.0 ≡ book }
     ensures legal { IsLegal book.start book.journal }
     ensures done { IfOk result.1 (λ count. count.done ≡ done_in (drop before book.journal)) }
-    ensures no_fault { IfOk result.1 (λ count. fault ≡ None) }
+    ensures whole { IfOk result.1 (λ count. whole ≡ true) }
 {
     // Each reply in it is that of its command.
     let _answered = book.journal();
-    if fault.is_some() {
+    if !whole {
         return (book, Err(AllocError));
     }
     let done = book.steps_behind(before);

@@ -8,7 +8,7 @@ use om_book::{Answer, Fault, Order, most_rounds, order_at};
 use std::alloc::{AllocError, Global};
 use std::sync::Wait;
 
-/// The answers of a round.
+/// The answers that came, of a round or of a drive.
 #[derive(Drop)]
 pub struct Gathered {
     pub answers: Vec<Answer>,

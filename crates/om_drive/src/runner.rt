@@ -3,7 +3,7 @@
 ghost use Rattle.std.specs.Prelude.{◌≡◌, ◌<◌, ◌≤◌, ◌+◌, cond, IfOk, OnErr};
 ghost use Rattle.om_journal.specs.Runs.{IsInRange};
 ghost use Rattle.om_drive.specs.OwnCalls.{others_in};
-ghost use Rattle.om_drive.specs.Steps.{makes_step, steps_in, waits_for_tasks};
+ghost use Rattle.om_drive.specs.Steps.{makes_step, steps_in};
 
 use crate::worker::{Debuggee, Gate, says_yes};
 use om_book::{CallError, Command, Query, Reply};
@@ -23,7 +23,7 @@ pub(crate) struct Runner<G: Gate + Drop, D: Debuggee + Drop> {
 
 /// What came of a step that was asked for.
 #[derive(Clone, Copy)]
-struct Came {
+struct Tried {
     /// Whether it was made.
     made: bool,
     /// Whether it waits at a barrier or for tasks, so that another task may be begun there.
@@ -97,11 +97,11 @@ impl<G: Gate + Drop, D: Debuggee + Drop> Runner<G, D> {
         ensures own { others_in self.old.worker (D.made self.new.debuggee)
             ≡ others_in self.old.worker (D.made self.old.debuggee) }
     {
-        let came = self.step(rt, Choice::Next)?;
-        if came.waits && !came.made {
+        let tried = self.step(rt, Choice::Next)?;
+        if tried.waits && !tried.made {
             return self.start_first(rt);
         }
-        Ok(came.made)
+        Ok(tried.made)
     }
 
     /// Starts the first task that is ready, if there is one. Whether it was begun.
@@ -119,8 +119,8 @@ impl<G: Gate + Drop, D: Debuggee + Drop> Runner<G, D> {
         let Some(task) = self.first_ready(rt)? else {
             return Ok(false);
         };
-        let came = self.step(rt, Choice::Start(task))?;
-        Ok(came.made)
+        let tried = self.step(rt, Choice::Start(task))?;
+        Ok(tried.made)
     }
 
     /// The first task that is ready.
@@ -138,12 +138,12 @@ impl<G: Gate + Drop, D: Debuggee + Drop> Runner<G, D> {
     }
 
     /// Steps by a choice.
-    fn step<R: Wait>(&mut self, rt: &R, choice: Choice) -> Result<Came, CallError>
+    fn step<R: Wait>(&mut self, rt: &R, choice: Choice) -> Result<Tried, CallError>
         requires { self.old.worker < (D.place self.old.debuggee).workers }
         ensures place { D.place self.new.debuggee ≡ D.place self.old.debuggee }
         ensures worker { self.new.worker ≡ self.old.worker }
-        ensures steps { IfOk result (λ came. steps_in (D.made self.new.debuggee)
-            ≡ steps_in (D.made self.old.debuggee) + cond came.made 1 0) }
+        ensures steps { IfOk result (λ tried. steps_in (D.made self.new.debuggee)
+            ≡ steps_in (D.made self.old.debuggee) + cond tried.made 1 0) }
         ensures none_on_error { OnErr result
             (steps_in (D.made self.new.debuggee) ≡ steps_in (D.made self.old.debuggee)) }
         ensures own { others_in self.old.worker (D.made self.new.debuggee)
@@ -151,12 +151,12 @@ impl<G: Gate + Drop, D: Debuggee + Drop> Runner<G, D> {
     {
         let worker = self.worker;
         let reply = self.debuggee.call(rt, Command::Step { worker, choice })?;
-        let came = Came {
+        let tried = Tried {
             made: reply.is_step_made(),
             waits: waits_for_tasks(&reply),
         };
         drop(reply);
-        Ok(came)
+        Ok(tried)
     }
 }
 
@@ -169,9 +169,7 @@ fn first_name(reply: &Reply) -> Option<Name> {
 }
 
 /// Whether a step waits at a barrier or for tasks, so that another task may be begun there.
-fn waits_for_tasks(reply: &Reply) -> bool
-    ensures { result ≡ waits_for_tasks reply.now }
-{
+fn waits_for_tasks(reply: &Reply) -> bool {
     matches!(
         reply,
         Reply::Step(StepReply::Blocked(Blocked::Barrier | Blocked::Children | Blocked::Group))

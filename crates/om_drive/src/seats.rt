@@ -7,6 +7,7 @@ ghost use Rattle.om_book.specs.Rounds.{answer_number, in_rounds};
 ghost use Rattle.om_book.specs.Backing.{AreKept, in_turns, IsOfOne, Keeps};
 
 use crate::driving::{DrivenOver, drive_over};
+use crate::rounds::Gathered;
 use crate::sitter::{sit_down, stand_up};
 use crate::worker::Gate;
 use om_book::{Answer, Fault, KeptAnswers, Order, Rows, Seat, Session, Sitting, keep_backed};
@@ -31,7 +32,9 @@ pub struct Driven<L: Sitting> {
 /// Without a fault each order has one answer, round by round. A fault breaks off the answers that
 /// come. Each answer with a reply has its receipt: its seat was told the order of its number, and
 /// has the receipt of the order's command with that reply, at the answer's place. An answer without
-/// its receipt is left out, and that one alone (V1).
+/// its receipt is left out (V1). That no other one is left out is promised by `keep_backed`, and not
+/// here, where the answers that came are not seen. `back` speaks of numbers alone: that a seat keeps
+/// the receipts that it had is promised by each of its calls, and not here.
 #[tactic(auto, using(om_book::specs::KeptAnswers::none_kept, om_book::specs::KeptAnswers::none_backed))]
 pub fn drive<L: Sitting + Send + Sync, G: Gate + Drop + Send, R: Threads + Wait + Sync>(
     session: &Session<L>,
@@ -65,7 +68,7 @@ pub fn drive<L: Sitting + Send + Sync, G: Gate + Drop + Send, R: Threads + Wait 
         fault,
     } = drive_over(rt, sitters, gates, orders);
     stand_up(&mut sitters, &mut seats);
-    compared(seats, orders, marks, Came { answers, fault })
+    compared(seats, orders, marks, Gathered { answers, fault })
 }
 
 /// Seats that were told no order, since there was no memory.
@@ -93,13 +96,6 @@ fn zeros(alloc: Global, count: usize) -> Result<Vec<usize>, AllocError>
     Ok(zeros)
 }
 
-/// The answers that came, and what broke them off, if something did.
-#[derive(Drop)]
-struct Came {
-    answers: Vec<Answer>,
-    fault: Option<Fault>,
-}
-
 /// Compares the answers with the receipts. An answer without its receipt is left out, which is a
 /// fault.
 #[tactic(auto, using(om_book::specs::KeptAnswers::kept_backed))]
@@ -107,7 +103,7 @@ fn compared<L: Sitting>(
     seats: Vec<Seat<L>>,
     orders: &[Vec<Order>],
     mut marks: Vec<usize>,
-    came: Came,
+    came: Gathered,
 ) -> Driven<L>
     requires lists { length orders.now ≡ vec_len seats }
     requires marks { vec_len marks ≡ vec_len seats }
@@ -119,7 +115,7 @@ fn compared<L: Sitting>(
     ensures none { result.fault ≡ None → came.fault ≡ None }
     ensures all { result.fault ≡ None → result.answers.items ≡ came.answers.items }
 {
-    let Came { answers, fault } = came;
+    let Gathered { answers, fault } = came;
     let rows = Rows {
         seats: seats.as_slice(),
         orders,

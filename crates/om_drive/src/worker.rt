@@ -89,7 +89,7 @@ impl<G: Gate + Drop, D: Debuggee + Drop> Worker<G, D> {
     }
 
     /// Answers orders until no more can come, and gives the debuggee back. An order whose worker
-    /// is out of range ends it.
+    /// is out of range ends it, and whoever waits for the answer meets a closed channel (V2).
     pub fn work<R: Wait>(mut self, rt: &R, orders: &Receiver<Order>, answers: &Sender<Answer>) -> D
         ensures { D.place result ≡ D.place self.debuggee }
     {

@@ -1,4 +1,4 @@
-use Rattle.std.proofs.Common.{◌≡◌, None, arith, length}
+use Rattle.std.proofs.Common.{◌≡◌, true, arith, length}
 use Rattle.std.proofs.lemmas.Bool.Decides.{nat_tests}
 use Rattle.std.proofs.lemmas.Result.{IfOk-weaker}
 use Rattle.om_book.specs.Books.{IsGrown}
@@ -23,12 +23,12 @@ returns-clause-own g c =
     let book = closed.field-0.book in
     let seats = c.in-Ok.opened.1.items in
     let ss = c.free-seats.result.seats.items in
-    let own : c.fault_where.result ≡ None → AreOwnCalls (gained old book) = λ none.
-    let all_stand = c.fault_where.ensures none in
+    let own : c.is_whole.result ≡ true → AreOwnCalls (gained old book) = λ whole.
+    let all_stand = c.is_whole.ensures whole in
     let stand : closed.field-0.standing ≡ closed.field-0.calls = grind (arith, nat_tests) in
     let covers : Covers book.journal (length old.journal) ss = rw c.requires.opened (closed.ensures.covers stand) in
     own_covered g.L.Ledger.parts (length old.journal) book.journal seats ss c.in-Ok.ensures.seats
     c.free-seats.ensures.back c.free-seats.ensures.own covers
     in
-    rw c.counted.ensures.book (IfOk-weaker c.counted.result.1 (λ count. c.fault_where.result ≡ None)
-    (λ count. AreOwnCalls (gained old book)) (λ count none. own none) c.counted.ensures.no_fault)
+    rw c.counted.ensures.book (IfOk-weaker c.counted.result.1 (λ count. c.is_whole.result ≡ true)
+    (λ count. AreOwnCalls (gained old book)) (λ count whole. own whole) c.counted.ensures.whole)

@@ -1,5 +1,5 @@
 use Rattle.std.proofs.Common.{rules, refl, ◌≡◌, ℕ, ◌+◌, ◌-◌, ◌++◌, List, map, subst}
-use Rattle.om_book.specs.Rounds.{answer_number, in_rounds, rounds, round_at, Part, Begins}
+use Rattle.om_book.specs.Rounds.{answer_number, in_rounds, rounds, round_at, IsBeginning, Begins}
 use Rattle.om_book.specs.KeptAnswers.{rounds_next}
 use Rattle.om_drive.proofs.Rounding.{part_more, part_begins, begins_same, on_err}
 use Rattle.om_drive.proofs.rounds.ask_all.Goals as goal
@@ -13,7 +13,7 @@ returns-in_err-take_round-clause-err g c =
     let old = map answer_number c.args.answers.now.items in
     let new = map answer_number c.loop-round.answers.items in
     let due = in_rounds (λ o. o.items) c.args.orders.now in
-    let P : List ℕ → Type 0 = λ left. Part old new due left in
+    let P : List ℕ → Type 0 = λ left. IsBeginning old new due left in
     let here = round_at (λ o. o.items) c.loop-round.round c.args.orders.now in
     let rest = rounds (λ o. o.items) (c.loop-round.round + 1) (c.most_rounds-most.result - (c.loop-round.round + 1))
     c.args.orders.now in
@@ -28,7 +28,7 @@ loop-round-preserved g c =
     let old = map answer_number c.args.answers.now.items in
     let new = map answer_number c.loop-round.answers.items in
     let due = in_rounds (λ o. o.items) c.args.orders.now in
-    let P : List ℕ → Type 0 = λ left. Part old new due left in
+    let P : List ℕ → Type 0 = λ left. IsBeginning old new due left in
     let here = round_at (λ o. o.items) c.loop-round.round c.args.orders.now in
     let rest = rounds (λ o. o.items) (c.loop-round.round + 1) (c.most_rounds-most.result - (c.loop-round.round + 1))
     c.args.orders.now in
