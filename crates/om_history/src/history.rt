@@ -195,7 +195,7 @@ impl History {
     }
 
     /// Takes the step of a worker by a choice that is to be kept: what `take` does, whose label holds the
-    /// choice in place.
+    /// choice in place. When out of memory, nothing changes that contracts see.
     pub fn take_by(
         &mut self,
         alloc: Global,

@@ -439,7 +439,8 @@ impl Records {
         self.own.last(worker)
     }
 
-    /// The line of the entry with a serial, where no later entry conflicts with it.
+    /// The line of the entry with a serial, where no later entry conflicts with it. Where it answers `None`
+    /// nothing is said; the whole reply decides (`reply_to`).
     pub(crate) fn free_line(&self, serial: u64) -> Option<u32>
         requires { HasSerial serial self.now }
         ensures { IfSome result (λ line. (i : ℕ) (k : UndoRecord)

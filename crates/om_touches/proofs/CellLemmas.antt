@@ -21,7 +21,7 @@ use Rattle.om_touches.specs.declared.singles.SingleTouches.{SingleTouches}
 use Rattle.om_touches.specs.Controls.{with_objects}
 use Rattle.om_foot.specs.Serials.{has}
 use Rattle.om_touches.specs.Slots.{slot_eq, has_span, spans_of, SlotsWith, SameSlots, SlotsWithout}
-use Rattle.om_touches.specs.Touches.{mode_eq, names, meets, meets_at, Touching, has_object_touch, has_single_touch, has_slot_write, has_slot_touch, IsSet, IsLess}
+use Rattle.om_touches.specs.Touches.{mode_eq, names, meets, meets_at, Touching, has_object_touch, has_single_touch, has_slot_write, has_slot_touch, IsSet, LosesOfEntry}
 use Rattle.om_foot.specs.Firsts.{IsFirst}
 use Rattle.om_touches.specs.Searches.{either_true}
 use Rattle.om_touches.proofs.SlotLemmas.{slot_eq-true, slot_eq-same}
@@ -151,7 +151,7 @@ is_of name _ = false
 pub slot_less : (footprint : List Access) (name : SlotName) (serial : ℕ) (old new : SlotTouches)
     → SlotsWithout name serial old new
     → ((o : Obj) → names o Write footprint ≡ true → (is_of name o ≡ true) ⊎ (None ≡ spot_of o))
-    → IsLess footprint serial (has_slot_touch old) (has_slot_touch new)
+    → LosesOfEntry footprint serial (has_slot_touch old) (has_slot_touch new)
 slot_less footprint name serial old new h within = record { others = others; fewer = fewer; gone = gone }
   where
     others : (o : Obj) (m : Mode) (s : ℕ) → nat_eq serial s ≡ false
@@ -192,7 +192,7 @@ first_true false b h = cc
 
 -- those of cells
 pub cells_less : (c : Cells) (serial : ℕ) (old new : SlotTouches) → SlotsWithout c.slot serial old new
-    → IsLess (cells_of c) serial (has_slot_touch old) (has_slot_touch new)
+    → LosesOfEntry (cells_of c) serial (has_slot_touch old) (has_slot_touch new)
 cells_less c serial old new h = slot_less (cells_of c) c.slot serial old new h within
   where
     within : (o : Obj) → names o Write (cells_of c) ≡ true → (is_of c.slot o ≡ true) ⊎ (None ≡ spot_of o)
@@ -208,7 +208,7 @@ named_one false d h = cc
 -- those of the slot of one cell
 pub cell_less : (it : Obj) (p : SlotName × ℕ) (mode : Mode) (serial : ℕ) (old new : SlotTouches)
     → Some p ≡ spot_of it → SlotsWithout p.0 serial old new
-    → IsLess (record { object = it; mode = mode } ∷ []) serial (has_slot_touch old) (has_slot_touch new)
+    → LosesOfEntry (record { object = it; mode = mode } ∷ []) serial (has_slot_touch old) (has_slot_touch new)
 cell_less it p mode serial old new is h =
     slot_less (record { object = it; mode = mode } ∷ []) p.0 serial old new h within
   where
@@ -228,7 +228,7 @@ cell_less it p mode serial old new is h =
 -- where an object is no cell, or no slot has a write, nothing is to go
 pub none_less : (it : Obj) (mode : Mode) (serial : ℕ) (slots : SlotTouches)
     → ((s : ℕ) → has_slot_write slots it s ≡ false)
-    → IsLess (record { object = it; mode = mode } ∷ []) serial (has_slot_touch slots) (has_slot_touch slots)
+    → LosesOfEntry (record { object = it; mode = mode } ∷ []) serial (has_slot_touch slots) (has_slot_touch slots)
 none_less it mode serial slots none = record { others = λ o m s e. refl; fewer = λ o m s e. e; gone = gone }
   where
     gone : (o : Obj) (m : Mode) → names o m (record { object = it; mode = mode } ∷ []) ≡ true
@@ -380,7 +380,7 @@ write_meets touch s h =
     or_true false = refl
 
 pub untouched_less : (touch : Touching) (c : Cells) (serial : ℕ) → meets touch (cells_of c) serial ≡ false
-    → IsLess (cells_of c) serial touch touch
+    → LosesOfEntry (cells_of c) serial touch touch
 untouched_less touch c serial none = record { others = λ o m s e. refl; fewer = λ o m s e. e; gone = gone }
   where
     at : (q : SlotName) (i : ℕ) → slot_eq c.slot q && nat_lt i c.count ≡ true → (b : Bool)
@@ -411,7 +411,7 @@ untouched_less touch c serial none = record { others = λ o m s e. refl; fewer =
 
 pub forgotten_less : (footprint : List Access) (serial : ℕ) (old new : Touching)
     → ((o : Obj) (m : Mode) (s : ℕ) → new o m s ≡ cond (nat_eq serial s) false (old o m s))
-    → IsLess footprint serial old new
+    → LosesOfEntry footprint serial old new
 forgotten_less footprint serial old new h = record {
   others = λ o m s e. h o m s ∙ ap (λ b. cond b false (old o m s)) e;
   fewer = λ o m s e. was_there (nat_eq serial s) (old o m s) (sym (h o m s) ∙ e);
@@ -425,8 +425,8 @@ no_control_named c w Read = names_read c.slot 0 c.count (object.Control w)
 no_control_named c w Add = names_add c.slot 0 c.count (object.Control w)
 
 pub singles_less : (c : Cells) (serial : ℕ) (singles : SingleTouches) (new : ObjectTouches)
-    → IsLess (cells_of c) serial (has_object_touch singles.objects) (has_object_touch new)
-    → IsLess (cells_of c) serial (has_single_touch singles) (has_single_touch (with_objects singles new))
+    → LosesOfEntry (cells_of c) serial (has_object_touch singles.objects) (has_object_touch new)
+    → LosesOfEntry (cells_of c) serial (has_single_touch singles) (has_single_touch (with_objects singles new))
 singles_less c serial singles new h = record { others = others; fewer = fewer; gone = gone }
   where
     others : (o : Obj) (m : Mode) (s : ℕ) → nat_eq serial s ≡ false

@@ -10,7 +10,7 @@ use Rattle.om_foot.specs.declared.footprint.Access.{Access}
 use Rattle.om_foot.specs.declared.cells.Cells.{Cells}
 use Rattle.om_foot.specs.Cells.{cells_of, cells_listed}
 use Rattle.om_touches.specs.declared.touches.TouchLists.{TouchLists}
-use Rattle.om_touches.specs.Touches.{names, has_touch, Touching, IsSet, IsLess, AreOnly, AreWithout, meets, meets_at}
+use Rattle.om_touches.specs.Touches.{names, has_touch, Touching, IsSet, LosesOfEntry, AreOnly, AreWithout, meets, meets_at}
 use Rattle.om_foot.specs.Firsts.{sooner, IsFirst}
 use Rattle.om_touches.specs.Lists.{names-append, set-append}
 use Rattle.om_touches.specs.Searches.{either_true, meets-append, meets-either, meets_at-either, sooner-first, IsFirst-same}
@@ -75,8 +75,8 @@ both_none : (x y : Bool) → (y ≡ true → x ≡ true) → x ≡ false → y �
 both_none x true f h = let is : x ≡ true = f refl in cc
 both_none x false f h = refl
 
-pub less-append : (xs ys : List Access) (serial : ℕ) (old mid new : Touching) → IsLess xs serial old mid
-    → IsLess ys serial mid new → IsLess (xs ++ ys) serial old new
+pub less-append : (xs ys : List Access) (serial : ℕ) (old mid new : Touching) → LosesOfEntry xs serial old mid
+    → LosesOfEntry ys serial mid new → LosesOfEntry (xs ++ ys) serial old new
 less-append xs ys serial old mid new h g = record {
   others = λ o m s e. g.others o m s e ∙ h.others o m s e;
   fewer = λ o m s e. h.fewer o m s (g.fewer o m s e);
@@ -90,7 +90,7 @@ less-append xs ys serial old mid new h g = record {
     gone : (o : Obj) (m : Mode) → names o m (xs ++ ys) ≡ true → new o m serial ≡ false
     gone o m e = at o m (either_true (names o m xs) (names o m ys) (sym (names-append o m xs ys) ∙ e))
 
-pub less_none : (serial : ℕ) (old : Touching) → IsLess [] serial old old
+pub less_none : (serial : ℕ) (old : Touching) → LosesOfEntry [] serial old old
 less_none serial old = record { others = λ o m s e. refl; fewer = λ o m s e. e; gone = λ o m e. never e }
   where
     never : {A : Type 0} → false ≡ true → A
@@ -98,19 +98,19 @@ less_none serial old = record { others = λ o m s e. refl; fewer = λ o m s e. e
 
 pub less_next : (footprint : List Access) (i : ℕ) (a : Access) (serial : ℕ) (old mid new : Touching)
     → i < length footprint → a ≡ get_or footprint i a
-    → IsLess (take i footprint) serial old mid → IsLess (a ∷ []) serial mid new
-    → IsLess (take (i + 1) footprint) serial old new
+    → LosesOfEntry (take i footprint) serial old mid → LosesOfEntry (a ∷ []) serial mid new
+    → LosesOfEntry (take (i + 1) footprint) serial old new
 less_next footprint i a serial old mid new within is first second =
-    subst (λ xs. IsLess xs serial old new)
+    subst (λ xs. LosesOfEntry xs serial old new)
     (ap (λ x. take i footprint ++ x ∷ []) is ∙ sym (take_more footprint i a within))
     (less-append (take i footprint) (a ∷ []) serial old mid new first second)
 
 pub less_cells_next : (all : List Cells) (i : ℕ) (c : Cells) (serial : ℕ) (old mid new : Touching)
     → i < length all → c ≡ get_or all i c
-    → IsLess (cells_listed (take i all)) serial old mid → IsLess (cells_of c) serial mid new
-    → IsLess (cells_listed (take (i + 1) all)) serial old new
+    → LosesOfEntry (cells_listed (take i all)) serial old mid → LosesOfEntry (cells_of c) serial mid new
+    → LosesOfEntry (cells_listed (take (i + 1) all)) serial old new
 less_cells_next all i c serial old mid new within is first second =
-    subst (λ xs. IsLess xs serial old new) (sym (listed_next all i c within is))
+    subst (λ xs. LosesOfEntry xs serial old new) (sym (listed_next all i c within is))
     (less-append (cells_listed (take i all)) (cells_of c) serial old mid new first second)
 
 -- touches of two kinds, of which one changes, or both
@@ -149,8 +149,8 @@ gone_two : (a b : Bool) → a ≡ false → b ≡ false → cond a true b ≡ fa
 gone_two a b h g = ap (λ x. cond x true b) h ∙ g
 
 pub less_either : (footprint : List Access) (serial : ℕ) (old new old_others new_others : Touching)
-    → IsLess footprint serial old new → IsLess footprint serial old_others new_others
-    → IsLess footprint serial (either old old_others) (either new new_others)
+    → LosesOfEntry footprint serial old new → LosesOfEntry footprint serial old_others new_others
+    → LosesOfEntry footprint serial (either old old_others) (either new new_others)
 less_either footprint serial old new old_others new_others h g = record {
   others = λ o m s e i. cond (h.others o m s e i) true (g.others o m s e i);
   fewer = λ o m s e. fewer_two (old o m s) (old_others o m s) (new o m s) (new_others o m s)
@@ -160,7 +160,7 @@ less_either footprint serial old new old_others new_others h g = record {
 
 -- the touches of a footprint are taken out
 pub set_less : (footprint : List Access) (serial : ℕ) (old new : Touching) → IsSet false footprint serial old new
-    → IsLess footprint serial old new
+    → LosesOfEntry footprint serial old new
 set_less footprint serial old new h = record {
   others = λ o m s e. h o m s ∙ ap (λ b. cond (b && names o m footprint) false (old o m s)) e;
   fewer = λ o m s e. was (nat_eq serial s && names o m footprint) (old o m s) (sym (h o m s) ∙ e);
@@ -174,7 +174,7 @@ set_less footprint serial old new h = record {
 
 -- where no touch is left that has to stay, those of the footprint are out
 pub less_out : (footprint : List Access) (serial : ℕ) (old new : TouchLists) → AreOnly footprint serial old
-    → IsLess footprint serial (has_touch old) (has_touch new) → AreWithout footprint serial old new
+    → LosesOfEntry footprint serial (has_touch old) (has_touch new) → AreWithout footprint serial old new
 less_out footprint serial old new only h o m s = go (nat_eq serial s) (names o m footprint) refl refl
   where
     was_none : (x : Bool) → (x ≡ true → names o m footprint ≡ true) → names o m footprint ≡ false → x ≡ false

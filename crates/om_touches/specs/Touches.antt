@@ -129,7 +129,7 @@ IsSet b footprint serial old new = (o : Obj) (m : Mode) (s : ℕ)
     → new o m s ≡ cond (nat_eq serial s && names o m footprint) b (old o m s)
 
 -- no touch comes, and of those that go all are of one entry; those of its footprint are gone
-pub record IsLess (footprint : List Access) (serial : ℕ) (old new : Touching) : Type 0 where
+pub record LosesOfEntry (footprint : List Access) (serial : ℕ) (old new : Touching) : Type 0 where
   pub others : (o : Obj) (m : Mode) (s : ℕ) → nat_eq serial s ≡ false → new o m s ≡ old o m s
   pub fewer : (o : Obj) (m : Mode) (s : ℕ) → new o m s ≡ true → old o m s ≡ true
   pub gone : (o : Obj) (m : Mode) → names o m footprint ≡ true → new o m serial ≡ false

@@ -20,7 +20,7 @@ struct InParts {
 
 /// One access, any number of them, or some with cells that are named at once.
 #[derive(Drop)]
-enum Kept {
+enum Forms {
     One(SharedAccess),
     Many(Seq<SharedAccess>),
     Parts(Box<InParts>),
@@ -31,14 +31,14 @@ enum Kept {
 ///
 /// Contracts see the three parts; `accesses_of` has the accesses, those of named cells one by one.
 pub struct Accesses {
-    kept: Kept,
+    forms: Forms,
 }
 
 // By hand: crates above call this, and do not prove anew how each part is dropped.
 impl Drop for Accesses {
     fn drop(self) {
-        let Accesses { kept } = self;
-        drop(kept);
+        let Accesses { forms } = self;
+        drop(forms);
     }
 }
 
@@ -47,10 +47,10 @@ impl Model for Accesses {
 
     ghost Value = { Parts };
 
-    ghost view = { λ a. parts_in a.kept };
+    ghost view = { λ a. parts_in a.forms };
 }
 
-impl Kept {
+impl Forms {
     /// The single accesses in front, the cells behind them, and the single accesses behind those.
     fn parts(&self) -> (&[SharedAccess], &[SharedCells], &[SharedAccess])
         ensures first { result.0.now ≡ (parts_in self.now).first }
@@ -58,9 +58,9 @@ impl Kept {
         ensures last { result.2.now ≡ (parts_in self.now).last }
     {
         match self {
-            Kept::One(access) => (slice::from_ref(access), &[], &[]),
-            Kept::Many(accesses) => (accesses.as_slice(), &[], &[]),
-            Kept::Parts(parts) => (
+            Forms::One(access) => (slice::from_ref(access), &[], &[]),
+            Forms::Many(accesses) => (accesses.as_slice(), &[], &[]),
+            Forms::Parts(parts) => (
                 parts.first.as_slice(),
                 parts.cells.as_slice(),
                 parts.last.as_slice(),
@@ -75,7 +75,7 @@ impl Accesses {
         ensures { result ≡ record { first = access ∷ []; cells = []; last = [] } }
     {
         Accesses {
-            kept: Kept::One(access),
+            forms: Forms::One(access),
         }
     }
 
@@ -84,7 +84,7 @@ impl Accesses {
         ensures { result ≡ record { first = accesses.items; cells = []; last = [] } }
     {
         Accesses {
-            kept: Kept::Many(Seq::of(accesses)),
+            forms: Forms::Many(Seq::of(accesses)),
         }
     }
 
@@ -106,7 +106,7 @@ impl Accesses {
         };
         let parts = Box::new(alloc, parts)?;
         Ok(Accesses {
-            kept: Kept::Parts(parts),
+            forms: Forms::Parts(parts),
         })
     }
 
@@ -119,6 +119,6 @@ impl Accesses {
         ensures cells { result.1.now ≡ self.now.cells }
         ensures last { result.2.now ≡ self.now.last }
     {
-        self.kept.parts()
+        self.forms.parts()
     }
 }

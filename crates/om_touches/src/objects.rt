@@ -6,7 +6,7 @@ ghost use Rattle.om_foot.specs.declared.footprint.Mode.{Mode};
 ghost use Rattle.om_foot.specs.declared.footprint.Mode.TheVariants as mode;
 ghost use Rattle.om_foot.specs.Cells.{cells_of};
 ghost use Rattle.om_touches.specs.Slots.{is_cell_in};
-ghost use Rattle.om_touches.specs.Touches.{list_of, meets_at, meets, has_object_touch, knows, SameObjects, ObjectsWith, ObjectsWithout, IsLess};
+ghost use Rattle.om_touches.specs.Touches.{list_of, meets_at, meets, has_object_touch, knows, SameObjects, ObjectsWith, ObjectsWithout, LosesOfEntry};
 ghost use Rattle.om_foot.specs.Firsts.{IsFirst};
 ghost use Rattle.om_foot.specs.Serials.{has};
 
@@ -187,10 +187,11 @@ impl ObjectTouches {
         });
     }
 
-    /// Takes the touches of these cells by an entry out. Mostly there are none, since an entry that names
-    /// cells at once names none of them singly. It takes no memory.
+    /// Takes the touches of these cells by an entry out, and perhaps others of the same entry, which
+    /// `TouchLists::remove_all` takes out too. Mostly there are none, since an entry that names cells at once
+    /// names none of them singly. It takes no memory.
     pub(crate) fn remove_in(&mut self, cells: &SharedCells, serial: u64)
-        ensures { IsLess (cells_of cells.now) serial (has_object_touch self.old)
+        ensures { LosesOfEntry (cells_of cells.now) serial (has_object_touch self.old)
             (has_object_touch self.new) }
     {
         if self.may_touch(cells, serial) {

@@ -4,7 +4,7 @@ ghost use Rattle.std.specs.Prelude.{◌≡◌, ℕ, ◌∷◌, [], true, false, 
 ghost use Rattle.om_foot.specs.declared.object.Obj.{Obj};
 ghost use Rattle.om_foot.specs.declared.footprint.Mode.{Mode};
 ghost use Rattle.om_foot.specs.Cells.{cells_of};
-ghost use Rattle.om_touches.specs.Touches.{control_of, meets_at, meets, has_single_touch, IsSet, IsLess};
+ghost use Rattle.om_touches.specs.Touches.{control_of, meets_at, meets, has_single_touch, IsSet, LosesOfEntry};
 ghost use Rattle.om_foot.specs.Firsts.{IsFirst};
 
 use crate::controls::ControlTouches;
@@ -87,9 +87,10 @@ impl SingleTouches {
         }
     }
 
-    /// Takes the touches of these cells by an entry out. It takes no memory.
+    /// Takes the touches of these cells by an entry out, and perhaps others of the same entry, which
+    /// `TouchLists::remove_all` takes out too. It takes no memory.
     pub(crate) fn remove_in(&mut self, cells: &SharedCells, serial: u64)
-        ensures { IsLess (cells_of cells.now) serial (has_single_touch self.old)
+        ensures { LosesOfEntry (cells_of cells.now) serial (has_single_touch self.old)
             (has_single_touch self.new) }
     {
         self.objects.remove_in(cells, serial);

@@ -6,7 +6,7 @@ ghost use Rattle.om_foot.specs.declared.footprint.Mode.{Mode};
 ghost use Rattle.om_foot.specs.Cells.{cells_of, cells_listed};
 ghost use Rattle.om_touches.specs.Slots.{has_span, spans_of, SameSlots, SlotsWith, SlotsWithout};
 ghost use Rattle.om_foot.specs.Firsts.{IsFirst};
-ghost use Rattle.om_touches.specs.Touches.{meets, has_slot_write, has_slot_touch, IsSet, IsLess};
+ghost use Rattle.om_touches.specs.Touches.{meets, has_slot_write, has_slot_touch, IsSet, LosesOfEntry};
 
 use crate::spans::Spans;
 use om_foot::cells::spot_of;
@@ -118,7 +118,7 @@ impl SlotTouches {
 
     /// Takes the touches of the slot of these cells by an entry out. It takes no memory.
     pub(crate) fn remove(&mut self, cells: &SharedCells, serial: u64)
-        ensures { IsLess (cells_of cells.now) serial (has_slot_touch self.old) (has_slot_touch self.new) }
+        ensures { LosesOfEntry (cells_of cells.now) serial (has_slot_touch self.old) (has_slot_touch self.new) }
     {
         let cells = cells.cells();
         self.remove_of(&cells.slot, serial);
@@ -127,7 +127,7 @@ impl SlotTouches {
     /// Takes the touches of the slot of a cell by an entry out, if the object is a cell. It takes no
     /// memory.
     pub(crate) fn remove_at(&mut self, object: &Obj, serial: u64)
-        ensures { (m : Mode) → IsLess (record { object = object.now; mode = m } ∷ []) serial
+        ensures { (m : Mode) → LosesOfEntry (record { object = object.now; mode = m } ∷ []) serial
             (has_slot_touch self.old) (has_slot_touch self.new) }
     {
         if self.slots.is_empty() {

@@ -7,7 +7,7 @@ ghost use Rattle.om_foot.specs.declared.footprint.Mode.{Mode};
 ghost use Rattle.om_foot.specs.Cells.{cells_of, cells_listed};
 ghost use Rattle.om_touches.specs.Accesses.{accesses_of};
 ghost use Rattle.om_foot.specs.Firsts.{IsFirst};
-ghost use Rattle.om_touches.specs.Touches.{meets_at, meets, has_touch, AreSame, AreWith, AreWithout, AreOnly, IsLess};
+ghost use Rattle.om_touches.specs.Touches.{meets_at, meets, has_touch, AreSame, AreWith, AreWithout, AreOnly, LosesOfEntry};
 
 use crate::accesses::Accesses;
 use crate::singles::SingleTouches;
@@ -82,34 +82,38 @@ impl TouchLists {
         }
     }
 
-    /// Takes the touches of a single object by an entry out.
+    /// Takes the touches of a single object by an entry out, and perhaps others of the same entry, which
+    /// `remove_all` takes out too.
     fn remove(&mut self, access: &SharedAccess, serial: u64)
-        ensures { IsLess (access.now ∷ []) serial (has_touch self.old) (has_touch self.new) }
+        ensures { LosesOfEntry (access.now ∷ []) serial (has_touch self.old) (has_touch self.new) }
     {
         self.singles.remove(access, serial);
         self.slots.remove_at(access.object().get(), serial);
     }
 
-    /// Takes the touches of single objects by an entry out.
+    /// Takes the touches of single objects by an entry out, and perhaps others of the same entry, which
+    /// `remove_all` takes out too.
     fn remove_each(&mut self, accesses: &[SharedAccess], serial: u64)
-        ensures { IsLess accesses.now serial (has_touch self.old) (has_touch self.new) }
+        ensures { LosesOfEntry accesses.now serial (has_touch self.old) (has_touch self.new) }
     {
         for access in accesses {
             self.remove(access, serial);
         }
     }
 
-    /// Takes the touches of cells by an entry out.
+    /// Takes the touches of cells by an entry out, and perhaps others of the same entry, which
+    /// `remove_all` takes out too.
     fn remove_in(&mut self, cells: &SharedCells, serial: u64)
-        ensures { IsLess (cells_of cells.now) serial (has_touch self.old) (has_touch self.new) }
+        ensures { LosesOfEntry (cells_of cells.now) serial (has_touch self.old) (has_touch self.new) }
     {
         self.singles.remove_in(cells, serial);
         self.slots.remove(cells, serial);
     }
 
-    /// Takes the touches of all of these cells by an entry out.
+    /// Takes the touches of all of these cells by an entry out, and perhaps others of the same entry,
+    /// which `remove_all` takes out too.
     fn remove_each_in(&mut self, all: &[SharedCells], serial: u64)
-        ensures { IsLess (cells_listed all.now) serial (has_touch self.old) (has_touch self.new) }
+        ensures { LosesOfEntry (cells_listed all.now) serial (has_touch self.old) (has_touch self.new) }
     {
         for cells in all {
             self.remove_in(cells, serial);
