@@ -273,7 +273,10 @@ none_back all were ws n s e_w e_t e_n =
     sym (no_back (cells_listed all) s) ∙ ap (λ x. taken_back (cells_listed all) (backs_listed x) s) (sym none)
 
 -- what is true of each access of three parts is true of all
+pub All-front : (P : Access → Type 0) (a : Access) (xs : List Access) → P a → All P xs → All P (a ∷ xs)
+All-front P a xs one all = All-from_recursion P (a ∷ xs) (one, recursion_from_All P xs all)
+
 pub All-three : (P : Access → Type 0) (a : Access) (names first ms last : List Access)
-    → names ≡ first ++ (ms ++ last) → All P (a ∷ first) → All P ms → All P last → All P (a ∷ names)
-All-three P a names first ms last is one two three = subst (λ x. All P (a ∷ x)) (sym is)
-    (All-append P (a ∷ first) (ms ++ last) one (All-append P ms last two three))
+    → names ≡ first ++ (ms ++ last) → P a → All P first → All P ms → All P last → All P (a ∷ names)
+All-three P a names first ms last is own one two three = subst (λ x. All P (a ∷ x)) (sym is)
+    (All-front P a (first ++ (ms ++ last)) own (All-append P first (ms ++ last) one (All-append P ms last two three)))

@@ -1,5 +1,5 @@
--- The accesses of a step behind its first one, part by part, and what goes along with them.
-use Rattle.std.proofs.Common.{◌≡◌, refl, sym, ◌∙◌, ap, subst, true, List, [], ◌∷◌, ◌++◌, suc, length, drop, arith}
+-- The accesses of a step behind its worker's control, part by part, and what goes along with them.
+use Rattle.std.proofs.Common.{◌≡◌, sym, ◌∙◌, ap, subst, true, List, [], ◌++◌, length, drop}
 use Rattle.std.specs.Prelude.{All}
 use Rattle.std.proofs.lemmas.List.{append-nil}
 use Rattle.om_foot.specs.declared.footprint.Access.{Access}
@@ -23,41 +23,16 @@ use Rattle.om_history.proofs.Parts.{ThreeMade, three_made, ThreeCan, three_can, 
 use Rattle.om_history.proofs.CellParts.{along_lengths, were_lengths, cells_plain, All-split}
 use Rattle.om_history.proofs.TakingBack.{made_back, taken_back-made}
 
--- the first access is left out of the first part
-pub further_parts : (f : Parts) (xs : List Access) (n : List Update) → xs ≡ drop 1 f.first
-    → length f.first ≡ suc (length n) → drop 1 (accesses_of f) ≡ xs ++ (cells_listed f.cells ++ f.last)
-further_parts f xs n is h = go f.first xs is h
-  where
-    go : (first xs : List Access) → xs ≡ drop 1 first → length first ≡ suc (length n)
-        → drop 1 (first ++ (cells_listed f.cells ++ f.last)) ≡ xs ++ (cells_listed f.cells ++ f.last)
-    go [] xs e k = absurd (omega (arith, k))
-    go (a ∷ first) xs e k = ap (λ x. x ++ (cells_listed f.cells ++ f.last)) (sym e)
-
--- and all are in it, where the others have none
-pub further_plain : (f : Parts) (xs : List Access) → xs ≡ drop 1 f.first → f.cells ≡ [] → f.last ≡ []
+-- all are in the first part, where the others have none
+pub further_plain : (f : Parts) (xs : List Access) → xs ≡ f.first → f.cells ≡ [] → f.last ≡ []
     → drop 1 (accesses_of f) ≡ xs
 further_plain f xs is none empty =
-    ap (drop 1) ((λ i. f.first ++ (cells_listed (none i) ++ empty i)) ∙ append-nil f.first) ∙ sym is
-
-pub as_many : (first xs : List Access) (us : List Update) → xs ≡ drop 1 first → length first ≡ suc (length us)
-    → length xs ≡ length us
-as_many [] xs us e h = absurd (omega (arith, h))
-as_many (a ∷ first) xs us e h = ap length e ∙ omega (arith, h)
+    (λ i. f.first ++ (cells_listed (none i) ++ empty i)) ∙ append-nil f.first ∙ sym is
 
 -- so many in front that go along with so many others
-pub still_many : (first : List Access) (us vs : List Update) → length first ≡ suc (length us)
-    → length vs ≡ length us → length first ≡ suc (length vs)
-still_many first us vs h k = h ∙ ap suc (sym k)
-
--- the accesses behind the first one, in their parts
-further_split : (f : Parts) (first X : List Access) (C : List Cells) (L : List Access) (us : List Update)
-    → first ≡ f.first → C ≡ f.cells → L ≡ f.last → X ≡ drop 1 first → length f.first ≡ suc (length us)
-    → (drop 1 (accesses_of f) ≡ X ++ (cells_listed C ++ L)) × (length X ≡ length us)
-further_split f first X C L us e_f e_c e_l e_x h =
-    let there : X ≡ drop 1 f.first = e_x ∙ ap (drop 1) e_f in (
-      further_parts f X us there h ∙ (λ i. X ++ (cells_listed (sym e_c i) ++ sym e_l i)),
-      as_many f.first X us there h,
-    )
+pub still_many : (first : List Access) (us vs : List Update) → length first ≡ length us
+    → length vs ≡ length us → length first ≡ length vs
+still_many first us vs h k = h ∙ sym k
 
 -- what was made of the first part is taken back
 pub all_can : (X : List Access) (us : List Update) (s : State) (ps : Pasts) (bx : List Update) (now : State)
@@ -102,14 +77,13 @@ pub last_fits_at : (X : List Access) (C : List Cells) (L : List Access) (us : Li
 last_fits_at X C L us rs vs s s1 s2 one two =
     subst (FitsAll L vs) (sym (two ∙ ap (updated (cells_listed C) (runs_listed rs)) one))
 
-module _ (f : Parts) (first X : List Access) (C : List Cells) (L : List Access) (us : List Update)
-    (e_f : first ≡ f.first) (e_c : C ≡ f.cells) (e_l : L ≡ f.last) (e_x : X ≡ drop 1 first)
-    (h : length f.first ≡ suc (length us)) where
+module _ (f : Parts) (X : List Access) (C : List Cells) (L : List Access) (us : List Update)
+    (e_f : X ≡ f.first) (e_c : C ≡ f.cells) (e_l : L ≡ f.last) (h : length f.first ≡ length us) where
   split : drop 1 (accesses_of f) ≡ X ++ (cells_listed C ++ L)
-  split = (further_split f first X C L us e_f e_c e_l e_x h).0
+  split = λ i. sym e_f i ++ (cells_listed (sym e_c i) ++ sym e_l i)
 
   many : length X ≡ length us
-  many = (further_split f first X C L us e_f e_c e_l e_x h).1
+  many = ap length e_f ∙ h
 
   pub kept_parts : (P : Access → Type 0) → All P (drop 1 (accesses_of f))
       → All P X × (All P (cells_listed C) × All P L)

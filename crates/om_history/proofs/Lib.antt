@@ -10,7 +10,6 @@ pub mod Removed
 pub mod Marks
 pub mod Parts
 pub mod CellParts
-pub mod Conflicts
 pub mod FurtherParts
 pub mod Making
 pub mod TakingBack

@@ -1,6 +1,6 @@
 -- What takes the updates of a step back, as its record keeps it: in one list, or in parts that go along with those of
 -- its accesses, where cells of slots were named at once.
-use Rattle.std.specs.Prelude.{◌≡◌, Bool, true, false, ◌&&◌, nat_eq, List, [], ◌∷◌, ◌++◌, length, suc}
+use Rattle.std.specs.Prelude.{◌≡◌, Bool, true, false, ◌&&◌, nat_eq, List, [], ◌∷◌, ◌++◌, length}
 use Rattle.om_foot.specs.declared.cells.Cells.{Cells}
 use Rattle.om_values.specs.declared.runs.Run.{Run}
 use Rattle.om_values.specs.declared.runs.Was.{Was}
@@ -38,12 +38,12 @@ WereAlong [] [] = Unit {0}
 WereAlong (c ∷ cs) (w ∷ ws) = (length (were_listed w) ≡ c.count) × WereAlong cs ws
 WereAlong _ _ = ⊥
 
--- the parts of a record go along with those of its accesses, of which the first is its worker's control
+-- the parts of a record go along with those of its accesses behind its worker's control
 abbrev pub GoAlong : Parts → Backs → Type 0
 GoAlong f (backs.Plain us) = (f.cells ≡ []) × (f.last ≡ [])
-GoAlong f (backs.Parts p) = (length f.first ≡ suc (length p.value.first.items)) × WereAlong f.cells p.value.cells.items
+GoAlong f (backs.Parts p) = (length f.first ≡ length p.value.first.items) × WereAlong f.cells p.value.cells.items
 
 -- and so do those of updates that are wanted
 abbrev pub CanGoAlong : Parts → Backs → List Run → Type 0
 CanGoAlong f (backs.Plain us) rs = (f.cells ≡ []) × (f.last ≡ [])
-CanGoAlong f (backs.Parts p) rs = (length f.first ≡ suc (length p.value.first.items)) × (are_along f.cells rs ≡ true)
+CanGoAlong f (backs.Parts p) rs = (length f.first ≡ length p.value.first.items) × (are_along f.cells rs ≡ true)

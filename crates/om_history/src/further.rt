@@ -1,9 +1,9 @@
 //! Updates of a store in parts: at single accesses, at the cells of slots, and at single accesses again.
 
-ghost use Rattle.std.specs.Prelude.{◌≡◌, true, suc, ◌++◌, drop, length, All, OnOk, OnErr, IfOk};
+ghost use Rattle.std.specs.Prelude.{◌≡◌, true, ◌++◌, drop, length, All, OnOk, OnErr, IfOk};
 ghost use Rattle.om_foot.specs.declared.object.Obj.{Obj};
-ghost use Rattle.om_foot.specs.Cells.{cells_of, cells_listed};
-ghost use Rattle.om_values.specs.Runs.{puts_of, runs_listed, were_listed};
+ghost use Rattle.om_foot.specs.Cells.{cells_listed};
+ghost use Rattle.om_values.specs.Runs.{runs_listed};
 ghost use Rattle.om_values.specs.State.{updated, undo_record, taken_back};
 ghost use Rattle.om_live.specs.Stores.{state_of, is_kept, pasts_of};
 ghost use Rattle.om_touches.specs.Accesses.{accesses_of};
@@ -14,23 +14,13 @@ ghost use Rattle.om_history.specs.Fills.{small_record, noted_all, filled, popped
 
 use crate::backs::{BackParts, Backs};
 use crate::updates::{make_all, take_back_all};
-use om_foot::{SharedAccess, SharedCells};
+use om_foot::SharedCells;
 use om_live::Store;
 use om_seq::Seq;
 use om_touches::Accesses;
 use om_values::{Run, Was};
 use std::alloc::{AllocError, Global};
 use std::mem;
-
-/// The accesses behind the first one.
-fn further(footprint: &[SharedAccess]) -> &[SharedAccess]
-    ensures { result.now ≡ drop 1 footprint.now }
-{
-    match footprint.split_first() {
-        Some((_, rest)) => rest,
-        None => footprint,
-    }
-}
 
 /// Takes what is put at the cells of slots back, the last slot first. It takes no memory.
 fn take_back_cells(store: &mut Store, all: &[SharedCells], were: &mut Vec<Seq<Was>>)
@@ -49,27 +39,6 @@ fn take_back_cells(store: &mut Store, all: &[SharedCells], were: &mut Vec<Seq<Wa
     };
     store.put_cells_back(cells, was);
     take_back_cells(store, earlier, were);
-}
-
-/// Puts the value of a run into the cells of a slot, and answers what they were. When out of memory, no
-/// value changes.
-fn put_run(
-    store: &mut Store,
-    alloc: Global,
-    cells: &SharedCells,
-    run: &Run,
-) -> Result<Seq<Was>, AllocError>
-    requires { All (λ a. is_kept store.old a.object ≡ true) (cells_of cells.now) }
-    ensures was { IfOk result (λ was. were_listed was
-        ≡ undo_record (cells_of cells.now) (puts_of run.now.cell cells.now.count)
-        (state_of store.old)) }
-    ensures state { OnOk result (state_of store.new
-        ≡ updated (cells_of cells.now) (puts_of run.now.cell cells.now.count) (state_of store.old)) }
-    ensures pasts { pasts_of store.new ≡ pasts_of store.old }
-    ensures same_state_on_error { OnErr result (state_of store.new ≡ state_of store.old) }
-    ensures kept { (q : Obj) → is_kept store.new q ≡ is_kept store.old q }
-{
-    store.put_cells(alloc, cells, run.cell)
 }
 
 /// Puts the value of a run into the cells of each of these slots, and answers what they were. When out of
@@ -97,7 +66,7 @@ fn make_cells(
         let Some(wanted) = runs.get(i) else {
             unreachable!()
         };
-        match put_run(store, alloc, &all[i], wanted) {
+        match store.put_cells(alloc, &all[i], wanted.cell) {
             Ok(was) => were.push_reserved(was),
             Err(error) => {
                 take_back_cells(store, &all[..i], &mut were);
@@ -119,7 +88,7 @@ fn make_parts(
 ) -> Result<(), AllocError>
     requires kept { All (λ a. is_kept store.old a.object ≡ true)
         (drop 1 (accesses_of footprint.now)) }
-    requires first { length footprint.now.first ≡ suc (length back.old.first.items) }
+    requires first { length footprint.now.first ≡ length back.old.first.items }
     requires along { are_along footprint.now.cells runs.now ≡ true }
     requires fits { FitsAll (drop 1 (accesses_of footprint.now))
         (back.old.first.items ++ (runs_listed runs.now ++ back.old.last.items)) (state_of store.old) }
@@ -136,14 +105,13 @@ fn make_parts(
     ensures pasts { OnOk result (pasts_of store.new ≡ noted_all (drop 1 (accesses_of footprint.now))
         (back.old.first.items ++ (runs_listed runs.now ++ back.old.last.items))
         (state_of store.old) (pasts_of store.old)) }
-    ensures first { OnOk result (length footprint.now.first ≡ suc (length back.new.first.items)) }
+    ensures first { OnOk result (length footprint.now.first ≡ length back.new.first.items) }
     ensures along { OnOk result (WereAlong footprint.now.cells back.new.cells.items) }
     ensures same_state_on_error { OnErr result (state_of store.new ≡ state_of store.old) }
     ensures same_pasts_on_error { OnErr result (pasts_of store.new ≡ pasts_of store.old) }
     ensures kept { (q : Obj) → is_kept store.new q ≡ is_kept store.old q }
 {
     let (first, cells, last) = footprint.parts();
-    let first = further(first);
     make_all(store, alloc, first, &mut back.first)?;
     match make_cells(store, alloc, cells, runs) {
         Ok(were) => drop(mem::replace(&mut back.cells, were)),
@@ -191,7 +159,7 @@ pub(crate) fn make_further(
     match back {
         Backs::Plain(updates) => {
             let (first, _, _) = footprint.parts();
-            make_all(store, alloc, further(first), updates)
+            make_all(store, alloc, first, updates)
         }
         Backs::Parts(parts) => make_parts(store, alloc, footprint, runs, parts),
     }
@@ -202,7 +170,7 @@ pub(crate) fn make_further(
 fn take_back_parts(store: &mut Store, footprint: &Accesses, back: &mut BackParts)
     requires kept { All (λ a. is_kept store.old a.object ≡ true)
         (drop 1 (accesses_of footprint.now)) }
-    requires first { length footprint.now.first ≡ suc (length back.old.first.items) }
+    requires first { length footprint.now.first ≡ length back.old.first.items }
     requires along { WereAlong footprint.now.cells back.old.cells.items }
     requires can { CanTakeBack (drop 1 (accesses_of footprint.now))
         (back.old.first.items ++ (backs_listed back.old.cells.items ++ back.old.last.items))
@@ -219,7 +187,7 @@ fn take_back_parts(store: &mut Store, footprint: &Accesses, back: &mut BackParts
     let (first, cells, last) = footprint.parts();
     take_back_all(store, last, &mut back.last);
     take_back_cells(store, cells, &mut back.cells);
-    take_back_all(store, further(first), &mut back.first);
+    take_back_all(store, first, &mut back.first);
 }
 
 /// Takes the updates behind the first access back, the last one first, by what a small record holds of
@@ -240,7 +208,7 @@ pub(crate) fn take_further_back(store: &mut Store, footprint: &Accesses, back: &
     match back {
         Backs::Plain(small) => {
             let (first, _, _) = footprint.parts();
-            take_back_all(store, further(first), small);
+            take_back_all(store, first, small);
         }
         Backs::Parts(parts) => take_back_parts(store, footprint, parts),
     }

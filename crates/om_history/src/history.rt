@@ -94,13 +94,6 @@ impl History {
         &self.store
     }
 
-    /// How many steps were ever made; undos and rolls don't lower it.
-    pub fn made(&self) -> u64
-        ensures { result ≡ (past_in self.now).made }
-    {
-        self.made
-    }
-
     /// A copy of the entries that stand, in their order. Their serials rise, to the number of steps
     /// ever made at most. Its only error is out of memory.
     pub fn entries(&self, alloc: Global) -> Result<Vec<Entry>, AllocError>

@@ -1,17 +1,16 @@
 //! A step that is about to be made: its objects are kept, and its updates go along with them.
 
-ghost use Rattle.std.specs.Prelude.{◌≡◌, true, ◌∷◌, ◌++◌, OnOk, IfOk, All, IsTrue};
+ghost use Rattle.std.specs.Prelude.{◌≡◌, true, ◌∷◌, ◌++◌, OnOk, IfOk, All};
 ghost use Rattle.om_foot.specs.declared.object.Obj.{Obj};
-ghost use Rattle.om_foot.specs.declared.footprint.Access.{Access};
-ghost use Rattle.om_foot.specs.Cells.{cells_listed};
+ghost use Rattle.om_foot.specs.declared.object.Obj.TheVariants as obj;
 ghost use Rattle.om_values.specs.Runs.{runs_listed};
 ghost use Rattle.om_live.specs.Stores.{state_of, is_kept, pasts_of};
-ghost use Rattle.om_touches.specs.Accesses.{accesses_of};
+ghost use Rattle.om_touches.specs.Accesses.{control_write, accesses_of};
 ghost use Rattle.om_history.specs.Backs.{wanted, are_along, CanGoAlong};
 
 use crate::backs::{BackParts, Backs};
-use crate::updates::{keep_all, keep_cells, keep_control, keep_each};
-use om_foot::{Access, Cells, Names, SharedAccess};
+use crate::updates::{keep_cells, keep_each};
+use om_foot::{Access, Cells, Names};
 use om_live::Store;
 use om_seq::Seq;
 use om_touches::Accesses;
@@ -29,25 +28,6 @@ pub(crate) struct Making {
     pub runs: Seq<Run>,
 }
 
-/// Each access by itself. Its only error is out of memory.
-fn listed(alloc: Global, names: &Names) -> Result<Seq<Access>, AllocError>
-    ensures { IfOk result (λ all. all ≡ names.now) }
-{
-    let mut all = Names::new(alloc);
-    all.push_all(names)?;
-    all.into_seq()
-}
-
-/// Adds these runs behind some updates. Its only error is out of memory.
-fn push_runs(puts: &mut Puts, runs: &[Run]) -> Result<(), AllocError>
-    ensures { OnOk result (puts.new ≡ puts.old ++ runs_listed runs.now) }
-{
-    for run in runs {
-        puts.push_run(*run)?;
-    }
-    Ok(())
-}
-
 /// Each update by itself. Its only error is out of memory.
 fn rejoined(alloc: Global, parts: PutParts) -> Result<Vec<Update>, AllocError>
     ensures { IfOk result (λ all. all.items
@@ -55,7 +35,9 @@ fn rejoined(alloc: Global, parts: PutParts) -> Result<Vec<Update>, AllocError>
 {
     let PutParts { first, runs, last } = parts;
     let mut puts = Puts::of(alloc, Seq::of(first));
-    push_runs(&mut puts, runs.as_slice())?;
+    for run in runs.as_slice() {
+        puts.push_run(*run)?;
+    }
     let mut all = Seq::of(puts.into_vec()?);
     all.append(Seq::of(last))?;
     Ok(all.into_vec())
@@ -74,71 +56,72 @@ fn are_along(all: &[Cells], runs: &[Run]) -> bool
     cells.count == run.count && are_along(others, behind)
 }
 
-/// A step of single updates. Where its control is all that it touches, its access takes no memory. No
-/// value changes, also when out of memory.
+/// A step of single updates, whose worker's control is kept. Where that is all that it touches, its accesses
+/// take no memory. No value changes, also when out of memory.
 fn plain(
     store: &mut Store,
     alloc: Global,
-    control: SharedAccess,
+    worker: u8,
     others: &[Access],
     mut updates: Vec<Update>,
 ) -> Result<Making, AllocError>
-    requires { is_kept store.old control.object ≡ true }
-    ensures footprint { IfOk result (λ m. accesses_of m.footprint ≡ control ∷ others.now) }
+    requires { is_kept store.old (obj.Control worker) ≡ true }
+    ensures footprint { IfOk result (λ m. accesses_of m.footprint ≡ control_write worker ∷ others.now) }
     ensures updates { IfOk result (λ m. wanted m.back m.runs ≡ updates.items) }
     ensures along { IfOk result (λ m. CanGoAlong m.footprint m.back m.runs) }
     ensures same { state_of store.new ≡ state_of store.old }
     ensures same_pasts { pasts_of store.new ≡ pasts_of store.old }
     ensures kept { OnOk result
-        (All (λ a. is_kept store.new a.object ≡ true) (control ∷ others.now)) }
+        (All (λ a. is_kept store.new a.object ≡ true) (control_write worker ∷ others.now)) }
     ensures others_kept { (q : Obj) → is_kept store.old q ≡ true → is_kept store.new q ≡ true }
 {
-    let footprint = if others.is_empty() {
-        Accesses::one(control)
-    } else {
-        Accesses::many(keep_all(store, alloc, control, others)?)
-    };
+    let mut shared = Vec::with_capacity(alloc, others.len())?;
+    keep_each(store, alloc, &mut shared, others)?;
     updates.shrink_to_fit();
     Ok(Making {
-        footprint,
+        footprint: Accesses::many(worker, shared),
         back: Backs::Plain(updates),
         runs: Seq::new(alloc),
     })
 }
 
 /// A step that names cells at once, where each run has a put for each of them, and else one of single
-/// updates. No value changes, also when out of memory. Few steps name cells at once.
+/// updates; its worker's control is kept. No value changes, also when out of memory. Few steps name cells at
+/// once.
 #[cold]
 #[inline(never)]
 fn in_parts(
     store: &mut Store,
     alloc: Global,
-    control: SharedAccess,
+    worker: u8,
     names: &Names,
     puts: PutParts,
 ) -> Result<Making, AllocError>
-    requires { is_kept store.old control.object ≡ true }
-    ensures footprint { IfOk result (λ m. accesses_of m.footprint ≡ control ∷ names.now) }
+    requires { is_kept store.old (obj.Control worker) ≡ true }
+    ensures footprint { IfOk result (λ m. accesses_of m.footprint ≡ control_write worker ∷ names.now) }
     ensures updates { IfOk result (λ m. wanted m.back m.runs
         ≡ puts.first.items ++ (runs_listed puts.runs ++ puts.last.items)) }
     ensures along { IfOk result (λ m. CanGoAlong m.footprint m.back m.runs) }
     ensures same { state_of store.new ≡ state_of store.old }
     ensures same_pasts { pasts_of store.new ≡ pasts_of store.old }
     ensures kept { OnOk result
-        (All (λ a. is_kept store.new a.object ≡ true) (control ∷ names.now)) }
+        (All (λ a. is_kept store.new a.object ≡ true) (control_write worker ∷ names.now)) }
     ensures others_kept { (q : Obj) → is_kept store.old q ≡ true → is_kept store.new q ≡ true }
 {
     let (first, cells, last) = names.parts();
     if first.len() != puts.first.len() || !are_along(cells, puts.runs.as_slice()) {
-        let all = listed(alloc, names)?;
+        let mut all = Names::new(alloc);
+        all.push_all(names)?;
+        let all = all.into_seq()?;
         let updates = rejoined(alloc, puts)?;
-        return plain(store, alloc, control, all.as_slice(), updates);
+        return plain(store, alloc, worker, all.as_slice(), updates);
     }
-    let singles = keep_all(store, alloc, control, first)?;
+    let mut singles = Vec::with_capacity(alloc, first.len())?;
+    keep_each(store, alloc, &mut singles, first)?;
     let cells = keep_cells(store, alloc, cells)?;
     let mut behind = Vec::with_capacity(alloc, last.len())?;
     keep_each(store, alloc, &mut behind, last)?;
-    let footprint = Accesses::of_parts(alloc, singles, cells, behind)?;
+    let footprint = Accesses::of_parts(alloc, worker, singles, cells, behind)?;
     let PutParts { first, runs, last } = puts;
     let parts = BackParts {
         first,
@@ -169,10 +152,10 @@ pub(crate) fn planned(
     ensures others_kept { (q : Obj) → is_kept store.old q ≡ true → is_kept store.new q ≡ true }
 {
     let (worker, names) = footprint.parts();
-    let control = keep_control(store, alloc, worker)?;
+    store.know_control(alloc, worker)?;
     let (first, cells, last) = names.parts();
     if cells.is_empty() && last.is_empty() {
-        return plain(store, alloc, control, first, updates.into_vec()?);
+        return plain(store, alloc, worker, first, updates.into_vec()?);
     }
-    in_parts(store, alloc, control, names, updates.into_parts())
+    in_parts(store, alloc, worker, names, updates.into_parts())
 }

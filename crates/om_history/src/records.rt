@@ -1,14 +1,12 @@
 //! Undo records: the history's entries, each with its footprint and what takes it back.
 
-ghost use Rattle.std.specs.Prelude.{◌≡◌, ◌≢◌, ℕ, List, ◌<◌, ◌∷◌, ◌++◌, [], Some, IfOk, OnOk, OnErr, IfErr, IsSome, IfSome, IfNone, All, map, reverse, slice_get, remove, false, true};
+ghost use Rattle.std.specs.Prelude.{◌≡◌, ◌≢◌, ℕ, List, ◌<◌, ◌∷◌, ◌++◌, [], Some, IfOk, OnOk, OnErr, IfErr, IsSome, IfSome, IfNone, All, map, reverse, slice_get, remove, false};
 ghost use Rattle.std.specs.Map.{lookup, values_of};
 ghost use Rattle.std.specs.Ordering.{nat_cmp};
 ghost use Rattle.std.specs.BTreeMap.{is_at};
 ghost use Rattle.om_foot.specs.declared.object.Obj.{Obj};
 ghost use Rattle.om_foot.specs.declared.footprint.Mode.{Mode};
-ghost use Rattle.om_foot.specs.Footprint.{conflicts_with_any, conflict_of};
-ghost use Rattle.om_foot.specs.Cells.{cell_access, cells_of, cells_listed};
-ghost use Rattle.om_touches.specs.Accesses.{accesses_of};
+ghost use Rattle.om_foot.specs.Footprint.{conflict_of};
 ghost use Rattle.om_touches.specs.Touches.{has_touch, meets, AreOnly, AreSame, AreWith, AreWithout, SameOwn, WithOwn, WithoutOwn};
 ghost use Rattle.om_foot.specs.Firsts.{IsFirst};
 ghost use Rattle.om_history.specs.Cones.{meets_one, is_member as is_member_of, cone, taken_of};
@@ -20,9 +18,9 @@ ghost use Rattle.om_history.specs.Touches.{AreBySerial, AreListsOf, IsIndexed};
 use crate::by_serial::BySerial;
 use crate::kept::Kept;
 use crate::reply::{Taken, UndoReply};
-use om_foot::{Access, Cells, Mode, Obj, SharedAccess, SharedCells, SlotName, is_in_conflict};
+use om_foot::Access;
 use om_seq::Seq;
-use om_touches::{Accesses, OwnEntries, TouchLists};
+use om_touches::{OwnEntries, TouchLists, conflict};
 use om_values::{Entry, Update};
 use std::alloc::{AllocError, Global};
 use std::marker::Model;
@@ -158,121 +156,6 @@ fn leave(kept: &mut BySerial, lists: &mut TouchLists, own: &mut OwnEntries, seri
     }
 }
 
-/// Whether an access conflicts with one of these.
-fn meets_one_of(access: &Access, others: &[SharedAccess]) -> bool
-    ensures { result ≡ conflicts_with_any access.now others.now }
-{
-    for other in others {
-        if is_in_conflict(access, &other.access()) {
-            return true;
-        }
-    }
-    false
-}
-
-/// A cell of a slot, written.
-fn cell_access(slot: &SlotName, index: u32) -> Access
-    ensures { result ≡ cell_access slot.now index }
-{
-    Access {
-        object: Obj::Cell {
-            task: slot.task,
-            frame: slot.frame,
-            slot: slot.slot,
-            index,
-        },
-        mode: Mode::Write,
-    }
-}
-
-/// Whether an access conflicts with one of the first cells of a slot, written.
-#[tactic(auto, using(crate::proofs::Conflicts::cells_next))]
-fn meets_slot(access: &Access, cells: &Cells) -> bool
-    ensures { result ≡ conflicts_with_any access.now (cells_of cells.now) }
-{
-    for index in 0..cells.count {
-        if is_in_conflict(access, &cell_access(&cells.slot, index)) {
-            return true;
-        }
-    }
-    false
-}
-
-/// Whether an access conflicts with one of these cells.
-fn meets_cells(access: &Access, others: &[SharedCells]) -> bool
-    ensures { result ≡ conflicts_with_any access.now (cells_listed others.now) }
-{
-    for other in others {
-        if meets_slot(access, &other.cells()) {
-            return true;
-        }
-    }
-    false
-}
-
-/// Whether an access conflicts with one of a footprint.
-#[tactic(auto, using(crate::proofs::Conflicts::met_append))]
-fn meets_any(access: &Access, others: &Accesses) -> bool
-    ensures { result ≡ conflicts_with_any access.now (accesses_of others.now) }
-{
-    let (first, cells, last) = others.parts();
-    meets_one_of(access, first) || (meets_cells(access, cells) || meets_one_of(access, last))
-}
-
-/// The first object of `first` at which it conflicts with a footprint.
-fn conflict_at(first: &[SharedAccess], others: &Accesses) -> Option<Obj>
-    ensures { result ≡ conflict_of first.now (accesses_of others.now) }
-{
-    for shared in first {
-        let access = shared.access();
-        if meets_any(&access, others) {
-            return Some(access.object);
-        }
-    }
-    None
-}
-
-/// The first of the first cells of a slot at which a footprint conflicts with a write of them.
-#[tactic(auto, using(crate::proofs::Conflicts::cells_next))]
-fn conflict_in_slot(cells: &Cells, others: &Accesses) -> Option<Obj>
-    ensures { result ≡ conflict_of (cells_of cells.now) (accesses_of others.now) }
-{
-    for index in 0..cells.count {
-        let access = cell_access(&cells.slot, index);
-        if meets_any(&access, others) {
-            return Some(access.object);
-        }
-    }
-    None
-}
-
-/// The first of these cells at which a footprint conflicts with a write of them.
-fn conflict_in_cells(all: &[SharedCells], others: &Accesses) -> Option<Obj>
-    ensures { result ≡ conflict_of (cells_listed all.now) (accesses_of others.now) }
-{
-    for cells in all {
-        match conflict_in_slot(&cells.cells(), others) {
-            Some(object) => return Some(object),
-            None => {}
-        }
-    }
-    None
-}
-
-/// The first object of `first` at which two footprints conflict, as `om_foot::conflict` has it.
-fn conflict(first: &Accesses, others: &Accesses) -> Option<Obj>
-    ensures { result ≡ conflict_of (accesses_of first.now) (accesses_of others.now) }
-{
-    let (singles, cells, last) = first.parts();
-    match conflict_at(singles, others) {
-        Some(object) => Some(object),
-        None => match conflict_in_cells(cells, others) {
-            Some(object) => Some(object),
-            None => conflict_at(last, others),
-        },
-    }
-}
-
 /// The reply that names the record with the serial `first` where it conflicts with the one of another
 /// serial, else that this one is undone.
 fn refusal_by(kept: &BySerial, undone: &Kept, serial: u64, first: u64) -> UndoReply
@@ -331,24 +214,6 @@ fn reply_at(kept: &BySerial, lists: &TouchLists, serial: u64) -> UndoReply
     }
 }
 
-/// The line of the entry with a serial, where no later entry conflicts with it.
-fn free_line(kept: &BySerial, lists: &TouchLists, serial: u64) -> Option<u32>
-    requires by_serial { AreBySerial 0 kept.now }
-    requires lists { AreListsOf (λ k. k.footprint) (values_of kept.now) lists.now }
-    requires there { HasSerial serial (values_of kept.now) }
-    ensures { IfSome result (λ line. (i : ℕ) (k : UndoRecord)
-        → slice_get (values_of kept.now) i ≡ Some k → k.entry.serial ≡ serial
-        → kept_reply (values_of kept.now) i ≡ UndoReply.Undone serial line) }
-{
-    let Some(undone) = kept.get(serial) else {
-        unreachable!()
-    };
-    let None = first_conflict(kept, lists, undone, serial) else {
-        return None;
-    };
-    Some(undone.line())
-}
-
 /// Whether a record conflicts with one of those whose touches these are.
 fn meets(members: &TouchLists, made: &Kept) -> bool
     ensures { (ms : List UndoRecord) → AreListsOf (λ k. k.footprint) ms members.now → AreAbove 0 ms
@@ -399,26 +264,6 @@ fn members(alloc: Global, kept: &BySerial, serial: u64) -> Result<Vec<Taken>, Al
     Ok(names)
 }
 
-/// The entries of records, in their order.
-fn entries(alloc: Global, kept: &BySerial) -> Result<Vec<Entry>, AllocError>
-    ensures { IfOk result (λ v. v.items ≡ entries_of (values_of kept.now)) }
-{
-    let mut entries = Vec::with_capacity(alloc, kept.rows().len())?;
-    for row in kept.rows() {
-        let Some(made) = &row.kept else {
-            continue;
-        };
-        let choice = made.choice();
-        entries.push(Entry {
-            serial: made.serial(),
-            worker: made.worker(),
-            choice,
-            line: made.line(),
-        })?;
-    }
-    Ok(entries)
-}
-
 impl Records {
     /// No records. It takes no memory.
     pub fn new(alloc: Global) -> Records
@@ -447,7 +292,13 @@ impl Records {
             → slice_get self.now i ≡ Some k → k.entry.serial ≡ serial
             → kept_reply self.now i ≡ UndoReply.Undone serial line) }
     {
-        free_line(&self.kept, &self.lists, serial)
+        let Some(undone) = self.kept.get(serial) else {
+            unreachable!()
+        };
+        let None = first_conflict(&self.kept, &self.lists, undone, serial) else {
+            return None;
+        };
+        Some(undone.line())
     }
 
     /// What an undo of the entry with a serial answers.
@@ -497,6 +348,19 @@ impl Records {
     pub fn entries(&self, alloc: Global) -> Result<Vec<Entry>, AllocError>
         ensures { IfOk result (λ v. v.items ≡ entries_of self.now) }
     {
-        entries(alloc, &self.kept)
+        let mut entries = Vec::with_capacity(alloc, self.kept.rows().len())?;
+        for row in self.kept.rows() {
+            let Some(made) = &row.kept else {
+                continue;
+            };
+            let choice = made.choice();
+            entries.push(Entry {
+                serial: made.serial(),
+                worker: made.worker(),
+                choice,
+                line: made.line(),
+            })?;
+        }
+        Ok(entries)
     }
 }

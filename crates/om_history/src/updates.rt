@@ -1,6 +1,6 @@
 //! Updates of a store, each exchanged for what a small record holds of it.
 
-ghost use Rattle.std.specs.Prelude.{◌≡◌, ◌<◌, ◌≤◌, ◌∷◌, ◌++◌, true, false, All, OnOk, OnErr, IfOk, length, take, drop};
+ghost use Rattle.std.specs.Prelude.{◌≡◌, ◌<◌, ◌≤◌, ◌++◌, true, false, All, OnOk, OnErr, IfOk, length, take, drop};
 ghost use Rattle.om_foot.specs.declared.object.Obj.{Obj};
 ghost use Rattle.om_foot.specs.declared.object.Obj.TheVariants as obj;
 ghost use Rattle.om_foot.specs.Cells.{cells_listed};
@@ -10,7 +10,7 @@ ghost use Rattle.om_history.specs.Bounds.{FitsAt, FitsAtBack, FitsAll};
 ghost use Rattle.om_history.specs.Shapes.{IsShapedAt, AreShaped};
 ghost use Rattle.om_history.specs.Fills.{small_at, noted, small_record, noted_all, filled_at, popped, filled, popped_all, IfControl, CanTakeBack, control_at};
 
-use om_foot::{Access, Cells, Mode, Obj, SharedAccess, SharedCells, SharedObject};
+use om_foot::{Access, Cells, Mode, Obj, SharedAccess, SharedCells};
 use om_live::{Store, worker_of};
 use om_seq::Seq;
 use om_values::{Control, Update, Val};
@@ -211,24 +211,6 @@ fn exchange(
     Ok(())
 }
 
-/// Keeps a worker's control, and answers that it is written, shared. No value changes, also when out of
-/// memory.
-pub(crate) fn keep_control(
-    store: &mut Store,
-    alloc: Global,
-    worker: u8,
-) -> Result<SharedAccess, AllocError>
-    ensures shared { IfOk result (λ shared. shared ≡ control_at worker Mode.Write) }
-    ensures same { state_of store.new ≡ state_of store.old }
-    ensures same_pasts { pasts_of store.new ≡ pasts_of store.old }
-    ensures kept { OnOk result (is_kept store.new (obj.Control worker) ≡ true) }
-    ensures others_kept { (q : Obj) → is_kept store.old q ≡ true → is_kept store.new q ≡ true }
-{
-    store.know_control(alloc, worker)?;
-    let object = SharedObject::of(alloc, &Obj::Control(worker))?;
-    Ok(SharedAccess::of(object, Mode::Write))
-}
-
 /// Keeps each of these objects, so that its value can be put back without memory, and adds the accesses
 /// of them, shared. No value changes, also when out of memory.
 pub(crate) fn keep_each(
@@ -248,27 +230,6 @@ pub(crate) fn keep_each(
         shared.push(SharedAccess::of(object, access.mode))?;
     }
     Ok(())
-}
-
-/// Keeps each of these objects, and answers the accesses of them, shared, behind a first one. No value
-/// changes, also when out of memory.
-pub(crate) fn keep_all(
-    store: &mut Store,
-    alloc: Global,
-    first: SharedAccess,
-    others: &[Access],
-) -> Result<Vec<SharedAccess>, AllocError>
-    requires { is_kept store.old first.object ≡ true }
-    ensures shared { IfOk result (λ shared. shared.items ≡ first ∷ others.now) }
-    ensures same { state_of store.new ≡ state_of store.old }
-    ensures same_pasts { pasts_of store.new ≡ pasts_of store.old }
-    ensures kept { OnOk result (All (λ a. is_kept store.new a.object ≡ true) (first ∷ others.now)) }
-    ensures others_kept { (q : Obj) → is_kept store.old q ≡ true → is_kept store.new q ≡ true }
-{
-    let mut shared = Vec::with_capacity(alloc, others.len().saturating_add(1))?;
-    shared.push(first)?;
-    keep_each(store, alloc, &mut shared, others)?;
-    Ok(shared)
 }
 
 /// Keeps the cells of each of these slots, and answers them, shared. No value changes, also when out of

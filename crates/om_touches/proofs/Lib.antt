@@ -4,3 +4,4 @@ pub mod CellLemmas
 pub mod PartLemmas
 pub mod RangeLemmas
 pub mod Forgetting
+pub mod ConflictLemmas

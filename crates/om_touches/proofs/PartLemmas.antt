@@ -5,12 +5,17 @@ use Rattle.std.proofs.lemmas.List.{take_more, append_assoc, append-nil}
 use Rattle.std.specs.Prelude.{Result, Ok, Err, OnErr}
 use Rattle.std.proofs.lemmas.Bool.Decides.{Decides-eqb}
 use Rattle.om_foot.specs.declared.object.Obj.{Obj}
+use Rattle.om_foot.specs.declared.object.Obj.TheVariants as object
 use Rattle.om_foot.specs.declared.footprint.Mode.{Mode}
+use Rattle.om_foot.specs.declared.footprint.Mode.TheVariants as mode
 use Rattle.om_foot.specs.declared.footprint.Access.{Access}
 use Rattle.om_foot.specs.declared.cells.Cells.{Cells}
 use Rattle.om_foot.specs.Cells.{cells_of, cells_listed}
+use Rattle.om_touches.specs.declared.singles.SingleTouches.{SingleTouches}
+use Rattle.om_touches.specs.declared.slots.SlotTouches.{SlotTouches}
 use Rattle.om_touches.specs.declared.touches.TouchLists.{TouchLists}
-use Rattle.om_touches.specs.Touches.{names, has_touch, Touching, IsSet, LosesOfEntry, AreOnly, AreWithout, meets, meets_at}
+use Rattle.om_touches.specs.Accesses.{control_write}
+use Rattle.om_touches.specs.Touches.{names, has_touch, has_single_touch, has_slot_touch, Touching, IsSet, LosesOfEntry, AreOnly, AreWithout, meets, meets_at}
 use Rattle.om_foot.specs.Firsts.{sooner, IsFirst}
 use Rattle.om_touches.specs.Lists.{names-append, set-append}
 use Rattle.om_touches.specs.Searches.{either_true, meets-append, meets-either, meets_at-either, sooner-first, IsFirst-same}
@@ -191,6 +196,35 @@ less_out footprint serial old new only h o m s = go (nat_eq serial s) (names o m
         let out : has_touch new o m serial ≡ false =
         both_none (has_touch old o m serial) (has_touch new o m serial) (h.fewer o m serial) none in
         subst (λ t. has_touch new o m t ≡ has_touch old o m t) ((Decides-eqb serial s).0 is) (out ∙ sym none)
+
+-- the write of a worker's control is taken out of the touches of single objects: no slot has it
+pub control_out : (w serial : ℕ) (singles new : SingleTouches) (slots : SlotTouches)
+    → IsSet false (control_write w ∷ []) serial (has_single_touch singles) (has_single_touch new)
+    → LosesOfEntry (control_write w ∷ []) serial (either (has_single_touch singles) (has_slot_touch slots))
+    (either (has_single_touch new) (has_slot_touch slots))
+control_out w serial singles new slots h =
+    less_either (control_write w ∷ []) serial (has_single_touch singles) (has_single_touch new) (has_slot_touch slots)
+    (has_slot_touch slots) (set_less (control_write w ∷ []) serial (has_single_touch singles) (has_single_touch new) h)
+    (record { others = λ o m s e. refl; fewer = λ o m s e. e; gone = none })
+  where
+    none : (o : Obj) (m : Mode) → names o m (control_write w ∷ []) ≡ true → has_slot_touch slots o m serial ≡ false
+    none (object.Cell t f n i) m e = cc
+    none o mode.Read e = refl
+    none o mode.Write e = refl
+    none o mode.Add e = refl
+
+bare : (b : Bool) → b ≡ cond b true false
+bare true = refl
+bare false = refl
+
+-- nor does a search in slots find one
+pub control_first : (lists : TouchLists) (w s : ℕ) (x : Option ℕ)
+    → IsFirst (meets_at (has_single_touch lists.singles (object.Control w)) mode.Write) s x
+    → IsFirst (meets_at (has_touch lists (object.Control w)) mode.Write) s x
+control_first lists w s x h =
+    let own = has_single_touch lists.singles (object.Control w) in
+    IsFirst-same (meets_at own mode.Write) (meets_at (has_touch lists (object.Control w)) mode.Write) s x
+    (λ t i. meets_at (λ m u. bare (own m u) i) mode.Write t) h
 
 -- a footprint in three parts
 

@@ -2,13 +2,12 @@
 
 ghost use Rattle.std.specs.Prelude.{◌≡◌, ◌∷◌, ◌++◌, [], IfOk};
 ghost use Rattle.om_foot.specs.Cells.{cells_listed};
-ghost use Rattle.om_touches.specs.Accesses.{Parts, parts_in, accesses_of};
+ghost use Rattle.om_touches.specs.Accesses.{control_write, accesses_of};
 
-use om_foot::{SharedAccess, SharedCells};
+use om_foot::{Access, Mode, Obj, SharedAccess, SharedCells};
 use om_seq::Seq;
 use std::alloc::{AllocError, Global};
 use std::marker::Model;
-use std::slice;
 
 /// Single accesses, then cells that are named at once, then single accesses again.
 #[derive(Drop)]
@@ -18,26 +17,28 @@ struct InParts {
     last: Seq<SharedAccess>,
 }
 
-/// One access, any number of them, or some with cells that are named at once.
+/// Any number of accesses, or some with cells that are named at once.
 #[derive(Drop)]
 enum Forms {
-    One(SharedAccess),
     Many(Seq<SharedAccess>),
     Parts(Box<InParts>),
 }
 
-/// The accesses of a step. Most steps touch their worker's control alone, and one access takes no memory
-/// of its own. The cells of an array are named at once, by their slot.
+/// The accesses of a step. The first one is always the write of its worker's control, so only the worker's
+/// number is kept for it: a step that touches nothing else takes no memory of its own. The cells of an
+/// array are named at once, by their slot.
 ///
-/// Contracts see the three parts; `accesses_of` has the accesses, those of named cells one by one.
+/// Contracts see the worker and the three parts behind its control; `accesses_of` has the accesses, those
+/// of named cells one by one.
 pub struct Accesses {
     forms: Forms,
+    worker: u8,
 }
 
 // By hand: crates above call this, and do not prove anew how each part is dropped.
 impl Drop for Accesses {
     fn drop(self) {
-        let Accesses { forms } = self;
+        let Accesses { forms, worker: _ } = self;
         drop(forms);
     }
 }
@@ -47,57 +48,32 @@ impl Model for Accesses {
 
     ghost Value = { Parts };
 
-    ghost view = { λ a. parts_in a.forms };
-}
-
-impl Forms {
-    /// The single accesses in front, the cells behind them, and the single accesses behind those.
-    fn parts(&self) -> (&[SharedAccess], &[SharedCells], &[SharedAccess])
-        ensures first { result.0.now ≡ (parts_in self.now).first }
-        ensures cells { result.1.now ≡ (parts_in self.now).cells }
-        ensures last { result.2.now ≡ (parts_in self.now).last }
-    {
-        match self {
-            Forms::One(access) => (slice::from_ref(access), &[], &[]),
-            Forms::Many(accesses) => (accesses.as_slice(), &[], &[]),
-            Forms::Parts(parts) => (
-                parts.first.as_slice(),
-                parts.cells.as_slice(),
-                parts.last.as_slice(),
-            ),
-        }
-    }
+    ghost view = { λ a. parts_in a.worker a.forms };
 }
 
 impl Accesses {
-    /// One access alone. It takes no memory.
-    pub fn one(access: SharedAccess) -> Accesses
-        ensures { result ≡ record { first = access ∷ []; cells = []; last = [] } }
+    /// The write of a worker's control, and the accesses of a vector behind it, in its order. It takes no
+    /// memory.
+    pub fn many(worker: u8, others: Vec<SharedAccess>) -> Accesses
+        ensures { result ≡ record { worker = worker; first = others.items; cells = []; last = [] } }
     {
         Accesses {
-            forms: Forms::One(access),
+            forms: Forms::Many(Seq::of(others)),
+            worker,
         }
     }
 
-    /// The accesses of a vector, in its order. It takes no memory.
-    pub fn many(accesses: Vec<SharedAccess>) -> Accesses
-        ensures { result ≡ record { first = accesses.items; cells = []; last = [] } }
-    {
-        Accesses {
-            forms: Forms::Many(Seq::of(accesses)),
-        }
-    }
-
-    /// Single accesses, then cells that are named at once, then single accesses again. Its only error is
-    /// out of memory; then they are gone.
+    /// The write of a worker's control, and behind it single accesses, then cells that are named at once,
+    /// then single accesses again. Its only error is out of memory; then they are gone.
     pub fn of_parts(
         alloc: Global,
+        worker: u8,
         first: Vec<SharedAccess>,
         cells: Seq<SharedCells>,
         last: Vec<SharedAccess>,
     ) -> Result<Accesses, AllocError>
         ensures { IfOk result
-            (λ a. a ≡ record { first = first.items; cells = cells; last = last.items }) }
+            (λ a. a ≡ record { worker = worker; first = first.items; cells = cells; last = last.items }) }
     {
         let parts = InParts {
             first: Seq::of(first),
@@ -107,18 +83,43 @@ impl Accesses {
         let parts = Box::new(alloc, parts)?;
         Ok(Accesses {
             forms: Forms::Parts(parts),
+            worker,
         })
     }
 
-    /// The single accesses in front, the cells behind them, and the single accesses behind those. It
-    /// takes no memory.
+    /// The worker whose control is written, from 0.
+    pub fn worker(&self) -> u8
+        ensures { result ≡ self.now.worker }
+    {
+        self.worker
+    }
+
+    /// The write of the worker's control.
+    pub(crate) fn control(&self) -> Access
+        ensures { result ≡ control_write self.now.worker }
+    {
+        Access {
+            object: Obj::Control(self.worker),
+            mode: Mode::Write,
+        }
+    }
+
+    /// Behind the control: the single accesses in front, the cells behind them, and the single accesses
+    /// behind those. It takes no memory.
     pub fn parts(&self) -> (&[SharedAccess], &[SharedCells], &[SharedAccess])
-        ensures all { accesses_of self.now
-            ≡ result.0.now ++ (cells_listed result.1.now ++ result.2.now) }
+        ensures all { accesses_of self.now ≡ control_write self.now.worker
+            ∷ (result.0.now ++ (cells_listed result.1.now ++ result.2.now)) }
         ensures first { result.0.now ≡ self.now.first }
         ensures cells { result.1.now ≡ self.now.cells }
         ensures last { result.2.now ≡ self.now.last }
     {
-        self.forms.parts()
+        match &self.forms {
+            Forms::Many(others) => (others.as_slice(), &[], &[]),
+            Forms::Parts(parts) => (
+                parts.first.as_slice(),
+                parts.cells.as_slice(),
+                parts.last.as_slice(),
+            ),
+        }
     }
 }

@@ -3,6 +3,7 @@
 
 pub mod accesses;
 mod by_mode;
+pub mod conflicts;
 mod controls;
 mod objects;
 pub mod own;
@@ -12,5 +13,6 @@ mod spans;
 pub mod touches;
 
 pub use accesses::Accesses;
+pub use conflicts::conflict;
 pub use own::OwnEntries;
 pub use touches::TouchLists;

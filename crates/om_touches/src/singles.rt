@@ -2,14 +2,17 @@
 
 ghost use Rattle.std.specs.Prelude.{◌≡◌, ℕ, ◌∷◌, [], true, false, take as first_so_many, OnOk, OnErr};
 ghost use Rattle.om_foot.specs.declared.object.Obj.{Obj};
+ghost use Rattle.om_foot.specs.declared.object.Obj.TheVariants as obj;
 ghost use Rattle.om_foot.specs.declared.footprint.Mode.{Mode};
+ghost use Rattle.om_foot.specs.declared.footprint.Mode.TheVariants as mode;
 ghost use Rattle.om_foot.specs.Cells.{cells_of};
+ghost use Rattle.om_touches.specs.Accesses.{control_write};
 ghost use Rattle.om_touches.specs.Touches.{control_of, meets_at, meets, has_single_touch, IsSet, LosesOfEntry};
 ghost use Rattle.om_foot.specs.Firsts.{IsFirst};
 
 use crate::controls::ControlTouches;
 use crate::objects::ObjectTouches;
-use om_foot::{Obj, SharedAccess, SharedCells};
+use om_foot::{Mode, Obj, SharedAccess, SharedCells};
 use std::alloc::{AllocError, Global};
 
 /// The worker whose control an object is.
@@ -77,6 +80,33 @@ impl SingleTouches {
         Ok(())
     }
 
+    /// Adds the write of a worker's control, and the touches of accesses. When out of memory, those of
+    /// some in front are added.
+    pub(crate) fn add_front(
+        &mut self,
+        alloc: Global,
+        worker: u8,
+        others: &[SharedAccess],
+        serial: u64,
+    ) -> Result<(), AllocError>
+        ensures added { OnOk result (IsSet true (control_write worker ∷ others.now) serial
+            (has_single_touch self.old) (has_single_touch self.new)) }
+        ensures some_on_error { OnErr result
+            ((n : ℕ) × IsSet true (first_so_many n (control_write worker ∷ others.now)) serial
+            (has_single_touch self.old) (has_single_touch self.new)) }
+    {
+        self.controls.add(alloc, worker, Mode::Write, serial)?;
+        self.add_each(alloc, others, serial)
+    }
+
+    /// Takes the write of a worker's control out, if it is there. It takes no memory.
+    pub(crate) fn remove_control(&mut self, worker: u8, serial: u64)
+        ensures { IsSet false (control_write worker ∷ []) serial (has_single_touch self.old)
+            (has_single_touch self.new) }
+    {
+        self.controls.remove(worker, Mode::Write, serial);
+    }
+
     /// Takes a touch out, if it is there. It takes no memory.
     pub(crate) fn remove(&mut self, access: &SharedAccess, serial: u64)
         ensures { IsSet false (access.now ∷ []) serial (has_single_touch self.old) (has_single_touch self.new) }
@@ -94,6 +124,14 @@ impl SingleTouches {
             (has_single_touch self.new) }
     {
         self.objects.remove_in(cells, serial);
+    }
+
+    /// The first touch after a serial that conflicts with the write of a worker's control.
+    pub(crate) fn first_at_control(&self, worker: u8, serial: u64) -> Option<u64>
+        ensures { IsFirst (meets_at (has_single_touch self.now (obj.Control worker)) mode.Write) serial
+            result }
+    {
+        self.controls.first_at(worker, Mode::Write, serial)
     }
 
     /// The first touch after a serial that conflicts with an access.

@@ -118,7 +118,8 @@ impl SlotTouches {
 
     /// Takes the touches of the slot of these cells by an entry out. It takes no memory.
     pub(crate) fn remove(&mut self, cells: &SharedCells, serial: u64)
-        ensures { LosesOfEntry (cells_of cells.now) serial (has_slot_touch self.old) (has_slot_touch self.new) }
+        ensures { LosesOfEntry (cells_of cells.now) serial (has_slot_touch self.old)
+            (has_slot_touch self.new) }
     {
         let cells = cells.cells();
         self.remove_of(&cells.slot, serial);

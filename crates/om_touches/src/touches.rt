@@ -56,8 +56,9 @@ impl TouchLists {
         ensures some_on_error { OnErr result
             ((n : ℕ) × AreWith (first_so_many n (accesses_of footprint.now)) serial self.old self.new) }
     {
+        let worker = footprint.worker();
         let (first, cells, last) = footprint.parts();
-        self.singles.add_each(alloc, first, serial)?;
+        self.singles.add_front(alloc, worker, first, serial)?;
         self.slots.add_each(alloc, cells, serial)?;
         self.singles.add_each(alloc, last, serial)
     }
@@ -126,7 +127,9 @@ impl TouchLists {
         requires { AreOnly (accesses_of footprint.now) serial self.old }
         ensures { AreWithout (accesses_of footprint.now) serial self.old self.new }
     {
+        let worker = footprint.worker();
         let (first, cells, last) = footprint.parts();
+        self.singles.remove_control(worker, serial);
         self.remove_each(first, serial);
         self.remove_each_in(cells, serial);
         self.remove_each(last, serial);
@@ -180,11 +183,13 @@ impl TouchLists {
     pub fn first_conflict(&self, footprint: &Accesses, serial: u64) -> Option<u64>
         ensures { IsFirst (meets (has_touch self.now) (accesses_of footprint.now)) serial result }
     {
+        let control = self.singles.first_at_control(footprint.worker(), serial);
         let (front, cells, last) = footprint.parts();
         let before = sooner(
             self.first_of(front, serial),
             self.first_in_any(cells, serial),
         );
-        sooner(before, self.first_of(last, serial))
+        let others = sooner(before, self.first_of(last, serial));
+        sooner(control, others)
     }
 }

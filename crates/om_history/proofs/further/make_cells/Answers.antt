@@ -13,27 +13,29 @@ use Rattle.om_history.specs.Backs.{backs_listed, WereAlong}
 use Rattle.om_history.proofs.CellParts.{CellsMade, All-at, All-first, along_all, one_slot_more, cells_back}
 use Rattle.om_history.proofs.further.make_cells.Goals as goal
 
-pub put_run-requires : goal.put_run-requires
-put_run-requires c =
+pub put_cells-requires : goal.put_cells-requires
+put_cells-requires c =
     let kept : Access → Type 0 = λ a. is_kept c.args.store.now a.object ≡ true in
     let there : All kept (cells_of c.index-all-i.result) =
     subst (λ (x : Cells). All kept (cells_of x)) (sym c.index-all-i.is)
     (All-at kept c.loop-i.i c.args.all.now c.index-all-i.result (omega arith) c.requires.kept) in
-    All-weaker kept (λ (a : Access). is_kept c.loop-i.store a.object ≡ true)
-    (λ a h. c.loop-i.invariant.kept a.object ∙ h) (cells_of c.index-all-i.result) there
+    record {
+      kept = All-weaker kept (λ (a : Access). is_kept c.loop-i.store a.object ≡ true)
+          (λ a h. c.loop-i.invariant.kept a.object ∙ h) (cells_of c.index-all-i.result) there;
+    }
 
 pub take_back_cells-requires-clause-kept : goal.take_back_cells-requires-clause-kept
 take_back_cells-requires-clause-kept c =
     let kept : Access → Type 0 = λ a. is_kept c.args.store.now a.object ≡ true in
-    All-weaker kept (λ (a : Access). is_kept c.put_run.new.store a.object ≡ true)
-    (λ a h. c.put_run.ensures.kept a.object ∙ c.loop-i.invariant.kept a.object ∙ h)
+    All-weaker kept (λ (a : Access). is_kept c.put_cells.new.self a.object ≡ true)
+    (λ a h. c.put_cells.ensures.kept a.object ∙ c.loop-i.invariant.kept a.object ∙ h)
     (cells_listed (take c.loop-i.i c.args.all.now)) (All-first kept c.loop-i.i c.args.all.now c.requires.kept)
 
 pub returns-in-Err-clause-same_state_on_error : goal.returns-in-Err-clause-same_state_on_error
 returns-in-Err-clause-same_state_on_error c =
     c.take_back_cells.ensures.state
     ∙ cells_back (take c.loop-i.i c.args.all.now) (take c.loop-i.i c.args.runs.now) c.loop-i.were.items
-    (state_of c.args.store.now) (state_of c.put_run.new.store)
+    (state_of c.args.store.now) (state_of c.put_cells.new.self)
     (subst (λ t. CellsMade (take c.loop-i.i c.args.all.now) (take c.loop-i.i c.args.runs.now) c.loop-i.were.items
     (state_of c.args.store.now) t) (sym c.in-Err.ensures.same_state_on_error) c.loop-i.invariant.made)
 
@@ -43,15 +45,15 @@ loop-i-preserved c =
     let runs : List Run = c.args.runs.now in
     record {
       made = subst (λ ws. CellsMade (take (c.loop-i.i + 1) all) (take (c.loop-i.i + 1) runs) ws
-          (state_of c.args.store.now) (state_of c.put_run.new.store)) (sym c.push_reserved.ensures.items)
+          (state_of c.args.store.now) (state_of c.put_cells.new.self)) (sym c.push_reserved.ensures.items)
           (one_slot_more c.loop-i.i all runs c.loop-i.were.items (state_of c.args.store.now)
-          (state_of c.loop-i.store) (state_of c.put_run.new.store) c.index-all-i.result c.in-Some.wanted.now c.in-Ok.was
+          (state_of c.loop-i.store) (state_of c.put_cells.new.self) c.index-all-i.result c.in-Some.wanted.now c.in-Ok.was
           c.requires.along (omega arith) (omega arith) c.index-all-i.is c.in-Some.ensures.lookup.1
           (take_more all c.loop-i.i c.index-all-i.result (omega arith))
           (take_more runs c.loop-i.i c.in-Some.wanted.now (omega arith)) c.loop-i.invariant.made
           c.in-Ok.ensures.was c.in-Ok.ensures.state);
-      pasts = c.put_run.ensures.pasts ∙ c.loop-i.invariant.pasts;
-      kept = λ q. c.put_run.ensures.kept q ∙ c.loop-i.invariant.kept q;
+      pasts = c.put_cells.ensures.pasts ∙ c.loop-i.invariant.pasts;
+      kept = λ q. c.put_cells.ensures.kept q ∙ c.loop-i.invariant.kept q;
       so_many = c.push_reserved.ensures.len ∙ ap (λ n. n + 1) c.loop-i.invariant.so_many;
       room = c.push_reserved.ensures.capacity ∙ c.loop-i.invariant.room;
     }

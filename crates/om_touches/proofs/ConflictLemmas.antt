@@ -59,3 +59,13 @@ conflict_not_first (a ∷ xs) ys bs h = go (conflicts_with_any a bs) (conflict_n
         → cond m (Some a.object) (conflict_of (xs ++ ys) bs) ≡ conflict_of ys bs
     go true rest e = cc
     go false rest e = rest e
+
+-- an access in front of others
+
+pub conflict_here : (a : Access) (xs bs : List Access) → conflicts_with_any a bs ≡ true
+    → conflict_of (a ∷ xs) bs ≡ Some a.object
+conflict_here a xs bs h = ap (λ m. cond m (Some a.object) (conflict_of xs bs)) h
+
+pub conflict_behind : (a : Access) (xs bs : List Access) → conflicts_with_any a bs ≡ false
+    → conflict_of (a ∷ xs) bs ≡ conflict_of xs bs
+conflict_behind a xs bs h = ap (λ m. cond m (Some a.object) (conflict_of xs bs)) h

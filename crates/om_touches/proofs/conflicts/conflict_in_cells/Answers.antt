@@ -3,8 +3,8 @@ use Rattle.om_foot.specs.Footprint.{conflict_of}
 use Rattle.om_foot.specs.declared.cells.Cells.{Cells}
 use Rattle.om_foot.specs.Cells.{cells_of, cells_listed}
 use Rattle.om_touches.specs.Accesses.{accesses_of}
-use Rattle.om_history.proofs.Conflicts.{slots_next, conflict_first, conflict_not_first}
-use Rattle.om_history.proofs.records.conflict_in_cells.Goals as goal
+use Rattle.om_touches.proofs.ConflictLemmas.{slots_next, conflict_first, conflict_not_first}
+use Rattle.om_touches.proofs.conflicts.conflict_in_cells.Goals as goal
 
 pub returns-in-Some : goal.returns-in-Some
 returns-in-Some c =

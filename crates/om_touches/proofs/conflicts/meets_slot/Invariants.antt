@@ -1,7 +1,7 @@
 use Rattle.std.proofs.Common.{◌≡◌, ◌-◌}
 use Rattle.om_foot.specs.Footprint.{conflicts_with_any}
 use Rattle.om_foot.specs.Cells.{cells_from, cells_of}
-use Rattle.om_history.proofs.records.meets_slot.Given as goal
+use Rattle.om_touches.proofs.conflicts.meets_slot.Given as goal
 
 -- the answer for what is left is the answer for all
 abbrev pub invariant-loop-index : goal.invariant-loop-index

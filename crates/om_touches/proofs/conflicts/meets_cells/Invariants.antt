@@ -1,7 +1,7 @@
 use Rattle.std.proofs.Common.{◌≡◌, drop}
 use Rattle.om_foot.specs.Footprint.{conflicts_with_any}
 use Rattle.om_foot.specs.Cells.{cells_listed}
-use Rattle.om_history.proofs.records.meets_cells.Given as goal
+use Rattle.om_touches.proofs.conflicts.meets_cells.Given as goal
 
 -- the answer for what is left is the answer for all
 abbrev pub invariant-loop-other : goal.invariant-loop-other

@@ -4,7 +4,7 @@ use Rattle.std.specs.Map.{values_of}
 use Rattle.om_history.specs.Records.{entries_of}
 use Rattle.om_history.specs.Rows.{entries_in}
 use Rattle.om_history.proofs.Rows.{entries-one}
-use Rattle.om_history.proofs.records.entries.Goals as goal
+use Rattle.om_history.proofs.records.Records.entries.Goals as goal
 
 pub loop-row-preserved : goal.loop-row-preserved
 loop-row-preserved c =

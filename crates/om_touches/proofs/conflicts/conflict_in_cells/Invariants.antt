@@ -2,7 +2,7 @@ use Rattle.std.proofs.Common.{◌≡◌, drop}
 use Rattle.om_foot.specs.Footprint.{conflict_of}
 use Rattle.om_foot.specs.Cells.{cells_listed}
 use Rattle.om_touches.specs.Accesses.{accesses_of}
-use Rattle.om_history.proofs.records.conflict_in_cells.Given as goal
+use Rattle.om_touches.proofs.conflicts.conflict_in_cells.Given as goal
 
 -- the answer for what is left is the answer for all
 abbrev pub invariant-loop-cells : goal.invariant-loop-cells

@@ -1,6 +1,6 @@
 use Rattle.std.proofs.Common.{◌≡◌, drop}
 use Rattle.om_foot.specs.Footprint.{conflicts_with_any}
-use Rattle.om_history.proofs.records.meets_one_of.Given as goal
+use Rattle.om_touches.proofs.conflicts.meets_one_of.Given as goal
 
 -- the answer for what is left is the answer for all
 abbrev pub invariant-loop-other : goal.invariant-loop-other

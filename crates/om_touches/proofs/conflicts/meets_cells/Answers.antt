@@ -2,8 +2,8 @@ use Rattle.std.proofs.Common.{◌≡◌, ◌∙◌, sym, ap, true, false, drop, 
 use Rattle.om_foot.specs.Footprint.{conflicts_with_any}
 use Rattle.om_foot.specs.declared.cells.Cells.{Cells}
 use Rattle.om_foot.specs.Cells.{cells_of, cells_listed}
-use Rattle.om_history.proofs.Conflicts.{slots_next, met_first, met_not_first}
-use Rattle.om_history.proofs.records.meets_cells.Goals as goal
+use Rattle.om_touches.proofs.ConflictLemmas.{slots_next, met_first, met_not_first}
+use Rattle.om_touches.proofs.conflicts.meets_cells.Goals as goal
 
 pub returns-then-meets_slot : goal.returns-then-meets_slot
 returns-then-meets_slot c =

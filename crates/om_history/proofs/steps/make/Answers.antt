@@ -1,0 +1,10 @@
+use Rattle.std.proofs.Common.{◌≡◌, sym, subst, true}
+use Rattle.std.specs.Prelude.{All}
+use Rattle.om_foot.specs.declared.footprint.Access.{Access}
+use Rattle.om_live.specs.Stores.{is_kept}
+use Rattle.om_history.proofs.steps.make.Goals as goal
+
+pub make_changes-requires-clause-room : goal.make_changes-requires-clause-room
+make_changes-requires-clause-room c =
+    subst (All (λ (a : Access). is_kept c.planned.new.store a.object ≡ true)) (sym c.in_ok-making.ensures.footprint)
+    c.in_ok-making.ensures.kept
