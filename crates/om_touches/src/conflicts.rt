@@ -6,6 +6,7 @@ ghost use Rattle.om_foot.specs.Cells.{cells_of, cells_listed};
 ghost use Rattle.om_touches.specs.Accesses.{accesses_of};
 
 use crate::accesses::Accesses;
+use om_foot::cells::spot_of;
 use om_foot::{Access, Cells, Mode, Obj, SharedAccess, SharedCells, is_in_conflict};
 
 /// Whether an access conflicts with one of these.
@@ -20,21 +21,19 @@ fn meets_one_of(access: &Access, others: &[SharedAccess]) -> bool
     false
 }
 
-/// Whether an access conflicts with one of the first cells of a slot, written.
-#[tactic(auto, using(crate::proofs::ConflictLemmas::cells_next))]
+/// Whether an access conflicts with one of the first cells of a slot, written. That could be the cell of
+/// its own index alone, so no other one is looked at.
 fn meets_slot(access: &Access, cells: &Cells) -> bool
     ensures { result ≡ conflicts_with_any access.now (cells_of cells.now) }
 {
-    for index in 0..cells.count {
-        let cell = Access {
-            object: cells.slot.cell(index),
-            mode: Mode::Write,
-        };
-        if is_in_conflict(access, &cell) {
-            return true;
-        }
-    }
-    false
+    let Some((_, index)) = spot_of(&access.object) else {
+        return false;
+    };
+    let cell = Access {
+        object: cells.slot.cell(index),
+        mode: Mode::Write,
+    };
+    index < cells.count && is_in_conflict(access, &cell)
 }
 
 /// Whether an access conflicts with one of these cells.
