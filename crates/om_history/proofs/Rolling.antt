@@ -11,7 +11,7 @@ use Rattle.om_values.specs.State.{State}
 use Rattle.om_values.specs.Rules.{Rules}
 use Rattle.om_history.specs.Runs.{History, after_undo}
 use Rattle.om_history.specs.Cones.{Transition, is_member, cone_after, cone, taken_of, taken_by_roll, rolled, after_roll}
-use Rattle.om_history.specs.Commands.{UndosTo, IsGone, TakesCone}
+use Rattle.om_history.specs.Commands.{UndosTo, IsGone, TakesCone, undone_by}
 use Rattle.om_history.specs.Pasts.{Past, entries_in, IsPast}
 use Rattle.om_history.specs.declared.reply.Taken.{Taken}
 use Rattle.om_history.specs.declared.reply.RollReply.TheVariants.{Rolled}
@@ -83,11 +83,6 @@ some_items len items b ok is h none = true≢false (sym (eq-eqb len 0 (ok ∙ ap
 pub rolled-some : (items : List Taken) → (items ≡ [] → ⊥) → Rolled items ≡ rolled items
 rolled-some [] h = absurd (h refl)
 rolled-some (t ∷ ts) h = refl
-
--- the undos of a list of entries' workers, in this order
-abbrev pub undone_by : Rules → History → List Taken → History
-undone_by r h [] = h
-undone_by r h (t ∷ ts) = undone_by r (after_undo r h t.worker) ts
 
 UndosTo-undone : (r : Rules) (h last : History) (ts : List Taken) → UndosTo r h ts last → undone_by r h ts ≡ last
 UndosTo-undone r h last [] undos = undos

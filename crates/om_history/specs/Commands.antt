@@ -85,6 +85,11 @@ abbrev pub RollIsUndos : Type 0
 RollIsUndos = (r : Rules) (cs : List Command) (serial : ℕ)
     → let h = run r no_history cs in UndosTo r h (taken_by_roll r h serial) (after_roll r h serial)
 
+-- what undos of the workers of these leave, in this order, whatever each replies
+abbrev pub undone_by : Rules → History → List Taken → History
+undone_by r h [] = h
+undone_by r h (t ∷ ts) = undone_by r (after_undo r h t.worker) ts
+
 -- after any run: undos, without steps between, after which an entry is gone, have taken out every member of its cone
 abbrev pub Least : Type 0
 Least = (r : Rules) (cs : List Command) (ws : List ℕ) (serial : ℕ) (t : Transition)

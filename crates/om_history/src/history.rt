@@ -11,7 +11,7 @@ ghost use Rattle.om_history.specs.Bounds.{IsSteady};
 ghost use Rattle.om_history.specs.Shapes.{IsShaped};
 ghost use Rattle.om_history.specs.Runs.{reply_to_undo, after_undo};
 ghost use Rattle.om_history.specs.Cones.{taken_by_roll, reply_to_roll, after_roll};
-ghost use Rattle.om_history.specs.Commands.{IsGone};
+ghost use Rattle.om_history.specs.Commands.{IsGone, undone_by};
 ghost use Rattle.om_history.specs.Choices.{label_by};
 ghost use Rattle.om_history.specs.Records.{is_undone, LastHasSerial};
 ghost use Rattle.om_history.specs.Pasts.{past_in, history_in, IsHeld, IsPlanned, step_for, IsReplay, AreNumbered, Replies, RepliesToStep, Becomes, TakesStep, TakesOut, TakesItsCone, Stays};
@@ -241,11 +241,13 @@ impl History {
         }
     }
 
-    /// Takes out the members of a cone, as `cone` answered it; of another list nothing is said. It takes no
-    /// memory.
+    /// Undoes the last entry of the worker of each of these, in their order, where no later one conflicts
+    /// with it. Where these are the members of a cone, as `cone` answered it, that takes the cone out and
+    /// nothing else. It takes no memory.
     pub fn take_out(&mut self, taken: &[Taken])
         requires { (r : Rules) × IsHeld r self.old }
-        ensures { TakesOut taken.now self.old self.new }
+        ensures each { Becomes (λ r h. undone_by r h taken.now) self.old self.new }
+        ensures cone { TakesOut taken.now self.old self.new }
     {
         for member in taken {
             let _undone = self.undo(member.worker);

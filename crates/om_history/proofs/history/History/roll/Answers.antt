@@ -69,7 +69,7 @@ returns-clause-after c = λ r held.
     let members = c.in_ok-taken.ensures
     ∙ taken_by-is r (past_in c.args.self.now) c.args.serial (transitions_of c.args.self.now.records) held.past
     (transitions-are c.args.self.now) in
-    c.take_out.ensures c.args.serial r held (c.as_slice.ensures.value ∙ members)
+    c.take_out.ensures.cone c.args.serial r held (c.as_slice.ensures.value ∙ members)
 
 pub returns-clause-no_entry : goal.returns-clause-no_entry
 returns-clause-no_entry c =
@@ -90,5 +90,5 @@ returns-clause-takes_cone c = λ r held.
     ∙ taken_by-is r (past_in c.args.self.now) c.args.serial (transitions_of c.args.self.now.records) held.past
     (transitions-are c.args.self.now) in
     subst (TakesCone r (history_in c.args.self.now) c.args.serial)
-    (sym (c.take_out.ensures c.args.serial r held (c.as_slice.ensures.value ∙ members)).0)
+    (sym (c.take_out.ensures.cone c.args.serial r held (c.as_slice.ensures.value ∙ members)).0)
     (takes-is r (past_in c.args.self.now) c.args.serial held.past)

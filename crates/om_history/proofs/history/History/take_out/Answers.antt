@@ -2,11 +2,21 @@
 use Rattle.std.proofs.Common.{◌∙◌, sym, ap}
 use Rattle.std.proofs.lemmas.List.{drop_all}
 use Rattle.om_history.specs.Pasts.{past_in, history_in}
-use Rattle.om_history.proofs.Rolling.{undone_by, rolled-is}
+use Rattle.om_history.specs.Commands.{undone_by}
+use Rattle.om_history.proofs.Rolling.{rolled-is}
 use Rattle.om_history.proofs.history.History.take_out.Goals as goal
 
-pub returns : goal.returns
-returns c = λ serial r held is.
+pub returns-clause-each : goal.returns-clause-each
+returns-clause-each c = λ r held.
+    let left = c.loop-member.invariant r held in (
+      ap (undone_by r (history_in c.loop-member.self))
+          (sym (drop_all c.loop-member.member-index c.args.taken.now c.loop-member-test.false))
+          ∙ left.0,
+      left.1,
+    )
+
+pub returns-clause-cone : goal.returns-clause-cone
+returns-clause-cone c = λ serial r held is.
     let left = c.loop-member.invariant r held in (
       ap (undone_by r (history_in c.loop-member.self))
           (sym (drop_all c.loop-member.member-index c.args.taken.now c.loop-member-test.false))

@@ -1,7 +1,7 @@
 use Rattle.std.proofs.Common.{◌≡◌, drop}
 use Rattle.om_values.specs.Rules.{Rules}
 use Rattle.om_history.specs.Pasts.{history_in, IsHeld}
-use Rattle.om_history.proofs.Rolling.{undone_by}
+use Rattle.om_history.specs.Commands.{undone_by}
 use Rattle.om_history.proofs.history.History.take_out.Given as goal
 
 -- the undos of what is left end where those of all end
