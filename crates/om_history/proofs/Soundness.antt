@@ -19,7 +19,7 @@ use Rattle.om_history.specs.Runs.{History, label_of, state_of_entries, entry_for
 use Rattle.om_history.specs.Runs.{reply_to_step, after_step, last_place, reply_at, reply_to_undo, history_without}
 use Rattle.om_history.specs.Runs.{after_undo}
 use Rattle.om_history.specs.declared.reply.UndoReply.{UndoReply}
-use Rattle.om_history.specs.declared.reply.UndoReply.TheVariants.{Undone}
+use Rattle.om_history.specs.declared.reply.UndoReply.TheVariants.{Undone, Conflict, Nothing}
 use Rattle.om_history.specs.declared.records.UndoRecord.{UndoRecord}
 use Rattle.om_history.specs.Records.{entries_of, IsRight, first_kept_conflict, reply_before, kept_reply}
 use Rattle.om_history.specs.Records.{is_undone, IsLastOf}
@@ -230,6 +230,11 @@ pub past_taken : (r : Rules) (p next : Past) (i w : ℕ) → IsPast r p → HasL
     → is_undone (kept_reply p.records i) ≡ true → TakenFrom p i next → IsPast r next
 past_taken r p next i w is x done taken = subst (IsPast r) (taken-is p next i x.made x.is_last.at taken)
     (past-removed r p i w x.made is x.is_last done)
+
+pub not_undone : (r : UndoReply) → ((serial line : ℕ) → r ≡ Undone serial line → ⊥) → is_undone r ≡ false
+not_undone (Undone serial line) h = absurd (h serial line refl)
+not_undone (Conflict serial worker q) h = refl
+not_undone Nothing h = refl
 
 pub undo_replies : (r : Rules) (p : Past) (i w : ℕ) (reply : UndoReply) → IsPast r p → HasLast w p.records i
     → reply ≡ kept_reply p.records i → reply ≡ reply_to_undo r (entries_in p) w

@@ -13,7 +13,7 @@ ghost use Rattle.om_history.specs.Runs.{reply_to_undo, after_undo};
 ghost use Rattle.om_history.specs.Cones.{taken_by_roll, reply_to_roll, after_roll};
 ghost use Rattle.om_history.specs.Commands.{IsGone, undone_by};
 ghost use Rattle.om_history.specs.Choices.{label_by};
-ghost use Rattle.om_history.specs.Records.{is_undone, LastHasSerial};
+ghost use Rattle.om_history.specs.Records.{LastHasSerial};
 ghost use Rattle.om_history.specs.Pasts.{past_in, history_in, IsHeld, IsPlanned, step_for, IsReplay, AreNumbered, Replies, RepliesToStep, Becomes, TakesStep, TakesOut, TakesItsCone, Stays};
 
 use crate::choice::start_of;
@@ -64,13 +64,6 @@ fn fault_by(store: &Store, worker: u8, edits: &[Edit]) -> Option<Fault>
     }
 }
 
-/// Whether an undo was done.
-fn is_undone(reply: &UndoReply) -> bool
-    ensures { result ≡ is_undone reply.now }
-{
-    matches!(reply, UndoReply::Undone { .. })
-}
-
 impl History {
     /// The history in which no step was made, over the store in which a program starts. It takes no
     /// memory.
@@ -114,7 +107,7 @@ impl History {
         ensures after { Becomes (λ r h. after_undo r h worker) self.old self.new }
     {
         let reply = self.records.reply_to(serial);
-        if is_undone(&reply) {
+        if matches!(reply, UndoReply::Undone { .. }) {
             take_out(&mut self.store, &mut self.records, serial);
         }
         reply

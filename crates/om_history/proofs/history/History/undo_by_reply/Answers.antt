@@ -7,9 +7,10 @@ use Rattle.om_history.specs.Fills.{full_all}
 use Rattle.om_history.specs.Records.{kept_reply, is_undone, LastHasSerial}
 use Rattle.om_history.specs.Pasts.{past_of, past_in}
 use Rattle.om_history.proofs.Removed.{full_kept_reply}
-use Rattle.om_history.proofs.Soundness.{undo_replies, undo_done, undo_refused}
+use Rattle.om_history.proofs.Soundness.{not_undone, undo_replies, undo_done, undo_refused}
 use Rattle.om_history.proofs.Holding.{can_leave, has_last, done_in, taken_from, kept_without}
 use Rattle.om_history.proofs.history.History.undo_by_reply.Goals as goal
+use Rattle.om_history.proofs.history.History.undo_by_reply.Goals.{in-Undone, in_default}
 
 pub reply_to-reply-requires : goal.reply_to-reply-requires
 reply_to-reply-requires c =
@@ -18,16 +19,20 @@ reply_to-reply-requires c =
 
 pub take_out-requires-clause-can : goal.take_out-requires-clause-can
 take_out-requires-clause-can c = λ i k at is.
+    let told : is_undone c.reply_to-reply.result ≡ c.match-matches.matches = elim c.match-matches.branch [
+      | in-Undone w ↦ ap is_undone w.in-Undone.is ∙ sym w.matches-is
+      | in_default w ↦ not_undone c.reply_to-reply.result w.in_default.not-Undone ∙ sym w.matches-is
+    ] in
     can_leave c.requires.held.0 c.args.self.now.store c.args.self.now.records c.args.self.now.made i k c.requires.held.1 at
-    (sym (ap is_undone (c.reply_to-reply.ensures i k at is)) ∙ sym c.is_undone.ensures ∙ c.if-is_undone.true)
+    (sym (ap is_undone (c.reply_to-reply.ensures i k at is)) ∙ told ∙ c.if-matches.true)
 
 pub take_out-requires-clause-there : goal.take_out-requires-clause-there
 take_out-requires-clause-there c =
     let x : LastHasSerial c.args.worker c.args.self.now.records c.args.serial = c.requires.last in
     (x.i, x.made, x.is_last.at, x.serial_is)
 
-pub returns-then-is_undone-clause-reply : goal.returns-then-is_undone-clause-reply
-returns-then-is_undone-clause-reply c = λ r held.
+pub returns-then-matches-clause-reply : goal.returns-then-matches-clause-reply
+returns-then-matches-clause-reply c = λ r held.
     let ks : List UndoRecord = c.args.self.now.records in
     let x : LastHasSerial c.args.worker ks c.args.serial = c.requires.last in
     undo_replies r (past_in c.args.self.now) x.i c.args.worker c.reply_to-reply.result held.past
@@ -35,14 +40,17 @@ returns-then-is_undone-clause-reply c = λ r held.
     (c.reply_to-reply.ensures x.i x.made x.is_last.at x.serial_is
     ∙ sym (full_kept_reply (pasts_of c.args.self.now.store) ks x.i))
 
-pub returns-then-is_undone-clause-after : goal.returns-then-is_undone-clause-after
-returns-then-is_undone-clause-after c = λ r held.
+pub returns-then-matches-clause-after : goal.returns-then-matches-clause-after
+returns-then-matches-clause-after c = λ r held.
+    let told : is_undone c.reply_to-reply.result ≡ c.match-matches.matches = elim c.match-matches.branch [
+      | in-Undone w ↦ ap is_undone w.in-Undone.is ∙ sym w.matches-is
+      | in_default w ↦ not_undone c.reply_to-reply.result w.in_default.not-Undone ∙ sym w.matches-is
+    ] in
     let ks : List UndoRecord = c.args.self.now.records in
     let rest : List UndoRecord = c.take_out.new.records in
     let x : LastHasSerial c.args.worker ks c.args.serial = c.requires.last in
     let done : is_undone (kept_reply ks x.i) ≡ true =
-    sym (ap is_undone (c.reply_to-reply.ensures x.i x.made x.is_last.at x.serial_is)) ∙ sym c.is_undone.ensures
-    ∙ c.if-is_undone.true in
+    sym (ap is_undone (c.reply_to-reply.ensures x.i x.made x.is_last.at x.serial_is)) ∙ told ∙ c.if-matches.true in
     let state = c.take_out.ensures.state x.i x.made x.is_last.at x.serial_is in
     let pasts = c.take_out.ensures.pasts x.i x.made x.is_last.at x.serial_is in
     let left : rest ≡ remove ks x.i = c.take_out.ensures.records x.i x.made x.is_last.at x.serial_is in (
@@ -58,8 +66,8 @@ returns-then-is_undone-clause-after c = λ r held.
           x.is_last done state pasts left held c.take_out.ensures.kept,
     )
 
-pub returns-else-is_undone-clause-reply : goal.returns-else-is_undone-clause-reply
-returns-else-is_undone-clause-reply c = λ r held.
+pub returns-else-matches-clause-reply : goal.returns-else-matches-clause-reply
+returns-else-matches-clause-reply c = λ r held.
     let ks : List UndoRecord = c.args.self.now.records in
     let x : LastHasSerial c.args.worker ks c.args.serial = c.requires.last in
     undo_replies r (past_in c.args.self.now) x.i c.args.worker c.reply_to-reply.result held.past
@@ -67,14 +75,18 @@ returns-else-is_undone-clause-reply c = λ r held.
     (c.reply_to-reply.ensures x.i x.made x.is_last.at x.serial_is
     ∙ sym (full_kept_reply (pasts_of c.args.self.now.store) ks x.i))
 
-pub returns-else-is_undone-clause-after : goal.returns-else-is_undone-clause-after
-returns-else-is_undone-clause-after c = λ r held.
+pub returns-else-matches-clause-after : goal.returns-else-matches-clause-after
+returns-else-matches-clause-after c = λ r held.
+    let told : is_undone c.reply_to-reply.result ≡ c.match-matches.matches = elim c.match-matches.branch [
+      | in-Undone w ↦ ap is_undone w.in-Undone.is ∙ sym w.matches-is
+      | in_default w ↦ not_undone c.reply_to-reply.result w.in_default.not-Undone ∙ sym w.matches-is
+    ] in
     let ks : List UndoRecord = c.args.self.now.records in
     let x : LastHasSerial c.args.worker ks c.args.serial = c.requires.last in (
       undo_refused r (past_in c.args.self.now) x.i c.args.worker held.past
           (has_last c.args.worker (pasts_of c.args.self.now.store) ks x.i x.made x.is_last)
           (ap is_undone (full_kept_reply (pasts_of c.args.self.now.store) ks x.i)
           ∙ sym (ap is_undone (c.reply_to-reply.ensures x.i x.made x.is_last.at x.serial_is))
-          ∙ sym c.is_undone.ensures ∙ c.if-is_undone.false),
+          ∙ told ∙ c.if-matches.false),
       held,
     )
