@@ -138,10 +138,10 @@ impl Slots {
         ensures shared { IfOk result (λ shared. shared ≡ object.now) }
         ensures stays { (q : Obj) → slot_value self.new q ≡ slot_value self.old q }
     {
-        let Some((slot, index)) = spot_of(object) else {
-            return SharedObject::of(alloc, object);
-        };
-        share(alloc, &mut self.slots, &slot, index, object)
+        match spot_of(object) {
+            Some(spot) => share(alloc, &mut self.slots, &spot, object),
+            None => SharedObject::of(alloc, object),
+        }
     }
 
     /// Keeps cells of a slot, with the values that they hold, and answers them, shared. No value changes,
@@ -180,15 +180,14 @@ fn put(slots: &mut BTreeMap<SlotName, SlotPlace>, slot: &SlotName, index: u32, v
 fn share(
     alloc: Global,
     slots: &mut BTreeMap<SlotName, SlotPlace>,
-    slot: &SlotName,
-    index: u32,
+    spot: &(SlotName, u32),
     object: &Obj,
 ) -> Result<SharedObject, AllocError>
     ensures shared { IfOk result (λ shared. shared ≡ object.now) }
     ensures stays { (q : Obj) → slot_value slots.new.entries q ≡ slot_value slots.old.entries q }
 {
-    match slots.get_mut(slot) {
-        Some(place) => place.share(alloc, index, object),
+    match slots.get_mut(&spot.0) {
+        Some(place) => place.share(alloc, spot.1, object),
         None => SharedObject::of(alloc, object),
     }
 }

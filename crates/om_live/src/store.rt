@@ -196,10 +196,23 @@ impl Store {
         match worker_of(object) {
             Some(worker) => {
                 self.know_control(alloc, worker)?;
-                SharedObject::of(alloc, object)
+                self.keep_value(alloc, object)
             }
-            None => self.values.keep(alloc, object),
+            None => self.keep_value(alloc, object),
         }
+    }
+
+    /// Keeps an object among those that are no control, where a control is only kept to be shared, and
+    /// answers it, shared. No value changes, also when out of memory.
+    fn keep_value(&mut self, alloc: Global, object: &Obj) -> Result<SharedObject, AllocError>
+        ensures shared { IfOk result (λ shared. shared ≡ object.now) }
+        ensures state { state_of self.new ≡ state_of self.old }
+        ensures pasts { pasts_of self.new ≡ pasts_of self.old }
+        ensures kept { OnOk result
+            (is_trailed object.now ≡ false → is_kept self.new object.now ≡ true) }
+        ensures others_kept { (q : Obj) → is_kept self.old q ≡ true → is_kept self.new q ≡ true }
+    {
+        self.values.keep(alloc, object)
     }
 
     /// Keeps the control of a worker. Its only error is out of memory. No value changes, also then.

@@ -5,7 +5,7 @@ use Rattle.om_cells.proofs.slots.share.Goals as goal
 pub returns-in-Some-clause-stays : goal.returns-in-Some-clause-stays
 returns-in-Some-clause-stays c =
     let es = c.args.slots.now.entries in
-    let slot = c.args.slot.now in
+    let slot = c.args.spot.now.0 in
     let old = c.in-Some.place.now in
     let w = c.share.new.self in
     same_in slot old w es (c.get_mut.follows.lender w).entries (sym c.in-Some.ensures.value) c.share.ensures.stays
