@@ -236,7 +236,7 @@ impl Book {
     }
 
     /// As `apply`, and answers its reply twice.
-    pub(crate) fn apply_with_copy(
+    pub fn apply_with_copy(
         &mut self,
         alloc: Global,
         seat: u8,
