@@ -5,7 +5,8 @@ use Rattle.std.specs.Char.{digit_value}
 use Rattle.om_lexer.specs.declared.fault.FaultCode.{FaultCode}
 use Rattle.om_lexer.specs.declared.fault.FaultCode.TheVariants as codes
 
--- a constant that begins with `0x` is hexadecimal, any other that begins with `0` octal, the rest are decimal
+-- a constant that begins with `0x` is hexadecimal, any other that begins with `0` octal, the rest are decimal; `0X`
+-- is left out
 unfoldable pub base_of : List ℕ → ℕ
 base_of text = if starts_with nat_eq text (codes "0x") then 16 else (if starts_with nat_eq text (codes "0") then 8
     else 10)

@@ -53,11 +53,11 @@ pub record IsInclude (source : List ℕ) (from to : ℕ) : Type 0 where
   pub tail : EndsLine source to
 
 -- a name or a keyword (C17 6.10.3 makes no difference), of at most 63 bytes, where it is a run of letters,
--- digits and `_`
+-- digits and `_`; also `defined` and `__LINE__`, which C17 6.10.8p2 forbids: an own choice
 abbrev pub IsMacroName : List ℕ → Type 0
 IsMacroName text = (0 < length text) × (is_ascii_digit (slice_index text 0) ≡ false) × (length text ≤ 63)
 
--- C17 6.4.4.1: a decimal constant, however large; `0` is one too
+-- a decimal constant, however large, or `0`, which C17 6.4.4.1 calls octal
 abbrev pub IsDecimal : List ℕ → Type 0
 IsDecimal text = (0 < length text) × All (λ b. digit_value b < 10) text × (slice_index text 0 ≡ 48 → length text ≡ 1)
 

@@ -8,7 +8,8 @@ IsLineEnd source from to =
     ((slice_index source from ≡ 10) × (to ≡ from + 1))
     ⊎ ((slice_index source from ≡ 13) × (slice_index source (from + 1) ≡ 10) × (to ≡ from + 2))
 
--- a space, a tab, a carriage return, or a backslash directly before a line end (C17 5.1.1.2, phase 2)
+-- a space, a tab, a carriage return, or a backslash directly before a line end; the last is an own choice, since
+-- C17 5.1.1.2, phase 2 deletes the two, and so joins what stands round them
 abbrev pub IsSpace : List ℕ → ℕ → ℕ → Type 0
 IsSpace source from to =
     ((is_blank (slice_index source from) ≡ true) × (to ≡ from + 1))
@@ -25,7 +26,8 @@ pub record IsBlockComment (source : List ℕ) (from to : ℕ) : Type 0 where
   pub first : (k : ℕ) → from + 2 ≤ k → k < last → slice_index source k ≡ 42 → slice_index source (k + 1) ≡ 47 → ⊥
   pub end : to ≡ last + 2
 
--- C17 6.4.9: `//` up to a line feed, which is no part of it, or to the end of the source
+-- C17 6.4.9: `//` up to a line feed, which is no part of it, or to the end of the source; an own choice is that a
+-- backslash before the line feed does not continue it
 pub record IsLineComment (source : List ℕ) (from to : ℕ) : Type 0 where
   pub slashes : (slice_index source from ≡ 47) × (slice_index source (from + 1) ≡ 47)
   pub behind : from + 2 ≤ to

@@ -11,23 +11,24 @@ use thiserror::Error;
 pub enum FaultCode {
     /// S0: no memory.
     Memory,
-    /// S1: a source of more than 1,048,576 bytes.
+    /// S1: a source of more than 1,048,576 bytes, and no fault of the lexer below that byte.
     SourceTooLong,
     /// S2: no token begins with these bytes.
     BadToken,
     /// S3: no program goes on with this token.
     Syntax,
-    /// S4: a `#` line that is not accepted.
+    /// S4: a `#` line that is not accepted, or that defines a name as another number.
     BadHashLine,
     /// S5: a word that is no directive, or no clause, where one must stand.
     UnknownDirective,
-    /// S6: a clause that is wrong, repeated or not allowed there.
+    /// S6: a clause that is wrong, repeated or not allowed there, or an `atomic` whose statement has none
+    /// of its forms.
     BadClause,
     /// S7: a name that is not declared, or a function that is never defined.
     Undeclared,
     /// S8: a name that is declared twice.
     Redeclared,
-    /// S9: a name or a value that is used as what it is not.
+    /// S9: a name or a value that is used as what it is not, or a `main` or an array of a wrong form.
     Misuse,
     /// S10: a constant above 2147483647.
     ConstantTooLarge,

@@ -35,7 +35,8 @@ pub(crate) fn piece_at(
     read_piece(alloc, source, at, state, macros)
 }
 
-/// The same, told of its kind alone: a piece has a byte at least and ends in the source.
+/// The piece itself. That it has a byte and ends in the source follows from what it is, so `piece_at`
+/// adds it.
 fn read_piece(
     alloc: Global,
     source: &[u8],

@@ -25,8 +25,9 @@ use std::alloc::Global;
 /// - S5, S6: a word of the line, as `om_pragma::directive` refuses it.
 /// - S16: the token of the expression at which a limit is passed; its clause's parentheses count
 ///   for the nesting.
-/// - S3: the first token that no line has there. It is the closing parenthesis of the clause where
-///   its expression lacks a token, and 4294967295, past every source, where the line has no end.
+/// - S3: the token at which reading from the left stops; no clause says that it is the first that no
+///   line has there. It is the closing parenthesis of the clause where its expression lacks a token,
+///   and 4294967295, past every source, where the line has no end.
 ///
 /// Where a line has two of these faults, the one in the expression of a clause that ends before
 /// the other is given.

@@ -60,7 +60,7 @@ pub record Around : Type 0 where
   pub breaks : Bool
   -- there is one, or the construct is for a loop, with which a `continue` goes on (C17 6.8.6.2p1)
   pub continues : Bool
-  -- there is a construct, which a `return` would leave (OpenMP API 5.2, section 1.3)
+  -- there is a construct, which a `return` would leave (OpenMP API 5.2, section 4.3)
   pub in_construct : Bool
 
 abbrev pub with_locals : Around → List Local → Around

@@ -1,4 +1,4 @@
--- The code of statements and directives, row by row as the table of lowering has it. An instruction has the line of
+-- The code of statements and directives, row by row as docs/LANGUAGE has it (*The code of each form*). An instruction has the line of
 -- the first token of its statement, or of its `if`, `while`, `do` or `for`. Those of a directive have the
 -- directive's, but for a loop's bounds; so have all those of an `atomic`.
 use Rattle.std.specs.Prelude.{◌≡◌, ℕ, pos, List, [], ◌∷◌, Option, None, Some, Bool, true, false, length, is_some}
@@ -73,7 +73,7 @@ start at l (StartDeclaration ds) = each (declarator at l) ds
 abbrev pub test : Site → ℕ → ℕ → ResolvedExpressionTree → Row
 test at l f c = part (value at l c) ▸ ins at l (i.JumpIfZero f) ▸ end
 
--- what ends the frame of a function, with a value or without: RET and RETN, in `main` FIN 1 and FIN 0
+-- what ends the frame of a function, with a value or without: RET and RETN, in `main` FIN with a value and FIN
 abbrev pub last_instruction : (is_main has_value : Bool) → Instr
 last_instruction true has_value = i.Finish has_value
 last_instruction false true = i.Return
@@ -156,7 +156,7 @@ abbrev pub worksharing_end : Site → ℕ → (nowait : Bool) → Row
 worksharing_end at l nowait = ins at l i.EndWorksharing ▸ unless nowait (barrier at l barriers.Worksharing)
 
 -- what stands behind a worksharing loop, or behind the parts of `sections`: RED each, ENDW, and without `nowait`
--- ARRIVE 8 and DEPART 8
+-- ARRIVE and DEPART of the barrier of worksharing
 abbrev pub closes : Site → ℕ → List ResolvedClauseTree → (nowait : Bool) → Row
 closes at l clauses nowait = part (reductions at l clauses) ▸ worksharing_end at l nowait
 

@@ -144,7 +144,8 @@ sharing_of (Some copies.Private) = lists.Private
 sharing_of (Some copies.Firstprivate) = lists.Firstprivate
 sharing_of (Some (copies.Reduction operator)) = lists.Firstprivate
 
--- S7; S9: no variable, an array of which a copy were made, a name that stands in a clause already; S13
+-- S7; S9: no variable, an array of which a copy were made (which OpenMP allows: an own choice), a name that stands in a
+-- clause already; S13
 abbrev pub listed_breaches : Scopes → DataSharing → Listed → names.Name → List SourceFault
 listed_breaches scopes sharing listed name =
     undeclared_breaches scopes name

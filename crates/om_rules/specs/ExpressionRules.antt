@@ -79,7 +79,8 @@ array_breaches scopes name =
     ++ misused_array_breaches (meaning_of scopes name.text) (is_copied scopes name.text) name.span.start
     ++ unlisted_breaches scopes name
 
--- a call of a variable, of `main`, with the wrong number of values, or of a `void` function for its value
+-- a call of a variable, of `main`, with the wrong number of values (C17 6.5.2.2p2), or of a `void` function for its
+-- value
 abbrev pub is_miscalled : Bool → List ℕ → ℕ → Option Meaning → Bool
 is_miscalled for_value name count (Some (meanings.Function signature)) =
     bytes_eq name (codes "main") || not (nat_eq signature.parameters count) || (for_value && not signature.returns)
@@ -194,7 +195,7 @@ unfoldable mutual
       (expression_breaches scopes true e))
       ++ printed_breaches scopes (place + 1) rest
 
-  -- S9: what is assigned to is such (C17 6.5.16p2)
+  -- S9: what `=`, `++` and `--` change is a name or an element (C17 6.5.16p2, 6.5.2.4p1, 6.5.3.1p1)
   pub target_breaches : Scopes → ExpressionTree → List SourceFault
   target_breaches scopes (Name n) = scalar_breaches scopes n
   target_breaches scopes (Index n left e right) = array_breaches scopes n ++ expression_breaches scopes true e

@@ -1,5 +1,6 @@
 -- Canonical loops (OpenMP API 5.2, section 4.4.1), of the forms that are supported. That section also allows `!=`, the
--- bound on the left of its comparison, and a step that is no constant; these are left out here.
+-- bound on the left of its comparison, and a step that is no constant; these are left out here. Not asked, though the
+-- section asks it: that the bounds do not change in the loop.
 use Rattle.std.specs.Prelude.{ℕ, ℤ, pos, ◌-ℤ◌, List, [], ◌∷◌, Option, None, Some, Bool, true, false, ◌&&◌, not, nat_lt}
 use Rattle.std.specs.Prelude.{nat_le, if◌then◌else◌}
 use Rattle.std.specs.Str.{bytes_eq}

@@ -190,6 +190,7 @@ after_globals scopes ds = fold after_global scopes ds
 
 -- ---- functions
 
+-- `()` stands for `(void)`, also in a prototype, where C17 6.7.6.3p14 says nothing of the parameters: an own choice
 abbrev pub parameters_of : {N : Type 0} → ParametersTree N → List (Parameter N)
 parameters_of NoParameters = []
 parameters_of (Void at) = []

@@ -14,7 +14,7 @@ use Rattle.om_rules.specs.Scopes.{Scope, Scopes, Enclosing, is_declared}
 abbrev pub declares : Scope → List ℕ → Bool
 declares scope name = is_some (lookup (bytes_eq name) scope)
 
--- `default(none)`
+-- `default(none)` (OpenMP API 5.2, section 5.4.1)
 abbrev pub asks_for_clauses : Option Sharing → Bool
 asks_for_clauses None = false
 asks_for_clauses (Some sharings.Shared) = false

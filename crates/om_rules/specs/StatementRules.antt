@@ -22,7 +22,8 @@ use Rattle.om_resolved.specs.declared.resolved.Shape.TheVariants as shapes
 use Rattle.om_rules.specs.Scopes.{Scopes, is_declared, inside, meaning_of, with_local, declarators_of, after_local}
 use Rattle.om_rules.specs.Scopes.{after_locals}
 
--- S8: declared again in the same scope (C17 6.7p3)
+-- S8: declared again in the same scope (C17 6.7p3; of globals an own choice, since 6.9.2p2 lets a tentative definition
+-- stand again)
 abbrev pub redeclared_breaches : Scopes → names.Name → List SourceFault
 redeclared_breaches scopes name = breach_if (is_declared scopes name.text) faults.Redeclared name.span.start
 
@@ -47,6 +48,7 @@ abbrev pub locals_breaches : Scopes → List (DeclaratorTree ExpressionTree) →
 locals_breaches = breaches_along local_breaches after_local
 
 -- S14: a `break` or a `continue` outside of a loop (C17 6.8.6.2p1, 6.8.6.3p1), or a jump that leaves a construct
+-- (structured blocks: OpenMP API 5.2, section 4.3)
 abbrev pub jump_breaches : Bool → ℕ → List SourceFault
 jump_breaches allowed at = breach_if (not allowed) faults.LeavesConstruct at
 
@@ -81,7 +83,7 @@ looping flow = record flow { may_break = true; may_continue = true }
 -- ---- canonical loops
 
 -- the bounds of a loop use the originals of the copies that a `for` makes, and the copies of a `parallel for`, which
--- are those of its `parallel` (OpenMP API 5.2, section 11.5)
+-- are those of its `parallel` (an own reading: OpenMP API 5.2, section 4.4.1 has the bounds evaluated before the loop)
 abbrev pub round_bounds : Directive ExpressionTree → Scopes → Scopes
 round_bounds d scopes = if is_parallel (traits_of d.name).region then in_construct d scopes else scopes
 

@@ -21,7 +21,7 @@ use Rattle.om_tree.specs.Tree.{ExpressionTree, StatementTree}
 
 -- ---- the side of the target, where it is assigned a value
 
--- parentheses tell operands apart
+-- `same_expression` tells `x` from `(x)`, so the target is found as it is written; any other value counts as Left
 abbrev pub value_side : (target : ExpressionTree) → ExpressionTree → Side
 value_side target (trees.Binary a o at b) = if same_expression target a then sides.Left else sides.Right
 value_side target _ = sides.Left

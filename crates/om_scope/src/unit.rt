@@ -187,7 +187,8 @@ fn check_main(unit: &Unit) -> Result<(), SourceFault>
 /// Refusals:
 /// - S0 at byte 0: no memory.
 /// - S7 at a name that no declaration before it declares, or of a function that is never defined.
-/// - S8 at a name that is declared again as something else, or a function that is defined again.
+/// - S8 at a name that its scope declares already, where a function may be declared again with the same
+///   result and number of parameters, or of a function that is defined again.
 ///   `printf`, `omp_get_thread_num` and `omp_get_num_threads` count as defined before the source.
 /// - S9 at a name that is used, called, listed or declared as what it can't be, or at the first
 ///   token of a value that can't stand there.

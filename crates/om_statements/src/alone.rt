@@ -115,7 +115,7 @@ pub fn barrier(draft: &mut Draft, line: u32, kind: Barrier) -> Done
 }
 
 /// Writes the end of a worksharing construct: all threads wait for each other, unless it is `nowait`
-/// (OpenMP API 5.2, section 15.6).
+/// (OpenMP API 5.2, sections 15.3.2 and 15.6).
 pub fn worksharing_end(draft: &mut Draft, line: u32, nowait: bool) -> Done
     ensures { OnOk result
         (EmitsAnywhere (λ at. worksharing_end at line nowait) draft.old draft.new) }

@@ -59,7 +59,8 @@ fn set_original(
     Ok(())
 }
 
-/// Writes what the copy of a clause of a worksharing construct begins with (OpenMP API 5.2, section 5.4).
+/// Writes what the copy of a clause of a worksharing construct begins with (OpenMP API 5.2, sections 5.4.3,
+/// 5.4.4 and 5.5.3).
 fn begin_copy(draft: &mut Draft, here: &Here<'_>, clause: &ResolvedClause) -> Done
     ensures { Appends result here.now rows.clause_start (view_resolved_clause clause.now) draft.old
         draft.new }
