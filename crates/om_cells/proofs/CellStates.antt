@@ -61,6 +61,10 @@ pub some_over : (x y : Option Val) → is_some x ≡ true → is_some (kept_over
 some_over None y h = cc
 some_over (Some w) y h = refl
 
+pub single_over : (x y : Option Val) → is_some y ≡ true → is_some (kept_over x y) ≡ true
+single_over None y h = h
+single_over (Some w) y h = refl
+
 pub none_over : (x y : Option Val) → is_some x ≡ false → y ≡ None → is_some (kept_over x y) ≡ false
 none_over None y h none = ap is_some none
 none_over (Some w) y h none = cc

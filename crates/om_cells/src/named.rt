@@ -1,6 +1,6 @@
 //! The places of the objects of each name.
 
-ghost use Rattle.std.specs.Prelude.{◌≡◌, ◌<◌, ℕ, Bool, List, [], Option, None, Some, true, false, not, cond, is_some, IfOk, OnOk, OnErr};
+ghost use Rattle.std.specs.Prelude.{◌≡◌, ◌<◌, ℕ, Bool, List, [], Option, None, Some, true, false, not, cond, is_some, IfOk, IfSome, OnOk, OnErr};
 ghost use Rattle.std.specs.BTreeMap.{is_at};
 ghost use Rattle.std.specs.Cmp.Lexicographic.{slice_cmp};
 ghost use Rattle.std.specs.Option.{option_copied};
@@ -15,7 +15,7 @@ ghost use Rattle.om_values.specs.Values.{task_in};
 use crate::place::Place;
 use crate::places::Places;
 use om_foot::part::Part;
-use om_foot::{Name, SlotName};
+use om_foot::{Access, Name, SharedAccess, SlotName};
 use om_values::{Task, Val};
 use std::alloc::{AllocError, Global};
 use std::cmp::Ordering;
@@ -113,6 +113,23 @@ impl Named {
         before
     }
 
+    /// An access, shared with the place at a part of a name; `None` where none is kept there. Its only error
+    /// is out of memory. What is kept stays.
+    pub fn share(
+        &mut self,
+        alloc: Global,
+        name: &Name,
+        part: &Part,
+        access: &Access,
+    ) -> Result<Option<SharedAccess>, AllocError>
+        ensures shared { IfOk result (λ found. IfSome found (λ shared. shared ≡ access.now)) }
+        ensures found { IfOk result
+            (λ found. is_some found ≡ is_some (value_of self.old name.now part.now)) }
+        ensures stays { StaysOf self.old self.new }
+    {
+        share(alloc, &mut self.places, name, part, access)
+    }
+
     /// Keeps nothing at a part of a name. It takes no memory.
     pub fn remove(&mut self, name: &Name, part: &Part)
         ensures { PutsOf name.now part.now None self.old self.new }
@@ -172,6 +189,25 @@ fn put(places: &mut BTreeMap<Name, Places>, name: &Name, part: &Part, value: Val
     match places.get_mut(name) {
         Some(places) => places.put(part, value),
         None => unreachable!(),
+    }
+}
+
+/// An access, shared with the place at a part of a name; `None` where none is kept there. What is kept stays.
+fn share(
+    alloc: Global,
+    places: &mut BTreeMap<Name, Places>,
+    name: &Name,
+    part: &Part,
+    access: &Access,
+) -> Result<Option<SharedAccess>, AllocError>
+    ensures shared { IfOk result (λ found. IfSome found (λ shared. shared ≡ access.now)) }
+    ensures found { IfOk result
+        (λ found. is_some found ≡ is_some (value_of places.old.entries name.now part.now)) }
+    ensures stays { StaysOf places.old.entries places.new.entries }
+{
+    match places.get_mut(name) {
+        Some(places) => places.share(alloc, part, access),
+        None => Ok(None),
     }
 }
 

@@ -1,19 +1,19 @@
 //! What a store keeps at an object.
 
-ghost use Rattle.std.specs.Prelude.{◌≡◌, IfOk};
+ghost use Rattle.std.specs.Prelude.{◌≡◌};
 
-use om_foot::{Obj, SharedObject};
+use om_foot::ObjectAccesses;
 use om_values::Val;
-use std::alloc::{AllocError, Global};
 use std::marker::Model;
 use std::mem;
 
-/// The value that is kept at an object. Beside it stands the object itself, for all that name it.
+/// The value that is kept at an object.
 ///
 /// Contracts see the value alone.
 #[derive(Drop)]
 pub struct Place {
-    object: SharedObject,
+    /// The object, with its accesses, for all that name it.
+    pub(crate) accesses: ObjectAccesses,
     value: Val,
 }
 
@@ -27,10 +27,10 @@ impl Model for Place {
 
 impl Place {
     /// The place of an object with a value.
-    pub fn of(object: SharedObject, value: Val) -> Place
+    pub fn of(accesses: ObjectAccesses, value: Val) -> Place
         ensures { result ≡ value }
     {
-        Place { object, value }
+        Place { accesses, value }
     }
 
     /// The value.
@@ -46,13 +46,5 @@ impl Place {
         ensures after { self.new ≡ value }
     {
         mem::replace(&mut self.value, value)
-    }
-
-    /// The object, shared with this place where it is that of the place. Its only error is out of
-    /// memory.
-    pub fn share(&self, alloc: Global, object: &Obj) -> Result<SharedObject, AllocError>
-        ensures { IfOk result (λ shared. shared ≡ object.now) }
-    {
-        self.object.share(alloc, object)
     }
 }

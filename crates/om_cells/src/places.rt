@@ -1,14 +1,14 @@
 //! The places of the objects of one name.
 
-ghost use Rattle.std.specs.Prelude.{◌≡◌, ◌<◌, ℕ, None, Some, true, is_some, OnOk, OnErr};
+ghost use Rattle.std.specs.Prelude.{◌≡◌, ◌<◌, ℕ, None, Some, true, is_some, IfOk, IfSome, OnOk, OnErr};
 ghost use Rattle.std.specs.Option.{option_copied};
 ghost use Rattle.om_foot.specs.declared.part.Part.{Part};
 ghost use Rattle.om_foot.specs.declared.part.Part.TheVariants as parts;
 ghost use Rattle.om_cells.specs.Places.{value_at, PutsAt, StaysAt};
 
 use crate::place::Place;
-use om_foot::SlotName;
 use om_foot::part::{Part, part_of};
+use om_foot::{Access, SharedAccess, SlotName};
 use om_values::Val;
 use std::alloc::{AllocError, Global};
 use std::collections::BTreeMap;
@@ -65,6 +65,24 @@ impl Places {
         match self.places.get_mut(part) {
             Some(place) => place.put(value),
             None => unreachable!(),
+        }
+    }
+
+    /// An access, shared with the place at a part; `None` where none is kept there. Its only error is out of
+    /// memory. What is kept stays.
+    pub fn share(
+        &mut self,
+        alloc: Global,
+        part: &Part,
+        access: &Access,
+    ) -> Result<Option<SharedAccess>, AllocError>
+        ensures shared { IfOk result (λ found. IfSome found (λ shared. shared ≡ access.now)) }
+        ensures found { IfOk result (λ found. is_some found ≡ is_some (value_at self.old part.now)) }
+        ensures stays { StaysAt self.old self.new }
+    {
+        match self.places.get_mut(part) {
+            Some(place) => Ok(Some(place.accesses.share(alloc, access)?)),
+            None => Ok(None),
         }
     }
 

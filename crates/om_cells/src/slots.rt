@@ -15,7 +15,7 @@ ghost use Rattle.om_cells.specs.Slots.{value_among, values_in, value_in, slot_va
 
 use om_code::frame::Cell;
 use om_foot::cells::spot_of;
-use om_foot::{Cells, Obj, SharedCells, SharedObject, SlotName};
+use om_foot::{Access, Cells, Obj, ObjectAccesses, SharedAccess, SharedCells, SlotName};
 use om_seq::Seq;
 use om_values::was::Noted;
 use om_values::{Run, Val, Was};
@@ -25,14 +25,14 @@ use std::marker::Model;
 use std::mem;
 
 /// The cells of a slot, with the values of the first of them. Beside them stand those cells that were
-/// named one by one, for all that name them.
+/// named one by one, with their accesses, for all that name them.
 ///
 /// Contracts see the values alone.
 #[derive(Drop)]
 pub struct SlotPlace {
     cells: SharedCells,
     values: Vec<Val>,
-    objects: BTreeMap<u32, SharedObject>,
+    accesses: BTreeMap<u32, ObjectAccesses>,
 }
 
 impl Model for SlotPlace {
@@ -133,14 +133,15 @@ impl Slots {
         }
     }
 
-    /// A cell, shared with all that name it where its slot is kept. Its only error is out of memory.
-    pub fn share(&mut self, alloc: Global, object: &Obj) -> Result<SharedObject, AllocError>
-        ensures shared { IfOk result (λ shared. shared ≡ object.now) }
+    /// An access of a cell, shared with all that asked for it where its slot is kept. Its only error is out
+    /// of memory.
+    pub fn share(&mut self, alloc: Global, access: &Access) -> Result<SharedAccess, AllocError>
+        ensures shared { IfOk result (λ shared. shared ≡ access.now) }
         ensures stays { (q : Obj) → slot_value self.new q ≡ slot_value self.old q }
     {
-        match spot_of(object) {
-            Some(spot) => share(alloc, &mut self.slots, &spot, object),
-            None => SharedObject::of(alloc, object),
+        match spot_of(&access.object) {
+            Some(spot) => share(alloc, &mut self.slots, &spot, access),
+            None => SharedAccess::new(alloc, access),
         }
     }
 
@@ -176,19 +177,19 @@ fn put(slots: &mut BTreeMap<SlotName, SlotPlace>, slot: &SlotName, index: u32, v
     }
 }
 
-/// A cell of a slot, shared with all that name it where the slot is kept.
+/// An access of a cell of a slot, shared with all that asked for it where the slot is kept.
 fn share(
     alloc: Global,
     slots: &mut BTreeMap<SlotName, SlotPlace>,
     spot: &(SlotName, u32),
-    object: &Obj,
-) -> Result<SharedObject, AllocError>
-    ensures shared { IfOk result (λ shared. shared ≡ object.now) }
+    access: &Access,
+) -> Result<SharedAccess, AllocError>
+    ensures shared { IfOk result (λ shared. shared ≡ access.now) }
     ensures stays { (q : Obj) → slot_value slots.new.entries q ≡ slot_value slots.old.entries q }
 {
     match slots.get_mut(&spot.0) {
-        Some(place) => place.share(alloc, spot.1, object),
-        None => SharedObject::of(alloc, object),
+        Some(place) => place.share(alloc, spot.1, access),
+        None => SharedAccess::new(alloc, access),
     }
 }
 
@@ -246,7 +247,7 @@ impl SlotPlace {
         Ok(SlotPlace {
             cells: SharedCells::of(alloc, cells)?,
             values: Vec::new(alloc),
-            objects: BTreeMap::new(alloc),
+            accesses: BTreeMap::new(alloc),
         })
     }
 
@@ -259,16 +260,22 @@ impl SlotPlace {
         mem::replace(&mut self.values[index as usize], value)
     }
 
-    /// The cell at an index, shared with all that name it.
-    fn share(&mut self, alloc: Global, index: u32, object: &Obj) -> Result<SharedObject, AllocError>
-        ensures shared { IfOk result (λ shared. shared ≡ object.now) }
+    /// An access of the cell at an index, shared with all that asked for it.
+    fn share(
+        &mut self,
+        alloc: Global,
+        index: u32,
+        access: &Access,
+    ) -> Result<SharedAccess, AllocError>
+        ensures shared { IfOk result (λ shared. shared ≡ access.now) }
         ensures stays { self.new ≡ self.old }
     {
-        if let Some(shared) = self.objects.get(&index) {
-            return shared.share(alloc, object);
+        if let Some(accesses) = self.accesses.get_mut(&index) {
+            return accesses.share(alloc, access);
         }
-        let shared = SharedObject::of(alloc, object)?;
-        drop(self.objects.insert(index, shared.copy()?)?);
+        let mut accesses = ObjectAccesses::of(alloc, &access.object)?;
+        let shared = accesses.share(alloc, access)?;
+        drop(self.accesses.insert(index, accesses)?);
         Ok(shared)
     }
 

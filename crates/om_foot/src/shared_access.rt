@@ -1,24 +1,42 @@
 //! Accesses of objects that a store shares, as undo records keep them.
 
-ghost use Rattle.std.specs.Prelude.{◌≡◌};
+ghost use Rattle.std.specs.Prelude.{◌≡◌, IfOk};
 
 use crate::footprint::{Access, Mode};
+use crate::shared::Shared;
 use crate::shared_object::SharedObject;
+use std::alloc::{AllocError, Global};
 use std::marker::Model;
 
-/// An access of a shared object.
+/// A shared object, and how it is accessed.
+///
+/// Contracts see the access alone.
+#[derive(Drop)]
+struct ObjectAccess {
+    object: SharedObject,
+    mode: Mode,
+}
+
+impl Model for ObjectAccess {
+    ghost use Rattle.om_foot.specs.declared.footprint.Access.{Access};
+
+    ghost Value = { Access };
+
+    ghost view = { λ a. record { object = a.object; mode = a.mode } };
+}
+
+/// An access of a shared object that its copies share: each takes 8 bytes.
 ///
 /// Contracts see the access alone.
 pub struct SharedAccess {
-    object: SharedObject,
-    mode: Mode,
+    access: Shared<ObjectAccess>,
 }
 
 // By hand: crates above call this, and do not prove anew how each part is dropped.
 impl Drop for SharedAccess {
     fn drop(self) {
-        let SharedAccess { object, mode: _ } = self;
-        drop(object);
+        let SharedAccess { access } = self;
+        drop(access);
     }
 }
 
@@ -27,29 +45,48 @@ impl Model for SharedAccess {
 
     ghost Value = { Access };
 
-    ghost view = { λ a. record { object = a.object; mode = a.mode } };
+    ghost view = { λ a. a.access };
 }
 
 impl SharedAccess {
-    /// The access of an object with a mode.
-    pub fn of(object: SharedObject, mode: Mode) -> SharedAccess
-        ensures { result ≡ record { object = object; mode = mode } }
+    /// The access of an object with a mode, which nothing shares yet. Its only error is out of memory.
+    pub fn of(alloc: Global, object: SharedObject, mode: Mode) -> Result<SharedAccess, AllocError>
+        ensures { IfOk result (λ shared. shared ≡ record { object = object; mode = mode }) }
     {
-        SharedAccess { object, mode }
+        Ok(SharedAccess {
+            access: Shared::of(alloc, ObjectAccess { object, mode })?,
+        })
+    }
+
+    /// An access that shares nothing with another. Its only error is out of memory.
+    pub fn new(alloc: Global, access: &Access) -> Result<SharedAccess, AllocError>
+        ensures { IfOk result (λ shared. shared ≡ access.now) }
+    {
+        let object = SharedObject::of(alloc, &access.object)?;
+        SharedAccess::of(alloc, object, access.mode)
     }
 
     /// Its object.
     pub fn object(&self) -> &SharedObject
         ensures { result.now ≡ self.now.object }
     {
-        &self.object
+        &self.access.get().object
     }
 
     /// Its mode.
     pub fn mode(&self) -> Mode
         ensures { result ≡ self.now.mode }
     {
-        self.mode
+        self.access.get().mode
+    }
+
+    /// The same access for one owner more; its only error is out of memory.
+    pub fn copy(&self) -> Result<SharedAccess, AllocError>
+        ensures { IfOk result (λ shared. shared ≡ self.now) }
+    {
+        Ok(SharedAccess {
+            access: self.access.copy()?,
+        })
     }
 
     /// A copy of the access that shares nothing.
@@ -57,8 +94,8 @@ impl SharedAccess {
         ensures { result ≡ self.now }
     {
         Access {
-            object: *self.object.get(),
-            mode: self.mode,
+            object: *self.object().get(),
+            mode: self.mode(),
         }
     }
 }

@@ -95,15 +95,4 @@ impl SharedObject {
             object: self.object.copy()?,
         })
     }
-
-    /// An object, shared with this one where it is the same. Its only error is out of memory.
-    pub fn share(&self, alloc: Global, object: &Obj) -> Result<SharedObject, AllocError>
-        ensures { IfOk result (λ shared. shared ≡ object.now) }
-    {
-        if self.get() == object {
-            self.copy()
-        } else {
-            SharedObject::of(alloc, object)
-        }
-    }
 }

@@ -226,8 +226,8 @@ pub(crate) fn keep_each(
     ensures others_kept { (q : Obj) → is_kept store.old q ≡ true → is_kept store.new q ≡ true }
 {
     for access in others {
-        let object = store.keep(alloc, &access.object)?;
-        shared.push(SharedAccess::of(object, access.mode))?;
+        let kept = store.keep(alloc, access)?;
+        shared.push(kept)?;
     }
     Ok(())
 }

@@ -20,7 +20,7 @@ use crate::live::control_of;
 use crate::trail::Trail;
 use om_cells::Store as Values;
 use om_code::frame::Cell;
-use om_foot::{Cells, Name, Obj, SharedCells, SharedObject};
+use om_foot::{Access, Cells, Name, Obj, SharedAccess, SharedCells};
 use om_seq::Seq;
 use om_values::{Control as PlainControl, Edit, SharedControl, Tail, Task, Val, Was};
 use std::alloc::{AllocError, Global};
@@ -184,35 +184,35 @@ impl Store {
         Ok(Val::Control(SharedControl::of(alloc, copy)?))
     }
 
-    /// Keeps an object, with the value that it holds, and answers the object, shared with all that
-    /// name it. No value changes, also when out of memory.
-    pub fn keep(&mut self, alloc: Global, object: &Obj) -> Result<SharedObject, AllocError>
-        ensures shared { IfOk result (λ shared. shared ≡ object.now) }
+    /// Keeps the object of an access, with the value that it holds, and answers the access, shared with all
+    /// that asked for it. No value changes, also when out of memory.
+    pub fn keep(&mut self, alloc: Global, access: &Access) -> Result<SharedAccess, AllocError>
+        ensures shared { IfOk result (λ shared. shared ≡ access.now) }
         ensures state { state_of self.new ≡ state_of self.old }
         ensures pasts { pasts_of self.new ≡ pasts_of self.old }
-        ensures kept { OnOk result (is_kept self.new object.now ≡ true) }
+        ensures kept { OnOk result (is_kept self.new access.now.object ≡ true) }
         ensures others_kept { (q : Obj) → is_kept self.old q ≡ true → is_kept self.new q ≡ true }
     {
-        match worker_of(object) {
+        match worker_of(&access.object) {
             Some(worker) => {
                 self.know_control(alloc, worker)?;
-                self.keep_value(alloc, object)
+                self.keep_value(alloc, access)
             }
-            None => self.keep_value(alloc, object),
+            None => self.keep_value(alloc, access),
         }
     }
 
-    /// Keeps an object among those that are no control, where a control is only kept to be shared, and
-    /// answers it, shared. No value changes, also when out of memory.
-    fn keep_value(&mut self, alloc: Global, object: &Obj) -> Result<SharedObject, AllocError>
-        ensures shared { IfOk result (λ shared. shared ≡ object.now) }
+    /// Keeps an access's object among those that are no control, where a control is only kept to be shared,
+    /// and answers the access, shared. No value changes, also when out of memory.
+    fn keep_value(&mut self, alloc: Global, access: &Access) -> Result<SharedAccess, AllocError>
+        ensures shared { IfOk result (λ shared. shared ≡ access.now) }
         ensures state { state_of self.new ≡ state_of self.old }
         ensures pasts { pasts_of self.new ≡ pasts_of self.old }
         ensures kept { OnOk result
-            (is_trailed object.now ≡ false → is_kept self.new object.now ≡ true) }
+            (is_trailed access.now.object ≡ false → is_kept self.new access.now.object ≡ true) }
         ensures others_kept { (q : Obj) → is_kept self.old q ≡ true → is_kept self.new q ≡ true }
     {
-        self.values.keep(alloc, object)
+        self.values.keep(alloc, access)
     }
 
     /// Keeps the control of a worker. Its only error is out of memory. No value changes, also then.

@@ -17,7 +17,7 @@ loop-access-preserved c =
     let x = c.loop-access.invariant in
     record {
       shared = c.in_ok-push.ensures.items
-          ∙ (λ j. x.shared j ++ (c.of.ensures ∙ ap (λ o. record { object = o; mode = a.mode }) c.in_ok-object.ensures.shared) j ∷ [])
+          ∙ (λ j. x.shared j ++ c.in_ok-kept.ensures.shared j ∷ [])
           ∙ append_assoc there (take i others) (a ∷ [])
           ∙ ap (λ xs. there ++ xs) (sym more);
       same = c.keep.ensures.state ∙ x.same;
@@ -27,6 +27,6 @@ loop-access-preserved c =
           (All-weaker (λ (b : Access). is_kept c.loop-access.store b.object ≡ true)
           (λ (b : Access). is_kept c.keep.new.self b.object ≡ true)
           (λ b h. c.keep.ensures.others_kept b.object h) (take i others) x.kept)
-          c.in_ok-object.ensures.kept);
+          c.in_ok-kept.ensures.kept);
       others_kept = λ q h. c.keep.ensures.others_kept q (x.others_kept q h);
     }

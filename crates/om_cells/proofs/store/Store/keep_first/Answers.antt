@@ -18,16 +18,16 @@ pub returns-clause-state : goal.returns-clause-state
 unfolding state_of is_kept
 returns-clause-state c =
     let ks = kept_at c.args.self.now in
-    let k : Obj = c.args.object.now in
+    let k : Obj = c.args.access.now.object in
     held-sets ks _ k _ c.in_ok-enter.ensures.entered
     ∙ ap (λ v. with_value k v (held ks)) (c.of-place.ensures ∙ c.default_at.ensures)
     ∙ put_same k (default_of k) (held ks) (default-held ks k c.requires)
 
 pub returns-clause-kept : goal.returns-clause-kept
 unfolding is_kept
-returns-clause-kept c = kept-there (kept_at c.args.self.now) _ c.args.object.now _ c.in_ok-enter.ensures.entered
+returns-clause-kept c = kept-there (kept_at c.args.self.now) _ c.args.access.now.object _ c.in_ok-enter.ensures.entered
 
 pub returns-clause-others_kept : goal.returns-clause-others_kept
 unfolding is_kept
-returns-clause-others_kept c = kept-others (kept_at c.args.self.now) _ c.args.object.now _
+returns-clause-others_kept c = kept-others (kept_at c.args.self.now) _ c.args.access.now.object _
     c.in_ok-enter.ensures.entered

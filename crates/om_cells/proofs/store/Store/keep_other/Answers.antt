@@ -18,7 +18,7 @@ returns-then-holds-clause-state c = held-same (kept_at c.args.self.now) _
 pub returns-then-holds-clause-kept : goal.returns-then-holds-clause-kept
 unfolding is_kept
 returns-then-holds-clause-kept c = on_okay c.share.result (some_over _ _
-    (ap is_some (c.share.ensures.stays c.args.object.now) ∙ sym c.holds.ensures ∙ c.if-holds.true))
+    (ap is_some (c.share.ensures.stays c.args.access.now.object) ∙ sym c.holds.ensures ∙ c.if-holds.true))
 
 pub returns-then-holds-clause-others_kept : goal.returns-then-holds-clause-others_kept
 unfolding is_kept
