@@ -6,13 +6,13 @@ use Rattle.om_live.proofs.store.Store.keep.Goals as goal
 
 pub returns-in_ok-know_control-in-Some-clause-kept : goal.returns-in_ok-know_control-in-Some-clause-kept
 returns-in_ok-know_control-in-Some-clause-kept c = on_ok_weaker c.keep_value.result
-    (λ kept. c.keep_value.ensures.others_kept c.args.object.now
+    (λ kept. c.keep_value.ensures.others_kept c.args.access.now.object
     (ap (is_kept c.know_control.new.self)
-    (is_control c.args.object.now _ (sym c.worker_of.ensures ∙ c.in-Some.is))
+    (is_control c.args.access.now.object _ (sym c.worker_of.ensures ∙ c.in-Some.is))
     ∙ c.in_ok-know_control-in-Some.ensures.kept))
     c.keep_value.ensures.kept
 
 pub returns-in-None-clause-kept : goal.returns-in-None-clause-kept
 returns-in-None-clause-kept c = on_ok_weaker c.keep_value-in-None.result
-    (λ kept. kept (untrailed c.args.object.now (sym c.worker_of.ensures ∙ c.in-None.is)))
+    (λ kept. kept (untrailed c.args.access.now.object (sym c.worker_of.ensures ∙ c.in-None.is)))
     c.keep_value-in-None.ensures.kept

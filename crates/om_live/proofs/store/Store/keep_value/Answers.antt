@@ -16,7 +16,7 @@ returns-clause-pasts c = refl
 pub returns-clause-kept : goal.returns-clause-kept
 unfolding is_kept
 returns-clause-kept c = on_ok_weaker c.keep.result
-    (λ kept no. kept_there c.args.self.now.trails.items (values.is_kept c.keep.new.self) c.args.object.now no ∙ kept)
+    (λ kept no. kept_there c.args.self.now.trails.items (values.is_kept c.keep.new.self) c.args.access.now.object no ∙ kept)
     c.keep.ensures.kept
 
 pub returns-clause-others_kept : goal.returns-clause-others_kept
