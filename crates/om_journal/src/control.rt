@@ -1,7 +1,9 @@
 //! Whether two controls, or parts of them, are the same.
 
 use crate::same::Same;
-use om_values::{Construct, Context, Control, Frame, Home, Share, Stack, Team};
+use om_values::{
+    Construct, Context, Control, Frame, Home, OpenShare, Share, SharedTeam, Stack, Team,
+};
 
 impl Same for Home {
     fn is_same(&self, other: &Home) -> bool {
@@ -39,6 +41,12 @@ impl Same for Team {
     }
 }
 
+impl Same for SharedTeam {
+    fn is_same(&self, other: &SharedTeam) -> bool {
+        self.get().is_same(other.get())
+    }
+}
+
 impl Same for Share {
     fn is_same(&self, other: &Share) -> bool {
         self.sharing == other.sharing
@@ -50,6 +58,12 @@ impl Same for Share {
             && self.taken == other.taken
             && self.next == other.next
             && self.end == other.end
+    }
+}
+
+impl Same for OpenShare {
+    fn is_same(&self, other: &OpenShare) -> bool {
+        self.place().is_same(other.place())
     }
 }
 

@@ -4,7 +4,7 @@ use crate::tape::Tape;
 use om_code::frame::{Fault, Operand};
 use om_foot::{Name, Shared};
 use om_seq::Seq;
-use om_values::{Construct, Home, Kind, Team};
+use om_values::{Construct, Home, Kind, SharedTeam};
 
 /// A body that is being run.
 #[derive(Drop)]
@@ -26,7 +26,7 @@ pub struct Frame {
 pub struct Context {
     pub task: Shared<Name>,
     pub kind: Kind,
-    pub team: Shared<Team>,
+    pub team: SharedTeam,
     /// How many barriers of its team are behind it; of an explicit task, the phase of the team in
     /// which it was made.
     pub phase: u64,

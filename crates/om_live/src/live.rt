@@ -9,7 +9,7 @@ use crate::tape::Tape;
 use om_foot::{Name, Shared};
 use om_values::{
     Construct, Context as PlainContext, Control as PlainControl, Frame as PlainFrame,
-    Stack as PlainStack, Team,
+    SharedTeam, Stack as PlainStack,
 };
 use std::alloc::{AllocError, Global};
 
@@ -56,14 +56,14 @@ pub(crate) fn shares_of(
 #[derive(Drop)]
 pub(crate) struct Ties {
     pub(crate) task: Shared<Name>,
-    pub(crate) team: Shared<Team>,
+    pub(crate) team: SharedTeam,
     pub(crate) group: Shared<Option<Name>>,
 }
 
 /// These ties, shared once more; the only error is out of memory.
 pub(crate) fn ties_of(
     task: &Shared<Name>,
-    team: &Shared<Team>,
+    team: &SharedTeam,
     group: &Shared<Option<Name>>,
 ) -> Result<Ties, AllocError>
     ensures { IfOk result

@@ -15,7 +15,8 @@ use Rattle.om_steps.specs.declared.row.Answer.{Answer}
 use Rattle.om_steps.specs.Objects.{write, events}
 use Rattle.om_steps.specs.Rows.{Asked, answered}
 use Rattle.om_share.specs.Rows.{end_worksharing_row, closed_row, work_of, single_work, is_right_form, loop_of, open_row}
-use Rattle.om_share.specs.Rows.{loop_row, is_loop, iteration_row, iterate_row, grab_row, static_row}
+use Rattle.om_values.specs.OpenShares.{is_loop}
+use Rattle.om_share.specs.Rows.{loop_row, iteration_row, iterate_row, grab_row, static_row}
 use Rattle.om_share.specs.Rows.{is_critical, unlock_row, leave_critical_row}
 
 -- what is promised of a row holds of the same row in other words

@@ -1,5 +1,5 @@
 -- The iterations of a loop, and the chunks in which they are shared out (OpenMP 5.2, 4.4.2 and 11.5.3).
-use Rattle.std.specs.Prelude.{◌≡◌, ◌↔◌, ℕ, ◌+◌, ◌-◌, ◌*◌, ◌/◌, ◌%◌, ◌<◌, ◌≤◌, ℤ, pos, negsuc, ◌+ℤ◌, ◌-ℤ◌, ◌*ℤ◌, neg_ℤ}
+use Rattle.std.specs.Prelude.{◌≡◌, ◌↔◌, ℕ, ◌+◌, ◌-◌, ◌*◌, ◌/◌, ◌%◌, ◌<◌, ◌≤◌, ℤ, pos, negsuc, ◌-ℤ◌, neg_ℤ}
 use Rattle.std.specs.Prelude.{nat_lt, nat_eq, ◌&&◌, min, if◌then◌else◌, Option, None, Some, IsSomeAnd, IfSome}
 use Rattle.om_code.specs.declared.instruction.Comparison.{Comparison}
 use Rattle.om_code.specs.declared.instruction.Comparison.TheVariants.{Less, LessOrEqual, Greater, GreaterOrEqual}
@@ -33,10 +33,6 @@ count_of Less lower upper step = rounded_up (upper -ℤ lower) step
 count_of LessOrEqual lower upper step = rounded_down (upper -ℤ lower) step
 count_of Greater lower upper step = rounded_up (lower -ℤ upper) step
 count_of GreaterOrEqual lower upper step = rounded_down (lower -ℤ upper) step
-
--- the value of an iteration
-abbrev pub value_of : ℤ → ℤ → ℕ → ℤ
-value_of lower step iteration = lower +ℤ pos iteration *ℤ step
 
 -- so many iterations from the first on, cut at n; none where none is left
 abbrev pub chunk_within : ℕ → ℕ → ℕ → Option Chunk

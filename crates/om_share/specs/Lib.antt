@@ -1,3 +1,4 @@
 pub mod Barriers
 pub mod Chunks
 pub mod Rows
+pub mod Iterations

@@ -13,7 +13,6 @@ use Rattle.om_code.specs.declared.instruction.Schedule.{Schedule}
 use Rattle.om_code.specs.declared.instruction.Schedule.TheVariants as schedule
 use Rattle.om_code.specs.declared.instruction.Place.TheVariants as place
 use Rattle.om_code.specs.declared.raw.Slot.{Slot}
-use Rattle.om_code.specs.Arithmetic.{is_int}
 use Rattle.om_events.specs.declared.event.Record.{Record}
 use Rattle.om_events.specs.declared.event.Record.TheVariants as event_record
 use Rattle.om_events.specs.declared.kind.Endpoint.TheVariants as endpoint
@@ -30,7 +29,6 @@ use Rattle.om_values.specs.declared.control.Kind.TheVariants as kind
 use Rattle.om_values.specs.declared.control.Share.{Share}
 use Rattle.om_values.specs.declared.control.Sharing as sharings
 use Rattle.om_values.specs.declared.control.Sharing.TheVariants as sharing
-use Rattle.om_values.specs.declared.control.Team.{Team}
 use Rattle.om_values.specs.declared.edit.Edit.{Edit}
 use Rattle.om_values.specs.declared.edit.Edit.TheVariants.{Go, EndContext, Open, Close, Replace, CountRegion, CountPhase}
 use Rattle.om_values.specs.declared.step.Blocked.TheVariants as blocked
@@ -38,6 +36,7 @@ use Rattle.om_values.specs.declared.step.Tail.TheVariants.{Events}
 use Rattle.om_values.specs.declared.step.Update.{Update}
 use Rattle.om_values.specs.declared.step.Update.TheVariants.{Put, Keep, Append}
 use Rattle.om_values.specs.declared.value.Val.TheVariants as value
+use Rattle.om_values.specs.OpenShares.{is_loop, value_of}
 use Rattle.om_values.specs.Values.{number_in, holder_in}
 use Rattle.om_steps.specs.declared.row.Row.{Row}
 use Rattle.om_steps.specs.declared.row.Row.TheVariants.{Goes, Faults, Blocked, Lacks}
@@ -45,7 +44,7 @@ use Rattle.om_steps.specs.Rows.{Asked, decided, goes, first_of}
 use Rattle.om_steps.specs.Objects.{write, events, event, object_of, own_cells, deaths, innermost, is_misplaced}
 use Rattle.om_share.specs.declared.chunk.Chunk.{Chunk}
 use Rattle.om_share.specs.Barriers.{barrier, is_open}
-use Rattle.om_share.specs.Chunks.{step_size, count_of, value_of, static_chunk, chunk_within}
+use Rattle.om_share.specs.Chunks.{step_size, count_of, static_chunk, chunk_within}
 
 -- the edits that go to a place with so many operands taken, and then make one more
 abbrev pub edits : ℕ → ℕ → Edit → List Edit
@@ -74,10 +73,6 @@ share_within None = None
 
 abbrev pub share_in : Context → Option Share
 share_in c = share_within (innermost c.constructs)
-
-abbrev pub is_loop : sharings.Sharing → Bool
-is_loop sharing.Loop = true
-is_loop sharing.Sections = false
 
 -- the kind of a worksharing region in its records
 abbrev pub work_of : sharings.Sharing → works.Work
@@ -145,13 +140,9 @@ given_row to otherwise share (Some chunk) = Goes (edits to 0 (Replace (in_chunk 
     (Put (value.Number chunk.end) ∷ [])
 given_row to otherwise share None = goes otherwise 0 None []
 
--- whether a member is one of as many as its team has
-abbrev pub is_member : Team → Bool
-is_member team = nat_lt team.number team.size
-
 abbrev pub static_row : ℕ → ℕ → Context → Share → Option ℕ → Asked
-static_row to otherwise c share size = decided (if is_member c.team then taken_row to otherwise share
-    (static_chunk size share.count c.team.size c.team.number share.taken) else Lacks)
+static_row to otherwise c share size = decided (taken_row to otherwise share
+    (static_chunk size share.count c.team.size c.team.number share.taken))
 
 abbrev pub dynamic_row : ℕ → ℕ → Context → Share → ℕ → Asked
 dynamic_row to otherwise c share size = record {
@@ -169,22 +160,17 @@ abbrev pub grab_row : ℕ → ℕ → Context → Option Share → Asked
 grab_row to otherwise c (Some share) = chunk_row to otherwise c share share.schedule
 grab_row to otherwise c None = decided Lacks
 
--- a number as an int, where it is one
-abbrev pub int_of : ℤ → Option ℤ
-int_of n = if is_int n then Some n else None
-
 -- an iteration is begun: its value goes to the iteration variable (OpenMP 5.2, 4.4.1)
-abbrev pub value_row : ℕ → Context → ℕ → Share → Option ℤ → Asked
-value_row to c slot share (Some n) = record {
+abbrev pub value_row : ℕ → Context → ℕ → Share → ℤ → Asked
+value_row to c slot share n = record {
   names = write (object_of c (place.Slot slot) 0) ∷ [];
   row = λ _. Goes (edits to 0 (Replace (construct.Share (record share { next = share.next + 1 }))))
       (Put (value.Cell (cell.Int n)) ∷ []);
 }
-value_row to c slot share None = decided Lacks
 
 abbrev pub iteration_row : ℕ → ℕ → Context → ℕ → Share → Asked
 iteration_row to otherwise c slot share =
-    if nat_lt share.next share.end then value_row to c slot share (int_of (value_of share.lower share.step share.next))
+    if nat_lt share.next share.end then value_row to c slot share (value_of share.lower share.step share.next)
     else decided (goes otherwise 0 None [])
 
 -- the next iteration of the chunk, where one is left

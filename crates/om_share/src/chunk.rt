@@ -73,7 +73,8 @@ pub(crate) fn count_of(comparison: Comparison, lower: i32, upper: i32, step: u64
 
 /// So many iterations from the first on, cut at `count`; `None` where none is left.
 pub(crate) fn chunk_within(count: u64, first: u128, size: u64) -> Option<Chunk>
-    ensures { result ≡ chunk_within count first size }
+    ensures value { result ≡ chunk_within count first size }
+    ensures within { IfSome result (λ chunk. chunk.end ≤ count) }
 {
     if size == 0 || first >= u128::from(count) {
         return None;
@@ -89,7 +90,8 @@ pub(crate) fn chunk_within(count: u64, first: u128, size: u64) -> Option<Chunk>
 
 /// The chunk of this number, from 0, of a member, where chunks of this size go round by thread number.
 fn round_robin(count: u64, size: u32, team: &Team, taken: u64) -> Option<Chunk>
-    ensures { result ≡ round_robin count size team.now.size team.now.number taken }
+    ensures value { result ≡ round_robin count size team.now.size team.now.number taken }
+    ensures within { IfSome result (λ chunk. chunk.end ≤ count) }
 {
     let (members, thread) = (team.size, team.number);
     let number = u128::from(taken) * u128::from(members) + u128::from(thread);
@@ -112,7 +114,8 @@ fn block_size(count: u64, team: &Team) -> u64
 /// The block of a member.
 fn block(count: u64, team: &Team) -> Option<Chunk>
     requires { team.now.number < team.now.size }
-    ensures { result ≡ block count team.now.size team.now.number }
+    ensures value { result ≡ block count team.now.size team.now.number }
+    ensures within { IfSome result (λ chunk. chunk.end ≤ count) }
 {
     let size = u64::from(team.size);
     let number = u64::from(team.number);
@@ -127,6 +130,7 @@ pub(crate) fn static_chunk(size: Option<u32>, count: u64, team: &Team, taken: u6
     requires { team.now.number < team.now.size }
     ensures value { result ≡ static_chunk size count team.now.size team.now.number taken }
     ensures few { IfSome result (λ chunk. taken < count) }
+    ensures within { IfSome result (λ chunk. chunk.end ≤ count) }
 {
     match size {
         Some(size) => round_robin(count, size, team, taken),

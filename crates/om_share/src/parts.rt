@@ -1,6 +1,7 @@
 //! What the rows of worksharing, masked and critical regions are made of.
 
-ghost use Rattle.std.specs.Prelude.{◌≡◌, [], IfOk};
+ghost use Rattle.std.specs.Prelude.{◌≡◌, [], IfOk, IfSome};
+ghost use Rattle.om_values.specs.OpenShares.{ShareHasInts};
 ghost use Rattle.om_live.specs.Plain.{plain_context};
 ghost use Rattle.om_steps.specs.Rows.{goes};
 ghost use Rattle.om_share.specs.Rows.{edits, begun, share_of, share_in};
@@ -79,17 +80,19 @@ pub(crate) fn work_record(
 
 /// The loop or the sections that a region is, if it is either.
 fn share_of(region: &Construct) -> Option<Share>
-    ensures { result ≡ share_of region.now }
+    ensures value { result ≡ share_of region.now }
+    ensures ints { IfSome result ShareHasInts }
 {
     let Construct::Share(share) = region else {
         return None;
     };
-    Some(*share)
+    Some(*share.place())
 }
 
 /// The loop or the sections that the innermost region of a context is, if it is either.
 pub(crate) fn share_in(context: &Context) -> Option<Share>
-    ensures { result ≡ share_in (plain_context context.now) }
+    ensures value { result ≡ share_in (plain_context context.now) }
+    ensures ints { IfSome result ShareHasInts }
 {
     let region = &innermost(context)?;
     share_of(region)

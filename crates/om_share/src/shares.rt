@@ -1,6 +1,7 @@
 //! Loops and sections: how they are opened, and how their iterations are given out.
 
-ghost use Rattle.std.specs.Prelude.{◌≡◌, ◌<◌, ◌+◌, ◌^◌, ◌∷◌, [], true, slice_get, IfOk, IfSome};
+ghost use Rattle.std.specs.Prelude.{◌≡◌, ◌<◌, ◌≤◌, ◌+◌, ◌^◌, ◌∷◌, [], true, slice_get, IfOk, IfSome};
+ghost use Rattle.om_values.specs.OpenShares.{ShareHasInts, is_loop, value_of};
 ghost use Rattle.om_values.specs.State.{State};
 ghost use Rattle.om_live.specs.Plain.{plain_context};
 ghost use Rattle.om_live.specs.Stores.{state_of};
@@ -9,8 +10,7 @@ ghost use Rattle.om_code.specs.declared.frame.Cell.TheVariants as cell;
 ghost use Rattle.om_values.specs.declared.value.Val.TheVariants as values;
 ghost use Rattle.om_steps.specs.Objects.{write};
 ghost use Rattle.om_steps.specs.Rows.{answered};
-ghost use Rattle.om_share.specs.Chunks.{value_of};
-ghost use Rattle.om_share.specs.Rows.{edits, is_right_schedule, is_right_form, loop_of, is_loop, work_of, open_row, loop_row, sections_row, share_in, in_chunk, taken_row, given_row, static_row, grab_row, int_of, iteration_row, iterate_row, is_section, section_row, pick_row};
+ghost use Rattle.om_share.specs.Rows.{edits, is_right_schedule, is_right_form, loop_of, work_of, open_row, loop_row, sections_row, share_in, in_chunk, taken_row, given_row, static_row, grab_row, iteration_row, iterate_row, is_section, section_row, pick_row};
 
 use crate::chunk::{Chunk, chunk_within, count_of, static_chunk, step_size};
 use crate::parts::{Branch, begun, jump, share_in, work_record};
@@ -23,7 +23,7 @@ use om_seq::Seq;
 use om_steps::names::{is_misplaced, name_one, object_of};
 use om_steps::parts::{go_and, one_put, recorded};
 use om_steps::{Answer, At, Row};
-use om_values::{Construct, Edit, Puts, Share, Sharing, Update, Val};
+use om_values::{Construct, Edit, OpenShare, Puts, Share, Sharing, Update, Val};
 use std::alloc::{AllocError, Global};
 
 /// The bounds of a loop, where they are ints.
@@ -88,6 +88,7 @@ fn open_share(
     takes: u32,
     share: Share,
 ) -> Result<Answer, AllocError>
+    requires { ShareHasInts share }
     ensures { (s : State) → IfOk result
         (λ answer. answer ≡ answered
         (open_row at.worker at.to takes (plain_context context.now) share) s) }
@@ -95,7 +96,7 @@ fn open_share(
     if is_misplaced(context) {
         return Ok(Answer::decided(alloc, Row::Faults(Fault::Nesting)));
     }
-    let region = &Construct::Share(share);
+    let region = &Construct::Share(OpenShare::of(share));
     let edits = begun(alloc, at.to, takes, region)?;
     let entry = work_record(
         context,
@@ -132,6 +133,7 @@ pub fn open_loop(
 }
 
 /// SECT: opens so many sections.
+#[tactic(auto, using(crate::specs::Iterations::sections_ints))]
 pub fn open_sections(
     alloc: Global,
     context: &Context,
@@ -157,15 +159,18 @@ pub fn open_sections(
 }
 
 /// A share whose member has begun a chunk.
+#[tactic(auto, using(crate::specs::Iterations::chunk_ints))]
 fn in_chunk(share: Share, taken: u64, chunk: Chunk) -> Construct
+    requires ints { ShareHasInts share }
+    requires within { chunk.end ≤ share.count }
     ensures { result ≡ in_chunk share taken chunk }
 {
-    Construct::Share(Share {
+    Construct::Share(OpenShare::of(Share {
         taken,
         next: chunk.first,
         end: chunk.end,
         ..share
-    })
+    }))
 }
 
 /// The edits that go to a place, and let a share take the place of the innermost region.
@@ -183,7 +188,9 @@ fn take(
     share: Share,
     chunk: Option<Chunk>,
 ) -> Result<Row, AllocError>
-    requires { IfSome chunk (λ c. share.taken < share.count) }
+    requires few { IfSome chunk (λ c. share.taken < share.count) }
+    requires within { IfSome chunk (λ c. c.end ≤ share.count) }
+    requires ints { ShareHasInts share }
     ensures { IfOk result (λ row. row ≡ taken_row branch.to branch.otherwise share chunk) }
 {
     let Some(chunk) = chunk else {
@@ -202,6 +209,8 @@ fn give(
     share: Share,
     chunk: Option<Chunk>,
 ) -> Result<Row, AllocError>
+    requires within { IfSome chunk (λ c. c.end ≤ share.count) }
+    requires ints { ShareHasInts share }
     ensures { IfOk result (λ row. row ≡ given_row branch.to branch.otherwise share chunk) }
 {
     let Some(chunk) = chunk else {
@@ -221,15 +230,12 @@ fn grab_static(
     share: Share,
     size: Option<u32>,
 ) -> Result<Answer, AllocError>
+    requires { ShareHasInts share }
     ensures { (s : State) → IfOk result
         (λ answer. answer ≡ answered
         (static_row branch.to branch.otherwise (plain_context context.now) share size) s) }
 {
-    let team = context.team.get();
-    if team.number >= team.size {
-        return Ok(Answer::decided(alloc, Row::Lacks));
-    }
-    let chunk = static_chunk(size, share.count, team, share.taken);
+    let chunk = static_chunk(size, share.count, context.team.get(), share.taken);
     let row = take(alloc, branch, share, chunk)?;
     Ok(Answer::decided(alloc, row))
 }
@@ -242,6 +248,8 @@ fn grab_dynamic(
     share: Share,
     chunk: Option<Chunk>,
 ) -> Result<Answer, AllocError>
+    requires within { IfSome chunk (λ c. c.end ≤ share.count) }
+    requires ints { ShareHasInts share }
     ensures { IfOk result
         (λ answer. answer
         ≡ record
@@ -290,18 +298,22 @@ pub fn grab(
     }
 }
 
-/// A number as an int, where it is one.
-fn int_of(number: i128) -> Option<i32>
-    ensures { result ≡ int_of number }
-{
-    i32::try_from(number).ok()
-}
-
 /// The value of an iteration.
 fn value_of(lower: i32, step: i32, iteration: u64) -> i128
     ensures { result ≡ value_of lower step iteration }
 {
     i128::from(lower) + i128::from(iteration) * i128::from(step)
+}
+
+/// The value of the next iteration of a loop, where one is left in the chunk. It is an `int`, so `as`
+/// keeps it.
+fn next_value(share: Share) -> i32
+    requires kind { is_loop share.sharing ≡ true }
+    requires left { share.next < share.end }
+    requires ints { ShareHasInts share }
+    ensures { result ≡ value_of share.lower share.step share.next }
+{
+    value_of(share.lower, share.step, share.next) as i32
 }
 
 /// Whether a share is a loop.
@@ -312,15 +324,17 @@ fn is_loop(sharing: Sharing) -> bool
 }
 
 /// The row that begins an iteration of this value.
+#[tactic(auto, using(crate::specs::Iterations::next_ints))]
 fn iterated(alloc: Global, to: u32, share: Share, value: i32) -> Result<Row, AllocError>
-    requires { share.next + 1 < 2 ^ 64 }
+    requires few { share.next + 1 < 2 ^ 64 }
+    requires ints { ShareHasInts share }
     ensures { IfOk result
         (λ row. row ≡ Row.Goes
         (edits to 0 (Edit.Replace (Construct.Share (record share { next = share.next + 1 }))))
         (Update.Put (values.Cell (cell.Int value)) ∷ [])) }
 {
     let next = share.next + 1;
-    let region = &Construct::Share(Share { next, ..share });
+    let region = &Construct::Share(OpenShare::of(Share { next, ..share }));
     let edits = replaced(alloc, to, region)?;
     let updates = one_put(alloc, Update::Put(Val::Cell(Cell::Int(value))))?;
     Ok(Row::Goes { edits, updates })
@@ -334,6 +348,8 @@ fn next_iteration(
     slot: u32,
     share: Share,
 ) -> Result<Answer, AllocError>
+    requires kind { is_loop share.sharing ≡ true }
+    requires ints { ShareHasInts share }
     ensures { (s : State) → IfOk result
         (λ answer. answer ≡ answered
         (iteration_row branch.to branch.otherwise (plain_context context.now) slot share) s) }
@@ -342,10 +358,7 @@ fn next_iteration(
         let row = jump(alloc, branch.otherwise, 0)?;
         return Ok(Answer::decided(alloc, row));
     }
-    let value = value_of(share.lower, share.step, share.next);
-    let Some(value) = int_of(value) else {
-        return Ok(Answer::decided(alloc, Row::Lacks));
-    };
+    let value = next_value(share);
     let variable = &object_of(context, Place::Slot(slot), 0);
     let names = name_one(alloc, variable, Mode::Write)?;
     let row = iterated(alloc, branch.to, share, value)?;

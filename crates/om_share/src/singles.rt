@@ -125,7 +125,10 @@ pub fn end_worksharing(alloc: Global, context: &Context, at: At) -> Result<Answe
         return Ok(Answer::decided(alloc, Row::Lacks));
     };
     match &region {
-        Construct::Share(share) => close(alloc, context, at, work_of(share.sharing), share.count),
+        Construct::Share(share) => {
+            let share = share.place();
+            close(alloc, context, at, work_of(share.sharing), share.count)
+        }
         Construct::Single { runs } => close(alloc, context, at, single_work(*runs), 1),
         Construct::Masked | Construct::Critical(_) | Construct::Group(_) => {
             Ok(Answer::decided(alloc, Row::Lacks))

@@ -19,7 +19,6 @@ use Rattle.om_code.specs.Places.{instruction_at}
 use Rattle.om_code.specs.Printing.{ints_on}
 use Rattle.om_values.specs.declared.control.Control as controls
 use Rattle.om_values.specs.declared.control.Control.TheVariants.{Idle, Running, Faulted, Ended}
-use Rattle.om_values.specs.declared.control.Stack.{Stack}
 use Rattle.om_values.specs.declared.control.Team.{Team}
 use Rattle.om_values.specs.declared.edit.Edit.TheVariants.{Fail}
 use Rattle.om_values.specs.declared.step.Choice.{Choice}
@@ -41,7 +40,7 @@ use Rattle.om_task.specs.Rules.{rules_of, start_of, first_context, initial_in, c
 use Rattle.om_task.specs.Rules.{further_in, row_in, outcome_after}
 use Rattle.om_task.specs.Table.{row_of}
 use Rattle.om_standing.specs.Ints.{IsInt, HasIntConstant, HasIntConstants, IsOfInts, AreFew, IsIntOperand, FrameHasInts}
-use Rattle.om_standing.specs.Ints.{ShareHasInts, ConstructHasInts, ContextHasInts, StackHasInts, ControlHasInts}
+use Rattle.om_standing.specs.Ints.{ConstructHasInts, ContextHasInts, StackHasInts, ControlHasInts}
 use Rattle.om_standing.specs.Ints.{ValueHasInts, HasInts, IsSmall}
 use Rattle.om_standing.specs.Laws.{StepsKeepInts}
 use Rattle.om_standing.proofs.IntEdits.{AskedHasInts, RowHasInts, changed_ints, updated_ints}
@@ -295,10 +294,3 @@ rest_ints steps program workers (l ∷ ls) s t ints few h e =
     then_ints (next_state (rules_of program workers) s l) (λ u. replay_from (rules_of program workers) u ls) t
     (λ u is left. rest_ints steps program workers ls u t ints few
     (steps program workers l s u ints few h is) left) e
-
--- the region that is innermost where a worker runs
-pub runs_shared : (s : State) (worker : ℕ) (stack : Stack) → HasInts s
-    → s (obj.Control worker) ≡ value.Control (Running stack) → IfSome (share_in stack.top) ShareHasInts
-runs_shared s worker stack h runs =
-    let w : StackHasInts stack = subst ValueHasInts runs (h (obj.Control worker)) in
-    innermost_ints stack.top.constructs w.0.2

@@ -1,8 +1,9 @@
 -- The rows of worksharing, masked and critical regions open and put ints alone.
-use Rattle.std.proofs.Common.{ℕ, ℤ, pos, Bool, true, false, arith}
+use Rattle.std.proofs.Common.{◌≡◌, ℕ, ℤ, pos, Bool, true, false, arith}
 use Rattle.std.proofs.Common.{List, [], ◌∷◌, Option, None, Some}
 use Rattle.std.specs.Prelude.{All, IfSome, nat_lt, nat_eq}
 use Rattle.std.specs.Ordering.{int_eq}
+use Rattle.std.proofs.lemmas.Bool.{ltb-true}
 use Rattle.std.proofs.lemmas.List.Elements.{All-head}
 use Rattle.om_code.specs.declared.instruction.LoopForm.{LoopForm}
 use Rattle.om_code.specs.declared.instruction.Schedule.{Schedule}
@@ -12,19 +13,20 @@ use Rattle.om_values.specs.declared.control.Construct.TheVariants as construct
 use Rattle.om_values.specs.declared.control.Context.{Context}
 use Rattle.om_values.specs.declared.control.Share.{Share}
 use Rattle.om_values.specs.declared.value.Val.{Val}
+use Rattle.om_values.specs.OpenShares.{is_loop, value_of}
 use Rattle.om_values.specs.Values.{number_in, holder_in}
 use Rattle.om_steps.specs.Objects.{innermost, is_misplaced}
 use Rattle.om_steps.specs.Rows.{first_of}
 use Rattle.om_share.specs.declared.chunk.Chunk.{Chunk}
-use Rattle.om_share.specs.Chunks.{static_chunk, chunk_within, value_of as iteration_value}
+use Rattle.om_share.specs.Chunks.{static_chunk, chunk_within}
 use Rattle.om_share.specs.Rows.{share_within, open_row, loop_row, loop_of, sections_row, taken_row, given_row}
-use Rattle.om_share.specs.Rows.{static_row, chunk_row, grab_row, value_row, int_of, iteration_row, iterate_row, section_row}
-use Rattle.om_share.specs.Rows.{is_section, is_loop, is_member, is_masked, is_critical, is_right_form, pick_row}
+use Rattle.om_share.specs.Rows.{static_row, chunk_row, grab_row, value_row, iteration_row, iterate_row, section_row}
+use Rattle.om_share.specs.Rows.{is_section, is_masked, is_critical, is_right_form, pick_row}
 use Rattle.om_share.specs.Rows.{chosen_row, single_row, end_worksharing_row, filtered_row, masked_row, end_masked_row}
 use Rattle.om_share.specs.Rows.{lock_row, enter_critical_row, leave_critical_row}
+use Rattle.om_share.specs.Iterations.{EndsWithin, loop_ints, next_int, chunk_ends, static_ends}
 use Rattle.om_standing.specs.Ints.{IsInt, ShareHasInts, ConstructHasInts}
 use Rattle.om_standing.proofs.IntEdits.{RowHasInts, AskedHasInts, if_row, if_asked}
-use Rattle.om_standing.proofs.Iterations.{EndsWithin, loop_ints, given_int, chunk_ends, static_ends}
 
 open_ints : (worker to takes : ℕ) (c : Context) (share : Share) (values : List Val) → ShareHasInts share
     → AskedHasInts (open_row worker to takes c share) values
@@ -58,9 +60,8 @@ given_ints to otherwise share None h k = ((tt, tt), tt)
 static_ints : (to otherwise : ℕ) (c : Context) (share : Share) (size : Option ℕ) (values : List Val)
     → ShareHasInts share → AskedHasInts (static_row to otherwise c share size) values
 static_ints to otherwise c share size values h =
-    if_row (is_member c.team) _ _
-    (taken_ints to otherwise share (static_chunk size share.count c.team.size c.team.number share.taken) h
-    (static_ends size share.count c.team.size c.team.number share.taken)) tt
+    taken_ints to otherwise share (static_chunk size share.count c.team.size c.team.number share.taken) h
+    (static_ends size share.count c.team.size c.team.number share.taken)
 
 chunk_ints : (to otherwise : ℕ) (c : Context) (share : Share) (s : Schedule) (values : List Val)
     → ShareHasInts share → AskedHasInts (chunk_row to otherwise c share s) values
@@ -86,23 +87,22 @@ pub grab_ints : (to otherwise : ℕ) (c : Context) (share : Option Share) (value
 grab_ints to otherwise c (Some share) values h = chunk_ints to otherwise c share share.schedule values h
 grab_ints to otherwise c None values h = tt
 
-value_ints : (to : ℕ) (c : Context) (slot : ℕ) (share : Share) (value : Option ℤ) (values : List Val)
-    → ShareHasInts share → IfSome value IsInt → AskedHasInts (value_row to c slot share value) values
-value_ints to c slot share (Some n) values h k =
+value_ints : (to : ℕ) (c : Context) (slot : ℕ) (share : Share) (n : ℤ) (values : List Val)
+    → ShareHasInts share → IsInt n → AskedHasInts (value_row to c slot share n) values
+value_ints to c slot share n values h k =
     ((tt, (record { within = h.within; values = h.values }, tt)), (k, tt))
-value_ints to c slot share None values h k = tt
 
 iteration_ints : (to otherwise : ℕ) (c : Context) (slot : ℕ) (share : Share) (values : List Val)
-    → ShareHasInts share → AskedHasInts (iteration_row to otherwise c slot share) values
-iteration_ints to otherwise c slot share values h =
-    let v : ℤ = iteration_value share.lower share.step share.next in
+    → ShareHasInts share → is_loop share.sharing ≡ true → AskedHasInts (iteration_row to otherwise c slot share) values
+iteration_ints to otherwise c slot share values h loops =
     if_asked (nat_lt share.next share.end) _ _ values
-    (λ e. value_ints to c slot share (int_of v) values h (given_int v)) ((tt, tt), tt)
+    (λ e. value_ints to c slot share (value_of share.lower share.step share.next) values h
+    (next_int share h loops (ltb-true share.next share.end e))) ((tt, tt), tt)
 
 pub iterate_ints : (to otherwise : ℕ) (c : Context) (slot : ℕ) (share : Option Share) (values : List Val)
     → IfSome share ShareHasInts → AskedHasInts (iterate_row to otherwise c slot share) values
 iterate_ints to otherwise c slot (Some share) values h =
-    if_asked (is_loop share.sharing) _ _ values (λ e. iteration_ints to otherwise c slot share values h) tt
+    if_asked (is_loop share.sharing) _ _ values (λ e. iteration_ints to otherwise c slot share values h e) tt
 iterate_ints to otherwise c slot None values h = tt
 
 section_ints : (to : Option ℕ) → RowHasInts (section_row to)

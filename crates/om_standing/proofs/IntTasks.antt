@@ -4,7 +4,6 @@ use Rattle.std.proofs.Common.{List, [], ◌∷◌, Option, None, Some, length}
 use Rattle.std.specs.Prelude.{All, IfSome, Result, Ok, Err, min, nat_lt, nat_le}
 use Rattle.std.proofs.Math.Nat.{min-le_right}
 use Rattle.std.proofs.lemmas.List.Elements.{All-nil, All-head, All-tail}
-use Rattle.om_foot.specs.Names.{parent_of}
 use Rattle.om_foot.specs.declared.footprint.Access.{Access}
 use Rattle.om_code.specs.declared.frame.Cell as cells
 use Rattle.om_code.specs.declared.frame.Cell.TheVariants as cell
@@ -225,11 +224,10 @@ spawn_ints m body c values h =
     values_ints m body c (ints_on m.launch.takes c.frame.operands) values
     (on_ints m.launch.takes c.frame.operands h)
 
-ended_ints : (worker : ℕ) (c : Context) (below : List Context) (own : List Access) (parent : Option (List ℕ))
-    (values : List Val) → AskedHasInts (ended_row worker c below own parent) values
-ended_ints worker c below own None values = tt
-ended_ints worker c [] own (Some parent) values = tt
-ended_ints worker c (b ∷ below) own (Some parent) values = (
+ended_ints : (worker : ℕ) (c : Context) (below : List Context) (own : List Access) (values : List Val)
+    → AskedHasInts (ended_row worker c below own) values
+ended_ints worker c [] own values = tt
+ended_ints worker c (b ∷ below) own values = (
   (tt, tt),
   (tt, append ValueHasInts (deaths own) _ (put_deaths ValueHasInts own tt) (sums ValueHasInts (negsuc 0) c.group _ (tt, tt))),
 )
@@ -239,7 +237,7 @@ end_ints : (worker : ℕ) (s : Stack) (slots : List Slot) (k : Kind) (values : L
 end_ints worker s slots kind.Initial values = tt
 end_ints worker s slots kind.Implicit values = tt
 end_ints worker s slots kind.Explicit values =
-    ended_ints worker s.top s.below (own_cells s.top slots) (parent_of s.top.task) values
+    ended_ints worker s.top s.below (own_cells s.top slots) values
 
 pub task_end_ints : (worker : ℕ) (s : Stack) (slots : List Slot) (values : List Val)
     → AskedHasInts (task_end_row worker s slots) values

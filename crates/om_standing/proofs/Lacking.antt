@@ -1,7 +1,7 @@
 -- A worker that stands ends only where its instruction may lack something.
 use Rattle.std.proofs.Common.{◌≡◌, inl, inr, refl, sym, ap, subst, ℕ, ◌+◌, ◌≤◌, arith, Bool, true, false, List, ◌∷◌}
 use Rattle.std.proofs.Common.{Option, None, Some, length, option_map}
-use Rattle.std.specs.Prelude.{IfSome, ℤ}
+use Rattle.std.specs.Prelude.{ℤ}
 use Rattle.om_foot.specs.declared.object.Obj.TheVariants as obj
 use Rattle.om_code.specs.declared.frame.Operand.TheVariants.{Int, NoValue}
 use Rattle.om_code.specs.declared.instruction.Instr.{Instr}
@@ -33,9 +33,7 @@ use Rattle.om_task.specs.Rules.{rules_of, choice_row, leaving, admits_all, furth
 use Rattle.om_team.specs.Sites.{site}
 use Rattle.om_team.specs.Sites.{Site, context, operands, next, slots, line, launch, body_of, lock_of, targets_of}
 use Rattle.om_task.specs.Table.{row_of}
-use Rattle.om_standing.specs.Ints.{ShareHasInts}
 use Rattle.om_standing.specs.Reasons.{HasNoValue, MayLack}
-use Rattle.om_standing.specs.Standing.{IsMember, HasParent}
 use Rattle.om_standing.proofs.Operands.{no_int, no_ints, no_ints_below}
 use Rattle.om_standing.proofs.Reasons.{Only, serial_only}
 use Rattle.om_standing.proofs.RowReasons.{call_only, return_only, reduce_only, fork_only, arrive_only, depart_only}
@@ -69,30 +67,23 @@ finished s false values le =
     finish_only (MayLack s.program s.stack (i.Finish false)) s.worker (context s) (context s).kind
     (value_of (context s) false) values inl (λ e. cc)
 
--- what is known of a stack at its instruction
-pub record KnownAt (stack : Stack) (instr : Instr) : Type 0 where
-  pub operands : pops instr ≤ length stack.top.frame.operands
-  pub member : IsMember stack.top.team
-  pub named : HasParent stack.top.task
-  pub shared : IfSome (share_in stack.top) ShareHasInts
-
-instruction_only : (s : Site) (instr : Instr) (values : List Val) → KnownAt s.stack instr
+instruction_only : (s : Site) (instr : Instr) (values : List Val) → pops instr ≤ length s.stack.top.frame.operands
     → Only (MayLack s.program s.stack instr) ((row_of s instr).row values)
 instruction_only s i.ThreadNumber values h = tt
 instruction_only s i.TeamSize values h = tt
 instruction_only s (i.Call body count) values h =
     call_only (HasNoValue count (operands s)) (launch s count body) (body_of s.program body) (context s)
-    (ints_on count (operands s)) values (no_ints count (operands s) h.operands)
+    (ints_on count (operands s)) values (no_ints count (operands s) h)
 instruction_only s i.Return values h =
     return_only (MayLack s.program s.stack i.Return) (context s) (slots s) (context s).callers
     (option_map Int (int_at 0 (operands s))) values
-    (λ e. inl (no_int (operands s) 0 1 (omega arith) h.operands (no_operand (int_at 0 (operands s)) e))) inr
+    (λ e. inl (no_int (operands s) 0 1 (omega arith) h (no_operand (int_at 0 (operands s)) e))) inr
 instruction_only s i.ReturnNothing values h =
     return_only (MayLack s.program s.stack i.ReturnNothing) (context s) (slots s) (context s).callers
     (Some NoValue) values (λ e. cc) (λ e. e)
 instruction_only s (i.Reduce reduction copy place) values h =
     reduce_only (MayLack s.program s.stack (i.Reduce reduction copy place)) (context s) reduction copy place values
-instruction_only s (i.Fork body sized count) values h = forked s body count sized values h.operands
+instruction_only s (i.Fork body sized count) values h = forked s body count sized values h
 instruction_only s i.Begin values h = tt
 instruction_only s (i.Arrive barrier) values h =
     arrive_only (MayLack s.program s.stack (i.Arrive barrier)) s.worker (next s) barrier (context s) values
@@ -103,15 +94,15 @@ instruction_only s i.Leave values h =
     (context s).team.number values inl inr
 instruction_only s (i.Loop form) values h =
     loop_only (MayLack s.program s.stack (i.Loop form)) s.worker (next s) (context s) form (int_at 1 (operands s))
-    (int_at 0 (operands s)) values (λ e. inl (no_int (operands s) 1 2 (omega arith) h.operands e))
-    (λ e. inl (no_int (operands s) 0 2 (omega arith) h.operands e)) inr
+    (int_at 0 (operands s)) values (λ e. inl (no_int (operands s) 1 2 (omega arith) h e))
+    (λ e. inl (no_int (operands s) 0 2 (omega arith) h e)) inr
 instruction_only s (i.Sections count) values h =
     sections_only (MayLack s.program s.stack (i.Sections count)) s.worker (next s) (context s) count values
 instruction_only s (i.Grab otherwise) values h =
     grab_only (MayLack s.program s.stack (i.Grab otherwise)) (next s) otherwise (context s)
-    (share_in (context s)) values (λ e. e) h.member
+    (share_in (context s)) values (λ e. e)
 instruction_only s (i.Iterate slot otherwise) values h =
-    iterate_only (next s) otherwise (context s) slot (share_in (context s)) values h.shared
+    iterate_only (next s) otherwise (context s) slot (share_in (context s)) values
 instruction_only s (i.Pick list) values h = pick_only (targets_of s.program list) (share_in (context s)) values
 instruction_only s (i.Single otherwise) values h =
     single_only (MayLack s.program s.stack (i.Single otherwise)) s.worker (next s) otherwise (context s) values
@@ -119,7 +110,7 @@ instruction_only s i.EndWorksharing values h =
     end_worksharing_only s.worker (next s) (context s) (innermost (context s).constructs) values
 instruction_only s (i.Masked otherwise) values h =
     masked_only (MayLack s.program s.stack (i.Masked otherwise)) s.worker (next s) otherwise (context s)
-    (int_at 0 (operands s)) values (no_int (operands s) 0 1 (omega arith) h.operands)
+    (int_at 0 (operands s)) values (no_int (operands s) 0 1 (omega arith) h)
 instruction_only s i.EndMasked values h =
     end_masked_only (MayLack s.program s.stack i.EndMasked) s.worker (next s) (context s)
     (innermost (context s).constructs) values (λ e. e)
@@ -133,9 +124,9 @@ instruction_only s (i.LeaveCritical lock) values h =
 instruction_only s (i.Spawn body count) values h =
     spawn_only (HasNoValue count (operands s))
     (record { worker = s.worker; line = line s; launch = launch s count body }) (body_of s.program body)
-    (context s) values (no_ints count (operands s) h.operands)
+    (context s) values (no_ints count (operands s) h)
 instruction_only s i.TaskEnd values h =
-    task_end_only (MayLack s.program s.stack i.TaskEnd) s.worker s.stack (slots s) values inl inr h.named
+    task_end_only (MayLack s.program s.stack i.TaskEnd) s.worker s.stack (slots s) values inl inr
 instruction_only s i.WaitBegin values h = tt
 instruction_only s i.WaitEnd values h =
     wait_end_only (MayLack s.program s.stack i.WaitEnd) s.worker (next s) (context s) values
@@ -145,29 +136,30 @@ instruction_only s i.GroupBegin values h =
 instruction_only s i.GroupEnd values h =
     group_end_only (MayLack s.program s.stack i.GroupEnd) s.worker (next s) (context s)
     (innermost_group (innermost (context s).constructs)) values (λ e. e)
-instruction_only s (i.Finish has_value) values h = finished s has_value values h.operands
-instruction_only s (i.Constant k) values h = serial_only s.program s.stack (i.Constant k) values tt h.operands
-instruction_only s i.Duplicate values h = serial_only s.program s.stack i.Duplicate values tt h.operands
-instruction_only s i.Pop values h = serial_only s.program s.stack i.Pop values tt h.operands
-instruction_only s i.Nop values h = serial_only s.program s.stack i.Nop values tt h.operands
-instruction_only s i.Use values h = serial_only s.program s.stack i.Use values tt h.operands
-instruction_only s (i.Unary operator) values h = serial_only s.program s.stack (i.Unary operator) values tt h.operands
-instruction_only s (i.Binary operator) values h = serial_only s.program s.stack (i.Binary operator) values tt h.operands
-instruction_only s (i.Jump target) values h = serial_only s.program s.stack (i.Jump target) values tt h.operands
-instruction_only s (i.JumpIfZero target) values h = serial_only s.program s.stack (i.JumpIfZero target) values tt h.operands
-instruction_only s (i.Load place) values h = serial_only s.program s.stack (i.Load place) values tt h.operands
-instruction_only s (i.Store place keeps) values h = serial_only s.program s.stack (i.Store place keeps) values tt h.operands
-instruction_only s (i.LoadElement place) values h = serial_only s.program s.stack (i.LoadElement place) values tt h.operands
+instruction_only s (i.Finish has_value) values h = finished s has_value values h
+instruction_only s (i.Constant k) values h = serial_only s.program s.stack (i.Constant k) values tt h
+instruction_only s i.Duplicate values h = serial_only s.program s.stack i.Duplicate values tt h
+instruction_only s i.Pop values h = serial_only s.program s.stack i.Pop values tt h
+instruction_only s i.Nop values h = serial_only s.program s.stack i.Nop values tt h
+instruction_only s i.Use values h = serial_only s.program s.stack i.Use values tt h
+instruction_only s (i.Unary operator) values h = serial_only s.program s.stack (i.Unary operator) values tt h
+instruction_only s (i.Binary operator) values h = serial_only s.program s.stack (i.Binary operator) values tt h
+instruction_only s (i.Jump target) values h = serial_only s.program s.stack (i.Jump target) values tt h
+instruction_only s (i.JumpIfZero target) values h = serial_only s.program s.stack (i.JumpIfZero target) values tt h
+instruction_only s (i.Load place) values h = serial_only s.program s.stack (i.Load place) values tt h
+instruction_only s (i.Store place keeps) values h = serial_only s.program s.stack (i.Store place keeps) values tt h
+instruction_only s (i.LoadElement place) values h = serial_only s.program s.stack (i.LoadElement place) values tt h
 instruction_only s (i.StoreElement place keeps) values h =
-    serial_only s.program s.stack (i.StoreElement place keeps) values tt h.operands
-instruction_only s (i.Clear slot) values h = serial_only s.program s.stack (i.Clear slot) values tt h.operands
-instruction_only s (i.Print text count) values h = serial_only s.program s.stack (i.Print text count) values tt h.operands
+    serial_only s.program s.stack (i.StoreElement place keeps) values tt h
+instruction_only s (i.Clear slot) values h = serial_only s.program s.stack (i.Clear slot) values tt h
+instruction_only s (i.Print text count) values h = serial_only s.program s.stack (i.Print text count) values tt h
 instruction_only s (i.Atomic operator side place) values h =
-    serial_only s.program s.stack (i.Atomic operator side place) values tt h.operands
+    serial_only s.program s.stack (i.Atomic operator side place) values tt h
 instruction_only s (i.AtomicElement operator side place) values h =
-    serial_only s.program s.stack (i.AtomicElement operator side place) values tt h.operands
+    serial_only s.program s.stack (i.AtomicElement operator side place) values tt h
 
-choice_only : (s : Site) (instr : Instr) (choice : Choice) (values : List Val) → KnownAt s.stack instr
+choice_only : (s : Site) (instr : Instr) (choice : Choice) (values : List Val)
+    → pops instr ≤ length s.stack.top.frame.operands
     → Only (MayLack s.program s.stack instr) ((choice_row s (Some instr) choice).row values)
 choice_only s instr Next values h = instruction_only s instr values h
 choice_only s instr (Start name) values h =
@@ -180,7 +172,8 @@ choice_only s instr (Start name) values h =
     }) name s.stack.top values
 
 row_only : (program : Raw) (workers : ℕ) (l : Label) (stack : Stack) (instr : Instr) (values : List Val)
-    → instruction_at program stack.top.frame.body stack.top.frame.next ≡ Some instr → KnownAt stack instr
+    → instruction_at program stack.top.frame.body stack.top.frame.next ≡ Some instr
+    → pops instr ≤ length stack.top.frame.operands
     → Only (MayLack program stack instr) (row_in program workers l (Running stack) values)
 row_only program workers l stack instr values is h =
     let s : Site = site program workers l.worker stack in
@@ -197,7 +190,8 @@ ended_only reason c (row.Blocked b) h e = cc
 -- a worker whose instruction has its operands ends only where this may lack something
 pub ends_only : (program : Raw) (workers : ℕ) (s : State) (l : Label) (stack : Stack) (instr : Instr)
     → s (obj.Control l.worker) ≡ value.Control (Running stack)
-    → instruction_at program stack.top.frame.body stack.top.frame.next ≡ Some instr → KnownAt stack instr
+    → instruction_at program stack.top.frame.body stack.top.frame.next ≡ Some instr
+    → pops instr ≤ length stack.top.frame.operands
     → (step_at (rules_of program workers) s l).outcome ≡ outcome.Ended
     → MayLack program stack instr
 unfolding step_at

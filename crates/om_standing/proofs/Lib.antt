@@ -8,7 +8,6 @@ mod Walk
 mod Runs
 mod Replays
 mod IntValues
-mod Iterations
 mod IntEdits
 mod IntTurns
 mod IntShares

@@ -1,11 +1,8 @@
 -- The other rows lack something for their reasons alone.
 use Rattle.std.proofs.Common.{◌≡◌, inl, inr, refl, ℕ, zero, suc, ◌+◌, ◌-◌, ℤ, pos, negsuc, Bool, true, false}
-use Rattle.std.proofs.Common.{if◌then◌else◌, cond, take, List, [], ◌∷◌, Option, None, Some, length, arith}
-use Rattle.std.proofs.lemmas.Bool.{ltb-true}
-use Rattle.std.proofs.lemmas.Bool.Decides.{nat_tests}
+use Rattle.std.proofs.Common.{if◌then◌else◌, List, [], ◌∷◌, Option, None, Some, length}
 use Rattle.std.specs.Ordering.{int_eq}
-use Rattle.std.specs.Prelude.{◌≢◌, ◌<◌, ◌≤◌, IfSome, Result, Ok, Err, slice_get, nat_lt, nat_le, nat_eq}
-use Rattle.om_foot.specs.Names.{parent_of}
+use Rattle.std.specs.Prelude.{◌≢◌, Result, Ok, Err, slice_get, nat_lt, nat_le, nat_eq}
 use Rattle.om_foot.specs.declared.footprint.Access.{Access}
 use Rattle.om_code.specs.declared.frame.Cell as cells
 use Rattle.om_code.specs.declared.frame.Cell.TheVariants as cell
@@ -29,11 +26,11 @@ use Rattle.om_values.specs.declared.control.Frame.{Frame}
 use Rattle.om_values.specs.declared.control.Kind.{Kind}
 use Rattle.om_values.specs.declared.control.Kind.TheVariants as kind
 use Rattle.om_values.specs.declared.control.Share.{Share}
-use Rattle.om_values.specs.declared.control.Team.{Team}
 use Rattle.om_values.specs.declared.control.Stack.{Stack}
 use Rattle.om_values.specs.declared.value.Ready.{Ready}
 use Rattle.om_values.specs.declared.value.Val.{Val}
 use Rattle.om_values.specs.Values.{cell_in, number_in, count_in, holder_in, task_in}
+use Rattle.om_values.specs.OpenShares.{is_loop}
 use Rattle.om_steps.specs.declared.row.Launch.{Launch}
 use Rattle.om_steps.specs.declared.row.Row.{Row}
 use Rattle.om_steps.specs.Rows.{Asked, first_of, rest_of}
@@ -45,10 +42,10 @@ use Rattle.om_team.specs.Teams.{first_busy}
 use Rattle.om_team.specs.Rows.{forked, team_of, named_row, sized_row, fork_row}
 use Rattle.om_share.specs.Rows.{is_misplaced_barrier, arrive_row, departed, depart_row, left, leave_row}
 use Rattle.om_share.specs.declared.chunk.Chunk.{Chunk}
-use Rattle.om_share.specs.Chunks.{static_chunk, chunk_within, value_of}
+use Rattle.om_share.specs.Chunks.{static_chunk, chunk_within}
 use Rattle.om_share.specs.Rows.{open_row, loop_row, sections_row, taken_row, given_row as chunk_given_row, static_row}
-use Rattle.om_share.specs.Rows.{chunk_row, grab_row, value_row, int_of, iteration_row, iterate_row, section_row}
-use Rattle.om_share.specs.Rows.{is_section, is_loop, is_member, is_masked, is_critical, is_right_form, pick_row}
+use Rattle.om_share.specs.Rows.{chunk_row, grab_row, iteration_row, iterate_row, section_row}
+use Rattle.om_share.specs.Rows.{is_section, is_masked, is_critical, is_right_form, pick_row}
 use Rattle.om_share.specs.Rows.{chosen_row, single_row, end_worksharing_row, filtered_row, masked_row, end_masked_row}
 use Rattle.om_share.specs.Rows.{lock_row, enter_critical_row, leave_critical_row}
 use Rattle.om_task.specs.declared.task_start.Starting.{Starting}
@@ -59,23 +56,8 @@ use Rattle.om_task.specs.Rows.{made_row, given_row, spawn_row, ended_row, end_ro
 use Rattle.om_task.specs.Rows.{wait_end_row, opened_row, group_begin_row, closed, closed_row}
 use Rattle.om_team.specs.Rows.{finished, finished_row}
 use Rattle.om_task.specs.Rows.{ready_for, started, started_row, start_row}
-use Rattle.om_standing.specs.Ints.{ShareHasInts}
 use Rattle.om_standing.specs.Reasons.{is_in_loop, HasNoSection, is_worksharing}
-use Rattle.om_standing.specs.Standing.{IsMember, HasParent}
-use Rattle.om_standing.proofs.Iterations.{an_int}
 use Rattle.om_standing.proofs.Reasons.{Only}
-
-no_none : (b : Bool) (xs : List ℕ) → b ≡ false → cond b None (Some xs) ≢ None
-no_none true xs h e = cc (h)
-no_none false xs h e = let no : Some xs ≡ None = e in cc
-
-has_parent : (name : List ℕ) → HasParent name → parent_of name ≢ None
-has_parent [] h e = h refl
-has_parent (x ∷ name) h e =
-    no_none (nat_eq (length (x ∷ name)) 0) (take (length (x ∷ name) - 1) (x ∷ name)) (grind (arith, nat_tests)) e
-
-no_member : (team : Team) → IsMember team → is_member team ≡ false → ⊥
-no_member team m e = let is : is_member team ≡ true = grind (arith, nat_tests, m) in cc
 
 module _ (reason : Type 0) where
   only_if : (b : Bool) (x y : Asked) (values : List Val) → (b ≡ true → Only reason (x.row values))
@@ -209,37 +191,27 @@ module _ (reason : Type 0) where
   given_only to otherwise share None = tt
 
   static_only : (to otherwise : ℕ) (c : Context) (share : Share) (size : Option ℕ) (values : List Val)
-      → IsMember c.team → Only reason ((static_row to otherwise c share size).row values)
-  static_only to otherwise c share size values m =
-      only_row (is_member c.team) _ _
-      (taken_only to otherwise share (static_chunk size share.count c.team.size c.team.number share.taken))
-      (λ e. absurd (no_member c.team m e))
+      → Only reason ((static_row to otherwise c share size).row values)
+  static_only to otherwise c share size values =
+      taken_only to otherwise share (static_chunk size share.count c.team.size c.team.number share.taken)
 
   chunk_only : (to otherwise : ℕ) (c : Context) (share : Share) (s : Schedule) (values : List Val)
-      → IsMember c.team → Only reason ((chunk_row to otherwise c share s).row values)
-  chunk_only to otherwise c share schedule.Static values n = static_only to otherwise c share None values n
-  chunk_only to otherwise c share (schedule.StaticChunk size) values n =
-      static_only to otherwise c share (Some size) values n
-  chunk_only to otherwise c share (schedule.Dynamic size) values n =
+      → Only reason ((chunk_row to otherwise c share s).row values)
+  chunk_only to otherwise c share schedule.Static values = static_only to otherwise c share None values
+  chunk_only to otherwise c share (schedule.StaticChunk size) values =
+      static_only to otherwise c share (Some size) values
+  chunk_only to otherwise c share (schedule.Dynamic size) values =
       given_only to otherwise share (chunk_within share.count (number_in (first_of values)) size)
 
   pub grab_only : (to otherwise : ℕ) (c : Context) (share : Option Share) (values : List Val)
-      → (share ≡ None → reason) → IsMember c.team → Only reason ((grab_row to otherwise c share).row values)
-  grab_only to otherwise c (Some share) values n m = chunk_only to otherwise c share share.schedule values m
-  grab_only to otherwise c None values n m = n refl
-
-  value_only : (to : ℕ) (c : Context) (slot : ℕ) (share : Share) (value : Option ℤ) (values : List Val)
-      → (value ≡ None → reason) → Only reason ((value_row to c slot share value).row values)
-  value_only to c slot share (Some n) values h = tt
-  value_only to c slot share None values h = h refl
+      → (share ≡ None → reason) → Only reason ((grab_row to otherwise c share).row values)
+  grab_only to otherwise c (Some share) values n = chunk_only to otherwise c share share.schedule values
+  grab_only to otherwise c None values n = n refl
 
   iteration_only : (to otherwise : ℕ) (c : Context) (slot : ℕ) (share : Share) (values : List Val)
-      → (nat_lt share.next share.end ≡ true → int_of (value_of share.lower share.step share.next) ≡ None → reason)
       → Only reason ((iteration_row to otherwise c slot share).row values)
-  iteration_only to otherwise c slot share values h =
-      only_if (nat_lt share.next share.end) _ _ values
-      (λ left. value_only to c slot share (int_of (value_of share.lower share.step share.next)) values (h left))
-      (λ e. tt)
+  iteration_only to otherwise c slot share values =
+      only_if (nat_lt share.next share.end) _ _ values (λ e. tt) (λ e. tt)
 
   section_only : (to : Option ℕ) → (to ≡ None → reason) → Only reason (section_row to)
   section_only (Some to) h = tt
@@ -300,25 +272,23 @@ module _ (reason : Type 0) where
       → (ints_on m.launch.takes c.frame.operands ≡ None → reason) → Only reason ((spawn_row m body c).row values)
   spawn_only m body c values n = given_ints_only m body c (ints_on m.launch.takes c.frame.operands) values n
 
-  ended_only : (worker : ℕ) (c : Context) (below : List Context) (own : List Access) (parent : Option (List ℕ))
-      (values : List Val) → (below ≡ [] → reason) → (parent ≢ None)
-      → Only reason ((ended_row worker c below own parent).row values)
-  ended_only worker c below own None values n m = absurd (m refl)
-  ended_only worker c [] own (Some parent) values n m = n refl
-  ended_only worker c (b ∷ below) own (Some parent) values n m = tt
+  ended_only : (worker : ℕ) (c : Context) (below : List Context) (own : List Access) (values : List Val)
+      → (below ≡ [] → reason) → Only reason ((ended_row worker c below own).row values)
+  ended_only worker c [] own values n = n refl
+  ended_only worker c (b ∷ below) own values n = tt
 
   end_only : (worker : ℕ) (s : Stack) (slots : List Slot) (k : Kind) (values : List Val)
-      → ((k ≢ kind.Explicit) → reason) → (s.below ≡ [] → reason) → HasParent s.top.task
+      → ((k ≢ kind.Explicit) → reason) → (s.below ≡ [] → reason)
       → Only reason ((end_row_of worker s slots k).row values)
-  end_only worker s slots kind.Initial values h n m = h (λ e. cc)
-  end_only worker s slots kind.Implicit values h n m = h (λ e. cc)
-  end_only worker s slots kind.Explicit values h n m =
-      ended_only worker s.top s.below (own_cells s.top slots) (parent_of s.top.task) values n (has_parent s.top.task m)
+  end_only worker s slots kind.Initial values h n = h (λ e. cc)
+  end_only worker s slots kind.Implicit values h n = h (λ e. cc)
+  end_only worker s slots kind.Explicit values h n =
+      ended_only worker s.top s.below (own_cells s.top slots) values n
 
   pub task_end_only : (worker : ℕ) (s : Stack) (slots : List Slot) (values : List Val)
-      → ((s.top.kind ≢ kind.Explicit) → reason) → (s.below ≡ [] → reason) → HasParent s.top.task
+      → ((s.top.kind ≢ kind.Explicit) → reason) → (s.below ≡ [] → reason)
       → Only reason ((task_end_row worker s slots).row values)
-  task_end_only worker s slots values h n m = end_only worker s slots s.top.kind values h n m
+  task_end_only worker s slots values h n = end_only worker s slots s.top.kind values h n
 
   waited_only : (to : ℕ) (c : Context) (over : Bool) → Only reason (waited to c over)
   waited_only to c true = tt
@@ -375,23 +345,12 @@ module _ (reason : Type 0) where
 
 -- ---- rows whose reason is one of the region
 
--- the value of an iteration that is given out is an int
-no_iteration : (share : Share) → ShareHasInts share → is_loop share.sharing ≡ true
-    → nat_lt share.next share.end ≡ true → int_of (value_of share.lower share.step share.next) ≡ None → ⊥
-no_iteration share h loops left =
-    let before : share.next < share.end = ltb-true share.next share.end left in
-    let within : share.end ≤ share.count = h.within in
-    an_int (value_of share.lower share.step share.next)
-    (h.values loops share.next (omega (arith, before, within)))
-
 pub iterate_only : (to otherwise : ℕ) (c : Context) (slot : ℕ) (share : Option Share) (values : List Val)
-    → IfSome share ShareHasInts
     → Only (is_in_loop share ≡ false) ((iterate_row to otherwise c slot share).row values)
-iterate_only to otherwise c slot (Some share) values h =
+iterate_only to otherwise c slot (Some share) values =
     only_if (is_loop share.sharing ≡ false) (is_loop share.sharing) _ _ values
-    (λ loops. iteration_only (is_loop share.sharing ≡ false) to otherwise c slot share values
-    (λ left none. absurd (no_iteration share h loops left none))) (λ e. e)
-iterate_only to otherwise c slot None values h = refl
+    (λ loops. iteration_only (is_loop share.sharing ≡ false) to otherwise c slot share values) (λ e. e)
+iterate_only to otherwise c slot None values = refl
 
 pub pick_only : (targets : List ℕ) (share : Option Share) (values : List Val)
     → Only (HasNoSection targets share) ((pick_row targets share).row values)

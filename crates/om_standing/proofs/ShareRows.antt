@@ -13,13 +13,14 @@ use Rattle.om_values.specs.declared.control.Share.{Share}
 use Rattle.om_values.specs.declared.control.Stack.{Stack}
 use Rattle.om_values.specs.declared.value.Val.{Val}
 use Rattle.om_values.specs.Values.{number_in, holder_in}
+use Rattle.om_values.specs.OpenShares.{is_loop, value_of}
 use Rattle.om_steps.specs.Rows.{first_of}
 use Rattle.om_steps.specs.Objects.{is_misplaced}
 use Rattle.om_share.specs.declared.chunk.Chunk.{Chunk}
-use Rattle.om_share.specs.Chunks.{static_chunk, chunk_within, value_of}
+use Rattle.om_share.specs.Chunks.{static_chunk, chunk_within}
 use Rattle.om_share.specs.Rows.{open_row, loop_row, loop_of, sections_row, taken_row, given_row, static_row, chunk_row}
-use Rattle.om_share.specs.Rows.{grab_row, value_row, int_of, iteration_row, iterate_row, section_row, is_section}
-use Rattle.om_share.specs.Rows.{is_loop, is_member, is_masked, is_critical, is_right_form, pick_row, chosen_row}
+use Rattle.om_share.specs.Rows.{grab_row, value_row, iteration_row, iterate_row, section_row, is_section}
+use Rattle.om_share.specs.Rows.{is_masked, is_critical, is_right_form, pick_row, chosen_row}
 use Rattle.om_share.specs.Rows.{single_row, end_worksharing_row, filtered_row, masked_row, end_masked_row}
 use Rattle.om_share.specs.Rows.{ask_critical_row, lock_row, enter_critical_row, leave_critical_row}
 use Rattle.om_standing.specs.Standing.{Owned}
@@ -63,8 +64,7 @@ module _ (program : Raw) (owned : Owned) (stack : Stack) where
       → Leads program owned stack to 0 None → Leads program owned stack otherwise 0 None
       → AskedStands program owned stack (static_row to otherwise c share size) values
   static_stands to otherwise c share size values h k =
-      if_row program owned stack (is_member c.team) _ _
-      (taken_stands to otherwise share (static_chunk size share.count c.team.size c.team.number share.taken) h k) tt
+      taken_stands to otherwise share (static_chunk size share.count c.team.size c.team.number share.taken) h k
 
   chunk_stands : (to otherwise : ℕ) (c : Context) (share : Share) (s : Schedule) (values : List Val)
       → Leads program owned stack to 0 None → Leads program owned stack otherwise 0 None
@@ -81,18 +81,17 @@ module _ (program : Raw) (owned : Owned) (stack : Stack) where
   grab_stands to otherwise c (Some share) values h k = chunk_stands to otherwise c share share.schedule values h k
   grab_stands to otherwise c None values h k = tt
 
-  value_stands : (to : ℕ) (c : Context) (slot : ℕ) (share : Share) (value : Option ℤ) (values : List Val)
-      → Leads program owned stack to 0 None → AskedStands program owned stack (value_row to c slot share value) values
-  value_stands to c slot share (Some n) values h =
+  value_stands : (to : ℕ) (c : Context) (slot : ℕ) (share : Share) (n : ℤ) (values : List Val)
+      → Leads program owned stack to 0 None → AskedStands program owned stack (value_row to c slot share n) values
+  value_stands to c slot share n values h =
       ((record { frame = h.0.frame; callers = h.0.callers; member = h.0.member; named = h.0.named }, h.1), (tt, tt))
-  value_stands to c slot share None values h = tt
 
   iteration_stands : (to otherwise : ℕ) (c : Context) (slot : ℕ) (share : Share) (values : List Val)
       → Leads program owned stack to 0 None → Leads program owned stack otherwise 0 None
       → AskedStands program owned stack (iteration_row to otherwise c slot share) values
   iteration_stands to otherwise c slot share values h k =
       if_asked program owned stack (nat_lt share.next share.end) _ _ values
-      (value_stands to c slot share (int_of (value_of share.lower share.step share.next)) values h) (k, tt)
+      (value_stands to c slot share (value_of share.lower share.step share.next) values h) (k, tt)
 
   pub iterate_stands : (to otherwise : ℕ) (c : Context) (slot : ℕ) (share : Option Share) (values : List Val)
       → Leads program owned stack to 0 None → Leads program owned stack otherwise 0 None

@@ -4,7 +4,6 @@ use Rattle.std.proofs.Common.{◌≡◌, refl, subst, ℕ, zero, suc, ◌+◌, �
 use Rattle.std.proofs.Common.{if◌then◌else◌, cond, List, [], ◌∷◌, ◌++◌, Option, None, Some, length}
 use Rattle.std.specs.Prelude.{Result, Ok, Err, IfSome, min, nat_lt, nat_le, nat_eq, unwrap_or}
 use Rattle.std.specs.Cmp.Lexicographic.{pointwise}
-use Rattle.om_foot.specs.Names.{parent_of}
 use Rattle.om_foot.specs.declared.footprint.Access.{Access}
 use Rattle.om_code.specs.declared.frame.Cell as cells
 use Rattle.om_code.specs.declared.frame.Cell.TheVariants as cell
@@ -321,12 +320,11 @@ module _ (program : Raw) (owned : Owned) (stack : Stack) where
       → RowMakes program owned (Running stack) (spawn_row m body c).names ((spawn_row m body c).row values)
   spawn_stands m body c values h t = given_ints_stand m body c (ints_on m.launch.takes c.frame.operands) values h t
 
-  ended_stands : (worker : ℕ) (c : Context) (below : List Context) (own : List Access) (parent : Option (List ℕ))
-      (values : List Val) → IsStandingControl program owned (Running stack)
-      → AskedStands program owned stack (ended_row worker c below own parent) values
-  ended_stands worker c below own None values h = tt
-  ended_stands worker c [] own (Some parent) values h = tt
-  ended_stands worker c (b ∷ below) own (Some parent) values h = (
+  ended_stands : (worker : ℕ) (c : Context) (below : List Context) (own : List Access) (values : List Val)
+      → IsStandingControl program owned (Running stack)
+      → AskedStands program owned stack (ended_row worker c below own) values
+  ended_stands worker c [] own values h = tt
+  ended_stands worker c (b ∷ below) own values h = (
     changed_stands program owned (EndContext ∷ []) (Running stack) (tt, tt) h,
     (
       tt,
@@ -341,7 +339,7 @@ module _ (program : Raw) (owned : Owned) (stack : Stack) where
   end_stands worker s slots kind.Initial values h = tt
   end_stands worker s slots kind.Implicit values h = tt
   end_stands worker s slots kind.Explicit values h =
-      ended_stands worker s.top s.below (own_cells s.top slots) (parent_of s.top.task) values h
+      ended_stands worker s.top s.below (own_cells s.top slots) values h
 
   pub task_end_stands : (worker : ℕ) (s : Stack) (slots : List Slot) (values : List Val)
       → IsStandingControl program owned (Running stack)

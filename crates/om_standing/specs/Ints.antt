@@ -1,5 +1,5 @@
 -- Ints: what operands, cells and iterations are in the runs of a program whose constants are ints.
-use Rattle.std.specs.Prelude.{◌≡◌, ℕ, ℤ, ◌<◌, ◌≤◌, ◌^◌, true, All}
+use Rattle.std.specs.Prelude.{ℕ, ◌<◌, ◌≤◌, ◌^◌, All}
 use Rattle.om_foot.specs.declared.object.Obj.{Obj}
 use Rattle.om_code.specs.declared.frame.Cell as cells
 use Rattle.om_code.specs.declared.frame.Cell.TheVariants as cell
@@ -9,25 +9,18 @@ use Rattle.om_code.specs.declared.instruction.Instr.{Instr}
 use Rattle.om_code.specs.declared.instruction.Instr.TheVariants.{Constant}
 use Rattle.om_code.specs.declared.raw.Body.{Body}
 use Rattle.om_code.specs.declared.raw.Raw.{Raw}
-use Rattle.om_code.specs.Arithmetic.{is_int}
 use Rattle.om_values.specs.declared.control.Construct.{Construct}
 use Rattle.om_values.specs.declared.control.Construct.TheVariants as construct
 use Rattle.om_values.specs.declared.control.Context.{Context}
 use Rattle.om_values.specs.declared.control.Control as controls
 use Rattle.om_values.specs.declared.control.Control.TheVariants.{Running, Faulted}
 use Rattle.om_values.specs.declared.control.Frame.{Frame}
-use Rattle.om_values.specs.declared.control.Share.{Share}
 use Rattle.om_values.specs.declared.control.Stack.{Stack}
 use Rattle.om_values.specs.declared.control.Team.{Team}
 use Rattle.om_values.specs.declared.value.Val.{Val}
 use Rattle.om_values.specs.declared.value.Val.TheVariants as value
+pub use Rattle.om_values.specs.OpenShares.{IsInt, ShareHasInts}
 use Rattle.om_values.specs.State.{State}
-use Rattle.om_share.specs.Chunks.{value_of}
-use Rattle.om_share.specs.Rows.{is_loop}
-
--- from -2 ^ 31 to 2 ^ 31 - 1
-abbrev pub IsInt : ℤ → Type 0
-IsInt v = is_int v ≡ true
 
 -- ---- programs
 
@@ -61,12 +54,6 @@ HoldsInt _ = Unit {0}
 
 abbrev pub FrameHasInts : Frame → Type 0
 FrameHasInts frame = All IsIntOperand frame.operands
-
--- each iteration of a loop has an int as its value, and none behind the last one is ever given out
-pub record ShareHasInts (share : Share) : Type 0 where
-  pub within : share.end ≤ share.count
-  pub values : is_loop share.sharing ≡ true → (iteration : ℕ) → iteration < share.count
-      → IsInt (value_of share.lower share.step iteration)
 
 abbrev pub ConstructHasInts : Construct → Type 0
 ConstructHasInts (construct.Share share) = ShareHasInts share

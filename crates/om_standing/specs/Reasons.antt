@@ -12,8 +12,9 @@ use Rattle.om_values.specs.declared.control.Construct.TheVariants as construct
 use Rattle.om_values.specs.declared.control.Kind.TheVariants.{Initial, Implicit, Explicit}
 use Rattle.om_values.specs.declared.control.Share.{Share}
 use Rattle.om_values.specs.declared.control.Stack.{Stack}
+use Rattle.om_values.specs.OpenShares.{is_loop}
 use Rattle.om_steps.specs.Objects.{innermost}
-use Rattle.om_share.specs.Rows.{share_in, is_loop, is_section, is_right_form, is_masked, is_critical}
+use Rattle.om_share.specs.Rows.{share_in, is_section, is_right_form, is_masked, is_critical}
 use Rattle.om_task.specs.Tasks.{innermost_group}
 use Rattle.om_team.specs.Sites.{targets_of}
 

@@ -48,11 +48,10 @@ pub fn runs_have_ints()
     steps_keep_ints();
 }
 
-/// So the step of a worker of a valid program of ints ends only where its instruction lacks what
-/// validity says nothing of, as an open region of its kind, or an int among its operands.
+/// So the step of a worker of a valid program ends only where its instruction lacks what validity says
+/// nothing of, as an open region of its kind, or an int among its operands.
 pub fn lacks_have_reasons()
     ensures { LacksHaveReasons }
 {
     workers_have_needs();
-    runs_have_ints();
 }

@@ -1,28 +1,29 @@
 //! What a task begins with.
 
-ghost use Rattle.std.specs.Prelude.{◌≡◌, [], IfOk, None};
+ghost use Rattle.std.specs.Prelude.{◌≡◌, ◌<◌, [], IfOk, None};
 ghost use Rattle.om_steps.specs.Begins.{first_frame, new_context};
 
 use om_foot::{Name, Shared};
 use om_seq::{Pile, Seq};
-use om_values::{Construct, Context, Frame, Home, Kind, SharedPile, Team};
+use om_values::{Construct, Context, Frame, Home, Kind, SharedPile, SharedTeam, Team};
 use std::alloc::{AllocError, Global};
 
 /// Where a task stands: its name, its place in its team, and the group in which it began.
 #[derive(Drop)]
 pub struct Standing {
     pub task: Shared<Name>,
-    pub team: Shared<Team>,
+    pub team: SharedTeam,
     pub group: Shared<Option<Name>>,
 }
 
 /// Where a task stands that is in no group. Its only error is out of memory.
 pub fn in_no_group(alloc: Global, task: &Name, team: &Team) -> Result<Standing, AllocError>
+    requires { team.now.number < team.now.size }
     ensures { IfOk result (λ s. s ≡ record { task = task.now; team = team.now; group = None }) }
 {
     Ok(Standing {
         task: Shared::of(alloc, *task)?,
-        team: Shared::of(alloc, team.copy()?)?,
+        team: SharedTeam::of(alloc, team.copy()?)?,
         group: Shared::of(alloc, None)?,
     })
 }

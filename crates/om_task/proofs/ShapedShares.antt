@@ -13,12 +13,12 @@ use Rattle.om_values.specs.declared.control.Construct.{Construct}
 use Rattle.om_values.specs.declared.control.Construct.TheVariants as construct
 use Rattle.om_values.specs.declared.control.Share.{Share}
 use Rattle.om_values.specs.declared.edit.Edit.{Edit}
+use Rattle.om_values.specs.OpenShares.{is_loop, value_of}
 use Rattle.om_steps.specs.declared.row.Row.TheVariants.{Faults, Lacks}
 use Rattle.om_steps.specs.Rows.{goes}
 use Rattle.om_steps.specs.Objects.{is_misplaced}
-use Rattle.om_share.specs.Chunks.{value_of}
 use Rattle.om_share.specs.Rows.{recorded, open_row, loop_row, loop_of, sections_row, static_row, dynamic_row, chunk_row}
-use Rattle.om_share.specs.Rows.{grab_row, value_row, int_of, iteration_row, iterate_row, is_loop, is_masked, is_critical}
+use Rattle.om_share.specs.Rows.{grab_row, value_row, iteration_row, iterate_row, is_masked, is_critical}
 use Rattle.om_share.specs.Rows.{is_right_form, pick_row, single_row, end_worksharing_row, filtered_row, masked_row}
 use Rattle.om_share.specs.Rows.{end_masked_row, ask_critical_row, enter_critical_row, leave_critical_row}
 use Rattle.om_task.proofs.NoControls.{AskedShaped, object_none, of_cells, apart, by_control, if_asked}
@@ -51,16 +51,14 @@ pub grab_shaped : (to otherwise : ℕ) (c : Context) (share : Option Share) → 
 grab_shaped to otherwise c (Some share) = chunk_shaped to otherwise c share share.schedule
 grab_shaped to otherwise c None = by_control Lacks
 
-value_shaped : (to : ℕ) (c : Context) (slot : ℕ) (share : Share) (value : Option ℤ)
-    → AskedShaped (value_row to c slot share value)
-value_shaped to c slot share (Some x) = of_cells (value_row to c slot share (Some x)) (object_none c (Slot slot) 0, tt)
+value_shaped : (to : ℕ) (c : Context) (slot : ℕ) (share : Share) (x : ℤ) → AskedShaped (value_row to c slot share x)
+value_shaped to c slot share x = of_cells (value_row to c slot share x) (object_none c (Slot slot) 0, tt)
     (λ values. (tt, tt))
-value_shaped to c slot share None = by_control Lacks
 
 iteration_shaped : (to otherwise : ℕ) (c : Context) (slot : ℕ) (share : Share)
     → AskedShaped (iteration_row to otherwise c slot share)
 iteration_shaped to otherwise c slot share = if_asked (nat_lt share.next share.end) _ _
-    (value_shaped to c slot share (int_of (value_of share.lower share.step share.next)))
+    (value_shaped to c slot share (value_of share.lower share.step share.next))
     (by_control (goes otherwise 0 None []))
 
 pub iterate_shaped : (to otherwise : ℕ) (c : Context) (slot : ℕ) (share : Option Share)

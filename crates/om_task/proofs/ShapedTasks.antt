@@ -1,7 +1,7 @@
 -- The rows of serial instructions, barriers and tasks are shaped: they name no control, and put cells at cells.
 use Rattle.std.proofs.Common.{refl, ℕ, zero, suc, ℤ, Bool, true, false, List, [], ◌∷◌, Option, None, Some, length}
 use Rattle.std.specs.Prelude.{nat_le, ◌+◌, pos, negsuc}
-use Rattle.om_foot.specs.Names.{parent_of}
+use Rattle.om_foot.specs.Names.{above}
 use Rattle.om_code.specs.declared.frame.Cell as cells
 use Rattle.om_code.specs.declared.frame.Cell.TheVariants as cell
 use Rattle.om_code.specs.declared.frame.Fault.TheVariants as fault
@@ -132,14 +132,13 @@ given_shaped m body c (Some ns) = made_shaped m body c ns (born c)
 pub spawn_shaped : (m : Making) (body : Body) (c : Context) → AskedShaped (spawn_row m body c)
 spawn_shaped m body c = given_shaped m body c (ints_on m.launch.takes c.frame.operands)
 
-ended_shaped : (worker : ℕ) (c : Context) (below : List Context) (slots : List Slot) (parent : Option (List ℕ))
-    → AskedShaped (ended_row worker c below (own_cells c slots) parent)
-ended_shaped worker c below slots None = by_control Lacks
-ended_shaped worker c [] slots (Some parent) = by_control Lacks
-ended_shaped worker c (b ∷ below) slots (Some parent) = plain _ (
+ended_shaped : (worker : ℕ) (c : Context) (below : List Context) (slots : List Slot)
+    → AskedShaped (ended_row worker c below (own_cells c slots))
+ended_shaped worker c [] slots = by_control Lacks
+ended_shaped worker c (b ∷ below) slots = plain _ (
   refl,
   none_append _ _ (own_none c slots)
-      (counts_none parent c c.group worker),
+      (counts_none (above c.task) c c.group worker),
 )
     (λ values. (
       tt,
@@ -151,7 +150,6 @@ end_shaped : (worker : ℕ) (stack : Stack) (slots : List Slot) (k : Kind) → A
 end_shaped worker stack slots kind.Initial = by_control Lacks
 end_shaped worker stack slots kind.Implicit = by_control Lacks
 end_shaped worker stack slots kind.Explicit = ended_shaped worker stack.top stack.below slots
-    (parent_of stack.top.task)
 
 pub task_end_shaped : (worker : ℕ) (stack : Stack) (slots : List Slot) → AskedShaped (task_end_row worker stack slots)
 task_end_shaped worker stack slots = end_shaped worker stack slots stack.top.kind

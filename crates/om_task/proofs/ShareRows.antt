@@ -15,15 +15,16 @@ use Rattle.om_values.specs.declared.control.Share.{Share}
 use Rattle.om_values.specs.declared.edit.Edit.{Edit}
 use Rattle.om_values.specs.declared.edit.Edit.TheVariants.{Go, Open, Close}
 use Rattle.om_values.specs.declared.value.Val.{Val}
+use Rattle.om_values.specs.OpenShares.{is_loop, value_of}
 use Rattle.om_values.specs.Values.{number_in, holder_in}
 use Rattle.om_steps.specs.declared.row.Row.TheVariants.{Faults}
 use Rattle.om_steps.specs.Rows.{goes, first_of}
 use Rattle.om_steps.specs.Objects.{is_misplaced}
 use Rattle.om_share.specs.declared.chunk.Chunk.{Chunk}
-use Rattle.om_share.specs.Chunks.{static_chunk, chunk_within, value_of}
+use Rattle.om_share.specs.Chunks.{static_chunk, chunk_within}
 use Rattle.om_share.specs.Rows.{edits, begun, recorded, open_row, loop_row, loop_of, sections_row, taken_row, given_row}
-use Rattle.om_share.specs.Rows.{static_row, dynamic_row, chunk_row, grab_row, value_row, int_of, iteration_row}
-use Rattle.om_share.specs.Rows.{iterate_row, section_row, is_section, is_loop, is_member, is_masked, is_critical}
+use Rattle.om_share.specs.Rows.{static_row, dynamic_row, chunk_row, grab_row, value_row, iteration_row}
+use Rattle.om_share.specs.Rows.{iterate_row, section_row, is_section, is_masked, is_critical}
 use Rattle.om_share.specs.Rows.{is_right_form, pick_row, chosen_row, single_row, end_worksharing_row, filtered_row}
 use Rattle.om_share.specs.Rows.{masked_row, end_masked_row, ask_critical_row, lock_row, enter_critical_row}
 use Rattle.om_share.specs.Rows.{leave_critical_row}
@@ -71,8 +72,7 @@ given_within n to otherwise share None = record { few = omega arith; begun = (tt
 static_within : (n to otherwise : ℕ) (c : Context) (share : Share) (size : Option ℕ) (values : List Val)
     → AskedWithin n (static_row to otherwise c share size) values
 static_within n to otherwise c share size values = by_control n _ values
-    (if_row n (is_member c.team) _ _ (taken_within n to otherwise share (static_chunk size share.count c.team.size
-    c.team.number share.taken)) tt)
+    (taken_within n to otherwise share (static_chunk size share.count c.team.size c.team.number share.taken))
 
 dynamic_within : (n to otherwise : ℕ) (c : Context) (share : Share) (size : ℕ) (values : List Val)
     → AskedWithin n (dynamic_row to otherwise c share size) values
@@ -92,17 +92,16 @@ pub grab_within : (n to otherwise : ℕ) (c : Context) (share : Option Share) (v
 grab_within n to otherwise c (Some share) values = chunk_within_bounds n to otherwise c share share.schedule values
 grab_within n to otherwise c None values = lacks n values
 
-value_within : (n to : ℕ) (c : Context) (slot : ℕ) (share : Share) (value : Option ℤ) (values : List Val)
-    → AskedWithin n (value_row to c slot share value) values
-value_within n to c slot share (Some x) values = plain n (value_row to c slot share (Some x)) values (refl, tt)
+value_within : (n to : ℕ) (c : Context) (slot : ℕ) (share : Share) (x : ℤ) (values : List Val)
+    → AskedWithin n (value_row to c slot share x) values
+value_within n to c slot share x values = plain n (value_row to c slot share x) values (refl, tt)
     (record { few = omega arith; begun = (tt, (tt, tt)); gentle = ((tt, tt), tt) })
-value_within n to c slot share None values = lacks n values
 
 iteration_within : (n to otherwise : ℕ) (c : Context) (slot : ℕ) (share : Share) (values : List Val)
     → AskedWithin n (iteration_row to otherwise c slot share) values
 iteration_within n to otherwise c slot share values =
     if_asked n (nat_lt share.next share.end) _ _ values
-    (value_within n to c slot share (int_of (value_of share.lower share.step share.next)) values)
+    (value_within n to c slot share (value_of share.lower share.step share.next) values)
     (by_control n (goes otherwise 0 None []) values (record { few = omega arith; begun = (tt, tt); gentle = tt }))
 
 pub iterate_within : (n to otherwise : ℕ) (c : Context) (slot : ℕ) (share : Option Share) (values : List Val)

@@ -4,7 +4,7 @@ use Rattle.std.proofs.Common.{subst, ◌≡◌, refl, ℕ, zero, suc, ◌+◌, �
 use Rattle.std.proofs.Common.{if◌then◌else◌, arith, List, [], ◌∷◌, ◌++◌, Option, None, Some, length}
 use Rattle.std.specs.Prelude.{Result, Ok, Err, nat_lt, nat_le, nat_eq}
 use Rattle.std.specs.Cmp.Lexicographic.{pointwise}
-use Rattle.om_foot.specs.Names.{parent_of}
+use Rattle.om_foot.specs.Names.{above}
 use Rattle.om_foot.specs.declared.footprint.Access.{Access}
 use Rattle.om_code.specs.declared.frame.Cell as cells
 use Rattle.om_code.specs.declared.frame.Cell.TheVariants as cell
@@ -289,12 +289,15 @@ pub spawn_within : (n : ℕ) (m : Making) (body : Body) (c : Context) (values : 
     → AskedWithin n (spawn_row m body c) values
 spawn_within n m body c values w = given_ints_within n m body c (ints_on m.launch.takes c.frame.operands) values w
 
-ended_within : (n worker : ℕ) (c : Context) (below : List Context) (slots : List Slot) (parent : Option (List ℕ))
-    (values : List Val) → AskedWithin n (ended_row worker c below (own_cells c slots) parent) values
-ended_within n worker c below slots None values = lacks n values
-ended_within n worker c [] slots (Some parent) values = lacks n values
-ended_within n worker c (b ∷ below) slots (Some parent) values = record {
-  names = ((λ e. cc), once_append (own_cells c slots) _ (own_none c 0 slots) (counts_once parent c c.group worker));
+ended_within : (n worker : ℕ) (c : Context) (below : List Context) (slots : List Slot) (values : List Val)
+    → AskedWithin n (ended_row worker c below (own_cells c slots)) values
+ended_within n worker c [] slots values = lacks n values
+ended_within n worker c (b ∷ below) slots values = record {
+  names = (
+    (λ e. cc),
+    once_append (own_cells c slots) _ (own_none c 0 slots)
+        (counts_once (above c.task) c c.group worker),
+  );
   row = record {
     few = omega arith;
     begun = (tt, tt);
@@ -310,8 +313,7 @@ end_within : (n worker : ℕ) (stack : Stack) (slots : List Slot) (k : Kind) (va
     → AskedWithin n (end_row_of worker stack slots k) values
 end_within n worker stack slots kind.Initial values = lacks n values
 end_within n worker stack slots kind.Implicit values = lacks n values
-end_within n worker stack slots kind.Explicit values = ended_within n worker stack.top stack.below slots
-    (parent_of stack.top.task) values
+end_within n worker stack slots kind.Explicit values = ended_within n worker stack.top stack.below slots values
 
 pub task_end_within : (n worker : ℕ) (stack : Stack) (slots : List Slot) (values : List Val)
     → AskedWithin n (task_end_row worker stack slots) values

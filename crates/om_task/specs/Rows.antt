@@ -2,7 +2,7 @@
 use Rattle.std.specs.Prelude.{ℕ, ℤ, pos, negsuc, Bool, true, false, if◌then◌else◌, nat_eq, Option, None, Some, List, []}
 use Rattle.std.specs.Prelude.{◌∷◌, ◌++◌}
 use Rattle.std.specs.Cmp.Lexicographic.{pointwise}
-use Rattle.om_foot.specs.Names.{parent_of}
+use Rattle.om_foot.specs.Names.{above}
 use Rattle.om_foot.specs.declared.object.Obj.TheVariants as obj
 use Rattle.om_foot.specs.declared.footprint.Access.{Access}
 use Rattle.om_code.specs.declared.frame.Fault.TheVariants as fault
@@ -66,7 +66,7 @@ given_row m body c (Some ns) = made_row m body c ns (born c)
 abbrev pub spawn_row : Making → Body → Context → Asked
 spawn_row m body c = given_row m body c (ints_on m.launch.takes c.frame.operands)
 
--- an explicit task of this parent ends: its frame's cells end, and the context of the next task runs on
+-- an explicit task ends: its frame's cells end, and the context of the next task runs on
 abbrev pub ended_names : ℕ → Context → List Access → List ℕ → List Access
 ended_names worker c own parent = write (obj.Task c.task) ∷ (own ++ (counts parent c c.group ++ events worker ∷ []))
 
@@ -75,11 +75,10 @@ ended_updates c own next = Put (value.Task task.Done)
     ∷ (deaths own ++ (additions (negsuc 0) c.group ++ event (event_record.TaskSchedule c.task status.Complete next)
     ∷ []))
 
-abbrev pub ended_row : ℕ → Context → List Context → List Access → Option (List ℕ) → Asked
-ended_row worker c below own None = decided Lacks
-ended_row worker c [] own (Some parent) = decided Lacks
-ended_row worker c (next ∷ below) own (Some parent) = record {
-  names = ended_names worker c own parent;
+abbrev pub ended_row : ℕ → Context → List Context → List Access → Asked
+ended_row worker c [] own = decided Lacks
+ended_row worker c (next ∷ below) own = record {
+  names = ended_names worker c own (above c.task);
   row = λ _. Goes (EndContext ∷ []) (ended_updates c own next.task);
 }
 
@@ -88,7 +87,6 @@ abbrev pub end_row_of : ℕ → Stack → List Slot → Kind → Asked
 end_row_of worker stack slots kind.Initial = decided Lacks
 end_row_of worker stack slots kind.Implicit = decided Lacks
 end_row_of worker stack slots kind.Explicit = ended_row worker stack.top stack.below (own_cells stack.top slots)
-    (parent_of stack.top.task)
 
 abbrev pub task_end_row : ℕ → Stack → List Slot → Asked
 task_end_row worker stack slots = end_row_of worker stack slots stack.top.kind

@@ -1,6 +1,6 @@
 //! What the choice of a worker names, what comes of it, and the plan of its step.
 
-ghost use Rattle.std.specs.Prelude.{◌≡◌, ◌∷◌, ◌^◌, IfOk};
+ghost use Rattle.std.specs.Prelude.{◌≡◌, ◌∷◌, ◌≤◌, ◌^◌, IfOk};
 ghost use Rattle.om_foot.specs.declared.footprint.Mode.TheVariants as mode;
 ghost use Rattle.om_foot.specs.declared.object.Obj.TheVariants as obj;
 ghost use Rattle.om_code.specs.Places.{instruction_at};
@@ -38,6 +38,7 @@ pub struct Planning<'a> {
     pub workers: u8,
     /// What the worker would do.
     pub choice: &'a Choice,
+    pub ghost some: { 1 ≤ workers },
 }
 
 /// The answer of the instruction at which a stack stands.
@@ -200,7 +201,8 @@ pub fn names(
     control: &Control,
     label: &Label,
 ) -> Result<Seq<Access>, AllocError>
-    requires { ControlWithin (2 ^ 63) (plain_control control.now) }
+    requires counters { ControlWithin (2 ^ 63) (plain_control control.now) }
+    requires some { 1 ≤ workers }
     ensures { IfOk result
         (λ names. names ≡ names_of program.now workers label.now (plain_control control.now)) }
 {
@@ -245,7 +247,8 @@ pub fn effect(
     workers: u8,
     label: &Label,
 ) -> Result<Row, AllocError>
-    requires { StateWithin (2 ^ 63) (state_of store.now) }
+    requires counters { StateWithin (2 ^ 63) (state_of store.now) }
+    requires some { 1 ≤ workers }
     ensures { IfOk result
         (λ row. row ≡ effect_at program.now workers label.now (state_of store.now)) }
 {
@@ -294,7 +297,8 @@ pub fn plan(
     workers: u8,
     label: &Label,
 ) -> Result<Plan, AllocError>
-    requires { StateWithin (2 ^ 63) (state_of store.now) }
+    requires counters { StateWithin (2 ^ 63) (state_of store.now) }
+    requires some { 1 ≤ workers }
     ensures plan { IfOk result (λ plan. StandsFor plan
         (control_in (state_of store.now (obj.Control label.now.worker)))
         (step_at (rules_of program.now workers) (state_of store.now) label.now)) }

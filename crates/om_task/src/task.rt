@@ -1,7 +1,7 @@
 //! The rows that make and end explicit tasks.
 
 ghost use Rattle.std.specs.Prelude.{◌≡◌, ◌∷◌, [], ◌+◌, ◌<◌, ◌≤◌, ◌^◌, ◌++◌, IfOk, OnOk, length, map, option_map, slice_get};
-ghost use Rattle.om_foot.specs.Names.{parent_of};
+ghost use Rattle.om_foot.specs.Names.{above};
 ghost use Rattle.om_values.specs.State.{State};
 ghost use Rattle.om_values.specs.declared.value.Task.TheVariants as task;
 ghost use Rattle.om_values.specs.declared.value.Val.TheVariants as value;
@@ -216,11 +216,11 @@ fn ended_updates(
     Ok(updates)
 }
 
-/// The name of the parent of a context's task.
-fn parent_of(context: &Context) -> Option<Name>
-    ensures { result ≡ parent_of context.now.task }
+/// The name above that of a context's task: its parent's, since each explicit task of a run has one.
+fn above(context: &Context) -> Name
+    ensures { result ≡ above context.now.task }
 {
-    context.task.get().parent()
+    context.task.get().above()
 }
 
 /// The context next to the top, the first of those below; `None` exactly where there is none.
@@ -258,16 +258,12 @@ pub fn task_end(
         (task_end_row worker (plain_stack stack.now) slots.now) s) }
 {
     let context = &stack.top;
-    let (Kind::Explicit, Some(parent), Some(next)) = (
-        context.kind,
-        &parent_of(context),
-        next_below(&stack.below),
-    ) else {
+    let (Kind::Explicit, Some(next)) = (context.kind, next_below(&stack.below)) else {
         return Ok(Answer::decided(alloc, Row::Lacks));
     };
     let own = own_cells(alloc, context, slots)?;
     let row = ended(alloc, context, &own, next)?;
-    let names = ended_names(alloc, worker, context, &own, parent)?;
+    let names = ended_names(alloc, worker, context, &own, &above(context))?;
     Ok(Answer { names, row })
 }
 

@@ -1,6 +1,6 @@
 //! What the choice of a worker names, and what comes of it, but for the rows of tasks.
 
-ghost use Rattle.std.specs.Prelude.{◌≡◌, ◌∷◌, ◌^◌, IfOk, Some};
+ghost use Rattle.std.specs.Prelude.{◌≡◌, ◌∷◌, ◌≤◌, ◌^◌, IfOk, Some};
 ghost use Rattle.om_code.specs.Places.{instruction_at};
 ghost use Rattle.om_values.specs.Rules.{control_access};
 ghost use Rattle.om_live.specs.Plain.{plain_control, plain_stack};
@@ -24,6 +24,7 @@ struct Planning<'a> {
     label: &'a Label,
     // 1 to 32.
     workers: u8,
+    ghost some: { 1 ≤ workers },
 }
 
 /// What a worker's step touches that names these objects beside its control. Its only error is out of
@@ -128,7 +129,8 @@ pub fn names(
     control: &Control,
     label: &Label,
 ) -> Result<Option<Seq<Access>>, AllocError>
-    requires { ControlWithin (2 ^ 63) (plain_control control.now) }
+    requires counters { ControlWithin (2 ^ 63) (plain_control control.now) }
+    requires some { 1 ≤ workers }
     ensures { IfOk result
         (λ names. names ≡ names_in label.now
         (asked_in program.now workers label.now (plain_control control.now))) }
@@ -178,7 +180,8 @@ pub fn effect(
     workers: u8,
     label: &Label,
 ) -> Result<Option<Row>, AllocError>
-    requires { StateWithin (2 ^ 63) (state_of store.now) }
+    requires counters { StateWithin (2 ^ 63) (state_of store.now) }
+    requires some { 1 ≤ workers }
     ensures { IfOk result
         (λ row. row ≡ effect_at program.now workers label.now (state_of store.now)) }
 {

@@ -1,6 +1,6 @@
 //! The members of a team: the workers that they need, and what they begin with.
 
-ghost use Rattle.std.specs.Prelude.{◌≡◌, ◌++◌, ◌∷◌, [], ◌-◌, ◌≤◌, IfOk, OnOk, length};
+ghost use Rattle.std.specs.Prelude.{◌≡◌, ◌++◌, ◌∷◌, [], ◌-◌, ◌<◌, ◌≤◌, IfOk, OnOk, length};
 ghost use Rattle.om_live.specs.Stores.{state_of};
 ghost use Rattle.om_values.specs.declared.value.Val.TheVariants as value;
 ghost use Rattle.om_team.specs.Teams.{member, workers_from, busy_in, member_controls, member_cells, member_puts};
@@ -70,7 +70,8 @@ pub(crate) fn name_members(
 
 /// A member of a team, at the start of a frame.
 pub(crate) fn member(alloc: Global, team: &Team, frame: &Frame) -> Result<Context, AllocError>
-    requires { length team.now.name ≤ 63 }
+    requires named { length team.now.name ≤ 63 }
+    requires member { team.now.number < team.now.size }
     ensures { IfOk result (λ context. context ≡ member team.now frame.now) }
 {
     let frame = frame.copy(alloc)?;
@@ -85,7 +86,8 @@ fn put_member(
     team: &Team,
     frame: &Frame,
 ) -> Result<(), AllocError>
-    requires { length team.now.name ≤ 63 }
+    requires named { length team.now.name ≤ 63 }
+    requires member { team.now.number < team.now.size }
     ensures { OnOk result
         (updates.new ≡ updates.old ++ Update.Put
         (value.Control (Control.Running (record { top = member team.now frame.now; below = [] })))

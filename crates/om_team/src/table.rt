@@ -1,6 +1,6 @@
 //! The table of all instructions but those of tasks: each with its row.
 
-ghost use Rattle.std.specs.Prelude.{◌≡◌, ◌<◌, ◌+◌, ◌^◌, IfOk, IfSome};
+ghost use Rattle.std.specs.Prelude.{◌≡◌, ◌<◌, ◌≤◌, ◌+◌, ◌^◌, IfOk, IfSome};
 ghost use Rattle.om_live.specs.Plain.{plain_stack};
 ghost use Rattle.om_live.specs.Stores.{state_of};
 ghost use Rattle.om_code.specs.Places.{instruction_at, slots_of};
@@ -36,6 +36,7 @@ pub struct Doing {
     /// How many workers there are.
     pub workers: u8,
     pub instruction: Instr,
+    pub ghost some: { 1 ≤ workers },
 }
 
 /// The instruction at which a stack stands, with what its row relies on; `None` where there is none.

@@ -1,6 +1,6 @@
 //! FORK: a team is made.
 
-ghost use Rattle.std.specs.Prelude.{◌≡◌, ◌++◌, ◌∷◌, [], ◌+◌, ◌-◌, ◌<◌, ◌≤◌, ◌^◌, IfOk, length, None};
+ghost use Rattle.std.specs.Prelude.{◌≡◌, ◌++◌, ◌∷◌, [], ◌+◌, ◌-◌, ◌<◌, ◌≤◌, ◌^◌, IfOk, IfSome, length, None};
 ghost use Rattle.om_live.specs.Plain.{plain_context};
 ghost use Rattle.om_live.specs.Stores.{state_of};
 ghost use Rattle.om_code.specs.Frames.{int_at};
@@ -40,11 +40,15 @@ pub struct Forking<'a> {
     pub body: &'a Body,
     /// The context whose task makes the team.
     pub context: &'a Context,
+    pub ghost some: { 1 ≤ workers },
 }
 
 /// The size of a team of which so many threads are asked for, where there are so many workers.
 fn size_of(workers: u8, level: u8, asked: Option<u32>) -> u8
-    ensures { result ≡ size_of workers level asked }
+    requires workers { 1 ≤ workers }
+    requires asked { IfSome asked (λ threads. 1 ≤ threads) }
+    ensures value { result ≡ size_of workers level asked }
+    ensures some { 0 < result }
 {
     if level > 0 {
         return 1;
@@ -72,8 +76,11 @@ fn team_of(
 ) -> Result<Team, AllocError>
     requires births { context.now.births + 1 < 2 ^ 64 }
     requires few { length context.now.task ≤ 62 }
-    ensures { IfOk result
+    requires workers { 1 ≤ workers }
+    requires asked { IfSome asked (λ threads. 1 ≤ threads) }
+    ensures value { IfOk result
         (λ team. team ≡ team_of workers (plain_context context.now) asked) }
+    ensures member { IfOk result (λ team. team.number < team.size) }
 {
     let size = size_of(workers, context.team.get().level, asked);
     match context.task.get().child(context.births + 1) {
@@ -134,7 +141,8 @@ fn fork_edits(
     team: &Team,
     frame: &Frame,
 ) -> Result<Seq<Edit>, AllocError>
-    requires { length team.now.name ≤ 63 }
+    requires named { length team.now.name ≤ 63 }
+    requires member { team.now.number < team.now.size }
     ensures { IfOk result
         (λ edits. edits ≡ Edit.Go launch.to launch.takes None ∷ Edit.CountBirth
         ∷ Edit.BeginContext (member team.now frame.now) ∷ []) }
@@ -152,7 +160,8 @@ fn made(
     frame: &Frame,
     values: &[i32],
 ) -> Result<Row, AllocError>
-    requires { length team.now.name ≤ 63 }
+    requires named { length team.now.name ≤ 63 }
+    requires member { team.now.number < team.now.size }
     ensures { IfOk result
         (λ row. row ≡ forked forking.now.launch forking.now.context.now.task team.now frame.now
         values.now None) }
@@ -170,7 +179,8 @@ fn forked(
     values: &[i32],
     hindrance: Option<u8>,
 ) -> Result<Row, AllocError>
-    requires { length team.now.name ≤ 63 }
+    requires named { length team.now.name ≤ 63 }
+    requires member { team.now.number < team.now.size }
     ensures { IfOk result
         (λ row. row ≡ forked forking.now.launch forking.now.context.now.task team.now
         (first_frame forking.now.launch.body
@@ -195,7 +205,8 @@ fn team_answer(
     team: &Team,
     values: &[i32],
 ) -> Result<Answer, AllocError>
-    requires { length team.now.name ≤ 63 }
+    requires named { length team.now.name ≤ 63 }
+    requires member { team.now.number < team.now.size }
     ensures { IfOk result
         (λ answer. answer ≡ answered
         (team_row forking.now.worker forking.now.launch forking.now.body.now
@@ -216,7 +227,8 @@ fn named(
     asked: Option<u32>,
     values: &[i32],
 ) -> Result<Answer, AllocError>
-    requires { forking.now.context.now.births + 1 < 2 ^ 64 }
+    requires births { forking.now.context.now.births + 1 < 2 ^ 64 }
+    requires asked { IfSome asked (λ threads. 1 ≤ threads) }
     ensures { IfOk result
         (λ answer. answer ≡ answered
         (named_row forking.now.worker forking.now.workers forking.now.launch forking.now.body.now

@@ -69,6 +69,7 @@ fn traced(
     entry: &Entry,
 ) -> Result<Traced, AllocError>
     requires held { IsHeld (rules_of program.now workers) history.old }
+    requires some { 1 ≤ workers }
     requires few_made { (past_in history.old).made < 2 ^ 63 }
     requires made { CanBeMade (rules_of program.now workers) history.old (label_of entry.now) }
     ensures noted { IfOk result (λ step. transition_of step
@@ -118,7 +119,8 @@ fn planned(
     history: &History,
     label: &Label,
 ) -> Result<Plan, AllocError>
-    requires { IsHeld (rules_of program.now workers) history.now }
+    requires held { IsHeld (rules_of program.now workers) history.now }
+    requires some { 1 ≤ workers }
     ensures { IfOk result
         (λ plan. IsPlan (rules_of program.now workers) history.now label.now plan) }
 {

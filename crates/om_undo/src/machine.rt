@@ -157,7 +157,8 @@ fn planned(
     history: &History,
     label: &Label,
 ) -> Result<Plan, AllocError>
-    requires { IsHeld (rules_of program.now workers) history.now }
+    requires held { IsHeld (rules_of program.now workers) history.now }
+    requires some { 1 ≤ workers }
     ensures { IfOk result
         (λ plan. IsPlan (rules_of program.now workers) history.now label.now plan) }
 {

@@ -8,3 +8,4 @@ pub mod Ready
 pub mod NextNames
 pub mod Runs
 pub mod RunPuts
+pub mod OpenShares

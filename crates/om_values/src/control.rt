@@ -3,7 +3,9 @@
 ghost use Rattle.std.specs.Prelude.{◌≡◌, IfOk};
 ghost use Rattle.om_values.specs.Homes.{cell_of};
 
+use crate::open_share::OpenShare;
 use crate::shared_pile::SharedPile;
+use crate::shared_team::SharedTeam;
 use om_code::frame::{Fault, Operand};
 use om_code::instruction::Schedule;
 use om_foot::{Name, Obj, Shared};
@@ -159,7 +161,7 @@ pub struct Share {
 #[derive(Clone, Copy)]
 pub enum Construct {
     /// A worksharing loop, or sections.
-    Share(Share),
+    Share(OpenShare),
     /// A `single` region, and whether this member runs it.
     Single { runs: bool },
     Masked,
@@ -174,7 +176,7 @@ pub enum Construct {
 pub struct Context {
     pub task: Shared<Name>,
     pub kind: Kind,
-    pub team: Shared<Team>,
+    pub team: SharedTeam,
     /// How many barriers of its team are behind it; of an explicit task, the phase of the team in
     /// which it was made.
     pub phase: u64,

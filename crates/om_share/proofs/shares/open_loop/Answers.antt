@@ -1,8 +1,14 @@
-use Rattle.std.proofs.Common.{arith}
+use Rattle.std.proofs.Common.{◌∙◌, sym, arith}
 use Rattle.std.proofs.lemmas.Int.{ints}
 use Rattle.om_live.specs.Plain.{plain_context}
+use Rattle.om_share.specs.Iterations.{opened_ints}
 use Rattle.om_share.proofs.Tables.{carried, loop_opened}
 use Rattle.om_share.proofs.shares.open_loop.Goals as goal
+
+pub open_share-requires : goal.open_share-requires
+open_share-requires c =
+    opened_ints c.loop_of-share.result _ c.args.form _ _ c.loop_of-share.ensures
+    (sym c.is_right_form.ensures ∙ c.if-not-is_right_form.false) (omega (arith, ints)) (omega (arith, ints))
 
 pub returns : goal.returns
 returns c = λ s. carried _ _ _ s

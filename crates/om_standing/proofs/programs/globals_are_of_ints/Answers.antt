@@ -4,7 +4,7 @@ use Rattle.std.specs.Prelude.{All}
 use Rattle.std.proofs.lemmas.List.{take_all}
 use Rattle.std.proofs.lemmas.List.Elements.{All-more}
 use Rattle.om_standing.specs.Ints.{IsInt}
-use Rattle.om_standing.proofs.Iterations.{int_that_fits}
+use Rattle.om_share.specs.Iterations.{int_that_fits}
 use Rattle.om_standing.proofs.programs.globals_are_of_ints.Goals as goal
 
 pub loop-global-preserved : goal.loop-global-preserved

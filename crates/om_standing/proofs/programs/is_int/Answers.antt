@@ -1,4 +1,4 @@
-use Rattle.om_standing.proofs.Iterations.{int_that_fits}
+use Rattle.om_share.specs.Iterations.{int_that_fits}
 use Rattle.om_standing.proofs.programs.is_int.Goals as goal
 
 pub returns : goal.returns

@@ -11,7 +11,7 @@ use Rattle.om_team.proofs.table.frame_answer.Goals as goal
 
 pub returns-in-ThreadNumber : goal.returns-in-ThreadNumber
 returns-in-ThreadNumber c =
-    let number = ap (λ (t : Team). t.number) (c.get.ensures
+    let number = ap (λ (t : Team). t.number) (c.get.ensures.same
     ∙ ap (λ (k : Context). k.team) c.deref-context.ensures) in
     to_same c.number.result _ _ (state_of c.args.store.now)
     ((λ i. number_row (plain_context (c.deref-context.ensures i)) (number i))
@@ -22,7 +22,7 @@ returns-in-ThreadNumber c =
 
 pub returns-in-TeamSize : goal.returns-in-TeamSize
 returns-in-TeamSize c =
-    let size = ap (λ (t : Team). t.size) (c.get-in-TeamSize.ensures
+    let size = ap (λ (t : Team). t.size) (c.get-in-TeamSize.ensures.same
     ∙ ap (λ (k : Context). k.team) c.deref-context.ensures) in
     to_same c.number-in-TeamSize.result _ _ (state_of c.args.store.now)
     ((λ i. number_row (plain_context (c.deref-context.ensures i)) (size i))

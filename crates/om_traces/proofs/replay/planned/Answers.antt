@@ -17,16 +17,16 @@ both_ok : {T E : Type 0} (r : Result T E) (P Q R : T → Type 0) → ((x : T) �
 both_ok (Ok x) P Q R h p q = h x p q
 both_ok (Err e) P Q R h p q = tt
 
-pub plan-requires : goal.plan-requires
-plan-requires c =
+pub plan-requires-clause-counters : goal.plan-requires-clause-counters
+plan-requires-clause-counters c =
     let records : List UndoRecord = (past_in c.args.history.now).records in
     let es : List Entry = (history_in c.args.history.now).entries in
     c.low_counters.ensures c.args.program.now c.args.workers (2 ^ 63) (map label_of es) (state_of c.store.result.now)
-    (c.store.ensures.replayed (rules_of c.args.program.now c.args.workers) c.requires)
+    (c.store.ensures.replayed (rules_of c.args.program.now c.args.workers) c.requires.held)
     (omega (
       arith,
-      c.requires.past.few,
-      c.requires.few_made,
+      c.requires.held.past.few,
+      c.requires.held.few_made,
       length-map es label_of,
       length-map records
           (λ (k : UndoRecord). k.entry),
@@ -35,5 +35,5 @@ plan-requires c =
 pub returns : goal.returns
 returns c = both_ok c.plan.result _ _ _
     (λ p is room. is_plan (rules_of c.args.program.now c.args.workers) c.args.history.now c.args.label.now
-    (state_of c.store.result.now) p c.requires c.store.ensures.state c.store.ensures.replayed is room)
+    (state_of c.store.result.now) p c.requires.held c.store.ensures.state c.store.ensures.replayed is room)
     c.plan.ensures.plan c.plan.ensures.room

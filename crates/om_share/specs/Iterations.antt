@@ -1,6 +1,7 @@
--- The iterations of a loop between ints are ints, and no chunk ends behind the last one.
+-- Matter of proofs, for om_standing too: the iterations of a loop between ints are ints, and no chunk ends behind its
+-- last one.
 use Rattle.std.proofs.Common.{◌≡◌, refl, ℕ, zero, suc, ◌+◌, ◌-◌, ◌*◌, ◌/◌, ◌%◌, ◌<◌, ◌≤◌, ◌^◌, ℤ, pos, negsuc, arith, Bool}
-use Rattle.std.proofs.Common.{true, false, if◌then◌else◌, Option, None, Some, FitsSigned}
+use Rattle.std.proofs.Common.{true, false, if◌then◌else◌, Option, None, Some, FitsSigned, subst, sym}
 use Rattle.std.specs.Int.{w32}
 use Rattle.std.specs.Prelude.{◌&&◌, IfSome, min, nat_lt, nat_eq, neg_ℤ, ◌+ℤ◌, ◌-ℤ◌}
 use Rattle.std.proofs.Math.Nat.{min-le_right, suc-mul}
@@ -10,14 +11,15 @@ use Rattle.std.proofs.lemmas.Nat.{div-add-mod', mul-le}
 use Rattle.om_code.specs.declared.instruction.Comparison.{Comparison}
 use Rattle.om_code.specs.declared.instruction.Comparison.TheVariants.{Less, LessOrEqual, Greater, GreaterOrEqual}
 use Rattle.om_code.specs.declared.instruction.LoopForm.{LoopForm}
-use Rattle.om_code.specs.Arithmetic.{is_int}
+use Rattle.om_values.specs.declared.control.Share.{Share}
+use Rattle.om_values.specs.declared.control.Sharing.TheVariants.{Sections}
+use Rattle.om_values.specs.OpenShares.{IsInt, ShareHasInts, is_loop, value_of}
 use Rattle.om_share.specs.declared.chunk.Chunk.{Chunk}
-use Rattle.om_share.specs.Chunks.{step_size, rounded_up, rounded_down, count_of, value_of, chunk_within}
+use Rattle.om_share.specs.Chunks.{step_size, rounded_up, rounded_down, count_of, chunk_within}
 use Rattle.om_share.specs.Chunks.{block_size, block_start, block, static_chunk}
-use Rattle.om_share.specs.Rows.{int_of, is_right_form, is_right_schedule, loop_of}
-use Rattle.om_standing.specs.Ints.{IsInt, ShareHasInts}
+use Rattle.om_share.specs.Rows.{is_right_form, is_right_schedule, loop_of}
 
-fits : (v : ℤ) → IsInt v → FitsSigned w32 v
+pub fits : (v : ℤ) → IsInt v → FitsSigned w32 v
 fits (pos n) e = let lt : n < 2 ^ 31 = ltb-true n (2 ^ 31) e in omega (arith, ints, lt)
 fits (negsuc n) e = let lt : n < 2 ^ 31 = ltb-true n (2 ^ 31) e in omega (arith, ints, lt)
 
@@ -106,21 +108,30 @@ loop_ints region form lower upper l u right =
       values = λ is j lt. iteration_int form.comparison lower upper form.step j l u (omega (arith, some)) lt;
     }
 
--- a number that is given as an int is one
-pub given_int : (v : ℤ) → IfSome (int_of v) IsInt
-given_int v = tested (is_int v) refl
-  where
-    tested : (b : Bool) → is_int v ≡ b → IfSome (if b then Some v else None) IsInt
-    tested true e = e
-    tested false e = tt
+-- the same of numbers of 32 bits
+pub opened_ints : (share : Share) (region : ℕ) (form : LoopForm) (lower upper : ℤ) → share
+    ≡ loop_of region form lower upper → is_right_form form ≡ true → FitsSigned w32 lower → FitsSigned w32 upper
+    → ShareHasInts share
+opened_ints share region form lower upper e right f g =
+    subst ShareHasInts (sym e) (loop_ints region form lower upper (int_that_fits lower f) (int_that_fits upper g) right)
 
--- and an int is given
-pub an_int : (v : ℤ) → IsInt v → int_of v ≡ None → ⊥
-an_int v h e = tested (is_int v) h e
-  where
-    tested : (b : Bool) → b ≡ true → (if b then Some v else None) ≡ None → ⊥
-    tested true h e = cc
-    tested false h e = cc
+-- sections have no values
+pub sections_ints : (share : Share) → share.sharing ≡ Sections → share.end ≤ share.count → ShareHasInts share
+sections_ints share e within = record { within = within; values = λ is. cc }
+
+-- a loop or sections in a chunk that ends within it
+pub chunk_ints : (share : Share) (taken : ℕ) (chunk : Chunk) → ShareHasInts share → chunk.end ≤ share.count
+    → ShareHasInts (record share { taken = taken; next = chunk.first; end = chunk.end })
+chunk_ints share taken chunk h within = record { within = within; values = h.values }
+
+-- and with one more iteration begun
+pub next_ints : (share : Share) (next : ℕ) → ShareHasInts share → ShareHasInts (record share { next = next })
+next_ints share next h = record { within = h.within; values = h.values }
+
+-- the value of the next iteration, where one is left
+pub next_int : (share : Share) → ShareHasInts share → is_loop share.sharing ≡ true → share.next < share.end
+    → IsInt (value_of share.lower share.step share.next)
+next_int share h is left = h.values is share.next (omega (arith, h.within, left))
 
 -- ---- chunks
 
