@@ -7,6 +7,7 @@ ghost use Rattle.std.specs.Option.{option_copied};
 ghost use Rattle.std.specs.Ordering.{nat_cmp};
 ghost use Rattle.om_foot.specs.contracts.part.PartOrd.TheImpl.{cmp-value};
 ghost use Rattle.om_foot.specs.declared.part.Part.TheVariants as parts;
+ghost use Rattle.om_foot.specs.Parts.{part_of};
 ghost use Rattle.om_cells.specs.Named.{Named, places_of, value_of, PutsOf, StaysOf};
 ghost use Rattle.om_values.specs.Ready.{is_ready, is_from, is_the, AreAll, IsNext};
 ghost use Rattle.om_cells.specs.ReadyEntries.{is_ready_in, name_if_ready};
@@ -113,21 +114,20 @@ impl Named {
         before
     }
 
-    /// An access, shared with the place at a part of a name; `None` where none is kept there. Its only error
-    /// is out of memory. What is kept stays.
+    /// An access, shared with the place at its object's part of a name; `None` where none is kept there. Its
+    /// only error is out of memory. What is kept stays.
     pub fn share(
         &mut self,
         alloc: Global,
         name: &Name,
-        part: &Part,
         access: &Access,
     ) -> Result<Option<SharedAccess>, AllocError>
         ensures shared { IfOk result (λ found. IfSome found (λ shared. shared ≡ access.now)) }
-        ensures found { IfOk result
-            (λ found. is_some found ≡ is_some (value_of self.old name.now part.now)) }
+        ensures found { IfOk result (λ found. is_some found
+            ≡ is_some (value_of self.old name.now (part_of access.now.object))) }
         ensures stays { StaysOf self.old self.new }
     {
-        share(alloc, &mut self.places, name, part, access)
+        share(alloc, &mut self.places, name, access)
     }
 
     /// Keeps nothing at a part of a name. It takes no memory.
@@ -192,21 +192,21 @@ fn put(places: &mut BTreeMap<Name, Places>, name: &Name, part: &Part, value: Val
     }
 }
 
-/// An access, shared with the place at a part of a name; `None` where none is kept there. What is kept stays.
+/// An access, shared with the place at its object's part of a name; `None` where none is kept there. What
+/// is kept stays.
 fn share(
     alloc: Global,
     places: &mut BTreeMap<Name, Places>,
     name: &Name,
-    part: &Part,
     access: &Access,
 ) -> Result<Option<SharedAccess>, AllocError>
     ensures shared { IfOk result (λ found. IfSome found (λ shared. shared ≡ access.now)) }
-    ensures found { IfOk result
-        (λ found. is_some found ≡ is_some (value_of places.old.entries name.now part.now)) }
+    ensures found { IfOk result (λ found. is_some found
+        ≡ is_some (value_of places.old.entries name.now (part_of access.now.object))) }
     ensures stays { StaysOf places.old.entries places.new.entries }
 {
     match places.get_mut(name) {
-        Some(places) => places.share(alloc, part, access),
+        Some(places) => places.share(alloc, access),
         None => Ok(None),
     }
 }

@@ -4,6 +4,7 @@ ghost use Rattle.std.specs.Prelude.{◌≡◌, ◌<◌, ℕ, None, Some, true, i
 ghost use Rattle.std.specs.Option.{option_copied};
 ghost use Rattle.om_foot.specs.declared.part.Part.{Part};
 ghost use Rattle.om_foot.specs.declared.part.Part.TheVariants as parts;
+ghost use Rattle.om_foot.specs.Parts.{part_of};
 ghost use Rattle.om_cells.specs.Places.{value_at, PutsAt, StaysAt};
 
 use crate::place::Place;
@@ -68,19 +69,19 @@ impl Places {
         }
     }
 
-    /// An access, shared with the place at a part; `None` where none is kept there. Its only error is out of
-    /// memory. What is kept stays.
+    /// An access, shared with the place at its object's part; `None` where none is kept there. Its only error
+    /// is out of memory. What is kept stays.
     pub fn share(
         &mut self,
         alloc: Global,
-        part: &Part,
         access: &Access,
     ) -> Result<Option<SharedAccess>, AllocError>
         ensures shared { IfOk result (λ found. IfSome found (λ shared. shared ≡ access.now)) }
-        ensures found { IfOk result (λ found. is_some found ≡ is_some (value_at self.old part.now)) }
+        ensures found { IfOk result
+            (λ found. is_some found ≡ is_some (value_at self.old (part_of access.now.object))) }
         ensures stays { StaysAt self.old self.new }
     {
-        match self.places.get_mut(part) {
+        match self.places.get_mut(&part_of(&access.object)) {
             Some(place) => Ok(Some(place.accesses.share(alloc, access)?)),
             None => Ok(None),
         }

@@ -1,4 +1,4 @@
-use Rattle.std.proofs.Common.{subst}
+use Rattle.std.proofs.Common.{subst, refl}
 use Rattle.std.specs.Prelude.{is_some, ◌≡◌, IfOk}
 use Rattle.om_cells.proofs.PlaceLemmas.{stay_unnamed, stay_named, owner_none, owner_some, kept_unnamed, kept_named}
 use Rattle.om_cells.proofs.store.share_single.Goals as goal
@@ -6,8 +6,8 @@ use Rattle.om_cells.proofs.store.share_single.Goals as goal
 pub returns-in-None-clause-found : goal.returns-in-None-clause-found
 returns-in-None-clause-found c =
     subst (λ o. IfOk c.share.result (λ found. is_some found ≡ is_some o))
-    (kept_unnamed c.args.unnamed.now c.args.named.now c.args.access.now.object c.part_of-part.result
-    (owner_none c.name_of.result _ c.name_of.ensures c.in-None.is) c.part_of-part.ensures) c.share.ensures.found
+    (kept_unnamed c.args.unnamed.now c.args.named.now c.args.access.now.object _
+    (owner_none c.name_of.result _ c.name_of.ensures c.in-None.is) refl) c.share.ensures.found
 
 pub returns-in-None-clause-stays : goal.returns-in-None-clause-stays
 returns-in-None-clause-stays c = stay_unnamed c.args.unnamed.now c.share.new.self c.args.named.now
@@ -16,8 +16,8 @@ returns-in-None-clause-stays c = stay_unnamed c.args.unnamed.now c.share.new.sel
 pub returns-in-Some-clause-found : goal.returns-in-Some-clause-found
 returns-in-Some-clause-found c =
     subst (λ o. IfOk c.share-in-Some.result (λ found. is_some found ≡ is_some o))
-    (kept_named c.args.unnamed.now c.args.named.now c.args.access.now.object c.in-Some.name.now c.part_of-part.result
-    (owner_some c.name_of.result _ c.in-Some.name c.name_of.ensures c.in-Some.is) c.part_of-part.ensures)
+    (kept_named c.args.unnamed.now c.args.named.now c.args.access.now.object c.in-Some.name.now _
+    (owner_some c.name_of.result _ c.in-Some.name c.name_of.ensures c.in-Some.is) refl)
     c.share-in-Some.ensures.found
 
 pub returns-in-Some-clause-stays : goal.returns-in-Some-clause-stays
