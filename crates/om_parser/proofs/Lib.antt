@@ -29,3 +29,10 @@ mod UnitCut
 mod UnitRefusals
 mod Promises
 mod Asked
+mod ItemLocal
+mod LineItemLocal
+mod SeveralLocal
+mod StatementLocal
+mod StatementsLocal
+mod FunctionLocal
+mod UnitLocal

@@ -1,8 +1,9 @@
 -- For proofs: what the laws say of reading the block of a function.
-use Rattle.std.specs.Prelude.{◌≡◌, ℕ, ◌≤◌, List, ◌++◌, Err, false}
+use Rattle.std.specs.Prelude.{◌≡◌, ℕ, ◌≤◌, List, ◌++◌, Err, false, true}
 use Rattle.om_lexer.specs.declared.fault.SourceFault.{SourceFault}
 use Rattle.om_lexer.specs.declared.token.Token.{Token}
 use Rattle.om_parts.specs.Laws.{IsAnswer, IsSound, Stops}
+use Rattle.om_parts.specs.Local.{IsLocal, pair}
 use Rattle.om_parser.specs.BlockFaults.{IsStopped}
 use Rattle.om_parser.specs.StatementReading.{block_at}
 use Rattle.om_tree.specs.Formed.{AreStatements}
@@ -37,3 +38,8 @@ UncheckedHaveForms = (ss : StatementsTree) → HaveForms false ss
 abbrev pub BlocksStopSo : Type 0
 BlocksStopSo = (l : Limits) → 1 ≤ l.nested → (ts : List Token) (f : SourceFault) → block_at l ts ≡ Err f → Stops f
     → IsStopped block_spelling (λ b. AreStatements (statements b.items)) (IsOverInBlock l) l ts f
+
+-- nothing behind the token at which it stops, or which stands behind a block, changes how a block is read
+abbrev pub BlocksAreLocal : Type 0
+BlocksAreLocal = (l : Limits) → 1 ≤ l.nested → (m n : ℕ) → IsLocal m pair (λ j. block_at l)
+    (record { beyond = 0; turns = n; lines = true })

@@ -12,3 +12,4 @@ pub mod LineFaults
 pub mod Faults
 pub mod UnitReading
 pub mod Refusals
+pub mod Halts

@@ -1,8 +1,8 @@
 //! Laws of reading the block of a function, over the definitions alone.
 
-ghost use Rattle.om_parser.specs.Laws.{BlocksAreReadAgain, BlocksAreSound, BlocksStopSo, UncheckedHaveForms};
+ghost use Rattle.om_parser.specs.Laws.{BlocksAreLocal, BlocksAreReadAgain, BlocksAreSound, BlocksStopSo, UncheckedHaveForms};
 
-use om_parts::laws::{parts_are_read_again, parts_are_sound, parts_stop_so};
+use om_parts::laws::{parts_are_local, parts_are_read_again, parts_are_sound, parts_stop_so};
 
 /// A block that is read is well-formed, keeps the limits, and has the tokens that were read.
 pub fn blocks_are_sound()
@@ -27,4 +27,12 @@ pub fn blocks_stop_so()
 {
     parts_are_sound();
     parts_stop_so();
+}
+
+/// Where a block is refused by S3, no token behind that place changes it.
+pub fn blocks_are_local()
+    ensures { BlocksAreLocal }
+{
+    parts_are_sound();
+    parts_are_local();
 }

@@ -12,4 +12,4 @@ mod statement;
 mod unit;
 
 pub use om_tree::Unit;
-pub use unit::{STACK_SIZE, accepted_units, one_tree, parse};
+pub use unit::{STACK_SIZE, accepted_units, one_tree, parse, syntax_stands};

@@ -1,7 +1,9 @@
 //! A whole source.
 
-ghost use Rattle.std.specs.Prelude.{◌≡◌, ◌⊎◌, List, [], IfOk, IfErr, None, Some, length, map, option_map};
+ghost use Rattle.std.specs.Prelude.{◌≡◌, ◌⊎◌, List, [], IfOk, IfErr, None, Some, false, length, map, option_map};
 ghost use Rattle.om_lexer.specs.Faults.{no_memory};
+ghost use Rattle.om_lexer.specs.Order.{AreWhole};
+ghost use Rattle.om_lexer.specs.declared.fault.SourceFault.{SourceFault};
 ghost use Rattle.om_lexer.specs.declared.fault.FaultCode.TheVariants.{BadClause, Syntax, TooDeep, UnknownDirective};
 ghost use Rattle.om_lexer.specs.declared.token.Token.{Token};
 ghost use Rattle.om_parser.specs.Faults.{IsBadAtomic};
@@ -10,6 +12,7 @@ ghost use Rattle.om_tree.specs.Limits.{accepted};
 ghost use Rattle.om_parser.specs.LineFaults.{IsRefusedLine};
 ghost use Rattle.om_tree.specs.Sizes.{AtomicsHaveForms, IsWithinLimits};
 ghost use Rattle.om_parser.specs.Parsing.{IsTreeOf, IsTreeOrMemory, IsLimitPassed};
+ghost use Rattle.om_parser.specs.Halts.{IsSyntaxHalt};
 ghost use Rattle.om_parser.specs.Refusals.{refusal_of};
 ghost use Rattle.om_parts.specs.Reading.{Reads};
 ghost use Rattle.om_tree.specs.Spelling.{unit_spelling};
@@ -19,11 +22,11 @@ ghost use Rattle.om_parser.specs.UnitReading.{function_after, prototype_after, v
 ghost use Rattle.om_tree.specs.View.{view_head, view_item, view_unit};
 
 use crate::function::{head_after, named_head};
-use crate::laws::{blocks_are_read_again, blocks_are_sound, blocks_stop_so};
+use crate::laws::{blocks_are_local, blocks_are_read_again, blocks_are_sound, blocks_stop_so};
 use crate::statement::block;
 use om_lexer::{Keyword, Punctuator, SourceFault, Span, Token, TokenKind};
 use om_parts::front::{mark, name, take_mark, take_word, word};
-use om_parts::laws::globals;
+use om_parts::laws::{globals, parts_are_local};
 use om_parts::part::global_declaration;
 use om_pragma::Name;
 use om_tree::{Function, FunctionHead, Item, ResultType, Unit};
@@ -111,6 +114,20 @@ pub fn accepted_units()
         IsWithinLimits unit → AtomicsHaveForms unit → refusal_of tokens ≡ None }
 {
     blocks_are_read_again();
+    globals();
+}
+
+/// Where tokens of a source are refused by S3, it stands at a token with which no well-formed unit of any
+/// size goes on, behind the tokens before it. Or it stands in a directive line: at the first token that no
+/// directive has there, or in the parentheses of a clause, where no expression goes on.
+pub fn syntax_stands()
+    ensures { (tokens : List Token) (fault : SourceFault) → AreWhole false tokens →
+        refusal_of tokens ≡ Some fault → fault.code ≡ Syntax → IsSyntaxHalt tokens fault }
+{
+    blocks_are_local();
+    blocks_are_sound();
+    blocks_are_read_again();
+    parts_are_local();
     globals();
 }
 

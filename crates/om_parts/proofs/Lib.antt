@@ -26,3 +26,7 @@ mod ExpressionRefusals
 mod DeclarationRefusals
 mod PartsCut
 mod Globals
+mod ExpressionLocal
+mod DeclarationLocal
+mod LineLocal
+mod PartsLocal

@@ -36,7 +36,7 @@ first_is : (ts : List Token) (t : Token) (us : List Token) → take_first ts ≡
 first_is [] t us e = absurd cc
 first_is (u ∷ vs) t us e = ap (λ (p : Token × List Token). p.0 ∷ p.1) (some_is (u, vs) (t, us) e)
 
-take_front : (xs ys : List Token) → take (length xs) (xs ++ ys) ≡ xs
+pub take_front : (xs ys : List Token) → take (length xs) (xs ++ ys) ≡ xs
 take_front [] ys = refl
 take_front (x ∷ xs) ys = ap (λ (zs : List Token). x ∷ zs) (take_front xs ys)
 

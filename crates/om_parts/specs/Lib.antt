@@ -4,6 +4,7 @@ pub mod ExpressionReading
 pub mod DeclarationReading
 pub mod LineReading
 pub mod WrongLines
+pub mod Halting
 pub mod PartReading
 pub mod Made
 pub mod Laws
@@ -13,3 +14,4 @@ pub mod Again
 pub mod Loops
 pub mod ItemsSound
 pub mod ItemsComplete
+pub mod Local

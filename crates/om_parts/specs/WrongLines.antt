@@ -10,10 +10,11 @@ use Rattle.om_pragma.specs.declared.clause.ClauseItem.{ClauseItem}
 use Rattle.om_pragma.specs.declared.clause.ValueClause.{ValueClause}
 use Rattle.om_pragma.specs.declared.tree.Directive.{Directive}
 use Rattle.om_pragma.specs.declared.tree.DirectiveName.{DirectiveName}
-use Rattle.om_pragma.specs.Refusals.{StandsClause, IsWordFault}
+use Rattle.om_pragma.specs.Refusals.{StandsClause, IsWordFault, StopsAt}
 use Rattle.om_pragma.specs.Spelling.{value_kind}
 use Rattle.om_pragma.specs.Table.{IsDirectiveOf}
 use Rattle.om_pragma.specs.Words.{clause_word}
+use Rattle.om_parts.specs.LineReading.{last_start, place_behind}
 use Rattle.om_tree.specs.Formed.{IsExpression}
 use Rattle.om_tree.specs.Limits.{Limits, IsTooMuch}
 use Rattle.om_tree.specs.Places.{in_parentheses}
@@ -66,3 +67,41 @@ pub record IsPassedInClause (l : Limits) (line : List Token) (place : ℕ) : Typ
 -- why a line is refused with another code than that of syntax
 abbrev pub IsWrongLine : Limits → List Token → SourceFault → Type 0
 IsWrongLine l line f = ((f.code ≡ codes.TooDeep) × IsPassedInClause l line f.at) ⊎ IsWordFault line f.code f.at
+
+-- ---- S3 in a line
+
+-- S3 stands at this place, in the parentheses of a clause: no well-formed expression goes on with the token there,
+-- behind the tokens from the left parenthesis to it. In a line that is no directive, the parentheses behind any word
+-- of such a clause are meant.
+pub record IsHaltedInClause (line : List Token) (place : ℕ) : Type 0 where
+  pub before : List Token
+  pub word : ValueClause
+  pub at : Span
+  pub left : Span
+  pub begun : List Token
+  pub token : Token
+  pub after : List Token
+  pub stands : line ≡ before ++ clause_token word at ∷ mark punctuators.OpenParen left ∷ (begun ++ token ∷ after)
+  pub in_clause : ExpectsClause line (clause_token word at ∷ mark punctuators.OpenParen left
+      ∷ (begun ++ token ∷ after)) ⊎ IsNoDirective line
+  pub at_place : token.span.start ≡ place
+  pub stops : (e : ExpressionTree) (more : List Token) → IsExpression e
+      → expression_spelling e ≢ begun ++ token ∷ more
+
+-- S3 stands at this place, behind all tokens in the parentheses of a clause, which are no well-formed expression.
+pub record IsCutShortInClause (line : List Token) (place : ℕ) : Type 0 where
+  pub before : List Token
+  pub word : ValueClause
+  pub at : Span
+  pub left : Span
+  pub inside : List Token
+  pub after : List Token
+  pub stands : line ≡ before ++ clause_token word at ∷ mark punctuators.OpenParen left ∷ (inside ++ after)
+  pub in_clause : ExpectsClause line (clause_token word at ∷ mark punctuators.OpenParen left ∷ (inside ++ after))
+      ⊎ IsNoDirective line
+  pub at_place : place_behind (last_start inside) line ≡ place
+  pub stops : (e : ExpressionTree) → IsExpression e → expression_spelling e ≢ inside
+
+-- S3 stands at this place of a line: at the first token that no directive has there, or in the parentheses of a clause.
+abbrev pub IsSyntaxLine : List Token → ℕ → Type 0
+IsSyntaxLine line place = StopsAt line place ⊎ IsHaltedInClause line place ⊎ IsCutShortInClause line place

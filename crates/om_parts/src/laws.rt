@@ -2,6 +2,8 @@
 
 ghost use Rattle.om_parts.specs.Laws.{GlobalsAreReadAgain, GlobalsAreSound, GlobalsStopAtSyntax, PartsAreReadAgain, PartsAreSound, PartsStopSo};
 
+ghost use Rattle.om_parts.specs.Local.{GlobalsAreLocal, PartsAreLocal};
+
 use om_pragma::{clauses_stand, first_value, one_answer, one_expression};
 
 /// A part that is read is well-formed, keeps the limits, and has the tokens that were read.
@@ -36,3 +38,15 @@ pub fn globals()
     ensures read_again { GlobalsAreReadAgain }
     ensures stop_at_syntax { GlobalsStopAtSyntax }
 {}
+
+/// Where a part is refused by S3, no token behind that place changes it; nor does any token behind
+/// the next one change what is read.
+pub fn parts_are_local()
+    ensures parts { PartsAreLocal }
+    ensures globals { GlobalsAreLocal }
+{
+    one_answer();
+    one_expression();
+    first_value();
+    clauses_stand();
+}
