@@ -9,7 +9,7 @@ use Rattle.om_tree.specs.declared.tree.Parameter.{Parameter}
 use Rattle.om_tree.specs.declared.tree.ResultType.{ResultType}
 use Rattle.om_parser.specs.FunctionReading.{parameter_at, further_parameter_at, listed_at, parameters_at, head_after}
 use Rattle.om_parser.specs.FunctionReading.{named_parameter, named_further, named_parameters, named_head}
-use Rattle.om_parts.specs.Local.{pair, triple, IsLocal, done, bind, either, alike, mark_taker, word_taker, name_taker}
+use Rattle.om_parts.specs.Local.{pair, triple, done, bind, either, alike, mark_taker, word_taker, name_taker}
 use Rattle.om_parts.specs.Local.{mark_local, word_local, until_local}
 use Rattle.om_parts.specs.Reading.{◌>>=◌, Outcome, choose, known, syntax, take_mark, take_word, take_name, mark_at, word_at}
 use Rattle.om_parts.specs.Repetition.{optional, until}

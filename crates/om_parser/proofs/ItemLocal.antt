@@ -1,6 +1,6 @@
 -- An item that begins at a token or at a directive line is read as far as the next token.
-use Rattle.std.proofs.Common.{◌≡◌, ℕ, suc, ◌+◌, ◌<◌, ◌≤◌, List, [], ◌∷◌, ◌++◌, length, Ok, Err, Bool, true, false, refl}
-use Rattle.std.proofs.Common.{sym, ap, subst, ◌∙◌, append_assoc, append-nil, length-append, arith, ◌⊎◌, inl, inr}
+use Rattle.std.proofs.Common.{◌≡◌, ℕ, suc, ◌+◌, ◌<◌, List, [], ◌∷◌, ◌++◌, length, Ok, Err, Bool, true, refl}
+use Rattle.std.proofs.Common.{sym, ap, subst, ◌∙◌, append_assoc, length-append, arith, ◌⊎◌, inl, inr}
 use Rattle.std.specs.Prelude.{◌≢◌}
 use Rattle.om_lexer.specs.declared.fault.FaultCode.TheVariants as codes
 use Rattle.om_lexer.specs.declared.fault.SourceFault.{SourceFault}
@@ -8,20 +8,12 @@ use Rattle.om_lexer.specs.declared.token.Span.{Span}
 use Rattle.om_lexer.specs.declared.token.Token.{Token}
 use Rattle.om_lexer.specs.declared.token.TokenKind.{TokenKind}
 use Rattle.om_lexer.specs.declared.token.TokenKind.TheVariants as kinds
-use Rattle.om_pragma.specs.declared.tree.Directive.{Directive}
-use Rattle.om_pragma.specs.Spelling.{directive_spelling, opening_spelling}
 use Rattle.om_parser.specs.ConstructReading.{line_start}
 use Rattle.om_parts.specs.Halting.{Unended, IsElsewhere}
-use Rattle.om_parts.specs.Laws.{ArePartsSound}
-use Rattle.om_parts.specs.Local.{Measure, pair, SameRoom, Suffices, IsHalt, IsLocal, IsLocalAt, ArePartsLocal}
-use Rattle.om_parts.specs.Local.{taken_again, unended_both, unended_one, elsewhere_behind, room_before}
-use Rattle.om_parts.specs.Outcomes.{ok, bind_ok, bind_err}
-use Rattle.om_parts.specs.PartReading.{Parts}
-use Rattle.om_parts.specs.Reading.{◌>>=◌, Outcome, Reader}
-use Rattle.om_tree.specs.Limits.{Limits}
-use Rattle.om_tree.specs.Spelling.{token, expression_spelling}
-use Rattle.om_tree.specs.Tree.{ExpressionTree}
-use Rattle.om_parser.proofs.LineStarts.{line_start_is}
+use Rattle.om_parts.specs.Local.{Measure, pair, SameRoom, Suffices, IsHalt, IsLocalAt}
+use Rattle.om_parts.specs.Local.{unended_both, elsewhere_behind}
+use Rattle.om_parts.specs.Reading.{Reader}
+use Rattle.om_tree.specs.Spelling.{token}
 
 -- a measure for readers that read lines
 abbrev pub lined : ℕ → Measure
@@ -121,8 +113,7 @@ module _ {A : Type 0} (m : ℕ) (next : Test) (r g : Reader A) (n : ℕ) (front 
       takes : (x : A × List Token) → r (front ++ us) ≡ Ok x → (k : IsGiven m next r n (front ++ us) x)
           × (0 < length k.front) × Decided k.front
       takes x e =
-          let t = (h 0).takes x (sym (same us) ∙ e) in
-          (
+          let t = (h 0).takes x (sym (same us) ∙ e) in (
             record {
               front = front ++ t.front;
               parts = ap (λ (w : List Token). front ++ w) t.parts ∙ sym (append_assoc front t.front x.1);
@@ -170,8 +161,7 @@ alike_item {A} m next r g n t us same h = record { takes = takes; halts = halts 
     takes : (x : A × List Token) → r (t ∷ us) ≡ Ok x → (k : IsGiven m next r n (t ∷ us) x) × (0 < length k.front)
         × Decided k.front
     takes x e =
-        let k = h.takes x (sym (same us refl) ∙ e) in
-        (
+        let k = h.takes x (sym (same us refl) ∙ e) in (
           record {
             front = k.0.front;
             parts = k.0.parts;
@@ -251,9 +241,11 @@ item_of_local {A} m r n t us plain h less = record { takes = takes; halts = halt
         → ((k : IsHalt m (λ j. r) (lined n) (t ∷ us) f) × Decided (k.front ++ k.token ∷ []))
         ⊎ IsElsewhere true (t ∷ us) f
     halts f e wrong = elim (h.halts f e wrong) [
-      | inl k ↦ inl (k, first_decided (k.front ++ k.token ∷ []) k.after
-          (k.parts ∙ sym (append_assoc k.front (k.token ∷ []) k.after))
-          (omega (arith, length-append k.front (k.token ∷ []))))
+      | inl k ↦ inl (
+        k,
+        first_decided (k.front ++ k.token ∷ []) k.after
+            (k.parts ∙ sym (append_assoc k.front (k.token ∷ []) k.after))
+            (omega (arith, length-append k.front (k.token ∷ []))),
+      )
       | inr other ↦ inr other
     ]
-

@@ -33,6 +33,7 @@ mod ItemLocal
 mod LineItemLocal
 mod SeveralLocal
 mod StatementLocal
+mod ItemsLocal
 mod StatementsLocal
 mod FunctionLocal
 mod UnitLocal

@@ -1,21 +1,20 @@
 -- An item that begins with a directive line, or is refused for it, is read as far as the next token.
-use Rattle.std.proofs.Common.{◌≡◌, ℕ, zero, suc, ◌+◌, ◌<◌, ◌≤◌, List, [], ◌∷◌, ◌++◌, length, Ok, Err, Bool, true, false, refl}
-use Rattle.std.proofs.Common.{sym, ap, subst, ◌∙◌, append_assoc, append-nil, length-append, arith, ◌⊎◌, inl, inr}
+use Rattle.std.proofs.Common.{◌≡◌, ℕ, suc, ◌+◌, ◌<◌, List, [], ◌∷◌, ◌++◌, length, Ok, Err, refl}
+use Rattle.std.proofs.Common.{sym, ap, subst, ◌∙◌, append_assoc, length-append, arith, inl, inr}
 use Rattle.std.specs.Prelude.{◌≢◌}
 use Rattle.std.specs.List.{flat_map}
 use Rattle.om_lexer.specs.declared.fault.FaultCode.TheVariants as codes
 use Rattle.om_lexer.specs.declared.fault.SourceFault.{SourceFault}
 use Rattle.om_lexer.specs.declared.token.Span.{Span}
 use Rattle.om_lexer.specs.declared.token.Token.{Token}
-use Rattle.om_lexer.specs.declared.token.TokenKind.{TokenKind}
 use Rattle.om_lexer.specs.declared.token.TokenKind.TheVariants as kinds
 use Rattle.om_pragma.specs.declared.tree.Directive.{Directive}
 use Rattle.om_pragma.specs.Spelling.{directive_spelling, opening_spelling, name_spelling, item_spelling}
 use Rattle.om_parser.specs.declared.construct.LineStart.TheVariants as lines
 use Rattle.om_parser.specs.ConstructReading.{line_start, from_word}
-use Rattle.om_parts.specs.Halting.{Unended, IsElsewhere}
+use Rattle.om_parts.specs.Halting.{Unended}
 use Rattle.om_parts.specs.Laws.{ArePartsSound}
-use Rattle.om_parts.specs.Local.{Suffices, IsHalt, ArePartsLocal, unended_both}
+use Rattle.om_parts.specs.Local.{Suffices, ArePartsLocal}
 use Rattle.om_parts.specs.Outcomes.{ok, err_is}
 use Rattle.om_parts.specs.PartReading.{Parts}
 use Rattle.om_parts.specs.Reading.{Outcome, Reader, syntax}

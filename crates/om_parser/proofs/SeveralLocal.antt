@@ -1,13 +1,13 @@
 -- One item and more are read as far as the next token, where each of them is.
 use Rattle.std.proofs.Common.{◌≡◌, ℕ, zero, suc, ◌+◌, ◌<◌, ◌≤◌, List, [], ◌∷◌, ◌++◌, length, Ok, Err, Bool, true, false, refl}
-use Rattle.std.proofs.Common.{sym, ap, subst, ◌∙◌, append_assoc, append-nil, length-append, arith, ◌⊎◌, inl, inr, cond}
+use Rattle.std.proofs.Common.{sym, ap, subst, ◌∙◌, append_assoc, length-append, arith, ◌⊎◌, inl, inr, cond}
 use Rattle.std.specs.Prelude.{◌&&◌}
 use Rattle.om_lexer.specs.declared.fault.FaultCode.TheVariants as codes
 use Rattle.om_lexer.specs.declared.fault.SourceFault.{SourceFault}
 use Rattle.om_lexer.specs.declared.token.Token.{Token}
-use Rattle.om_parts.specs.Halting.{Unended, IsElsewhere}
+use Rattle.om_parts.specs.Halting.{IsElsewhere}
 use Rattle.om_parts.specs.Local.{Measure, Suffices, SameRoom, IsHalt, Consumes, bind_same, unended_both, elsewhere_behind, room_before}
-use Rattle.om_parts.specs.Outcomes.{ok, ok_is, err_is, bind_ok, bind_err, either_way}
+use Rattle.om_parts.specs.Outcomes.{ok, ok_is, bind_ok, bind_err, either_way}
 use Rattle.om_parts.specs.Reading.{◌>>=◌, Outcome, Reader}
 use Rattle.om_parser.specs.OneOrMore.{one_or_more}
 use Rattle.om_parser.proofs.ItemLocal.{lined, Decided, decided_more, Test, IsGiven, IsItemAt}
@@ -107,18 +107,18 @@ module _ {A : Type 0} (item : Reader A) (less : Consumes item) (ends : Test) whe
               → (a ∷ [], us) ≡ y → (g : IsGiven m (both ends next) All n ts y) × (0 < length g.front) × Decided g.front
           alone a us y k ended same = subst (λ (z : List A × List Token). (g : IsGiven m (both ends next) All n ts z)
               × (0 < length g.front) × Decided g.front) same (
-            record {
-              front = k.0.front;
-              parts = k.0.parts;
-              unended = k.0.unended;
-              ended = both_true (ends us) (next us) ended k.0.ended;
-              again = λ j t after other is test room enough. stops (k.0.front ++ t ∷ other) a (t ∷ other)
-                  (k.0.again j t after other is (second_true (ends (t ∷ other)) (next (t ∷ other)) test) room enough)
-                  (first_true (ends (t ∷ other)) (next (t ∷ other)) test);
-            },
-            k.1,
-            k.2,
-          )
+                record {
+                  front = k.0.front;
+                  parts = k.0.parts;
+                  unended = k.0.unended;
+                  ended = both_true (ends us) (next us) ended k.0.ended;
+                  again = λ j t after other is test room enough. stops (k.0.front ++ t ∷ other) a (t ∷ other)
+                      (k.0.again j t after other is (second_true (ends (t ∷ other)) (next (t ∷ other)) test) room enough)
+                      (first_true (ends (t ∷ other)) (next (t ∷ other)) test);
+                },
+                k.1,
+                k.2,
+              )
 
           more : (a : A) (us : List Token) (y : List A × List Token) → Found a us → ends us ≡ false
               → item ts ≡ Ok (a, us) → (b : List A × List Token) → All us ≡ Ok b → (a ∷ b.0, b.1) ≡ y
@@ -126,30 +126,30 @@ module _ {A : Type 0} (item : Reader A) (less : Consumes item) (ends : Test) whe
           more a us y k goes_on read b rest same = subst (λ (z : List A × List Token).
               (g : IsGiven m (both ends next) All n ts z) × (0 < length g.front) × Decided g.front) same
               (let q = (later us (left us a read)).takes b rest in (
-            record {
-              front = k.0.front ++ q.0.front;
-              parts = k.0.parts ∙ ap (λ (w : List Token). k.0.front ++ w) q.0.parts
-                  ∙ sym (append_assoc k.0.front q.0.front b.1);
-              unended = unended_both k.0.front q.0.front k.0.unended q.0.unended;
-              ended = q.0.ended;
-              again = λ j t after other is test room enough.
-                  let vs : List Token = q.0.front ++ t ∷ other in
-                  let regroup : (k.0.front ++ q.0.front) ++ t ∷ other ≡ k.0.front ++ vs = append_assoc k.0.front
-                  q.0.front (t ∷ other) in
-                  let there : us ≡ q.0.front ++ t ∷ after = q.0.parts ∙ ap (λ (w : List Token). q.0.front ++ w) is in
-                  let all : Suffices m j (k.0.front ++ vs) = subst (Suffices m j) regroup enough in
-                  let tested : next vs ≡ true = hang q.0.front (t ∷ other) (t ∷ after) q.1 q.2
-                  ∙ sym (ap next there) ∙ k.0.ended in
-                  let on : ends vs ≡ false = ends_hang q.0.front (t ∷ other) (t ∷ after) q.1 q.2
-                  ∙ sym (ap ends there) ∙ goes_on in
-                  let one = again_before a us k.0 q.0.front t after other j there tested room all in
-                  ap All regroup ∙ goes (k.0.front ++ vs) a vs one on
-                  ∙ ap (λ (o : Outcome (List A × List Token)). o >>= λ b. Ok (a ∷ b.0, b.1))
-                  (q.0.again j t after other is test room (omega (arith, all, length-append k.0.front vs, k.1)));
-            },
-            omega (arith, k.1, length-append k.0.front q.0.front),
-            decided_more k.0.front q.0.front k.2,
-          ))
+                record {
+                  front = k.0.front ++ q.0.front;
+                  parts = k.0.parts ∙ ap (λ (w : List Token). k.0.front ++ w) q.0.parts
+                      ∙ sym (append_assoc k.0.front q.0.front b.1);
+                  unended = unended_both k.0.front q.0.front k.0.unended q.0.unended;
+                  ended = q.0.ended;
+                  again = λ j t after other is test room enough.
+                      let vs : List Token = q.0.front ++ t ∷ other in
+                      let regroup : (k.0.front ++ q.0.front) ++ t ∷ other ≡ k.0.front ++ vs = append_assoc k.0.front
+                      q.0.front (t ∷ other) in
+                      let there : us ≡ q.0.front ++ t ∷ after = q.0.parts ∙ ap (λ (w : List Token). q.0.front ++ w) is in
+                      let all : Suffices m j (k.0.front ++ vs) = subst (Suffices m j) regroup enough in
+                      let tested : next vs ≡ true = hang q.0.front (t ∷ other) (t ∷ after) q.1 q.2
+                      ∙ sym (ap next there) ∙ k.0.ended in
+                      let on : ends vs ≡ false = ends_hang q.0.front (t ∷ other) (t ∷ after) q.1 q.2
+                      ∙ sym (ap ends there) ∙ goes_on in
+                      let one = again_before a us k.0 q.0.front t after other j there tested room all in
+                      ap All regroup ∙ goes (k.0.front ++ vs) a vs one on
+                      ∙ ap (λ (o : Outcome (List A × List Token)). o >>= λ b. Ok (a ∷ b.0, b.1))
+                      (q.0.again j t after other is test room (omega (arith, all, length-append k.0.front vs, k.1)));
+                },
+                omega (arith, k.1, length-append k.0.front q.0.front),
+                decided_more k.0.front q.0.front k.2,
+              ))
 
       halts : (f : SourceFault) → All ts ≡ Err f → f.code ≡ codes.Syntax
           → ((h : IsHalt m (λ j. All) (lined n) ts f) × Decided (h.front ++ h.token ∷ [])) ⊎ IsElsewhere true ts f

@@ -1,7 +1,7 @@
 -- A statement is read as far as the next token, and refused by S3 for nothing that stands behind its token.
-use Rattle.std.proofs.Common.{◌≡◌, ℕ, zero, suc, ◌+◌, ◌<◌, ◌≤◌, List, [], ◌∷◌, ◌++◌, length, Option, Some, None, Ok, Err}
-use Rattle.std.proofs.Common.{Bool, true, false, refl, sym, ap, subst, ◌∙◌, length-append, arith, cond, inl, inr}
-use Rattle.std.specs.Prelude.{◌≢◌, ◌||◌, ◌&&◌, not, is_some}
+use Rattle.std.proofs.Common.{◌≡◌, ℕ, suc, List, Some, None, Err}
+use Rattle.std.proofs.Common.{Bool, true, false, ap, ◌∙◌, cond}
+use Rattle.std.specs.Prelude.{◌≢◌, ◌||◌, not}
 use Rattle.om_lexer.specs.declared.fault.FaultCode.TheVariants as codes
 use Rattle.om_lexer.specs.declared.fault.SourceFault.{SourceFault}
 use Rattle.om_lexer.specs.declared.token.Keyword.TheVariants as keywords
@@ -9,48 +9,31 @@ use Rattle.om_lexer.specs.declared.token.Punctuator.{Punctuator}
 use Rattle.om_lexer.specs.declared.token.Punctuator.TheVariants as punctuators
 use Rattle.om_lexer.specs.declared.token.Span.{Span}
 use Rattle.om_lexer.specs.declared.token.Token.{Token}
-use Rattle.om_lexer.specs.declared.token.TokenKind.TheVariants as kinds
 use Rattle.om_pragma.specs.declared.kind.DirectiveKind.{DirectiveKind}
 use Rattle.om_pragma.specs.declared.tree.Directive.{Directive}
 use Rattle.om_pragma.specs.Kinds.{stands_alone, begins_part}
 use Rattle.om_pragma.specs.Questions.{is_sections, is_atomic, atomic_kind}
-use Rattle.om_parser.specs.declared.construct.LineStart.{LineStart}
 use Rattle.om_parser.specs.declared.construct.LineStart.TheVariants as lines
 use Rattle.om_parser.specs.declared.start.Start.{Start}
 use Rattle.om_parser.specs.declared.start.Start.TheVariants as starts
-use Rattle.om_parser.specs.ConstructReading.{line_start, start_of_kind, from_word, misplaced, unknown_line, stand_alone_at}
-use Rattle.om_parser.specs.ConstructReading.{item_of, part_item_at, at_section, ends_part, ends_parts, section_of, part_at}
+use Rattle.om_parser.specs.ConstructReading.{start_of_kind}
 use Rattle.om_parser.specs.ConstructReading.{bad_atomic, atomic_of, atomic_after, constructed_after, PartsReader}
-use Rattle.om_parser.specs.ConstructReading.{sections_after, construct_after, construct_at, line_of}
-use Rattle.om_parser.specs.OneOrMore.{one_or_more}
-use Rattle.om_parser.specs.StatementReading.{start_of, condition_at, optional_before, for_start_at, for_head_after}
+use Rattle.om_parser.specs.ConstructReading.{sections_after, construct_after}
+use Rattle.om_parser.specs.StatementReading.{condition_at, optional_before, for_start_at, for_head_after}
 use Rattle.om_parser.specs.StatementReading.{OpeningTree, OpensIf, OpensWhile, OpensFor, opening_of, return_after}
 use Rattle.om_parser.specs.StatementReading.{jump_after, expression_statement_at, else_after, behind_body, body_after}
-use Rattle.om_parser.specs.StatementReading.{headed_of, do_end, do_after, block_item_at, items_at, block_items_after}
-use Rattle.om_parser.specs.StatementReading.{block_after, parts_after, simple_of, statement_of, no_room, statement_at}
-use Rattle.om_parser.specs.StatementReading.{parts_at, block_with}
-use Rattle.om_parts.specs.Laws.{ArePartsSound}
-use Rattle.om_parts.specs.Local.{Measure, Form, Family, pair, triple, Suffices, IsLocal, ArePartsLocal, done, bind, either}
-use Rattle.om_parts.specs.Local.{deep, stuck, mark_taker, word_taker, mark_local, word_local, until_local, unended_one}
-use Rattle.om_parts.specs.Outcomes.{ok, err_is}
+use Rattle.om_parser.specs.StatementReading.{headed_of, do_end, do_after}
+use Rattle.om_parts.specs.Local.{Measure, Form, Family, pair, IsLocal, ArePartsLocal, done, bind, either}
+use Rattle.om_parts.specs.Local.{stuck, mark_taker, word_taker, mark_local, word_local}
+use Rattle.om_parts.specs.Outcomes.{err_is}
 use Rattle.om_parts.specs.PartReading.{Parts}
-use Rattle.om_parts.specs.Reading.{◌>>=◌, choose, Outcome, Reader, syntax, too_deep, take, take_mark, take_word, mark_at}
-use Rattle.om_parts.specs.Reading.{mark_of, word_at}
-use Rattle.om_parts.specs.Repetition.{until}
+use Rattle.om_parts.specs.Reading.{choose, Reader, take_mark, take_word, mark_at}
+use Rattle.om_parts.specs.Reading.{word_at}
 use Rattle.om_tree.specs.AtomicForms.{has_atomic_form}
-use Rattle.om_tree.specs.Limits.{Limits}
-use Rattle.om_tree.specs.Spelling.{token, statement_spelling}
 use Rattle.om_tree.specs.Tree.{ExpressionTree, ConditionTree, Nothing, StartExpression, StartDeclaration, StatementTree}
-use Rattle.om_tree.specs.Tree.{LocalDeclaration, Block, Empty, Expression, If, IfElse, While, Do, For, Return, Break}
-use Rattle.om_tree.specs.Tree.{Continue, Construct, StandAlone, Sections, statements}
-use Rattle.om_tree.specs.Tree as trees
-use Rattle.om_parser.proofs.ItemLocal.{lined, Decided, Test, yes, IsGivenAt, IsItemAt, given_of, given_item, local_of}
-use Rattle.om_parser.proofs.ItemLocal.{token_decided, behind, alike_item, item_of_local}
-use Rattle.om_parser.proofs.LineItemLocal.{by_line, misplaced_item, refused_item, spelled}
-use Rattle.om_parser.proofs.LineStarts.{line_start_is}
-use Rattle.om_parser.proofs.Shorter.{block_item_shorter, statement_some}
-use Rattle.om_parser.proofs.StatementParts.{is_of_start}
-use Rattle.om_parser.proofs.StatementSound.{statement_sound}
+use Rattle.om_tree.specs.Tree.{Expression, If, IfElse, While, Do, For, Return}
+use Rattle.om_tree.specs.Tree.{Construct, StandAlone, Sections, statements}
+use Rattle.om_parser.proofs.ItemLocal.{lined}
 
 -- a reader of statements that looks no further
 abbrev pub IsNear : {A : Type 0} → ℕ → Reader A → Type 0

@@ -1,12 +1,11 @@
 -- Statements, their items and the parts of `sections` are read as far as the next token.
-use Rattle.std.proofs.Common.{◌≡◌, ℕ, zero, suc, ◌+◌, ◌<◌, ◌≤◌, List, [], ◌∷◌, ◌++◌, length, Option, Some, None, Ok, Err}
-use Rattle.std.proofs.Common.{Bool, true, false, refl, sym, ap, subst, ◌∙◌, append_assoc, length-append, arith, cond}
+use Rattle.std.proofs.Common.{◌≡◌, ℕ, zero, suc, ◌+◌, ◌≤◌, List, [], ◌∷◌, ◌++◌, length, Option, Some, None, Ok, Err}
+use Rattle.std.proofs.Common.{Bool, true, refl, sym, ap, subst, ◌∙◌, append_assoc, length-append, arith}
 use Rattle.std.proofs.Common.{◌⊎◌, inl, inr}
-use Rattle.std.specs.Prelude.{◌≢◌, ◌||◌, ◌&&◌, not, is_some}
+use Rattle.std.specs.Prelude.{◌≢◌, not}
 use Rattle.om_lexer.specs.declared.fault.FaultCode.TheVariants as codes
 use Rattle.om_lexer.specs.declared.fault.SourceFault.{SourceFault}
 use Rattle.om_lexer.specs.declared.token.Keyword.TheVariants as keywords
-use Rattle.om_lexer.specs.declared.token.Punctuator.{Punctuator}
 use Rattle.om_lexer.specs.declared.token.Punctuator.TheVariants as punctuators
 use Rattle.om_lexer.specs.declared.token.Span.{Span}
 use Rattle.om_lexer.specs.declared.token.Token.{Token}
@@ -18,182 +17,41 @@ use Rattle.om_parser.specs.declared.construct.LineStart.{LineStart}
 use Rattle.om_parser.specs.declared.construct.LineStart.TheVariants as lines
 use Rattle.om_parser.specs.declared.start.Start.{Start}
 use Rattle.om_parser.specs.declared.start.Start.TheVariants as starts
-use Rattle.om_parser.specs.ConstructReading.{line_start, is_section_line, misplaced, unknown_line, stand_alone_at, item_of}
-use Rattle.om_parser.specs.ConstructReading.{part_item_at, at_section, ends_part, ends_parts, section_of, part_at}
+use Rattle.om_parser.specs.ConstructReading.{line_start, misplaced, unknown_line, stand_alone_at, item_of}
+use Rattle.om_parser.specs.ConstructReading.{part_item_at, ends_part, ends_parts, section_of, part_at}
 use Rattle.om_parser.specs.ConstructReading.{PartsReader, construct_after, construct_at, line_of}
 use Rattle.om_parser.specs.OneOrMore.{one_or_more}
-use Rattle.om_parser.specs.StatementReading.{start_of, expression_statement_at, headed_of, do_after, return_after}
-use Rattle.om_parser.specs.StatementReading.{jump_after, block_item_at, items_at, block_items_after, block_after}
+use Rattle.om_parser.specs.StatementReading.{start_of, expression_statement_at}
+use Rattle.om_parser.specs.StatementReading.{block_item_at, items_at, block_items_after, block_after}
 use Rattle.om_parser.specs.StatementReading.{parts_after, simple_of, statement_of, no_room, statement_at, parts_at}
 use Rattle.om_parser.specs.StatementReading.{block_with}
-use Rattle.om_parts.specs.Again.{take_mark_again, mark_again}
+use Rattle.om_parts.specs.Again.{mark_again}
 use Rattle.om_parts.specs.Halting.{IsElsewhere}
 use Rattle.om_parts.specs.Laws.{ArePartsSound}
-use Rattle.om_parts.specs.Local.{Measure, pair, triple, Suffices, IsHalt, IsTaken, IsLocal, IsLocalAt, ArePartsLocal, done}
+use Rattle.om_parts.specs.Local.{pair, triple, Suffices, IsHalt, IsTaken, IsLocal, ArePartsLocal, done}
 use Rattle.om_parts.specs.Local.{bind, either, deep, stuck, mark_taker, word_taker, mark_local, until_local, unended_one}
-use Rattle.om_parts.specs.Local.{unended_both, no_more, room_before, Consumes}
-use Rattle.om_parts.specs.Outcomes.{ok, some, ok_is, err_is, bind_ok, bind_err}
+use Rattle.om_parts.specs.Local.{unended_both, room_before, Consumes}
+use Rattle.om_parts.specs.Outcomes.{ok_is, bind_ok, bind_err}
 use Rattle.om_parts.specs.PartReading.{Parts}
-use Rattle.om_parts.specs.Reading.{◌>>=◌, choose, Outcome, Reader, syntax, too_deep, place, take, take_mark, take_word}
-use Rattle.om_parts.specs.Reading.{mark_of, mark_at, known}
-use Rattle.om_parts.specs.Repetition.{until}
+use Rattle.om_parts.specs.Reading.{◌>>=◌, Outcome, Reader, syntax, too_deep, take_mark, take_word}
+use Rattle.om_parts.specs.Reading.{mark_at, known}
 use Rattle.om_parts.specs.Taken.{mark_at_is}
 use Rattle.om_tree.specs.Limits.{Limits}
 use Rattle.om_tree.specs.Spelling.{token, mark, statement_spelling}
 use Rattle.om_tree.specs.Tree.{ExpressionTree, StatementTree, LocalDeclaration, Block, Empty, Return, Break, Continue}
-use Rattle.om_tree.specs.Tree.{StandAlone, PartTree, BlockTree, statements}
+use Rattle.om_tree.specs.Tree.{StandAlone, PartTree, statements}
 use Rattle.om_tree.specs.Tree as trees
-use Rattle.om_parser.proofs.ItemLocal.{lined, Decided, Test, yes, IsGiven, IsGivenAt, IsItemAt, given_of, given_item}
+use Rattle.om_parser.proofs.ItemLocal.{lined, yes, IsItemAt, given_of, given_item}
 use Rattle.om_parser.proofs.ItemLocal.{local_of, token_decided, behind, alike_item, item_of_local}
 use Rattle.om_parser.proofs.LineItemLocal.{by_line, misplaced_item, refused_item, spelled}
 use Rattle.om_parser.proofs.LineStarts.{line_start_is}
-use Rattle.om_parser.proofs.SeveralLocal.{HangsOnStart, both, both_hang, first_true, second_true, several_local}
+use Rattle.om_parser.proofs.SeveralLocal.{both, both_hang, several_local}
 use Rattle.om_parser.proofs.Shorter.{block_item_shorter, part_item_shorter, part_shorter, statement_some}
 use Rattle.om_parser.proofs.StatementLocal.{IsNear, construct_local, headed_local, do_local, return_local, jump_local}
 use Rattle.om_parser.proofs.StatementLocal.{expression_local, start_known}
 use Rattle.om_parser.proofs.StatementParts.{is_of_start}
 use Rattle.om_parser.proofs.StatementSound.{statement_sound}
-
--- ---- items in general
-
-empty_item : {A : Type 0} (m n : ℕ) (next : Test) (r : Reader A) → r [] ≡ Err (syntax []) → IsItemAt m next r n []
-empty_item m n next r is = record {
-  takes = λ x e. let both : ok x ≡ Err (syntax []) = sym e ∙ is in absurd cc;
-  halts = λ f e wrong. inr (no_more true f (ap (λ (c : SourceFault). c.at) (err_is f (syntax []) (sym e ∙ is))));
-}
-
--- what is made of an item
-abbrev made : {A B : Type 0} → (A → B) → Reader A → Reader B
-made f r ts = r ts >>= λ x. Ok (f x.0, x.1)
-
-module _ {A B : Type 0} (m n : ℕ) (next : Test) (f : A → B) (r : Reader A) (ts : List Token) where
-  abbrev given_at : (x : A × List Token) → IsGiven m next r n ts x → IsGiven m next (made f r) n ts (f x.0, x.1)
-  given_at x g = record {
-    front = g.front;
-    parts = g.parts;
-    unended = g.unended;
-    ended = g.ended;
-    again = λ j t after other is test room far. ap (λ (o : Outcome (A × List Token)). o >>= λ z. Ok (f z.0, z.1))
-        (g.again j t after other is test room far);
-  }
-
-  given_made : (y : B × List Token) (x : A × List Token) → (f x.0, x.1) ≡ y → IsGiven m next r n ts x
-      → IsGiven m next (made f r) n ts y
-  given_made y x same g = subst (IsGiven m next (made f r) n ts) same (given_at x g)
-
-  abbrev halt_made : (d : SourceFault) → IsHalt m (λ j. r) (lined n) ts d → IsHalt m (λ j. made f r) (lined n) ts d
-  halt_made d h = record {
-    front = h.front;
-    token = h.token;
-    after = h.after;
-    parts = h.parts;
-    at_place = h.at_place;
-    again = λ j other room far. ap (λ (o : Outcome (A × List Token)). o >>= λ z. Ok (f z.0, z.1))
-        (h.again j other room far);
-  }
-
-  made_fails : (d : SourceFault) → made f r ts ≡ Err d → r ts ≡ Err d
-  made_fails d e = elim (bind_err (r ts) _ d e) [
-    | inl fails ↦ fails
-    | inr x ↦ absurd cc
-  ]
-
-  made_given : IsGivenAt m next r n ts → IsGivenAt m next (made f r) n ts
-  made_given h = record {
-    takes = λ y e. let x = bind_ok (r ts) _ y e in given_made y x.0 (ok_is (f x.0.0, x.0.1) y x.2) (h.takes x.0 x.1);
-    halts = λ d e wrong. elim (h.halts d (made_fails d e) wrong) [
-      | inl k ↦ inl (halt_made d k)
-      | inr other ↦ inr other
-    ];
-  }
-
-  made_item : IsItemAt m next r n ts → IsItemAt m next (made f r) n ts
-  made_item h = record { takes = takes; halts = halts }
-    where
-      takes : (y : B × List Token) → made f r ts ≡ Ok y → (g : IsGiven m next (made f r) n ts y) × (0 < length g.front)
-          × Decided g.front
-      takes y e =
-          let x = bind_ok (r ts) _ y e in
-          let k = h.takes x.0 x.1 in
-          subst (λ (z : B × List Token). (g : IsGiven m next (made f r) n ts z) × (0 < length g.front) × Decided g.front)
-          (ok_is (f x.0.0, x.0.1) y x.2) (given_at x.0 k.0, k.1, k.2)
-
-      halts : (d : SourceFault) → made f r ts ≡ Err d → d.code ≡ codes.Syntax
-          → ((g : IsHalt m (λ j. made f r) (lined n) ts d) × Decided (g.front ++ g.token ∷ [])) ⊎ IsElsewhere true ts d
-      halts d e wrong = elim (h.halts d (made_fails d e) wrong) [
-        | inl k ↦ inl (halt_made d k.0, k.1)
-        | inr other ↦ inr other
-      ]
-
--- ---- whether a line stands first
-
-kind_nothing : (k : TokenKind) (s : Span) → k ≢ kinds.DirectiveBegin → (us : List Token)
-    → line_start (token k s ∷ us) ≡ lines.Nothing
-kind_nothing kinds.DirectiveBegin s plain us = absurd (plain refl)
-kind_nothing _ s plain us = refl
-
-is_hash : (k : TokenKind) → (k ≡ kinds.DirectiveBegin) ⊎ (k ≢ kinds.DirectiveBegin)
-is_hash kinds.DirectiveBegin = inl refl
-is_hash _ = inr (λ e. absurd cc)
-
-abbrev hashed : Span → List Token → List Token
-hashed hash us = token kinds.DirectiveBegin hash ∷ us
-
--- an item by whether a line stands first
-by_first : {A : Type 0} (m n : ℕ) (next : Test) (r : Reader A) (t : Token) (us : List Token)
-    → Suffices m (lined n) (t ∷ us)
-    → ((hash : Span) → Suffices m (lined n) (token kinds.DirectiveBegin hash ∷ us)
-    → IsItemAt m next r n (token kinds.DirectiveBegin hash ∷ us))
-    → (t.kind ≢ kinds.DirectiveBegin → ((vs : List Token) → line_start (t ∷ vs) ≡ lines.Nothing)
-    → IsItemAt m next r n (t ∷ us))
-    → IsItemAt m next r n (t ∷ us)
-by_first m n next r t us far first second = elim (is_hash t.kind) [
-  | inl hash ↦
-      let same : token kinds.DirectiveBegin t.span ≡ t = ap (λ (k : TokenKind). token k t.span) (sym hash) in
-      subst (λ (u : Token). IsItemAt m next r n (u ∷ us)) same (first t.span (omega (arith, far)))
-  | inr plain ↦ second plain (λ vs. kind_nothing t.kind t.span plain vs)
-]
-
-mark_hangs : (q : Punctuator) (t : Token) (us vs : List Token) → is_some (take_mark q (t ∷ us))
-    ≡ is_some (take_mark q (t ∷ vs))
-unfolding take_mark take
-mark_hangs q t us vs = go (mark_of q t.kind t.span)
-  where
-    go : (o : Option Span) → is_some (choose {B = Option (Span × List Token)} o (λ x. some (x, us)) None)
-        ≡ is_some (choose {B = Option (Span × List Token)} o (λ x. some (x, vs)) None)
-    go (Some s) = refl
-    go None = refl
-
-part_hangs : HangsOnStart ends_part
-part_hangs [] us vs more decided = absurd (omega (arith, more))
-part_hangs (t ∷ front) us vs more decided = rw (mark_hangs punctuators.CloseBrace t (front ++ us) (front ++ vs)) (ap
-    (λ (b : LineStart). is_some (take_mark punctuators.CloseBrace (t ∷ (front ++ vs))) || is_section_line b)
-    (decided us vs))
-
-parts_hang : HangsOnStart ends_parts
-parts_hang front us vs more decided = ap (λ (b : LineStart). not (is_section_line b)) (decided us vs)
-
-yes_hangs : HangsOnStart yes
-yes_hangs front us vs more decided = refl
-
-abbrev PartEnd : Test
-PartEnd = both ends_part yes
-
-abbrev RowEnd : Test
-RowEnd = both ends_parts PartEnd
-
--- behind the last part a brace stands
-brace_stands : (us : List Token) (f : SourceFault) → RowEnd us ≡ true → mark_at punctuators.CloseBrace us ≡ Err f → ⊥
-unfolding mark_at
-brace_stands us f ended e = go (take_mark punctuators.CloseBrace us) (at_section us) ended e
-  where
-    go : (o : Option (Span × List Token)) (b : Bool) → not b && ((is_some o || b) && true) ≡ true → known us o ≡ Err f → ⊥
-    go (Some x) b ended e = absurd cc
-    go None true ended e = absurd cc
-    go None false ended e = absurd cc
-
-brace_ends : (s : Span) (us : List Token) → RowEnd (mark punctuators.CloseBrace s ∷ us) ≡ true
-brace_ends s us = rw (take_mark_again punctuators.CloseBrace s us) refl
+use Rattle.om_parser.proofs.ItemsLocal.{empty_item, made, made_given, made_item, hashed, by_first, part_hangs, parts_hang, yes_hangs, PartEnd, RowEnd, brace_stands, brace_ends}
 
 module _ (p : Parts) (l : Limits) (one : 1 ≤ l.nested) (sound : ArePartsSound p l) (h : ArePartsLocal p) (n : ℕ) where
   unknown_item : {A : Type 0} (m : ℕ) (r : Reader A) (hash : Span) (us : List Token)
@@ -217,7 +75,6 @@ module _ (p : Parts) (l : Limits) (one : 1 ≤ l.nested) (sound : ArePartsSound 
     unfolding line_of construct_at unknown_line misplaced
     directive_item hash us far = go (line_start (hashed hash us)) refl
       where
-
         other : (s : LineStart) → line_start (hashed hash us) ≡ s → s ≢ lines.Unknown
             → ((vs : List Token) → line_of p.line checked statement parts s vs ≡ misplaced vs)
             → IsItemAt m yes directive n (hashed hash us)
@@ -255,7 +112,6 @@ module _ (p : Parts) (l : Limits) (one : 1 ≤ l.nested) (sound : ArePartsSound 
     unfolding part_item_at item_of stand_alone_at unknown_line misplaced
     hash_item m hash us far = go (line_start (hashed hash us)) refl
       where
-
         by_statement : (s : LineStart) → line_start (hashed hash us) ≡ s → ((vs : List Token) → item_of p.line statement s vs
             ≡ statement vs) → IsItemAt m yes part_item n (hashed hash us)
         by_statement s is same = alike_item m yes part_item statement n (token kinds.DirectiveBegin hash) us
@@ -321,7 +177,6 @@ module _ (p : Parts) (l : Limits) (one : 1 ≤ l.nested) (sound : ArePartsSound 
       unfolding part_at section_of
       part_hash m hash us far = go (line_start (hashed hash us)) refl
         where
-
           without : (s : LineStart) → line_start (hashed hash us) ≡ s → ((vs : List Token) → section_of p.line s vs ≡ Ok (None, vs))
               → IsItemAt m PartEnd part n (hashed hash us)
           without s is same = alike_item m PartEnd part (made (part_of None) row) n (token kinds.DirectiveBegin hash) us
@@ -508,8 +363,13 @@ module _ (p : Parts) (l : Limits) (one : 1 ≤ l.nested) (sound : ArePartsSound 
           (item_of_local m g n t us (no_line s is line) (k m (t ∷ us) far)
           (λ x e. let r = statement_sound p l one sound checked (suc room) blocks (t ∷ us) x
           (starts_so s is us ∙ same us ∙ e) in
-          omega (arith, ap length r.parts, length-append (statement_spelling x.0) x.1, statement_some x.0
-          r.good.good.formed)))
+          omega (
+            arith,
+            ap length r.parts,
+            length-append (statement_spelling x.0) x.1,
+            statement_some x.0
+                r.good.good.formed,
+          )))
 
       by_start : (s : Start) → start_of t.kind ≡ s → IsItemAt m yes whole n (t ∷ us)
       unfolding statement_of simple_of

@@ -1,5 +1,5 @@
 -- S3 of a whole source stands at a token with which no well-formed unit goes on, or in a directive line.
-use Rattle.std.proofs.Common.{◌≡◌, ℕ, zero, suc, ◌+◌, ◌<◌, ◌≤◌, List, [], ◌∷◌, ◌++◌, length, Option, Some, None, Ok, Err}
+use Rattle.std.proofs.Common.{◌≡◌, ℕ, zero, suc, ◌+◌, ◌≤◌, List, [], ◌∷◌, ◌++◌, length, Option, Some, None, Ok, Err}
 use Rattle.std.proofs.Common.{Bool, true, false, refl, sym, ap, subst, ◌∙◌, append_assoc, length-append, arith, ◌⊎◌, inl}
 use Rattle.std.proofs.Common.{inr, All}
 use Rattle.std.specs.Prelude.{◌≢◌}
@@ -22,18 +22,17 @@ use Rattle.om_parser.specs.Laws.{BlocksAreLocal, BlocksAreReadAgain, BlocksAreSo
 use Rattle.om_parser.specs.Refusals.{refusal_of, refused}
 use Rattle.om_parser.specs.StatementReading.{block_at}
 use Rattle.om_parser.specs.UnitReading.{function_after, prototype_after, void_after, int_after, item_at, take_end, unit_at}
-use Rattle.om_parts.specs.Halting.{Unended, IsElsewhere, RunOut, HasEndlessLine}
-use Rattle.om_parts.specs.Laws.{IsAnswer, GlobalsAreReadAgain, GlobalsAreSound}
-use Rattle.om_parts.specs.Local.{Measure, pair, IsLocal, IsHalt, GlobalsAreLocal, Consumes, done, bind, either, alike, stuck}
+use Rattle.om_parts.specs.Halting.{Unended, IsElsewhere}
+use Rattle.om_parts.specs.Laws.{GlobalsAreReadAgain, GlobalsAreSound}
+use Rattle.om_parts.specs.Local.{pair, GlobalsAreLocal, Consumes, done, bind, either, alike, stuck}
 use Rattle.om_parts.specs.Local.{mark_taker, word_taker, mark_local, word_local, name_local, bind_same, taken_again}
 use Rattle.om_parts.specs.Local.{free_room, elsewhere_behind}
-use Rattle.om_parts.specs.Outcomes.{ok, some, err_is, bind_ok, bind_err, choose_cases}
+use Rattle.om_parts.specs.Outcomes.{ok, some, err_is, bind_err, choose_cases}
 use Rattle.om_parts.specs.PartReading.{global_at}
 use Rattle.om_parts.specs.Reading.{◌>>=◌, choose, Outcome, Reader, syntax, take_mark, take_word, mark_at, word_at, name_at}
 use Rattle.om_parts.specs.Repetition.{until}
-use Rattle.om_tree.specs.Formed.{IsUnit}
 use Rattle.om_tree.specs.Limits.{Limits, accepted}
-use Rattle.om_tree.specs.Spelling.{token, unit_spelling}
+use Rattle.om_tree.specs.Spelling.{token}
 use Rattle.om_tree.specs.Tree.{HeadTree, ItemTree, Declaration, Prototype, Function, UnitTree}
 use Rattle.om_parser.proofs.FunctionLocal.{IsAsked, head_asked, head_local}
 use Rattle.om_parser.proofs.ItemLocal.{lined}

@@ -1,15 +1,14 @@
 -- Reading a declaration looks no further than at the token at which it stops, or which stands behind it.
-use Rattle.std.proofs.Common.{ℕ, suc, ◌≤◌, List, length, Some, None, Ok}
+use Rattle.std.proofs.Common.{ℕ, suc, length, Some, None}
 use Rattle.om_lexer.specs.declared.token.Punctuator.TheVariants as punctuators
 use Rattle.om_lexer.specs.declared.token.Span.{Span}
-use Rattle.om_lexer.specs.declared.token.Token.{Token}
 use Rattle.om_pragma.specs.declared.name.Name as names
 use Rattle.om_parts.specs.DeclarationReading.{signed_at, array_after, declarator_after, further_at, declaration_after}
 use Rattle.om_parts.specs.DeclarationReading.{declared_at}
 use Rattle.om_parts.specs.Local.{Measure, pair, triple, IsLocal, done, bind, either, mark_taker, mark_local, name_local}
-use Rattle.om_parts.specs.Local.{number_local, until_local, weaken}
+use Rattle.om_parts.specs.Local.{number_local, until_local}
 use Rattle.om_parts.specs.PartReading.{global_at}
-use Rattle.om_parts.specs.Reading.{◌>>=◌, LeavesNoMore, Reader, take_mark, mark_at, name_at, number_at}
+use Rattle.om_parts.specs.Reading.{LeavesNoMore, Reader, take_mark, mark_at, name_at, number_at}
 use Rattle.om_parts.specs.Repetition.{until}
 use Rattle.om_tree.specs.Limits.{Limits}
 use Rattle.om_parts.specs.ExpressionReading.{whole_at}

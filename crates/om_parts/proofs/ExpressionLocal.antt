@@ -1,7 +1,7 @@
 -- Reading an expression looks no further than at the token at which it stops, or which stands behind it.
 use Rattle.std.proofs.Common.{◌≡◌, ℕ, zero, suc, ◌+◌, ◌-◌, ◌<◌, ◌≤◌, List, [], ◌∷◌, ◌++◌, length, Option, Some, None, Ok}
-use Rattle.std.proofs.Common.{Err, refl, sym, ap, subst, ◌∙◌, arith, length-append, Bool, true, false, cond, inl, inr}
-use Rattle.std.specs.Prelude.{nat_le, option_map, ◌≢◌}
+use Rattle.std.proofs.Common.{Err, refl, sym, ap, ◌∙◌, arith, length-append, Bool, true, false, cond, inl, inr}
+use Rattle.std.specs.Prelude.{nat_le, option_map}
 use Rattle.om_lexer.specs.declared.fault.SourceFault.{SourceFault}
 use Rattle.om_lexer.specs.declared.token.Punctuator.{Punctuator}
 use Rattle.om_lexer.specs.declared.token.Punctuator.TheVariants as punctuators
@@ -11,18 +11,18 @@ use Rattle.om_lexer.specs.declared.token.TokenKind.{TokenKind}
 use Rattle.om_lexer.specs.declared.token.TokenKind.TheVariants as kinds
 use Rattle.om_pragma.specs.declared.name.Name as names
 use Rattle.om_parts.specs.ExpressionReading.{prefix_of, postfix_of, level_operator, assign_of, text_of, take_operator}
-use Rattle.om_parts.specs.ExpressionReading.{take_assign, take_text, Inside, enter, closed_by, paren_after, index_after}
+use Rattle.om_parts.specs.ExpressionReading.{take_assign, take_text, enter, closed_by, paren_after, index_after}
 use Rattle.om_parts.specs.ExpressionReading.{first_at, argument_at, arguments_at, arguments_after, call_after}
 use Rattle.om_parts.specs.ExpressionReading.{named_after, primary_step, More, chain_at, postfix_more, binary_more}
 use Rattle.om_parts.specs.ExpressionReading.{postfix_step, unary_step, binary_at, conditional_after, expression_after}
 use Rattle.om_parts.specs.ExpressionReading.{expression_step, deeper, unary_at, expression_at, operand_at, whole_at}
 use Rattle.om_parts.specs.ExpressionReading.{within}
 use Rattle.om_parts.specs.Halting.{Unended}
-use Rattle.om_parts.specs.Local.{Measure, Family, pair, triple, IsLocal, IsTaker, Suffices, SameRoom, Consumes, done, finished, bind}
-use Rattle.om_parts.specs.Local.{bind_to, either, expected, deep, limited, alike, weaken, take_taker, mark_taker}
+use Rattle.om_parts.specs.Local.{Measure, Family, pair, triple, IsLocal, IsTaker, Suffices, Consumes, done, finished, bind}
+use Rattle.om_parts.specs.Local.{either, deep, limited, alike, weaken, take_taker, mark_taker}
 use Rattle.om_parts.specs.Local.{le_same, no_more, number_taker, mark_local, name_local, until_local, bind_same}
-use Rattle.om_parts.specs.Outcomes.{ok, some, err_is, ok_is, bind_ok}
-use Rattle.om_parts.specs.Reading.{◌>>=◌, Outcome, Reader, LeavesNoMore, choose, syntax, too_deep, take, take_mark}
+use Rattle.om_parts.specs.Outcomes.{some, err_is, ok_is, bind_ok}
+use Rattle.om_parts.specs.Reading.{◌>>=◌, Outcome, Reader, LeavesNoMore, choose, syntax, take, take_mark}
 use Rattle.om_parts.specs.Reading.{take_number, mark_at, name_at}
 use Rattle.om_parts.specs.Repetition.{until}
 use Rattle.om_parts.specs.Taken.{mark_at_is}

@@ -1,6 +1,6 @@
 -- A directive line that is read is read wherever it stands, and S3 in it stands where a definition says.
 use Rattle.std.proofs.Common.{◌≡◌, ℕ, ◌-◌, ◌≤◌, List, [], ◌∷◌, ◌++◌, length, Bool, true, false, cond, Ok, Err, refl, sym, ap}
-use Rattle.std.proofs.Common.{subst, ◌∙◌, append_assoc, append-nil, arith, take, length-append, ◌⊎◌, inl, inr, Option, Some, None}
+use Rattle.std.proofs.Common.{subst, ◌∙◌, append_assoc, append-nil, arith, take, length-append, ◌⊎◌, inl, inr, Some, None}
 use Rattle.std.specs.Prelude.{◌&&◌, nat_eq, ◌≢◌, All}
 use Rattle.std.proofs.lemmas.List.Elements.{All-nil, All-cons}
 use Rattle.om_lexer.specs.declared.fault.FaultCode.{FaultCode}
@@ -9,7 +9,6 @@ use Rattle.om_lexer.specs.declared.fault.SourceFault.{SourceFault}
 use Rattle.om_lexer.specs.declared.token.Punctuator.TheVariants as punctuators
 use Rattle.om_lexer.specs.declared.token.Span.{Span}
 use Rattle.om_lexer.specs.declared.token.Token.{Token}
-use Rattle.om_lexer.specs.declared.token.TokenKind.{TokenKind}
 use Rattle.om_lexer.specs.declared.token.TokenKind.TheVariants as kinds
 use Rattle.om_pragma.specs.declared.tree.Directive.{Directive}
 use Rattle.om_pragma.specs.Expressions.{first_expression}
@@ -18,14 +17,14 @@ use Rattle.om_pragma.specs.Reading.{is_end, directive_at, expression_before}
 use Rattle.om_pragma.specs.Refusals.{EndsOnce, StopsAt, IsAnswer as IsAnswered}
 use Rattle.om_tree.specs.Formed.{IsExpression}
 use Rattle.om_parts.specs.ExpressionReading.{whole_at}
-use Rattle.om_parts.specs.Halting.{HasEndlessLine, IsElsewhere}
+use Rattle.om_parts.specs.Halting.{IsElsewhere}
 use Rattle.om_parts.specs.Local.{Measure, free_room}
 use Rattle.om_tree.specs.Limits.{Limits}
-use Rattle.om_parts.specs.WrongLines.{clause_token, ExpectsClause, IsNoDirective, IsHaltedInClause, IsCutShortInClause}
+use Rattle.om_parts.specs.WrongLines.{clause_token, ExpectsClause, IsNoDirective, IsHaltedInClause}
 use Rattle.om_parts.specs.WrongLines.{IsSyntaxLine}
 use Rattle.om_parts.specs.LineReading.{run_of, is_syntax, in_run, place_behind, last_start, all_of, clause_value}
 use Rattle.om_parts.specs.LineReading.{with_value, sooner, line_of, line_at}
-use Rattle.om_parts.specs.Reading.{◌>>=◌, Outcome, syntax}
+use Rattle.om_parts.specs.Reading.{Outcome, syntax}
 use Rattle.om_tree.specs.Spelling.{token, mark, expression_spelling}
 use Rattle.om_tree.specs.Tree.{ExpressionTree}
 use Rattle.om_parts.specs.Outcomes.{ok, some, some_is, bind_ok, bind_err, choose_cases, err_is, ok_is}

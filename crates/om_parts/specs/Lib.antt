@@ -14,4 +14,5 @@ pub mod Again
 pub mod Loops
 pub mod ItemsSound
 pub mod ItemsComplete
+pub mod Steps
 pub mod Local

@@ -1,7 +1,6 @@
 //! Laws of reading the parts of statements, over the definitions alone.
 
 ghost use Rattle.om_parts.specs.Laws.{GlobalsAreReadAgain, GlobalsAreSound, GlobalsStopAtSyntax, PartsAreReadAgain, PartsAreSound, PartsStopSo};
-
 ghost use Rattle.om_parts.specs.Local.{GlobalsAreLocal, PartsAreLocal};
 
 use om_pragma::{clauses_stand, first_value, one_answer, one_expression};
