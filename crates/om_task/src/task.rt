@@ -257,7 +257,7 @@ pub fn task_end(
         (λ answer. (s : State) → answer ≡ answered
         (task_end_row worker (plain_stack stack.now) slots.now) s) }
 {
-    let context = &stack.top;
+    let context: &Context = &stack.top;
     let (Kind::Explicit, Some(next)) = (context.kind, next_below(&stack.below)) else {
         return Ok(Answer::decided(alloc, Row::Lacks));
     };
