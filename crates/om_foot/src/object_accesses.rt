@@ -1,4 +1,4 @@
-//! An object, with its accesses, for all that name it.
+//! Objects with their accesses, for all that name them.
 
 ghost use Rattle.std.specs.Prelude.{◌≡◌, IfOk, IfSome};
 ghost use Rattle.om_foot.specs.declared.footprint.Mode.TheVariants as modes;
@@ -10,7 +10,7 @@ use crate::shared_object::SharedObject;
 use std::alloc::{AllocError, Global};
 use std::marker::Model;
 
-/// An object behind a pointer, and its access of each mode that was asked for.
+/// An object behind a pointer, with its access of each mode that was asked for.
 ///
 /// Contracts see the object alone.
 #[derive(Drop)]
@@ -30,7 +30,8 @@ impl Model for ObjectAccesses {
 
     ghost view = { λ a. a.object };
 
-    ghost invariant = { λ a. IfSome a.read (λ shared. shared ≡ record { object = a.object; mode = modes.Read })
+    ghost invariant = { λ a.
+        IfSome a.read (λ shared. shared ≡ record { object = a.object; mode = modes.Read })
         × IfSome a.write (λ shared. shared ≡ record { object = a.object; mode = modes.Write })
         × IfSome a.add (λ shared. shared ≡ record { object = a.object; mode = modes.Add }) };
 }

@@ -25,7 +25,7 @@ impl Model for ObjectAccess {
     ghost view = { λ a. record { object = a.object; mode = a.mode } };
 }
 
-/// An access of a shared object that its copies share: each takes 8 bytes.
+/// An access of a shared object. Its copies share it, and each takes 8 bytes.
 ///
 /// Contracts see the access alone.
 pub struct SharedAccess {

@@ -1,10 +1,7 @@
 -- A step leads from a state that stands to one that stands, and the start stands.
 use Rattle.std.proofs.Common.{◌≡◌, refl, inl, inr, sym, subst, ℕ, ◌≤◌, arith, Bool, true, false, List, [], ◌∷◌, Some}
-use Rattle.std.proofs.Common.{ap, cond, length, None}
 use Rattle.std.specs.Prelude.{◌⊎◌, if◌then◌else◌, nat_eq}
-use Rattle.std.proofs.lemmas.Bool.Decides.{nat_tests}
 use Rattle.om_foot.specs.Footprint.{obj_eq}
-use Rattle.om_foot.specs.Names.{above, parent_of}
 use Rattle.om_foot.specs.declared.object.Obj.{Obj}
 use Rattle.om_foot.specs.declared.object.Obj.TheVariants as obj
 use Rattle.om_foot.specs.declared.footprint.Access.{Access}
@@ -233,12 +230,6 @@ start_stands program owned workers valid = record { values = start_values progra
 
 -- ---- what a stack that stands has
 
-has_parent : (name : List ℕ) → HasParent name → parent_of name ≡ Some (above name)
-has_parent [] h = absurd (h refl)
-has_parent (x ∷ name) h =
-    let some : nat_eq (length (x ∷ name)) 0 ≡ false = grind (arith, nat_tests) in
-    ap (λ b. cond b None (Some (above (x ∷ name)))) some
-
 pub has_its_needs : (program : Raw) (owned : Owned) (stack : Stack) → IsValid program
     → IsStandingControl program owned (Running stack) → HasItsNeeds program owned stack
 has_its_needs program owned stack valid h =
@@ -252,5 +243,4 @@ has_its_needs program owned stack valid h =
       homes = subst (λ slots. FitHomes owned slots stack.top.frame.homes) same f.2.homes;
       member = h.0.member;
       named = h.0.named;
-      parent = has_parent stack.top.task h.0.named;
     }

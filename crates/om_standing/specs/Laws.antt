@@ -1,7 +1,6 @@
 -- What is true of the runs of valid programs.
 use Rattle.std.specs.Prelude.{◌≡◌, ℕ, ◌≤◌, List, ◌∷◌, ◌++◌, Some, length}
 use Rattle.om_foot.specs.declared.object.Obj.TheVariants as obj
-use Rattle.om_foot.specs.Names.{above, parent_of}
 use Rattle.om_code.specs.declared.instruction.Instr.{Instr}
 use Rattle.om_code.specs.declared.raw.Raw.{Raw}
 use Rattle.om_code.specs.Places.{instruction_at, slots_of}
@@ -38,7 +37,7 @@ RunsStand = (program : Raw) (workers : ℕ) (ls : List Label) (s : State) → Is
     → replay (rules_of program workers) ls ≡ Some s → IsStanding program (HasRun program workers ls) s
 
 -- what the next instruction of a stack needs: itself, its operands, all that it names, a home for each slot, a thread of
--- its team, and a task with a parent, whose name is the task's without its last number
+-- its team, and a task whose name has a number
 pub record HasItsNeeds (program : Raw) (owned : Owned) (stack : Stack) : Type 0 where
   pub instruction : Instr
   pub there : instruction_at program stack.top.frame.body stack.top.frame.next ≡ Some instruction
@@ -47,7 +46,6 @@ pub record HasItsNeeds (program : Raw) (owned : Owned) (stack : Stack) : Type 0 
   pub homes : FitHomes owned (slots_of program stack.top.frame.body) stack.top.frame.homes
   pub member : IsMember stack.top.team
   pub named : HasParent stack.top.task
-  pub parent : parent_of stack.top.task ≡ Some (above stack.top.task)
 
 -- in each state of its runs, each worker that runs has what its next instruction needs
 abbrev pub WorkersHaveNeeds : Type 0

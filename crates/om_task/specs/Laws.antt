@@ -1,6 +1,7 @@
 -- What is true of the runs of every program.
 use Rattle.std.specs.Prelude.{◌≡◌, ℕ, ◌≤◌, ℤ, pos, true, Some, List, ◌∷◌, length}
 use Rattle.om_code.specs.declared.raw.Raw.{Raw}
+use Rattle.om_values.specs.declared.control.Context.{Context}
 use Rattle.om_values.specs.declared.step.Choice.TheVariants.{Start}
 use Rattle.om_values.specs.declared.step.Label.{Label}
 use Rattle.om_values.specs.declared.step.Outcome.TheVariants.{Updates}
@@ -10,11 +11,13 @@ use Rattle.om_values.specs.declared.value.Val.TheVariants.{Count}
 use Rattle.om_values.specs.Rules.{Rules, replay, step_at, control_access}
 use Rattle.om_values.specs.State.{State}
 use Rattle.om_values.specs.Values.{control_in}
+use Rattle.om_foot.specs.Names.{above}
 use Rattle.om_foot.specs.declared.object.Obj.{Obj}
 use Rattle.om_foot.specs.declared.object.Obj.TheVariants as obj
 use Rattle.om_team.specs.Counters.{StateWithin}
 use Rattle.om_task.specs.Rules.{rules_of, is_at_scheduling_point}
 use Rattle.om_task.specs.Steps.{AddOnce, AreModest}
+use Rattle.om_task.specs.Tasks.{born}
 
 -- after n steps from the start no counter is above n
 abbrev pub LowCounters : Type 0
@@ -35,3 +38,7 @@ abbrev pub StartsAtSchedulingPoints : Type 0
 StartsAtSchedulingPoints = (program : Raw) (workers worker : ℕ) (task : List ℕ) (s : State) (us : List Update)
     → (step_at (rules_of program workers) s (record { worker = worker; choice = Start task })).outcome ≡ Updates us
     → is_at_scheduling_point program (control_in (s (obj.Control worker))) ≡ true
+
+-- the name of what is born of a task, a task or a team or a group, is that of the task with one number more
+abbrev pub BornBelow : Type 0
+BornBelow = (context : Context) (new : List ℕ) → born context ≡ Some new → above new ≡ context.task

@@ -1,6 +1,6 @@
 //! Laws of the rules of every program.
 
-ghost use Rattle.om_task.specs.Laws.{LowCounters, CalmRules, StartsAtSchedulingPoints};
+ghost use Rattle.om_task.specs.Laws.{LowCounters, CalmRules, StartsAtSchedulingPoints, BornBelow};
 ghost use Rattle.om_task.specs.Shapes.{ShapedRules};
 
 /// A state that n steps lead to has no counter above n: so fewer than 2^63 steps leave room in each
@@ -26,4 +26,10 @@ pub fn shaped_rules()
 /// elsewhere no start is a step.
 pub fn starts_at_scheduling_points()
     ensures { StartsAtSchedulingPoints }
+{}
+
+/// What is born of a task, as a task that it makes, has the task's name above its own. So a task's end
+/// counts for the task that made it.
+pub fn born_below()
+    ensures { BornBelow }
 {}

@@ -1,7 +1,7 @@
 -- Matter of proofs: a machine may cross threads, so that it may be sent to another one.
 use Rattle.std.proofs.Crossing.{crosses}
 use Rattle.std.proofs.MapsCrossingOver.{crosses as maps}
-use denote.Param.Send.{IsSend, sendable}
+use denote.Param.Send.{IsSend, IsSync, sendable}
 use Rattle.om_foot.specs.contracts.object.Obj as object
 use Rattle.om_foot.specs.contracts.part.Part as part
 use Rattle.om_cells.specs.contracts.place.Place as place
@@ -22,6 +22,8 @@ use Rattle.om_touches.specs.contracts.objects.ObjectTouches as object_touches
 use Rattle.om_foot.specs.contracts.offsets.Offsets as offsets
 use Rattle.om_touches.specs.contracts.own.OwnEntries as own
 use Rattle.om_foot.specs.contracts.serials.Serials as serials
+use Rattle.om_foot.specs.contracts.object_accesses.ObjectAccesses as object_accesses
+use Rattle.om_foot.specs.contracts.shared_access.ObjectAccess as object_access
 use Rattle.om_foot.specs.contracts.shared_access.SharedAccess as shared_access
 use Rattle.om_touches.specs.contracts.singles.SingleTouches as single_touches
 use Rattle.om_touches.specs.contracts.slots.SlotTouches as slot_touches
@@ -37,17 +39,38 @@ use Rattle.om_undo.specs.Lists.{seq_send}
 use Rattle.om_undo.specs.Live.{trail_send}
 use Rattle.om_undo.specs.Names.{name_send, object_send, object_sync}
 use Rattle.om_undo.specs.Programs.{program_send}
-use Rattle.om_undo.specs.Shared.{shared_send}
+use Rattle.om_undo.specs.Shared.{shared_send, shared_sync}
 use Rattle.om_undo.specs.Values.{value_send, update_send}
 
 objects_send : IsSend (shared.the_row object.the_row)
 objects_send = shared_send object.the_row (search (object_send, sendable)) (search (object_sync, sendable))
 
+objects_sync : IsSync (shared.the_row object.the_row)
+objects_sync = shared_sync object.the_row (search (object_send, sendable)) (search (object_sync, sendable))
+
 shared_object_send : IsSend shared_object.the_row
 shared_object_send = search (objects_send, sendable) depth 40
 
+shared_object_sync : IsSync shared_object.the_row
+shared_object_sync = search (objects_sync, sendable) depth 40
+
+object_access_send : IsSend object_access.the_row
+object_access_send = search (shared_object_send, sendable) depth 40
+
+object_access_sync : IsSync object_access.the_row
+object_access_sync = search (shared_object_sync, sendable) depth 40
+
+moded_send : IsSend (shared.the_row object_access.the_row)
+moded_send = shared_send object_access.the_row object_access_send object_access_sync
+
+shared_access_send : IsSend shared_access.the_row
+shared_access_send = search (moded_send, sendable) depth 40
+
+object_accesses_send : IsSend object_accesses.the_row
+object_accesses_send = search (shared_object_send, shared_access_send, sendable) depth 40
+
 place_send : IsSend place.the_row
-place_send = search (shared_object_send, value_send, sendable) depth 40
+place_send = search (object_accesses_send, value_send, sendable) depth 40
 
 shared_cells_send : IsSend shared_cells.the_row
 shared_cells_send = search (shared_object_send, sendable) depth 40
@@ -56,7 +79,7 @@ was_send : IsSend was.the_field.row
 was_send = search (value_send, sendable) depth 40
 
 slot_place_send : IsSend slot_place.the_field.row
-slot_place_send = search (shared_object_send, shared_cells_send, value_send, maps, crosses, sendable) depth 40
+slot_place_send = search (object_accesses_send, shared_cells_send, value_send, maps, crosses, sendable) depth 40
 
 slots_send : IsSend slots.the_field.row
 slots_send = search (name_send, slot_place_send, maps, crosses, sendable) depth 40
@@ -72,9 +95,6 @@ values_send = search (name_send, places_send, slots_send, maps, crosses, sendabl
 
 store_send : IsSend store.the_field.row
 store_send = search (trail_send, values_send, crosses, sendable) depth 40
-
-shared_access_send : IsSend shared_access.the_row
-shared_access_send = search (shared_object_send, sendable) depth 40
 
 accesses_send : IsSend accesses.the_row
 accesses_send = search (shared_access_send, shared_cells_send, seq_send, crosses, sendable) depth 40

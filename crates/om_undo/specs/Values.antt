@@ -10,6 +10,7 @@ use Rattle.om_values.specs.contracts.control.Control as control
 use Rattle.om_values.specs.contracts.control.Frame as frame
 use Rattle.om_values.specs.contracts.control.Home as home
 use Rattle.om_values.specs.contracts.control.Team as team
+use Rattle.om_values.specs.contracts.shared_team.SharedTeam as shared_team
 use Rattle.om_foot.specs.contracts.shared.Shared as shared
 use Rattle.om_values.specs.contracts.shared_control.SharedControl as shared_control
 use Rattle.om_values.specs.contracts.shared_pile.SharedPile as stack
@@ -48,11 +49,17 @@ team_send = search (names_send, sendable) depth 40
 team_sync : IsSync team.the_row
 team_sync = search (names_sync, sendable) depth 40
 
-pub teams_send : IsSend (shared.the_row team.the_row)
-teams_send = shared_send _ team_send team_sync
+places_send : IsSend (shared.the_row team.the_row)
+places_send = shared_send _ team_send team_sync
 
-teams_sync : IsSync (shared.the_row team.the_row)
-teams_sync = shared_sync _ team_send team_sync
+places_sync : IsSync (shared.the_row team.the_row)
+places_sync = shared_sync _ team_send team_sync
+
+pub teams_send : IsSend shared_team.the_row
+teams_send = search (places_send, sendable) depth 40
+
+teams_sync : IsSync shared_team.the_row
+teams_sync = search (places_sync, sendable) depth 40
 
 group_send : IsSend (option.the_row name.the_row)
 group_send = search (name_send, sendable) depth 20

@@ -9,7 +9,7 @@ use Rattle.om_values.specs.declared.control.Sharing.TheVariants as sharing
 abbrev pub IsInt : ℤ → Type 0
 IsInt v = is_int v ≡ true
 
--- the value of an iteration
+-- the value of an iteration (OpenMP 5.2, 4.4.2)
 abbrev pub value_of : ℤ → ℤ → ℕ → ℤ
 value_of lower step iteration = lower +ℤ pos iteration *ℤ step
 

@@ -6,8 +6,8 @@ ghost use Rattle.om_values.specs.OpenShares.{ShareHasInts};
 use crate::control::Share;
 use std::marker::Model;
 
-/// A member's place in a loop or in sections, whose chunk ends behind its last iteration at most. The
-/// value of each iteration of a loop is an `int`.
+/// A member's place in a loop or in sections. Its chunk does not reach past the last iteration, and each
+/// iteration of a loop has an `int` as its value.
 ///
 /// Contracts see the place alone.
 #[derive(Clone, Copy)]
