@@ -19,7 +19,7 @@ use Rattle.om_share.specs.Chunks.{step_size, rounded_up, rounded_down, count_of,
 use Rattle.om_share.specs.Chunks.{block_size, block_start, block, static_chunk}
 use Rattle.om_share.specs.Rows.{is_right_form, is_right_schedule, loop_of}
 
-pub fits : (v : ℤ) → IsInt v → FitsSigned w32 v
+fits : (v : ℤ) → IsInt v → FitsSigned w32 v
 fits (pos n) e = let lt : n < 2 ^ 31 = ltb-true n (2 ^ 31) e in omega (arith, ints, lt)
 fits (negsuc n) e = let lt : n < 2 ^ 31 = ltb-true n (2 ^ 31) e in omega (arith, ints, lt)
 

@@ -40,7 +40,7 @@ pub record IsProgramOf (source : List ℕ) (program : Raw) : Type 0 where
   pub within : AreWithin resolved
   pub code : IsCodeOf resolved program
 
--- no tree has these tokens (at which of them S3 stands, only `refusal_of` says), a limit is passed at this place, or a
+-- no tree has these tokens (where S3 then stands, `om_parser/specs/Halts` says), a limit is passed at this place, or a
 -- directive is refused there
 abbrev pub IsSyntaxFault : List Token → SourceFault → Type 0
 IsSyntaxFault tokens fault = ((fault.code ≡ Syntax) × ((tree : UnitTree) → ¬ IsTreeOf tokens tree))

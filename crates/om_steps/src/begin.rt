@@ -16,7 +16,8 @@ pub struct Standing {
     pub group: Shared<Option<Name>>,
 }
 
-/// Where a task stands that is in no group. Its only error is out of memory.
+/// Where a task stands that is in no group. Its thread number is below the size of its team. The only
+/// error is out of memory.
 pub fn in_no_group(alloc: Global, task: &Name, team: &Team) -> Result<Standing, AllocError>
     requires { team.now.number < team.now.size }
     ensures { IfOk result (λ s. s ≡ record { task = task.now; team = team.now; group = None }) }

@@ -38,6 +38,7 @@ pub struct Planning<'a> {
     pub workers: u8,
     /// What the worker would do.
     pub choice: &'a Choice,
+    /// There is at least one.
     pub ghost some: { 1 ≤ workers },
 }
 
@@ -193,7 +194,7 @@ fn control_plan(
 /// What the choice of a worker touches that has this control, which comes first.
 ///
 /// It looks at the program, the control and the choice alone. No counter of the control is above
-/// 2^63, as after fewer steps. The only error is out of memory.
+/// 2^63, as after fewer steps; there is at least one worker. The only error is out of memory.
 pub fn names(
     alloc: Global,
     program: &Program,
@@ -239,7 +240,8 @@ fn control_row(
 /// fault, that it is blocked, or that its code lacks something.
 ///
 /// It looks at the values alone that `names` says are read or written. No counter there is above
-/// 2^63, as after fewer steps. Nothing changes; the only error is out of memory.
+/// 2^63, as after fewer steps; there is at least one worker. Nothing changes; the only error is out of
+/// memory.
 pub fn effect(
     alloc: Global,
     program: &Program,
@@ -288,8 +290,8 @@ pub fn plan_by(
 /// The plan of the step that a worker would take by its choice at a store's state: `names` and
 /// `effect`, with its line. Its edits are not made.
 ///
-/// No counter there is above 2^63, as after fewer steps. Nothing changes; the only error is out of
-/// memory.
+/// No counter there is above 2^63, as after fewer steps; there is at least one worker. Nothing changes;
+/// the only error is out of memory.
 pub fn plan(
     alloc: Global,
     program: &Program,

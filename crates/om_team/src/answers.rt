@@ -24,6 +24,7 @@ struct Planning<'a> {
     label: &'a Label,
     // 1 to 32.
     workers: u8,
+    /// There is at least one.
     ghost some: { 1 ≤ workers },
 }
 
@@ -121,7 +122,7 @@ fn control_answer(
 /// row is one of tasks: the start of one, or an instruction of them.
 ///
 /// It looks at the program, the control and the choice alone. No counter of the control is above
-/// 2^63, as after fewer steps. The only error is out of memory.
+/// 2^63, as after fewer steps; there is at least one worker. The only error is out of memory.
 pub fn names(
     alloc: Global,
     program: &Program,
@@ -172,7 +173,8 @@ fn control_row(
 /// tasks.
 ///
 /// It looks at the values alone that `names` says are read or written. No counter there is above
-/// 2^63, as after fewer steps. Nothing changes; the only error is out of memory.
+/// 2^63, as after fewer steps; there is at least one worker. Nothing changes; the only error is out of
+/// memory.
 pub fn effect(
     alloc: Global,
     program: &Program,

@@ -36,6 +36,7 @@ pub struct Doing {
     /// How many workers there are.
     pub workers: u8,
     pub instruction: Instr,
+    /// There is at least one.
     pub ghost some: { 1 ≤ workers },
 }
 

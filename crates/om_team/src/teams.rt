@@ -40,6 +40,7 @@ pub struct Forking<'a> {
     pub body: &'a Body,
     /// The context whose task makes the team.
     pub context: &'a Context,
+    /// There is at least one.
     pub ghost some: { 1 ≤ workers },
 }
 

@@ -10,6 +10,7 @@ use Rattle.om_values.specs.contracts.control.Control as control
 use Rattle.om_values.specs.contracts.control.Frame as frame
 use Rattle.om_values.specs.contracts.control.Home as home
 use Rattle.om_values.specs.contracts.control.Team as team
+use Rattle.om_values.specs.contracts.open_share.OpenShare as open_share
 use Rattle.om_values.specs.contracts.shared_team.SharedTeam as shared_team
 use Rattle.om_foot.specs.contracts.shared.Shared as shared
 use Rattle.om_values.specs.contracts.shared_control.SharedControl as shared_control
@@ -74,11 +75,17 @@ groups_sync : IsSync (shared.the_row (option.the_row name.the_row))
 groups_sync = shared_sync _ group_send group_sync
 
 -- ---- what a worker works on
+open_share_send : IsSend open_share.the_row
+open_share_send = search sendable depth 40 fits 20000
+
+open_share_sync : IsSync open_share.the_row
+open_share_sync = search sendable depth 40 fits 20000
+
 pub construct_send : IsSend construct.the_row
-construct_send = search (name_send, sendable) depth 40 fits 20000
+construct_send = search (name_send, open_share_send, sendable) depth 40 fits 20000
 
 pub construct_sync : IsSync construct.the_row
-construct_sync = search (name_sync, sendable) depth 40 fits 20000
+construct_sync = search (name_sync, open_share_sync, sendable) depth 40 fits 20000
 
 constructs_send : IsSend (stack.the_row construct.the_row)
 constructs_send = stack_send _ construct_send construct_sync
