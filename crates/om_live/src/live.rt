@@ -8,8 +8,8 @@ use crate::control::{Context, Control, Frame, Stack};
 use crate::tape::Tape;
 use om_foot::{Name, Shared};
 use om_values::{
-    Construct, Context as PlainContext, Control as PlainControl, Frame as PlainFrame,
-    SharedTeam, Stack as PlainStack,
+    Construct, Context as PlainContext, Control as PlainControl, Frame as PlainFrame, SharedTeam,
+    Stack as PlainStack,
 };
 use std::alloc::{AllocError, Global};
 
