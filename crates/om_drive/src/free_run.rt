@@ -1,6 +1,7 @@
 //! Free runs over a book: all workers step at once, each in a thread and through a seat of its own.
 
 ghost use Rattle.std.specs.Prelude.{◌≡◌, ◌≤◌, IfOk, IfErr, true, drop, length, vec_len};
+ghost use Rattle.om_book.specs.Books.{is_full};
 ghost use Rattle.om_book.specs.Seats.{seats_below};
 ghost use Rattle.om_journal.specs.Journals.{IsLegal, done_in};
 ghost use Rattle.om_drive.specs.FreeRuns.{GoesOn, gained};
@@ -30,7 +31,7 @@ pub struct Errand<'a, R> {
 pub struct Count {
     /// How many steps were made.
     pub done: u64,
-    /// Whether a worker found no room for a record.
+    /// Whether a worker found no room for a record. The book is full then.
     pub full: bool,
 }
 
@@ -48,6 +49,7 @@ pub fn run_freely<R: Threads + Wait + Sync>(
     ensures goes_on { GoesOn book.old book.new }
     ensures done { IfOk result (λ count. count.done ≡ done_in (gained book.old book.new)) }
     ensures own { IfOk result (λ count. AreOwnCalls (gained book.old book.new)) }
+    ensures full { IfOk result (λ count. count.full ≡ true → is_full book.new ≡ true) }
 {
     replace_with(
         book,
@@ -56,6 +58,7 @@ pub fn run_freely<R: Threads + Wait + Sync>(
             ensures goes_on { GoesOn book result.0 }
             ensures done { IfOk result.1 (λ count. count.done ≡ done_in (gained book result.0)) }
             ensures own { IfOk result.1 (λ count. AreOwnCalls (gained book result.0)) }
+            ensures full { IfOk result.1 (λ count. count.full ≡ true → is_full result.0 ≡ true) }
         { ran_freely(errand, book) },
     )
 }
@@ -69,6 +72,7 @@ fn ran_freely<R: Threads + Wait + Sync>(
     ensures goes_on { GoesOn book result.0 }
     ensures done { IfOk result.1 (λ count. count.done ≡ done_in (gained book result.0)) }
     ensures own { IfOk result.1 (λ count. AreOwnCalls (gained book result.0)) }
+    ensures full { IfOk result.1 (λ count. count.full ≡ true → is_full result.0 ≡ true) }
 {
     let workers = book.machine().workers();
     let Ok(gates) = open_gates(errand.alloc, workers) else {
@@ -133,6 +137,7 @@ fn run_through<L: Sitting + Send + Sync, R: Threads + Wait + Sync>(
     ensures goes_on { GoesOn book result.0 }
     ensures done { IfOk result.1 (λ count. count.done ≡ done_in (gained book result.0)) }
     ensures own { IfOk result.1 (λ count. AreOwnCalls (gained book result.0)) }
+    ensures full { IfOk result.1 (λ count. count.full ≡ true → is_full result.0 ≡ true) }
 {
     let before = book.journal().len();
     let (session, seats) = match opened::<L>(errand.alloc, blank, book) {
@@ -168,12 +173,15 @@ fn is_whole(all_stand: bool, fault: Option<Fault>) -> bool
 
 /// A book behind a free run that found it with so many calls, and what the run came to. It is out of
 /// memory where the run is not whole.
+///
+/// A book keeps its records. So one in which a worker found no room is still full.
 fn counted(book: Book, before: usize, full: bool, whole: bool) -> (Book, Result<Count, AllocError>)
     requires { before ≤ length book.journal }
     ensures book { result.0 ≡ book }
     ensures legal { IsLegal book.start book.journal }
     ensures done { IfOk result.1 (λ count. count.done ≡ done_in (drop before book.journal)) }
     ensures whole { IfOk result.1 (λ count. whole ≡ true) }
+    ensures full { IfOk result.1 (λ count. count.full ≡ true → is_full result.0 ≡ true) }
 {
     // Each reply in it is that of its command.
     let _answered = book.journal();
@@ -181,5 +189,6 @@ fn counted(book: Book, before: usize, full: bool, whole: bool) -> (Book, Result<
         return (book, Err(AllocError));
     }
     let done = book.steps_behind(before);
+    let full = full & book.is_full();
     (book, Ok(Count { done, full }))
 }
