@@ -1,9 +1,9 @@
 -- Free runs: all workers step at once, in whatever order they come to the lock.
-use Rattle.std.specs.Prelude.{◌≡◌, ℕ, Bool, true, false, cond, List, [], ◌∷◌}
+use Rattle.std.specs.Prelude.{◌≡◌, ℕ, Bool, true, false, ◌&&◌, cond, List, [], ◌∷◌}
 use Rattle.std.specs.List.{AllByRecursion}
 use Rattle.om_drive.specs.FreeRuns.{with_records}
 use Rattle.om_drive.specs.OwnCalls.{is_own_call}
-use Rattle.om_book.specs.Books.{BookView, machine_of}
+use Rattle.om_book.specs.Books.{BookView, is_full, machine_of}
 use Rattle.om_journal.specs.Journals.{done_in}
 use Rattle.om_journal.specs.Runs.{after, reply_to}
 use Rattle.om_journal.specs.declared.journal.JournalRecord.{JournalRecord}
@@ -43,9 +43,13 @@ records_by m (c ∷ cs) =
 abbrev pub made_by : FreeRun → BookView → List JournalRecord
 made_by run b = records_by (machine_of b) run.calls
 
--- `free K`
+-- the book behind it
+abbrev pub freed_book : FreeRun → BookView → BookView
+freed_book run b = with_records b (made_by run b)
+
+-- `free K`: it says `full` only where there is no room in the book behind it
 abbrev pub free_said : FreeRun → BookView → Said
 free_said run b = record {
-  text = cond run.full full_text (freed_text (done_in (made_by run b)));
-  book = with_records b (made_by run b);
+  text = cond (run.full && is_full (freed_book run b)) full_text (freed_text (done_in (made_by run b)));
+  book = freed_book run b;
 }
