@@ -9,7 +9,7 @@ use crate::rounds::{most_rounds, order_at};
 use crate::session::{Seat, Sitting};
 use om_journal::{Command, Reply};
 
-/// Where the receipt of a call lies; it is looked for at `mark` first.
+// Where the receipt of a call lies; it is looked for at `mark` first.
 #[tactic(auto, using(crate::proofs::Backed::all_more, crate::proofs::Backed::all_of, crate::proofs::Backed::none_there))]
 fn found_at(
     receipts: &[Receipt],
@@ -34,7 +34,7 @@ fn found_at(
     None
 }
 
-/// Whether there is the receipt of an order's command with this reply. The mark goes behind it.
+// Whether there is the receipt of an order's command with this reply. The mark goes behind it.
 fn is_receipted(
     receipts: &[Receipt],
     mark: &mut usize,
@@ -55,7 +55,7 @@ fn is_receipted(
     true
 }
 
-/// Whether an answer is that of an order, and has its receipt where it has a reply.
+// Whether an answer is that of an order, and has its receipt where it has a reply.
 fn is_backed(receipts: &[Receipt], mark: &mut usize, order: &Order, answer: &Answer) -> bool
     ensures { IsTrue result
         ↔ IsBacked (record { receipts = receipts.now; order = order.now }) answer.now }
@@ -69,12 +69,12 @@ fn is_backed(receipts: &[Receipt], mark: &mut usize, order: &Order, answer: &Ans
     }
 }
 
-/// Answers that are compared: those in front already, and kept.
+// Answers that are compared: those in front already, and kept.
 #[derive(Drop)]
 struct Walk {
     answers: Vec<Answer>,
     at: usize,
-    /// `false` only where no answer was left out.
+    // `false` only where no answer was left out.
     strange: bool,
 }
 
@@ -96,8 +96,8 @@ pub struct KeptAnswers {
 }
 
 impl Walk {
-    /// Compares the next answer with an order and the receipts of its seat, and keeps it or leaves
-    /// it out.
+    // Compares the next answer with an order and the receipts of its seat, and keeps it or leaves
+    // it out.
     #[tactic(auto, using(crate::proofs::Backed::passes_kept, crate::proofs::Backed::passes_without, crate::proofs::Backed::passes_end))]
     fn take_turn(&mut self, receipts: &[Receipt], mark: &mut usize, order: &Order)
         requires { self.old.at ≤ vec_len self.old.answers }
@@ -118,7 +118,7 @@ impl Walk {
         }
     }
 
-    /// Takes a turn where there is an order.
+    // Takes a turn where there is an order.
     #[tactic(auto, using(crate::proofs::Backed::passes_none))]
     fn take_turn_if(&mut self, receipts: &[Receipt], mark: &mut usize, order: Option<Order>)
         requires { self.old.at ≤ vec_len self.old.answers }
@@ -133,7 +133,7 @@ impl Walk {
         }
     }
 
-    /// Takes the turns of a round. Each seat has a mark, behind its receipt that was found last.
+    // Takes the turns of a round. Each seat has a mark, behind its receipt that was found last.
     fn take_round<L: Sitting>(&mut self, rows: &Rows<'_, L>, marks: &mut [usize], round: usize)
         requires within { self.old.at ≤ vec_len self.old.answers }
         requires marks { length marks.old ≡ length rows.now.seats.now }
@@ -154,7 +154,7 @@ impl Walk {
         }
     }
 
-    /// Leaves out the answers that no order is left for.
+    // Leaves out the answers that no order is left for.
     fn end(&mut self)
         requires { self.old.at ≤ vec_len self.old.answers }
         ensures kept { self.new.answers.items ≡ take self.old.at self.old.answers.items }

@@ -137,7 +137,7 @@ impl Book {
         }
     }
 
-    /// There is room for one more record, or the error is `Full`.
+    // There is room for one more record, or the error is `Full`.
     fn has_room(&self) -> Result<(), CallError>
         ensures room { OnOk result (records_of self.now < 200000) }
         ensures full { IfErr result (λ e. (e ≡ CallError.Full) × (200000 ≤ records_of self.now)) }
@@ -258,7 +258,7 @@ impl Book {
     }
 }
 
-/// Does what a command asks, and adds its record. When out of memory, nothing changes.
+// Does what a command asks, and adds its record. When out of memory, nothing changes.
 fn append_call(
     alloc: Global,
     machine: &mut Machine,
@@ -286,7 +286,7 @@ fn append_call(
     Ok(())
 }
 
-/// The command of a planned step, to be kept, with room for its record. Its only error is out of memory.
+// The command of a planned step, to be kept, with room for its record. Its only error is out of memory.
 fn prepared(
     alloc: Global,
     journal: &mut Vec<JournalRecord>,
@@ -300,7 +300,7 @@ fn prepared(
     KeptCommand::of_step(alloc, step.worker(), &step.choice())
 }
 
-/// Takes a planned step, and adds its record. When out of memory, nothing changes.
+// Takes a planned step, and adds its record. When out of memory, nothing changes.
 fn append_step(
     alloc: Global,
     machine: &mut Machine,
@@ -335,7 +335,7 @@ fn append_step(
     Ok(reply)
 }
 
-/// Takes a worker's last step back, and adds the record of the undo. When out of memory, nothing changes.
+// Takes a worker's last step back, and adds the record of the undo. When out of memory, nothing changes.
 fn append_undo(
     alloc: Global,
     machine: &mut Machine,
@@ -364,8 +364,8 @@ fn append_undo(
     Ok(())
 }
 
-/// Does what a command asks, and adds its record; the reply comes twice. When out of memory, nothing
-/// changes.
+// Does what a command asks, and adds its record; the reply comes twice. When out of memory, nothing
+// changes.
 fn append_thrice(
     alloc: Global,
     machine: &mut Machine,

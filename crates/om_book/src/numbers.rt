@@ -20,7 +20,7 @@ pub fn numbers_differ(alloc: Global, orders: &[Vec<Order>]) -> Result<bool, Allo
     are_distinct(alloc, numbers.as_slice())
 }
 
-/// The numbers of all orders, round by round.
+// The numbers of all orders, round by round.
 fn numbers_in(alloc: Global, orders: &[Vec<Order>]) -> Result<Vec<u64>, AllocError>
     ensures { IfOk result (λ numbers. numbers.items ≡ in_rounds (λ o. o.items) orders.now) }
 {
@@ -32,7 +32,7 @@ fn numbers_in(alloc: Global, orders: &[Vec<Order>]) -> Result<Vec<u64>, AllocErr
     Ok(numbers)
 }
 
-/// Adds the numbers of a round.
+// Adds the numbers of a round.
 fn add_round(numbers: &mut Vec<u64>, orders: &[Vec<Order>], round: usize) -> Result<(), AllocError>
     ensures { OnOk result (numbers.new.items
         ≡ numbers.old.items ++ round_at (λ o. o.items) round orders.now) }
@@ -43,7 +43,7 @@ fn add_round(numbers: &mut Vec<u64>, orders: &[Vec<Order>], round: usize) -> Res
     Ok(())
 }
 
-/// Adds the number of an order, where there is one.
+// Adds the number of an order, where there is one.
 fn add_number(numbers: &mut Vec<u64>, order: Option<Order>) -> Result<(), AllocError>
     ensures { OnOk result (numbers.new.items ≡ numbers.old.items ++ listed order) }
 {
@@ -53,7 +53,7 @@ fn add_number(numbers: &mut Vec<u64>, order: Option<Order>) -> Result<(), AllocE
     Ok(())
 }
 
-/// Whether no two of these numbers are the same: then a set of them has as many.
+// Whether no two of these numbers are the same: then a set of them has as many.
 #[tactic(auto, using(crate::proofs::Distinct::as_many_differ))]
 fn are_distinct(alloc: Global, numbers: &[u64]) -> Result<bool, AllocError>
     ensures { IfOk result (λ differ. IsTrue differ ↔ AllPairs (λ n m. n ≢ m) numbers.now) }
@@ -62,7 +62,7 @@ fn are_distinct(alloc: Global, numbers: &[u64]) -> Result<bool, AllocError>
     Ok(different.len() == numbers.len())
 }
 
-/// The set of these numbers.
+// The set of these numbers.
 fn set_of(alloc: Global, numbers: &[u64]) -> Result<BTreeSet<u64>, AllocError>
     ensures { IfOk result (IsFromIterResult nat_cmp numbers.now) }
 {

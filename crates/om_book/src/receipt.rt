@@ -28,8 +28,8 @@ impl Receipt {
     }
 }
 
-/// Whether a receipt's place is below neither the opening nor `low`, and the seat's call is recorded
-/// there as the receipt says.
+// Whether a receipt's place is below neither the opening nor `low`, and the seat's call is recorded
+// there as the receipt says.
 fn stands(journal: &[JournalRecord], seat: u8, opened: usize, low: u128, receipt: &Receipt) -> bool
     requires { length journal.now ≤ 200000 }
     ensures { IsTrue result ↔ Stands journal.now seat opened low receipt.now }

@@ -57,7 +57,7 @@ impl Blank {
     }
 }
 
-/// What lies under the lock: the book, and the total of the seats' calls.
+// What lies under the lock: the book, and the total of the seats' calls.
 #[derive(Drop)]
 struct Desk<L: Sitting> {
     book: Book,
@@ -92,7 +92,7 @@ impl<L: Sitting> Model for Seat<L> {
 }
 
 impl<L: Sitting> Seat<L> {
-    /// A seat that has not called.
+    // A seat that has not called.
     fn new(alloc: Global, number: u8, share: Share<L>) -> Seat<L>
         requires { (share.parts ≡ 1) × (share.amount ≡ 0) }
         ensures { result ≡ record { number = number; receipts = [] } }
@@ -120,7 +120,7 @@ impl<L: Sitting> Seat<L> {
 }
 
 impl<L: Sitting> Desk<L> {
-    /// Applies a seat's command, and counts the call where it was answered.
+    // Applies a seat's command, and counts the call where it was answered.
     fn call(
         &mut self,
         alloc: Global,
@@ -330,8 +330,8 @@ impl<L: Sitting> Session<L> {
     }
 }
 
-/// Makes so many seats, numbered from 0, each with one part of a share. When out of memory, some of
-/// them are made.
+// Makes so many seats, numbered from 0, each with one part of a share. When out of memory, some of
+// them are made.
 #[tactic(auto, using(crate::proofs::Counting::seats_below_next))]
 fn seat_all<L: Sitting>(
     alloc: Global,
@@ -356,7 +356,7 @@ fn seat_all<L: Sitting>(
     Ok(())
 }
 
-/// With all parts together, the seats' receipts are the total of the calls. Changes nothing.
+// With all parts together, the seats' receipts are the total of the calls. Changes nothing.
 fn audit<L: Sitting>(calls: &mut ledger::Book<L>, seats: &mut [Seat<L>], seen: &mut Share<L>)
     requires all { L.parts ≤ seen.old.parts + length seats.old }
     requires apart { seen.old.parts ≤ L.parts }
@@ -378,7 +378,7 @@ fn audit<L: Sitting>(calls: &mut ledger::Book<L>, seats: &mut [Seat<L>], seen: &
     }
 }
 
-/// How many receipts of all seats stand.
+// How many receipts of all seats stand.
 fn standing_in_all<L: Sitting>(journal: &[JournalRecord], opened: usize, seats: &[Seat<L>]) -> usize
     requires journal { length journal.now ≤ 200000 }
     requires receipts { sum_by receipts_in seats.now < 2 ^ 64 }

@@ -8,14 +8,14 @@ use std::alloc::{AllocError, Global};
 use std::sync::Wait;
 use std::thread::Threads;
 
-/// What the debugger says of a beginning.
+// What the debugger says of a beginning.
 #[derive(Clone, Copy, PartialEq)]
 enum Answer {
-    /// Nothing, with status 0.
+    // Nothing, with status 0.
     Accepted,
-    /// The line of a refusal by the rule of this number, and nothing else, with status 1.
+    // The line of a refusal by the rule of this number, and nothing else, with status 1.
     Refused(u32),
-    /// Anything else.
+    // Anything else.
     Wrong,
 }
 
@@ -43,7 +43,7 @@ pub(crate) fn add_beginnings<R: Threads + Wait + Sync>(
     Ok(())
 }
 
-/// What the debugger says in what it told.
+// What the debugger says in what it told.
 fn answer_in(told: &Told) -> Answer {
     let text = str::from_utf8(told.text.as_slice()).unwrap_or("no text");
     match told.status {
@@ -56,8 +56,8 @@ fn answer_in(told: &Told) -> Answer {
     }
 }
 
-/// The number of the rule by which a source is refused, where a text is one line that says so, as
-/// `refused S3 line 1 column 36`.
+// The number of the rule by which a source is refused, where a text is one line that says so, as
+// `refused S3 line 1 column 36`.
 fn refusal_in(text: &str) -> Option<u32> {
     let line = text.strip_suffix("\n")?;
     let (rule, place) = line.strip_prefix("refused S")?.split_once(" line ")?;
@@ -67,7 +67,7 @@ fn refusal_in(text: &str) -> Option<u32> {
     rule.parse().ok()
 }
 
-/// Adds what is said of the beginnings from this many bytes on.
+// Adds what is said of the beginnings from this many bytes on.
 fn add_answer(report: &mut String, bytes: usize, answer: Answer) -> Result<(), AllocError> {
     match answer {
         Answer::Accepted => write!(report, "from {bytes} bytes: accepted\n"),

@@ -6,10 +6,10 @@ use std::alloc::{AllocError, Global};
 use std::sync::Wait;
 use std::thread::Threads;
 
-/// A program of eight steps by one worker: two for the first statement, four for the second, two to return.
+// A program of eight steps by one worker: two for the first statement, four for the second, two to return.
 const SOURCE: &str = "int x; int main(void){ x = 1; x = x + 2; return x; }";
 
-/// How many looks leave room for two records.
+// How many looks leave room for two records.
 const LOOKS: u32 = 199_998;
 
 /// Whether a journal that gets full in the middle of a run has the two steps that found room.
@@ -51,7 +51,7 @@ pub(crate) fn book_has_a_free_run<R: Threads + Wait + Sync>(
     Ok(entries.len() == 8 && book.journal().len() == 18 && seconds == 8)
 }
 
-/// The book that commands leave, by two workers.
+// The book that commands leave, by two workers.
 fn book_behind<R: Threads + Wait + Sync>(rt: &R, alloc: Global, commands: &str) -> Option<Book> {
     let mut reader = commands.as_bytes();
     let mut writer = Vec::new(alloc);

@@ -6,7 +6,7 @@ use om_lower::{Var, global_named, line_of, variable_at};
 use om_shell::program_of;
 use std::alloc::{AllocError, Global};
 
-/// Line 5 becomes `CONST 1` and `STORE x`, and line 6 `FIN 0`.
+// Line 5 becomes `CONST 1` and `STORE x`, and line 6 `FIN 0`.
 const SOURCE: &str = "int w[2],\nx;\n\nint main(void) {\nx = 1;\n}\n";
 
 /// Whether the lines of instructions and the numbers of globals are found, and no others.
@@ -18,7 +18,7 @@ pub(crate) fn lines_and_names_are_found(alloc: Global) -> Result<bool, AllocErro
     }
 }
 
-/// Whether each instruction has its line, and what is none has line 0.
+// Whether each instruction has its line, and what is none has line 0.
 fn has_lines(program: &Program) -> bool {
     let lines = [
         line_of(program, 0, 0),
@@ -30,7 +30,7 @@ fn has_lines(program: &Program) -> bool {
     lines == [5, 5, 6, 0, 0]
 }
 
-/// Whether each global variable has its number, and no other name has one.
+// Whether each global variable has its number, and no other name has one.
 fn has_names(program: &Program) -> bool {
     let numbers = [
         global_named(program, b"w"),
@@ -40,7 +40,7 @@ fn has_names(program: &Program) -> bool {
     numbers == [Some(0), Some(1), None]
 }
 
-/// Whether a name means the global variable of that name at an instruction of `main`, and no other name means one.
+// Whether a name means the global variable of that name at an instruction of `main`, and no other name means one.
 fn has_meanings(program: &Program) -> bool {
     let meant = [
         variable_at(program, 0, 0, b"x"),

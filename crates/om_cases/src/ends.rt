@@ -6,18 +6,18 @@ use std::alloc::Global;
 use std::sync::Wait;
 use std::thread::Threads;
 
-/// The input of a session of two workers, and all that is written in it.
+// The input of a session of two workers, and all that is written in it.
 #[derive(Clone, Copy)]
 struct Script {
     input: &'static str,
     output: &'static str,
-    /// How many reads there are at two bytes each. The last one tells the end.
+    // How many reads there are at two bytes each. The last one tells the end.
     reads: u64,
-    /// How many writes and flushes there are: one of each for a command, and a flush at the end.
+    // How many writes and flushes there are: one of each for a command, and a flush at the end.
     calls: u64,
 }
 
-/// One worker's steps, two workers' lost update, and a Fibonacci number by tasks.
+// One worker's steps, two workers' lost update, and a Fibonacci number by tasks.
 const SCRIPTS: [Script; 3] = [
     Script {
         input: r#"int x; int main(void){ x = 1; x = x + 2; return x; }
@@ -150,11 +150,11 @@ undone #66 worker 0 line 13
     },
 ];
 
-/// More calls of an end than any of these sessions makes.
+// More calls of an end than any of these sessions makes.
 const MANY: u64 = 10_000;
 
 impl Script {
-    /// Its input, two bytes a read; the read after so many of them fails.
+    // Its input, two bytes a read; the read after so many of them fails.
     fn reader(&self, reads_left: u64) -> Pieces<'static> {
         Pieces {
             bytes: self.input.as_bytes(),
@@ -163,7 +163,7 @@ impl Script {
         }
     }
 
-    /// Whether the answers are the same for any number of bytes that a read gives or a write takes.
+    // Whether the answers are the same for any number of bytes that a read gives or a write takes.
     fn takes_any_pieces<R: Threads + Wait + Sync>(&self, rt: &R, alloc: Global) -> bool {
         let mut all = true;
         for most in [1, 2, 3, 7, 4096] {
@@ -178,7 +178,7 @@ impl Script {
         all
     }
 
-    /// Whether a read that fails, each in turn, breaks the session off, and there are no others.
+    // Whether a read that fails, each in turn, breaks the session off, and there are no others.
     fn meets_failing_reads<R: Threads + Wait + Sync>(&self, rt: &R, alloc: Global) -> bool {
         let mut all = true;
         for reads_left in 0..self.reads {
@@ -190,7 +190,7 @@ impl Script {
         all && session_over(rt, alloc, None, self.reader(self.reads), writer).is_whole(self.output)
     }
 
-    /// Whether a write or flush that fails, each in turn, breaks the session off, and there are no others.
+    // Whether a write or flush that fails, each in turn, breaks the session off, and there are no others.
     fn meets_failing_writes<R: Threads + Wait + Sync>(&self, rt: &R, alloc: Global) -> bool {
         let mut all = true;
         for calls_left in 0..self.calls {

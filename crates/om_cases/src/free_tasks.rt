@@ -5,8 +5,8 @@ use std::alloc::{AllocError, Global};
 use std::sync::Wait;
 use std::thread::Threads;
 
-/// A program that makes 188 steps in all, whoever makes them. Behind each free run at least one
-/// more of its waits has ended: so ten suffice, in whatever order the workers come.
+// A program that makes 188 steps in all, whoever makes them. Behind each free run at least one
+// more of its waits has ended: so ten suffice, in whatever order the workers come.
 const SESSION: &str = r#"#include <stdio.h>
 int fib(int n){
 int a, b;
@@ -39,10 +39,10 @@ where 0
 output
 "#;
 
-/// How many steps the program makes.
+// How many steps the program makes.
 const STEPS: u64 = 188;
 
-/// What is written in the end.
+// What is written in the end.
 const END: &str = "worker 0 ended 0\noutput 2 bytes\n3\n\n";
 
 /// Whether free runs end the program, and say how many steps they made.
@@ -55,7 +55,7 @@ pub(crate) fn free_runs_end_tasks<R: Threads + Wait + Sync>(
     Ok(steps_freed(text) == STEPS && steps_shown(text) == STEPS && text.ends_with(END))
 }
 
-/// How many steps the answers of free runs say, in all.
+// How many steps the answers of free runs say, in all.
 fn steps_freed(text: &str) -> u64 {
     let mut steps = 0u64;
     for line in text.lines() {
@@ -66,7 +66,7 @@ fn steps_freed(text: &str) -> u64 {
     steps
 }
 
-/// How many steps the history shows.
+// How many steps the history shows.
 fn steps_shown(text: &str) -> u64 {
     let mut steps = 0u64;
     for line in text.lines() {

@@ -44,7 +44,7 @@ pub(crate) fn judge<R: Threads + Wait + Sync>(
     }
 }
 
-/// Adds what is said of all sections, and the count of the sources.
+// Adds what is said of all sections, and the count of the sources.
 fn add_sections<R: Threads + Wait + Sync>(
     rt: &R,
     alloc: Global,
@@ -59,7 +59,7 @@ fn add_sections<R: Threads + Wait + Sync>(
     write!(report.text, "{sources} sources, {wrong} wrong\n")
 }
 
-/// Adds what is said of a section.
+// Adds what is said of a section.
 fn add_section<R: Threads + Wait + Sync>(
     rt: &R,
     alloc: Global,

@@ -47,7 +47,7 @@ impl Sink {
         }
     }
 
-    /// Fails where no call is left.
+    // Fails where no call is left.
     fn take_call(&mut self) -> io::Result<()> {
         match self.calls_left.checked_sub(1) {
             Some(calls_left) => {

@@ -11,7 +11,7 @@ use std::alloc::{AllocError, Global};
 use std::sync::Wait;
 use std::thread::Threads;
 
-/// A line that stands more often than this in a row is told once.
+// A line that stands more often than this in a row is told once.
 const OFTEN: u32 = 1_000;
 
 /// What was written in a session, and its exit status.
@@ -68,7 +68,7 @@ pub(crate) fn told_of<R: Threads + Wait + Sync>(
     }
 }
 
-/// How many workers the head of a session names, from 1 to 32; two, where it names no such number.
+// How many workers the head of a session names, from 1 to 32; two, where it names no such number.
 fn workers_of(head: &str) -> u8
     ensures at_least_one { 0 < result }
     ensures at_most_32 { result ≤ 32 }
@@ -80,7 +80,7 @@ fn workers_of(head: &str) -> u8
     }
 }
 
-/// Adds the lines of a text.
+// Adds the lines of a text.
 fn add_lines(told: &mut String, text: &str) -> Result<(), AllocError> {
     let mut line = "";
     let mut times = 0u32;
@@ -95,7 +95,7 @@ fn add_lines(told: &mut String, text: &str) -> Result<(), AllocError> {
     add_run(told, line, times)
 }
 
-/// Adds a line as often as it stands in a row; `⟨2000 LINE⟩` in place of very many.
+// Adds a line as often as it stands in a row; `⟨2000 LINE⟩` in place of very many.
 fn add_run(told: &mut String, line: &str, times: u32) -> Result<(), AllocError> {
     if times > OFTEN {
         return write!(told, "⟨{times} {line}⟩\n");

@@ -26,7 +26,7 @@ pub(crate) fn add_table(
     write!(report.text, "{head}: {count} sources\n")
 }
 
-/// Judges a case, and adds its source where it has another verdict than is wanted.
+// Judges a case, and adds its source where it has another verdict than is wanted.
 fn add_case(
     alloc: Global,
     report: &mut Report,
@@ -48,8 +48,8 @@ fn add_case(
     )
 }
 
-/// What the front end says of a source: `accepted`, or the refusal, as `S3 1:36`. Being out of memory is no
-/// verdict.
+// What the front end says of a source: `accepted`, or the refusal, as `S3 1:36`. Being out of memory is no
+// verdict.
 fn verdict(alloc: Global, stage: Stage, source: &str) -> Result<String, AllocError> {
     match refusal(alloc, stage, source.as_bytes()) {
         Some(fault) if fault.code == FaultCode::Memory => Err(AllocError),
@@ -58,7 +58,7 @@ fn verdict(alloc: Global, stage: Stage, source: &str) -> Result<String, AllocErr
     }
 }
 
-/// The text of a refusal, by line and column, both counted from 1.
+// The text of a refusal, by line and column, both counted from 1.
 fn refusal_text(alloc: Global, source: &str, fault: SourceFault) -> Result<String, AllocError> {
     let number = fault.code.number();
     let before = source.get(..fault.at as usize).unwrap_or(source);

@@ -50,7 +50,7 @@ pub(crate) fn refusal(alloc: Global, stage: Stage, source: &[u8]) -> Option<Sour
     }
 }
 
-/// The refusal of a line as a directive.
+// The refusal of a line as a directive.
 fn line_refusal(alloc: Global, source: &[u8]) -> Option<SourceFault> {
     match lex(alloc, source) {
         Ok(tokens) => directive(alloc, without_end(tokens.as_slice())).err(),
@@ -58,7 +58,7 @@ fn line_refusal(alloc: Global, source: &[u8]) -> Option<SourceFault> {
     }
 }
 
-/// The tokens of a line without the end of the source.
+// The tokens of a line without the end of the source.
 fn without_end(tokens: &[Token]) -> &[Token] {
     match tokens {
         [line @ .., _] => line,
@@ -66,7 +66,7 @@ fn without_end(tokens: &[Token]) -> &[Token] {
     }
 }
 
-/// The tree of a source, which is well-formed and has the forms of `atomic`.
+// The tree of a source, which is well-formed and has the forms of `atomic`.
 fn parsed(alloc: Global, source: &[u8]) -> Result<Unit, SourceFault>
     ensures formed { IfOk result (λ unit. IsUnit (view_unit unit)) }
     ensures atomics_have_forms { IfOk result (λ unit. AtomicsHaveForms (view_unit unit)) }
@@ -75,7 +75,7 @@ fn parsed(alloc: Global, source: &[u8]) -> Result<Unit, SourceFault>
     parse(alloc, tokens.as_slice())
 }
 
-/// The refusal of a source as a whole.
+// The refusal of a source as a whole.
 fn resolver_refusal(alloc: Global, source: &[u8]) -> Option<SourceFault> {
     match parsed(alloc, source) {
         Ok(unit) => resolve(alloc, unit).err(),

@@ -18,7 +18,7 @@ pub(crate) fn write_out(source: &mut String, text: &str) -> Result<(), AllocErro
     Ok(())
 }
 
-/// Adds a text with the control characters in place of their pictures.
+// Adds a text with the control characters in place of their pictures.
 fn add(source: &mut String, text: &str) -> Result<(), AllocError> {
     for character in text.chars() {
         source.push(control_of(character))?;
@@ -26,7 +26,7 @@ fn add(source: &mut String, text: &str) -> Result<(), AllocError> {
     Ok(())
 }
 
-/// The control character of a picture; any other character stands for itself.
+// The control character of a picture; any other character stands for itself.
 fn control_of(character: char) -> char {
     match character {
         '␁' => '\u{1}',
@@ -38,7 +38,7 @@ fn control_of(character: char) -> char {
     }
 }
 
-/// Adds a part as often as the number before it says. Without a number it stands there as it is.
+// Adds a part as often as the number before it says. Without a number it stands there as it is.
 fn add_repeated(source: &mut String, repeated: &str) -> Result<(), AllocError> {
     let (count, part) = cut(repeated, ' ');
     match count.parse() {
@@ -47,7 +47,7 @@ fn add_repeated(source: &mut String, repeated: &str) -> Result<(), AllocError> {
     }
 }
 
-/// Adds a part so many times.
+// Adds a part so many times.
 fn add_times(source: &mut String, count: u32, part: &str) -> Result<(), AllocError> {
     let numbered = part.split_once('№');
     for number in 0..count {
@@ -59,7 +59,7 @@ fn add_times(source: &mut String, count: u32, part: &str) -> Result<(), AllocErr
     Ok(())
 }
 
-/// Adds a number between two texts.
+// Adds a number between two texts.
 fn add_numbered(
     source: &mut String,
     front: &str,

@@ -31,7 +31,7 @@ use std::ops::Bound;
 #[derive(Drop)]
 pub struct Named {
     places: BTreeMap<Name, Places>,
-    /// The least name whose task is ready. So a search for it does not pass the tasks that are done.
+    // The least name whose task is ready. So a search for it does not pass the tasks that are done.
     first: Option<Name>,
 }
 
@@ -150,7 +150,7 @@ impl Named {
     }
 }
 
-/// Makes a name known. What is kept stays, also when out of memory.
+// Makes a name known. What is kept stays, also when out of memory.
 fn know(alloc: Global, places: &mut BTreeMap<Name, Places>, name: &Name) -> Result<(), AllocError>
     ensures same { StaysOf places.old.entries places.new.entries }
     ensures known { OnOk result (is_some (places_of places.new.entries name.now) ≡ true) }
@@ -162,7 +162,7 @@ fn know(alloc: Global, places: &mut BTreeMap<Name, Places>, name: &Name) -> Resu
     Ok(())
 }
 
-/// Keeps a place at a part of a name that is known. When out of memory, what is kept stays.
+// Keeps a place at a part of a name that is known. When out of memory, what is kept stays.
 fn enter_known(
     places: &mut BTreeMap<Name, Places>,
     name: &Name,
@@ -180,7 +180,7 @@ fn enter_known(
     }
 }
 
-/// Puts a value at a part of a name, where one is kept, and answers the one before.
+// Puts a value at a part of a name, where one is kept, and answers the one before.
 fn put(places: &mut BTreeMap<Name, Places>, name: &Name, part: &Part, value: Val) -> Val
     requires { is_some (value_of places.old.entries name.now part.now) ≡ true }
     ensures before { Some result ≡ value_of places.old.entries name.now part.now }
@@ -192,8 +192,8 @@ fn put(places: &mut BTreeMap<Name, Places>, name: &Name, part: &Part, value: Val
     }
 }
 
-/// An access, shared with the place at its object's part of a name; `None` where none is kept there. What
-/// is kept stays.
+// An access, shared with the place at its object's part of a name; `None` where none is kept there. What
+// is kept stays.
 fn share(
     alloc: Global,
     places: &mut BTreeMap<Name, Places>,
@@ -211,7 +211,7 @@ fn share(
     }
 }
 
-/// Keeps nothing at a part of a name.
+// Keeps nothing at a part of a name.
 fn remove(places: &mut BTreeMap<Name, Places>, name: &Name, part: &Part)
     ensures { PutsOf name.now part.now None places.old.entries places.new.entries }
 {
@@ -221,7 +221,7 @@ fn remove(places: &mut BTreeMap<Name, Places>, name: &Name, part: &Part)
     }
 }
 
-/// Makes the least name whose task is ready what it is now, after a part of a name got another value.
+// Makes the least name whose task is ready what it is now, after a part of a name got another value.
 fn note(places: &BTreeMap<Name, Places>, first: &mut Option<Name>, name: &Name, part: &Part)
     ensures { (old : Named) (v : Option Val)
         → PutsOf name.now part.now v old places.now.entries
@@ -233,14 +233,14 @@ fn note(places: &BTreeMap<Name, Places>, first: &mut Option<Name>, name: &Name, 
     }
 }
 
-/// Whether a part is the task of its name.
+// Whether a part is the task of its name.
 fn is_task(part: &Part) -> bool
     ensures { result ≡ is_at (cmp-value.it part.now) parts.Task }
 {
     part.cmp(&Part::Task) == Ordering::Equal
 }
 
-/// The same, after the task of a name got another value: no other name's task did.
+// The same, after the task of a name got another value: no other name's task did.
 fn note_task(places: &BTreeMap<Name, Places>, first: &mut Option<Name>, name: &Name)
     ensures { (is : List ℕ → Bool)
         → ((m : List ℕ) → is_at (slice_cmp nat_cmp name.now) m ≡ false
@@ -256,7 +256,7 @@ fn note_task(places: &BTreeMap<Name, Places>, first: &mut Option<Name>, name: &N
     }
 }
 
-/// Whether the task of a name is ready to be begun.
+// Whether the task of a name is ready to be begun.
 fn is_ready(places: &BTreeMap<Name, Places>, name: &Name) -> bool
     ensures { result ≡ is_ready_in places.now.entries name.now }
 {
@@ -266,7 +266,7 @@ fn is_ready(places: &BTreeMap<Name, Places>, name: &Name) -> bool
     ready_name(name, places).is_some()
 }
 
-/// Whether a name is before another one; it is so before none.
+// Whether a name is before another one; it is so before none.
 fn is_before(name: &Name, other: &Option<Name>) -> bool
     ensures { result ≡ not (is_from other.now name.now) }
 {
@@ -276,7 +276,7 @@ fn is_before(name: &Name, other: &Option<Name>) -> bool
     }
 }
 
-/// Whether a name is another one; it isn't none.
+// Whether a name is another one; it isn't none.
 fn is_the(name: &Name, other: &Option<Name>) -> bool
     ensures { result ≡ is_the name.now other.now }
 {
@@ -286,7 +286,7 @@ fn is_the(name: &Name, other: &Option<Name>) -> bool
     name.cmp(other) == Ordering::Equal
 }
 
-/// The names of all tasks that are ready to be begun, ascending.
+// The names of all tasks that are ready to be begun, ascending.
 fn ready_names(alloc: Global, places: &BTreeMap<Name, Places>) -> Result<Vec<Name>, AllocError>
     ensures { IfOk result (λ v. AreAll (is_ready_in places.now.entries) v.items) }
 {
@@ -299,7 +299,7 @@ fn ready_names(alloc: Global, places: &BTreeMap<Name, Places>) -> Result<Vec<Nam
     Ok(names)
 }
 
-/// The least name behind another one whose task is ready to be begun.
+// The least name behind another one whose task is ready to be begun.
 fn ready_behind(places: &BTreeMap<Name, Places>, after: &Name) -> Option<Name>
     ensures { IsNext (is_ready_in places.now.entries) (Some after.now) result }
 {
@@ -311,14 +311,14 @@ fn ready_behind(places: &BTreeMap<Name, Places>, after: &Name) -> Option<Name>
     None
 }
 
-/// The name, if its task is ready to be begun.
+// The name, if its task is ready to be begun.
 fn ready_name(name: &Name, places: &Places) -> Option<Name>
     ensures { result ≡ name_if_ready name.now places.now }
 {
     ready_at(name, places.get(&Part::Task)?)
 }
 
-/// The name, if the task at its place is ready to be begun.
+// The name, if the task at its place is ready to be begun.
 fn ready_at(name: &Name, place: &Place) -> Option<Name>
     ensures { result ≡ cond (is_ready (task_in place.now)) (Some name.now) None }
 {

@@ -165,7 +165,7 @@ impl Slots {
     }
 }
 
-/// Puts a value at a place of a slot, where one is kept, and answers the one before.
+// Puts a value at a place of a slot, where one is kept, and answers the one before.
 fn put(slots: &mut BTreeMap<SlotName, SlotPlace>, slot: &SlotName, index: u32, value: Val) -> Val
     requires { is_some (value_among (values_in slots.old.entries slot.now) index) ≡ true }
     ensures before { Some result ≡ value_among (values_in slots.old.entries slot.now) index }
@@ -177,7 +177,7 @@ fn put(slots: &mut BTreeMap<SlotName, SlotPlace>, slot: &SlotName, index: u32, v
     }
 }
 
-/// An access of a cell of a slot, shared with all that asked for it where the slot is kept.
+// An access of a cell of a slot, shared with all that asked for it where the slot is kept.
 fn share(
     alloc: Global,
     slots: &mut BTreeMap<SlotName, SlotPlace>,
@@ -193,7 +193,7 @@ fn share(
     }
 }
 
-/// Makes a slot known. What is kept stays, also when out of memory.
+// Makes a slot known. What is kept stays, also when out of memory.
 fn know(
     alloc: Global,
     slots: &mut BTreeMap<SlotName, SlotPlace>,
@@ -210,7 +210,7 @@ fn know(
     Ok(())
 }
 
-/// Keeps cells of a slot that is known, with the values that they hold.
+// Keeps cells of a slot that is known, with the values that they hold.
 fn keep_known(
     alloc: Global,
     slots: &mut BTreeMap<SlotName, SlotPlace>,
@@ -228,7 +228,7 @@ fn keep_known(
     }
 }
 
-/// Puts values into so many cells of a slot that is kept.
+// Puts values into so many cells of a slot that is kept.
 fn put_all(slots: &mut BTreeMap<SlotName, SlotPlace>, cells: &Cells, was: Seq<Was>)
     requires { HasCells cells.now slots.old.entries }
     ensures { ReplacesAll cells.now (were_listed was) slots.old.entries slots.new.entries }
@@ -240,7 +240,7 @@ fn put_all(slots: &mut BTreeMap<SlotName, SlotPlace>, cells: &Cells, was: Seq<Wa
 }
 
 impl SlotPlace {
-    /// Cells of a slot, without values. Its only error is out of memory.
+    // Cells of a slot, without values. Its only error is out of memory.
     fn new(alloc: Global, cells: &Cells) -> Result<SlotPlace, AllocError>
         ensures { IfOk result (λ place. place ≡ []) }
     {
@@ -251,7 +251,7 @@ impl SlotPlace {
         })
     }
 
-    /// Puts a value at an index, and answers the one before.
+    // Puts a value at an index, and answers the one before.
     fn put(&mut self, index: u32, value: Val) -> Val
         requires { is_some (slice_get self.old index) ≡ true }
         ensures before { Some result ≡ slice_get self.old index }
@@ -260,7 +260,7 @@ impl SlotPlace {
         mem::replace(&mut self.values[index as usize], value)
     }
 
-    /// An access of the cell at an index, shared with all that asked for it.
+    // An access of the cell at an index, shared with all that asked for it.
     fn share(
         &mut self,
         alloc: Global,
@@ -279,7 +279,7 @@ impl SlotPlace {
         Ok(shared)
     }
 
-    /// Keeps so many of its cells, and answers them, shared.
+    // Keeps so many of its cells, and answers them, shared.
     fn keep(&mut self, alloc: Global, cells: &Cells) -> Result<SharedCells, AllocError>
         ensures shared { IfOk result (λ shared. shared ≡ cells.now) }
         ensures grown { Grows self.old self.new }
@@ -290,8 +290,8 @@ impl SlotPlace {
     }
 }
 
-/// Has at least so many values; those that are new are unset. When out of memory, there may be more of
-/// them.
+// Has at least so many values; those that are new are unset. When out of memory, there may be more of
+// them.
 fn grow(values: &mut Vec<Val>, count: u32) -> Result<(), AllocError>
     ensures grown { Grows values.old.items values.new.items }
     ensures enough { OnOk result (count ≤ length values.new.items) }
@@ -317,7 +317,7 @@ pub fn noted(alloc: Global, values: &[Val], count: u32) -> Result<Seq<Was>, Allo
     noted.into_seq()
 }
 
-/// Puts a value at an index below a limit, and answers the next index.
+// Puts a value at an index below a limit, and answers the next index.
 fn put_at(values: &mut Vec<Val>, index: u32, count: u32, value: Val) -> u32
     requires enough { count ≤ length values.old.items }
     requires within { index ≤ count }
@@ -335,7 +335,7 @@ fn put_at(values: &mut Vec<Val>, index: u32, count: u32, value: Val) -> u32
     }
 }
 
-/// Puts the values of a run from an index on, up to a limit, and answers the next index.
+// Puts the values of a run from an index on, up to a limit, and answers the next index.
 fn put_run(values: &mut Vec<Val>, from: u32, count: u32, run: &Run) -> u32
     requires enough { count ≤ length values.old.items }
     requires within { from ≤ count }
@@ -351,7 +351,7 @@ fn put_run(values: &mut Vec<Val>, from: u32, count: u32, run: &Run) -> u32
     index
 }
 
-/// Puts values from an index on, up to a limit, and answers the next index.
+// Puts values from an index on, up to a limit, and answers the next index.
 fn put_one(values: &mut Vec<Val>, index: u32, count: u32, was: Was) -> u32
     requires enough { count ≤ length values.old.items }
     requires within { index ≤ count }
@@ -365,7 +365,7 @@ fn put_one(values: &mut Vec<Val>, index: u32, count: u32, was: Was) -> u32
     }
 }
 
-/// Puts values at the first indexes, up to a limit.
+// Puts values at the first indexes, up to a limit.
 #[tactic(auto, using(crate::proofs::SlotLemmas::no_updates))]
 fn put_was(values: &mut Vec<Val>, count: u32, was: Seq<Was>)
     requires { count ≤ length values.old.items }

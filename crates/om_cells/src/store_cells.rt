@@ -68,14 +68,14 @@ impl Store {
         self.write(&cells.cells(), was);
     }
 
-    /// Whether cells of a slot lie together, and none of them is kept by itself.
+    // Whether cells of a slot lie together, and none of them is kept by itself.
     fn lie_together(&self, cells: &Cells) -> bool
         ensures { result ≡ true → LiesTogether cells.now self.now }
     {
         self.slots.has(cells) && self.named.holds_none(&cells.slot, cells.count)
     }
 
-    /// What cells of a slot hold that are kept. Its only error is out of memory.
+    // What cells of a slot hold that are kept. Its only error is out of memory.
     fn noted(&self, alloc: Global, cells: &Cells) -> Result<Seq<Was>, AllocError>
         requires { KeepsCells (is_kept self.now) cells.now }
         ensures { IfOk result (λ was. were_listed was
@@ -88,7 +88,7 @@ impl Store {
         }
     }
 
-    /// The same, cell by cell.
+    // The same, cell by cell.
     fn noted_each(&self, alloc: Global, cells: &Cells) -> Result<Seq<Was>, AllocError>
         requires { KeepsCells (is_kept self.now) cells.now }
         ensures { IfOk result (λ was. were_listed was
@@ -101,7 +101,7 @@ impl Store {
         noted.into_seq()
     }
 
-    /// Puts values into cells of a slot that are kept, the first of them first.
+    // Puts values into cells of a slot that are kept, the first of them first.
     fn write(&mut self, cells: &Cells, was: Seq<Was>)
         requires { KeepsCells (is_kept self.old) cells.now }
         ensures state { state_of self.new
@@ -115,7 +115,7 @@ impl Store {
         }
     }
 
-    /// The same, cell by cell.
+    // The same, cell by cell.
     fn write_each(&mut self, cells: &Cells, was: Seq<Was>)
         requires { KeepsCells (is_kept self.old) cells.now }
         ensures state { state_of self.new
@@ -128,7 +128,7 @@ impl Store {
         }
     }
 
-    /// Puts values from an index on, and answers the next index.
+    // Puts values from an index on, and answers the next index.
     fn write_one(&mut self, cells: &Cells, index: u32, was: Was) -> u32
         requires kept { KeepsCells (is_kept self.old) cells.now }
         requires within { index ≤ cells.now.count }
@@ -143,7 +143,7 @@ impl Store {
         }
     }
 
-    /// Puts the values of a run from an index on, and answers the next index.
+    // Puts the values of a run from an index on, and answers the next index.
     fn write_run(&mut self, cells: &Cells, from: u32, run: &Run) -> u32
         requires kept { KeepsCells (is_kept self.old) cells.now }
         requires within { from ≤ cells.now.count }
@@ -159,7 +159,7 @@ impl Store {
         index
     }
 
-    /// Puts a value at an index, where the slot has such a cell, and answers the next index.
+    // Puts a value at an index, where the slot has such a cell, and answers the next index.
     fn write_at(&mut self, cells: &Cells, index: u32, value: Val) -> u32
         requires kept { KeepsCells (is_kept self.old) cells.now }
         requires within { index ≤ cells.now.count }

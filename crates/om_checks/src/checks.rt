@@ -29,7 +29,7 @@ pub(crate) fn checked<R: Threads + Wait + Sync>(
     }
 }
 
-/// Adds the lines of all checks.
+// Adds the lines of all checks.
 fn add_checks<R: Threads + Wait + Sync>(
     rt: &R,
     alloc: Global,
@@ -39,7 +39,7 @@ fn add_checks<R: Threads + Wait + Sync>(
     add_drive_checks(rt, alloc, told)
 }
 
-/// Adds the lines of the checks of one thread: of code, the machine and the book.
+// Adds the lines of the checks of one thread: of code, the machine and the book.
 fn add_machine_checks(alloc: Global, told: &mut String) -> Result<(), AllocError> {
     add_line(told, "code is judged", code_is_judged(alloc)?)?;
     add_line(told, "counts follow an undo", counts_follow_an_undo(alloc)?)?;
@@ -51,7 +51,7 @@ fn add_machine_checks(alloc: Global, told: &mut String) -> Result<(), AllocError
     add_line(told, "a journal gets full", journal_gets_full(alloc)?)
 }
 
-/// Adds the lines of the checks of several threads.
+// Adds the lines of the checks of several threads.
 fn add_drive_checks<R: Threads + Wait + Sync>(
     rt: &R,
     alloc: Global,
@@ -89,7 +89,7 @@ fn add_drive_checks<R: Threads + Wait + Sync>(
     Ok(())
 }
 
-/// Adds the line of a check.
+// Adds the line of a check.
 fn add_line(told: &mut String, check: &str, is_right: bool) -> Result<(), AllocError> {
     let verdict = if is_right { "" } else { " is WRONG" };
     write!(told, "{check}{verdict}\n")

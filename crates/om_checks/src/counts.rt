@@ -30,7 +30,7 @@ pub(crate) fn counts_follow_an_undo(alloc: Global) -> Result<bool, AllocError> {
     Ok(made && before && undone && are_counts(alloc, &machine, 1, 0)?)
 }
 
-/// Whether the team has so many pending tasks, its first member so many children, and its second one.
+// Whether the team has so many pending tasks, its first member so many children, and its second one.
 fn are_counts(
     alloc: Global,
     machine: &MachineOfTwo,
@@ -44,7 +44,7 @@ fn are_counts(
     )
 }
 
-/// Whether the team has so many tasks that are pending in its first phase.
+// Whether the team has so many tasks that are pending in its first phase.
 fn is_pending(alloc: Global, machine: &MachineOfTwo, wanted: i128) -> Result<bool, AllocError> {
     let Some(team) = Name::of(&[0, 1]) else {
         return Ok(false);
@@ -52,7 +52,7 @@ fn is_pending(alloc: Global, machine: &MachineOfTwo, wanted: i128) -> Result<boo
     is_count(alloc, machine, &Obj::Pending { team, phase: 0 }, wanted)
 }
 
-/// Whether the task of this name has so many children.
+// Whether the task of this name has so many children.
 fn has_children(
     alloc: Global,
     machine: &MachineOfTwo,
@@ -65,7 +65,7 @@ fn has_children(
     is_count(alloc, machine, &Obj::Kids(task), wanted)
 }
 
-/// Whether an object holds this count.
+// Whether an object holds this count.
 fn is_count(
     alloc: Global,
     machine: &MachineOfTwo,

@@ -44,7 +44,7 @@ pub(crate) fn places_are_those_of_the_journal<R: Threads + Wait + Sync>(
     Ok(are_answered(&drove, 200) && are_places(alloc, drove.answers.as_slice(), 100)?)
 }
 
-/// Drives two seats over a book without records.
+// Drives two seats over a book without records.
 fn drive_two<R: Threads + Wait + Sync>(
     rt: &R,
     alloc: Global,
@@ -59,7 +59,7 @@ fn drive_two<R: Threads + Wait + Sync>(
     Ok(Table { book, gates }.drive(rt, alloc, orders))
 }
 
-/// Whether there is an answer with a reply for each of so many orders, its record, and a receipt that stands.
+// Whether there is an answer with a reply for each of so many orders, its record, and a receipt that stands.
 fn are_answered(drove: &Drove, orders: usize) -> bool {
     let replied = drove
         .answers
@@ -74,7 +74,7 @@ fn are_answered(drove: &Drove, orders: usize) -> bool {
         && drove.book.book.journal().len() == orders
 }
 
-/// Whether an answer has a reply in time.
+// Whether an answer has a reply in time.
 fn is_replied(answer: &Answer) -> bool {
     answer.reply.is_ok() && !answer.late
 }
@@ -99,7 +99,7 @@ pub(crate) fn two_gates(alloc: Global) -> Result<Vec<Open>, AllocError>
     Ok(gates)
 }
 
-/// So many orders for each of two seats. They are numbered from 0, those of the first seat first.
+// So many orders for each of two seats. They are numbered from 0, those of the first seat first.
 fn two_lists(alloc: Global, count: u32) -> Result<Vec<Vec<Order>>, AllocError>
     ensures { IfOk result (λ lists. vec_len lists ≡ 2) }
 {

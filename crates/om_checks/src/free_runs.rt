@@ -9,7 +9,7 @@ use std::alloc::{AllocError, Global};
 use std::sync::Wait;
 use std::thread::Threads;
 
-/// The fourth Fibonacci number by a task for each call.
+// The fourth Fibonacci number by a task for each call.
 const FIBONACCI: &str = r#"#include <stdio.h>
 int fib(int n){
 int a, b;
@@ -28,15 +28,15 @@ printf("%d\n", fib(4));
 }
 "#;
 
-/// How many steps `FIBONACCI` makes, whoever makes them.
+// How many steps `FIBONACCI` makes, whoever makes them.
 const FIBONACCI_STEPS: u64 = 188;
 
-/// How many steps `TASKS` makes: FORK and FIN, BEGIN, SPAWN, ARRIVE and LEAVE of each thread, and of each task its
-/// start and TEND.
+// How many steps `TASKS` makes: FORK and FIN, BEGIN, SPAWN, ARRIVE and LEAVE of each thread, and of each task its
+// start and TEND.
 const TASKS_STEPS: u64 = 14;
 
-/// How many free runs there are. Behind each at least one more of a program's waits has ended: so they suffice, in
-/// whatever order the workers come.
+// How many free runs there are. Behind each at least one more of a program's waits has ended: so they suffice, in
+// whatever order the workers come.
 const RUNS: u32 = 10;
 
 /// Whether free runs end two programs of tasks, and tell how many steps and calls were made.
@@ -47,7 +47,7 @@ pub(crate) fn free_runs_are_recorded<R: Threads + Wait + Sync>(
     Ok(runs_end(rt, alloc, TASKS, TASKS_STEPS)? && runs_end(rt, alloc, FIBONACCI, FIBONACCI_STEPS)?)
 }
 
-/// Whether free runs make so many steps of a program, and each tells them rightly.
+// Whether free runs make so many steps of a program, and each tells them rightly.
 fn runs_end<R: Threads + Wait + Sync>(
     rt: &R,
     alloc: Global,
@@ -68,8 +68,8 @@ fn runs_end<R: Threads + Wait + Sync>(
     Ok(made == steps)
 }
 
-/// Lets both workers of a book run freely. The book behind it, and how many steps were made; `None` where these are
-/// told wrongly.
+// Lets both workers of a book run freely. The book behind it, and how many steps were made; `None` where these are
+// told wrongly.
 fn run_once<R: Threads + Wait + Sync>(
     rt: &R,
     alloc: Global,
@@ -90,7 +90,7 @@ fn run_once<R: Threads + Wait + Sync>(
     Ok(is_recorded.then_some((book, done)))
 }
 
-/// Whether the journal grew by the calls that its session counted, and the history by the steps that the run counted.
+// Whether the journal grew by the calls that its session counted, and the history by the steps that the run counted.
 fn is_recorded(alloc: Global, ran: &Ran, before: Lengths) -> Result<bool, AllocError> {
     let lengths = ran.book.lengths(alloc)?;
     let calls = lengths.records.saturating_sub(before.records);

@@ -7,10 +7,10 @@ use om_task::Choice;
 use om_values::Val;
 use std::alloc::{AllocError, Global};
 
-/// A program of six steps.
+// A program of six steps.
 const SOURCE: &str = "int x; int main(void){ x = 1; x = x + 2; return x; }";
 
-/// How many records there are at most.
+// How many records there are at most.
 const MOST: usize = 200_000;
 
 /// Whether 200,000 looks are answered, and then no further call: a look and a step leave history and journal as they
@@ -25,7 +25,7 @@ pub(crate) fn journal_gets_full(alloc: Global) -> Result<bool, AllocError> {
     Ok(answered && refused && lengths.records == MOST && lengths.entries == 0)
 }
 
-/// Whether so many looks at what was printed are answered as there are records at most.
+// Whether so many looks at what was printed are answered as there are records at most.
 fn looks_are_answered(alloc: Global, book: &mut BookOfTwo) -> bool {
     for _ in 0..MOST {
         let answer = book.apply(alloc, Command::Look(Query::Value(Obj::Output)));
@@ -36,13 +36,13 @@ fn looks_are_answered(alloc: Global, book: &mut BookOfTwo) -> bool {
     true
 }
 
-/// Whether a look is refused as the journal is full.
+// Whether a look is refused as the journal is full.
 fn refuses_look(alloc: Global, book: &mut BookOfTwo) -> bool {
     let answer = book.apply(alloc, Command::Look(Query::Value(Obj::Output)));
     matches!(answer, Err(CallError::Full))
 }
 
-/// Whether a step is refused as the journal is full.
+// Whether a step is refused as the journal is full.
 fn refuses_step(alloc: Global, book: &mut BookOfTwo) -> bool {
     let answer = book.apply(
         alloc,

@@ -12,7 +12,7 @@ use std::sync::Wait;
 use std::sync::atomic::{AtomicBool, Ordering};
 use std::thread::{Threads, yield_now};
 
-/// How often the other's flag is looked at.
+// How often the other's flag is looked at.
 const LOOKS: u32 = 1_000_000;
 
 /// A debuggee that raises its flag inside its call, and waits there for the other's.
@@ -21,9 +21,9 @@ pub(crate) struct Fake<'a> {
     alloc: Global,
     mine: &'a AtomicBool,
     other: &'a AtomicBool,
-    /// Whether it saw the other's flag in time.
+    // Whether it saw the other's flag in time.
     saw: bool,
-    /// The one call that it answers.
+    // The one call that it answers.
     made: Option<Receipt>,
 }
 
@@ -76,7 +76,7 @@ impl<'a> Debuggee for Fake<'a> {
     }
 }
 
-/// Whether the flag is raised in time.
+// Whether the flag is raised in time.
 fn is_raised(flag: &AtomicBool) -> bool {
     for _ in 0..LOOKS {
         if flag.load(Ordering::SeqCst) {
@@ -87,7 +87,7 @@ fn is_raised(flag: &AtomicBool) -> bool {
     false
 }
 
-/// A gate that says no until its flag, if it has one, is raised.
+// A gate that says no until its flag, if it has one, is raised.
 #[derive(Drop)]
 struct After<'a> {
     flag: Option<&'a AtomicBool>,

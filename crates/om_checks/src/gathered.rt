@@ -21,20 +21,20 @@ pub(crate) fn faults_are_told<R: Wait>(rt: &R, alloc: Global) -> Result<bool, Al
     )
 }
 
-/// Whether two empty lists give no answers and no fault.
+// Whether two empty lists give no answers and no fault.
 fn takes_none<R: Wait>(rt: &R, alloc: Global) -> bool {
     let gathered = gather(rt, alloc, &[], &[]);
     gathered.answers.is_empty() && gathered.fault.is_none()
 }
 
-/// Whether two answers that are awaited are taken.
+// Whether two answers that are awaited are taken.
 fn takes_all<R: Wait>(rt: &R, alloc: Global) -> Result<bool, AllocError> {
     let receivers = [sent(rt, alloc, 7)?, sent(rt, alloc, 8)?];
     let gathered = gather(rt, alloc, &receivers, &[7, 8]);
     Ok(gathered.fault.is_none() && are_answers(gathered.answers.as_slice(), &[7, 8]))
 }
 
-/// Whether an answer is taken, and a channel behind it whose other end was dropped is V2.
+// Whether an answer is taken, and a channel behind it whose other end was dropped is V2.
 fn tells_closed<R: Wait>(rt: &R, alloc: Global) -> Result<bool, AllocError> {
     let (sender, receiver) = bounded(alloc, 1)?;
     drop(sender);
@@ -46,7 +46,7 @@ fn tells_closed<R: Wait>(rt: &R, alloc: Global) -> Result<bool, AllocError> {
     )
 }
 
-/// Whether an answer is taken, and one behind it of a strange number is V1.
+// Whether an answer is taken, and one behind it of a strange number is V1.
 fn tells_strange<R: Wait>(rt: &R, alloc: Global) -> Result<bool, AllocError> {
     let receivers = [sent(rt, alloc, 7)?, sent(rt, alloc, 9)?];
     let gathered = gather(rt, alloc, &receivers, &[7, 8]);
@@ -56,7 +56,7 @@ fn tells_strange<R: Wait>(rt: &R, alloc: Global) -> Result<bool, AllocError> {
     )
 }
 
-/// A channel in which the answer to the order of this number lies.
+// A channel in which the answer to the order of this number lies.
 fn sent<R: Wait>(rt: &R, alloc: Global, number: u64) -> Result<Receiver<Answer>, AllocError> {
     let (sender, receiver) = bounded(alloc, 1)?;
     match sender.send(rt, answer(number, 0, Reply::Step(StepReply::Ended))) {

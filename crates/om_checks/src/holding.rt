@@ -12,22 +12,22 @@ use std::sync::Wait;
 use std::sync::atomic::{AtomicU64, Ordering};
 use std::thread::{Threads, yield_now};
 
-/// How often a gate looks for the other's at most.
+// How often a gate looks for the other's at most.
 const LOOKS: u32 = 1_000_000;
 
-/// What the gates of two workers tell each other.
+// What the gates of two workers tell each other.
 #[derive(Drop)]
 struct Board {
-    /// The last order that the gate of worker 0 was asked for. Orders are numbered from 1; 0 is none.
+    // The last order that the gate of worker 0 was asked for. Orders are numbered from 1; 0 is none.
     zero: AtomicU64,
-    /// The last order that the gate of worker 1 was asked for.
+    // The last order that the gate of worker 1 was asked for.
     one: AtomicU64,
-    /// How many gates saw what they waited for.
+    // How many gates saw what they waited for.
     seen: AtomicU64,
 }
 
 impl Board {
-    /// A board before any gate is asked.
+    // A board before any gate is asked.
     fn new() -> Board {
         Board {
             zero: AtomicU64::new(0),
@@ -36,21 +36,21 @@ impl Board {
         }
     }
 
-    /// Whether both gates saw what they waited for.
+    // Whether both gates saw what they waited for.
     fn both_saw(&self) -> bool {
         self.seen.load(Ordering::SeqCst) == 2
     }
 }
 
-/// A gate that always says yes. At one of its orders it waits first, until the other gate was asked for one of its own.
+// A gate that always says yes. At one of its orders it waits first, until the other gate was asked for one of its own.
 #[derive(Drop)]
 struct Holding<'a> {
     mine: &'a AtomicU64,
     other: &'a AtomicU64,
     seen: &'a AtomicU64,
-    /// The order at which it waits.
+    // The order at which it waits.
     at: u64,
-    /// The order of the other gate for which it waits.
+    // The order of the other gate for which it waits.
     until: u64,
 }
 
@@ -64,7 +64,7 @@ impl<'a> Gate for Holding<'a> {
     }
 }
 
-/// Whether a number gets so high in time.
+// Whether a number gets so high in time.
 fn is_reached(number: &AtomicU64, wanted: u64) -> bool {
     for _ in 0..LOOKS {
         if number.load(Ordering::SeqCst) >= wanted {
@@ -75,8 +75,8 @@ fn is_reached(number: &AtomicU64, wanted: u64) -> bool {
     false
 }
 
-/// Gates of worker 0, which waits at its order 1, and of worker 1, which waits at its order 2: each until the other
-/// was asked for this order.
+// Gates of worker 0, which waits at its order 1, and of worker 1, which waits at its order 2: each until the other
+// was asked for this order.
 fn gates(alloc: Global, board: &Board, until: (u64, u64)) -> Result<Vec<Holding<'_>>, AllocError>
     ensures { IfOk result (λ gates. vec_len gates ≡ 2) }
 {
@@ -115,7 +115,7 @@ pub(crate) fn drives_are_side_by_side<R: Threads + Wait + Sync>(
     Ok(are_in_time(&drove) && board.both_saw())
 }
 
-/// Whether both answers came, and none was late.
+// Whether both answers came, and none was late.
 fn are_in_time(drove: &Drove) -> bool {
     let in_time = drove
         .answers
@@ -147,8 +147,8 @@ pub(crate) fn free_runs_are_side_by_side<R: Threads + Wait + Sync>(
     Ok(is_run_so(&ran) && board.both_saw())
 }
 
-/// Whether the one order of calls was made that the gates leave: worker 1 is idle, worker 0 forks, and then both begin
-/// their tasks.
+// Whether the one order of calls was made that the gates leave: worker 1 is idle, worker 0 forks, and then both begin
+// their tasks.
 fn is_run_so(ran: &Ran) -> bool {
     ran.fault.is_none() && !ran.full && ran.done == 3 && ran.calls == 4
 }

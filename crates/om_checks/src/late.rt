@@ -10,10 +10,10 @@ use std::sync::Wait;
 use std::sync::atomic::{AtomicBool, AtomicU64, Ordering};
 use std::thread::Threads;
 
-/// How often a gate is asked before its worker goes on.
+// How often a gate is asked before its worker goes on.
 const MOST_ASKED: u64 = 1_000_000;
 
-/// A gate that counts how often it is asked, and always says no.
+// A gate that counts how often it is asked, and always says no.
 #[derive(Drop)]
 struct Shut<'a> {
     asked: &'a AtomicU64,
@@ -45,7 +45,7 @@ pub(crate) fn answers_may_be_late<R: Threads + Wait + Sync>(
     Ok(is_alone && late == 1 && asked.load(Ordering::SeqCst) == MOST_ASKED)
 }
 
-/// A debuggee that waits for nobody: the flag that it looks for is its own.
+// A debuggee that waits for nobody: the flag that it looks for is its own.
 fn one_fake<'a>(alloc: Global, flag: &'a AtomicBool) -> Result<Vec<Fake<'a>>, AllocError>
     ensures { IfOk result (λ fakes. vec_len fakes ≡ 1) }
 {

@@ -9,14 +9,14 @@ use om_undo::{Machine, StepReply, UndoReply};
 use om_values::Val;
 use std::alloc::{AllocError, Global};
 
-/// How many steps are asked for at most.
+// How many steps are asked for at most.
 const MOST_STEPS: u64 = 1_000_000;
 
 /// A machine of two workers that take their next instructions.
 #[derive(Drop)]
 pub(crate) struct MachineOfTwo {
     machine: Machine,
-    /// How many steps were asked for.
+    // How many steps were asked for.
     asked: u64,
     ghost two: { machine.workers ≡ 2 },
     ghost few: { machine.history.made ≤ asked },

@@ -18,7 +18,7 @@ pub(crate) fn are_places(
     Ok(rise(first.as_slice()) && rise(second.as_slice()) && counts_to(both.as_slice(), all))
 }
 
-/// The places of the answers whose orders are numbered from `first` on, up to but not including `end`.
+// The places of the answers whose orders are numbered from `first` on, up to but not including `end`.
 fn places_of(
     alloc: Global,
     answers: &[Answer],
@@ -36,7 +36,7 @@ fn places_of(
     Ok(places)
 }
 
-/// Whether each place is above the one before.
+// Whether each place is above the one before.
 fn rise(places: &[u64]) -> bool {
     let mut low = 0;
     for place in places {
@@ -48,7 +48,7 @@ fn rise(places: &[u64]) -> bool {
     true
 }
 
-/// Whether these are the numbers from 0 up to but not including `end`, in their order.
+// Whether these are the numbers from 0 up to but not including `end`, in their order.
 fn counts_to(places: &[u64], end: u64) -> bool {
     let mut wanted = 0u64;
     for place in places {

@@ -28,7 +28,7 @@ pub(crate) fn unbacked_answers_are_left_out<R: Wait>(
     )
 }
 
-/// What is kept of the answers to two orders for each of two seats, where the answers tell these places.
+// What is kept of the answers to two orders for each of two seats, where the answers tell these places.
 fn compared<R: Wait>(rt: &R, alloc: Global, places: [u64; 4]) -> Result<KeptAnswers, AllocError> {
     let Some(book) = BookOfTwo::of(alloc, ADDING) else {
         return Err(AllocError);
@@ -41,14 +41,14 @@ fn compared<R: Wait>(rt: &R, alloc: Global, places: [u64; 4]) -> Result<KeptAnsw
     compared_in::<Brand, _>(rt, alloc, Blank::new(2), book, told)
 }
 
-/// Orders for each seat, and the places that the answers to them tell.
+// Orders for each seat, and the places that the answers to them tell.
 #[derive(Clone, Copy)]
 struct Told<'a> {
     orders: &'a [Vec<Order>],
     places: [u64; 4],
 }
 
-/// Compares the answers to the orders of the session that is meant.
+// Compares the answers to the orders of the session that is meant.
 #[tactic(auto, using(om_drive::specs::DistinctSeats::seats_count))]
 fn compared_in<L: Sitting, R: Wait>(
     rt: &R,
@@ -77,7 +77,7 @@ fn compared_in<L: Sitting, R: Wait>(
     Ok(keep_backed(&rows, &mut [0, 0], answers))
 }
 
-/// The answers to the orders, round by round: each seat looks in its turn.
+// The answers to the orders, round by round: each seat looks in its turn.
 fn answered<L: Sitting, R: Wait>(
     rt: &R,
     alloc: Global,
@@ -96,7 +96,7 @@ fn answered<L: Sitting, R: Wait>(
     Ok(answers)
 }
 
-/// What a seat is answered that looks at what was printed.
+// What a seat is answered that looks at what was printed.
 fn look<L: Sitting, R: Wait>(
     rt: &R,
     alloc: Global,

@@ -6,7 +6,7 @@ use om_foot::Obj;
 use om_undo::UndoReply;
 use std::alloc::{AllocError, Global};
 
-/// Two threads that count, each in a variable of its own, and never end.
+// Two threads that count, each in a variable of its own, and never end.
 const SOURCE: &str = "int a, b;
 int main(void){
 #pragma omp parallel
@@ -14,7 +14,7 @@ while (1) if (omp_get_thread_num() == 0) a = a + 1; else b = b + 1;
 }
 ";
 
-/// How many steps each worker makes behind the fork.
+// How many steps each worker makes behind the fork.
 const STEPS: u32 = 50_000;
 
 /// Whether 100,000 steps are made and one worker's half of them is undone: each undo names its step, and that of the
@@ -31,7 +31,7 @@ pub(crate) fn long_history_is_undone(alloc: Global) -> Result<bool, AllocError> 
     Ok(undone && holds(alloc, &machine, 0, 0)? && holds(alloc, &machine, 1, 4545)?)
 }
 
-/// Whether each step of worker 0 behind the fork is undone, from #50001 back to #2.
+// Whether each step of worker 0 behind the fork is undone, from #50001 back to #2.
 fn are_undone(machine: &mut MachineOfTwo) -> bool {
     for step in 0..STEPS {
         let wanted = u64::from(STEPS - step) + 1;
@@ -45,7 +45,7 @@ fn are_undone(machine: &mut MachineOfTwo) -> bool {
     true
 }
 
-/// Whether the undo of the fork is refused by the first step of worker 1, which the fork set going.
+// Whether the undo of the fork is refused by the first step of worker 1, which the fork set going.
 fn fork_is_held(machine: &mut MachineOfTwo) -> bool {
     machine.undo(0)
         == UndoReply::Conflict {
@@ -55,7 +55,7 @@ fn fork_is_held(machine: &mut MachineOfTwo) -> bool {
         }
 }
 
-/// Whether a global variable holds this value.
+// Whether a global variable holds this value.
 fn holds(
     alloc: Global,
     machine: &MachineOfTwo,

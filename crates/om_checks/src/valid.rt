@@ -18,10 +18,10 @@ pub(crate) fn code_is_judged(alloc: Global) -> Result<bool, AllocError> {
     )
 }
 
-/// Ends the program without a value.
+// Ends the program without a value.
 const END: Instr = Instr::Finish { has_value: false };
 
-/// Ends the program with the top operand.
+// Ends the program with the top operand.
 const END_WITH: Instr = Instr::Finish { has_value: true };
 
 fn refuses_jumps_out(alloc: Global) -> Result<bool, AllocError> {
@@ -50,7 +50,7 @@ fn refuses_unknown_slots(alloc: Global) -> Result<bool, AllocError> {
     Ok(matches!(judged, Err(CodeFault::Unknown)))
 }
 
-/// A scope names slot 2 of two.
+// A scope names slot 2 of two.
 fn refuses_names_of_unknown_slots(alloc: Global) -> Result<bool, AllocError> {
     let mut body = body_of(alloc, &[END], 2)?;
     body.names.scopes.push(scope_of(alloc, 1)?)?;
@@ -61,7 +61,7 @@ fn refuses_names_of_unknown_slots(alloc: Global) -> Result<bool, AllocError> {
     Ok(known.is_ok() && matches!(unknown, Err(CodeFault::Unknown)))
 }
 
-/// A scope of the name `x`, over the first instruction.
+// A scope of the name `x`, over the first instruction.
 fn scope_of(alloc: Global, slot: u32) -> Result<Scope, AllocError> {
     Ok(Scope {
         name: Seq::one(alloc, b'x')?,
@@ -80,7 +80,7 @@ fn accepts_valid_code(alloc: Global) -> Result<bool, AllocError> {
     }
 }
 
-/// Whether a program has the valid code, and nothing else.
+// Whether a program has the valid code, and nothing else.
 fn is_as_given(program: &Program) -> bool {
     program.bodies().len() == 1
         && matches!(program.instruction(0, 0), Some(Instr::Constant(5)))
@@ -93,7 +93,7 @@ fn is_as_given(program: &Program) -> bool {
         && program.instruction(0, 4).is_none()
 }
 
-/// What the validator says of a program of one body, with so many slots of one cell.
+// What the validator says of a program of one body, with so many slots of one cell.
 fn judged(
     alloc: Global,
     code: &[Instr],
@@ -102,7 +102,7 @@ fn judged(
     judged_body(alloc, body_of(alloc, code, slots)?)
 }
 
-/// What the validator says of a program of this body.
+// What the validator says of a program of this body.
 fn judged_body(alloc: Global, body: Body) -> Result<Result<Program, CodeFault>, AllocError> {
     let raw = Raw {
         globals: Seq::new(alloc),
@@ -115,7 +115,7 @@ fn judged_body(alloc: Global, body: Body) -> Result<Result<Program, CodeFault>, 
     Ok(validate(alloc, raw))
 }
 
-/// A body of this code, all on line 1, with so many slots of one cell.
+// A body of this code, all on line 1, with so many slots of one cell.
 fn body_of(alloc: Global, code: &[Instr], slots: u32) -> Result<Body, AllocError> {
     let lines: Vec<Line> = code
         .iter()

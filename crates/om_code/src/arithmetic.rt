@@ -27,7 +27,7 @@ pub fn operate(operator: BinaryOperator, a: i32, b: i32) -> Result<i32, Fault>
     }
 }
 
-/// A quotient, rounded toward zero.
+// A quotient, rounded toward zero.
 fn divided(a: i32, b: i32) -> Result<i32, Fault>
     ensures { result ≡ divided a b }
 {
@@ -37,7 +37,7 @@ fn divided(a: i32, b: i32) -> Result<i32, Fault>
     a.checked_div(b).ok_or(Fault::Overflow)
 }
 
-/// A remainder, which has the sign of `a`.
+// A remainder, which has the sign of `a`.
 fn remaining(a: i32, b: i32) -> Result<i32, Fault>
     ensures { result ≡ remaining a b }
 {
@@ -47,7 +47,7 @@ fn remaining(a: i32, b: i32) -> Result<i32, Fault>
     a.checked_rem(b).ok_or(Fault::Overflow)
 }
 
-/// 1 where a comparison holds, else 0.
+// 1 where a comparison holds, else 0.
 fn truth(holds: bool) -> i32
     ensures { result ≡ truth holds }
 {
@@ -78,7 +78,7 @@ pub fn update(operator: AtomicOperator, side: Side, old: i32, other: i32) -> Res
     }
 }
 
-/// The operator of an atomic update among those of the language.
+// The operator of an atomic update among those of the language.
 fn as_binary(operator: AtomicOperator) -> BinaryOperator
     ensures { result ≡ as_binary operator }
 {

@@ -17,14 +17,14 @@ pub(crate) fn has_tables(raw: &Raw) -> bool
         && is_known_body(raw.bodies.as_slice(), &[], raw.main, 0)
 }
 
-/// Whether each global is a scalar or an array that isn't too long.
+// Whether each global is a scalar or an array that isn't too long.
 fn have_lengths(globals: &[GlobalVariable]) -> bool
     ensures { IsTrue result ↔ All (λ global. HasLength global.length) globals.now }
 {
     globals.iter().all(|global| has_length(global.length))
 }
 
-/// Whether this is the length of a scalar, or of an array of 1 to 65,536 cells.
+// Whether this is the length of a scalar, or of an array of 1 to 65,536 cells.
 fn has_length(length: Option<u32>) -> bool
     ensures { IsTrue result ↔ HasLength length }
 {
@@ -46,22 +46,22 @@ pub(crate) fn is_known(raw: &Raw, body: &Body) -> bool
         && has_names(slots, &body.names)
 }
 
-/// Whether the variables that names mean in a body, and those that it has from the body round it, are
-/// slots of it.
+// Whether the variables that names mean in a body, and those that it has from the body round it, are
+// slots of it.
 fn has_names(slots: &[Slot], names: &Names) -> bool
     ensures { IsTrue result ↔ HasNames slots.now names.now }
 {
     are_scopes(slots, names.scopes.as_slice()) && names.outer.len() <= slots.len()
 }
 
-/// Whether the variable of each scope is a slot of its body, where it has one.
+// Whether the variable of each scope is a slot of its body, where it has one.
 fn are_scopes(slots: &[Slot], scopes: &[Scope]) -> bool
     ensures { IsTrue result ↔ All (λ scope. IsScopeOf slots.now scope) scopes.now }
 {
     scopes.iter().all(|scope| is_scope(slots, scope))
 }
 
-/// Whether the variable of a scope is a slot of its body, where it has one.
+// Whether the variable of a scope is a slot of its body, where it has one.
 fn is_scope(slots: &[Slot], scope: &Scope) -> bool
     ensures { IsTrue result ↔ IsScopeOf slots.now scope.now }
 {
@@ -71,21 +71,21 @@ fn is_scope(slots: &[Slot], scope: &Scope) -> bool
     }
 }
 
-/// Whether each slot has a cell.
+// Whether each slot has a cell.
 fn have_cells(slots: &[Slot]) -> bool
     ensures { IsTrue result ↔ All (λ slot. 1 ≤ slot.cells) slots.now }
 {
     slots.iter().all(|slot| 1 <= slot.cells)
 }
 
-/// Whether a value can be given to each of these slots.
+// Whether a value can be given to each of these slots.
 fn are_given(slots: &[Slot], given: &[u32]) -> bool
     ensures { IsTrue result ↔ All (λ number. IsGiven slots.now number) given.now }
 {
     given.iter().all(|number| is_given(slots, *number))
 }
 
-/// Whether a value can be given to a slot: it exists, and its cells are in its own frame.
+// Whether a value can be given to a slot: it exists, and its cells are in its own frame.
 fn is_given(slots: &[Slot], number: u32) -> bool
     ensures { IsTrue result ↔ IsGiven slots.now number }
 {
@@ -95,7 +95,7 @@ fn is_given(slots: &[Slot], number: u32) -> bool
     slot.source == Source::Own
 }
 
-/// Whether what each instruction names exists.
+// Whether what each instruction names exists.
 fn name_known(raw: &Raw, slots: &[Slot], code: &[Line]) -> bool
     ensures { IsTrue result ↔ All (λ line. NamesKnown raw.now slots.now line.instruction) code.now }
 {
@@ -103,7 +103,7 @@ fn name_known(raw: &Raw, slots: &[Slot], code: &[Line]) -> bool
         .all(|line| names_known(raw, slots, line.instruction))
 }
 
-/// Whether what an instruction names exists, in a body with these slots.
+// Whether what an instruction names exists, in a body with these slots.
 fn names_known(raw: &Raw, slots: &[Slot], instr: Instr) -> bool
     ensures { IsTrue result ↔ NamesKnown raw.now slots.now instr }
 {
@@ -136,7 +136,7 @@ fn names_known(raw: &Raw, slots: &[Slot], instr: Instr) -> bool
     }
 }
 
-/// Whether a text exists, and takes so many values.
+// Whether a text exists, and takes so many values.
 fn is_known_text(texts: &[Seq<Piece>], text: u32, values: usize) -> bool
     ensures { IsTrue result ↔ IsKnownText texts.now text values }
 {
@@ -146,7 +146,7 @@ fn is_known_text(texts: &[Seq<Piece>], text: u32, values: usize) -> bool
     value_count(pieces.as_slice()) == values
 }
 
-/// Whether a variable exists.
+// Whether a variable exists.
 fn is_known_place(raw: &Raw, slots: &[Slot], place: Place) -> bool
     ensures { IsTrue result ↔ IsKnownPlace raw.now.globals slots.now place }
 {
@@ -156,7 +156,7 @@ fn is_known_place(raw: &Raw, slots: &[Slot], place: Place) -> bool
     }
 }
 
-/// Whether a body exists, and a frame of it can begin with so many values beside an outer frame with these slots.
+// Whether a body exists, and a frame of it can begin with so many values beside an outer frame with these slots.
 fn is_known_body(bodies: &[Body], outer: &[Slot], body: u32, values: usize) -> bool
     ensures { IsTrue result ↔ IsKnownBody bodies.now outer.now body values }
 {
@@ -166,14 +166,14 @@ fn is_known_body(bodies: &[Body], outer: &[Slot], body: u32, values: usize) -> b
     can_begin(outer, values, body)
 }
 
-/// Whether a frame of a body can begin with so many values beside an outer frame with these slots.
+// Whether a frame of a body can begin with so many values beside an outer frame with these slots.
 fn can_begin(outer: &[Slot], values: usize, body: &Body) -> bool
     ensures { IsTrue result ↔ CanBegin outer.now values body.now }
 {
     body.given.len() == values && fit_outer(outer, body.slots.as_slice())
 }
 
-/// Whether each slot has its own cells, or those of an outer slot that has as many.
+// Whether each slot has its own cells, or those of an outer slot that has as many.
 fn fit_outer(outer: &[Slot], slots: &[Slot]) -> bool
     ensures { IsTrue result ↔ All (λ slot. FitsOuter outer.now slot.cells slot.source) slots.now }
 {
@@ -182,7 +182,7 @@ fn fit_outer(outer: &[Slot], slots: &[Slot]) -> bool
         .all(|slot| fits_outer(outer, slot.cells, slot.source))
 }
 
-/// Whether a slot has its own cells, or those of an outer slot that has as many.
+// Whether a slot has its own cells, or those of an outer slot that has as many.
 fn fits_outer(outer: &[Slot], cells: u32, source: Source) -> bool
     ensures { IsTrue result ↔ FitsOuter outer.now cells source }
 {
@@ -197,7 +197,7 @@ fn fits_outer(outer: &[Slot], cells: u32, source: Source) -> bool
     }
 }
 
-/// How many values a text takes.
+// How many values a text takes.
 fn value_count(pieces: &[Piece]) -> usize
     ensures { result ≡ value_count pieces.now }
 {

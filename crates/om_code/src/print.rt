@@ -71,7 +71,7 @@ pub fn ints_on(
     ints(alloc, &all[from..])
 }
 
-/// The ints of operands; `None` where one is none.
+// The ints of operands; `None` where one is none.
 fn ints(alloc: Global, operands: &[Operand]) -> Result<Option<Vec<i32>>, AllocError>
     ensures { IfOk result (λ values. option_map (λ v. v.items) values ≡ ints operands.now) }
 {
@@ -96,7 +96,7 @@ pub(crate) fn has_ints(count: usize, operands: &Operands<'_>) -> bool
     are_ints(&all[from..])
 }
 
-/// Whether all operands are ints.
+// Whether all operands are ints.
 fn are_ints(operands: &[Operand]) -> bool
     ensures { result ≡ is_some (ints operands.now) }
 {

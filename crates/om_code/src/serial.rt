@@ -86,7 +86,7 @@ fn touched(raw: &Raw, slots: &[Slot], instr: Instr, operands: &Operands<'_>) -> 
     }
 }
 
-/// What LOADX touches, in a variable of so many cells.
+// What LOADX touches, in a variable of so many cells.
 fn reads(place: Place, cells: u32, operands: &Operands<'_>) -> Touch
     ensures { result ≡ (load_element place cells operands.now).touch }
 {
@@ -99,7 +99,7 @@ fn reads(place: Place, cells: u32, operands: &Operands<'_>) -> Touch
     }
 }
 
-/// What STOREX and ATOMX touch, in a variable of so many cells.
+// What STOREX and ATOMX touch, in a variable of so many cells.
 fn writes(place: Place, cells: u32, operands: &Operands<'_>) -> Touch
     ensures stores { (keeps : Bool) →
         result ≡ (store_element place cells keeps operands.now).touch }
@@ -161,7 +161,7 @@ fn row(raw: &Raw, slots: &[Slot], instr: Instr, operands: &Operands<'_>, cell: C
     }
 }
 
-/// To the next instruction, with so many operands taken and then one pushed.
+// To the next instruction, with so many operands taken and then one pushed.
 fn goes(takes: u32, pushed: Option<Operand>) -> Turn
     ensures { result ≡ goes takes pushed }
 {
@@ -173,7 +173,7 @@ fn goes(takes: u32, pushed: Option<Operand>) -> Turn
     }
 }
 
-/// To the target, with so many operands taken.
+// To the target, with so many operands taken.
 fn jump(target: u32, takes: u32) -> Turn
     ensures { result ≡ Turn.Goes (Some target) takes None None }
 {
@@ -185,7 +185,7 @@ fn jump(target: u32, takes: u32) -> Turn
     }
 }
 
-/// DUP: the top operand is pushed once more.
+// DUP: the top operand is pushed once more.
 fn duplicate(operands: &Operands<'_>) -> Turn
     ensures { (cell : Cell) → result ≡ (duplicate operands.now).turn cell }
 {
@@ -195,7 +195,7 @@ fn duplicate(operands: &Operands<'_>) -> Turn
     }
 }
 
-/// POP: the top operand is taken.
+// POP: the top operand is taken.
 fn pop(operands: &Operands<'_>) -> Turn
     ensures { (cell : Cell) → result ≡ (pop operands.now).turn cell }
 {
@@ -205,7 +205,7 @@ fn pop(operands: &Operands<'_>) -> Turn
     }
 }
 
-/// UN: an operator on the top operand.
+// UN: an operator on the top operand.
 fn unary(operator: UnaryOperator, operands: &Operands<'_>) -> Turn
     ensures { (cell : Cell) → result ≡ (unary operator operands.now).turn cell }
 {
@@ -215,7 +215,7 @@ fn unary(operator: UnaryOperator, operands: &Operands<'_>) -> Turn
     }
 }
 
-/// BIN: an operator on the two operands on top.
+// BIN: an operator on the two operands on top.
 fn binary(operator: BinaryOperator, operands: &Operands<'_>) -> Turn
     ensures { (cell : Cell) → result ≡ (binary operator operands.now).turn cell }
 {
@@ -225,7 +225,7 @@ fn binary(operator: BinaryOperator, operands: &Operands<'_>) -> Turn
     }
 }
 
-/// The operator's value is pushed, or its fault is met.
+// The operator's value is pushed, or its fault is met.
 fn gives(takes: u32, value: Result<i32, Fault>) -> Turn
     ensures { result ≡ gives takes value }
 {
@@ -235,7 +235,7 @@ fn gives(takes: u32, value: Result<i32, Fault>) -> Turn
     }
 }
 
-/// JZ: jumps where the top operand is 0.
+// JZ: jumps where the top operand is 0.
 fn jump_if_zero(target: u32, operands: &Operands<'_>) -> Turn
     ensures { (cell : Cell) → result ≡ (jump_if_zero target operands.now).turn cell }
 {
@@ -246,7 +246,7 @@ fn jump_if_zero(target: u32, operands: &Operands<'_>) -> Turn
     }
 }
 
-/// USE: the value of a function that returned none is a fault.
+// USE: the value of a function that returned none is a fault.
 fn use_value(operands: &Operands<'_>) -> Turn
     ensures { (cell : Cell) → result ≡ (use_value operands.now).turn cell }
 {
@@ -257,7 +257,7 @@ fn use_value(operands: &Operands<'_>) -> Turn
     }
 }
 
-/// What comes of the cell that is read.
+// What comes of the cell that is read.
 fn loaded(takes: u32, cell: Cell) -> Turn
     ensures { result ≡ loaded takes cell }
 {
@@ -268,7 +268,7 @@ fn loaded(takes: u32, cell: Cell) -> Turn
     }
 }
 
-/// What comes of the cell that a value is put into.
+// What comes of the cell that a value is put into.
 fn stored(takes: u32, pushed: Option<Operand>, value: i32, cell: Cell) -> Turn
     ensures { result ≡ stored takes pushed value cell }
 {
@@ -283,7 +283,7 @@ fn stored(takes: u32, pushed: Option<Operand>, value: i32, cell: Cell) -> Turn
     }
 }
 
-/// STORE: puts the top operand, and takes it unless it is kept.
+// STORE: puts the top operand, and takes it unless it is kept.
 fn store(keeps: bool, operands: &Operands<'_>, cell: Cell) -> Turn
     ensures { (place : Place) → result ≡ (store place keeps operands.now).turn cell }
 {
@@ -293,7 +293,7 @@ fn store(keeps: bool, operands: &Operands<'_>, cell: Cell) -> Turn
     }
 }
 
-/// LOADX, from a variable of so many cells.
+// LOADX, from a variable of so many cells.
 fn load_element(cells: u32, operands: &Operands<'_>, cell: Cell) -> Turn
     ensures { (place : Place) → result ≡ (load_element place cells operands.now).turn cell }
 {
@@ -306,7 +306,7 @@ fn load_element(cells: u32, operands: &Operands<'_>, cell: Cell) -> Turn
     }
 }
 
-/// STOREX, to a variable of so many cells.
+// STOREX, to a variable of so many cells.
 fn store_element(cells: u32, keeps: bool, operands: &Operands<'_>, cell: Cell) -> Turn
     ensures { (place : Place) → result ≡ (store_element place cells keeps operands.now).turn cell }
 {
@@ -320,7 +320,7 @@ fn store_element(cells: u32, keeps: bool, operands: &Operands<'_>, cell: Cell) -
     }
 }
 
-/// PRINT: takes its values.
+// PRINT: takes its values.
 fn print(values: u16, operands: &Operands<'_>) -> Turn
     ensures { (text : ℕ) (cell : Cell) →
         result ≡ (print text values (ints_on values operands.now)).turn cell }
@@ -332,7 +332,7 @@ fn print(values: u16, operands: &Operands<'_>) -> Turn
     }
 }
 
-/// ATOM: puts the operator's value, of the old value and the top operand.
+// ATOM: puts the operator's value, of the old value and the top operand.
 fn update_scalar(operator: AtomicOperator, side: Side, operands: &Operands<'_>, cell: Cell) -> Turn
     ensures { (place : Place) → result
         ≡ (update_scalar place operator side operands.now).turn cell }
@@ -343,7 +343,7 @@ fn update_scalar(operator: AtomicOperator, side: Side, operands: &Operands<'_>, 
     }
 }
 
-/// ATOMX, on a variable of so many cells.
+// ATOMX, on a variable of so many cells.
 fn update_element(
     cells: u32,
     operator: AtomicOperator,
@@ -363,7 +363,7 @@ fn update_element(
     }
 }
 
-/// What comes of the cell that is updated.
+// What comes of the cell that is updated.
 fn updated(takes: u32, operator: AtomicOperator, side: Side, other: i32, cell: Cell) -> Turn
     ensures { result ≡ updated takes operator side other cell }
 {
@@ -374,7 +374,7 @@ fn updated(takes: u32, operator: AtomicOperator, side: Side, other: i32, cell: C
     }
 }
 
-/// The operator's value is put, or its fault is met.
+// The operator's value is put, or its fault is met.
 fn put(takes: u32, value: Result<i32, Fault>) -> Turn
     ensures { result ≡ put takes value }
 {
@@ -389,7 +389,7 @@ fn put(takes: u32, value: Result<i32, Fault>) -> Turn
     }
 }
 
-/// RET: the frame ends with the top operand.
+// RET: the frame ends with the top operand.
 fn return_value(operands: &Operands<'_>) -> Turn
     ensures { (cell : Cell) → result ≡ (return_value operands.now).turn cell }
 {
@@ -399,7 +399,7 @@ fn return_value(operands: &Operands<'_>) -> Turn
     }
 }
 
-/// FIN: the program ends with the top operand, or with 0.
+// FIN: the program ends with the top operand, or with 0.
 fn finish(has_value: bool, operands: &Operands<'_>) -> Turn
     ensures { (cell : Cell) → result ≡ (finish has_value operands.now).turn cell }
 {

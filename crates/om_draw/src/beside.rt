@@ -11,7 +11,7 @@ use om_code::Program;
 use om_picture::{Picture, StepBox, Traced};
 use std::alloc::{AllocError, Global};
 
-/// How many columns a picture has at most whose boxes have words in them.
+// How many columns a picture has at most whose boxes have words in them.
 const MOST_CARDS: u64 = 400;
 
 /// What is drawn beside the steps that stand.
@@ -34,8 +34,8 @@ pub(crate) fn beside_of<'a>(
     Ok(Beside { story, extent })
 }
 
-/// How large a picture is, by its first and its last step. Steps that were taken out before the first
-/// one that stands have no column.
+// How large a picture is, by its first and its last step. Steps that were taken out before the first
+// one that stands have no column.
 fn extent_of(picture: &Picture, story: &Story<'_>, workers: u8) -> Extent {
     let first = picture.boxes.first().map_or(1, |step| step.serial);
     let last = last_serial(&story.gone, last_serial(&picture.boxes, first));
@@ -50,7 +50,7 @@ fn extent_of(picture: &Picture, story: &Story<'_>, workers: u8) -> Extent {
     }
 }
 
-/// The greatest serial of boxes, and no less than another one.
+// The greatest serial of boxes, and no less than another one.
 fn last_serial(boxes: &[StepBox], least: u64) -> u64 {
     let mut last = least;
     for step in boxes {

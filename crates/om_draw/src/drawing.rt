@@ -54,7 +54,7 @@ pub fn page<H: Threads + Wait + Sync, R: Read>(
     }
 }
 
-/// Runs a session whose input was read.
+// Runs a session whose input was read.
 fn session<H: Threads + Wait + Sync>(
     rt: &H,
     alloc: Global,
@@ -70,7 +70,7 @@ fn session<H: Threads + Wait + Sync>(
     run(rt, alloc, &mut input, text, options)
 }
 
-/// What is shown of a session that ended so and wrote this text.
+// What is shown of a session that ended so and wrote this text.
 fn shown(alloc: Global, source: &[u8], ended: Ended, text: Vec<u8>) -> Result<Page, ShellFault>
     ensures { IfOk result (IsShown ended.book text.items) }
 {
@@ -84,7 +84,7 @@ fn shown(alloc: Global, source: &[u8], ended: Ended, text: Vec<u8>) -> Result<Pa
     }
 }
 
-/// The page of a source, with the history of a book's machine. The only error is out of memory.
+// The page of a source, with the history of a book's machine. The only error is out of memory.
 fn drawn(alloc: Global, source: &[u8], book: &Book) -> Result<Vec<u8>, AllocError>
     ensures { IfOk result (λ page. IsDrawing (machine_of book.now) page.items) }
 {
@@ -96,7 +96,7 @@ fn drawn(alloc: Global, source: &[u8], book: &Book) -> Result<Vec<u8>, AllocErro
     with_elements(front, machine.program(), beside.extent.scale, &picture)
 }
 
-/// The page up to the elements of the steps that stand.
+// The page up to the elements of the steps that stand.
 fn front_of(
     alloc: Global,
     program: &Program,
@@ -110,7 +110,7 @@ fn front_of(
     Ok(text)
 }
 
-/// The page: the arrows, the boxes and the end of the page behind its front.
+// The page: the arrows, the boxes and the end of the page behind its front.
 fn with_elements(
     front: Vec<u8>,
     program: &Program,

@@ -6,7 +6,7 @@ ghost use Rattle.om_draw.specs.Escapes.{escaped, escaped_byte, attribute_text};
 use om_command::push_numbered;
 use std::alloc::AllocError;
 
-/// Appends a byte as text of a page.
+// Appends a byte as text of a page.
 fn push_escaped_byte(text: &mut Vec<u8>, byte: u8) -> Result<(), AllocError>
     ensures { OnOk result (text.new.items ≡ text.old.items ++ escaped_byte byte) }
 {

@@ -23,18 +23,18 @@ impl Extent {
         self.scale.first <= serial && serial <= self.last
     }
 
-    /// How wide the picture is, in points.
+    // How wide the picture is, in points.
     fn width(self) -> u128 {
         self.scale.left(self.last).saturating_add(240)
     }
 
-    /// How high it is.
+    // How high it is.
     fn height(self) -> u128 {
         120 * u128::from(self.workers) + 8
     }
 }
 
-/// From how many steps on a page says how fewer are drawn.
+// From how many steps on a page says how fewer are drawn.
 const MANY: usize = 5_000;
 
 /// Appends all that stands before the elements of the picture.
@@ -53,7 +53,7 @@ pub(crate) fn push_front(
     push_lanes(text, extent)
 }
 
-/// Appends how many steps there are.
+// Appends how many steps there are.
 fn push_words(text: &mut Vec<u8>, steps: usize) -> Result<(), AllocError> {
     push_numbered(text, b"<p>", steps)?;
     text.extend_from_slice(LEGEND)?;
@@ -63,7 +63,7 @@ fn push_words(text: &mut Vec<u8>, steps: usize) -> Result<(), AllocError> {
     text.extend_from_slice(WORDS_END)
 }
 
-/// Appends the source, each line with its number, and those that have a box in its hue.
+// Appends the source, each line with its number, and those that have a box in its hue.
 fn push_source(text: &mut Vec<u8>, source: &[u8], boxes: &[StepBox]) -> Result<(), AllocError> {
     text.extend_from_slice(b"<pre>")?;
     let mut number: u32 = 1;
@@ -74,7 +74,7 @@ fn push_source(text: &mut Vec<u8>, source: &[u8], boxes: &[StepBox]) -> Result<(
     text.extend_from_slice(b"</pre>\n")
 }
 
-/// A source without the line feed that ends its last line.
+// A source without the line feed that ends its last line.
 fn without_last_end(source: &[u8]) -> &[u8] {
     match source {
         [front @ .., b'\n'] => front,
@@ -82,12 +82,12 @@ fn without_last_end(source: &[u8]) -> &[u8] {
     }
 }
 
-/// Whether a box is of a source line.
+// Whether a box is of a source line.
 fn has_box(boxes: &[StepBox], line: u32) -> bool {
     boxes.iter().any(|step| step.line == line)
 }
 
-/// Appends a line of the source.
+// Appends a line of the source.
 fn push_source_line(
     text: &mut Vec<u8>,
     number: u32,
@@ -106,7 +106,7 @@ fn push_source_line(
     text.extend_from_slice(b"</i>")
 }
 
-/// Appends what puts line numbers below one another.
+// Appends what puts line numbers below one another.
 fn push_padding(text: &mut Vec<u8>, number: u32) -> Result<(), AllocError> {
     if number < 10 {
         text.extend_from_slice(b"   ")
@@ -119,7 +119,7 @@ fn push_padding(text: &mut Vec<u8>, number: u32) -> Result<(), AllocError> {
     }
 }
 
-/// Appends the size of a drawing, and the class of a small one.
+// Appends the size of a drawing, and the class of a small one.
 fn push_size(text: &mut Vec<u8>, width: u128, height: u128) -> Result<(), AllocError> {
     push_numbered(text, b" viewBox='0 0 ", width)?;
     push_attribute(text, b" ", height)?;
@@ -128,7 +128,7 @@ fn push_size(text: &mut Vec<u8>, width: u128, height: u128) -> Result<(), AllocE
     text.extend_from_slice(b"pt'>")
 }
 
-/// Appends the names of the lanes, which stay at the left.
+// Appends the names of the lanes, which stay at the left.
 fn push_lane_names(text: &mut Vec<u8>, extent: Extent) -> Result<(), AllocError> {
     text.extend_from_slice(b"<svg class='lanes'")?;
     push_size(text, 76, extent.height())?;
@@ -140,7 +140,7 @@ fn push_lane_names(text: &mut Vec<u8>, extent: Extent) -> Result<(), AllocError>
     text.extend_from_slice(b"</svg>\n")
 }
 
-/// Appends the beginning of the picture.
+// Appends the beginning of the picture.
 fn push_picture_begin(text: &mut Vec<u8>, extent: Extent) -> Result<(), AllocError> {
     if extent.scale.is_small {
         text.extend_from_slice(b"<svg class='small'")?;
@@ -151,7 +151,7 @@ fn push_picture_begin(text: &mut Vec<u8>, extent: Extent) -> Result<(), AllocErr
     text.extend_from_slice(HEADS)
 }
 
-/// Appends a line for each lane.
+// Appends a line for each lane.
 fn push_lanes(text: &mut Vec<u8>, extent: Extent) -> Result<(), AllocError> {
     for worker in 0..extent.workers {
         push_attribute(text, b"<line class='lane' x1='0' x2='", extent.width())?;

@@ -24,7 +24,7 @@ pub(crate) fn push_hue(text: &mut Vec<u8>, line: u32) -> Result<(), AllocError>
     text.extend_from_slice(b"'")
 }
 
-/// Appends where a step's box stands.
+// Appends where a step's box stands.
 fn push_corner(text: &mut Vec<u8>, scale: Scale, step: &StepBox) -> Result<(), AllocError>
     ensures { OnOk result (text.new.items ≡ text.old.items ++ corner_text scale step.now) }
 {
@@ -32,7 +32,7 @@ fn push_corner(text: &mut Vec<u8>, scale: Scale, step: &StepBox) -> Result<(), A
     push_attribute(text, b" y='", scale.top(step.worker))
 }
 
-/// Appends what is shown of a step when its box is pointed at.
+// Appends what is shown of a step when its box is pointed at.
 fn push_title(text: &mut Vec<u8>, step: &StepBox) -> Result<(), AllocError>
     ensures { OnOk result (text.new.items ≡ text.old.items ++ title_text step.now) }
 {
@@ -44,7 +44,7 @@ fn push_title(text: &mut Vec<u8>, step: &StepBox) -> Result<(), AllocError>
     text.extend_from_slice(b"</title>")
 }
 
-/// Appends the upper words in a step's box: its serial, instruction and line.
+// Appends the upper words in a step's box: its serial, instruction and line.
 fn push_upper(text: &mut Vec<u8>, step: &StepBox) -> Result<(), AllocError>
     ensures { OnOk result (text.new.items ≡ text.old.items ++ upper_text step.now) }
 {
@@ -54,7 +54,7 @@ fn push_upper(text: &mut Vec<u8>, step: &StepBox) -> Result<(), AllocError>
     text.extend_from_slice(b"</text>")
 }
 
-/// Appends the words in a step's box: below the upper ones a value.
+// Appends the words in a step's box: below the upper ones a value.
 fn push_lines(text: &mut Vec<u8>, step: &StepBox) -> Result<(), AllocError>
     ensures { OnOk result (text.new.items ≡ text.old.items ++ lines_text step.now) }
 {
@@ -63,8 +63,8 @@ fn push_lines(text: &mut Vec<u8>, step: &StepBox) -> Result<(), AllocError>
     text.extend_from_slice(b"</text>")
 }
 
-/// Appends the class of a box. That of a step that met a fault is of a class of its own too, so that it is
-/// found at a glance.
+// Appends the class of a box. That of a step that met a fault is of a class of its own too, so that it is
+// found at a glance.
 fn push_class(text: &mut Vec<u8>, class: &[u8], step: &StepBox) -> Result<(), AllocError>
     ensures { OnOk result (text.new.items ≡ text.old.items ++ class_text class.now step.now) }
 {
@@ -75,7 +75,7 @@ fn push_class(text: &mut Vec<u8>, class: &[u8], step: &StepBox) -> Result<(), Al
     Ok(())
 }
 
-/// Appends a box of 6 by 6 points, of a class.
+// Appends a box of 6 by 6 points, of a class.
 fn push_mark(
     text: &mut Vec<u8>,
     class: &[u8],
@@ -94,7 +94,7 @@ fn push_mark(
     text.extend_from_slice(b"</rect>\n")
 }
 
-/// Appends the beginning of a box of 92 by 34 points, of a class.
+// Appends the beginning of a box of 92 by 34 points, of a class.
 fn push_card_begin(
     text: &mut Vec<u8>,
     class: &[u8],
@@ -112,7 +112,7 @@ fn push_card_begin(
     text.extend_from_slice(b">")
 }
 
-/// Appends a box of 92 by 34 points, of a class.
+// Appends a box of 92 by 34 points, of a class.
 fn push_card(
     text: &mut Vec<u8>,
     class: &[u8],

@@ -48,7 +48,7 @@ pub(crate) fn push_object(
     }
 }
 
-/// Appends bytes, and behind them a name.
+// Appends bytes, and behind them a name.
 fn push_named(text: &mut Vec<u8>, before: &[u8], name: &Name) -> Result<(), AllocError>
     ensures { OnOk result (text.new.items ≡ text.old.items ++ named_text before.now name.now) }
 {
@@ -56,7 +56,7 @@ fn push_named(text: &mut Vec<u8>, before: &[u8], name: &Name) -> Result<(), Allo
     name.text(text)
 }
 
-/// Appends bytes, a name and a number.
+// Appends bytes, a name and a number.
 fn push_in_team(
     text: &mut Vec<u8>,
     before: &[u8],
@@ -70,7 +70,7 @@ fn push_in_team(
     push_numbered(text, b" number ", number)
 }
 
-/// Appends what stands before a cell: the name of its variable, if it is known.
+// Appends what stands before a cell: the name of its variable, if it is known.
 fn push_before_cell(text: &mut Vec<u8>, name: &[u8]) -> Result<(), AllocError>
     ensures { OnOk result (text.new.items ≡ text.old.items ++ before_cell name.now) }
 {
@@ -81,7 +81,7 @@ fn push_before_cell(text: &mut Vec<u8>, name: &[u8]) -> Result<(), AllocError>
     text.extend_from_slice(b" (")
 }
 
-/// Appends what stands behind it.
+// Appends what stands behind it.
 fn push_behind_cell(text: &mut Vec<u8>, name: &[u8]) -> Result<(), AllocError>
     ensures { OnOk result (text.new.items ≡ text.old.items ++ behind_cell name.now) }
 {
@@ -91,7 +91,7 @@ fn push_behind_cell(text: &mut Vec<u8>, name: &[u8]) -> Result<(), AllocError>
     text.extend_from_slice(b")")
 }
 
-/// Appends the words for a cell of a local variable.
+// Appends the words for a cell of a local variable.
 fn push_cell(
     text: &mut Vec<u8>,
     task: &Name,
@@ -108,8 +108,8 @@ fn push_cell(
     push_numbered(text, b"/", index)
 }
 
-/// Appends a cell of a global as the source writes it: `x`, or `a[2]`. Nothing is written where the
-/// program has no such global.
+// Appends a cell of a global as the source writes it: `x`, or `a[2]`. Nothing is written where the
+// program has no such global.
 fn push_variable(
     text: &mut Vec<u8>,
     program: &Program,
@@ -126,7 +126,7 @@ fn push_variable(
     push_index(text, global.length, index)
 }
 
-/// Appends the index of an array's cell; a scalar has none.
+// Appends the index of an array's cell; a scalar has none.
 fn push_index(text: &mut Vec<u8>, length: Option<u32>, index: u32) -> Result<(), AllocError>
     ensures { OnOk result (text.new.items ≡ text.old.items ++ index_words length index) }
 {
@@ -137,14 +137,14 @@ fn push_index(text: &mut Vec<u8>, length: Option<u32>, index: u32) -> Result<(),
     text.extend_from_slice(b"]")
 }
 
-/// Appends the words for a critical region's lock, with its name where it has one.
+// Appends the words for a critical region's lock, with its name where it has one.
 fn push_lock(text: &mut Vec<u8>, program: &Program, lock: u32) -> Result<(), AllocError>
     ensures { OnOk result (text.new.items ≡ text.old.items ++ lock_words program.now lock) }
 {
     push_after(text, b"lock of critical ", name_of_lock(program, lock))
 }
 
-/// The name of a critical region; it is empty where it has none.
+// The name of a critical region; it is empty where it has none.
 fn name_of_lock(program: &Program, lock: u32) -> &[u8]
     ensures { result.now ≡ name_of_lock program.now lock }
 {

@@ -18,7 +18,7 @@ pub struct Scale {
 }
 
 impl Scale {
-    /// The column of a step, from 0.
+    // The column of a step, from 0.
     fn column(self, serial: u64) -> u128
         ensures column { result ≡ serial - self.first }
         ensures fits { result < 2 ^ 64 }

@@ -15,9 +15,9 @@ pub(crate) struct Story<'a> {
     pub(crate) gone: Vec<StepBox>,
     /// For each undo that was refused an arrow from the step in the way to the one that stayed.
     pub(crate) refused: Vec<Arrow>,
-    /// The serials of each worker's steps that stand, the last one last.
+    // The serials of each worker's steps that stand, the last one last.
     standing: Vec<Vec<u64>>,
-    /// The steps that stand at the end, by their serials.
+    // The steps that stand at the end, by their serials.
     steps: BTreeMap<u64, &'a Traced>,
 }
 
@@ -42,7 +42,7 @@ pub(crate) fn story_of<'a>(
     Ok(story)
 }
 
-/// The worker that a command is for, if it is for one.
+// The worker that a command is for, if it is for one.
 fn worker_of(command: &Command) -> Option<u8> {
     match command {
         Command::Step { worker, choice: _ } => Some(*worker),
@@ -52,7 +52,7 @@ fn worker_of(command: &Command) -> Option<u8> {
 }
 
 impl Story<'_> {
-    /// Takes one more call in.
+    // Takes one more call in.
     fn follow(&mut self, alloc: Global, record: &JournalRecord) -> Result<(), AllocError> {
         match &record.reply {
             Reply::Step(StepReply::Done { serial, .. }) => {
@@ -66,7 +66,7 @@ impl Story<'_> {
         }
     }
 
-    /// A step was made.
+    // A step was made.
     fn stand(&mut self, alloc: Global, serial: u64, worker: Option<u8>) -> Result<(), AllocError> {
         let Some(worker) = worker else {
             return Ok(());
@@ -80,7 +80,7 @@ impl Story<'_> {
         Ok(())
     }
 
-    /// An undo was answered.
+    // An undo was answered.
     fn undo(
         &mut self,
         alloc: Global,
@@ -116,7 +116,7 @@ impl Story<'_> {
         }
     }
 
-    /// A roll took these out.
+    // A roll took these out.
     fn roll(&mut self, alloc: Global, members: &[Taken]) -> Result<(), AllocError> {
         for member in members {
             self.leave(alloc, member)?;
@@ -124,7 +124,7 @@ impl Story<'_> {
         Ok(())
     }
 
-    /// A step was taken out: the last one of its worker.
+    // A step was taken out: the last one of its worker.
     fn leave(&mut self, alloc: Global, taken: &Taken) -> Result<(), AllocError> {
         if let Some(serials) = self.standing.get_mut(usize::from(taken.worker)) {
             let _ = serials.pop();
@@ -141,7 +141,7 @@ impl Story<'_> {
         Ok(())
     }
 
-    /// The local variable that a step names, if it stands at the end and names one.
+    // The local variable that a step names, if it stands at the end and names one.
     fn variable_of(&self, serial: u64) -> &[u8] {
         match self.steps.get(&serial) {
             Some(step) => step.variable.as_slice(),
@@ -149,7 +149,7 @@ impl Story<'_> {
         }
     }
 
-    /// The local variable that the first of two steps names, or else the second.
+    // The local variable that the first of two steps names, or else the second.
     fn variable_between(&self, from: u64, to: u64) -> &[u8] {
         match self.variable_of(from) {
             [] => self.variable_of(to),
@@ -157,7 +157,7 @@ impl Story<'_> {
         }
     }
 
-    /// An undo of a worker's last step was refused, for a step in the way.
+    // An undo of a worker's last step was refused, for a step in the way.
     fn refuse(
         &mut self,
         alloc: Global,

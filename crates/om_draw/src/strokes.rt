@@ -12,7 +12,7 @@ use om_foot::Obj;
 use om_picture::{Arrow, End};
 use std::alloc::AllocError;
 
-/// Appends what is shown of an arrow when it is pointed at.
+// Appends what is shown of an arrow when it is pointed at.
 fn push_name(text: &mut Vec<u8>, program: &Program, arrow: &Arrow) -> Result<(), AllocError>
     ensures { OnOk result (text.new.items ≡ text.old.items ++ name_text program.now arrow.now) }
 {
@@ -23,7 +23,7 @@ fn push_name(text: &mut Vec<u8>, program: &Program, arrow: &Arrow) -> Result<(),
     text.extend_from_slice(b"</title>")
 }
 
-/// Appends the line of an arrow.
+// Appends the line of an arrow.
 fn push_line(text: &mut Vec<u8>, scale: Scale, from: End, to: End) -> Result<(), AllocError>
     ensures { OnOk result (text.new.items ≡ text.old.items ++ line_text scale from to) }
 {
@@ -34,7 +34,7 @@ fn push_line(text: &mut Vec<u8>, scale: Scale, from: End, to: End) -> Result<(),
     text.extend_from_slice(b"/>")
 }
 
-/// Appends the words at an arrow's head.
+// Appends the words at an arrow's head.
 fn push_label(
     text: &mut Vec<u8>,
     program: &Program,
@@ -51,8 +51,8 @@ fn push_label(
     text.extend_from_slice(b"</text>")
 }
 
-/// Appends the class of an arrow. One at a worker's control, as from a fork to each step of the new worker,
-/// is of a class of its own too, so that it can be faint.
+// Appends the class of an arrow. One at a worker's control, as from a fork to each step of the new worker,
+// is of a class of its own too, so that it can be faint.
 fn push_class(text: &mut Vec<u8>, class: &[u8], object: &Obj) -> Result<(), AllocError>
     ensures { OnOk result (text.new.items ≡ text.old.items ++ class_text class.now object.now) }
 {

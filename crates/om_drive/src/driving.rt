@@ -76,7 +76,7 @@ pub fn drive_over<G: Gate + Drop + Send, D: Debuggee + Drop + Send, R: Threads +
     )
 }
 
-/// Drives within a scope.
+// Drives within a scope.
 #[tactic(auto, using(crate::proofs::Rounding::begins_none))]
 fn drive_in<
     's,
@@ -109,22 +109,22 @@ fn drive_in<
     }
 }
 
-/// The two sides of a drive.
+// The two sides of a drive.
 #[derive(Drop)]
 struct Drive<G, D> {
     ring: Ring<G>,
     ranks: Ranks<D>,
 }
 
-/// The debuggees that wait for their threads, and those that came back.
+// The debuggees that wait for their threads, and those that came back.
 #[derive(Drop)]
 struct Ranks<D> {
     waiting: Vec<D>,
     back: Vec<D>,
 }
 
-/// Starts the last debuggee's thread, then those before it, asks all, and joins them on the way
-/// back.
+// Starts the last debuggee's thread, then those before it, asks all, and joins them on the way
+// back.
 fn drive_from<
     's,
     E,
@@ -166,7 +166,7 @@ fn drive_from<
     push_within(&mut ranks.back, debuggee);
 }
 
-/// That a debuggee comes back as the one that it was.
+// That a debuggee comes back as the one that it was.
 #[derive(Drop)]
 struct AsItWas<D: Debuggee>(Snapshot<D>);
 
@@ -176,14 +176,14 @@ impl<D: Debuggee> Promise<D> for AsItWas<D> {
     ghost kept_by = { λ p d. D.place d ≡ D.place p.0.value };
 }
 
-/// A worker's thread, with the two ends that are kept here.
+// A worker's thread, with the two ends that are kept here.
 struct Started<D: Debuggee> {
     thread: PromisedHandle<D, AsItWas<D>>,
     orders: Sender<Order>,
     answers: Receiver<Answer>,
 }
 
-/// Starts a worker where there is a gate for it.
+// Starts a worker where there is a gate for it.
 fn start_if<
     's,
     E,
@@ -201,7 +201,7 @@ fn start_if<
     start(scope, rt, ring.alloc, gate, debuggee)
 }
 
-/// Starts a worker over a debuggee. Where there is no memory or no thread, the debuggee comes back.
+// Starts a worker over a debuggee. Where there is no memory or no thread, the debuggee comes back.
 fn start<
     's,
     E,
@@ -234,8 +234,8 @@ fn start<
     }
 }
 
-/// What is kept on this side: the gates that wait for their threads, the ends of the channels, and
-/// what came of the orders.
+// What is kept on this side: the gates that wait for their threads, the ends of the channels, and
+// what came of the orders.
 #[derive(Drop)]
 struct Ring<G> {
     alloc: Global,
@@ -260,7 +260,7 @@ impl<G: Drop> Ring<G> {
         }
     }
 
-    /// The gate of the last debuggee that waits; none where something broke off.
+    // The gate of the last debuggee that waits; none where something broke off.
     fn next_gate(&mut self) -> Option<G>
         ensures { self.new.answers ≡ self.old.answers }
     {
@@ -270,7 +270,7 @@ impl<G: Drop> Ring<G> {
         self.gates.pop()
     }
 
-    /// Puts a worker's ends before the others.
+    // Puts a worker's ends before the others.
     fn add(&mut self, sender: Sender<Order>, receiver: Receiver<Answer>)
         ensures { self.new.answers ≡ self.old.answers }
     {
@@ -279,14 +279,14 @@ impl<G: Drop> Ring<G> {
         }
     }
 
-    /// Says that there was no memory, or no thread.
+    // Says that there was no memory, or no thread.
     fn break_off(&mut self)
         ensures { self.new.answers ≡ self.old.answers }
     {
         self.fault = Some(Fault::Memory);
     }
 
-    /// Asks all orders, and lets go of the ends, so that the workers end.
+    // Asks all orders, and lets go of the ends, so that the workers end.
     #[tactic(auto, using(crate::proofs::Rounding::begins_none, crate::proofs::Rounding::begins_all))]
     fn ask<R: Wait>(&mut self, rt: &R, orders: &[Vec<Order>])
         ensures part { Begins (map answer_number self.old.answers.items)
@@ -308,8 +308,8 @@ impl<G: Drop> Ring<G> {
     }
 }
 
-/// Asks all orders, and answers what broke off, if something did. There are as many ends of each kind
-/// as lists of orders. They differ only where there was no memory for an end.
+// Asks all orders, and answers what broke off, if something did. There are as many ends of each kind
+// as lists of orders. They differ only where there was no memory for an end.
 #[tactic(auto, using(crate::proofs::Rounding::begins_none, crate::proofs::Rounding::begins_all))]
 fn asked<R: Wait>(
     rt: &R,

@@ -63,7 +63,7 @@ pub fn run_freely<R: Threads + Wait + Sync>(
     )
 }
 
-/// The book behind a free run, and what the run came to.
+// The book behind a free run, and what the run came to.
 #[tactic(auto, using(crate::proofs::Freeing::goes_on_same))]
 fn ran_freely<R: Threads + Wait + Sync>(
     errand: Errand<'_, R>,
@@ -81,7 +81,7 @@ fn ran_freely<R: Threads + Wait + Sync>(
     run_through::<Brand, _>(errand, gates, Blank::new(workers), book)
 }
 
-/// A gate that holds nobody back.
+// A gate that holds nobody back.
 #[derive(Clone, Copy, Drop)]
 struct Open;
 
@@ -91,7 +91,7 @@ impl Gate for Open {
     }
 }
 
-/// So many gates that are open.
+// So many gates that are open.
 fn open_gates(alloc: Global, workers: u8) -> Result<Vec<Open>, AllocError>
     ensures { IfOk result (λ gates. vec_len gates ≡ workers) }
 {
@@ -102,7 +102,7 @@ fn open_gates(alloc: Global, workers: u8) -> Result<Vec<Open>, AllocError>
     Ok(gates)
 }
 
-/// Opens a session over a book. It has as many seats as parts.
+// Opens a session over a book. It has as many seats as parts.
 #[tactic(auto, using(crate::specs::DistinctSeats::seats_count))]
 fn opened<L: Sitting>(
     alloc: Global,
@@ -120,7 +120,7 @@ fn opened<L: Sitting>(
     Session::<L>::new(alloc, blank, book)
 }
 
-/// Runs freely through a session over a book.
+// Runs freely through a session over a book.
 #[tactic(auto, using(crate::specs::DistinctSeats::seats_differ, crate::specs::DistinctSeats::seats_count, crate::specs::DistinctSeats::as_many_back, crate::proofs::Freeing::goes_on_same))]
 fn run_through<L: Sitting + Send + Sync, R: Threads + Wait + Sync>(
     errand: Errand<'_, R>,
@@ -163,18 +163,18 @@ fn run_through<L: Sitting + Send + Sync, R: Threads + Wait + Sync>(
     }
 }
 
-/// Whether nothing broke off a run: neither a fault, nor a receipt that does not stand. The clause
-/// speaks of the receipts alone.
+// Whether nothing broke off a run: neither a fault, nor a receipt that does not stand. The clause
+// speaks of the receipts alone.
 fn is_whole(all_stand: bool, fault: Option<Fault>) -> bool
     ensures { result ≡ true → all_stand ≡ true }
 {
     all_stand && fault.is_none()
 }
 
-/// A book behind a free run that found it with so many calls, and what the run came to. It is out of
-/// memory where the run is not whole.
-///
-/// A book keeps its records. So one in which a worker found no room is still full.
+// A book behind a free run that found it with so many calls, and what the run came to. It is out of
+// memory where the run is not whole.
+//
+// A book keeps its records. So one in which a worker found no room is still full.
 fn counted(book: Book, before: usize, full: bool, whole: bool) -> (Book, Result<Count, AllocError>)
     requires { before ≤ length book.journal }
     ensures book { result.0 ≡ book }

@@ -71,7 +71,7 @@ pub fn free<L: Sitting + Send + Sync, G: Gate + Drop + Send, R: Threads + Wait +
     }
 }
 
-/// Lets a worker of each debuggee run freely, and gives the debuggees back in their places.
+// Lets a worker of each debuggee run freely, and gives the debuggees back in their places.
 fn free_over<G: Gate + Drop + Send, D: Debuggee + Drop + Send, R: Threads + Wait + Sync>(
     rt: &R,
     debuggees: Vec<D>,
@@ -118,8 +118,8 @@ fn free_over<G: Gate + Drop + Send, D: Debuggee + Drop + Send, R: Threads + Wait
     )
 }
 
-/// The debuggees that wait for their threads with their gates, those that came back, and what came
-/// of them.
+// The debuggees that wait for their threads with their gates, those that came back, and what came
+// of them.
 #[derive(Drop)]
 struct Line<D, G> {
     waiting: Vec<D>,
@@ -128,7 +128,7 @@ struct Line<D, G> {
     tally: Tally,
 }
 
-/// What came of the workers that are back.
+// What came of the workers that are back.
 #[derive(Clone, Copy)]
 struct Tally {
     done: u64,
@@ -136,7 +136,7 @@ struct Tally {
     fault: Option<Fault>,
 }
 
-/// Runs freely within a scope.
+// Runs freely within a scope.
 fn free_in<
     's,
     E,
@@ -160,7 +160,7 @@ fn free_in<
     (back, tally)
 }
 
-/// Starts the last debuggee's thread, then those before it, and joins them on the way back.
+// Starts the last debuggee's thread, then those before it, and joins them on the way back.
 fn free_from<
     's,
     E,
@@ -207,8 +207,8 @@ fn free_from<
     line.take_back(ran);
 }
 
-/// That a runner's debuggee comes back as the one that it was, with as many further steps as are
-/// counted, and with no further call that is not its worker's own.
+// That a runner's debuggee comes back as the one that it was, with as many further steps as are
+// counted, and with no further call that is not its worker's own.
 #[derive(Drop)]
 struct Counted<G: Gate + Drop, D: Debuggee + Drop>(Snapshot<Runner<G, D>>);
 
@@ -223,7 +223,7 @@ impl<G: Gate + Drop, D: Debuggee + Drop> Promise<Ran<D>> for Counted<G, D> {
         ≡ others_in p.0.value.worker (D.made p.0.value.debuggee)) };
 }
 
-/// Starts a worker's thread. Where there is none, the worker makes its rounds here.
+// Starts a worker's thread. Where there is none, the worker makes its rounds here.
 fn start<
     's,
     E,
@@ -251,7 +251,7 @@ fn start<
 }
 
 impl<D: Debuggee + Drop, G> Line<D, G> {
-    /// Takes a debuggee back, and adds what came of it.
+    // Takes a debuggee back, and adds what came of it.
     fn take_back(&mut self, ran: Ran<D>)
         requires room { vec_len self.old.back < vec_capacity self.old.back }
         requires small { self.old.tally.done + 2 ^ 32 < 2 ^ 64 }
@@ -270,7 +270,7 @@ impl<D: Debuggee + Drop, G> Line<D, G> {
 }
 
 impl Tally {
-    /// With a worker's steps, and why it stopped.
+    // With a worker's steps, and why it stopped.
     fn with(self, done: u32, error: Option<CallError>) -> Tally
         requires { self.done + done < 2 ^ 64 }
         ensures { result.done ≡ self.done + done }
@@ -287,7 +287,7 @@ impl Tally {
         }
     }
 
-    /// Broken off: there was no memory, or no thread.
+    // Broken off: there was no memory, or no thread.
     fn broken_off(self) -> Tally
         ensures { result.done ≡ self.done }
     {

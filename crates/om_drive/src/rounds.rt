@@ -47,7 +47,7 @@ pub fn gather<R: Wait>(
     }
 }
 
-/// Takes the awaited answer.
+// Takes the awaited answer.
 fn await_one<R: Wait>(
     rt: &R,
     receiver: &Receiver<Answer>,
@@ -85,14 +85,14 @@ pub(crate) fn push_within<T: Drop>(items: &mut Vec<T>, item: T)
     };
 }
 
-/// Where the answers of a round are awaited, and their numbers.
+// Where the answers of a round are awaited, and their numbers.
 #[derive(Drop)]
 struct Awaited {
     receivers: Vec<Receiver<Answer>>,
     numbers: Vec<u64>,
 }
 
-/// What is awaited of the lists that have an order in this round.
+// What is awaited of the lists that have an order in this round.
 fn awaited_in(
     alloc: Global,
     receivers: &[Receiver<Answer>],
@@ -116,7 +116,7 @@ fn awaited_in(
 }
 
 impl Awaited {
-    /// Awaits the answer of an order, where there is one.
+    // Awaits the answer of an order, where there is one.
     fn add(&mut self, receiver: &Receiver<Answer>, order: Option<Order>) -> Result<(), AllocError>
         requires { vec_len self.old.receivers ≡ vec_len self.old.numbers }
         ensures numbers { OnOk result (self.new.numbers.items
@@ -132,7 +132,7 @@ impl Awaited {
     }
 }
 
-/// Takes an answer for each list that has an order in this round.
+// Takes an answer for each list that has an order in this round.
 fn take_round<R: Wait>(
     rt: &R,
     receivers: &[Receiver<Answer>],
@@ -153,7 +153,7 @@ fn take_round<R: Wait>(
     take_all(rt, awaited, answers)
 }
 
-/// Takes all answers that are awaited.
+// Takes all answers that are awaited.
 #[tactic(auto, using(crate::proofs::Rounding::begins_none, crate::proofs::Rounding::gathered_all, crate::proofs::Rounding::gathered_some))]
 fn take_all<R: Wait>(rt: &R, awaited: Awaited, answers: &mut Vec<Answer>) -> Result<(), Fault>
     requires { vec_len awaited.receivers ≡ vec_len awaited.numbers }
@@ -181,7 +181,7 @@ fn take_all<R: Wait>(rt: &R, awaited: Awaited, answers: &mut Vec<Answer>) -> Res
     }
 }
 
-/// Adds answers where there is room for them.
+// Adds answers where there is room for them.
 fn add_all(answers: &mut Vec<Answer>, mut taken: Vec<Answer>)
     requires { vec_len answers.old + vec_len taken ≤ vec_capacity answers.old }
     ensures { answers.new.items ≡ answers.old.items ++ taken.items }
@@ -191,7 +191,7 @@ fn add_all(answers: &mut Vec<Answer>, mut taken: Vec<Answer>)
     };
 }
 
-/// Sends the order that each list has in this round.
+// Sends the order that each list has in this round.
 fn send_round<R: Wait>(
     rt: &R,
     senders: &[Sender<Order>],

@@ -21,12 +21,12 @@ pub(crate) struct Runner<G: Gate + Drop, D: Debuggee + Drop> {
     pub(crate) worker: u8,
 }
 
-/// What came of a step that was asked for.
+// What came of a step that was asked for.
 #[derive(Clone, Copy)]
 struct Tried {
-    /// Whether it was made.
+    // Whether it was made.
     made: bool,
-    /// Whether it waits at a barrier or for tasks, so that another task may be begun there.
+    // Whether it waits at a barrier or for tasks, so that another task may be begun there.
     waits: bool,
 }
 
@@ -63,7 +63,7 @@ impl<G: Gate + Drop, D: Debuggee + Drop> Runner<G, D> {
         }
     }
 
-    /// Makes rounds. How many steps were made, and why not all rounds.
+    // Makes rounds. How many steps were made, and why not all rounds.
     fn make_rounds<R: Wait>(&mut self, rt: &R, rounds: u32) -> (u32, Option<CallError>)
         requires { self.old.worker < (D.place self.old.debuggee).workers }
         ensures place { D.place self.new.debuggee ≡ D.place self.old.debuggee }
@@ -84,8 +84,8 @@ impl<G: Gate + Drop, D: Debuggee + Drop> Runner<G, D> {
         (done, None)
     }
 
-    /// Makes the worker's next step, or where that waits for tasks, the start of the first that is
-    /// ready. Whether a step was made.
+    // Makes the worker's next step, or where that waits for tasks, the start of the first that is
+    // ready. Whether a step was made.
     fn round<R: Wait>(&mut self, rt: &R) -> Result<bool, CallError>
         requires { self.old.worker < (D.place self.old.debuggee).workers }
         ensures place { D.place self.new.debuggee ≡ D.place self.old.debuggee }
@@ -104,7 +104,7 @@ impl<G: Gate + Drop, D: Debuggee + Drop> Runner<G, D> {
         Ok(tried.made)
     }
 
-    /// Starts the first task that is ready, if there is one. Whether it was begun.
+    // Starts the first task that is ready, if there is one. Whether it was begun.
     fn start_first<R: Wait>(&mut self, rt: &R) -> Result<bool, CallError>
         requires { self.old.worker < (D.place self.old.debuggee).workers }
         ensures place { D.place self.new.debuggee ≡ D.place self.old.debuggee }
@@ -123,7 +123,7 @@ impl<G: Gate + Drop, D: Debuggee + Drop> Runner<G, D> {
         Ok(tried.made)
     }
 
-    /// The first task that is ready.
+    // The first task that is ready.
     fn first_ready<R: Wait>(&mut self, rt: &R) -> Result<Option<Name>, CallError>
         ensures place { D.place self.new.debuggee ≡ D.place self.old.debuggee }
         ensures worker { self.new.worker ≡ self.old.worker }
@@ -137,7 +137,7 @@ impl<G: Gate + Drop, D: Debuggee + Drop> Runner<G, D> {
         Ok(first)
     }
 
-    /// Steps by a choice.
+    // Steps by a choice.
     fn step<R: Wait>(&mut self, rt: &R, choice: Choice) -> Result<Tried, CallError>
         requires { self.old.worker < (D.place self.old.debuggee).workers }
         ensures place { D.place self.new.debuggee ≡ D.place self.old.debuggee }
@@ -160,7 +160,7 @@ impl<G: Gate + Drop, D: Debuggee + Drop> Runner<G, D> {
     }
 }
 
-/// The first of the tasks that are ready.
+// The first of the tasks that are ready.
 fn first_name(reply: &Reply) -> Option<Name> {
     let Reply::Ready(names) = reply else {
         return None;
@@ -168,7 +168,7 @@ fn first_name(reply: &Reply) -> Option<Name> {
     names.as_slice().first().copied()
 }
 
-/// Whether a step waits at a barrier or for tasks, so that another task may be begun there.
+// Whether a step waits at a barrier or for tasks, so that another task may be begun there.
 fn waits_for_tasks(reply: &Reply) -> bool {
     matches!(
         reply,

@@ -71,7 +71,7 @@ pub fn drive<L: Sitting + Send + Sync, G: Gate + Drop + Send, R: Threads + Wait 
     compared(seats, orders, marks, Gathered { answers, fault })
 }
 
-/// Seats that were told no order, since there was no memory.
+// Seats that were told no order, since there was no memory.
 fn undriven<L: Sitting>(seats: Vec<Seat<L>>) -> Driven<L>
     ensures seats { result.seats.items ≡ seats.items }
     ensures none { result.answers.items ≡ [] }
@@ -85,7 +85,7 @@ fn undriven<L: Sitting>(seats: Vec<Seat<L>>) -> Driven<L>
     }
 }
 
-/// So many zeros.
+// So many zeros.
 fn zeros(alloc: Global, count: usize) -> Result<Vec<usize>, AllocError>
     ensures { IfOk result (λ zeros. vec_len zeros ≡ count) }
 {
@@ -96,8 +96,8 @@ fn zeros(alloc: Global, count: usize) -> Result<Vec<usize>, AllocError>
     Ok(zeros)
 }
 
-/// Compares the answers with the receipts. An answer without its receipt is left out, which is a
-/// fault.
+// Compares the answers with the receipts. An answer without its receipt is left out, which is a
+// fault.
 #[tactic(auto, using(om_book::specs::KeptAnswers::kept_backed))]
 fn compared<L: Sitting>(
     seats: Vec<Seat<L>>,

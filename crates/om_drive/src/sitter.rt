@@ -37,7 +37,7 @@ impl<'s, L: Sitting> Debuggee for Sitter<'s, L> {
     }
 }
 
-/// The place of the last receipt.
+// The place of the last receipt.
 fn last_place(receipts: &[Receipt]) -> Option<u64>
     ensures { result ≡ last_place_in receipts.now }
 {

@@ -41,7 +41,7 @@ pub trait Gate {
     fn may_answer(&mut self, order: u64) -> bool;
 }
 
-/// How often a gate is asked at most. Then the worker goes on, and the answer is late.
+// How often a gate is asked at most. Then the worker goes on, and the answer is late.
 const MAX_ASKED: u32 = 1_000_000;
 
 /// A debuggee behind its gate.
@@ -102,8 +102,8 @@ impl<G: Gate + Drop, D: Debuggee + Drop> Worker<G, D> {
         debuggee
     }
 
-    /// Waits for an order and answers it. Whether it goes on: not where no order can come, where
-    /// its worker is out of range, or where nobody takes the answer.
+    // Waits for an order and answers it. Whether it goes on: not where no order can come, where
+    // its worker is out of range, or where nobody takes the answer.
     fn answer_next<R: Wait>(
         &mut self,
         rt: &R,
@@ -123,7 +123,7 @@ impl<G: Gate + Drop, D: Debuggee + Drop> Worker<G, D> {
     }
 }
 
-/// Whether somebody takes an item that is sent.
+// Whether somebody takes an item that is sent.
 fn is_taken<T: Drop, R: Wait>(rt: &R, sender: &Sender<T>, item: T) -> bool {
     sender.send(rt, item).is_ok()
 }

@@ -152,7 +152,7 @@ impl Draft {
         Ok(first)
     }
 
-    /// So many new labels, one behind the other, which have no place yet.
+    // So many new labels, one behind the other, which have no place yet.
     fn fresh_labels(&mut self, alloc: Global, count: u32) -> Made<Vec<usize>>
         ensures { IfOk result (λ labels. FreshLabels labels.items count self.old self.new) }
     {
@@ -193,7 +193,7 @@ impl Draft {
     }
 }
 
-/// Where a label stands; the begin of the body until that is known.
+// Where a label stands; the begin of the body until that is known.
 fn place_in(places: &[Option<usize>], label: usize) -> u32
     requires { AreShort places.now }
     ensures { result ≡ place_in places.now label }
@@ -204,7 +204,7 @@ fn place_in(places: &[Option<usize>], label: usize) -> u32
     }
 }
 
-/// A jump to a place.
+// A jump to a place.
 fn jump_to(jump: Jump, target: u32) -> Instr
     ensures { result ≡ jump_to jump target }
 {
@@ -221,7 +221,7 @@ fn jump_to(jump: Jump, target: u32) -> Instr
     }
 }
 
-/// A line, with the place of its jump's target.
+// A line, with the place of its jump's target.
 fn settled(places: &[Option<usize>], line: DraftLine) -> Line
     requires places { AreShort places.now }
     requires plain { IsPlain line }
@@ -236,7 +236,7 @@ fn settled(places: &[Option<usize>], line: DraftLine) -> Line
     }
 }
 
-/// The list of a PICK, with the place of each label.
+// The list of a PICK, with the place of each label.
 fn settled_list(alloc: Global, places: &[Option<usize>], pick: &Pick) -> Made<PickList>
     requires { AreShort places.now }
     ensures { IfOk result (λ list. list ≡ settled_list (place_in places.now) pick.now) }

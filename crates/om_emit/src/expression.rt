@@ -145,7 +145,7 @@ pub fn call(
     draft.put(here.at.line, Instr::Call { body, values })
 }
 
-/// Writes what stands behind the left operand of an operator between two (C17 6.5.5 to 6.5.14).
+// Writes what stands behind the left operand of an operator between two (C17 6.5.5 to 6.5.14).
 #[cycle(expression)]
 fn binary_end(
     draft: &mut Draft,
@@ -167,7 +167,7 @@ fn binary_end(
     }
 }
 
-/// Writes what stands behind the left operand of `a && b` (C17 6.5.13).
+// Writes what stands behind the left operand of `a && b` (C17 6.5.13).
 #[cycle(expression)]
 fn both_end(draft: &mut Draft, here: &Here<'_>, right: &ResolvedExpression) -> Done
     requires { ValueHasCode (view_resolved_expression right.now) }
@@ -181,7 +181,7 @@ fn both_end(draft: &mut Draft, here: &Here<'_>, right: &ResolvedExpression) -> D
     truth(draft, here.at.line, not_both, end)
 }
 
-/// Writes what stands behind the left operand of `a || b` (C17 6.5.14).
+// Writes what stands behind the left operand of `a || b` (C17 6.5.14).
 #[cycle(expression)]
 fn either_end(draft: &mut Draft, here: &Here<'_>, right: &ResolvedExpression) -> Done
     requires { ValueHasCode (view_resolved_expression right.now) }

@@ -121,7 +121,7 @@ pub fn step_element(
     draft.put_all(here.at.line, &stepped)
 }
 
-/// The old value of what was stepped, from the new one on top.
+// The old value of what was stepped, from the new one on top.
 fn step_back(draft: &mut Draft, here: &Here<'_>, operator: PostfixOperator) -> Done
     ensures { Appends result here.now stepped_back (inverse_step_of operator) draft.old draft.new }
 {

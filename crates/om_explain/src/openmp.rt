@@ -118,6 +118,6 @@ pub(crate) const CONSTRUCTS: [Row; 7] = [
     (b"single", IN_ANOTHER),
 ];
 
-/// Of worksharing and a barrier in a construct that they may not stand in (OpenMP 5.2, 17.1).
+// Of worksharing and a barrier in a construct that they may not stand in (OpenMP 5.2, 17.1).
 const IN_ANOTHER: &str =
     "no worksharing, masked, critical or task may stand round it without a parallel between: move it out";

@@ -13,10 +13,10 @@ use std::collections::BTreeMap;
 use std::marker::Model;
 use std::ops::Bound;
 
-/// How many serials a block has.
+// How many serials a block has.
 const IN_BLOCK: u64 = 64;
 
-/// Block numbers are below this, since serials are below 2^64.
+// Block numbers are below this, since serials are below 2^64.
 const BLOCKS: u64 = 1 << 58;
 
 /// Serials by blocks. Most serials that come are above all others, so the block of the newest lies
@@ -25,11 +25,11 @@ const BLOCKS: u64 = 1 << 58;
 /// Contracts see which serials are among them (`has_in`).
 #[derive(Drop)]
 pub struct Blocks {
-    /// The blocks before the newest one, by number.
+    // The blocks before the newest one, by number.
     older: BTreeMap<u64, Offsets>,
-    /// The number of the newest block.
+    // The number of the newest block.
     number: u64,
-    /// What is in it, if something still is.
+    // What is in it, if something still is.
     newest: Option<Offsets>,
 }
 
@@ -45,7 +45,7 @@ impl Model for Blocks {
         × IsApart b.newest b.older.entries };
 }
 
-/// Begins an older block with a serial. When out of memory, nothing changes.
+// Begins an older block with a serial. When out of memory, nothing changes.
 fn begin_older(older: &mut BTreeMap<u64, Offsets>, serial: u64) -> Result<(), AllocError>
     requires { block_of older.old.entries (serial / 64) ≡ None }
     ensures added { OnOk result
@@ -59,7 +59,7 @@ fn begin_older(older: &mut BTreeMap<u64, Offsets>, serial: u64) -> Result<(), Al
     Ok(())
 }
 
-/// Adds a serial to the older blocks. When out of memory, nothing changes.
+// Adds a serial to the older blocks. When out of memory, nothing changes.
 fn put_older(older: &mut BTreeMap<u64, Offsets>, serial: u64) -> Result<(), AllocError>
     ensures added { OnOk result
         ((s : ℕ) → in_older older.new.entries s ≡ cond (nat_eq serial s) true (in_older older.old.entries s)) }
@@ -77,7 +77,7 @@ fn put_older(older: &mut BTreeMap<u64, Offsets>, serial: u64) -> Result<(), Allo
     }
 }
 
-/// Puts other offsets in the place of those of a block that is there.
+// Puts other offsets in the place of those of a block that is there.
 fn replace(older: &mut BTreeMap<u64, Offsets>, number: u64, offsets: Offsets)
     requires { is_some (block_of older.old.entries number) ≡ true }
     ensures { (q : ℕ) → block_of older.new.entries q
@@ -89,7 +89,7 @@ fn replace(older: &mut BTreeMap<u64, Offsets>, number: u64, offsets: Offsets)
     }
 }
 
-/// Takes a serial out of the older blocks, if it is there. It takes no memory.
+// Takes a serial out of the older blocks, if it is there. It takes no memory.
 fn take_older(older: &mut BTreeMap<u64, Offsets>, serial: u64)
     ensures taken { (s : ℕ) → in_older older.new.entries s
         ≡ cond (nat_eq serial s) false (in_older older.old.entries s) }
@@ -107,7 +107,7 @@ fn take_older(older: &mut BTreeMap<u64, Offsets>, serial: u64)
     }
 }
 
-/// The first serial of the blocks behind one.
+// The first serial of the blocks behind one.
 fn first_behind(older: &BTreeMap<u64, Offsets>, number: u64) -> Option<u64>
     ensures { IsFirst (λ s. nat_lt number (s / 64) && in_older older.now.entries s) (number * 64 + 63) result }
 {
@@ -117,7 +117,7 @@ fn first_behind(older: &BTreeMap<u64, Offsets>, number: u64) -> Option<u64>
     serial_at(*number, offsets.first())
 }
 
-/// The serial at an offset of a block, where there is such a block.
+// The serial at an offset of a block, where there is such a block.
 fn serial_at(number: u64, offset: u64) -> Option<u64>
     requires { offset < 64 }
     ensures { result ≡ cond (nat_lt number (2 ^ 58)) (Some (number * 64 + offset)) None }
@@ -129,7 +129,7 @@ fn serial_at(number: u64, offset: u64) -> Option<u64>
     }
 }
 
-/// The first serial of a block after one of it.
+// The first serial of a block after one of it.
 fn first_within(offsets: &Offsets, serial: u64) -> Option<u64>
     ensures { IsFirst (λ s. nat_eq (serial / 64) (s / 64) && has_offset offsets.now (s % 64)) serial
         result }
@@ -138,7 +138,7 @@ fn first_within(offsets: &Offsets, serial: u64) -> Option<u64>
     serial_at(serial / IN_BLOCK, offset)
 }
 
-/// The first serial of the older blocks after another one.
+// The first serial of the older blocks after another one.
 fn first_older(older: &BTreeMap<u64, Offsets>, serial: u64) -> Option<u64>
     ensures { IsFirst (in_older older.now.entries) serial result }
 {
@@ -153,7 +153,7 @@ fn first_older(older: &BTreeMap<u64, Offsets>, serial: u64) -> Option<u64>
     }
 }
 
-/// Puts the newest block with the others. When out of memory, nothing changes.
+// Puts the newest block with the others. When out of memory, nothing changes.
 fn retire(
     older: &mut BTreeMap<u64, Offsets>,
     number: u64,
@@ -180,7 +180,7 @@ fn retire(
     }
 }
 
-/// Takes the last block out, if there is one. It takes no memory.
+// Takes the last block out, if there is one. It takes no memory.
 fn take_last(older: &mut BTreeMap<u64, Offsets>) -> Option<(u64, Offsets)>
     ensures was { IfSome result (λ block. block_of older.old.entries block.0 ≡ Some block.1) }
     ensures taken { IfSome result (λ block. (q : ℕ) → block_of older.new.entries q
@@ -192,7 +192,7 @@ fn take_last(older: &mut BTreeMap<u64, Offsets>) -> Option<(u64, Offsets)>
     older.pop_last()
 }
 
-/// Where the newest block is empty, the one before it takes its place. It takes no memory.
+// Where the newest block is empty, the one before it takes its place. It takes no memory.
 fn refill(older: &mut BTreeMap<u64, Offsets>, number: &mut u64, newest: &mut Option<Offsets>)
     requires low { number.old < 2 ^ 58 }
     requires before { AreBefore number.old older.old.entries }
@@ -212,7 +212,7 @@ fn refill(older: &mut BTreeMap<u64, Offsets>, number: &mut u64, newest: &mut Opt
     }
 }
 
-/// Takes a serial out of its block, if it is there.
+// Takes a serial out of its block, if it is there.
 fn take_newest(newest: &mut Option<Offsets>, serial: u64)
     ensures { (k : ℕ) → k < 64 → is_offset newest.new k
         ≡ cond (nat_eq (serial % 64) k) false (is_offset newest.old k) }
@@ -234,7 +234,7 @@ impl Blocks {
         }
     }
 
-    /// Adds a serial to the newest block, of which it is one.
+    // Adds a serial to the newest block, of which it is one.
     fn put_newest(&mut self, serial: u64)
         requires { serial / 64 ≡ self.old.number }
         ensures { (s : ℕ) → has_in self.new s ≡ cond (nat_eq serial s) true (has_in self.old s) }
@@ -245,7 +245,7 @@ impl Blocks {
         }
     }
 
-    /// Begins a new block with a serial. When out of memory, nothing changes.
+    // Begins a new block with a serial. When out of memory, nothing changes.
     fn begin(&mut self, serial: u64) -> Result<(), AllocError>
         requires { self.old.number < serial / 64 }
         ensures added { OnOk result
@@ -292,7 +292,7 @@ impl Blocks {
         }
     }
 
-    /// The first serial of the newest block after another one.
+    // The first serial of the newest block after another one.
     fn first_newest(&self, serial: u64) -> Option<u64>
         ensures { IsFirst (in_newest self.now.number self.now.newest) serial result }
     {

@@ -40,21 +40,21 @@ impl Model for Names {
     ghost view = { λ n. n.first ++ (cells_listed n.cells ++ n.last) };
 }
 
-/// From how many cells on those of a slot are named at once.
+// From how many cells on those of a slot are named at once.
 const MANY: u32 = 8;
 
-/// How more cells are named.
+// How more cells are named.
 #[derive(Clone, Copy)]
 enum Way {
-    /// At once.
+    // At once.
     AtOnce,
-    /// One by one, in the first part.
+    // One by one, in the first part.
     First,
-    /// One by one, in the last part.
+    // One by one, in the last part.
     Last,
 }
 
-/// How so many cells more are named, behind these cells and single objects.
+// How so many cells more are named, behind these cells and single objects.
 fn way_of(cells: &[Cells], last: &[Access], count: u32) -> Way
     ensures at_once { result ≡ Way.AtOnce → last.now ≡ [] }
     ensures first { result ≡ Way.First → (cells.now ≡ []) × (last.now ≡ []) }
@@ -68,7 +68,7 @@ fn way_of(cells: &[Cells], last: &[Access], count: u32) -> Way
     Way::First
 }
 
-/// Whether nothing stands behind the first part.
+// Whether nothing stands behind the first part.
 fn is_alone(cells: &[Cells], last: &[Access]) -> bool
     ensures { result ≡ true → (cells.now ≡ []) × (last.now ≡ []) }
 {
@@ -86,7 +86,7 @@ fn list_cell(names: &mut Seq<Access>, slot: &SlotName, index: u32) -> Result<(),
     })
 }
 
-/// Appends the access of each of these cells.
+// Appends the access of each of these cells.
 fn list_cells(names: &mut Seq<Access>, cells: &Cells) -> Result<(), AllocError>
     ensures { OnOk result (names.new ≡ names.old ++ cells_of cells.now) }
 {
@@ -96,7 +96,7 @@ fn list_cells(names: &mut Seq<Access>, cells: &Cells) -> Result<(), AllocError>
     Ok(())
 }
 
-/// Appends the access of each cell of all of these.
+// Appends the access of each cell of all of these.
 fn list_each(names: &mut Seq<Access>, all: &[Cells]) -> Result<(), AllocError>
     ensures { OnOk result (names.new ≡ names.old ++ cells_listed all.now) }
 {
@@ -165,7 +165,7 @@ impl Names {
         }
     }
 
-    /// Appends these accesses.
+    // Appends these accesses.
     fn push_each(&mut self, others: &[Access]) -> Result<(), AllocError>
         ensures { OnOk result (self.new ≡ self.old ++ others.now) }
     {
@@ -186,7 +186,7 @@ impl Names {
         self.push_each(others.last.as_slice())
     }
 
-    /// Appends the cells of each of these.
+    // Appends the cells of each of these.
     fn push_each_of(&mut self, others: &[Cells]) -> Result<(), AllocError>
         ensures { OnOk result (self.new ≡ self.old ++ cells_listed others.now) }
     {

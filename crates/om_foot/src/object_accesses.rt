@@ -36,7 +36,7 @@ impl Model for ObjectAccesses {
         × IfSome a.add (λ shared. shared ≡ record { object = a.object; mode = modes.Add }) };
 }
 
-/// An object's access with a mode, made where it was not asked for before.
+// An object's access with a mode, made where it was not asked for before.
 fn access_of(
     alloc: Global,
     object: &SharedObject,

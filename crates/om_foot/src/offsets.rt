@@ -11,7 +11,7 @@ use std::marker::Model;
 /// Contracts see which offsets are among them (`has_offset`).
 #[derive(Drop)]
 pub struct Offsets {
-    /// Bit k is set where offset k is among them.
+    // Bit k is set where offset k is among them.
     bits: u64,
 }
 

@@ -33,7 +33,7 @@ pub fn sooner(first: Option<u64>, other: Option<u64>) -> Option<u64>
     }
 }
 
-/// The set of two serials.
+// The set of two serials.
 fn both(alloc: Global, first: u64, other: u64) -> Result<Box<Blocks>, AllocError>
     ensures { IfOk result (λ serials. (s : ℕ) → has_in serials.value s
         ≡ cond (nat_eq other s) true (nat_eq first s)) }

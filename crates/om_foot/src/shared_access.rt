@@ -8,9 +8,9 @@ use crate::shared_object::SharedObject;
 use std::alloc::{AllocError, Global};
 use std::marker::Model;
 
-/// A shared object, and how it is accessed.
-///
-/// Contracts see the access alone.
+// A shared object, and how it is accessed.
+//
+// Contracts see the access alone.
 #[derive(Drop)]
 struct ObjectAccess {
     object: SharedObject,

@@ -40,8 +40,8 @@ impl Model for BySerial {
     ghost invariant = { λ b. AreRising 0 b.rows.items };
 }
 
-/// The place of a serial among rows, as far as counting from the end finds it: it does where no
-/// serial is left out behind it.
+// The place of a serial among rows, as far as counting from the end finds it: it does where no
+// serial is left out behind it.
 fn place_from_end(rows: &[Row], serial: u64) -> Option<usize>
     ensures { IfSome result
         (λ i. (r : Row) × (slice_get rows.now i ≡ Some r) × (r.serial ≡ serial)) }
@@ -53,7 +53,7 @@ fn place_from_end(rows: &[Row], serial: u64) -> Option<usize>
     (row.serial == serial).then_some(place)
 }
 
-/// The place of a serial among rows, found by a binary search, if it has one.
+// The place of a serial among rows, found by a binary search, if it has one.
 fn place_by_search(rows: &[Row], serial: u64) -> Option<usize>
     requires { AreRising 0 rows.now }
     ensures found { IfSome result
@@ -65,7 +65,7 @@ fn place_by_search(rows: &[Row], serial: u64) -> Option<usize>
     (row.serial == serial).then_some(place)
 }
 
-/// The place of a serial among rows, if it has one. Few serials are left out, so most are found at once.
+// The place of a serial among rows, if it has one. Few serials are left out, so most are found at once.
 fn place(rows: &[Row], serial: u64) -> Option<usize>
     requires { AreRising 0 rows.now }
     ensures found { IfSome result
@@ -78,7 +78,7 @@ fn place(rows: &[Row], serial: u64) -> Option<usize>
     }
 }
 
-/// Takes out the rows without a record behind the last one that has one. It takes no memory.
+// Takes out the rows without a record behind the last one that has one. It takes no memory.
 fn drop_gone(rows: &mut Vec<Row>)
     requires { AreRising 0 rows.old.items }
     ensures same { entries_in rows.new.items ≡ entries_in rows.old.items }
@@ -93,10 +93,10 @@ fn drop_gone(rows: &mut Vec<Row>)
     }
 }
 
-/// Makes room for one more row. Where there is none, all rows without a record go, and then room is
-/// asked for until half of it is free. So a row that comes costs amortized constant time, as long as
-/// memory is given. When out of memory, the records are the same, and the next call may pass over all
-/// rows again.
+// Makes room for one more row. Where there is none, all rows without a record go, and then room is
+// asked for until half of it is free. So a row that comes costs amortized constant time, as long as
+// memory is given. When out of memory, the records are the same, and the next call may pass over all
+// rows again.
 fn make_room(rows: &mut Vec<Row>) -> Result<(), AllocError>
     requires rising { AreRising 0 rows.old.items }
     requires last { LastStands rows.old.items }

@@ -22,7 +22,7 @@ use om_values::{Run, Was};
 use std::alloc::{AllocError, Global};
 use std::mem;
 
-/// Takes what is put at the cells of slots back, the last slot first. It takes no memory.
+// Takes what is put at the cells of slots back, the last slot first. It takes no memory.
 fn take_back_cells(store: &mut Store, all: &[SharedCells], were: &mut Vec<Seq<Was>>)
     requires kept { All (λ a. is_kept store.old a.object ≡ true) (cells_listed all.now) }
     requires along { WereAlong all.now were.old.items }
@@ -41,8 +41,8 @@ fn take_back_cells(store: &mut Store, all: &[SharedCells], were: &mut Vec<Seq<Wa
     take_back_cells(store, earlier, were);
 }
 
-/// Puts the value of a run into the cells of each of these slots, and answers what they were. When out of
-/// memory, no value changes.
+// Puts the value of a run into the cells of each of these slots, and answers what they were. When out of
+// memory, no value changes.
 fn make_cells(
     store: &mut Store,
     alloc: Global,
@@ -77,8 +77,8 @@ fn make_cells(
     Ok(were)
 }
 
-/// Makes updates in parts, behind the first access, and leaves in their place what a small record holds
-/// of them. When out of memory, no value changes. What the updates are then is not said.
+// Makes updates in parts, behind the first access, and leaves in their place what a small record holds
+// of them. When out of memory, no value changes. What the updates are then is not said.
 fn make_parts(
     store: &mut Store,
     alloc: Global,
@@ -165,8 +165,8 @@ pub(crate) fn make_further(
     }
 }
 
-/// Takes updates in parts back, behind the first access, by what a small record holds of them. It takes
-/// no memory.
+// Takes updates in parts back, behind the first access, by what a small record holds of them. It takes
+// no memory.
 fn take_back_parts(store: &mut Store, footprint: &Accesses, back: &mut BackParts)
     requires kept { All (λ a. is_kept store.old a.object ≡ true)
         (drop 1 (accesses_of footprint.now)) }

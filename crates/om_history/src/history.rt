@@ -53,7 +53,7 @@ impl Drop for History {
     }
 }
 
-/// The fault that a worker comes to by edits of its control, or met before them.
+// The fault that a worker comes to by edits of its control, or met before them.
 fn fault_by(store: &Store, worker: u8, edits: &[Edit]) -> Option<Fault>
     ensures { result ≡ fault_in
         (changed edits.now (control_in (state_of store.now (obj.Control worker)))) }
@@ -96,8 +96,8 @@ impl History {
         self.records.entries(alloc)
     }
 
-    /// Undoes a worker's last entry, which has this serial, by the whole reply to that. A reply may hold an
-    /// object, which is large, so this stands apart: it is needed where a later entry conflicts.
+    // Undoes a worker's last entry, which has this serial, by the whole reply to that. A reply may hold an
+    // object, which is large, so this stands apart: it is needed where a later entry conflicts.
     #[cold]
     #[inline(never)]
     fn undo_by_reply(&mut self, worker: u8, serial: u64) -> UndoReply

@@ -28,7 +28,7 @@ pub(crate) struct Making {
     pub runs: Seq<Run>,
 }
 
-/// Each update by itself. Its only error is out of memory.
+// Each update by itself. Its only error is out of memory.
 fn rejoined(alloc: Global, parts: PutParts) -> Result<Vec<Update>, AllocError>
     ensures { IfOk result (λ all. all.items
         ≡ parts.first.items ++ (runs_listed parts.runs ++ parts.last.items)) }
@@ -43,7 +43,7 @@ fn rejoined(alloc: Global, parts: PutParts) -> Result<Vec<Update>, AllocError>
     Ok(all.into_vec())
 }
 
-/// Whether each run has a put for each cell of a slot.
+// Whether each run has a put for each cell of a slot.
 fn are_along(all: &[Cells], runs: &[Run]) -> bool
     ensures { result ≡ are_along all.now runs.now }
 {
@@ -56,8 +56,8 @@ fn are_along(all: &[Cells], runs: &[Run]) -> bool
     cells.count == run.count && are_along(others, behind)
 }
 
-/// A step of single updates, whose worker's control is kept. Where that is all that it touches, its accesses
-/// take no memory. No value changes, also when out of memory.
+// A step of single updates, whose worker's control is kept. Where that is all that it touches, its accesses
+// take no memory. No value changes, also when out of memory.
 fn plain(
     store: &mut Store,
     alloc: Global,
@@ -85,9 +85,9 @@ fn plain(
     })
 }
 
-/// A step that names cells at once, where each run has a put for each of them, and else one of single
-/// updates; its worker's control is kept. No value changes, also when out of memory. Few steps name cells at
-/// once.
+// A step that names cells at once, where each run has a put for each of them, and else one of single
+// updates; its worker's control is kept. No value changes, also when out of memory. Few steps name cells at
+// once.
 #[cold]
 #[inline(never)]
 fn in_parts(

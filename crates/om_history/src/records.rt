@@ -72,7 +72,7 @@ impl Model for Records {
     ghost invariant = { λ r. IsIndexed r.kept r.lists r.own };
 }
 
-/// Adds the touches of an entry to both lists. When out of memory, no touch changes.
+// Adds the touches of an entry to both lists. When out of memory, no touch changes.
 #[tactic(auto, using(om_touches::specs::Lists::added_out, om_touches::specs::Lists::only_added))]
 fn note(
     lists: &mut TouchLists,
@@ -96,7 +96,7 @@ fn note(
     Ok(())
 }
 
-/// Takes the touches of an entry out of both lists. It takes no memory.
+// Takes the touches of an entry out of both lists. It takes no memory.
 fn forget(lists: &mut TouchLists, own: &mut OwnEntries, made: &Kept)
     requires { AreOnly made.now.footprint made.now.entry.serial lists.old }
     ensures lists { AreWithout made.now.footprint made.now.entry.serial lists.old lists.new }
@@ -106,8 +106,8 @@ fn forget(lists: &mut TouchLists, own: &mut OwnEntries, made: &Kept)
     own.remove(made.worker(), made.serial());
 }
 
-/// Adds a record whose serial is above all others, and its touches. When out of memory, nothing
-/// changes, and the record comes back.
+// Adds a record whose serial is above all others, and its touches. When out of memory, nothing
+// changes, and the record comes back.
 fn enter(
     kept: &mut BySerial,
     lists: &mut TouchLists,
@@ -135,8 +135,8 @@ fn enter(
     Ok(())
 }
 
-/// Takes the record with a serial out, and its touches. It takes no memory, and moves no other
-/// record.
+// Takes the record with a serial out, and its touches. It takes no memory, and moves no other
+// record.
 fn leave(kept: &mut BySerial, lists: &mut TouchLists, own: &mut OwnEntries, serial: u64) -> Kept
     requires indexed { IsIndexed kept.old lists.old own.old }
     requires there { HasSerial serial (values_of kept.old) }
@@ -156,8 +156,8 @@ fn leave(kept: &mut BySerial, lists: &mut TouchLists, own: &mut OwnEntries, seri
     }
 }
 
-/// The reply that names the record with the serial `first` where it conflicts with the one of another
-/// serial, else that this one is undone.
+// The reply that names the record with the serial `first` where it conflicts with the one of another
+// serial, else that this one is undone.
 fn refusal_by(kept: &BySerial, undone: &Kept, serial: u64, first: u64) -> UndoReply
     requires { IsSome (lookup (is_at (nat_cmp first)) kept.now) }
     ensures { IfSome (lookup (is_at (nat_cmp first)) kept.now)
@@ -181,8 +181,8 @@ fn refusal_by(kept: &BySerial, undone: &Kept, serial: u64, first: u64) -> UndoRe
     }
 }
 
-/// The serial of the first record after one that conflicts with its footprint. No list is searched where
-/// none is behind it.
+// The serial of the first record after one that conflicts with its footprint. No list is searched where
+// none is behind it.
 fn first_conflict(kept: &BySerial, lists: &TouchLists, undone: &Kept, serial: u64) -> Option<u64>
     requires by_serial { AreBySerial 0 kept.now }
     requires lists { AreListsOf (λ k. k.footprint) (values_of kept.now) lists.now }
@@ -194,7 +194,7 @@ fn first_conflict(kept: &BySerial, lists: &TouchLists, undone: &Kept, serial: u6
     lists.first_conflict(undone.footprint(), serial)
 }
 
-/// What an undo of the entry with a serial answers.
+// What an undo of the entry with a serial answers.
 fn reply_at(kept: &BySerial, lists: &TouchLists, serial: u64) -> UndoReply
     requires by_serial { AreBySerial 0 kept.now }
     requires lists { AreListsOf (λ k. k.footprint) (values_of kept.now) lists.now }
@@ -214,7 +214,7 @@ fn reply_at(kept: &BySerial, lists: &TouchLists, serial: u64) -> UndoReply
     }
 }
 
-/// Whether a record conflicts with one of those whose touches these are.
+// Whether a record conflicts with one of those whose touches these are.
 fn meets(members: &TouchLists, made: &Kept) -> bool
     ensures { (ms : List UndoRecord) → AreListsOf (λ k. k.footprint) ms members.now → AreAbove 0 ms
         → result ≡ meets_one (transitions_of ms) (transition_of made.now) }
@@ -222,8 +222,8 @@ fn meets(members: &TouchLists, made: &Kept) -> bool
     members.first_conflict(made.footprint(), 0).is_some()
 }
 
-/// Whether a record is of the cone of the entry with a serial, by the touches of the members before
-/// it.
+// Whether a record is of the cone of the entry with a serial, by the touches of the members before
+// it.
 fn is_member(members: &TouchLists, made: &Kept, serial: u64) -> bool
     ensures { (ms : List UndoRecord) → AreListsOf (λ k. k.footprint) ms members.now → AreAbove 0 ms
         → result ≡ is_member_of serial (transitions_of ms) (transition_of made.now) }
@@ -231,7 +231,7 @@ fn is_member(members: &TouchLists, made: &Kept, serial: u64) -> bool
     made.serial() == serial || meets(members, made)
 }
 
-/// What names the entry of a record.
+// What names the entry of a record.
 fn name(made: &Kept) -> Taken
     ensures { result ≡ taken_of (transition_of made.now) }
 {
@@ -242,9 +242,9 @@ fn name(made: &Kept) -> Taken
     }
 }
 
-/// What names the members of the cone of the entry with a serial, in their order: a later entry is
-/// one where it conflicts with the touches of the members so far. There is none where no entry has
-/// that serial.
+// What names the members of the cone of the entry with a serial, in their order: a later entry is
+// one where it conflicts with the touches of the members so far. There is none where no entry has
+// that serial.
 fn members(alloc: Global, kept: &BySerial, serial: u64) -> Result<Vec<Taken>, AllocError>
     requires { AreBySerial 0 kept.now }
     ensures { IfOk result

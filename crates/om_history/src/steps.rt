@@ -20,7 +20,7 @@ use om_seq::Seq;
 use om_values::{Change, Edit};
 use std::alloc::{AllocError, Global};
 
-/// Takes the changes of a record back. It takes no memory.
+// Takes the changes of a record back. It takes no memory.
 fn take_back(store: &mut Store, made: Kept)
     requires { CanLeave store.old made }
     ensures state { state_of store.new
@@ -34,9 +34,9 @@ fn take_back(store: &mut Store, made: Kept)
     store.undo(worker);
 }
 
-/// Makes edits of a worker's control, and then the updates behind a step's first access, and leaves in
-/// the place of these what the record holds of them. When out of memory, no value changes. What the
-/// updates are then is not said.
+// Makes edits of a worker's control, and then the updates behind a step's first access, and leaves in
+// the place of these what the record holds of them. When out of memory, no value changes. What the
+// updates are then is not said.
 fn make_changes(
     store: &mut Store,
     alloc: Global,
@@ -78,8 +78,8 @@ fn make_changes(
     Ok(())
 }
 
-/// Makes a change of an entry's worker, and answers the record of it. When out of memory, no value
-/// changes, but the store may keep more objects.
+// Makes a change of an entry's worker, and answers the record of it. When out of memory, no value
+// changes, but the store may keep more objects.
 fn make(
     store: &mut Store,
     alloc: Global,

@@ -17,8 +17,8 @@ use om_values::{Control, Update, Val};
 use std::alloc::{AllocError, Global};
 use std::mem;
 
-/// Makes an update at a `Write` of a worker's control, and answers the mark of it: the trail keeps
-/// the control before. When out of memory, nothing changes.
+// Makes an update at a `Write` of a worker's control, and answers the mark of it: the trail keeps
+// the control before. When out of memory, nothing changes.
 fn make_control(
     store: &mut Store,
     alloc: Global,
@@ -47,8 +47,8 @@ fn make_control(
     Ok(Update::Keep)
 }
 
-/// Makes an update at a `Write` of another object, and answers the one that takes it back. When out
-/// of memory, no value changes.
+// Makes an update at a `Write` of another object, and answers the one that takes it back. When out
+// of memory, no value changes.
 fn make_write(store: &mut Store, object: &Obj, update: Update) -> Result<Update, AllocError>
     requires no_control { is_trailed object.now ≡ false }
     requires kept { is_kept store.old object.now ≡ true }
@@ -73,8 +73,8 @@ fn make_write(store: &mut Store, object: &Obj, update: Update) -> Result<Update,
     }
 }
 
-/// Makes an update, and answers what a small record holds of it. When out of memory, nothing
-/// changes.
+// Makes an update, and answers what a small record holds of it. When out of memory, nothing
+// changes.
 fn make(
     store: &mut Store,
     alloc: Global,
@@ -104,7 +104,7 @@ fn make(
     }
 }
 
-/// Makes an update at an `Add`, and answers it: it takes itself back.
+// Makes an update at an `Add`, and answers it: it takes itself back.
 fn make_addition(store: &mut Store, object: &Obj, update: Update) -> Update
     requires kept { is_kept store.old object.now ≡ true }
     requires fits { FitsAt Mode.Add update (state_of store.old object.now) }
@@ -124,7 +124,7 @@ fn make_addition(store: &mut Store, object: &Obj, update: Update) -> Update
     }
 }
 
-/// Takes an update at an `Add` back.
+// Takes an update at an `Add` back.
 fn take_addition_back(store: &mut Store, object: &Obj, update: Update)
     requires kept { is_kept store.old object.now ≡ true }
     requires fits { FitsAtBack Mode.Add update (state_of store.old object.now) }
@@ -140,7 +140,7 @@ fn take_addition_back(store: &mut Store, object: &Obj, update: Update)
     }
 }
 
-/// Takes an update at a `Write` of an object that is no control back, by what takes it back.
+// Takes an update at a `Write` of an object that is no control back, by what takes it back.
 fn take_write_back(store: &mut Store, object: &Obj, update: Update)
     requires no_control { is_trailed object.now ≡ false }
     requires kept { is_kept store.old object.now ≡ true }
@@ -157,7 +157,7 @@ fn take_write_back(store: &mut Store, object: &Obj, update: Update)
     }
 }
 
-/// Takes an update back, by what a small record holds of it. It takes no memory.
+// Takes an update back, by what a small record holds of it. It takes no memory.
 fn take_back(store: &mut Store, access: &SharedAccess, small: Update)
     requires kept { is_kept store.old access.now.object ≡ true }
     requires marked { IfControl access.now (small ≡ Update.Keep) }
@@ -184,8 +184,8 @@ fn take_back(store: &mut Store, access: &SharedAccess, small: Update)
     }
 }
 
-/// Makes an update, and leaves in its place what a small record holds of it. When out of memory,
-/// nothing changes but that the update is gone.
+// Makes an update, and leaves in its place what a small record holds of it. When out of memory,
+// nothing changes but that the update is gone.
 fn exchange(
     store: &mut Store,
     alloc: Global,
@@ -287,8 +287,8 @@ pub(crate) fn make_all(
     Ok(())
 }
 
-/// Takes the first updates of a footprint back, so many of them and the last one first. It takes
-/// no memory.
+// Takes the first updates of a footprint back, so many of them and the last one first. It takes
+// no memory.
 fn take_back_first(
     store: &mut Store,
     footprint: &[SharedAccess],

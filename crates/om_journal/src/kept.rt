@@ -11,7 +11,7 @@ use om_undo::UndoReply;
 use std::alloc::{AllocError, Global};
 use std::marker::Model;
 
-/// The parts of an object. What has a name in it is large, and lies apart.
+// The parts of an object. What has a name in it is large, and lies apart.
 #[derive(Drop)]
 enum ObjectParts {
     Control(u8),
@@ -22,7 +22,7 @@ enum ObjectParts {
     Named(Box<Obj>),
 }
 
-/// The parts of an object, to be kept. Its only error is out of memory.
+// The parts of an object, to be kept. Its only error is out of memory.
 fn object_parts_of(alloc: Global, object: &Obj) -> Result<ObjectParts, AllocError>
     ensures { IfOk result (λ parts. object_in parts ≡ object.now) }
 {
@@ -40,7 +40,7 @@ fn object_parts_of(alloc: Global, object: &Obj) -> Result<ObjectParts, AllocErro
 }
 
 impl ObjectParts {
-    /// The object.
+    // The object.
     fn get(&self) -> Obj
         ensures { result ≡ object_in self.now }
     {
@@ -58,7 +58,7 @@ impl ObjectParts {
     }
 }
 
-/// The parts of a command. Few start a task, so the names of tasks lie apart.
+// The parts of a command. Few start a task, so the names of tasks lie apart.
 #[derive(Drop)]
 enum CommandParts {
     Next(u8),
@@ -94,7 +94,7 @@ impl Model for KeptCommand {
     ghost view = { λ k. command_in k.parts };
 }
 
-/// The parts of a step, to be kept. Its only error is out of memory.
+// The parts of a step, to be kept. Its only error is out of memory.
 fn step_parts_of(alloc: Global, worker: u8, choice: &Choice) -> Result<CommandParts, AllocError>
     ensures { IfOk result (λ parts. command_in parts ≡ Command.Step worker choice.now) }
 {
@@ -107,7 +107,7 @@ fn step_parts_of(alloc: Global, worker: u8, choice: &Choice) -> Result<CommandPa
     }
 }
 
-/// The parts of a command, to be kept. Its only error is out of memory.
+// The parts of a command, to be kept. Its only error is out of memory.
 fn parts_of(alloc: Global, command: &Command) -> Result<CommandParts, AllocError>
     ensures { IfOk result (λ parts. command_in parts ≡ command.now) }
 {
@@ -188,7 +188,7 @@ pub struct UndoneStep {
     pub line: u32,
 }
 
-/// The parts of what an undo is answered.
+// The parts of what an undo is answered.
 #[derive(Drop)]
 enum UndoParts {
     Undone {
@@ -220,7 +220,7 @@ impl Model for KeptUndoReply {
     ghost view = { λ k. undo_reply_in k.parts };
 }
 
-/// The parts of an undo's reply, to be kept.
+// The parts of an undo's reply, to be kept.
 fn undo_parts_of(alloc: Global, reply: &UndoReply) -> Result<UndoParts, AllocError>
     ensures parts { IfOk result (λ parts. undo_reply_in parts ≡ reply.now) }
     ensures only_conflicts { OnErr result (is_conflict reply.now ≡ true) }

@@ -69,7 +69,7 @@ pub fn done_thrice(
     }
 }
 
-/// A step's reply three times.
+// A step's reply three times.
 fn stepped(reply: &StepReply) -> Replies
     ensures reply { result.answer ≡ Reply.Step reply.now }
     ensures same { (result.receipt ≡ result.answer) × (result.kept ≡ result.answer) }
@@ -96,8 +96,8 @@ pub fn undo(alloc: Global, machine: &mut Machine, worker: u8) -> Result<Reply, A
     }
 }
 
-/// Takes a worker's last step back, and answers three times. Only an undo that is refused, and so changes
-/// nothing, asks for memory.
+// Takes a worker's last step back, and answers three times. Only an undo that is refused, and so changes
+// nothing, asks for memory.
 #[tactic(auto, using(crate::proofs::Undos::refused_same))]
 fn undo_thrice(alloc: Global, machine: &mut Machine, worker: u8) -> Result<Replies, AllocError>
     requires { worker < machine.old.workers }
@@ -113,7 +113,7 @@ fn undo_thrice(alloc: Global, machine: &mut Machine, worker: u8) -> Result<Repli
     }
 }
 
-/// An undo's reply three times. Its only error is out of memory, at an undo that was refused.
+// An undo's reply three times. Its only error is out of memory, at an undo that was refused.
 fn undone(alloc: Global, reply: &UndoReply) -> Result<Replies, AllocError>
     ensures reply { IfOk result (λ x. x.answer ≡ Reply.Undo reply.now) }
     ensures same { IfOk result (λ x. (x.receipt ≡ x.answer) × (x.kept ≡ x.answer)) }
@@ -129,7 +129,7 @@ fn undone(alloc: Global, reply: &UndoReply) -> Result<Replies, AllocError>
     })
 }
 
-/// What a roll answers that takes these entries out.
+// What a roll answers that takes these entries out.
 fn rolled(taken: Option<Vec<Taken>>) -> Reply
     ensures some { IfSome taken (λ v. result ≡ Reply.Roll (RollReply.Rolled v.items)) }
     ensures none { IsNone taken → result ≡ Reply.Roll RollReply.NoEntry }
@@ -140,8 +140,8 @@ fn rolled(taken: Option<Vec<Taken>>) -> Reply
     }
 }
 
-/// Rolls the entry with a serial, and answers three times. What it takes out is found beforehand for the
-/// copies.
+// Rolls the entry with a serial, and answers three times. What it takes out is found beforehand for the
+// copies.
 fn roll_thrice(alloc: Global, machine: &mut Machine, serial: u64) -> Result<Replies, AllocError>
     ensures reply { IfOk result (λ x. IsReply machine.old (Command.Roll serial) x.answer) }
     ensures same { IfOk result (λ x. (x.receipt ≡ x.answer) × (x.kept ≡ x.answer)) }
@@ -158,7 +158,7 @@ fn roll_thrice(alloc: Global, machine: &mut Machine, serial: u64) -> Result<Repl
     })
 }
 
-/// Answers a question three times.
+// Answers a question three times.
 fn look_thrice(alloc: Global, machine: &Machine, query: &Query) -> Result<Replies, AllocError>
     ensures reply { IfOk result (λ x. x.answer ≡ answer_to machine.now query.now) }
     ensures same { IfOk result (λ x. (x.receipt ≡ x.answer) × (x.kept ≡ x.answer)) }
@@ -177,7 +177,7 @@ fn look_thrice(alloc: Global, machine: &Machine, query: &Query) -> Result<Replie
     }
 }
 
-/// A reply twice. The only error is out of memory.
+// A reply twice. The only error is out of memory.
 fn two_copies(alloc: Global, reply: &Reply) -> Result<(Reply, Reply), AllocError>
     ensures { IfOk result (λ copies. (copies.0 ≡ reply.now) × (copies.1 ≡ reply.now)) }
 {
@@ -191,7 +191,7 @@ fn two_copies(alloc: Global, reply: &Reply) -> Result<(Reply, Reply), AllocError
     }
 }
 
-/// Answers a question.
+// Answers a question.
 fn looked(alloc: Global, machine: &Machine, query: &Query) -> Result<Reply, AllocError>
     ensures { IfOk result (λ x. x ≡ answer_to machine.now query.now) }
 {

@@ -64,14 +64,14 @@ impl Reply {
     }
 }
 
-/// A copy of a list; its only error is out of memory.
+// A copy of a list; its only error is out of memory.
 fn copied<T: Copy>(alloc: Global, items: &Seq<T>) -> Result<Seq<T>, AllocError>
     ensures { IfOk result (λ copy. copy ≡ items.now) }
 {
     Ok(Seq::of(Vec::from_slice(alloc, items.as_slice())?))
 }
 
-/// A copy of a roll's reply; its only error is out of memory.
+// A copy of a roll's reply; its only error is out of memory.
 fn copy_roll(alloc: Global, reply: &RollReply) -> Result<RollReply, AllocError>
     ensures { IfOk result (λ copy. copy ≡ reply.now) }
 {

@@ -28,7 +28,7 @@ impl Same for Task {
     }
 }
 
-/// Whether a control is an idle one.
+// Whether a control is an idle one.
 fn is_idle(control: &Control) -> bool
     ensures { IsTrue result ↔ (control.now ≡ Control.Idle) }
 {

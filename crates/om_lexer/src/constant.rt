@@ -6,7 +6,7 @@ ghost use Rattle.om_lexer.specs.Constants.{base_of, digits_of, value_in, IsConst
 
 use crate::fault::FaultCode;
 
-/// The largest constant.
+// The largest constant.
 const LARGEST: u32 = 2_147_483_647;
 
 /// The base that the first characters of a constant tell, and its digits.

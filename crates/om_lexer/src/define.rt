@@ -17,7 +17,7 @@ use crate::word::{LONGEST_NAME, word_end};
 use om_seq::Seq;
 use std::alloc::Global;
 
-/// Where the name and the number of a define stand.
+// Where the name and the number of a define stand.
 #[derive(Clone, Copy)]
 struct Definition {
     name: usize,
@@ -72,7 +72,7 @@ pub(crate) fn define_at(
     }
 }
 
-/// The name and the number behind the word of a define, with nothing but white space behind them on the line.
+// The name and the number behind the word of a define, with nothing but white space behind them on the line.
 fn definition_at(source: &[u8], from: usize) -> Option<Definition>
     requires { from ≤ length source.now }
     ensures found { IfSome result
@@ -107,7 +107,7 @@ fn definition_at(source: &[u8], from: usize) -> Option<Definition>
     }
 }
 
-/// Whether these words are a name and a number, and nothing but white space follows the number on its line.
+// Whether these words are a name and a number, and nothing but white space follows the number on its line.
 fn is_definition(source: &[u8], name: &[u8], number: &[u8], number_end: usize) -> bool
     requires { number_end ≤ length source.now }
     ensures { IsTrue result ↔
@@ -116,21 +116,21 @@ fn is_definition(source: &[u8], name: &[u8], number: &[u8], number_end: usize) -
     is_macro_name(name) && is_decimal(number) && ends_line(source, number_end)
 }
 
-/// Whether a run of letters, digits and `_` is a name or a keyword.
+// Whether a run of letters, digits and `_` is a name or a keyword.
 fn is_macro_name(text: &[u8]) -> bool
     ensures { IsTrue result ↔ IsMacroName text.now }
 {
     !text.is_empty() && !text[0].is_ascii_digit() && text.len() <= LONGEST_NAME
 }
 
-/// Whether a text is a decimal constant, or `0`.
+// Whether a text is a decimal constant, or `0`.
 fn is_decimal(text: &[u8]) -> bool
     ensures { IsTrue result ↔ IsDecimal text.now }
 {
     !text.is_empty() && are_digits(10, text) && (text[0] != b'0' || text.len() == 1)
 }
 
-/// Whether a name may be defined as the number that decimal digits stand for.
+// Whether a name may be defined as the number that decimal digits stand for.
 fn defines(macros: &Macros, name: &[u8], digits: &[u8]) -> Answer
     requires { All (λ b. digit_value b < 10) digits.now }
     ensures { IsAnswer macros.now name.now (value_in 10 digits.now) result }

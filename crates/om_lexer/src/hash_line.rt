@@ -45,7 +45,7 @@ pub(crate) fn hash_line_at(
     Err(bad_hash_line(at))
 }
 
-/// An include, whose word ends at `end`; S4 where it names no header, or has more behind it.
+// An include, whose word ends at `end`; S4 where it names no header, or has more behind it.
 fn include_at(source: &[u8], at: usize, end: usize) -> Result<(HashLine, usize), SourceFault>
     requires below { at < source_limit }
     requires inside { end ≤ length source.now }
@@ -64,7 +64,7 @@ fn include_at(source: &[u8], at: usize, end: usize) -> Result<(HashLine, usize),
     }
 }
 
-/// The byte behind the header that stands there, where nothing but white space follows on its line.
+// The byte behind the header that stands there, where nothing but white space follows on its line.
 fn include_end(source: &[u8], from: usize) -> Option<usize>
     requires { from ≤ length source.now }
     ensures found { IfSome result (λ to. IsHeader source.now from to × EndsLine source.now to) }
@@ -79,7 +79,7 @@ fn include_end(source: &[u8], from: usize) -> Option<usize>
     }
 }
 
-/// The byte behind the header that stands there.
+// The byte behind the header that stands there.
 fn header_end(source: &[u8], from: usize) -> Option<usize>
     requires { from ≤ length source.now }
     ensures found { IfSome result (λ to. IsHeader source.now from to) }
@@ -95,7 +95,7 @@ fn header_end(source: &[u8], from: usize) -> Option<usize>
     None
 }
 
-/// Whether these bytes stand there.
+// Whether these bytes stand there.
 fn has_text(source: &[u8], from: usize, text: &[u8]) -> bool
     requires { from ≤ length source.now }
     ensures { IsTrue result ↔ HasText source.now from text.now (from + length text.now) }
@@ -103,7 +103,7 @@ fn has_text(source: &[u8], from: usize, text: &[u8]) -> bool
     source[from..].starts_with(text)
 }
 
-/// A pragma, whose word stands from `word` up to `end`: `omp` behind it makes it a directive.
+// A pragma, whose word stands from `word` up to `end`: `omp` behind it makes it a directive.
 fn pragma_at(source: &[u8], word: usize, end: usize) -> (HashLine, usize)
     requires { end ≤ length source.now }
     ensures { (macros : MacroList) (at : ℕ) → IsHashWord source.now at word end (codes "pragma") →

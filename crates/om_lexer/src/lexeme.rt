@@ -37,7 +37,7 @@ pub(crate) fn token_at(
     punctuator_at(source, at)
 }
 
-/// A name, a constant or a keyword; S2 or S10 where the word is none.
+// A name, a constant or a keyword; S2 or S10 where the word is none.
 fn word_at(alloc: Global, source: &[u8], at: usize) -> Result<(TokenKind, usize), SourceFault>
     requires inside { at < length source.now }
     requires below { at < source_limit }
@@ -51,7 +51,7 @@ fn word_at(alloc: Global, source: &[u8], at: usize) -> Result<(TokenKind, usize)
     Ok((kind, end))
 }
 
-/// A punctuator, or S2 where none begins.
+// A punctuator, or S2 where none begins.
 fn punctuator_at(source: &[u8], at: usize) -> Result<(TokenKind, usize), SourceFault>
     requires inside { at < length source.now }
     requires below { at < source_limit }

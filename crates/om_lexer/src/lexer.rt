@@ -15,26 +15,26 @@ use crate::token::{Span, Token, TokenKind};
 use om_seq::Seq;
 use std::alloc::{AllocError, Global};
 
-/// The bytes that a source may have.
+// The bytes that a source may have.
 const SOURCE_LIMIT: usize = 1_048_576;
 
-/// What reading a source has made so far.
+// What reading a source has made so far.
 #[derive(Drop)]
 struct Output {
     tokens: Vec<Token>,
     macros: Macros,
 }
 
-/// What stands at a place of the source.
+// What stands at a place of the source.
 #[derive(Drop)]
 struct Placed<T> {
     item: T,
     span: Span,
-    /// The place of no width behind it.
+    // The place of no width behind it.
     behind: Span,
 }
 
-/// The bytes where the words of a directive begin.
+// The bytes where the words of a directive begin.
 #[derive(Clone, Copy)]
 struct DirectiveWords {
     pragma: usize,
@@ -65,7 +65,7 @@ pub fn lex(alloc: Global, source: &[u8]) -> Result<Vec<Token>, SourceFault>
     }
 }
 
-/// Adds the tokens of a source, and notes what it defines. After a refusal both are of no use.
+// Adds the tokens of a source, and notes what it defines. After a refusal both are of no use.
 fn take_source(alloc: Global, source: &[u8], output: &mut Output) -> Result<(), SourceFault>
     requires tokens { output.old.tokens.items ≡ [] }
     requires macros { output.old.macros ≡ [] }
@@ -102,7 +102,7 @@ fn take_source(alloc: Global, source: &[u8], output: &mut Output) -> Result<(), 
     Ok(())
 }
 
-/// The place of no width at a byte.
+// The place of no width at a byte.
 fn no_width(at: usize, line: u32) -> Span
     requires { at < 2 ^ 32 }
     ensures { result ≡ record { start = at; end = at; line = line } }
@@ -114,7 +114,7 @@ fn no_width(at: usize, line: u32) -> Span
     }
 }
 
-/// Adds the end of the source at its place, and before it that of the directive whose line ends here, if one does.
+// Adds the end of the source at its place, and before it that of the directive whose line ends here, if one does.
 fn add_end(tokens: &mut Vec<Token>, state: &LineState, span: Span) -> Result<(), AllocError>
     ensures { OnOk result
         (tokens.new.items ≡ (tokens.old.items ++ directive_end state.now)
@@ -130,7 +130,7 @@ fn add_end(tokens: &mut Vec<Token>, state: &LineState, span: Span) -> Result<(),
     )
 }
 
-/// Adds an item at the end. When out of memory, the item is gone.
+// Adds an item at the end. When out of memory, the item is gone.
 fn add<T: Drop>(items: &mut Vec<T>, item: T) -> Result<(), AllocError>
     ensures { OnOk result (items.new.items ≡ items.old.items ++ item ∷ []) }
 {
@@ -138,8 +138,8 @@ fn add<T: Drop>(items: &mut Vec<T>, item: T) -> Result<(), AllocError>
     Ok(())
 }
 
-/// Adds the tokens of a piece, notes what it defines, and gives its line behind it.
-/// When out of memory, all three are lost to the caller.
+// Adds the tokens of a piece, notes what it defines, and gives its line behind it.
+// When out of memory, all three are lost to the caller.
 fn take_piece(
     alloc: Global,
     source: &[u8],
@@ -179,7 +179,7 @@ fn take_piece(
     }
 }
 
-/// The line behind what stands there.
+// The line behind what stands there.
 fn line_behind(source: &[u8], span: Span) -> u32
     requires line { span.line ≡ line_at source.now span.start }
     requires order { span.start ≤ span.end }
@@ -190,7 +190,7 @@ fn line_behind(source: &[u8], span: Span) -> u32
     span.line + line_feeds(&source[span.start as usize..span.end as usize])
 }
 
-/// Adds the end of the directive whose line ends here, if one does.
+// Adds the end of the directive whose line ends here, if one does.
 fn end_directive(tokens: &mut Vec<Token>, state: &LineState) -> Result<(), AllocError>
     ensures { OnOk result (tokens.new.items ≡ tokens.old.items ++ directive_end state.now) }
 {
@@ -206,7 +206,7 @@ fn end_directive(tokens: &mut Vec<Token>, state: &LineState) -> Result<(), Alloc
     )
 }
 
-/// Adds a token, or defines with it the name whose constant it is, and gives the line behind it.
+// Adds a token, or defines with it the name whose constant it is, and gives the line behind it.
 fn take_token(
     alloc: Global,
     output: &mut Output,
@@ -233,7 +233,7 @@ fn take_token(
     }
 }
 
-/// Adds a token, replaced where it is a macro.
+// Adds a token, replaced where it is a macro.
 fn add_token(output: &mut Output, token: Token) -> Result<(), AllocError>
     ensures tokens { OnOk result
         (output.new.tokens.items ≡ output.old.tokens.items
@@ -250,7 +250,7 @@ fn add_token(output: &mut Output, token: Token) -> Result<(), AllocError>
     )
 }
 
-/// Defines a name as a constant.
+// Defines a name as a constant.
 fn define(
     alloc: Global,
     macros: &mut Macros,
@@ -265,7 +265,7 @@ fn define(
     macros.define(alloc, name, *number)
 }
 
-/// Adds the tokens of the beginning of a `#` line, and gives the line behind it.
+// Adds the tokens of the beginning of a `#` line, and gives the line behind it.
 fn take_hash_line(
     alloc: Global,
     source: &[u8],
@@ -292,7 +292,7 @@ fn take_hash_line(
     }
 }
 
-/// Adds the `#` of a directive and its words `pragma` and `omp`.
+// Adds the `#` of a directive and its words `pragma` and `omp`.
 fn begin_directive(
     alloc: Global,
     source: &[u8],
@@ -328,7 +328,7 @@ fn begin_directive(
     add_word(alloc, tokens, b"omp", omp)
 }
 
-/// The place of a word of `width` bytes, which begins behind `before`.
+// The place of a word of `width` bytes, which begins behind `before`.
 fn word_span(source: &[u8], before: Span, from: usize, width: u32) -> Span
     requires place { before ≡ span_of source.now before.start before.end }
     requires order { before.start ≤ from }
@@ -349,7 +349,7 @@ fn word_span(source: &[u8], before: Span, from: usize, width: u32) -> Span
     }
 }
 
-/// Adds a name that no macro replaces.
+// Adds a name that no macro replaces.
 fn add_word(
     alloc: Global,
     tokens: &mut Vec<Token>,
@@ -364,7 +364,7 @@ fn add_word(
     add(tokens, Token { kind, span })
 }
 
-/// How many line feeds there are.
+// How many line feeds there are.
 fn line_feeds(bytes: &[u8]) -> u32
     requires { length bytes.now < 2 ^ 32 }
     ensures { result ≡ count_by (λ b. b == 10) bytes.now }

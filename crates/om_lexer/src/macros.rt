@@ -9,7 +9,7 @@ use indexmap::IndexMap;
 use std::alloc::{AllocError, Global};
 use std::marker::Model;
 
-/// The names that a source may define.
+// The names that a source may define.
 const MACRO_LIMIT: usize = 1024;
 
 /// The macros up to a place. Contracts see them in the order of their first defines.
@@ -26,7 +26,7 @@ impl Model for Macros {
     ghost view = { λ m. macros_of m.numbers.entries };
 }
 
-/// Puts a name into a table that has it not yet, or leaves the table as it is.
+// Puts a name into a table that has it not yet, or leaves the table as it is.
 fn put(
     numbers: &mut IndexMap<Vec<u8>, u32>,
     alloc: Global,

@@ -35,8 +35,8 @@ pub(crate) fn piece_at(
     read_piece(alloc, source, at, state, macros)
 }
 
-/// The piece itself. That it has a byte and ends in the source follows from what it is, so `piece_at`
-/// adds it.
+// The piece itself. That it has a byte and ends in the source follows from what it is, so `piece_at`
+// adds it.
 fn read_piece(
     alloc: Global,
     source: &[u8],
@@ -87,7 +87,7 @@ fn read_piece(
     })
 }
 
-/// Whether a `#` line begins there.
+// Whether a `#` line begins there.
 fn begins_hash_line(source: &[u8], at: usize, state: &LineState) -> bool
     requires { at < length source.now }
     ensures { IsTrue result ↔ ((slice_index source.now at ≡ 35) × (is_fresh state.now ≡ true)) }
@@ -95,7 +95,7 @@ fn begins_hash_line(source: &[u8], at: usize, state: &LineState) -> bool
     source[at] == b'#' && state.is_fresh()
 }
 
-/// Whether a comment begins there.
+// Whether a comment begins there.
 fn begins_comment(source: &[u8], at: usize) -> bool
     requires { at < length source.now }
     ensures { IsTrue result ↔ BeginsComment source.now at }

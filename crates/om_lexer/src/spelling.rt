@@ -55,7 +55,7 @@ const KEYWORDS: [Keyword; 44] = [
     Keyword::ThreadLocal,
 ];
 
-/// Those of two bytes stand first, so that the first that fits is the longest.
+// Those of two bytes stand first, so that the first that fits is the longest.
 const PUNCTUATORS: [Punctuator; 32] = [
     Punctuator::PlusEqual,
     Punctuator::MinusEqual,

@@ -12,14 +12,14 @@ use crate::token::TokenKind;
 use om_seq::Seq;
 use std::alloc::Global;
 
-/// Whether an ASCII character stands for itself in a text: no quote, backslash or line feed.
+// Whether an ASCII character stands for itself in a text: no quote, backslash or line feed.
 fn is_plain(byte: u8) -> bool
     ensures { IsTrue result ↔ IsPlain byte }
 {
     byte < 128 && byte != b'"' && byte != b'\\' && byte != b'\n'
 }
 
-/// The character that a letter behind a backslash stands for.
+// The character that a letter behind a backslash stands for.
 #[tactic(auto, unfolding(crate::specs::Texts::escaped))]
 fn escaped(letter: u8) -> Option<u8>
     ensures { result ≡ escaped letter }
@@ -37,7 +37,7 @@ fn escaped(letter: u8) -> Option<u8>
     }
 }
 
-/// The character of a text that begins there, and the byte behind it.
+// The character of a text that begins there, and the byte behind it.
 fn character_at(source: &[u8], from: usize) -> Option<(u8, usize)>
     requires { from ≤ length source.now }
     ensures found { IfSome result (λ read. IsCharacter source.now from read.0 read.1) }

@@ -49,7 +49,7 @@ pub(crate) fn ends_line(source: &[u8], from: usize) -> bool
     ends_at(source, gap_end(source, from))
 }
 
-/// Whether a line ends there, or a block comment begins.
+// Whether a line ends there, or a block comment begins.
 fn ends_at(source: &[u8], at: usize) -> bool
     requires { at ≤ length source.now }
     ensures { IsTrue result ↔ IsLineEnding source.now at }
@@ -61,7 +61,7 @@ fn ends_at(source: &[u8], at: usize) -> bool
     source[at] == b'\n' || (source[at] == b'/' && next == b'*')
 }
 
-/// The byte behind a line end.
+// The byte behind a line end.
 fn line_end(source: &[u8], from: usize) -> Option<usize>
     requires { from ≤ length source.now }
     ensures found { IfSome result (λ to. IsLineEnd source.now from to) }
@@ -76,7 +76,7 @@ fn line_end(source: &[u8], from: usize) -> Option<usize>
     }
 }
 
-/// The byte behind the comment whose slash stands at `from`, if one begins there and ends.
+// The byte behind the comment whose slash stands at `from`, if one begins there and ends.
 fn comment_end(source: &[u8], from: usize) -> Option<usize>
     requires { slice_index source.now from ≡ 47 }
     ensures found { IfSome result (λ to. IsComment source.now from to) }
@@ -94,7 +94,7 @@ fn comment_end(source: &[u8], from: usize) -> Option<usize>
     None
 }
 
-/// The byte behind the block comment whose two first bytes stand at `from`, if it ends.
+// The byte behind the block comment whose two first bytes stand at `from`, if it ends.
 fn block_comment_end(source: &[u8], from: usize) -> Option<usize>
     requires slash { slice_index source.now from ≡ 47 }
     requires star { slice_index source.now (from + 1) ≡ 42 }
@@ -114,7 +114,7 @@ fn block_comment_end(source: &[u8], from: usize) -> Option<usize>
     None
 }
 
-/// The byte behind the line comment whose two first bytes stand at `from`.
+// The byte behind the line comment whose two first bytes stand at `from`.
 fn line_comment_end(source: &[u8], from: usize) -> usize
     requires slash { slice_index source.now from ≡ 47 }
     requires second { slice_index source.now (from + 1) ≡ 47 }

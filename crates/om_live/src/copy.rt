@@ -14,7 +14,7 @@ use om_values::{
 };
 use std::alloc::{AllocError, Global};
 
-/// A plain copy of a frame; its only error is out of memory.
+// A plain copy of a frame; its only error is out of memory.
 fn plain_frame_of(alloc: Global, frame: &Frame) -> Result<PlainFrame, AllocError>
     ensures { IfOk result (λ plain. plain ≡ plain_frame frame.now) }
 {
@@ -28,7 +28,7 @@ fn plain_frame_of(alloc: Global, frame: &Frame) -> Result<PlainFrame, AllocError
     })
 }
 
-/// The plain stack of frames that wait, the last one on top.
+// The plain stack of frames that wait, the last one on top.
 fn plain_callers_of(
     alloc: Global,
     frames: &[Box<Frame>],
@@ -42,7 +42,7 @@ fn plain_callers_of(
     SharedPile::of(alloc, copies)
 }
 
-/// A plain copy of a context; its only error is out of memory.
+// A plain copy of a context; its only error is out of memory.
 fn plain_context_of(alloc: Global, context: &Context) -> Result<PlainContext, AllocError>
     ensures { IfOk result (λ plain. plain ≡ plain_context context.now) }
 {
@@ -66,7 +66,7 @@ fn plain_context_of(alloc: Global, context: &Context) -> Result<PlainContext, Al
     })
 }
 
-/// The plain stack of the contexts below the running one, the last one on top.
+// The plain stack of the contexts below the running one, the last one on top.
 fn plain_below_of(
     alloc: Global,
     contexts: &[Box<Context>],
@@ -80,7 +80,7 @@ fn plain_below_of(
     SharedPile::of(alloc, copies)
 }
 
-/// A plain copy of a stack.
+// A plain copy of a stack.
 fn plain_stack_of(alloc: Global, stack: &Stack) -> Result<PlainStack, AllocError>
     ensures { IfOk result (λ plain. plain ≡ plain_stack stack.now) }
 {

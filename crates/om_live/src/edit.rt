@@ -32,8 +32,8 @@ pub fn become_control(
     Ok(Inverse::Was(held))
 }
 
-/// The running context ends, if the worker runs. It takes memory only where none is below it: then
-/// the worker is idle. When out of memory, nothing changes.
+// The running context ends, if the worker runs. It takes memory only where none is below it: then
+// the worker is idle. When out of memory, nothing changes.
 fn end_context(alloc: Global, control: &mut Control) -> Result<Inverse, AllocError>
     ensures changed { OnOk result (plain_control control.new
         ≡ changed_by Edit.EndContext (plain_control control.old)) }
@@ -50,7 +50,7 @@ fn end_context(alloc: Global, control: &mut Control) -> Result<Inverse, AllocErr
     Ok(Inverse::Same)
 }
 
-/// The worker meets a fault, if it runs. It takes no memory.
+// The worker meets a fault, if it runs. It takes no memory.
 fn fail(control: &mut Control, fault: Fault) -> Inverse
     ensures changed { plain_control control.new
         ≡ changed_by (Edit.Fail fault) (plain_control control.old) }

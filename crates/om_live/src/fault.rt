@@ -9,16 +9,16 @@ use crate::control::Control;
 use om_code::frame::Fault;
 use om_values::Edit;
 
-/// What of a worker's control decides whether it comes to a fault.
+// What of a worker's control decides whether it comes to a fault.
 #[derive(Clone, Copy)]
 enum Outlook {
-    /// It runs, with so many contexts below the one that runs.
+    // It runs, with so many contexts below the one that runs.
     Runs(u128),
-    /// It doesn't run, and met this fault, if any.
+    // It doesn't run, and met this fault, if any.
     Rests(Option<Fault>),
 }
 
-/// The outlook of a worker with this control.
+// The outlook of a worker with this control.
 fn outlook_of(control: &Control) -> Outlook
     ensures outlook { result ≡ outlook_of (plain_control control.now) }
     ensures low { IsLow 0 result }
@@ -30,7 +30,7 @@ fn outlook_of(control: &Control) -> Outlook
     }
 }
 
-/// The outlook after an edit.
+// The outlook after an edit.
 fn outlook_after(outlook: Outlook, edit: &Edit) -> Outlook
     requires { IsLow (2 ^ 64) outlook }
     ensures { result ≡ outlook_after edit.now outlook }

@@ -13,7 +13,7 @@ use om_values::{
 };
 use std::alloc::{AllocError, Global};
 
-/// A frame that stands for a plain one; the only error is out of memory.
+// A frame that stands for a plain one; the only error is out of memory.
 fn frame_of(alloc: Global, plain: &PlainFrame) -> Result<Box<Frame>, AllocError>
     ensures { IfOk result (λ b. plain_frame b.value ≡ plain.now) }
 {
@@ -27,7 +27,7 @@ fn frame_of(alloc: Global, plain: &PlainFrame) -> Result<Box<Frame>, AllocError>
     Ok(Box::new(alloc, frame)?)
 }
 
-/// Frames that stand for plain ones, in their order.
+// Frames that stand for plain ones, in their order.
 fn frames_of(alloc: Global, plain: &[Shared<PlainFrame>]) -> Result<Vec<Box<Frame>>, AllocError>
     ensures { IfOk result (λ v. map plain_box v.items ≡ plain.now) }
 {
@@ -100,7 +100,7 @@ pub fn context_of(alloc: Global, plain: &PlainContext) -> Result<Box<Context>, A
     Ok(Box::new(alloc, context)?)
 }
 
-/// Contexts that stand for plain ones, in their order.
+// Contexts that stand for plain ones, in their order.
 fn contexts_of(
     alloc: Global,
     plain: &[Shared<PlainContext>],
@@ -114,7 +114,7 @@ fn contexts_of(
     Ok(contexts)
 }
 
-/// A stack that stands for a plain one.
+// A stack that stands for a plain one.
 fn stack_of_plain(alloc: Global, plain: &PlainStack) -> Result<Stack, AllocError>
     ensures { IfOk result (λ s. plain_stack s ≡ plain.now) }
 {

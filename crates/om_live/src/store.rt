@@ -33,9 +33,9 @@ use std::mem;
 /// the controls were before their changes as `pasts_of`. What is kept can be put back without a
 /// request for memory.
 pub struct Store {
-    /// The controls of the first workers; the others are idle.
+    // The controls of the first workers; the others are idle.
     trails: Vec<Trail>,
-    /// What the other objects hold.
+    // What the other objects hold.
     values: Values,
 }
 
@@ -58,8 +58,8 @@ pub fn worker_of(object: &Obj) -> Option<u8>
     Some(*worker)
 }
 
-/// Has trails up to that of this worker; those that are new are idle. When out of memory, there may
-/// be more of them.
+// Has trails up to that of this worker; those that are new are idle. When out of memory, there may
+// be more of them.
 fn grow(alloc: Global, trails: &mut Vec<Trail>, worker: u8) -> Result<(), AllocError>
     ensures grown { GrowTo trails.old.items trails.new.items }
     ensures enough { OnOk result (worker < length trails.new.items) }
@@ -202,8 +202,8 @@ impl Store {
         }
     }
 
-    /// Keeps an access's object among those that are no control, where a control is only kept to be shared,
-    /// and answers the access, shared. No value changes, also when out of memory.
+    // Keeps an access's object among those that are no control, where a control is only kept to be shared,
+    // and answers the access, shared. No value changes, also when out of memory.
     fn keep_value(&mut self, alloc: Global, access: &Access) -> Result<SharedAccess, AllocError>
         ensures shared { IfOk result (λ shared. shared ≡ access.now) }
         ensures state { state_of self.new ≡ state_of self.old }

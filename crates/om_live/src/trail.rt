@@ -37,7 +37,7 @@ impl Model for Trail {
     ghost invariant = { λ t. CanRewind t.inverses t.control };
 }
 
-/// Logs what takes an edit back that was made. When out of memory, the edit is taken back.
+// Logs what takes an edit back that was made. When out of memory, the edit is taken back.
 fn log(
     control: &mut Control,
     inverses: &mut Log<Logged>,
@@ -58,7 +58,7 @@ fn log(
     Ok(())
 }
 
-/// Makes one edit and logs what takes it back. When out of memory, nothing changes.
+// Makes one edit and logs what takes it back. When out of memory, nothing changes.
 fn edit_logged(
     alloc: Global,
     control: &mut Control,
@@ -80,7 +80,7 @@ fn edit_logged(
     log(control, inverses, inverse, begins)
 }
 
-/// Makes a change of edits, in turn. When out of memory, those that were made are taken back.
+// Makes a change of edits, in turn. When out of memory, those that were made are taken back.
 fn edit_all(
     alloc: Global,
     control: &mut Control,
@@ -115,7 +115,7 @@ fn edit_all(
     Ok(())
 }
 
-/// Goes back to where the latest change began. It takes no memory.
+// Goes back to where the latest change began. It takes no memory.
 fn rewind(control: &mut Control, inverses: &mut Log<Logged>)
     requires can_rewind { CanRewind inverses.old control.old }
     requires stepped { 0 < length (past_of inverses.old control.old) }

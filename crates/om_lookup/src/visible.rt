@@ -48,7 +48,7 @@ pub fn global_named(program: &Program, name: &[u8]) -> Option<u32>
     Some(number as u32)
 }
 
-/// The index of the first global variable of this name.
+// The index of the first global variable of this name.
 fn index_of(globals: &[GlobalVariable], name: &[u8]) -> Option<usize>
     ensures index { result ≡ position (λ global. bytes_eq global.name name.now) globals.now }
     ensures within { IfSome result (λ index. index < length globals.now) }
@@ -56,7 +56,7 @@ fn index_of(globals: &[GlobalVariable], name: &[u8]) -> Option<usize>
     globals.iter().position(|global| is_named(global, name))
 }
 
-/// Whether a global variable has this name.
+// Whether a global variable has this name.
 fn is_named(global: &GlobalVariable, name: &[u8]) -> bool
     ensures { result ≡ bytes_eq global.now.name name.now }
 {
@@ -74,8 +74,8 @@ pub fn variable_at(program: &Program, body: u32, at: u32, name: &[u8]) -> Option
     meant(program, body as usize + 1, Around { body, at }, name)
 }
 
-/// What a name means at an instruction of a body, or else of the body round it, and so on, so many
-/// times.
+// What a name means at an instruction of a body, or else of the body round it, and so on, so many
+// times.
 fn meant(program: &Program, steps: usize, here: Around, name: &[u8]) -> Option<Var>
     ensures { result ≡ meant steps program.now here.body here.at name.now }
 {
@@ -93,7 +93,7 @@ fn meant(program: &Program, steps: usize, here: Around, name: &[u8]) -> Option<V
     as_inner(names.outer.as_slice(), meant(program, left, around, name))
 }
 
-/// The global variable of a name.
+// The global variable of a name.
 fn global_var(program: &Program, name: &[u8]) -> Option<Var>
     ensures { result ≡ global_var (global_named program.now name.now) }
 {
@@ -101,7 +101,7 @@ fn global_var(program: &Program, name: &[u8]) -> Option<Var>
     Some(Var::Global(number))
 }
 
-/// The variable of a slot, where there is one.
+// The variable of a slot, where there is one.
 fn slot_var(length: Option<u32>, slot: Option<u32>) -> Option<Var>
     ensures { result ≡ slot_var length slot }
 {
@@ -109,7 +109,7 @@ fn slot_var(length: Option<u32>, slot: Option<u32>) -> Option<Var>
     Some(Var::Slot { slot, length })
 }
 
-/// The variable of the innermost scope of this name that holds an instruction; it stands first.
+// The variable of the innermost scope of this name that holds an instruction; it stands first.
 fn innermost(at: u32, name: &[u8], scopes: &[Scope]) -> Option<Local>
     ensures { result ≡ innermost at name.now scopes.now }
 {
@@ -124,15 +124,15 @@ fn innermost(at: u32, name: &[u8], scopes: &[Scope]) -> Option<Local>
     None
 }
 
-/// Whether a scope holds an instruction, and is one of this name.
+// Whether a scope holds an instruction, and is one of this name.
 fn holds(at: u32, name: &[u8], scope: &Scope) -> bool
     ensures { result ≡ holds at name.now scope.now }
 {
     scope.from <= at && (at < scope.to && name == scope.name.as_slice())
 }
 
-/// Where the directive of a body stands: at the instruction that starts the body, in a body of a
-/// lower number.
+// Where the directive of a body stands: at the instruction that starts the body, in a body of a
+// lower number.
 fn around_below(program: &Program, number: u32) -> Option<Around>
     requires { number ≤ length program.now.bodies }
     ensures around { result ≡ around_below program.now.bodies number number }
@@ -148,7 +148,7 @@ fn around_below(program: &Program, number: u32) -> Option<Around>
     None
 }
 
-/// The place of the first instruction of a body that starts the body of this number.
+// The place of the first instruction of a body that starts the body of this number.
 fn start_in(body: &Body, number: u32) -> Option<u32>
     requires { length body.now.code < 2 ^ 32 }
     ensures { result ≡ start_in number (Some body.now) }
@@ -157,7 +157,7 @@ fn start_in(body: &Body, number: u32) -> Option<u32>
     Some(at as u32)
 }
 
-/// The index of the first line that starts the body of this number.
+// The index of the first line that starts the body of this number.
 fn index_of_start(code: &[Line], number: u32) -> Option<usize>
     ensures index { result ≡ position (starts number) code.now }
     ensures within { IfSome result (λ index. index < length code.now) }
@@ -166,14 +166,14 @@ fn index_of_start(code: &[Line], number: u32) -> Option<usize>
         .position(|line| starts_body(number, line.instruction))
 }
 
-/// Whether an instruction starts the body of this number.
+// Whether an instruction starts the body of this number.
 fn starts_body(number: u32, instruction: Instr) -> bool
     ensures { result ≡ starts_body number instruction }
 {
     matches!(instruction, Instr::Fork { body, .. } | Instr::Spawn { body, .. } if body == number)
 }
 
-/// A variable of the body round a body, as this body has it.
+// A variable of the body round a body, as this body has it.
 fn as_inner(outer: &[Option<u32>], variable: Option<Var>) -> Option<Var>
     requires { length outer.now ≤ 2 ^ 32 }
     ensures { result ≡ as_inner outer.now variable }
@@ -184,7 +184,7 @@ fn as_inner(outer: &[Option<u32>], variable: Option<Var>) -> Option<Var>
     }
 }
 
-/// The slot of a variable that is in this slot of the body round it.
+// The slot of a variable that is in this slot of the body round it.
 fn inner_slot(outer: &[Option<u32>], slot: u32) -> Option<u32>
     requires { length outer.now ≤ 2 ^ 32 }
     ensures { result ≡ position (is_slot slot) outer.now }
@@ -193,7 +193,7 @@ fn inner_slot(outer: &[Option<u32>], slot: u32) -> Option<u32>
     Some(index as u32)
 }
 
-/// The index of this slot of the body round a body.
+// The index of this slot of the body round a body.
 fn index_of_slot(outer: &[Option<u32>], slot: u32) -> Option<usize>
     ensures index { result ≡ position (is_slot slot) outer.now }
     ensures within { IfSome result (λ index. index < length outer.now) }
@@ -201,7 +201,7 @@ fn index_of_slot(outer: &[Option<u32>], slot: u32) -> Option<usize>
     outer.iter().position(|other| is_slot(slot, *other))
 }
 
-/// Whether the slot of the body round a body is this one.
+// Whether the slot of the body round a body is this one.
 fn is_slot(slot: u32, other: Option<u32>) -> bool
     ensures { result ≡ is_slot slot other }
 {

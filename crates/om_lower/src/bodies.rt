@@ -39,7 +39,7 @@ pub(crate) fn add_slots(slots: &mut Vec<Variables>, alloc: Global, sites: &[Site
     Ok(true)
 }
 
-/// Adds the variables of a body; false where it has more than 256 slots.
+// Adds the variables of a body; false where it has more than 256 slots.
 fn add_variables(slots: &mut Vec<Variables>, alloc: Global, site: &Site<'_>) -> Made<bool>
     ensures few { IfOk result (λ few. HasSlots few (body_in [] site.now)) }
     ensures added { OnOk result
@@ -51,7 +51,7 @@ fn add_variables(slots: &mut Vec<Variables>, alloc: Global, site: &Site<'_>) -> 
     Ok(few)
 }
 
-/// The variables of a body, by their slots.
+// The variables of a body, by their slots.
 fn variables_in(alloc: Global, site: &Site<'_>) -> Made<Variables>
     ensures { let f = view_resolved_function site.now.function.now in
         IfOk result (λ made. made ≡ variables_at f site.now.part) }
@@ -93,8 +93,8 @@ pub(crate) fn add_sites<'a>(
     Ok(true)
 }
 
-/// Adds the next body; false where it passes a limit on cells or instructions. The variables of the
-/// bodies that are not yet over stand in `round`, from the outermost in.
+// Adds the next body; false where it passes a limit on cells or instructions. The variables of the
+// bodies that are not yet over stand in `round`, from the outermost in.
 fn add_next<'a>(
     made: &mut Bodies,
     round: &mut Vec<&'a Variables>,
@@ -127,7 +127,7 @@ fn add_next<'a>(
     Ok(fits)
 }
 
-/// The variables of the innermost body, if there is one, and these otherwise.
+// The variables of the innermost body, if there is one, and these otherwise.
 fn innermost<'a>(round: &[&'a Variables], none: &'a Variables) -> &'a Variables
     requires { none.now ≡ [] }
     ensures { result.now ≡ innermost (map (λ one. one.now) round.now) }
@@ -138,7 +138,7 @@ fn innermost<'a>(round: &[&'a Variables], none: &'a Variables) -> &'a Variables
     }
 }
 
-/// The variables of a body, which stand at its number.
+// The variables of a body, which stand at its number.
 fn own_variables<'a>(known: &Known<'a>, site: &Site<'_>) -> &'a Variables
     requires { IsListed known.now.slots.now (body_in [] site.now) }
     ensures { result.now ≡ variables_of (body_in [] site.now) }
@@ -147,7 +147,7 @@ fn own_variables<'a>(known: &Known<'a>, site: &Site<'_>) -> &'a Variables
     &known.slots[number as usize]
 }
 
-/// Adds a body; false where it passes a limit on cells or instructions.
+// Adds a body; false where it passes a limit on cells or instructions.
 fn add_body(made: &mut Bodies, seen: &SeenBody<'_>) -> Made<bool>
     requires seen { IsSeen seen.now }
     ensures { let b = seen_body seen.now in
@@ -159,7 +159,7 @@ fn add_body(made: &mut Bodies, seen: &SeenBody<'_>) -> Made<bool>
     add_with(made, seen, slots)
 }
 
-/// The slots of a body; `None` where it passes a limit.
+// The slots of a body; `None` where it passes a limit.
 fn frame_in(seen: &SeenBody<'_>) -> Made<Option<Seq<Slot>>>
     requires seen { IsSeen seen.now }
     ensures { let b = seen_body seen.now in
@@ -171,7 +171,7 @@ fn frame_in(seen: &SeenBody<'_>) -> Made<Option<Seq<Slot>>>
     frame_of(alloc, extents, seen.outer, captures, seen.variables)
 }
 
-/// What a body takes from the body round it.
+// What a body takes from the body round it.
 fn captures_in<'a>(part: &BodyPart<'a>) -> &'a [Capture]
     ensures { result.now ≡ captures_of (part_tree part.now) }
 {
@@ -181,7 +181,7 @@ fn captures_in<'a>(part: &BodyPart<'a>) -> &'a [Capture]
     }
 }
 
-/// Adds a body that has these slots; false where it has too many instructions.
+// Adds a body that has these slots; false where it has too many instructions.
 fn add_with(made: &mut Bodies, seen: &SeenBody<'_>, slots: Seq<Slot>) -> Made<bool>
     requires seen { IsSeen seen.now }
     requires slots { FitsFrame (variables_of (seen_body seen.now)) (slots_of (seen_body seen.now))
@@ -209,7 +209,7 @@ fn add_with(made: &mut Bodies, seen: &SeenBody<'_>, slots: Seq<Slot>) -> Made<bo
     Ok(true)
 }
 
-/// Puts a body and its lists behind those that are there.
+// Puts a body and its lists behind those that are there.
 fn put_body(made: &mut Bodies, body: Body, lists: Vec<PickList>) -> Done
     ensures bodies { OnOk result (made.new.bodies ≡ made.old.bodies ++ body ∷ []) }
     ensures lists { OnOk result (made.new.lists ≡ made.old.lists ++ lists.items) }
@@ -231,7 +231,7 @@ pub(crate) fn put_both<T: Drop, L: Drop>(
     items.push(item)
 }
 
-/// The code of a body; `None` where it has too many instructions.
+// The code of a body; `None` where it has too many instructions.
 fn code_in(seen: &SeenBody<'_>) -> Made<Option<Emitted>>
     requires seen { IsSeen seen.now }
     ensures { IfOk result (λ code. FitsCode (seen_tree seen.now) (seen_body seen.now) code) }
@@ -243,7 +243,7 @@ fn code_in(seen: &SeenBody<'_>) -> Made<Option<Emitted>>
     emitted_in(input.alloc, &tables, seen.site)
 }
 
-/// The slots that the values go to with which a frame of a body begins.
+// The slots that the values go to with which a frame of a body begins.
 fn given_in(seen: &SeenBody<'_>) -> Made<Seq<u32>>
     requires seen { IsSeen seen.now }
     ensures { IfOk result (λ slots. slots ≡ given_of (seen_body seen.now)) }
@@ -258,7 +258,7 @@ fn given_in(seen: &SeenBody<'_>) -> Made<Seq<u32>>
     }
 }
 
-/// The slots of the firstprivate copies of a region.
+// The slots of the firstprivate copies of a region.
 fn copies_given(alloc: Global, region: &Region<'_>, variables: &Variables) -> Made<Seq<u32>>
     requires few { length variables.now ≤ 256 }
     requires variables { let clauses = map view_resolved_clause region.now.clauses.now in

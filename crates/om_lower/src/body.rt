@@ -54,7 +54,7 @@ pub(crate) fn emitted_in(
     Ok(Some(settled(alloc, writing)?))
 }
 
-/// Writes all that stands in a body.
+// Writes all that stands in a body.
 fn write(alloc: Global, writing: &mut Writing, tables: &BodyTables<'_>, site: &Site<'_>) -> Done
     requires code { BodyHasCode (body_in [] site.now).function (body_in [] site.now).tree }
     requires regions { let b = body_in [] site.now in
@@ -73,7 +73,7 @@ fn write(alloc: Global, writing: &mut Writing, tables: &BodyTables<'_>, site: &S
     }
 }
 
-/// Writes the statements of a function, and its end.
+// Writes the statements of a function, and its end.
 fn write_function(
     alloc: Global,
     writing: &mut Writing,
@@ -102,8 +102,8 @@ fn write_function(
     writing.scopes.end(height, to)
 }
 
-/// Writes what each thread of a team does (OpenMP API 5.2, section 10.1): its implicit task begins,
-/// its copies are combined behind the statement, and all threads wait for each other.
+// Writes what each thread of a team does (OpenMP API 5.2, section 10.1): its implicit task begins,
+// its copies are combined behind the statement, and all threads wait for each other.
 fn write_parallel(
     alloc: Global,
     writing: &mut Writing,
@@ -136,7 +136,7 @@ fn write_parallel(
     writing.scopes.end(height, to)
 }
 
-/// Writes what a task does (OpenMP API 5.2, section 12.5), and its end.
+// Writes what a task does (OpenMP API 5.2, section 12.5), and its end.
 fn write_task(
     alloc: Global,
     writing: &mut Writing,
@@ -163,7 +163,7 @@ fn write_task(
     writing.scopes.end(height, to)
 }
 
-/// What is written of a body, with the place of each label in its stead, and the scopes that have ended.
+// What is written of a body, with the place of each label in its stead, and the scopes that have ended.
 fn settled(alloc: Global, writing: Writing) -> Made<Emitted>
     requires { length writing.draft.code ≤ 65536 }
     ensures code { IfOk result (λ made. made.code ≡ settled_code writing.draft) }

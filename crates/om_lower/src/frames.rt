@@ -37,7 +37,7 @@ pub(crate) fn frame_of(
     Ok(Some(slots))
 }
 
-/// How many cells of its own a frame with these slots has.
+// How many cells of its own a frame with these slots has.
 fn frame_cells(slots: &[Slot]) -> u64
     requires { length slots.now ≤ 256 }
     ensures { result ≡ frame_cells slots.now }
@@ -49,7 +49,7 @@ fn frame_cells(slots: &[Slot]) -> u64
     cells
 }
 
-/// How many cells of its own a frame has for a slot.
+// How many cells of its own a frame has for a slot.
 fn own_cells(slot: Slot) -> u32
     ensures { result ≡ own_cells slot }
 {

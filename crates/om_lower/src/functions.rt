@@ -67,8 +67,8 @@ pub(crate) struct Next<'a> {
     pub(crate) numbers: Numbers,
 }
 
-/// Adds the bodies of all functions, or of those before the first that passes a limit. The variables
-/// of each body are found once, and kept by its number.
+// Adds the bodies of all functions, or of those before the first that passes a limit. The variables
+// of each body are found once, and kept by its number.
 fn add_functions(lowered: &mut Lowered, slots: &mut Vec<Variables>, input: &Input<'_>) -> Done
     requires given { IsInput input.now }
     requires functions { lowered.old.functions ≡ [] }
@@ -97,7 +97,7 @@ fn add_functions(lowered: &mut Lowered, slots: &mut Vec<Variables>, input: &Inpu
     Ok(())
 }
 
-/// How many cells the variables of the function at an index have.
+// How many cells the variables of the function at an index have.
 fn extents_at<'a>(tables: &'a Tables, index: usize) -> &'a Extents
     requires { index < length tables.now.extents.items }
     ensures { slice_get tables.now.extents.items index ≡ Some result.now }
@@ -105,7 +105,7 @@ fn extents_at<'a>(tables: &'a Tables, index: usize) -> &'a Extents
     &tables.extents[index]
 }
 
-/// The numbers behind the body of this number.
+// The numbers behind the body of this number.
 fn numbers_behind(tables: &Tables, body: u32) -> Numbers
     requires { body < length (ends_in tables.now) }
     ensures { slice_get (ends_in tables.now) body ≡ Some (numbers_of result) }
@@ -113,7 +113,7 @@ fn numbers_behind(tables: &Tables, body: u32) -> Numbers
     tables.ends[body as usize]
 }
 
-/// Adds the bodies of a function; false where one passes a limit on slots, cells or instructions.
+// Adds the bodies of a function; false where one passes a limit on slots, cells or instructions.
 fn add_function(
     lowered: &mut Lowered,
     slots: &mut Vec<Variables>,
@@ -140,7 +140,7 @@ fn add_function(
     add_bodies(lowered, &known, next, sites.as_slice())
 }
 
-/// The same, where the function's bodies are found and none has too many slots.
+// The same, where the function's bodies are found and none has too many slots.
 fn add_bodies<'a>(
     lowered: &mut Lowered,
     known: &'a Known<'a>,
@@ -165,7 +165,7 @@ fn add_bodies<'a>(
     put_function(lowered, bodies, fits)
 }
 
-/// Puts the bodies of a function and their lists behind those that are there, where they fit.
+// Puts the bodies of a function and their lists behind those that are there, where they fit.
 fn put_function(lowered: &mut Lowered, bodies: Bodies, fits: Made<bool>) -> Made<bool>
     ensures fits { IfOk result (λ put. fits ≡ Ok put) }
     ensures functions { IfOk result (λ put.
@@ -182,7 +182,7 @@ fn put_function(lowered: &mut Lowered, bodies: Bodies, fits: Made<bool>) -> Made
     )
 }
 
-/// Puts an item behind others, and lists behind theirs, where they fit.
+// Puts an item behind others, and lists behind theirs, where they fit.
 fn put_where<T: Drop, L: Drop>(
     items: &mut Seq<T>,
     lists: &mut Seq<L>,

@@ -28,7 +28,7 @@ pub(crate) fn first_high(
     Ok(None)
 }
 
-/// Whether bodies have at most 256 operands at once.
+// Whether bodies have at most 256 operands at once.
 fn are_low(alloc: Global, picks: &[Seq<u32>], bodies: &[Body]) -> Made<bool>
     requires { AreLevel picks.now bodies.now }
     ensures low { IfOk result (λ low. low ≡ true → AreLow picks.now bodies.now) }
@@ -42,7 +42,7 @@ fn are_low(alloc: Global, picks: &[Seq<u32>], bodies: &[Body]) -> Made<bool>
     Ok(true)
 }
 
-/// Whether a body has at most 256 operands at once.
+// Whether a body has at most 256 operands at once.
 fn is_low(alloc: Global, picks: &[Seq<u32>], body: &Body) -> Made<bool>
     requires { IsLevelBody picks.now body.now }
     ensures low { IfOk result (λ low. low ≡ true → IsLow picks.now body.now.code) }

@@ -21,8 +21,8 @@ pub(crate) fn comparison_of(operator: BinaryOperator) -> Option<Comparison>
     })
 }
 
-/// How iterations are shared out. A dynamic chunk has one iteration where no size is given (OpenMP API
-/// 5.2, section 11.5.3).
+// How iterations are shared out. A dynamic chunk has one iteration where no size is given (OpenMP API
+// 5.2, section 11.5.3).
 fn schedule_in(kind: ScheduleKind, chunk: Option<u32>) -> Schedule
     ensures { result ≡ schedule_in kind chunk }
 {

@@ -56,7 +56,7 @@ pub fn lower(alloc: Global, resolved: &Resolved) -> Result<Program, SourceFault>
     })
 }
 
-/// The program of a tree, where its tables are made.
+// The program of a tree, where its tables are made.
 fn lower_input(input: &Input<'_>) -> Result<Program, SourceFault>
     requires given { IsInput input.now }
     ensures code { IfOk result (λ program. IsCodeOf (tree_of input.now) program) }
@@ -68,7 +68,7 @@ fn lower_input(input: &Input<'_>) -> Result<Program, SourceFault>
     program_of(input, placed)
 }
 
-/// The bodies of functions, with the lists of all PICKs in them at their numbers.
+// The bodies of functions, with the lists of all PICKs in them at their numbers.
 fn placed_functions(input: &Input<'_>) -> Made<Placed>
     requires given { IsInput input.now }
     ensures { let tree = tree_of input.now in
@@ -89,7 +89,7 @@ fn placed_functions(input: &Input<'_>) -> Made<Placed>
     })
 }
 
-/// S11 at the name of the first function that passes a limit, if one does.
+// S11 at the name of the first function that passes a limit, if one does.
 fn within_limits(input: &Input<'_>, placed: &Placed) -> Result<(), SourceFault>
     requires lowered { let made = placed.now in
         IsLowered (tree_of input.now) made.picks made.functions made.is_whole }
@@ -103,7 +103,7 @@ fn within_limits(input: &Input<'_>, placed: &Placed) -> Result<(), SourceFault>
     Err(too_many(&input.resolved.functions.as_slice()[index]))
 }
 
-/// The first function that passes a limit, if one does.
+// The first function that passes a limit, if one does.
 fn over_at(input: &Input<'_>, placed: &Placed) -> Made<Option<usize>>
     requires { let made = placed.now in
         IsLowered (tree_of input.now) made.picks made.functions made.is_whole }
@@ -123,7 +123,7 @@ fn over_at(input: &Input<'_>, placed: &Placed) -> Made<Option<usize>>
     Ok(Some(functions.len()))
 }
 
-/// S11 at the function's name.
+// S11 at the function's name.
 fn too_many(function: &ResolvedFunction) -> SourceFault
     ensures { result ≡ too_many (view_resolved_function function.now) }
 {
@@ -133,7 +133,7 @@ fn too_many(function: &ResolvedFunction) -> SourceFault
     }
 }
 
-/// So many lists, each of these at its number. Their numbers are those below the count, each once.
+// So many lists, each of these at its number. Their numbers are those below the count, each once.
 fn joined(alloc: Global, count: u32, lists: Vec<PickList>) -> Made<Seq<Seq<u32>>>
     requires { IsEachOnce count (map number_of lists.items) }
     ensures long { IfOk result (λ picks. length picks ≡ count) }
@@ -146,7 +146,7 @@ fn joined(alloc: Global, count: u32, lists: Vec<PickList>) -> Made<Seq<Seq<u32>>
     Ok(Seq::of(picks))
 }
 
-/// So many lists without places.
+// So many lists without places.
 fn empty_lists(alloc: Global, count: u32) -> Made<Vec<Seq<u32>>>
     ensures { IfOk result (λ picks. length picks.items ≡ count) }
 {
@@ -157,7 +157,7 @@ fn empty_lists(alloc: Global, count: u32) -> Made<Vec<Seq<u32>>>
     Ok(picks)
 }
 
-/// Puts a list at its number.
+// Puts a list at its number.
 fn put_list(picks: &mut Vec<Seq<u32>>, list: PickList)
     requires { list.number < length picks.old.items }
     ensures { picks.new.items ≡ slice_set picks.old.items list.number list.places }

@@ -28,7 +28,7 @@ pub(crate) fn names_with(
     Ok(Names { scopes, outer })
 }
 
-/// Scopes, by the slots of a body with these variables.
+// Scopes, by the slots of a body with these variables.
 fn scopes_in(alloc: Global, named: Vec<VariableScope>, variables: &Variables) -> Made<Seq<Scope>>
     requires named { AreInside 65536 named.items }
     requires few { length variables.now ≤ 256 }
@@ -41,7 +41,7 @@ fn scopes_in(alloc: Global, named: Vec<VariableScope>, variables: &Variables) ->
     Ok(Seq::of(scopes))
 }
 
-/// A scope, by the slots of a body with these variables.
+// A scope, by the slots of a body with these variables.
 fn scope_in(variables: &Variables, named: VariableScope) -> Scope
     requires named { IsInside 65536 named }
     requires few { length variables.now ≤ 256 }
@@ -56,7 +56,7 @@ fn scope_in(variables: &Variables, named: VariableScope) -> Scope
     }
 }
 
-/// For each of these variables its slot in the body round them, where that has it.
+// For each of these variables its slot in the body round them, where that has it.
 fn slots_among(alloc: Global, outer: &Variables, variables: &Variables) -> Made<Seq<Option<u32>>>
     requires { length outer.now ≤ 256 }
     ensures { IfOk result (λ slots. slots ≡ map (slot_among outer.now) variables.now) }
@@ -68,7 +68,7 @@ fn slots_among(alloc: Global, outer: &Variables, variables: &Variables) -> Made<
     Ok(Seq::of(slots))
 }
 
-/// The slot of a variable, where these have it.
+// The slot of a variable, where these have it.
 fn slot_among(variables: &Variables, variable: u32) -> Option<u32>
     requires { length variables.now ≤ 256 }
     ensures { result ≡ slot_among variables.now variable }
@@ -77,7 +77,7 @@ fn slot_among(variables: &Variables, variable: u32) -> Option<u32>
     Some(slot as u32)
 }
 
-/// The index of a variable, where it is among these.
+// The index of a variable, where it is among these.
 fn index_among(variables: &[u32], variable: u32) -> Option<usize>
     ensures index { result ≡ position (nat_eq variable) variables.now }
     ensures within { IfSome result (λ index. index < length variables.now) }

@@ -34,7 +34,7 @@ pub(crate) fn program_of(input: &Input<'_>, placed: Placed) -> Result<Program, S
     Ok(Program::of(raw))
 }
 
-/// The code of a program, in one value.
+// The code of a program, in one value.
 fn raw_of(input: &Input<'_>, placed: Placed) -> Made<Raw>
     requires given { IsInput input.now }
     requires lowered { IsLowered (tree_of input.now) placed.picks placed.functions true }
@@ -64,7 +64,7 @@ fn raw_of(input: &Input<'_>, placed: Placed) -> Made<Raw>
     })
 }
 
-/// The bodies of functions, one behind the other.
+// The bodies of functions, one behind the other.
 fn flattened(alloc: Global, functions: Seq<Seq<Body>>) -> Made<Seq<Body>>
     ensures { IfOk result (λ bodies. bodies ≡ flat_map (λ bodies. bodies) functions) }
 {
@@ -77,7 +77,7 @@ fn flattened(alloc: Global, functions: Seq<Seq<Body>>) -> Made<Seq<Body>>
     Ok(all)
 }
 
-/// What PRINT writes for each format.
+// What PRINT writes for each format.
 fn texts_of(alloc: Global, formats: &Texts) -> Made<Seq<Seq<Piece>>>
     requires { All (λ format. IsSome (pieces_of format)) formats.now }
     ensures { IfOk result (λ texts. AllZip IsTextOf formats.now texts) }
@@ -89,7 +89,7 @@ fn texts_of(alloc: Global, formats: &Texts) -> Made<Seq<Seq<Piece>>>
     Ok(Seq::of(texts))
 }
 
-/// What PRINT writes for the format of this number.
+// What PRINT writes for the format of this number.
 fn text_at(alloc: Global, formats: &Texts, number: usize) -> Made<Seq<Piece>>
     requires there { number < length formats.now }
     requires formats { All (λ format. IsSome (pieces_of format)) formats.now }
@@ -105,7 +105,7 @@ fn text_at(alloc: Global, formats: &Texts, number: usize) -> Made<Seq<Piece>>
     }
 }
 
-/// Texts, in the order of their numbers.
+// Texts, in the order of their numbers.
 fn copy_texts(alloc: Global, texts: &Texts) -> Made<Seq<Seq<u8>>>
     ensures { IfOk result (λ copied. copied ≡ texts.now) }
 {
@@ -116,7 +116,7 @@ fn copy_texts(alloc: Global, texts: &Texts) -> Made<Seq<Seq<u8>>>
     Ok(Seq::of(copied))
 }
 
-/// The text of this number.
+// The text of this number.
 fn copy_text(alloc: Global, texts: &Texts, number: usize) -> Made<Seq<u8>>
     requires { number < length texts.now }
     ensures { IfOk result (λ text. slice_get texts.now number ≡ Some text) }
@@ -127,7 +127,7 @@ fn copy_text(alloc: Global, texts: &Texts, number: usize) -> Made<Seq<u8>>
     Ok(Seq::of(text.to_vec(alloc)?))
 }
 
-/// The global variables of the code.
+// The global variables of the code.
 fn copy_globals(alloc: Global, globals: &[GlobalVariable]) -> Made<Seq<raw::GlobalVariable>>
     ensures { IfOk result (λ copied. copied ≡ map global_of globals.now) }
 {
@@ -138,7 +138,7 @@ fn copy_globals(alloc: Global, globals: &[GlobalVariable]) -> Made<Seq<raw::Glob
     Ok(Seq::of(copied))
 }
 
-/// A global variable of the code.
+// A global variable of the code.
 fn copy_global(alloc: Global, global: &GlobalVariable) -> Made<raw::GlobalVariable>
     ensures { IfOk result (λ copied. copied ≡ global_of global.now) }
 {
@@ -150,7 +150,7 @@ fn copy_global(alloc: Global, global: &GlobalVariable) -> Made<raw::GlobalVariab
     })
 }
 
-/// The number of the body of `main`.
+// The number of the body of `main`.
 fn main_body(input: &Input<'_>) -> u32
     requires given { IsInput input.now }
     ensures { let functions = (tree_of input.now).functions in
@@ -163,7 +163,7 @@ fn main_body(input: &Input<'_>) -> u32
 }
 
 #[tactic(auto, using(crate::proofs::Searches::position_none, crate::proofs::Searches::position_map))]
-/// The index of `main`.
+// The index of `main`.
 fn main_of(resolved: &Resolved) -> usize
     requires { Any (λ function. is_main_function function ≡ true)
         (view_resolved resolved.now).functions }
@@ -175,7 +175,7 @@ fn main_of(resolved: &Resolved) -> usize
     }
 }
 
-/// The index of the first function named `main`.
+// The index of the first function named `main`.
 fn index_of_main(functions: &[ResolvedFunction]) -> Option<usize>
     ensures { result
         ≡ position (λ function. is_main_function (view_resolved_function function)) functions.now }

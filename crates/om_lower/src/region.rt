@@ -71,8 +71,8 @@ pub(crate) fn task(
     Ok(tables.behind_region(numbers.bodies))
 }
 
-/// Loads the originals of the firstprivate copies of a region whose body has these variables, and says how
-/// many there are.
+// Loads the originals of the firstprivate copies of a region whose body has these variables, and says how
+// many there are.
 fn load_given(
     alloc: Global,
     draft: &mut Draft,
@@ -95,8 +95,8 @@ fn load_given(
     Ok(copies.len())
 }
 
-/// Writes the size that a `parallel` asks for, if one of its clauses does (OpenMP API 5.2, section
-/// 10.1.2), and says whether one does.
+// Writes the size that a `parallel` asks for, if one of its clauses does (OpenMP API 5.2, section
+// 10.1.2), and says whether one does.
 fn team_size(draft: &mut Draft, here: &Here<'_>, clauses: &[ResolvedClause]) -> Made<bool>
     requires { IfSome (rows.clause_value (map view_resolved_clause clauses.now)) ValueHasCode }
     ensures sized { IfOk result
@@ -113,7 +113,7 @@ fn team_size(draft: &mut Draft, here: &Here<'_>, clauses: &[ResolvedClause]) -> 
     }
 }
 
-/// Loads the originals of the firstprivate copies of a region, by the slots of the copies.
+// Loads the originals of the firstprivate copies of a region, by the slots of the copies.
 fn load_originals(draft: &mut Draft, here: &Here<'_>, copies: &[FirstCopy]) -> Done
     ensures { Appends result here.now (λ at l. each (rows.load_original at l))
         (first_copies_of copies.now) draft.old draft.new }

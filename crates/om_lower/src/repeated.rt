@@ -42,7 +42,7 @@ pub(crate) fn end_loop(draft: &mut Draft, line: u32, labels: LoopLabels) -> Done
     Ok(())
 }
 
-/// Makes the labels of a loop in which `continue` does not go to its begin.
+// Makes the labels of a loop in which `continue` does not go to its begin.
 fn turn_labels(draft: &mut Draft) -> Made<TurnLabels>
     ensures { IfOk result (λ labels. FreshTurn labels draft.old draft.new) }
 {

@@ -10,7 +10,7 @@ use om_resolved::Made;
 use om_seq::Seq;
 use std::alloc::Global;
 
-/// The pieces that were cut, and the bytes behind them that no piece has yet.
+// The pieces that were cut, and the bytes behind them that no piece has yet.
 #[derive(Drop)]
 struct Cut {
     pieces: Vec<Piece>,
@@ -33,7 +33,7 @@ pub fn text_of(alloc: Global, format: &[u8]) -> Made<Option<Seq<Piece>>>
     }
 }
 
-/// Cuts a whole format behind what was cut, if it is one.
+// Cuts a whole format behind what was cut, if it is one.
 fn cut_format(alloc: Global, cut: &mut Cut, format: &[u8]) -> Made<bool>
     ensures { IfOk result
         (λ is_whole. cut_behind cut.old format.now ≡ cut_pieces cut.new is_whole) }
@@ -50,7 +50,7 @@ fn cut_format(alloc: Global, cut: &mut Cut, format: &[u8]) -> Made<bool>
 }
 
 #[tactic(auto, unfolding(om_resolved::specs::Formats::pieces_of), using(crate::proofs::Cutting::byte_or, crate::proofs::Cutting::not_this))]
-/// Cuts what begins with a byte, and answers what is behind it; `None` where no format goes on so.
+// Cuts what begins with a byte, and answers what is behind it; `None` where no format goes on so.
 fn cut_next<'a>(alloc: Global, cut: &mut Cut, byte: u8, rest: &'a [u8]) -> Made<Option<&'a [u8]>>
     ensures same { IfOk result (λ left.
         cut_behind cut.old (byte ∷ rest.now)
@@ -66,7 +66,7 @@ fn cut_next<'a>(alloc: Global, cut: &mut Cut, byte: u8, rest: &'a [u8]) -> Made<
 }
 
 #[tactic(auto, unfolding(om_resolved::specs::Formats::converted), using(crate::proofs::Cutting::value_or, crate::proofs::Cutting::byte_or, crate::proofs::Cutting::not_this))]
-/// Cuts what begins behind a `%`.
+// Cuts what begins behind a `%`.
 fn cut_converted<'a>(alloc: Global, cut: &mut Cut, rest: &'a [u8]) -> Made<Option<&'a [u8]>>
     ensures shorter { IfOk result
         (λ left. IfSome left (λ next. length next.now ≤ length rest.now)) }
@@ -87,7 +87,7 @@ fn cut_converted<'a>(alloc: Global, cut: &mut Cut, rest: &'a [u8]) -> Made<Optio
     Ok(None)
 }
 
-/// Adds a byte that is written.
+// Adds a byte that is written.
 #[tactic(auto, using(crate::proofs::Cutting::run_byte))]
 fn add_byte(cut: &mut Cut, byte: u8) -> Done
     ensures { OnOk result ((rest : List formats.Piece)
@@ -97,7 +97,7 @@ fn add_byte(cut: &mut Cut, byte: u8) -> Done
     Ok(())
 }
 
-/// Adds a value that is written in decimal.
+// Adds a value that is written in decimal.
 #[tactic(auto, using(crate::proofs::Cutting::run_value))]
 fn add_value(alloc: Global, cut: &mut Cut) -> Done
     ensures { OnOk result ((rest : List formats.Piece)
@@ -108,7 +108,7 @@ fn add_value(alloc: Global, cut: &mut Cut) -> Done
     Ok(())
 }
 
-/// Makes a piece of the bytes that have none yet, if there are any.
+// Makes a piece of the bytes that have none yet, if there are any.
 fn flush(alloc: Global, cut: &mut Cut) -> Done
     ensures pieces { OnOk result (
         cut.new.pieces.items ≡ cut.old.pieces.items ++ with_run cut.old.run.items []) }

@@ -9,7 +9,7 @@ use om_pragma::{Directive, DirectiveName};
 use om_rules::{Flow, Inside, RegionKind, Traits};
 use om_tree::Expression;
 
-/// A row of the table.
+// A row of the table.
 fn row(region: RegionKind, is_bound: bool, inside: Inside, takes_loop: bool) -> Traits
     ensures { result ≡ row region is_bound inside takes_loop }
 {
@@ -51,7 +51,7 @@ pub fn traits_of(name: &DirectiveName) -> Traits
     }
 }
 
-/// Whether worksharing is closed out in a construct.
+// Whether worksharing is closed out in a construct.
 fn is_closed_inside(inside: Inside, closed: bool) -> bool
     ensures { result ≡ is_closed_inside inside closed }
 {
@@ -62,7 +62,7 @@ fn is_closed_inside(inside: Inside, closed: bool) -> bool
     }
 }
 
-/// Where the innermost `parallel` round the statements in a construct begins.
+// Where the innermost `parallel` round the statements in a construct begins.
 fn parallel_in(directive: &Directive<Expression>, outer: Option<u32>) -> Option<u32>
     ensures { result ≡ parallel_in (view_directive directive.now) outer }
 {

@@ -23,7 +23,7 @@ pub struct Landmark {
     pub marks: Marks,
 }
 
-/// How many do not stand deeper; they come first. This is a binary search.
+// How many do not stand deeper; they come first. This is a binary search.
 fn count_within(landmarks: &[Landmark], depth: usize) -> usize
     requires descend { Descend landmarks.now }
     ensures bound { result ≤ length landmarks.now }
@@ -49,8 +49,8 @@ pub fn last_within(landmarks: &[Landmark], depth: usize) -> Option<Landmark>
     landmarks.get(last).copied()
 }
 
-/// The innermost construct of all, if it stands in the one that lists a name, or else that from round
-/// it.
+// The innermost construct of all, if it stands in the one that lists a name, or else that from round
+// it.
 fn deeper(listed: usize, any: usize, outer: usize) -> usize
     ensures { result ≡ deeper listed any outer }
 {

@@ -17,9 +17,9 @@ use std::marker::Model;
 pub struct Listed {
     default: Option<Sharing>,
     shared: Names,
-    /// The variables of which the construct has copies.
+    // The variables of which the construct has copies.
     copies: Table,
-    /// Their names.
+    // Their names.
     copied: Names,
 }
 
@@ -47,7 +47,7 @@ impl Model for Listed {
     ghost invariant = { λ s. s.copied ≡ keys_of s.copies };
 }
 
-/// Adds a copy to the copies of a construct, and its name to theirs.
+// Adds a copy to the copies of a construct, and its name to theirs.
 fn add_copy(
     copies: &mut Table,
     copied: &mut Names,

@@ -21,7 +21,7 @@ pub fn check_declared(symbols: &Symbols, name: &Name) -> Result<(), SourceFault>
     refuse_if(broken, FaultCode::Undeclared, name.span.start)
 }
 
-/// Whether a name of this meaning is undeclared, or a function that is never defined.
+// Whether a name of this meaning is undeclared, or a function that is never defined.
 fn is_undeclared(symbols: &Symbols, name: &[u8], meaning: Option<Meaning>) -> bool
     ensures { result ≡ is_undeclared symbols.now name.now meaning }
 {
@@ -38,7 +38,7 @@ pub fn is_scalar(meaning: Option<Meaning>) -> bool
     matches!(meaning, Some(Meaning::Variable(_, Shape::Scalar)))
 }
 
-/// Whether it is an array.
+// Whether it is an array.
 fn is_array(meaning: Option<Meaning>) -> bool
     ensures { result ≡ is_array meaning }
 {
@@ -83,7 +83,7 @@ pub fn resolve_scalar(symbols: &Symbols, name: &Name) -> Result<Variable, Source
     Ok(variable)
 }
 
-/// The variable of a name of this meaning that is used as a scalar at a place: S9.
+// The variable of a name of this meaning that is used as a scalar at a place: S9.
 fn scalar_meant(meaning: Option<Meaning>, at: u32) -> Result<Variable, SourceFault>
     ensures checked { ChecksExactly result (misused_scalar_breaches meaning at) }
     ensures resolved { IfOk result (λ variable. variable_of meaning ≡ Some variable) }
@@ -94,7 +94,7 @@ fn scalar_meant(meaning: Option<Meaning>, at: u32) -> Result<Variable, SourceFau
     }
 }
 
-/// A variable that the constructs round the place have to list: S13.
+// A variable that the constructs round the place have to list: S13.
 fn check_is_listed(symbols: &Symbols, name: &Name) -> Result<(), SourceFault>
     ensures { ChecksExactly result (unlisted_breaches symbols.now name.now) }
 {
@@ -120,8 +120,8 @@ pub fn resolve_array(symbols: &Symbols, name: &Name) -> Result<Variable, SourceF
     Ok(variable)
 }
 
-/// The variable of a name of this meaning that is used as an array at a place, which a `task` would
-/// copy or not: S9.
+// The variable of a name of this meaning that is used as an array at a place, which a `task` would
+// copy or not: S9.
 fn array_meant(meaning: Option<Meaning>, is_copied: bool, at: u32) -> Result<Variable, SourceFault>
     ensures checked { ChecksExactly result (misused_array_breaches meaning is_copied at) }
     ensures resolved { IfOk result (λ variable. variable_of meaning ≡ Some variable) }
@@ -152,7 +152,7 @@ pub fn resolve_callee(
     }
 }
 
-/// A name that is called with so many values: S7, S9.
+// A name that is called with so many values: S7, S9.
 fn check_called(
     symbols: &Symbols,
     for_value: bool,
@@ -167,7 +167,7 @@ fn check_called(
     refuse_if(broken, FaultCode::Misuse, name.span.start)
 }
 
-/// Whether a call with so many values is wrong.
+// Whether a call with so many values is wrong.
 fn is_miscalled(for_value: bool, name: &[u8], count: usize, meaning: Option<Meaning>) -> bool
     ensures { result ≡ is_miscalled for_value name.now count meaning }
 {

@@ -24,14 +24,14 @@ pub struct Construct {
     pub marks: Marks,
 }
 
-/// Whether it is `default(none)`.
+// Whether it is `default(none)`.
 fn asks_for_clauses(default: Option<Sharing>) -> bool
     ensures { result ≡ asks_for_clauses default }
 {
     matches!(default, Some(Sharing::None))
 }
 
-/// Whether it copies what it does not list: a `task` without `default`.
+// Whether it copies what it does not list: a `task` without `default`.
 fn copies(region: &Region) -> bool
     ensures { result ≡ copies region.now }
 {
@@ -45,14 +45,14 @@ pub fn is_parallel(kind: RegionKind) -> bool
     matches!(kind, RegionKind::Parallel)
 }
 
-/// Whether it is a `task`.
+// Whether it is a `task`.
 fn is_task(kind: RegionKind) -> bool
     ensures { result ≡ is_task kind }
 {
     matches!(kind, RegionKind::Task)
 }
 
-/// The marks in a construct, round whose inner scope so many stand.
+// The marks in a construct, round whose inner scope so many stand.
 fn marks_in(region: &Region, inside: usize, outer: Marks) -> Marks
     ensures { result ≡ marks_in region.now inside outer }
 {
@@ -70,7 +70,7 @@ fn marks_in(region: &Region, inside: usize, outer: Marks) -> Marks
     }
 }
 
-/// Those of constructs, the innermost of which comes last.
+// Those of constructs, the innermost of which comes last.
 fn marks_of(constructs: &[Construct]) -> Marks
     requires marked { AreMarked (reverse constructs.now) }
     ensures { result ≡ marks_of (reverse constructs.now) }
@@ -84,7 +84,7 @@ fn marks_of(constructs: &[Construct]) -> Marks
     }
 }
 
-/// Whether a construct stands in the scope of this depth.
+// Whether a construct stands in the scope of this depth.
 fn stands_in(constructs: &[Construct], depth: usize) -> bool
     ensures { StandsIn (reverse constructs.now) depth result }
 {
@@ -94,7 +94,7 @@ fn stands_in(constructs: &[Construct], depth: usize) -> bool
     construct.depth == depth
 }
 
-/// Notes a construct of a kind, if it is a `parallel`.
+// Notes a construct of a kind, if it is a `parallel`.
 fn note_parallel(parallels: &mut Vec<Landmark>, kind: RegionKind, landmark: Landmark)
     requires has_room { vec_len parallels.old < vec_capacity parallels.old }
     ensures { parallels.new.items ≡ with_parallel kind landmark parallels.old.items }
@@ -107,7 +107,7 @@ fn note_parallel(parallels: &mut Vec<Landmark>, kind: RegionKind, landmark: Land
     }
 }
 
-/// Forgets the innermost construct, which is of this kind, if it is a `parallel`.
+// Forgets the innermost construct, which is of this kind, if it is a `parallel`.
 fn forget_parallel(parallels: &mut Vec<Landmark>, kind: RegionKind)
     ensures { parallels.new.items ≡ without_parallel kind parallels.old.items }
 {
@@ -119,11 +119,11 @@ fn forget_parallel(parallels: &mut Vec<Landmark>, kind: RegionKind)
 /// The constructs round a place. Contracts see them, the innermost first.
 #[derive(Drop)]
 pub struct Nesting {
-    /// The innermost comes last.
+    // The innermost comes last.
     constructs: Vec<Construct>,
-    /// For each name, those that list it as shared.
+    // For each name, those that list it as shared.
     listings: Stacks<Landmark>,
-    /// Each `parallel` of them; the innermost comes last.
+    // Each `parallel` of them; the innermost comes last.
     parallels: Vec<Landmark>,
 }
 
@@ -203,7 +203,7 @@ impl Nesting {
         }
     }
 
-    /// The constructs that do not list a name.
+    // The constructs that do not list a name.
     fn marks_without(&self, name: &[u8]) -> Marks
         ensures { result ≡ marks_without self.now name.now }
     {

@@ -19,21 +19,21 @@ use std::mem;
 
 /// The names in scope at a place. Contracts see the scopes round that place.
 pub struct Symbols {
-    /// The names of the innermost scope, in the order of their declarations.
+    // The names of the innermost scope, in the order of their declarations.
     inner: Table,
-    /// Those of the scopes round it, the file scope first.
+    // Those of the scopes round it, the file scope first.
     outer: Vec<Table>,
-    /// The constructs that stand in the outer scopes.
+    // The constructs that stand in the outer scopes.
     nesting: Nesting,
-    /// The declarations of each name in all of these scopes.
+    // The declarations of each name in all of these scopes.
     sightings: Stacks<Sighting>,
-    /// How many globals there are.
+    // How many globals there are.
     globals: u32,
-    /// How many cells they have: each has one or more.
+    // How many cells they have: each has one or more.
     cells: u32,
-    /// The functions that the whole source defines.
+    // The functions that the whole source defines.
     definitions: Names,
-    /// Those that it defines before this place.
+    // Those that it defines before this place.
     defined: Names,
 }
 
@@ -121,7 +121,7 @@ impl Symbols {
         self.declare(alloc, b"omp_get_num_threads", asks)
     }
 
-    /// Declares a name. When out of memory, nothing changes.
+    // Declares a name. When out of memory, nothing changes.
     fn declare(&mut self, alloc: Global, name: &[u8], meaning: Meaning) -> Result<(), AllocError>
         requires is_new { is_declared self.old name.now ≡ false }
         ensures { OnOk result (self.new ≡ with_bindings self.old ((name.now, meaning) ∷ [])) }
@@ -214,7 +214,7 @@ impl Symbols {
         Ok(())
     }
 
-    /// Enters a construct, in which nothing is declared yet.
+    // Enters a construct, in which nothing is declared yet.
     fn begin(&mut self, alloc: Global, region: Region) -> Result<(), AllocError>
         ensures { OnOk result (self.new ≡ within [] region self.old) }
     {

@@ -23,7 +23,7 @@ pub enum LineStart {
     Nothing,
 }
 
-/// What a line of a directive is.
+// What a line of a directive is.
 fn start_of_kind(kind: DirectiveKind) -> LineStart
     ensures { result ≡ start_of_kind kind }
 {
@@ -36,7 +36,7 @@ fn start_of_kind(kind: DirectiveKind) -> LineStart
     }
 }
 
-/// What the word behind `omp` begins.
+// What the word behind `omp` begins.
 fn start_of_line(kind: &TokenKind) -> LineStart
     ensures { result ≡ start_of_line kind.now }
 {
@@ -59,7 +59,7 @@ pub fn line_start(tokens: &[Token]) -> LineStart
     }
 }
 
-/// What the line begins of which the `#` is taken.
+// What the line begins of which the `#` is taken.
 fn word_start(tokens: &[Token]) -> LineStart
     ensures { result ≡ word_start tokens.now }
 {

@@ -69,7 +69,7 @@ pub fn atomic_of<'a>(
     })
 }
 
-/// Whether a statement is one of the forms that this `atomic` has.
+// Whether a statement is one of the forms that this `atomic` has.
 #[tactic(auto, using(crate::proofs::AtomicKinds::atomic_viewed))]
 fn has_form(directive: &Directive<Expression>, body: &Statement) -> bool
     ensures { result ≡ has_atomic_form (atomic_kind (view_directive directive.now))

@@ -59,7 +59,7 @@ pub fn named_head(
     Ok(boxed(alloc, named)?)
 }
 
-/// The parameters of a definition: S3 at its body where one has no name.
+// The parameters of a definition: S3 at its body where one has no name.
 #[tactic(auto, unfolding(crate::specs::FunctionReading::named_parameters))]
 fn named_parameters(
     alloc: Global,
@@ -80,7 +80,7 @@ fn named_parameters(
     }
 }
 
-/// The parameters of a definition behind commas: S3 at its body where one has no name.
+// The parameters of a definition behind commas: S3 at its body where one has no name.
 fn named_further(
     alloc: Global,
     further: Vec<(Span, Parameter<Option<Name>>)>,
@@ -95,7 +95,7 @@ fn named_further(
     Ok(named)
 }
 
-/// A parameter of a definition: S3 at its body where it has no name.
+// A parameter of a definition: S3 at its body where it has no name.
 #[tactic(auto, unfolding(crate::specs::FunctionReading::named_parameter))]
 fn named_parameter(
     parameter: Parameter<Option<Name>>,
@@ -110,7 +110,7 @@ fn named_parameter(
     Ok(Parameter { int, name })
 }
 
-/// Parameters, the right parenthesis behind them, and the tokens behind that.
+// Parameters, the right parenthesis behind them, and the tokens behind that.
 #[tactic(auto, unfolding(crate::specs::FunctionReading::parameters_at))]
 fn parameters(
     alloc: Global,
@@ -128,7 +128,7 @@ fn parameters(
     listed(alloc, tokens)
 }
 
-/// One parameter or several, the right parenthesis behind them, and the tokens behind that.
+// One parameter or several, the right parenthesis behind them, and the tokens behind that.
 #[tactic(auto, unfolding(crate::specs::FunctionReading::listed_at))]
 fn listed(
     alloc: Global,
@@ -148,7 +148,7 @@ fn listed(
     ))
 }
 
-/// Parameters behind commas up to a right parenthesis, its span, and the tokens behind it.
+// Parameters behind commas up to a right parenthesis, its span, and the tokens behind it.
 fn further_parameters(
     alloc: Global,
     tokens: &[Token],
@@ -168,7 +168,7 @@ fn further_parameters(
     }
 }
 
-/// A comma, the parameter behind it, and the tokens behind that.
+// A comma, the parameter behind it, and the tokens behind that.
 #[tactic(auto, unfolding(crate::specs::FunctionReading::further_parameter_at))]
 fn further_parameter(
     alloc: Global,
@@ -181,7 +181,7 @@ fn further_parameter(
     Ok((comma, parameter, rest))
 }
 
-/// `int` and the name behind it, where one stands, and the tokens behind them.
+// `int` and the name behind it, where one stands, and the tokens behind them.
 #[tactic(auto, unfolding(crate::specs::FunctionReading::parameter_at))]
 fn parameter(
     alloc: Global,
@@ -194,7 +194,7 @@ fn parameter(
     Ok((Parameter { int, name }, rest))
 }
 
-/// The name that stands first, if one does, and the tokens behind it.
+// The name that stands first, if one does, and the tokens behind it.
 #[tactic(auto, unfolding(om_parts::specs::Reading::name_at, om_parts::specs::Reading::take_name, om_parts::specs::Reading::take))]
 fn optional_name(alloc: Global, tokens: &[Token]) -> Result<(Option<Name>, &[Token]), SourceFault>
     ensures { Reads (λ x. (x.0, x.1.now)) result (Ok (optional (take_name tokens.now) tokens.now)) }

@@ -72,7 +72,7 @@ pub fn condition(alloc: Global, tokens: &[Token]) -> Result<(Box<Condition>, &[T
     boxed_before(alloc, condition, rest)
 }
 
-/// The head of a `for`, of which the word is taken, and the tokens behind it.
+// The head of a `for`, of which the word is taken, and the tokens behind it.
 #[tactic(auto, unfolding(crate::specs::StatementReading::for_head_after))]
 fn for_head(
     alloc: Global,
@@ -98,7 +98,7 @@ fn for_head(
     boxed_before(alloc, head, rest)
 }
 
-/// What a `for` begins with, and the tokens behind it.
+// What a `for` begins with, and the tokens behind it.
 #[tactic(auto, unfolding(crate::specs::StatementReading::for_start_at))]
 fn for_start(alloc: Global, tokens: &[Token]) -> Result<(Box<ForStart>, &[Token]), SourceFault>
     ensures { Reads (λ x. (view_for_start x.0.value, x.1.now)) result
@@ -112,7 +112,7 @@ fn for_start(alloc: Global, tokens: &[Token]) -> Result<(Box<ForStart>, &[Token]
     boxed_before(alloc, start_with(first, semicolon), rest)
 }
 
-/// What a `for` begins with that declares nothing: perhaps an expression, and the semicolon.
+// What a `for` begins with that declares nothing: perhaps an expression, and the semicolon.
 fn start_with(first: Option<Box<Expression>>, semicolon: Span) -> ForStart
     ensures { view_for_start result ≡ choose (option_map (λ b. view_expression b.value) first)
         (λ e. trees.StartExpression e semicolon) (trees.Nothing semicolon) }
@@ -126,8 +126,8 @@ fn start_with(first: Option<Box<Expression>>, semicolon: Span) -> ForStart
     }
 }
 
-/// An expression in a statement's parentheses, if one stands before this punctuator, the span of
-/// that, and the tokens behind it.
+// An expression in a statement's parentheses, if one stands before this punctuator, the span of
+// that, and the tokens behind it.
 #[tactic(auto, unfolding(crate::specs::StatementReading::optional_before))]
 fn enclosed_before(
     alloc: Global,
@@ -145,7 +145,7 @@ fn enclosed_before(
     Ok((Some(value), span, rest))
 }
 
-/// An expression out of its box, if there is one.
+// An expression out of its box, if there is one.
 fn unboxed(value: Option<Box<Expression>>) -> Option<Expression>
     ensures { result ≡ option_map (λ b. b.value) value }
 {

@@ -43,7 +43,7 @@ pub fn simple<'a>(
     }
 }
 
-/// The value that is returned, if one is, its semicolon, and the tokens behind them.
+// The value that is returned, if one is, its semicolon, and the tokens behind them.
 #[tactic(auto, unfolding(crate::specs::StatementReading::return_after, crate::specs::StatementReading::optional_before))]
 fn return_after(
     alloc: Global,
@@ -76,7 +76,7 @@ fn return_after(
     )
 }
 
-/// A `break`, of which the word is taken, and the tokens behind it.
+// A `break`, of which the word is taken, and the tokens behind it.
 #[tactic(auto, unfolding(crate::specs::StatementReading::jump_after))]
 fn break_after(
     alloc: Global,
@@ -96,7 +96,7 @@ fn break_after(
     )
 }
 
-/// A `continue`, of which the word is taken, and the tokens behind it.
+// A `continue`, of which the word is taken, and the tokens behind it.
 #[tactic(auto, unfolding(crate::specs::StatementReading::jump_after))]
 fn continue_after(
     alloc: Global,
@@ -116,7 +116,7 @@ fn continue_after(
     )
 }
 
-/// An expression and its semicolon, and the tokens behind them.
+// An expression and its semicolon, and the tokens behind them.
 #[tactic(auto, unfolding(crate::specs::StatementReading::expression_statement_at))]
 fn expression_statement(
     alloc: Global,

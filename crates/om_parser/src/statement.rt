@@ -31,11 +31,11 @@ use std::alloc::Global;
 /// What may still stand in one another.
 #[derive(Clone, Copy)]
 pub struct Room {
-    /// Whether each outermost `atomic` must have one of its forms.
+    // Whether each outermost `atomic` must have one of its forms.
     checked: bool,
-    /// How many statements may stand in one another.
+    // How many statements may stand in one another.
     statements: usize,
-    /// How many blocks may stand in one another.
+    // How many blocks may stand in one another.
     blocks: usize,
 }
 
@@ -61,7 +61,7 @@ pub(crate) fn block(alloc: Global, tokens: &[Token]) -> Result<(Block, &[Token])
     ))
 }
 
-/// Items of a block up to its closing brace, its span, and the tokens behind it.
+// Items of a block up to its closing brace, its span, and the tokens behind it.
 #[cycle(statement)]
 fn items(
     alloc: Global,
@@ -84,7 +84,7 @@ fn items(
     }
 }
 
-/// A declaration, a statement or a directive that stands alone, and the tokens behind it.
+// A declaration, a statement or a directive that stands alone, and the tokens behind it.
 #[cycle(statement)]
 #[tactic(auto, unfolding(crate::specs::StatementReading::block_item_at))]
 fn block_item(
@@ -101,7 +101,7 @@ fn block_item(
     }
 }
 
-/// A statement or a directive that stands alone, and the tokens behind it.
+// A statement or a directive that stands alone, and the tokens behind it.
 #[cycle(statement)]
 #[tactic(auto, unfolding(crate::specs::ConstructReading::part_item_at, crate::specs::ConstructReading::item_of, crate::specs::ConstructReading::misplaced))]
 fn part_item(
@@ -120,7 +120,7 @@ fn part_item(
     }
 }
 
-/// A statement, and the tokens behind it.
+// A statement, and the tokens behind it.
 #[cycle(statement)]
 #[tactic(auto, unfolding(crate::specs::StatementReading::statement_at, crate::specs::StatementReading::statement_of))]
 fn statement(
@@ -147,7 +147,7 @@ fn statement(
     }
 }
 
-/// A block, of which the left brace is taken, and the tokens behind it.
+// A block, of which the left brace is taken, and the tokens behind it.
 #[cycle(statement)]
 #[tactic(auto, unfolding(crate::specs::StatementReading::block_after, crate::specs::StatementReading::block_items_after))]
 fn block_after(
@@ -168,7 +168,7 @@ fn block_after(
     block_of(alloc, open_brace, items, close_brace, rest)
 }
 
-/// A statement that begins with an opening, and the tokens behind it.
+// A statement that begins with an opening, and the tokens behind it.
 #[cycle(statement)]
 #[tactic(auto, unfolding(crate::specs::StatementReading::headed_of, crate::specs::StatementReading::body_after))]
 fn headed(
@@ -186,7 +186,7 @@ fn headed(
     behind_body(alloc, opening, body, rest, room)
 }
 
-/// What follows the body of a statement.
+// What follows the body of a statement.
 #[cycle(statement)]
 #[tactic(auto, unfolding(crate::specs::StatementReading::behind_body, crate::specs::StatementReading::else_after))]
 fn behind_body(
@@ -217,14 +217,14 @@ fn behind_body(
     }
 }
 
-/// An `else`, if it stands first, and the tokens behind it.
+// An `else`, if it stands first, and the tokens behind it.
 fn take_else(tokens: &[Token]) -> Option<(Span, &[Token])>
     ensures { option_map (λ x. (x.0, x.1.now)) result ≡ take_word Else tokens.now }
 {
     take_word(tokens, Keyword::Else)
 }
 
-/// A `do`, of which the word is taken, and the tokens behind it.
+// A `do`, of which the word is taken, and the tokens behind it.
 #[cycle(statement)]
 #[tactic(auto, unfolding(crate::specs::StatementReading::do_after))]
 fn do_after(
@@ -239,7 +239,7 @@ fn do_after(
     do_end(alloc, at, body, rest)
 }
 
-/// A construct whose line stands first, and the tokens behind it.
+// A construct whose line stands first, and the tokens behind it.
 #[cycle(statement)]
 #[tactic(auto, unfolding(crate::specs::ConstructReading::line_of, crate::specs::ConstructReading::misplaced))]
 fn directive(
@@ -257,7 +257,7 @@ fn directive(
     }
 }
 
-/// A construct, and the tokens behind it.
+// A construct, and the tokens behind it.
 #[cycle(statement)]
 #[tactic(auto, unfolding(crate::specs::ConstructReading::construct_at, crate::specs::ConstructReading::construct_after))]
 fn construct(
@@ -278,7 +278,7 @@ fn construct(
     }
 }
 
-/// A construct with one statement, of which the line is taken, and the tokens behind it.
+// A construct with one statement, of which the line is taken, and the tokens behind it.
 #[cycle(statement)]
 #[tactic(auto, unfolding(crate::specs::ConstructReading::constructed_after))]
 fn constructed(
@@ -294,7 +294,7 @@ fn constructed(
     construct_of(alloc, directive, body, rest)
 }
 
-/// An `atomic`, of which the line is taken, and the tokens behind it.
+// An `atomic`, of which the line is taken, and the tokens behind it.
 #[cycle(statement)]
 #[tactic(auto, unfolding(crate::specs::ConstructReading::atomic_after))]
 fn atomic(
@@ -314,7 +314,7 @@ fn atomic(
     atomic_of(alloc, room.checked, directive, body, rest)
 }
 
-/// A `sections`, of which the line is taken, and the tokens behind it.
+// A `sections`, of which the line is taken, and the tokens behind it.
 #[cycle(statement)]
 #[tactic(auto, unfolding(crate::specs::ConstructReading::sections_after))]
 fn sections(
@@ -330,7 +330,7 @@ fn sections(
     sections_of(alloc, directive, (open_brace, parts, close_brace), rest)
 }
 
-/// The braces of `sections`, the parts in them, and the tokens behind them.
+// The braces of `sections`, the parts in them, and the tokens behind them.
 #[cycle(statement)]
 #[tactic(auto, unfolding(crate::specs::StatementReading::parts_at, crate::specs::StatementReading::parts_after))]
 fn braces(
@@ -358,7 +358,7 @@ fn braces(
     Ok((open_brace, parts, close_brace, rest))
 }
 
-/// The parts of `sections`, one at least, and the tokens behind them.
+// The parts of `sections`, one at least, and the tokens behind them.
 #[cycle(statement)]
 fn parts(alloc: Global, tokens: &[Token], room: Room) -> Result<(Vec<Part>, &[Token]), SourceFault>
     ensures { Reads (λ x. (map view_part x.0.items, x.1.now)) result
@@ -378,7 +378,7 @@ fn parts(alloc: Global, tokens: &[Token], room: Room) -> Result<(Vec<Part>, &[To
     }
 }
 
-/// A part of `sections`: its `section`, if it has one, its items, and the tokens behind them.
+// A part of `sections`: its `section`, if it has one, its items, and the tokens behind them.
 #[cycle(statement)]
 #[tactic(auto, unfolding(crate::specs::ConstructReading::part_at))]
 fn part(alloc: Global, tokens: &[Token], room: Room) -> Result<(Part, &[Token]), SourceFault>
@@ -390,7 +390,7 @@ fn part(alloc: Global, tokens: &[Token], room: Room) -> Result<(Part, &[Token]),
     Ok((Part { section, items }, rest))
 }
 
-/// The items of a part, one at least, and the tokens behind them.
+// The items of a part, one at least, and the tokens behind them.
 #[cycle(statement)]
 fn part_items(
     alloc: Global,

@@ -131,7 +131,7 @@ pub fn syntax_stands()
     globals();
 }
 
-/// The unit that these tokens are.
+// The unit that these tokens are.
 #[tactic(auto, unfolding(crate::specs::UnitReading::unit_at))]
 fn unit(alloc: Global, tokens: &[Token]) -> Result<Unit, SourceFault>
     ensures { Reads view_unit result (unit_at accepted tokens.now) }
@@ -140,7 +140,7 @@ fn unit(alloc: Global, tokens: &[Token]) -> Result<Unit, SourceFault>
     Ok(Unit { items, end })
 }
 
-/// Declarations and functions up to the end of the source, and its span.
+// Declarations and functions up to the end of the source, and its span.
 fn items(alloc: Global, tokens: &[Token]) -> Result<(Vec<Item>, Span), SourceFault>
     ensures { Reads (λ x. (map view_item x.0.items, x.1, [])) result
         (until take_end (item_at accepted) (length tokens.now) tokens.now) }
@@ -159,7 +159,7 @@ fn items(alloc: Global, tokens: &[Token]) -> Result<(Vec<Item>, Span), SourceFau
     }
 }
 
-/// The span of the end of the source, where nothing else is left.
+// The span of the end of the source, where nothing else is left.
 #[tactic(auto, unfolding(crate::specs::UnitReading::take_end))]
 fn take_end(tokens: &[Token]) -> Option<Span>
     ensures { option_map (λ x. (x, [])) result ≡ take_end tokens.now }
@@ -173,7 +173,7 @@ fn take_end(tokens: &[Token]) -> Option<Span>
     Some(end.span)
 }
 
-/// A declaration, a prototype or a function, and the tokens behind it.
+// A declaration, a prototype or a function, and the tokens behind it.
 #[tactic(auto, unfolding(crate::specs::UnitReading::item_at))]
 fn item(alloc: Global, tokens: &[Token]) -> Result<(Item, &[Token]), SourceFault>
     ensures { Reads (λ x. (view_item x.0, x.1.now)) result (item_at accepted tokens.now) }
@@ -185,7 +185,7 @@ fn item(alloc: Global, tokens: &[Token]) -> Result<(Item, &[Token]), SourceFault
     int_after(alloc, int, rest)
 }
 
-/// The rest of a function or prototype without a result, of which `void` is taken.
+// The rest of a function or prototype without a result, of which `void` is taken.
 #[tactic(auto, unfolding(crate::specs::UnitReading::void_after))]
 fn void_after(alloc: Global, void: Span, tokens: &[Token]) -> Result<(Item, &[Token]), SourceFault>
     ensures { Reads (λ x. (view_item x.0, x.1.now)) result (void_after accepted void tokens.now) }
@@ -195,7 +195,7 @@ fn void_after(alloc: Global, void: Span, tokens: &[Token]) -> Result<(Item, &[To
     prototype_after(alloc, ResultType::Void(void), name, open_paren, rest)
 }
 
-/// The rest of an item of which `int` is taken.
+// The rest of an item of which `int` is taken.
 #[tactic(auto, unfolding(crate::specs::UnitReading::int_after))]
 fn int_after(alloc: Global, int: Span, tokens: &[Token]) -> Result<(Item, &[Token]), SourceFault>
     ensures { Reads (λ x. (view_item x.0, x.1.now)) result (int_after accepted int tokens.now) }
@@ -208,7 +208,7 @@ fn int_after(alloc: Global, int: Span, tokens: &[Token]) -> Result<(Item, &[Toke
     Ok((Item::Declaration(declaration), rest))
 }
 
-/// The rest of a prototype or function, of which all up to the left parenthesis is taken.
+// The rest of a prototype or function, of which all up to the left parenthesis is taken.
 #[tactic(auto, unfolding(crate::specs::UnitReading::prototype_after))]
 fn prototype_after(
     alloc: Global,
@@ -224,7 +224,7 @@ fn prototype_after(
     function_after(alloc, head, rest)
 }
 
-/// The semicolon of a prototype or the body of a function, behind its head.
+// The semicolon of a prototype or the body of a function, behind its head.
 #[tactic(auto, unfolding(crate::specs::UnitReading::function_after))]
 fn function_after(
     alloc: Global,

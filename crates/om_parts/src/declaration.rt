@@ -122,7 +122,7 @@ pub fn local_declaration(
     declaration_after(alloc, room, int, name, rest)
 }
 
-/// Declarators behind commas up to a semicolon, its span, and the tokens behind it.
+// Declarators behind commas up to a semicolon, its span, and the tokens behind it.
 fn further_declarators<I: Initial>(
     alloc: Global,
     room: usize,
@@ -145,7 +145,7 @@ fn further_declarators<I: Initial>(
     }
 }
 
-/// A comma, the declarator behind it, and the tokens behind that.
+// A comma, the declarator behind it, and the tokens behind that.
 #[tactic(auto, unfolding(crate::specs::DeclarationReading::further_at))]
 fn further_declarator<I: Initial>(
     alloc: Global,
@@ -161,7 +161,7 @@ fn further_declarator<I: Initial>(
     Ok((comma, declarator, rest))
 }
 
-/// The rest of a declarator, of which the name is taken.
+// The rest of a declarator, of which the name is taken.
 #[tactic(auto, unfolding(crate::specs::DeclarationReading::declarator_after))]
 fn declarator_after<I: Initial>(
     alloc: Global,
@@ -183,7 +183,7 @@ fn declarator_after<I: Initial>(
     uninitialized(alloc, name, None, tokens)
 }
 
-/// A declarator without an initializer.
+// A declarator without an initializer.
 fn uninitialized<'a, I: Initial>(
     alloc: Global,
     name: Name,
@@ -201,7 +201,7 @@ fn uninitialized<'a, I: Initial>(
     boxed_before(alloc, declarator, rest)
 }
 
-/// A declarator with an initializer.
+// A declarator with an initializer.
 fn initialized<'a, I: Initial>(
     alloc: Global,
     name: Name,
@@ -224,7 +224,7 @@ fn initialized<'a, I: Initial>(
     boxed_before(alloc, declarator, rest)
 }
 
-/// The brackets and the size of an array, of which the left one is taken.
+// The brackets and the size of an array, of which the left one is taken.
 #[tactic(auto, unfolding(crate::specs::DeclarationReading::array_after))]
 fn array_after(open_bracket: Span, tokens: &[Token]) -> Result<(ArrayLength, &[Token]), SourceFault>
     ensures { ReadsAlways (λ x. (x.0, x.1.now)) result (array_after open_bracket tokens.now) }

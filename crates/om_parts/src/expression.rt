@@ -20,19 +20,19 @@ use om_tree::boxed::boxed_before;
 use om_tree::{Argument, Expression, PrefixOperator, TOKEN_LIMIT};
 use std::alloc::Global;
 
-/// The levels of precedence between operands: from `||` to `*`.
+// The levels of precedence between operands: from `||` to `*`.
 const LEVELS: usize = 6;
 
 /// How much of an expression may still be read.
 #[derive(Clone, Copy)]
 pub struct Budget {
-    /// How many tokens must be left behind each one that is taken: with fewer, the expression has more than
-    /// `TOKEN_LIMIT`.
+    // How many tokens must be left behind each one that is taken: with fewer, the expression has more than
+    // `TOKEN_LIMIT`.
     beyond: usize,
-    /// How often operators and brackets may still nest. It begins as the number of tokens, so it never runs
-    /// out while one is left: it is there so that reading ends.
+    // How often operators and brackets may still nest. It begins as the number of tokens, so it never runs
+    // out while one is left: it is there so that reading ends.
     turns: usize,
-    /// How many brackets may stand round a part.
+    // How many brackets may stand round a part.
     room: usize,
 }
 
@@ -54,8 +54,8 @@ pub fn whole(
     expression(alloc, tokens, budget, true)
 }
 
-/// Refuses the token before these, at its span, where fewer than `beyond` tokens are left
-/// behind it.
+// Refuses the token before these, at its span, where fewer than `beyond` tokens are left
+// behind it.
 fn within(rest: &[Token], span: Span, beyond: usize) -> Result<(), SourceFault>
     ensures { IsTakenWithin beyond span rest.now result }
 {
@@ -66,8 +66,8 @@ fn within(rest: &[Token], span: Span, beyond: usize) -> Result<(), SourceFault>
     }
 }
 
-/// An expression, or one that is no assignment, with room for `room` brackets round a part of
-/// it, and the tokens behind it. `turns` bounds how often operators and brackets nest.
+// An expression, or one that is no assignment, with room for `room` brackets round a part of
+// it, and the tokens behind it. `turns` bounds how often operators and brackets nest.
 #[cycle(expression)]
 #[tactic(auto, unfolding(crate::specs::ExpressionReading::expression_at, crate::specs::ExpressionReading::expression_step))]
 fn expression(
@@ -87,8 +87,8 @@ fn expression(
     expression_after(alloc, left, rest, budget, may_assign)
 }
 
-/// An operand and what goes on with it: the rest of a conditional expression, of an assignment,
-/// or nothing.
+// An operand and what goes on with it: the rest of a conditional expression, of an assignment,
+// or nothing.
 #[cycle(expression)]
 #[tactic(auto, unfolding(crate::specs::ExpressionReading::expression_after, crate::specs::ExpressionReading::within))]
 fn expression_after(
@@ -119,7 +119,7 @@ fn expression_after(
     Ok((left, tokens))
 }
 
-/// The rest of a conditional expression, of which the question mark is taken.
+// The rest of a conditional expression, of which the question mark is taken.
 #[cycle(expression)]
 #[tactic(auto, unfolding(crate::specs::ExpressionReading::conditional_after, crate::specs::ExpressionReading::within))]
 fn conditional_after(
@@ -146,8 +146,8 @@ fn conditional_after(
     before(alloc, conditional, rest)
 }
 
-/// Operands and the operators between them, of the tightest `levels` levels, and the tokens
-/// behind them.
+// Operands and the operators between them, of the tightest `levels` levels, and the tokens
+// behind them.
 #[cycle(expression)]
 fn binary(
     alloc: Global,
@@ -166,7 +166,7 @@ fn binary(
     Ok((left, rest))
 }
 
-/// An operand, the operators of one level with their right operands, and the tokens behind them.
+// An operand, the operators of one level with their right operands, and the tokens behind them.
 #[cycle(expression)]
 fn operators(
     alloc: Global,
@@ -190,7 +190,7 @@ fn operators(
     Ok((left, rest))
 }
 
-/// An operand with the operators before and behind it, and the tokens behind it.
+// An operand with the operators before and behind it, and the tokens behind it.
 #[cycle(expression)]
 fn unary(
     alloc: Global,
@@ -206,8 +206,8 @@ fn unary(
     Ok((prefixed(alloc, operators, operand)?, rest))
 }
 
-/// The operators before an operand, the turns that are left behind them, and the tokens behind
-/// them.
+// The operators before an operand, the turns that are left behind them, and the tokens behind
+// them.
 #[inline(never)]
 fn prefixes(
     alloc: Global,
@@ -236,7 +236,7 @@ fn prefixes(
     Ok((operators, left, rest))
 }
 
-/// An operand with the operators behind it, and the tokens behind them.
+// An operand with the operators behind it, and the tokens behind them.
 #[cycle(expression)]
 #[tactic(auto, unfolding(crate::specs::ExpressionReading::postfix_step))]
 fn postfix(
@@ -251,7 +251,7 @@ fn postfix(
     postfixes(alloc, operand, rest, budget.beyond)
 }
 
-/// An operand, the operators behind it, and the tokens behind them.
+// An operand, the operators behind it, and the tokens behind them.
 #[inline(never)]
 fn postfixes(
     alloc: Global,
@@ -272,8 +272,8 @@ fn postfixes(
     Ok((left, rest))
 }
 
-/// A constant, an expression in parentheses, or what begins with a name, and the tokens behind
-/// it.
+// A constant, an expression in parentheses, or what begins with a name, and the tokens behind
+// it.
 #[cycle(expression)]
 #[tactic(auto, unfolding(crate::specs::ExpressionReading::primary_step, crate::specs::ExpressionReading::paren_after, crate::specs::ExpressionReading::within))]
 fn primary(
@@ -309,7 +309,7 @@ fn primary(
     named_after(alloc, name, rest, budget)
 }
 
-/// An expression, the span of the mark that closes its bracket, and the tokens behind it.
+// An expression, the span of the mark that closes its bracket, and the tokens behind it.
 #[cycle(expression)]
 #[tactic(auto, unfolding(crate::specs::ExpressionReading::closed_by, crate::specs::ExpressionReading::within))]
 fn closed(
@@ -327,7 +327,7 @@ fn closed(
     Ok((inner, right, rest))
 }
 
-/// A name, and its index or its arguments, where they stand behind it.
+// A name, and its index or its arguments, where they stand behind it.
 #[cycle(expression)]
 #[tactic(auto, unfolding(crate::specs::ExpressionReading::named_after, crate::specs::ExpressionReading::index_after, crate::specs::ExpressionReading::within))]
 fn named_after(
@@ -368,7 +368,7 @@ fn named_after(
     before(alloc, Expression::Name(name), tokens)
 }
 
-/// The rest of a call, of which the left parenthesis is taken.
+// The rest of a call, of which the left parenthesis is taken.
 #[cycle(expression)]
 #[tactic(auto, unfolding(crate::specs::ExpressionReading::call_after, crate::specs::ExpressionReading::arguments_after, crate::specs::ExpressionReading::within))]
 fn call_after(
@@ -406,7 +406,7 @@ fn call_after(
     )
 }
 
-/// The first argument of a call of this function, and the tokens behind it.
+// The first argument of a call of this function, and the tokens behind it.
 #[cycle(expression)]
 #[tactic(auto, unfolding(crate::specs::ExpressionReading::first_at, crate::specs::ExpressionReading::within))]
 fn first_argument<'a>(
@@ -425,8 +425,8 @@ fn first_argument<'a>(
     expression(alloc, tokens, budget, true)
 }
 
-/// The first argument and those behind commas, the span of the parenthesis behind them, and the
-/// tokens behind that.
+// The first argument and those behind commas, the span of the parenthesis behind them, and the
+// tokens behind that.
 #[cycle(expression)]
 fn arguments(
     alloc: Global,
@@ -451,7 +451,7 @@ fn arguments(
     }
 }
 
-/// A comma, the argument behind it, and the tokens behind that.
+// A comma, the argument behind it, and the tokens behind that.
 #[cycle(expression)]
 #[tactic(auto, unfolding(crate::specs::ExpressionReading::argument_at, crate::specs::ExpressionReading::within))]
 fn argument(

@@ -46,7 +46,7 @@ pub fn line(
     boxed_before(alloc, directive, rest)
 }
 
-/// The directive of a run, with its expression.
+// The directive of a run, with its expression.
 fn line_of(alloc: Global, run: &[Token]) -> Result<Directive<Expression>, SourceFault>
     requires { EndsOnce run.now }
     ensures { Reads view_directive result (line_of accepted run.now (directive_at run.now)) }
@@ -57,7 +57,7 @@ fn line_of(alloc: Global, run: &[Token]) -> Result<Directive<Expression>, Source
     }
 }
 
-/// The directive of a run, its expression not read.
+// The directive of a run, its expression not read.
 fn directive_of(alloc: Global, run: &[Token]) -> Result<Directive<&[Token]>, SourceFault>
     requires { EndsOnce run.now }
     ensures reads { Reads with_tokens result (directive_at run.now) }
@@ -67,7 +67,7 @@ fn directive_of(alloc: Global, run: &[Token]) -> Result<Directive<&[Token]>, Sou
     directive(alloc, run)
 }
 
-/// The fault of a run, or that of an expression before it, which is the lower one.
+// The fault of a run, or that of an expression before it, which is the lower one.
 #[tactic(auto, unfolding(crate::specs::LineReading::sooner))]
 fn sooner(alloc: Global, run: &[Token], fault: SourceFault) -> SourceFault
     ensures { (result ≡ no_memory) ⊎ (sooner accepted run.now fault ≡ Err result) }
@@ -81,7 +81,7 @@ fn sooner(alloc: Global, run: &[Token], fault: SourceFault) -> SourceFault
     }
 }
 
-/// The first expression of a run that ends before a place.
+// The first expression of a run that ends before a place.
 fn value_before(run: &[Token], place: u32) -> Option<&[Token]>
     ensures { option_map (λ e. e.now) result ≡ expression_before place run.now }
 {
@@ -89,7 +89,7 @@ fn value_before(run: &[Token], place: u32) -> Option<&[Token]>
     expression_before(run, place)
 }
 
-/// A directive of a run with its expression read.
+// A directive of a run with its expression read.
 fn with_value(
     alloc: Global,
     run: &[Token],
@@ -111,7 +111,7 @@ fn with_value(
     }
 }
 
-/// The directive with this expression in place of its own, if it has one.
+// The directive with this expression in place of its own, if it has one.
 fn filled<E: Drop, F: Drop>(
     alloc: Global,
     directive: Directive<E>,
@@ -125,7 +125,7 @@ fn filled<E: Drop, F: Drop>(
     Ok(directive.with_expression(alloc, value)?)
 }
 
-/// All tokens between the parentheses of a clause of a run, as one expression.
+// All tokens between the parentheses of a clause of a run, as one expression.
 #[tactic(auto, unfolding(crate::specs::LineReading::clause_value, crate::specs::PartReading::parts))]
 fn clause_value(
     alloc: Global,
@@ -141,7 +141,7 @@ fn clause_value(
     }
 }
 
-/// The expression, where no tokens are left behind it.
+// The expression, where no tokens are left behind it.
 fn alone(value: Box<Expression>, rest: &[Token]) -> Result<Box<Expression>, SourceFault>
     ensures { ReadsAlways (λ x. view_expression x.value) result (alone
         (view_expression value.value) rest.now) }
@@ -152,7 +152,7 @@ fn alone(value: Box<Expression>, rest: &[Token]) -> Result<Box<Expression>, Sour
     }
 }
 
-/// A fault of some tokens of a run. Where it is that they end, it stands at the token behind them.
+// A fault of some tokens of a run. Where it is that they end, it stands at the token behind them.
 fn in_run(run: &[Token], tokens: &[Token], fault: SourceFault) -> SourceFault
     ensures { result ≡ in_run run.now tokens.now fault }
 {
@@ -166,14 +166,14 @@ fn in_run(run: &[Token], tokens: &[Token], fault: SourceFault) -> SourceFault
     }
 }
 
-/// Whether the code is S3.
+// Whether the code is S3.
 fn is_syntax(code: FaultCode) -> bool
     ensures { result ≡ is_syntax code }
 {
     matches!(code, FaultCode::Syntax)
 }
 
-/// Where the last of these tokens starts.
+// Where the last of these tokens starts.
 fn last_start(tokens: &[Token]) -> u32
     ensures { result ≡ last_start tokens.now }
 {
@@ -183,7 +183,7 @@ fn last_start(tokens: &[Token]) -> u32
     }
 }
 
-/// Where the first of these tokens starts that stands behind that byte.
+// Where the first of these tokens starts that stands behind that byte.
 fn place_behind(at: u32, tokens: &[Token]) -> u32
     ensures { result ≡ place_behind at tokens.now }
 {
@@ -199,7 +199,7 @@ fn place_behind(at: u32, tokens: &[Token]) -> u32
     }
 }
 
-/// The tokens up to the first end of a directive line, with it, and those behind it.
+// The tokens up to the first end of a directive line, with it, and those behind it.
 fn run(tokens: &[Token]) -> Option<(&[Token], &[Token])>
     ensures ends_once { IfSome result (λ x. EndsOnce x.0.now) }
     ensures taken { option_map (λ x. (x.0.now, x.1.now)) result ≡ run_of tokens.now }
@@ -218,14 +218,14 @@ fn run(tokens: &[Token]) -> Option<(&[Token], &[Token])>
     }
 }
 
-/// Whether it is the end of a directive line.
+// Whether it is the end of a directive line.
 fn is_end(kind: &TokenKind) -> bool
     ensures { result ≡ is_end kind.now }
 {
     matches!(kind, TokenKind::DirectiveEnd)
 }
 
-/// The first token, and the tokens behind it.
+// The first token, and the tokens behind it.
 fn take_first(tokens: &[Token]) -> Option<(&Token, &[Token])>
     ensures { option_map (λ x. (x.0.now, x.1.now)) result ≡ take_first tokens.now }
 {

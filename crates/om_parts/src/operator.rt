@@ -15,7 +15,7 @@ use om_tree::boxed::boxed;
 use om_tree::{AssignOperator, BinaryOperator, Expression, PostfixOperator, PrefixOperator, Text};
 use std::alloc::{AllocError, Global};
 
-/// The operator before an operand that a token of this kind is (C17 6.5.3).
+// The operator before an operand that a token of this kind is (C17 6.5.3).
 fn prefix_operator(kind: &TokenKind) -> Option<PrefixOperator>
     ensures { result ≡ prefix_of kind.now }
 {
@@ -32,7 +32,7 @@ fn prefix_operator(kind: &TokenKind) -> Option<PrefixOperator>
     })
 }
 
-/// The operator behind an operand that a token of this kind is (C17 6.5.2.4).
+// The operator behind an operand that a token of this kind is (C17 6.5.2.4).
 fn postfix_operator(kind: &TokenKind) -> Option<PostfixOperator>
     ensures { result ≡ postfix_of kind.now }
 {
@@ -46,7 +46,7 @@ fn postfix_operator(kind: &TokenKind) -> Option<PostfixOperator>
     })
 }
 
-/// The binary operator that a token of this kind is (C17 6.5.5 to 6.5.14).
+// The binary operator that a token of this kind is (C17 6.5.5 to 6.5.14).
 fn binary_operator(kind: &TokenKind) -> Option<BinaryOperator>
     ensures { result ≡ binary_of kind.now }
 {
@@ -71,7 +71,7 @@ fn binary_operator(kind: &TokenKind) -> Option<BinaryOperator>
     })
 }
 
-/// The assignment that a token of this kind is (C17 6.5.16).
+// The assignment that a token of this kind is (C17 6.5.16).
 fn assign_operator(kind: &TokenKind) -> Option<AssignOperator>
     ensures { result ≡ assign_of kind.now }
 {
@@ -89,7 +89,7 @@ fn assign_operator(kind: &TokenKind) -> Option<AssignOperator>
     })
 }
 
-/// How tightly a binary operator binds: from 3, the loosest, to 8.
+// How tightly a binary operator binds: from 3, the loosest, to 8.
 fn binary_level(operator: BinaryOperator) -> usize
     ensures { result ≡ binary_level operator }
 {
@@ -106,7 +106,7 @@ fn binary_level(operator: BinaryOperator) -> usize
     }
 }
 
-/// Whether an expression binds as tightly as what may be assigned to: a unary expression.
+// Whether an expression binds as tightly as what may be assigned to: a unary expression.
 fn is_unary(expression: &Expression) -> bool
     ensures { result ≡ nat_le 9 (level (view_expression expression.now)) }
 {
@@ -140,7 +140,7 @@ pub fn take_postfix(tokens: &[Token]) -> Option<(PostfixOperator, Span, &[Token]
     Some((operator, first.span, rest))
 }
 
-/// The binary operator of this level that a token of this kind is.
+// The binary operator of this level that a token of this kind is.
 fn operator_of_level(kind: &TokenKind, wanted: usize) -> Option<BinaryOperator>
     ensures { result ≡ level_operator wanted kind.now }
 {
@@ -152,7 +152,7 @@ fn operator_of_level(kind: &TokenKind, wanted: usize) -> Option<BinaryOperator>
     }
 }
 
-/// The binary operator of this level that stands first, its span, and the tokens behind it.
+// The binary operator of this level that stands first, its span, and the tokens behind it.
 #[tactic(auto, unfolding(crate::specs::ExpressionReading::take_operator, crate::specs::Reading::take))]
 fn take_binary(tokens: &[Token], wanted: usize) -> Option<(BinaryOperator, Span, &[Token])>
     ensures { Takes result (take_operator (level_operator wanted) tokens.now) }
@@ -172,7 +172,7 @@ pub fn take_looser(tokens: &[Token], tighter: usize) -> Option<(BinaryOperator, 
     take_binary(tokens, 8usize.saturating_sub(tighter))
 }
 
-/// The assignment that stands first, its span, and the tokens behind it.
+// The assignment that stands first, its span, and the tokens behind it.
 #[tactic(auto, unfolding(crate::specs::ExpressionReading::take_operator, crate::specs::Reading::take))]
 fn take_any_assign(tokens: &[Token]) -> Option<(AssignOperator, Span, &[Token])>
     ensures { Takes result (take_operator assign_of tokens.now) }
@@ -201,7 +201,7 @@ pub fn take_assign<'a>(
     }
 }
 
-/// The text that stands first, and the tokens behind it.
+// The text that stands first, and the tokens behind it.
 #[tactic(auto, unfolding(crate::specs::Reading::take))]
 fn take_any_text(alloc: Global, tokens: &[Token]) -> Result<Option<(Text, &[Token])>, AllocError>
     ensures { IfOk result (λ found. option_map (λ x. (x.0, x.1.now)) found ≡ take
@@ -254,7 +254,7 @@ pub fn prefixed(
     Ok(made)
 }
 
-/// An operator and its operand.
+// An operator and its operand.
 #[inline(never)]
 fn with_prefix(
     alloc: Global,

@@ -11,14 +11,14 @@ use om_foot::{Obj, conflict};
 use om_seq::Seq;
 use std::alloc::{AllocError, Global};
 
-/// Whether a step is a worker's and conflicts with a later one.
+// Whether a step is a worker's and conflicts with a later one.
 fn hides(worker: u8, step: &Sketch<'_>, later: &Sketch<'_>) -> bool
     ensures { result ≡ hides worker step.now later.now }
 {
     step.worker() == worker && step.meets(later)
 }
 
-/// Whether one of the steps before a later one is a worker's and conflicts with it.
+// Whether one of the steps before a later one is a worker's and conflicts with it.
 fn is_hidden(worker: u8, between: &[Sketch<'_>], later: &Sketch<'_>) -> bool
     ensures { result ≡ is_hidden worker between.now later.now }
 {
@@ -30,15 +30,15 @@ fn is_hidden(worker: u8, between: &[Sketch<'_>], later: &Sketch<'_>) -> bool
     false
 }
 
-/// Whether a step conflicts with a later one of another worker: else there is no arrow. Most pairs of steps
-/// are told apart here.
+// Whether a step conflicts with a later one of another worker: else there is no arrow. Most pairs of steps
+// are told apart here.
 fn meets_other(earlier: &Sketch<'_>, later: &Sketch<'_>) -> bool
     ensures { result ≡ meets_other earlier.now later.now }
 {
     earlier.worker() != later.worker() && earlier.meets(later)
 }
 
-/// The object that an arrow from a step to a later one names; `None` where there is no such arrow.
+// The object that an arrow from a step to a later one names; `None` where there is no such arrow.
 fn object_between(earlier: &Sketch<'_>, between: &[Sketch<'_>], later: &Sketch<'_>) -> Option<Obj>
     ensures { result ≡ object_between earlier.now between.now later.now }
 {
@@ -55,7 +55,7 @@ fn object_between(earlier: &Sketch<'_>, between: &[Sketch<'_>], later: &Sketch<'
     Some(object)
 }
 
-/// The first of two names that has bytes.
+// The first of two names that has bytes.
 fn first_named<'a>(earlier: &'a [u8], later: &'a [u8]) -> &'a [u8]
     ensures { result.now ≡ first_named earlier.now later.now }
 {
@@ -65,7 +65,7 @@ fn first_named<'a>(earlier: &'a [u8], later: &'a [u8]) -> &'a [u8]
     }
 }
 
-/// The arrow from a step to a later one at an object. Its only error is out of memory.
+// The arrow from a step to a later one at an object. Its only error is out of memory.
 fn arrow_at(
     alloc: Global,
     earlier: &Traced,
@@ -84,7 +84,7 @@ fn arrow_at(
     })
 }
 
-/// Adds the arrow from a step to a later one, if there is one. When out of memory, nothing changes.
+// Adds the arrow from a step to a later one, if there is one. When out of memory, nothing changes.
 #[tactic(auto, using(crate::proofs::Apart::no_arrow))]
 fn push_arrow(
     alloc: Global,
@@ -105,7 +105,7 @@ fn push_arrow(
     Ok(())
 }
 
-/// Adds the arrows into a step from those that stand before it.
+// Adds the arrows into a step from those that stand before it.
 fn push_arrows_into(
     alloc: Global,
     arrows: &mut Vec<Arrow>,
@@ -120,7 +120,7 @@ fn push_arrows_into(
     Ok(())
 }
 
-/// The arrows between steps, by their sketches.
+// The arrows between steps, by their sketches.
 fn arrows_between(alloc: Global, steps: &[Sketch<'_>]) -> Result<Vec<Arrow>, AllocError>
     ensures { IfOk result (λ arrows. arrows.items ≡ arrows_of steps.now) }
 {

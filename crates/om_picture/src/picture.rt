@@ -68,7 +68,7 @@ pub(crate) fn end_of(step: &Traced) -> End
     }
 }
 
-/// The box of a step. Its only error is out of memory.
+// The box of a step. Its only error is out of memory.
 fn box_of(alloc: Global, step: &Traced) -> Result<StepBox, AllocError>
     ensures { IfOk result (λ b. b ≡ box_of step.now) }
 {
@@ -84,7 +84,7 @@ fn box_of(alloc: Global, step: &Traced) -> Result<StepBox, AllocError>
     })
 }
 
-/// The boxes of steps, in their order. Its only error is out of memory.
+// The boxes of steps, in their order. Its only error is out of memory.
 fn boxes_of(alloc: Global, steps: &[Traced]) -> Result<Vec<StepBox>, AllocError>
     ensures { IfOk result (λ boxes. boxes.items ≡ map box_of steps.now) }
 {

@@ -9,20 +9,20 @@ ghost use Rattle.om_picture.specs.Sets.{mixed, set_of_numbers, set_behind_contro
 use om_foot::{Access, Name, Obj, conflict};
 use om_seq::Seq;
 
-/// How many sets there are.
+// How many sets there are.
 const SETS: u64 = 64;
 
-/// How many of them are for the controls of workers.
+// How many of them are for the controls of workers.
 const CONTROLS: u64 = 16;
 
-/// The set that another number leads to from a set.
+// The set that another number leads to from a set.
 fn mixed(set: u64, number: u64) -> u64
     ensures { result ≡ mixed set number }
 {
     (5 * (set % SETS) + number % SETS) % SETS
 }
 
-/// The set of some numbers.
+// The set of some numbers.
 fn set_of_numbers(numbers: &[u64]) -> u64
     ensures { result ≡ set_of_numbers 0 numbers.now }
 {
@@ -33,22 +33,22 @@ fn set_of_numbers(numbers: &[u64]) -> u64
     set
 }
 
-/// The set for what a number stands for that is no worker: none of the first 16.
+// The set for what a number stands for that is no worker: none of the first 16.
 fn set_behind_controls(number: u64) -> u64
     ensures { result ≡ set_behind_controls number }
 {
     CONTROLS + number % (SETS - CONTROLS)
 }
 
-/// The set that a number of a task or a team leads to.
+// The set that a number of a task or a team leads to.
 fn set_in(name: &Name, number: u64) -> u64
     ensures { result ≡ set_in name.now number }
 {
     mixed(set_of_numbers(name.as_slice()), number)
 }
 
-/// The set that an object is in. Each step touches a control, so the controls of workers have sets that no
-/// other object is in.
+// The set that an object is in. Each step touches a control, so the controls of workers have sets that no
+// other object is in.
 fn set_of(object: &Obj) -> u64
     ensures { result ≡ set_of object.now }
 {
@@ -77,7 +77,7 @@ fn set_of(object: &Obj) -> u64
     set_behind_controls(number)
 }
 
-/// Sets with one more, a bit for each.
+// Sets with one more, a bit for each.
 fn with_set(sets: u64, set: u64) -> u64
     ensures { result ≡ bit_or sets (2 ^ (set % 64)) }
 {

@@ -12,9 +12,9 @@ use std::marker::Model;
 #[derive(Drop)]
 pub(crate) struct Sketch<'a> {
     step: &'a Traced,
-    /// The worker that made it.
+    // The worker that made it.
     worker: u8,
-    /// The sets that its objects are in.
+    // The sets that its objects are in.
     sets: u64,
 }
 
@@ -32,7 +32,7 @@ impl<'a> Model for Sketch<'a> {
 }
 
 impl<'a> Sketch<'a> {
-    /// The sketch of a step.
+    // The sketch of a step.
     fn of(step: &'a Traced) -> Sketch<'a>
         ensures { result ≡ step.now }
     {

@@ -48,8 +48,8 @@ pub fn clause_after(
     }
 }
 
-/// How many parentheses are open behind a token, `depth` before it; none where it closes one that
-/// was not opened.
+// How many parentheses are open behind a token, `depth` before it; none where it closes one that
+// was not opened.
 fn open_behind(kind: &TokenKind, depth: usize) -> Option<usize>
     requires { depth < usize.MAX }
     ensures { result ≡ open_behind kind.now depth }
@@ -84,7 +84,7 @@ pub fn closing(tokens: &[Token]) -> Result<(&[Token], Span, &[Token]), Stop>
     }
 }
 
-/// `(`, one or more tokens and the parenthesis that closes.
+// `(`, one or more tokens and the parenthesis that closes.
 #[tactic(auto, unfolding(crate::specs::Reading::value_after))]
 fn value_after(
     kind: ValueClause,
@@ -107,7 +107,7 @@ fn value_after(
     Ok((Clause::Value(kind, word, value), rest))
 }
 
-/// `(`, `shared` or `none`, and `)`.
+// `(`, `shared` or `none`, and `)`.
 #[tactic(auto, unfolding(crate::specs::Reading::default_after))]
 fn default_after(word: Span, tokens: &[Token]) -> Result<(Clause<&[Token]>, &[Token]), Stop>
     ensures { GetsAlways (λ x. (map_clause tokens_in x.0, x.1.now)) result
@@ -125,7 +125,7 @@ fn default_after(word: Span, tokens: &[Token]) -> Result<(Clause<&[Token]>, &[To
     Ok((Clause::Default(word, argument), rest))
 }
 
-/// `shared` or `none`, its span, and the tokens behind it.
+// `shared` or `none`, its span, and the tokens behind it.
 #[tactic(auto, unfolding(crate::specs::Reading::take_word))]
 fn default_word(tokens: &[Token]) -> Result<(Sharing, Span, &[Token]), Stop>
     ensures { GetsAlways (λ x. ((x.0, x.1), x.2.now)) result
@@ -140,7 +140,7 @@ fn default_word(tokens: &[Token]) -> Result<(Sharing, Span, &[Token]), Stop>
     }
 }
 
-/// A list in parentheses.
+// A list in parentheses.
 #[tactic(auto, unfolding(crate::specs::Reading::data_after, crate::specs::Reading::list_at))]
 fn data_after(
     alloc: Global,
@@ -175,8 +175,8 @@ pub fn list_after(
     Ok((list, behind))
 }
 
-/// A name, further names behind commas, the span of the parenthesis behind them, and the tokens
-/// behind that.
+// A name, further names behind commas, the span of the parenthesis behind them, and the tokens
+// behind that.
 #[tactic(auto, unfolding(crate::specs::Reading::names_at))]
 fn names(alloc: Global, tokens: &[Token]) -> Result<(Name, Seq<FurtherName>, Span, &[Token]), Stop>
     ensures { Gets (λ x. ((x.0, x.1, x.2), x.3.now)) result (names_at tokens.now) }
@@ -186,7 +186,7 @@ fn names(alloc: Global, tokens: &[Token]) -> Result<(Name, Seq<FurtherName>, Spa
     Ok((first, further, close_paren, rest))
 }
 
-/// Names behind commas up to a parenthesis, its span, and the tokens behind it.
+// Names behind commas up to a parenthesis, its span, and the tokens behind it.
 fn further_names(
     alloc: Global,
     tokens: &[Token],
@@ -207,7 +207,7 @@ fn further_names(
     }
 }
 
-/// A comma, the name behind it, and the tokens behind that.
+// A comma, the name behind it, and the tokens behind that.
 #[tactic(auto, unfolding(crate::specs::Reading::further_at))]
 fn further_name(alloc: Global, tokens: &[Token]) -> Result<(Span, Name, &[Token]), Stop>
     ensures { Gets (λ x. ((x.0, x.1), x.2.now)) result (further_at [] tokens.now) }
@@ -217,7 +217,7 @@ fn further_name(alloc: Global, tokens: &[Token]) -> Result<(Span, Name, &[Token]
     Ok((comma, name, rest))
 }
 
-/// `(`, an operator, `:`, names and `)`.
+// `(`, an operator, `:`, names and `)`.
 #[tactic(auto, unfolding(crate::specs::Reading::reduction_after))]
 fn reduction_after(
     alloc: Global,
@@ -243,7 +243,7 @@ fn reduction_after(
     Ok((Clause::Reduction(word, reduction), rest))
 }
 
-/// The operator of a reduction, its span, and the tokens behind it.
+// The operator of a reduction, its span, and the tokens behind it.
 #[tactic(auto, unfolding(crate::specs::Reading::take_word))]
 fn operator(tokens: &[Token]) -> Result<(ReductionOperator, Span, &[Token]), Stop>
     ensures { GetsAlways (λ x. ((x.0, x.1), x.2.now)) result
@@ -258,7 +258,7 @@ fn operator(tokens: &[Token]) -> Result<(ReductionOperator, Span, &[Token]), Sto
     }
 }
 
-/// `(`, a kind, perhaps a chunk, and `)`.
+// `(`, a kind, perhaps a chunk, and `)`.
 #[tactic(auto, unfolding(crate::specs::Reading::schedule_after))]
 fn schedule_after(word: Span, tokens: &[Token]) -> Result<(Clause<&[Token]>, &[Token]), Stop>
     ensures { GetsAlways (λ x. (map_clause tokens_in x.0, x.1.now)) result
@@ -278,7 +278,7 @@ fn schedule_after(word: Span, tokens: &[Token]) -> Result<(Clause<&[Token]>, &[T
     Ok((Clause::Schedule(word, schedule), rest))
 }
 
-/// The kind of a schedule, its span, and the tokens behind it.
+// The kind of a schedule, its span, and the tokens behind it.
 #[tactic(auto, unfolding(crate::specs::Reading::take_word))]
 fn schedule_word(tokens: &[Token]) -> Result<(ScheduleKind, Span, &[Token]), Stop>
     ensures { GetsAlways (λ x. ((x.0, x.1), x.2.now)) result
@@ -293,7 +293,7 @@ fn schedule_word(tokens: &[Token]) -> Result<(ScheduleKind, Span, &[Token]), Sto
     }
 }
 
-/// A comma and a chunk, where a comma stands, and the tokens behind them.
+// A comma and a chunk, where a comma stands, and the tokens behind them.
 #[tactic(auto, unfolding(crate::specs::Reading::chunk_at))]
 fn chunk(tokens: &[Token]) -> Result<(Option<(Span, Number)>, &[Token]), Stop>
     ensures { GetsAlways (λ x. (x.0, x.1.now)) result (chunk_at tokens.now) }

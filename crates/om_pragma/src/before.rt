@@ -49,8 +49,8 @@ fn expression_at<'a>(word: &Token, tokens: &'a [Token], place: u32) -> Option<&'
     }
 }
 
-/// The tokens in parentheses that stand there, the span of the parenthesis that closes, and the
-/// tokens behind it.
+// The tokens in parentheses that stand there, the span of the parenthesis that closes, and the
+// tokens behind it.
 #[tactic(auto, unfolding(crate::specs::Reading::in_parentheses))]
 fn in_parentheses(tokens: &[Token]) -> Result<(&[Token], Span, &[Token]), Stop>
     ensures { GetsAlways (λ x. (x.0.now, x.1, x.2.now)) result (in_parentheses tokens.now) }
@@ -59,7 +59,7 @@ fn in_parentheses(tokens: &[Token]) -> Result<(&[Token], Span, &[Token]), Stop>
     closing(rest)
 }
 
-/// These tokens, if there are some, and the parenthesis behind them starts before the place.
+// These tokens, if there are some, and the parenthesis behind them starts before the place.
 fn ends_before(tokens: &[Token], close_paren: Span, place: u32) -> Option<&[Token]>
     ensures { option_map (λ e. e.now) result
         ≡ (if nat_le place close_paren.start then None else some_tokens tokens.now) }

@@ -40,7 +40,7 @@ impl<E: Drop> Directive<E> {
     }
 }
 
-/// These clauses with this expression in place of their own.
+// These clauses with this expression in place of their own.
 fn filled<E: Drop, F: Drop>(
     alloc: Global,
     items: Vec<ClauseItem<E>>,
@@ -64,7 +64,7 @@ fn filled<E: Drop, F: Drop>(
     }
 }
 
-/// A clause with this expression in place of its own, and what is left of the expression.
+// A clause with this expression in place of its own, and what is left of the expression.
 fn filled_item<E: Drop, F: Drop>(
     item: ClauseItem<E>,
     value: Option<F>,

@@ -54,7 +54,7 @@ pub fn directive(alloc: Global, tokens: &[Token]) -> Result<Directive<&[Token]>,
     read(alloc, tokens)
 }
 
-/// The directive that these tokens are.
+// The directive that these tokens are.
 #[tactic(auto, unfolding(crate::specs::Reading::directive_at))]
 fn read(alloc: Global, tokens: &[Token]) -> Result<Directive<&[Token]>, SourceFault>
     ensures { Reads with_tokens result (directive_at tokens.now) }
@@ -74,7 +74,7 @@ fn read(alloc: Global, tokens: &[Token]) -> Result<Directive<&[Token]>, SourceFa
     }
 }
 
-/// The fault of a token that no directive has at this place.
+// The fault of a token that no directive has at this place.
 fn syntax(at: u32) -> SourceFault
     ensures { result ≡ fault Syntax at }
 {
@@ -84,7 +84,7 @@ fn syntax(at: u32) -> SourceFault
     }
 }
 
-/// The fault of a directive that is not read.
+// The fault of a directive that is not read.
 fn no_directive(stop: Stop) -> SourceFault
     ensures { result ≡ stop_fault stop }
 {
@@ -94,7 +94,7 @@ fn no_directive(stop: Stop) -> SourceFault
     }
 }
 
-/// The fault of a clause whose word stands there.
+// The fault of a clause whose word stands there.
 fn bad_clause(word: Span) -> SourceFault
     ensures { result ≡ fault BadClause word.start }
 {
@@ -104,7 +104,7 @@ fn bad_clause(word: Span) -> SourceFault
     }
 }
 
-/// The spans of `#`, `pragma` and `omp`, and the tokens behind them.
+// The spans of `#`, `pragma` and `omp`, and the tokens behind them.
 #[tactic(auto, unfolding(crate::specs::Reading::opening_at))]
 fn opening(tokens: &[Token]) -> Result<(Span, Span, Span, &[Token]), SourceFault>
     ensures { Reads (λ x. ((x.0, x.1, x.2), x.3.now)) result (stopped (opening_at tokens.now)) }
@@ -121,7 +121,7 @@ fn opening(tokens: &[Token]) -> Result<(Span, Span, Span, &[Token]), SourceFault
     Ok((hash, pragma, omp, rest))
 }
 
-/// The words of a directive, and the tokens behind them.
+// The words of a directive, and the tokens behind them.
 #[tactic(auto, unfolding(crate::specs::Reading::directive_name_at, crate::specs::Reading::take_word))]
 fn directive_name(alloc: Global, tokens: &[Token]) -> Result<(DirectiveName, &[Token]), SourceFault>
     ensures { Reads (λ x. (x.0, x.1.now)) result (directive_name_at tokens.now) }
@@ -135,7 +135,7 @@ fn directive_name(alloc: Global, tokens: &[Token]) -> Result<(DirectiveName, &[T
     }
 }
 
-/// The words of a directive of which the first is taken, and the tokens behind them.
+// The words of a directive of which the first is taken, and the tokens behind them.
 #[tactic(auto, unfolding(crate::specs::Reading::name_after))]
 fn name_after(
     alloc: Global,
@@ -167,7 +167,7 @@ fn name_after(
     }
 }
 
-/// `parallel`, and the word that it is combined with, where one stands.
+// `parallel`, and the word that it is combined with, where one stands.
 #[tactic(auto, unfolding(crate::specs::Reading::parallel_at))]
 fn parallel(span: Span, tokens: &[Token]) -> (DirectiveName, &[Token])
     ensures { (result.0, result.1.now) ≡ parallel_at span tokens.now }
@@ -181,7 +181,7 @@ fn parallel(span: Span, tokens: &[Token]) -> (DirectiveName, &[Token])
     (DirectiveName::Parallel(span), tokens)
 }
 
-/// `critical` and its name, where a parenthesis stands.
+// `critical` and its name, where a parenthesis stands.
 #[tactic(auto, unfolding(crate::specs::Reading::critical_at))]
 fn critical(
     alloc: Global,
@@ -199,8 +199,8 @@ fn critical(
     }
 }
 
-/// The name of a critical region with its parentheses, of which the left one is taken, and the
-/// tokens behind them.
+// The name of a critical region with its parentheses, of which the left one is taken, and the
+// tokens behind them.
 #[tactic(auto, unfolding(crate::specs::Reading::critical_after))]
 fn critical_after(
     alloc: Global,
@@ -214,7 +214,7 @@ fn critical_after(
     Ok(((open_paren, name, close_paren), rest))
 }
 
-/// `flush` and its list, where a parenthesis stands.
+// `flush` and its list, where a parenthesis stands.
 #[tactic(auto, unfolding(crate::specs::Reading::flush_at))]
 fn flush(
     alloc: Global,
@@ -232,7 +232,7 @@ fn flush(
     }
 }
 
-/// The fault of being out of memory.
+// The fault of being out of memory.
 fn no_memory() -> SourceFault
     ensures { result ≡ no_memory }
 {
@@ -242,7 +242,7 @@ fn no_memory() -> SourceFault
     }
 }
 
-/// Clauses up to the end of the run, and its place.
+// Clauses up to the end of the run, and its place.
 fn clauses<'a>(
     alloc: Global,
     name: &DirectiveName,
@@ -263,7 +263,7 @@ fn clauses<'a>(
     }
 }
 
-/// A clause behind those before it, with the comma between them, and the tokens behind it.
+// A clause behind those before it, with the comma between them, and the tokens behind it.
 #[tactic(auto, unfolding(crate::specs::Reading::item_at))]
 fn item<'a>(
     alloc: Global,
@@ -279,7 +279,7 @@ fn item<'a>(
     Ok((ClauseItem { comma, clause }, rest))
 }
 
-/// A comma, where one stands behind a clause, and the tokens behind it.
+// A comma, where one stands behind a clause, and the tokens behind it.
 #[tactic(auto, unfolding(crate::specs::Reading::comma_at))]
 fn comma<'a>(before: &[ClauseItem<&[Token]>], tokens: &'a [Token]) -> (Option<Span>, &'a [Token])
     ensures { (result.0, result.1.now) ≡ comma_at (map (map_item tokens_in) before.now) tokens.now }
@@ -293,7 +293,7 @@ fn comma<'a>(before: &[ClauseItem<&[Token]>], tokens: &'a [Token]) -> (Option<Sp
     }
 }
 
-/// A clause behind those before it, and the tokens behind it.
+// A clause behind those before it, and the tokens behind it.
 #[tactic(auto, unfolding(crate::specs::Reading::clause_at, crate::specs::Reading::take_word))]
 fn clause<'a>(
     alloc: Global,

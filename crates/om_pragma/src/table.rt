@@ -71,7 +71,7 @@ const TASK: [ClauseKind; 4] = [
     ClauseKind::Firstprivate,
 ];
 
-/// The clauses that a directive can have.
+// The clauses that a directive can have.
 fn clauses_of(kind: DirectiveKind) -> &'static [ClauseKind]
     ensures { result.now ≡ clauses_of kind }
 {
@@ -89,7 +89,7 @@ fn clauses_of(kind: DirectiveKind) -> &'static [ClauseKind]
     }
 }
 
-/// Whether a clause can stand more than once.
+// Whether a clause can stand more than once.
 fn may_repeat(kind: ClauseKind) -> bool
     ensures { result ≡ may_repeat kind }
 {
@@ -99,7 +99,7 @@ fn may_repeat(kind: ClauseKind) -> bool
     )
 }
 
-/// The clause that stands for those of which only one can stand.
+// The clause that stands for those of which only one can stand.
 fn group_of(kind: ClauseKind) -> ClauseKind
     ensures { result ≡ group_of kind }
 {
@@ -118,14 +118,14 @@ pub fn same_clause(one: ClauseKind, other: ClauseKind) -> bool
     one == other
 }
 
-/// Whether a clause leaves no room for another behind it.
+// Whether a clause leaves no room for another behind it.
 fn excludes(earlier: ClauseKind, later: ClauseKind) -> bool
     ensures { result ≡ excludes earlier later }
 {
     !may_repeat(later) && same_clause(group_of(earlier), group_of(later))
 }
 
-/// Whether a directive has a clause.
+// Whether a directive has a clause.
 #[tactic(auto, unfolding(crate::specs::Table::same_clause))]
 fn has_clause(name: &DirectiveName, kind: ClauseKind) -> bool
     ensures { result ≡ list_any (λ k. same_clause k kind) (clauses_of (directive_kind name.now)) }
@@ -133,7 +133,7 @@ fn has_clause(name: &DirectiveName, kind: ClauseKind) -> bool
     clauses_of(name.kind()).contains(&kind)
 }
 
-/// Whether one of these clauses leaves no room for another.
+// Whether one of these clauses leaves no room for another.
 fn is_excluded(before: &[ClauseItem<&[Token]>], kind: ClauseKind) -> bool
     ensures { result ≡ list_any (λ i. excludes (kind_of i.clause) kind) before.now }
 {

@@ -141,7 +141,7 @@ impl<E> Directive<E> {
     }
 }
 
-/// The expression of the first of these clauses that has one.
+// The expression of the first of these clauses that has one.
 fn first_expression<E>(items: &[ClauseItem<E>]) -> Option<&E>
     ensures { option_copied result ≡ first_expression items.now }
 {
@@ -157,7 +157,7 @@ fn first_expression<E>(items: &[ClauseItem<E>]) -> Option<&E>
     }
 }
 
-/// The first of these clauses, and those behind it.
+// The first of these clauses, and those behind it.
 fn first_item<E>(items: &[ClauseItem<E>]) -> Option<(&ClauseItem<E>, &[ClauseItem<E>])>
     ensures { option_map (λ x. (x.0.now, x.1.now)) result ≡ take_item items.now }
 {

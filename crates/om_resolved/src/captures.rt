@@ -12,7 +12,7 @@ use crate::uses::{take_all_listed, take_statement};
 use om_seq::Seq;
 use std::alloc::Global;
 
-/// The variables from outside that the clauses of a region list that begins there.
+// The variables from outside that the clauses of a region list that begins there.
 #[tactic(auto, using(crate::proofs::FoundBehind::found_behind))]
 fn listed_variables(alloc: Global, start: u32, clauses: &[ResolvedClause]) -> Made<Found>
     ensures { let listed = listed_variables start (map view_resolved_clause clauses.now) in
@@ -23,7 +23,7 @@ fn listed_variables(alloc: Global, start: u32, clauses: &[ResolvedClause]) -> Ma
     Ok(found)
 }
 
-/// The variables from outside that a region uses that begins there.
+// The variables from outside that a region uses that begins there.
 #[tactic(auto, using(crate::proofs::FoundBehind::found_behind))]
 fn taken_variables(
     alloc: Global,
@@ -40,7 +40,7 @@ fn taken_variables(
     Ok(found)
 }
 
-/// Variables as a `parallel` takes them from outside.
+// Variables as a `parallel` takes them from outside.
 fn captured_by_parallel(alloc: Global, variables: &[u32]) -> Made<Seq<Capture>>
     ensures { IfOk result (λ captures. captures ≡ captured taken_by_parallel variables.now) }
 {
@@ -78,7 +78,7 @@ pub struct TaskSharing {
     pub parallel: Option<u32>,
 }
 
-/// Whether a variable is declared before the innermost `parallel` begins.
+// Whether a variable is declared before the innermost `parallel` begins.
 fn is_before(parallel: Option<u32>, variable: u32) -> bool
     ensures { result ≡ is_before parallel variable }
 {
@@ -88,7 +88,7 @@ fn is_before(parallel: Option<u32>, variable: u32) -> bool
     variable < parallel
 }
 
-/// How a `task` takes a variable from outside.
+// How a `task` takes a variable from outside.
 fn taken_by_task(sharing: TaskSharing, listed: &Found, variable: u32) -> Taking
     ensures { result ≡ taken_by_task sharing.has_default sharing.parallel listed.now.variables variable }
 {
@@ -99,7 +99,7 @@ fn taken_by_task(sharing: TaskSharing, listed: &Found, variable: u32) -> Taking
     }
 }
 
-/// Variables as a `task` takes them from outside.
+// Variables as a `task` takes them from outside.
 fn captured_by_task(
     alloc: Global,
     sharing: TaskSharing,

@@ -12,7 +12,7 @@ use std::marker::Model;
 /// Variables of a function that a region takes from outside, each once. Contracts see them in the
 /// order in which they were found.
 pub struct Found {
-    /// Where the region begins: what is declared from there on is no variable from outside.
+    // Where the region begins: what is declared from there on is no variable from outside.
     start: u32,
     variables: IndexSet<u32>,
 }

@@ -92,7 +92,7 @@ pub fn take_expression<S: Sighting>(seen: &mut S, expression: &ResolvedExpressio
     }
 }
 
-/// Notes what the values of a call use.
+// Notes what the values of a call use.
 #[tactic(auto, unfolding(crate::specs::Captures::values_uses))]
 #[cycle(expression)]
 fn take_values<S: Sighting>(seen: &mut S, values: &[ResolvedExpression]) -> Made<()>
@@ -118,7 +118,7 @@ pub fn take_perhaps<S: Sighting>(seen: &mut S, expression: &Option<ResolvedExpre
     take_expression(seen, expression)
 }
 
-/// Notes what declarations use.
+// Notes what declarations use.
 fn take_declarators<S: Sighting>(seen: &mut S, declarators: &[ResolvedDeclarator]) -> Made<()>
     ensures { OnOk result
         (seen.new ≡ fold S.next seen.old
@@ -130,7 +130,7 @@ fn take_declarators<S: Sighting>(seen: &mut S, declarators: &[ResolvedDeclarator
     Ok(())
 }
 
-/// Notes what the beginning of a `for` uses.
+// Notes what the beginning of a `for` uses.
 fn take_start<S: Sighting>(seen: &mut S, begin: &ResolvedStart) -> Made<()>
     ensures { OnOk result
         (seen.new ≡ fold S.next seen.old (start_uses (view_resolved_start begin.now))) }
@@ -154,7 +154,7 @@ pub fn take_original<S: Sighting>(seen: &mut S, kind: CopyKind, original: Variab
     take(seen, original)
 }
 
-/// Notes what a clause uses outside of its construct.
+// Notes what a clause uses outside of its construct.
 fn take_clause<S: Sighting>(seen: &mut S, clause: &ResolvedClause) -> Made<()>
     ensures { OnOk result
         (seen.new ≡ fold S.next seen.old
@@ -167,7 +167,7 @@ fn take_clause<S: Sighting>(seen: &mut S, clause: &ResolvedClause) -> Made<()>
     }
 }
 
-/// Notes what clauses use outside of their construct.
+// Notes what clauses use outside of their construct.
 fn take_clauses<S: Sighting>(seen: &mut S, clauses: &[ResolvedClause]) -> Made<()>
     ensures { OnOk result
         (seen.new ≡ fold S.next seen.old
@@ -179,7 +179,7 @@ fn take_clauses<S: Sighting>(seen: &mut S, clauses: &[ResolvedClause]) -> Made<(
     Ok(())
 }
 
-/// Notes what a region takes from outside.
+// Notes what a region takes from outside.
 fn take_captures<S: Sighting>(seen: &mut S, captures: &[Capture]) -> Made<()>
     ensures { OnOk result (seen.new ≡ fold S.next seen.old (map captured_variable captures.now)) }
 {
@@ -189,7 +189,7 @@ fn take_captures<S: Sighting>(seen: &mut S, captures: &[Capture]) -> Made<()>
     Ok(())
 }
 
-/// Notes variables that are used.
+// Notes variables that are used.
 fn take_variables<S: Sighting>(seen: &mut S, variables: &[Variable]) -> Made<()>
     ensures { OnOk result (seen.new ≡ fold S.next seen.old (flat_map variable_uses variables.now)) }
 {
@@ -224,7 +224,7 @@ pub fn take_region<S: Sighting>(
     take_captures(seen, captures)
 }
 
-/// Notes what the head of a `for` uses.
+// Notes what the head of a `for` uses.
 fn take_head<S: Sighting>(seen: &mut S, head: &ResolvedHead) -> Made<()>
     ensures { OnOk result
         (seen.new ≡ fold S.next seen.old
@@ -237,7 +237,7 @@ fn take_head<S: Sighting>(seen: &mut S, head: &ResolvedHead) -> Made<()>
     take_perhaps(seen, &head.step)
 }
 
-/// Notes what the clauses and the bounds of a canonical loop use.
+// Notes what the clauses and the bounds of a canonical loop use.
 fn take_bounds<S: Sighting>(
     seen: &mut S,
     clauses: &[ResolvedClause],
@@ -265,8 +265,8 @@ pub fn take_update<S: Sighting>(seen: &mut S, update: &ResolvedUpdate) -> Made<(
     take_expression(seen, &update.operand)
 }
 
-/// Notes what a statement uses besides the statements in it. The condition of a `do` stands behind
-/// its body, so that nothing is noted of that one.
+// Notes what a statement uses besides the statements in it. The condition of a `do` stands behind
+// its body, so that nothing is noted of that one.
 #[tactic(auto, unfolding(crate::specs::Captures::statement_uses))]
 fn take_own<S: Sighting>(seen: &mut S, statement: &ResolvedStatement) -> Made<()>
     ensures { OnOk result
@@ -361,7 +361,7 @@ pub(crate) fn take_statement<S: Sighting>(seen: &mut S, statement: &ResolvedStat
     }
 }
 
-/// Notes what statements use.
+// Notes what statements use.
 #[tactic(auto, unfolding(crate::specs::Captures::statements_uses))]
 #[cycle(statement)]
 fn take_statements<S: Sighting>(seen: &mut S, items: &[ResolvedStatement]) -> Made<()>
@@ -375,7 +375,7 @@ fn take_statements<S: Sighting>(seen: &mut S, items: &[ResolvedStatement]) -> Ma
     Ok(())
 }
 
-/// Notes what the parts of `sections` use.
+// Notes what the parts of `sections` use.
 #[tactic(auto, unfolding(crate::specs::Captures::parts_uses))]
 #[cycle(statement)]
 fn take_parts<S: Sighting>(seen: &mut S, parts: &[ResolvedPart]) -> Made<()>
@@ -399,7 +399,7 @@ pub fn take_combined<S: Sighting>(seen: &mut S, kind: CopyKind, original: Variab
     take(seen, original)
 }
 
-/// Notes what a clause of a region uses in it.
+// Notes what a clause of a region uses in it.
 fn take_listed<S: Sighting>(seen: &mut S, clause: &ResolvedClause) -> Made<()>
     ensures { OnOk result
         (seen.new ≡ fold S.next seen.old

@@ -140,7 +140,7 @@ impl<'a> BodyTables<'a> {
     }
 }
 
-/// The number at an index, if there is one.
+// The number at an index, if there is one.
 fn number_at(numbers: &[u32], index: usize) -> Option<u32>
     ensures { result ≡ slice_get numbers.now index }
 {

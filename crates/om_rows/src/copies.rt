@@ -44,7 +44,7 @@ pub fn given_copies(
     by_slots(alloc, variables.as_slice(), copies.as_slice())
 }
 
-/// Adds the copies of clauses.
+// Adds the copies of clauses.
 fn add_clauses(copies: &mut Vec<FirstCopy>, clauses: &[ResolvedClause]) -> Made<()>
     ensures { let added = flat_map clause_first (map view_resolved_clause clauses.now) in
         OnOk result (first_copies_of copies.new.items ≡ first_copies_of copies.old.items ++ added) }
@@ -55,7 +55,7 @@ fn add_clauses(copies: &mut Vec<FirstCopy>, clauses: &[ResolvedClause]) -> Made<
     Ok(())
 }
 
-/// Adds the copy of a clause, where that begins with its original's value.
+// Adds the copy of a clause, where that begins with its original's value.
 fn add_clause(copies: &mut Vec<FirstCopy>, clause: &ResolvedClause) -> Made<()>
     ensures { let added = clause_first (view_resolved_clause clause.now) in
         OnOk result (first_copies_of copies.new.items ≡ first_copies_of copies.old.items ++ added) }
@@ -75,7 +75,7 @@ fn add_clause(copies: &mut Vec<FirstCopy>, clause: &ResolvedClause) -> Made<()>
     add(copies, first)
 }
 
-/// Adds a copy.
+// Adds a copy.
 fn add(copies: &mut Vec<FirstCopy>, copy: FirstCopy) -> Made<()>
     ensures { OnOk result (copies.new.items ≡ copies.old.items ++ copy ∷ []) }
 {
@@ -83,7 +83,7 @@ fn add(copies: &mut Vec<FirstCopy>, copy: FirstCopy) -> Made<()>
     Ok(())
 }
 
-/// Adds the copies that a region takes.
+// Adds the copies that a region takes.
 fn add_captures(copies: &mut Vec<FirstCopy>, captures: &[Capture]) -> Made<()>
     ensures { let added = flat_map capture_first captures.now in
         OnOk result (first_copies_of copies.new.items ≡ first_copies_of copies.old.items ++ added) }
@@ -94,7 +94,7 @@ fn add_captures(copies: &mut Vec<FirstCopy>, captures: &[Capture]) -> Made<()>
     Ok(())
 }
 
-/// Adds the copy that a region takes, unless it shares.
+// Adds the copy that a region takes, unless it shares.
 fn add_capture(copies: &mut Vec<FirstCopy>, capture: Capture) -> Made<()>
     ensures { let added = capture_first capture in
         OnOk result (first_copies_of copies.new.items ≡ first_copies_of copies.old.items ++ added) }
@@ -109,7 +109,7 @@ fn add_capture(copies: &mut Vec<FirstCopy>, capture: Capture) -> Made<()>
     add(copies, first)
 }
 
-/// The copies by the slots of their variables.
+// The copies by the slots of their variables.
 fn by_slots(alloc: Global, variables: &[u32], copies: &[FirstCopy]) -> Made<Vec<FirstCopy>>
     ensures { let given = by_slots variables.now (first_copies_of copies.now) in
         IfOk result (λ made. first_copies_of made.items ≡ given) }
@@ -121,7 +121,7 @@ fn by_slots(alloc: Global, variables: &[u32], copies: &[FirstCopy]) -> Made<Vec<
     Ok(given)
 }
 
-/// Adds the copy whose variable this is, if there is one.
+// Adds the copy whose variable this is, if there is one.
 fn add_first(given: &mut Vec<FirstCopy>, copies: &[FirstCopy], variable: u32) -> Made<()>
     ensures { let added = first_copy_at (first_copies_of copies.now) variable in
         OnOk result (first_copies_of given.new.items ≡ first_copies_of given.old.items ++ added) }

@@ -13,7 +13,7 @@ use std::marker::Model;
 /// in the order of the text.
 #[derive(Drop)]
 pub struct Extents {
-    /// Each variable with its cells.
+    // Each variable with its cells.
     declared: Vec<(u32, u32)>,
     cells: BTreeMap<u32, u32>,
 }

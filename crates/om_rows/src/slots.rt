@@ -35,7 +35,7 @@ pub fn slots_with(
     Ok(Seq::of(slots))
 }
 
-/// Where a variable of a body has its cells.
+// Where a variable of a body has its cells.
 fn source_of(outer: &Variables, captures: &[Capture], variable: u32) -> Source
     requires { length outer.now ≤ 256 }
     ensures { result ≡ source_of outer.now captures.now variable }
@@ -47,14 +47,14 @@ fn source_of(outer: &Variables, captures: &[Capture], variable: u32) -> Source
     }
 }
 
-/// Whether a region shares a variable from outside.
+// Whether a region shares a variable from outside.
 fn is_shared(captures: &[Capture], variable: u32) -> bool
     ensures { result ≡ list_any (shares variable) captures.now }
 {
     captures.iter().any(|capture| shares(variable, *capture))
 }
 
-/// Whether it is this variable that a region takes and shares.
+// Whether it is this variable that a region takes and shares.
 fn shares(variable: u32, capture: Capture) -> bool
     ensures { result ≡ shares variable capture }
 {

@@ -23,7 +23,7 @@ pub struct LoopStart<'a> {
     pub from: &'a Expression,
 }
 
-/// Where a loop ends.
+// Where a loop ends.
 #[derive(Clone, Copy)]
 struct Bound<'a> {
     comparison: BinaryOperator,
@@ -45,7 +45,7 @@ pub struct Loop<'a> {
     pub step: i32,
 }
 
-/// The name that an expression is.
+// The name that an expression is.
 fn name_in(expression: &Expression) -> Option<&Name>
     ensures { option_map (λ name. name.now) result
         ≡ loops.name_in (view_expression expression.now) }
@@ -56,7 +56,7 @@ fn name_in(expression: &Expression) -> Option<&Name>
     Some(name)
 }
 
-/// Whether an expression is this name.
+// Whether an expression is this name.
 fn is_named(expression: &Expression, name: &[u8]) -> bool
     ensures { result ≡ loops.is_named (view_expression expression.now) name.now }
 {
@@ -66,7 +66,7 @@ fn is_named(expression: &Expression, name: &[u8]) -> bool
     found.text.as_slice() == name
 }
 
-/// So much, with its sign.
+// So much, with its sign.
 fn signed(direction: Direction, value: u32) -> i32
     requires { value ≤ 2147483647 }
     ensures { result ≡ loops.signed direction value }
@@ -77,7 +77,7 @@ fn signed(direction: Direction, value: u32) -> i32
     }
 }
 
-/// A step of 1.
+// A step of 1.
 fn one_step(direction: Direction) -> Step
     ensures { result ≡ loops.one_step direction }
 {
@@ -85,7 +85,7 @@ fn one_step(direction: Direction) -> Step
     Step { direction, value }
 }
 
-/// A step of so much: 1 or more.
+// A step of so much: 1 or more.
 fn step_of(direction: Direction, value: u32) -> Option<Step>
     ensures { result ≡ loops.step_of direction value }
 {
@@ -97,7 +97,7 @@ fn step_of(direction: Direction, value: u32) -> Option<Step>
     }
 }
 
-/// The step by an expression, which is a constant of 1 or more.
+// The step by an expression, which is a constant of 1 or more.
 fn stride_in(direction: Direction, expression: &Expression) -> Option<Step>
     ensures { result ≡ loops.stride_in direction (view_expression expression.now) }
 {
@@ -107,7 +107,7 @@ fn stride_in(direction: Direction, expression: &Expression) -> Option<Step>
     step_of(direction, number.value)
 }
 
-/// What `target = value` begins a loop with.
+// What `target = value` begins a loop with.
 fn set_start<'a>(
     operator: AssignOperator,
     target: &'a Expression,
@@ -127,7 +127,7 @@ fn set_start<'a>(
     })
 }
 
-/// What an expression begins a loop with.
+// What an expression begins a loop with.
 fn assigned_start(expression: &Expression) -> Option<LoopStart<'_>>
     ensures { option_map view_start result ≡ loops.assigned_start (view_expression expression.now) }
 {
@@ -143,7 +143,7 @@ fn assigned_start(expression: &Expression) -> Option<LoopStart<'_>>
     set_start(*operator, target, value)
 }
 
-/// What a variable begins a loop with.
+// What a variable begins a loop with.
 fn initialized_start<'a>(
     variable: &'a Name,
     array: &Option<ArrayLength>,
@@ -164,7 +164,7 @@ fn initialized_start<'a>(
     })
 }
 
-/// What a declaration begins a loop with.
+// What a declaration begins a loop with.
 fn declared_start<'a>(
     first: &'a Declarator<Expression>,
     rest: &[(Span, Declarator<Expression>)],
@@ -179,7 +179,7 @@ fn declared_start<'a>(
     initialized_start(&first.name, &first.array, &first.initializer)
 }
 
-/// What a `for` begins its loop with.
+// What a `for` begins its loop with.
 fn start_of(start: &ForStart) -> Option<LoopStart<'_>>
     ensures { option_map view_start result ≡ loops.start_of (view_for_start start.now) }
 {
@@ -195,7 +195,7 @@ fn start_of(start: &ForStart) -> Option<LoopStart<'_>>
     }
 }
 
-/// Which way a comparison lets a variable go.
+// Which way a comparison lets a variable go.
 fn comparison_direction(operator: BinaryOperator) -> Option<Direction>
     ensures { result ≡ loops.comparison_direction operator }
 {
@@ -206,7 +206,7 @@ fn comparison_direction(operator: BinaryOperator) -> Option<Direction>
     })
 }
 
-/// The bound that a comparison of a variable has.
+// The bound that a comparison of a variable has.
 fn compared<'a>(operator: BinaryOperator, to: &'a Expression) -> Option<Bound<'a>>
     ensures { option_map view_bound result ≡ loops.compared operator (view_expression to.now) }
 {
@@ -218,7 +218,7 @@ fn compared<'a>(operator: BinaryOperator, to: &'a Expression) -> Option<Bound<'a
     })
 }
 
-/// The bound that a condition gives a variable.
+// The bound that a condition gives a variable.
 fn bound_of<'a>(condition: &'a Expression, name: &[u8]) -> Option<Bound<'a>>
     ensures { option_map view_bound result
         ≡ loops.bound_of (view_expression condition.now) name.now }
@@ -239,7 +239,7 @@ fn bound_of<'a>(condition: &'a Expression, name: &[u8]) -> Option<Bound<'a>>
     }
 }
 
-/// The step by `++` or `--` before the variable.
+// The step by `++` or `--` before the variable.
 fn prefix_step(operator: PrefixOperator) -> Option<Step>
     ensures { result ≡ loops.prefix_step operator }
 {
@@ -251,7 +251,7 @@ fn prefix_step(operator: PrefixOperator) -> Option<Step>
     Some(one_step(direction))
 }
 
-/// The step by `++` or `--` behind it.
+// The step by `++` or `--` behind it.
 fn postfix_step(operator: PostfixOperator) -> Step
     ensures { result ≡ loops.postfix_step operator }
 {
@@ -261,7 +261,7 @@ fn postfix_step(operator: PostfixOperator) -> Step
     }
 }
 
-/// The step by a sum with the variable, `i + c` or `c + i`.
+// The step by a sum with the variable, `i + c` or `c + i`.
 fn added_step(left: &Expression, right: &Expression, name: &[u8]) -> Option<Step>
     ensures { result ≡ loops.added_step (view_expression left.now) (view_expression right.now)
         name.now }
@@ -275,7 +275,7 @@ fn added_step(left: &Expression, right: &Expression, name: &[u8]) -> Option<Step
     }
 }
 
-/// The step by `i - c`.
+// The step by `i - c`.
 fn subtracted_step(left: &Expression, right: &Expression, name: &[u8]) -> Option<Step>
     ensures { result ≡ loops.subtracted_step (view_expression left.now) (view_expression right.now)
         name.now }
@@ -287,7 +287,7 @@ fn subtracted_step(left: &Expression, right: &Expression, name: &[u8]) -> Option
     }
 }
 
-/// The step by `i + c`, `c + i` or `i - c`.
+// The step by `i + c`, `c + i` or `i - c`.
 fn sum_step(
     operator: BinaryOperator,
     left: &Expression,
@@ -304,7 +304,7 @@ fn sum_step(
     }
 }
 
-/// The step to a value.
+// The step to a value.
 fn value_step(value: &Expression, name: &[u8]) -> Option<Step>
     ensures { result ≡ loops.value_step (view_expression value.now) name.now }
 {
@@ -320,7 +320,7 @@ fn value_step(value: &Expression, name: &[u8]) -> Option<Step>
     sum_step(*operator, left, right, name)
 }
 
-/// The step by an assignment to the variable.
+// The step by an assignment to the variable.
 fn assigned_step(operator: AssignOperator, value: &Expression, name: &[u8]) -> Option<Step>
     ensures { result ≡ loops.assigned_step operator (view_expression value.now) name.now }
 {
@@ -332,7 +332,7 @@ fn assigned_step(operator: AssignOperator, value: &Expression, name: &[u8]) -> O
     }
 }
 
-/// A loop's step.
+// A loop's step.
 fn step_in(step: &Expression, name: &[u8]) -> Option<Step>
     ensures { result ≡ loops.step_in (view_expression step.now) name.now }
 {
@@ -362,14 +362,14 @@ fn step_in(step: &Expression, name: &[u8]) -> Option<Step>
     }
 }
 
-/// Whether a variable grows.
+// Whether a variable grows.
 fn is_up(direction: Direction) -> bool
     ensures { result ≡ loops.is_up direction }
 {
     matches!(direction, Direction::Up)
 }
 
-/// Whether two go the same way.
+// Whether two go the same way.
 fn same_direction(one: Direction, other: Direction) -> bool
     ensures { result ≡ loops.same_direction one other }
 {
@@ -380,7 +380,7 @@ fn same_direction(one: Direction, other: Direction) -> bool
     }
 }
 
-/// The loop of a `for`, where it is canonical.
+// The loop of a `for`, where it is canonical.
 fn loop_of(head: &ForHead) -> Option<Loop<'_>>
     ensures { option_map view_loop result ≡ loops.loop_of (view_for_head head.now) }
 {

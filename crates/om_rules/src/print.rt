@@ -7,7 +7,7 @@ ghost use Rattle.om_rules.specs.Formats.{after_character, is_format, is_whole, t
 use crate::reading::Reading;
 use om_tree::Expression;
 
-/// Behind `%d`, where so many values are left.
+// Behind `%d`, where so many values are left.
 fn with_value(left: usize) -> Reading
     ensures { result ≡ with_value left }
 {
@@ -18,7 +18,7 @@ fn with_value(left: usize) -> Reading
     }
 }
 
-/// Behind a character of a format.
+// Behind a character of a format.
 fn after_character(reading: Reading, character: u8) -> Reading
     ensures { result ≡ after_character reading character }
 {
@@ -43,7 +43,7 @@ fn after_character(reading: Reading, character: u8) -> Reading
     }
 }
 
-/// Whether a format may end there.
+// Whether a format may end there.
 fn is_whole(reading: Reading) -> bool
     ensures { result ≡ is_whole reading }
 {
@@ -53,7 +53,7 @@ fn is_whole(reading: Reading) -> bool
     left == 0
 }
 
-/// Whether a format takes so many values.
+// Whether a format takes so many values.
 fn takes_values(format: &[u8], count: usize) -> bool
     ensures { result ≡ takes_values format.now count }
 {

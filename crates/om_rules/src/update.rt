@@ -15,7 +15,7 @@ use om_tree::{
 };
 use std::mem;
 
-/// On which side of its operator an assigned value has the target.
+// On which side of its operator an assigned value has the target.
 fn value_side(target: &Expression, value: &Expression) -> Side
     ensures { result ≡ value_side (view_expression target.now) (view_expression value.now) }
 {
@@ -31,7 +31,7 @@ fn value_side(target: &Expression, value: &Expression) -> Side
     }
 }
 
-/// On which side an expression has its target, where it is an update.
+// On which side an expression has its target, where it is an update.
 fn expression_side(expression: &Expression) -> Side
     ensures { result ≡ expression_side (view_expression expression.now) }
 {
@@ -75,15 +75,15 @@ fn binary_operator(operator: BinaryOperator) -> Option<UpdateOperator>
     })
 }
 
-/// An expression, taken out of its place. A `ThreadNumber` stands there then, which nobody reads: the
-/// caller drops the statement.
+// An expression, taken out of its place. A `ThreadNumber` stands there then, which nobody reads: the
+// caller drops the statement.
 fn taken(expression: &mut ResolvedExpression) -> ResolvedExpression
     ensures { result ≡ expression.old }
 {
     mem::replace(expression, ResolvedExpression::ThreadNumber)
 }
 
-/// The operand on the other side, taken out of its place.
+// The operand on the other side, taken out of its place.
 fn other_operand(
     side: Side,
     left: &mut ResolvedExpression,
@@ -99,7 +99,7 @@ fn other_operand(
     }
 }
 
-/// What an assigned value does to a target on that side.
+// What an assigned value does to a target on that side.
 fn value_operation(side: Side, value: &mut ResolvedExpression) -> Option<Operation>
     ensures { option_map view_operation result
         ≡ value_operation side (view_resolved_expression value.old) }
@@ -121,7 +121,7 @@ fn value_operation(side: Side, value: &mut ResolvedExpression) -> Option<Operati
     })
 }
 
-/// `x op= e` with a target on the left.
+// `x op= e` with a target on the left.
 fn compound(operator: UpdateOperator, operand: ResolvedExpression) -> Operation
     ensures { view_operation result
         ≡ record
@@ -134,7 +134,7 @@ fn compound(operator: UpdateOperator, operand: ResolvedExpression) -> Operation
     }
 }
 
-/// What an assignment does to its target, which stands on that side in the value.
+// What an assignment does to its target, which stands on that side in the value.
 fn assignment(
     side: Side,
     operator: AssignOperator,
@@ -163,14 +163,14 @@ fn step_operator(operator: PostfixOperator) -> UpdateOperator
     }
 }
 
-/// `x++` adds 1, and `x--` subtracts it.
+// `x++` adds 1, and `x--` subtracts it.
 fn step_operation(operator: PostfixOperator) -> Operation
     ensures { view_operation result ≡ step_operation operator }
 {
     compound(step_operator(operator), ResolvedExpression::Constant(1))
 }
 
-/// An update of a variable, or of the element of an array at an index.
+// An update of a variable, or of the element of an array at an index.
 fn updated(
     at: Span,
     variable: Variable,
@@ -190,7 +190,7 @@ fn updated(
     }
 }
 
-/// The update that an expression is, whose target stands on that side.
+// The update that an expression is, whose target stands on that side.
 fn expression_update(
     at: Span,
     side: Side,

@@ -29,7 +29,7 @@ use om_tree::{Expression, Name};
 use om_uses::copy_of;
 use std::alloc::{AllocError, Global};
 
-/// Whether a directive is `nowait`.
+// Whether a directive is `nowait`.
 #[tactic(auto, using(crate::proofs::Clauses::has_clause_viewed))]
 fn has_nowait(directive: &Directive<Expression>) -> bool
     ensures { result ≡ has_nowait (view_directive directive.now) }
@@ -37,7 +37,7 @@ fn has_nowait(directive: &Directive<Expression>) -> bool
     directive.has(ClauseKind::Nowait)
 }
 
-/// Whether a directive has a `default`.
+// Whether a directive has a `default`.
 #[tactic(auto, using(crate::proofs::Clauses::has_clause_viewed))]
 fn has_default(directive: &Directive<Expression>) -> bool
     ensures { result ≡ has_default (view_directive directive.now) }
@@ -45,7 +45,7 @@ fn has_default(directive: &Directive<Expression>) -> bool
     directive.has(ClauseKind::Default)
 }
 
-/// What an `atomic` does with its variable.
+// What an `atomic` does with its variable.
 #[tactic(auto, using(crate::proofs::Clauses::has_clause_viewed))]
 fn atomic_kind(directive: &Directive<Expression>) -> AtomicKind
     ensures { result ≡ atomic_kind (view_directive directive.now) }
@@ -53,7 +53,7 @@ fn atomic_kind(directive: &Directive<Expression>) -> AtomicKind
     directive.atomic_kind()
 }
 
-/// A `parallel` round a statement.
+// A `parallel` round a statement.
 fn parallel_of(
     alloc: Global,
     directive: &Directive<Expression>,
@@ -77,7 +77,7 @@ fn parallel_of(
     })
 }
 
-/// The name of a `critical`, if it has one.
+// The name of a `critical`, if it has one.
 fn critical_name(
     alloc: Global,
     name: &Option<(Span, Name, Span)>,
@@ -102,7 +102,7 @@ pub(crate) enum Around {
     Update(Side),
 }
 
-/// What a `task` in the `parallel` that begins there puts round a statement.
+// What a `task` in the `parallel` that begins there puts round a statement.
 fn around_task(
     alloc: Global,
     parallel: Option<u32>,
@@ -124,7 +124,7 @@ fn around_task(
     Ok(Around::Task(captures))
 }
 
-/// What a `parallel` puts round a statement.
+// What a `parallel` puts round a statement.
 fn around_parallel(
     alloc: Global,
     directive: &Directive<Expression>,
@@ -141,7 +141,7 @@ fn around_parallel(
     Ok(Around::Parallel(captures))
 }
 
-/// What a `critical` of this name puts round a statement.
+// What a `critical` of this name puts round a statement.
 fn around_critical(alloc: Global, name: &Option<(Span, Name, Span)>) -> Result<Around, AllocError>
     ensures { IfOk result
         (λ around. around ≡ Around.Construct (ConstructKind.Critical (critical_name name.now))) }
@@ -150,7 +150,7 @@ fn around_critical(alloc: Global, name: &Option<(Span, Name, Span)>) -> Result<A
     Ok(Around::Construct(ConstructKind::Critical { name }))
 }
 
-/// What an `atomic` puts round its statement, which has the target on that side.
+// What an `atomic` puts round its statement, which has the target on that side.
 fn around_atomic(kind: AtomicKind, side: Side) -> Around
     ensures { (at : Span) (cs : List ResolvedClauseTree) (body : ResolvedStatementTree) →
         with_around result at cs body ≡ atomic_of kind side at cs body }
@@ -171,7 +171,7 @@ pub(crate) struct Setting {
     pub(crate) side: Side,
 }
 
-/// What a construct puts round its statement.
+// What a construct puts round its statement.
 #[tactic(auto, unfolding(om_rules::specs::StatementResolution::construct_of))]
 fn around_of(
     alloc: Global,
@@ -208,7 +208,7 @@ fn around_of(
     }
 }
 
-/// A statement with what is put round it.
+// A statement with what is put round it.
 fn with_around(
     alloc: Global,
     around: Around,
@@ -245,7 +245,7 @@ fn with_around(
     }
 }
 
-/// An `atomic` round the update that a statement is, whose target stands on that side.
+// An `atomic` round the update that a statement is, whose target stands on that side.
 fn with_update(
     alloc: Global,
     at: Span,
@@ -309,7 +309,7 @@ pub(crate) fn loop_construct_of(
     Ok(shared_loop(at, clauses, nowait, repeated, body))
 }
 
-/// A loop whose iterations threads share, and whether they do not wait behind it.
+// A loop whose iterations threads share, and whether they do not wait behind it.
 fn shared_loop(
     at: Span,
     clauses: Vec<ResolvedClause>,
@@ -330,7 +330,7 @@ fn shared_loop(
     }
 }
 
-/// An item in a box. When out of memory, it is gone.
+// An item in a box. When out of memory, it is gone.
 fn boxed<T: Drop>(alloc: Global, item: T) -> Result<Box<T>, AllocError>
     ensures { IfOk result (λ made. made.value ≡ item) }
 {
@@ -360,7 +360,7 @@ pub(crate) fn sections_construct_of(
     Ok(shared_parts(at, clauses, nowait, parts))
 }
 
-/// Parts that threads share, and whether they do not wait behind them.
+// Parts that threads share, and whether they do not wait behind them.
 fn shared_parts(
     at: Span,
     clauses: Vec<ResolvedClause>,
@@ -379,7 +379,7 @@ fn shared_parts(
     }
 }
 
-/// What a clause `schedule` asks for.
+// What a clause `schedule` asks for.
 fn schedule_in(schedule: &Schedule) -> ResolvedSchedule
     ensures { result ≡ schedule_in schedule.now }
 {
@@ -389,7 +389,7 @@ fn schedule_in(schedule: &Schedule) -> ResolvedSchedule
     }
 }
 
-/// What a clause asks for, where it is a `schedule`.
+// What a clause asks for, where it is a `schedule`.
 fn clause_schedule(otherwise: ResolvedSchedule, clause: &Clause<Expression>) -> ResolvedSchedule
     ensures { result ≡ clause_schedule otherwise (map_clause view_expression clause.now) }
 {

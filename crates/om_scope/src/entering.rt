@@ -41,7 +41,7 @@ pub fn enter_construct(
     Ok(clauses)
 }
 
-/// Enters a construct of a kind whose clauses say this.
+// Enters a construct of a kind whose clauses say this.
 fn enter_listed(
     alloc: Global,
     symbols: &mut Symbols,
@@ -86,8 +86,8 @@ pub fn enter_loop_construct(
     Ok((clauses, repeated))
 }
 
-/// Enters a construct whose clauses say this, with the bounds of its loop. Those of a `parallel for`
-/// use its copies, and those of a `for` the originals.
+// Enters a construct whose clauses say this, with the bounds of its loop. Those of a `parallel for`
+// use its copies, and those of a `for` the originals.
 fn enter_bounds(
     alloc: Global,
     symbols: &mut Symbols,

@@ -25,14 +25,14 @@ use om_tree::{Function, FunctionHead, Name, Parameter, Parameters, ResultType};
 use om_uses::{check_new, copy_of, local_of, refuse_if};
 use std::alloc::{AllocError, Global};
 
-/// Whether a function returns an `int`.
+// Whether a function returns an `int`.
 fn returns_value(kind: &ResultType) -> bool
     ensures { result ≡ returns_value kind.now }
 {
     matches!(kind, ResultType::Int(_))
 }
 
-/// How many parameters there are.
+// How many parameters there are.
 fn parameter_count<N>(parameters: &Parameters<N>) -> usize
     ensures { result ≡ length (parameters_of (view_parameters parameters.now)) }
 {
@@ -43,7 +43,7 @@ fn parameter_count<N>(parameters: &Parameters<N>) -> usize
     }
 }
 
-/// What calls of a function need and give.
+// What calls of a function need and give.
 fn signature_of<N>(head: &FunctionHead<N>) -> Signature
     ensures { result ≡ signature_of (view_head head.now) }
 {
@@ -53,7 +53,7 @@ fn signature_of<N>(head: &FunctionHead<N>) -> Signature
     }
 }
 
-/// Whether two functions are called alike.
+// Whether two functions are called alike.
 fn are_alike(one: Signature, other: Signature) -> bool
     ensures { result ≡ signature_eq one other }
 {
@@ -64,7 +64,7 @@ fn are_alike(one: Signature, other: Signature) -> bool
     }) && one.parameters == other.parameters
 }
 
-/// Whether a function of this signature was declared before as something else.
+// Whether a function of this signature was declared before as something else.
 fn is_redeclared(signature: Signature, earlier: Option<Meaning>) -> bool
     ensures { result ≡ is_redeclared signature earlier }
 {
@@ -74,7 +74,7 @@ fn is_redeclared(signature: Signature, earlier: Option<Meaning>) -> bool
     !matches!(earlier, Meaning::Function(other) if are_alike(other, signature))
 }
 
-/// Whether it is `main`, but not `int main(void)`.
+// Whether it is `main`, but not `int main(void)`.
 fn is_other_main(name: &[u8], signature: Signature) -> bool
     ensures { result ≡ is_other_main name.now signature }
 {
@@ -85,7 +85,7 @@ fn is_other_main(name: &[u8], signature: Signature) -> bool
     name == b"main".as_slice() && !are_alike(signature, asks)
 }
 
-/// The name and the signature of a function: S8, S9.
+// The name and the signature of a function: S8, S9.
 #[tactic(auto, using(om_rules::specs::InRow::first_of_left))]
 fn check_head<N>(symbols: &Symbols, head: &FunctionHead<N>) -> Result<(), SourceFault>
     ensures { ChecksExactly result (head_breaches symbols.now (view_head head.now)) }
@@ -98,7 +98,7 @@ fn check_head<N>(symbols: &Symbols, head: &FunctionHead<N>) -> Result<(), Source
     refuse_if(other, FaultCode::Misuse, head.name.span.start)
 }
 
-/// Declares a function, unless an earlier declaration did.
+// Declares a function, unless an earlier declaration did.
 fn declare_head<N>(
     alloc: Global,
     symbols: &mut Symbols,
@@ -113,7 +113,7 @@ fn declare_head<N>(
     symbols.declare_function(alloc, name, signature_of(head))
 }
 
-/// Declares the name of a parameter: S8.
+// Declares the name of a parameter: S8.
 fn declare_parameter_name(
     alloc: Global,
     symbols: &mut Symbols,
@@ -127,7 +127,7 @@ fn declare_parameter_name(
     Ok(())
 }
 
-/// Declares a parameter of a definition behind so many others: S8, S11.
+// Declares a parameter of a definition behind so many others: S8, S11.
 #[tactic(auto, using(om_rules::specs::InRow::first_of_left))]
 fn declare_parameter(
     alloc: Global,
@@ -152,7 +152,7 @@ fn declare_parameter(
     Ok(())
 }
 
-/// Declares the parameters of a definition behind the first.
+// Declares the parameters of a definition behind the first.
 fn declare_further_parameters(
     alloc: Global,
     symbols: &mut Symbols,
@@ -176,7 +176,7 @@ fn declare_further_parameters(
     Ok(())
 }
 
-/// Declares the parameters of a definition.
+// Declares the parameters of a definition.
 #[tactic(auto, using(om_rules::specs::InRow::first_of_left))]
 fn declare_parameters(
     alloc: Global,
@@ -200,7 +200,7 @@ fn declare_parameters(
     declare_further_parameters(alloc, symbols, found, rest.as_slice())
 }
 
-/// Declares a parameter of a prototype, if it has a name, behind so many others: S8, S11.
+// Declares a parameter of a prototype, if it has a name, behind so many others: S8, S11.
 #[tactic(auto, using(om_rules::specs::InRow::first_of_left))]
 fn declare_optional(
     alloc: Global,
@@ -223,7 +223,7 @@ fn declare_optional(
     declare_parameter_name(alloc, symbols, name)
 }
 
-/// Declares the parameters of a prototype behind the first.
+// Declares the parameters of a prototype behind the first.
 fn declare_further_optionals(
     alloc: Global,
     symbols: &mut Symbols,
@@ -243,7 +243,7 @@ fn declare_further_optionals(
     Ok(())
 }
 
-/// Declares the parameters of a prototype.
+// Declares the parameters of a prototype.
 #[tactic(auto, using(om_rules::specs::InRow::first_of_left))]
 fn declare_optionals(
     alloc: Global,
@@ -282,7 +282,7 @@ pub fn check_prototype(
     Ok(())
 }
 
-/// That a definition is not one too many, that of no function before, and keeps the rules of its name.
+// That a definition is not one too many, that of no function before, and keeps the rules of its name.
 #[tactic(auto, using(om_rules::specs::InRow::first_of_left))]
 fn check_definition(symbols: &Symbols, head: &FunctionHead<Name>) -> Result<(), SourceFault>
     ensures { ChecksExactly result (definition_breaches symbols.now (view_head head.now)) }
@@ -294,7 +294,7 @@ fn check_definition(symbols: &Symbols, head: &FunctionHead<Name>) -> Result<(), 
     check_head(symbols, head)
 }
 
-/// What a function's statements may do.
+// What a function's statements may do.
 fn flow_of(head: &FunctionHead<Name>) -> Flow
     ensures { result ≡ flow_of (view_head head.now) }
 {
@@ -308,7 +308,7 @@ fn flow_of(head: &FunctionHead<Name>) -> Flow
     }
 }
 
-/// Begins the definition of a function: its name is declared and defined.
+// Begins the definition of a function: its name is declared and defined.
 #[tactic(auto, using(om_rules::specs::InRow::first_of_left))]
 fn begin_definition(
     alloc: Global,
@@ -324,7 +324,7 @@ fn begin_definition(
     Ok(())
 }
 
-/// The parameters and the statements of a function, in a scope of their own.
+// The parameters and the statements of a function, in a scope of their own.
 #[tactic(auto, using(om_rules::specs::InRow::first_of_left))]
 fn resolve_inside(
     alloc: Global,

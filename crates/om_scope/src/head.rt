@@ -44,7 +44,7 @@ pub fn resolve_for_head(
     head_of(alloc, start, condition, step)
 }
 
-/// What a `for` has before its body, put together.
+// What a `for` has before its body, put together.
 fn head_of(
     alloc: Global,
     start: Box<ResolvedStart>,
@@ -68,7 +68,7 @@ fn head_of(
     Ok(Box::new(alloc, head)?)
 }
 
-/// What a `for` begins with.
+// What a `for` begins with.
 #[tactic(auto, unfolding(om_rules::specs::StatementResolution::resolved_start))]
 fn resolve_for_start(
     alloc: Global,
@@ -97,7 +97,7 @@ fn resolve_for_start(
     }
 }
 
-/// The condition and the step of a `for`.
+// The condition and the step of a `for`.
 #[tactic(auto, using(om_rules::specs::InRow::first_of_left))]
 fn resolve_for_turn(
     alloc: Global,
@@ -123,7 +123,7 @@ fn resolve_for_turn(
     Ok((condition, step))
 }
 
-/// An expression that may be left out.
+// An expression that may be left out.
 fn resolve_perhaps(
     alloc: Global,
     symbols: &Symbols,

@@ -90,7 +90,7 @@ pub fn resolve_return(
     })
 }
 
-/// What a function returns: S9.
+// What a function returns: S9.
 fn resolve_returned(
     alloc: Global,
     symbols: &Symbols,
@@ -141,7 +141,7 @@ pub fn resolve_stand_alone(
     resolve_alone(alloc, symbols, directive)
 }
 
-/// A directive that stands alone, by its name.
+// A directive that stands alone, by its name.
 fn resolve_alone(
     alloc: Global,
     symbols: &Symbols,

@@ -60,7 +60,7 @@ pub(crate) fn resolve_statements(
     Ok(resolved)
 }
 
-/// A statement, or a declaration in a block.
+// A statement, or a declaration in a block.
 #[tactic(auto, using(om_rules::specs::InRow::first_of_left), unfolding(om_rules::specs::StatementRules::statement_breaches, om_rules::specs::StatementResolution::resolved_statement, om_tree::specs::Formed::IsStatement, om_tree::specs::Sizes::HasForms))]
 #[cycle(statement)]
 fn resolve_statement(
@@ -175,7 +175,7 @@ fn resolve_statement(
     }
 }
 
-/// A statement that is part of another one, which is a block of its own (C17 6.8.4p3, 6.8.5p5).
+// A statement that is part of another one, which is a block of its own (C17 6.8.4p3, 6.8.5p5).
 #[cycle(statement)]
 fn resolve_body(
     alloc: Global,
@@ -196,7 +196,7 @@ fn resolve_body(
     found
 }
 
-/// The same, where it lies in a box.
+// The same, where it lies in a box.
 #[cycle(statement)]
 fn boxed_statement(
     alloc: Global,
@@ -215,7 +215,7 @@ fn boxed_statement(
     boxed(alloc, resolve_statement(alloc, symbols, flow, statement))
 }
 
-/// The items of a block, in a scope of their own.
+// The items of a block, in a scope of their own.
 #[cycle(statement)]
 fn resolve_block(
     alloc: Global,
@@ -239,7 +239,7 @@ fn resolve_block(
     items
 }
 
-/// A `for`, in a scope of its own.
+// A `for`, in a scope of its own.
 #[tactic(auto, using(om_rules::specs::InRow::first_of_left))]
 #[cycle(statement)]
 fn resolve_for(
@@ -264,7 +264,7 @@ fn resolve_for(
     Ok(for_of(head.word, turn, body))
 }
 
-/// A construct and its statement.
+// A construct and its statement.
 #[cycle(statement)]
 fn resolve_construct(
     alloc: Global,
@@ -290,7 +290,7 @@ fn resolve_construct(
     }
 }
 
-/// A construct that is for any statement.
+// A construct that is for any statement.
 #[tactic(auto, using(om_rules::specs::InRow::first_of_left))]
 #[cycle(statement)]
 fn resolve_plain_construct(
@@ -322,7 +322,7 @@ fn resolve_plain_construct(
     construct_of(alloc, setting, directive, clauses, body)
 }
 
-/// A worksharing-loop construct, or a `parallel for`: S12.
+// A worksharing-loop construct, or a `parallel for`: S12.
 #[tactic(auto, using(om_rules::specs::InRow::first_of_left))]
 #[cycle(statement)]
 fn resolve_loop_construct(
@@ -359,7 +359,7 @@ fn resolve_loop_construct(
     }
 }
 
-/// The body of a canonical loop.
+// The body of a canonical loop.
 #[tactic(auto, unfolding(om_rules::specs::StatementRules::body_breaches, om_rules::specs::StatementResolution::resolved_repeated, om_tree::specs::Formed::IsStatement, om_tree::specs::Sizes::HasForms))]
 #[cycle(statement)]
 fn resolve_loop_body(
@@ -386,7 +386,7 @@ fn resolve_loop_body(
     }
 }
 
-/// What a canonical loop repeats.
+// What a canonical loop repeats.
 #[cycle(statement)]
 fn resolve_repeated(
     alloc: Global,
@@ -410,7 +410,7 @@ fn resolve_repeated(
     Ok(repeated)
 }
 
-/// A construct of parts.
+// A construct of parts.
 #[tactic(auto, using(om_rules::specs::InRow::first_of_left))]
 #[cycle(statement)]
 fn resolve_sections(
@@ -437,7 +437,7 @@ fn resolve_sections(
     sections_construct_of(alloc, directive, clauses, parts)
 }
 
-/// The parts of `sections`.
+// The parts of `sections`.
 #[tactic(auto, unfolding(om_rules::specs::StatementRules::parts_breaches, om_rules::specs::StatementResolution::resolved_parts))]
 #[cycle(statement)]
 fn resolve_parts(
@@ -461,7 +461,7 @@ fn resolve_parts(
     Ok(resolved)
 }
 
-/// A part of `sections` behind so many of them, which is a block of its own.
+// A part of `sections` behind so many of them, which is a block of its own.
 #[tactic(auto, using(om_rules::specs::InRow::first_of_left))]
 #[cycle(statement)]
 fn resolve_part(

@@ -31,7 +31,7 @@ use om_tree::{Item, Unit};
 use om_uses::{add, declare_globals};
 use std::alloc::{AllocError, Global};
 
-/// Adds the function that an item defines.
+// Adds the function that an item defines.
 fn add_definition(alloc: Global, names: &mut Names, item: &Item) -> Result<(), AllocError>
     ensures { OnOk result (names.new ≡ after_definition names.old (view_item item.now)) }
 {
@@ -41,7 +41,7 @@ fn add_definition(alloc: Global, names: &mut Names, item: &Item) -> Result<(), A
     names.add(alloc, function.head.name.text.as_slice())
 }
 
-/// Adds the functions that a source defines, and before them those that are there before it.
+// Adds the functions that a source defines, and before them those that are there before it.
 fn add_definitions(alloc: Global, names: &mut Names, items: &[Item]) -> Result<(), AllocError>
     requires is_empty { names.old ≡ [] }
     ensures { OnOk result (names.new ≡ definitions_of (map view_item items.now)) }
@@ -53,7 +53,7 @@ fn add_definitions(alloc: Global, names: &mut Names, items: &[Item]) -> Result<(
     Ok(())
 }
 
-/// The functions that a source defines, and those that are there before it.
+// The functions that a source defines, and those that are there before it.
 fn definitions_of(alloc: Global, items: &[Item]) -> Result<Names, AllocError>
     ensures { IfOk result (λ names. names ≡ definitions_of (map view_item items.now)) }
 {
@@ -62,7 +62,7 @@ fn definitions_of(alloc: Global, items: &[Item]) -> Result<Names, AllocError>
     Ok(names)
 }
 
-/// Resolves an item in the scopes behind those before it.
+// Resolves an item in the scopes behind those before it.
 #[tactic(auto, unfolding(om_rules::specs::UnitResolution::item_functions, om_tree::specs::Formed::IsItem, om_tree::specs::Formed::IsFunction))]
 fn resolve_item(
     alloc: Global,
@@ -89,7 +89,7 @@ fn resolve_item(
     }
 }
 
-/// Resolves items in the scopes behind those before them, in their order.
+// Resolves items in the scopes behind those before them, in their order.
 fn resolve_each(
     alloc: Global,
     symbols: &mut Symbols,
@@ -113,7 +113,7 @@ fn resolve_each(
     Ok(())
 }
 
-/// Resolves the items of a source that defines these functions.
+// Resolves the items of a source that defines these functions.
 fn resolve_from(
     alloc: Global,
     symbols: &mut Symbols,
@@ -135,7 +135,7 @@ fn resolve_from(
     })
 }
 
-/// Resolves the items of a source, in their order.
+// Resolves the items of a source, in their order.
 fn resolve_items(alloc: Global, items: &[Item]) -> Result<Resolved, SourceFault>
     requires proper { All IsProperItem (map view_item items.now) }
     ensures checked { let trees = map view_item items.now in
@@ -149,7 +149,7 @@ fn resolve_items(alloc: Global, items: &[Item]) -> Result<Resolved, SourceFault>
     resolved
 }
 
-/// Whether an item is a function named `main`.
+// Whether an item is a function named `main`.
 fn is_main(item: &Item) -> bool
     ensures { result ≡ is_main (view_item item.now) }
 {
@@ -159,14 +159,14 @@ fn is_main(item: &Item) -> bool
     function.head.name.text.as_slice() == b"main".as_slice()
 }
 
-/// Whether one of the items is a function named `main`.
+// Whether one of the items is a function named `main`.
 fn has_main(items: &[Item]) -> bool
     ensures { result ≡ list_any (λ item. is_main (view_item item)) items.now }
 {
     items.iter().any(|item| is_main(item))
 }
 
-/// That one of the items is a function named `main`: S15.
+// That one of the items is a function named `main`: S15.
 fn check_main(unit: &Unit) -> Result<(), SourceFault>
     ensures { ChecksExactly result (main_breaches (view_unit unit.now)) }
 {

@@ -11,7 +11,7 @@ use om_steps::names::name;
 use om_values::{Puts, Team, Update};
 use std::alloc::{AllocError, Global};
 
-/// Appends how far each member of a team of this size came, as what is read.
+// Appends how far each member of a team of this size came, as what is read.
 fn name_arrivals(names: &mut Names, team: &Name, size: u8) -> Result<(), AllocError>
     ensures { OnOk result (names.new ≡ names.old ++ arrivals team.now 0 size) }
 {

@@ -15,7 +15,7 @@ pub struct Chunk {
     pub end: u64,
 }
 
-/// A number that is not below 0, else 0.
+// A number that is not below 0, else 0.
 fn upwards(number: i64) -> u64
     ensures { result ≡ upwards number }
 {
@@ -33,7 +33,7 @@ pub(crate) fn step_size(comparison: Comparison, step: i32) -> u64
     }
 }
 
-/// How many steps of this size there are in a distance, the last one perhaps in part.
+// How many steps of this size there are in a distance, the last one perhaps in part.
 fn rounded_up(distance: i64, step: u64) -> u64
     requires some { 1 ≤ step }
     requires small { step ≤ 2 ^ 31 }
@@ -45,7 +45,7 @@ fn rounded_up(distance: i64, step: u64) -> u64
     (distance as u64 + (step - 1)) / step
 }
 
-/// How many whole steps of this size there are in a distance, and one more.
+// How many whole steps of this size there are in a distance, and one more.
 fn rounded_down(distance: i64, step: u64) -> u64
     requires { 1 ≤ step }
     ensures { result ≡ rounded_down distance step }
@@ -88,7 +88,7 @@ pub(crate) fn chunk_within(count: u64, first: u128, size: u64) -> Option<Chunk>
     Some(Chunk { first, end })
 }
 
-/// The chunk of this number, from 0, of a member, where chunks of this size go round by thread number.
+// The chunk of this number, from 0, of a member, where chunks of this size go round by thread number.
 fn round_robin(count: u64, size: u32, team: &Team, taken: u64) -> Option<Chunk>
     ensures value { result ≡ round_robin count size team.now.size team.now.number taken }
     ensures within { IfSome result (λ chunk. chunk.end ≤ count) }
@@ -98,7 +98,7 @@ fn round_robin(count: u64, size: u32, team: &Team, taken: u64) -> Option<Chunk>
     chunk_within(count, number * u128::from(size), u64::from(size))
 }
 
-/// How many iterations a member has in one block: the first `count % size` members have one more than the others.
+// How many iterations a member has in one block: the first `count % size` members have one more than the others.
 fn block_size(count: u64, team: &Team) -> u64
     requires { team.now.number < team.now.size }
     ensures { result ≡ block_size count team.now.size team.now.number }
@@ -111,7 +111,7 @@ fn block_size(count: u64, team: &Team) -> u64
     }
 }
 
-/// The block of a member.
+// The block of a member.
 fn block(count: u64, team: &Team) -> Option<Chunk>
     requires { team.now.number < team.now.size }
     ensures value { result ≡ block count team.now.size team.now.number }

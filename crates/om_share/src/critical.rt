@@ -19,7 +19,7 @@ use om_steps::{Answer, At, Row};
 use om_values::{Blocked, Construct, Edit, Update, Val};
 use std::alloc::{AllocError, Global};
 
-/// The name of a lock, for a record.
+// The name of a lock, for a record.
 fn copied(alloc: Global, name: &[u8]) -> Result<Seq<u8>, AllocError>
     ensures { IfOk result (λ copy. copy ≡ name.now) }
 {
@@ -36,7 +36,7 @@ pub fn ask_critical(alloc: Global, at: At, name: &[u8]) -> Result<Answer, AllocE
     recorded(alloc, at.worker, edits, Record::MutexAcquire { lock })
 }
 
-/// The row of a thread that takes a lock, unless a worker holds it.
+// The row of a thread that takes a lock, unless a worker holds it.
 fn lock(
     alloc: Global,
     at: At,
@@ -73,7 +73,7 @@ pub fn enter_critical(
     Ok(Answer { names, row })
 }
 
-/// Whether the innermost region is critical with this lock.
+// Whether the innermost region is critical with this lock.
 fn is_critical(context: &Context, number: u32) -> bool
     ensures { result ≡ is_critical number (innermost (plain_context context.now).constructs) }
 {
@@ -86,7 +86,7 @@ fn is_critical(context: &Context, number: u32) -> bool
     *held == number
 }
 
-/// The row of a thread that gives a lock back.
+// The row of a thread that gives a lock back.
 fn unlock(alloc: Global, to: u32, name: &[u8]) -> Result<Row, AllocError>
     ensures { IfOk result (λ row. row ≡ unlock_row to name.now) }
 {

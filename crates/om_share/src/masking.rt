@@ -17,7 +17,7 @@ use om_steps::{Answer, At, Row};
 use om_values::{Construct, Edit};
 use std::alloc::{AllocError, Global};
 
-/// The record that a masked region begins or ends.
+// The record that a masked region begins or ends.
 fn masked_record(context: &Context, endpoint: Endpoint) -> Result<Record, AllocError>
     ensures { IfOk result
         (λ entry. entry ≡ Record.Masked endpoint context.now.team.name context.now.task) }
@@ -29,7 +29,7 @@ fn masked_record(context: &Context, endpoint: Endpoint) -> Result<Record, AllocE
     })
 }
 
-/// The row of a thread that comes to a masked region, of the filter or not.
+// The row of a thread that comes to a masked region, of the filter or not.
 fn filter(
     alloc: Global,
     context: &Context,
@@ -51,7 +51,7 @@ fn filter(
     Ok(Answer { names, row })
 }
 
-/// Whether a number is the number of a thread.
+// Whether a number is the number of a thread.
 fn is_thread(number: i32, thread: u8) -> bool
     ensures { result ≡ int_eq number (pos thread) }
 {
@@ -77,7 +77,7 @@ pub fn masked(
     filter(alloc, context, worker, branch, runs)
 }
 
-/// Whether the innermost region is masked.
+// Whether the innermost region is masked.
 fn is_masked(context: &Context) -> bool
     ensures { result ≡ is_masked (innermost (plain_context context.now).constructs) }
 {

@@ -27,7 +27,7 @@ use om_steps::{Answer, At, Row};
 use om_values::{Blocked, Edit, Kind, Puts, Tail, Team, Update, Val};
 use std::alloc::{AllocError, Global};
 
-/// The kind of synchronization that a barrier is.
+// The kind of synchronization that a barrier is.
 fn sync_of(barrier: Barrier) -> Sync
     ensures { result ≡ sync_of barrier }
 {
@@ -38,7 +38,7 @@ fn sync_of(barrier: Barrier) -> Sync
     }
 }
 
-/// The team that a barrier's end names; at the end of a parallel region it is no more.
+// The team that a barrier's end names; at the end of a parallel region it is no more.
 fn team_at_end(
     alloc: Global,
     barrier: Barrier,
@@ -53,7 +53,7 @@ fn team_at_end(
     }
 }
 
-/// Whether a barrier may not be met in a context.
+// Whether a barrier may not be met in a context.
 fn is_misplaced_barrier(barrier: Barrier, context: &Context) -> bool
     ensures { result ≡ is_misplaced_barrier barrier (plain_context context.now) }
 {
@@ -63,7 +63,7 @@ fn is_misplaced_barrier(barrier: Barrier, context: &Context) -> bool
     is_misplaced(context)
 }
 
-/// The names of a member that reaches a barrier.
+// The names of a member that reaches a barrier.
 fn reached_names(alloc: Global, worker: u8, team: &Team) -> Result<Names, AllocError>
     ensures { IfOk result
         (λ names. names ≡ write (obj.Arrived team.now.name team.now.number) ∷ events worker ∷ []) }
@@ -78,7 +78,7 @@ fn reached_names(alloc: Global, worker: u8, team: &Team) -> Result<Names, AllocE
     Ok(names)
 }
 
-/// The row of a member that reaches a barrier.
+// The row of a member that reaches a barrier.
 fn reached_turn(
     alloc: Global,
     to: u32,
@@ -104,7 +104,7 @@ fn reached_turn(
     Row::goes(alloc, to, 0, None, updates)
 }
 
-/// The answer of a member that reaches a barrier.
+// The answer of a member that reaches a barrier.
 fn reached(alloc: Global, at: At, barrier: Barrier, context: &Context) -> Result<Answer, AllocError>
     requires { context.now.phase + 1 < 2 ^ 64 }
     ensures { (s : State) → IfOk result
@@ -135,7 +135,7 @@ pub fn arrive(
     reached(alloc, at, barrier, context)
 }
 
-/// The names of a member at a barrier, with these cells of its own.
+// The names of a member at a barrier, with these cells of its own.
 #[tactic(auto, using(crate::proofs::Counting::regrouped))]
 fn barrier_names(
     alloc: Global,
@@ -154,7 +154,7 @@ fn barrier_names(
     Ok(names)
 }
 
-/// The updates of a member that goes on from a barrier.
+// The updates of a member that goes on from a barrier.
 fn departed_updates(alloc: Global, barrier: Barrier, context: &Context) -> Result<Puts, AllocError>
     ensures { IfOk result
         (λ updates. updates ≡ kept context.now.team.size
@@ -174,7 +174,7 @@ fn departed_updates(alloc: Global, barrier: Barrier, context: &Context) -> Resul
     Ok(updates)
 }
 
-/// The row of a member at a barrier that is open or not.
+// The row of a member at a barrier that is open or not.
 fn departed(
     alloc: Global,
     to: u32,
@@ -212,7 +212,7 @@ pub fn depart(
     Ok(Answer { names, row })
 }
 
-/// The context next to the top, the first of those below; `None` exactly where there is none.
+// The context next to the top, the first of those below; `None` exactly where there is none.
 fn next_below(below: &Tape<Box<Context>>) -> Option<&Context>
     ensures { option_map (λ c. plain_context c.now) result
         ≡ slice_get (map plain_held below.now.items) 0 }
@@ -221,7 +221,7 @@ fn next_below(below: &Tape<Box<Context>>) -> Option<&Context>
     Some(context)
 }
 
-/// Appends the end of a region, where a member of number 0 leaves it.
+// Appends the end of a region, where a member of number 0 leaves it.
 fn put_region_end(
     records: &mut Seq<Record>,
     team: &Team,
@@ -243,7 +243,7 @@ fn put_region_end(
     })
 }
 
-/// What a member's end records.
+// What a member's end records.
 fn left_records(
     alloc: Global,
     context: &Context,
@@ -273,7 +273,7 @@ fn left_records(
     Ok(records)
 }
 
-/// The updates of a member whose task ends.
+// The updates of a member whose task ends.
 fn left_updates(
     alloc: Global,
     context: &Context,
@@ -294,7 +294,7 @@ fn left_updates(
     Ok(updates)
 }
 
-/// The row of a member at the end of its region, whose barrier is open or not.
+// The row of a member at the end of its region, whose barrier is open or not.
 fn left(
     alloc: Global,
     context: &Context,
@@ -314,7 +314,7 @@ fn left(
     Ok(Row::Goes { edits, updates })
 }
 
-/// The answer of a member whose task can end.
+// The answer of a member whose task can end.
 #[tactic(auto, using(crate::proofs::Counting::barrier_read))]
 fn left_answer(
     alloc: Global,

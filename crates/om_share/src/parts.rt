@@ -78,7 +78,7 @@ pub(crate) fn work_record(
     })
 }
 
-/// The loop or the sections that a region is, if it is either.
+// The loop or the sections that a region is, if it is either.
 fn share_of(region: &Construct) -> Option<Share>
     ensures value { result ≡ share_of region.now }
     ensures ints { IfSome result ShareHasInts }

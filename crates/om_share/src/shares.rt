@@ -33,7 +33,7 @@ pub struct Bounds {
     pub upper: Option<i32>,
 }
 
-/// Whether the chunks of a schedule have at least one iteration.
+// Whether the chunks of a schedule have at least one iteration.
 fn is_right_schedule(schedule: Schedule) -> bool
     ensures { result ≡ is_right_schedule schedule }
 {
@@ -44,7 +44,7 @@ fn is_right_schedule(schedule: Schedule) -> bool
     }
 }
 
-/// Whether a loop's step is other than 0, in the direction of its comparison, and its schedule right.
+// Whether a loop's step is other than 0, in the direction of its comparison, and its schedule right.
 fn is_right_form(form: LoopForm) -> bool
     ensures { result ≡ is_right_form form }
 {
@@ -61,7 +61,7 @@ pub(crate) fn work_of(sharing: Sharing) -> Work
     }
 }
 
-/// A loop of which nothing is given out yet.
+// A loop of which nothing is given out yet.
 fn loop_of(region: u64, form: LoopForm, lower: i32, upper: i32) -> Share
     requires { is_right_form form ≡ true }
     ensures { result ≡ loop_of region form lower upper }
@@ -80,7 +80,7 @@ fn loop_of(region: u64, form: LoopForm, lower: i32, upper: i32) -> Share
     }
 }
 
-/// Opens a loop or sections, where they may be met.
+// Opens a loop or sections, where they may be met.
 fn open_share(
     alloc: Global,
     context: &Context,
@@ -158,7 +158,7 @@ pub fn open_sections(
     open_share(alloc, context, at, 0, share)
 }
 
-/// A share whose member has begun a chunk.
+// A share whose member has begun a chunk.
 #[tactic(auto, using(crate::specs::Iterations::chunk_ints))]
 fn in_chunk(share: Share, taken: u64, chunk: Chunk) -> Construct
     requires ints { ShareHasInts share }
@@ -173,7 +173,7 @@ fn in_chunk(share: Share, taken: u64, chunk: Chunk) -> Construct
     }))
 }
 
-/// The edits that go to a place, and let a share take the place of the innermost region.
+// The edits that go to a place, and let a share take the place of the innermost region.
 fn replaced(alloc: Global, to: u32, share: &Construct) -> Result<Seq<Edit>, AllocError>
     ensures { IfOk result (λ es. es ≡ edits to 0 (Edit.Replace share.now)) }
 {
@@ -181,7 +181,7 @@ fn replaced(alloc: Global, to: u32, share: &Construct) -> Result<Seq<Edit>, Allo
     go_and(alloc, to, 0, Edit::Replace(share))
 }
 
-/// What comes of a member's next chunk under a static schedule.
+// What comes of a member's next chunk under a static schedule.
 fn take(
     alloc: Global,
     branch: Branch,
@@ -202,7 +202,7 @@ fn take(
     Ok(Row::Goes { edits, updates })
 }
 
-/// What comes of the team's next chunk.
+// What comes of the team's next chunk.
 fn give(
     alloc: Global,
     branch: Branch,
@@ -222,7 +222,7 @@ fn give(
     Ok(Row::Goes { edits, updates })
 }
 
-/// The next chunk under a static schedule, by the chunk size where it has one.
+// The next chunk under a static schedule, by the chunk size where it has one.
 fn grab_static(
     alloc: Global,
     context: &Context,
@@ -240,7 +240,7 @@ fn grab_static(
     Ok(Answer::decided(alloc, row))
 }
 
-/// The next chunk of a team, whose count of iterations that are given out stands at this object.
+// The next chunk of a team, whose count of iterations that are given out stands at this object.
 fn grab_dynamic(
     alloc: Global,
     work: &Obj,
@@ -260,7 +260,7 @@ fn grab_dynamic(
     Ok(Answer { names, row })
 }
 
-/// The object at which a team counts the iterations of a share that are given out.
+// The object at which a team counts the iterations of a share that are given out.
 fn work_of_team(context: &Context, share: Share) -> Obj
     ensures { result ≡ obj.Work context.now.team.name share.region }
 {
@@ -298,15 +298,15 @@ pub fn grab(
     }
 }
 
-/// The value of an iteration.
+// The value of an iteration.
 fn value_of(lower: i32, step: i32, iteration: u64) -> i128
     ensures { result ≡ value_of lower step iteration }
 {
     i128::from(lower) + i128::from(iteration) * i128::from(step)
 }
 
-/// The value of the next iteration of a loop, where one is left in the chunk. It is an `int`, so `as`
-/// keeps it.
+// The value of the next iteration of a loop, where one is left in the chunk. It is an `int`, so `as`
+// keeps it.
 fn next_value(share: Share) -> i32
     requires kind { is_loop share.sharing ≡ true }
     requires left { share.next < share.end }
@@ -316,14 +316,14 @@ fn next_value(share: Share) -> i32
     value_of(share.lower, share.step, share.next) as i32
 }
 
-/// Whether a share is a loop.
+// Whether a share is a loop.
 fn is_loop(sharing: Sharing) -> bool
     ensures { result ≡ is_loop sharing }
 {
     matches!(sharing, Sharing::Loop)
 }
 
-/// The row that begins an iteration of this value.
+// The row that begins an iteration of this value.
 #[tactic(auto, using(crate::specs::Iterations::next_ints))]
 fn iterated(alloc: Global, to: u32, share: Share, value: i32) -> Result<Row, AllocError>
     requires few { share.next + 1 < 2 ^ 64 }
@@ -340,7 +340,7 @@ fn iterated(alloc: Global, to: u32, share: Share, value: i32) -> Result<Row, All
     Ok(Row::Goes { edits, updates })
 }
 
-/// Begins an iteration, where one is left in the chunk.
+// Begins an iteration, where one is left in the chunk.
 fn next_iteration(
     alloc: Global,
     context: &Context,
@@ -386,14 +386,14 @@ pub fn iterate(
     next_iteration(alloc, context, branch, slot, share)
 }
 
-/// Whether a section was taken.
+// Whether a section was taken.
 fn is_section(share: Share) -> bool
     ensures { result ≡ is_section share }
 {
     !is_loop(share.sharing) && share.next < share.end
 }
 
-/// The row that goes to the target of a section, where it has one.
+// The row that goes to the target of a section, where it has one.
 fn go_to_section(alloc: Global, targets: &[u32], section: u64) -> Result<Row, AllocError>
     ensures { IfOk result (λ row. row ≡ section_row (slice_get targets.now section)) }
 {

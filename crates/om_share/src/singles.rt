@@ -20,7 +20,7 @@ use om_steps::{Answer, At, Row};
 use om_values::{Construct, Edit, Update, Val};
 use std::alloc::{AllocError, Global};
 
-/// The kind of a single region in its records, for the thread that runs it and for any other.
+// The kind of a single region in its records, for the thread that runs it and for any other.
 fn single_work(runs: bool) -> Work
     ensures { result ≡ single_work runs }
 {
@@ -31,7 +31,7 @@ fn single_work(runs: bool) -> Work
     }
 }
 
-/// The row of the thread that runs a single region.
+// The row of the thread that runs a single region.
 fn run(alloc: Global, context: &Context, to: u32) -> Result<Row, AllocError>
     ensures { IfOk result (λ row. row ≡ chosen_row to to (plain_context context.now) true) }
 {
@@ -42,7 +42,7 @@ fn run(alloc: Global, context: &Context, to: u32) -> Result<Row, AllocError>
     Ok(Row::Goes { edits, updates })
 }
 
-/// The row of any other thread.
+// The row of any other thread.
 fn pass(alloc: Global, context: &Context, otherwise: u32) -> Result<Row, AllocError>
     ensures { IfOk result
         (λ row. row ≡ chosen_row otherwise otherwise (plain_context context.now) false) }
@@ -54,7 +54,7 @@ fn pass(alloc: Global, context: &Context, otherwise: u32) -> Result<Row, AllocEr
     Ok(Row::Goes { edits, updates })
 }
 
-/// The row of a thread that comes to a single region, first or not.
+// The row of a thread that comes to a single region, first or not.
 fn choose(
     alloc: Global,
     context: &Context,
@@ -97,7 +97,7 @@ pub fn single(
     Ok(Answer { names, row })
 }
 
-/// Closes a worksharing region of this kind and so many iterations.
+// Closes a worksharing region of this kind and so many iterations.
 fn close(
     alloc: Global,
     context: &Context,

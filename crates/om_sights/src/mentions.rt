@@ -43,7 +43,7 @@ pub(crate) struct Walk {
     pub(crate) ends: Vec<Numbers>,
 }
 
-/// Notes the formats of an expression, in the order of the text.
+// Notes the formats of an expression, in the order of the text.
 #[tactic(auto, unfolding(om_rows::specs::Mentions::expression_formats))]
 #[cycle(expression)]
 fn note_expression(formats: &mut Texts, alloc: Global, expression: &ResolvedExpression) -> Made<()>
@@ -88,7 +88,7 @@ fn note_expression(formats: &mut Texts, alloc: Global, expression: &ResolvedExpr
     }
 }
 
-/// Notes the formats of the values of a call.
+// Notes the formats of the values of a call.
 #[tactic(auto, unfolding(om_rows::specs::Mentions::values_formats))]
 #[cycle(expression)]
 fn note_values(formats: &mut Texts, alloc: Global, values: &[ResolvedExpression]) -> Made<()>
@@ -103,7 +103,7 @@ fn note_values(formats: &mut Texts, alloc: Global, values: &[ResolvedExpression]
     Ok(())
 }
 
-/// Notes what an expression mentions.
+// Notes what an expression mentions.
 #[tactic(auto, unfolding(crate::specs::Room::IsRoomFor))]
 fn note_value(found: &mut Mentions, value: &ResolvedExpression) -> Made<()>
     requires room { HasTextRoom (expression_weight (view_resolved_expression value.now)) found.old }
@@ -113,7 +113,7 @@ fn note_value(found: &mut Mentions, value: &ResolvedExpression) -> Made<()>
     note_expression(&mut found.formats, found.alloc, value)
 }
 
-/// Notes the formats of an expression that may be left out.
+// Notes the formats of an expression that may be left out.
 fn note_perhaps(found: &mut Mentions, expression: &Option<ResolvedExpression>) -> Made<()>
     requires room { let tree = option_map view_resolved_expression expression.now in
         HasTextRoom (perhaps_weight tree) found.old }
@@ -126,14 +126,14 @@ fn note_perhaps(found: &mut Mentions, expression: &Option<ResolvedExpression>) -
     note_value(found, expression)
 }
 
-/// How many cells a variable of this length has; a scalar has one.
+// How many cells a variable of this length has; a scalar has one.
 fn cells_of(length: Option<u32>) -> u32
     ensures { result ≡ cells_of_length length }
 {
     length.unwrap_or(1)
 }
 
-/// Notes declared variables.
+// Notes declared variables.
 #[tactic(auto, unfolding(crate::specs::Room::IsRoomFor))]
 fn note_declarators(found: &mut Mentions, declarators: &[ResolvedDeclarator]) -> Made<()>
     requires room { let tree = map view_resolved_declarator declarators.now in
@@ -149,7 +149,7 @@ fn note_declarators(found: &mut Mentions, declarators: &[ResolvedDeclarator]) ->
     Ok(())
 }
 
-/// Notes the beginning of a `for`.
+// Notes the beginning of a `for`.
 fn note_start(found: &mut Mentions, start: &ResolvedStart) -> Made<()>
     requires room { HasTextRoom (start_weight (view_resolved_start start.now)) found.old }
     ensures { let tree = view_resolved_start start.now in
@@ -162,7 +162,7 @@ fn note_start(found: &mut Mentions, start: &ResolvedStart) -> Made<()>
     }
 }
 
-/// Notes a clause.
+// Notes a clause.
 fn note_clause(found: &mut Mentions, clause: &ResolvedClause) -> Made<()>
     requires room { HasTextRoom (clause_weight (view_resolved_clause clause.now)) found.old }
     ensures { let tree = view_resolved_clause clause.now in
@@ -174,7 +174,7 @@ fn note_clause(found: &mut Mentions, clause: &ResolvedClause) -> Made<()>
     note_value(found, value)
 }
 
-/// Notes clauses.
+// Notes clauses.
 fn note_clauses(found: &mut Mentions, clauses: &[ResolvedClause]) -> Made<()>
     requires room { let tree = map view_resolved_clause clauses.now in
         HasTextRoom (sum (map clause_weight tree)) found.old }
@@ -187,7 +187,7 @@ fn note_clauses(found: &mut Mentions, clauses: &[ResolvedClause]) -> Made<()>
     Ok(())
 }
 
-/// Notes the bounds of a canonical loop.
+// Notes the bounds of a canonical loop.
 #[tactic(auto, unfolding(crate::specs::Room::IsRoomFor))]
 fn note_loop(found: &mut Mentions, repeated: &ResolvedLoop) -> Made<()>
     requires room { HasTextRoom (loop_weight (view_resolved_loop repeated.now)) found.old }
@@ -198,7 +198,7 @@ fn note_loop(found: &mut Mentions, repeated: &ResolvedLoop) -> Made<()>
     note_value(found, &repeated.to)
 }
 
-/// Notes an atomic update.
+// Notes an atomic update.
 #[tactic(auto, unfolding(crate::specs::Room::IsRoomFor))]
 fn note_update(found: &mut Mentions, update: &ResolvedUpdate) -> Made<()>
     requires room { HasTextRoom (update_weight (view_resolved_update update.now)) found.old }
@@ -209,7 +209,7 @@ fn note_update(found: &mut Mentions, update: &ResolvedUpdate) -> Made<()>
     note_value(found, &update.operand)
 }
 
-/// Notes the name of a critical region.
+// Notes the name of a critical region.
 #[tactic(auto, unfolding(crate::specs::Room::IsRoomFor))]
 fn note_construct(found: &mut Mentions, kind: &ConstructKind) -> Made<()>
     requires room { HasTextRoom 1 found.old }
@@ -224,7 +224,7 @@ fn note_construct(found: &mut Mentions, kind: &ConstructKind) -> Made<()>
     }
 }
 
-/// Notes the head of a `for`.
+// Notes the head of a `for`.
 #[tactic(auto, unfolding(crate::specs::Room::IsRoomFor))]
 fn note_head(found: &mut Mentions, head: &ResolvedHead) -> Made<()>
     requires room { let first = view_resolved_start head.now.start in
@@ -251,7 +251,7 @@ pub(crate) fn put_end(ends: &mut Vec<Numbers>, index: usize, behind: Numbers)
     ends[index] = behind;
 }
 
-/// Walks over the body of a region.
+// Walks over the body of a region.
 #[tactic(auto, using(crate::proofs::Ending::end_placed, crate::proofs::Ending::end_there))]
 #[cycle(statement)]
 fn note_region(walk: &mut Walk, body: &ResolvedStatement) -> Made<()>
@@ -273,7 +273,7 @@ fn note_region(walk: &mut Walk, body: &ResolvedStatement) -> Made<()>
     Ok(())
 }
 
-/// Walks over a statement and the regions in it, in the order of the text.
+// Walks over a statement and the regions in it, in the order of the text.
 #[tactic(auto, unfolding(om_rows::specs::Mentions::mentioned))]
 #[cycle(statement)]
 fn note_statement(walk: &mut Walk, statement: &ResolvedStatement) -> Made<()>
@@ -386,7 +386,7 @@ pub(crate) fn note_statements(walk: &mut Walk, items: &[ResolvedStatement]) -> M
     Ok(())
 }
 
-/// Walks over the parts of `sections`.
+// Walks over the parts of `sections`.
 #[tactic(auto, unfolding(om_rows::specs::Mentions::parts_mentioned))]
 #[cycle(statement)]
 fn note_parts(walk: &mut Walk, parts: &[ResolvedPart]) -> Made<()>

@@ -47,7 +47,7 @@ pub fn region_variables(
     Ok(variables)
 }
 
-/// Sees parameters.
+// Sees parameters.
 fn see_parameters(seen: &mut Variables, parameters: &[LocalVariable]) -> Made<()>
     ensures { OnOk result (Sees (map parameter_sight parameters.now) seen.old seen.new) }
 {
@@ -57,7 +57,7 @@ fn see_parameters(seen: &mut Variables, parameters: &[LocalVariable]) -> Made<()
     Ok(())
 }
 
-/// Sees declared names, and after each what it begins as.
+// Sees declared names, and after each what it begins as.
 fn see_declarators(seen: &mut Variables, declarators: &[ResolvedDeclarator]) -> Made<()>
     ensures { let trees = map view_resolved_declarator declarators.now in
         OnOk result (Sees (flat_map declarator_sights trees) seen.old seen.new) }
@@ -69,7 +69,7 @@ fn see_declarators(seen: &mut Variables, declarators: &[ResolvedDeclarator]) -> 
     Ok(())
 }
 
-/// Sees the beginning of a `for`.
+// Sees the beginning of a `for`.
 fn see_start(seen: &mut Variables, start: &ResolvedStart) -> Made<()>
     ensures { OnOk result (Sees (start_sights (view_resolved_start start.now)) seen.old seen.new) }
 {
@@ -80,7 +80,7 @@ fn see_start(seen: &mut Variables, start: &ResolvedStart) -> Made<()>
     }
 }
 
-/// Sees a clause of a construct in whose body it stands.
+// Sees a clause of a construct in whose body it stands.
 #[tactic(auto, using(crate::proofs::Copied::original_seen))]
 fn see_clause(seen: &mut Variables, clause: &ResolvedClause) -> Made<()>
     ensures { OnOk result (Sees (clause_sights (view_resolved_clause clause.now)) seen.old seen.new) }
@@ -99,7 +99,7 @@ fn see_clause(seen: &mut Variables, clause: &ResolvedClause) -> Made<()>
     }
 }
 
-/// Sees clauses of a construct in whose body they stand.
+// Sees clauses of a construct in whose body they stand.
 fn see_clauses(seen: &mut Variables, clauses: &[ResolvedClause]) -> Made<()>
     ensures { let trees = map view_resolved_clause clauses.now in
         OnOk result (Sees (flat_map clause_sights trees) seen.old seen.new) }
@@ -110,7 +110,7 @@ fn see_clauses(seen: &mut Variables, clauses: &[ResolvedClause]) -> Made<()>
     Ok(())
 }
 
-/// Sees a clause of a `parallel` or a `task`, in its body.
+// Sees a clause of a `parallel` or a `task`, in its body.
 #[tactic(auto, using(crate::proofs::Copied::combined_seen))]
 fn see_region_clause(seen: &mut Variables, clause: &ResolvedClause) -> Made<()>
     ensures { let sights = region_clause_sights (view_resolved_clause clause.now) in
@@ -130,7 +130,7 @@ fn see_region_clause(seen: &mut Variables, clause: &ResolvedClause) -> Made<()>
     }
 }
 
-/// Sees the clauses of a `parallel` or a `task`, in its body.
+// Sees the clauses of a `parallel` or a `task`, in its body.
 fn see_region_clauses(seen: &mut Variables, clauses: &[ResolvedClause]) -> Made<()>
     ensures { let trees = map view_resolved_clause clauses.now in
         OnOk result (Sees (flat_map region_clause_sights trees) seen.old seen.new) }
@@ -141,7 +141,7 @@ fn see_region_clauses(seen: &mut Variables, clauses: &[ResolvedClause]) -> Made<
     Ok(())
 }
 
-/// Sees the iteration variable of a canonical loop and then its bounds.
+// Sees the iteration variable of a canonical loop and then its bounds.
 fn see_loop(seen: &mut Variables, repeated: &ResolvedLoop) -> Made<()>
     ensures { OnOk result (Sees (loop_sights (view_resolved_loop repeated.now)) seen.old seen.new) }
 {
@@ -150,7 +150,7 @@ fn see_loop(seen: &mut Variables, repeated: &ResolvedLoop) -> Made<()>
     take_expression(seen, &repeated.to)
 }
 
-/// Sees the head of a `for`.
+// Sees the head of a `for`.
 fn see_head(seen: &mut Variables, head: &ResolvedHead) -> Made<()>
     ensures { let test = option_map view_resolved_expression head.now.condition in
         let step_tree = option_map view_resolved_expression head.now.step in
@@ -163,7 +163,7 @@ fn see_head(seen: &mut Variables, head: &ResolvedHead) -> Made<()>
     take_perhaps(seen, &head.step)
 }
 
-/// Sees a statement. The bodies of regions in it have slots of their own.
+// Sees a statement. The bodies of regions in it have slots of their own.
 #[tactic(auto, unfolding(om_rows::specs::Slots::statement_sights))]
 #[cycle(statement)]
 fn see_statement(seen: &mut Variables, statement: &ResolvedStatement) -> Made<()>
@@ -251,7 +251,7 @@ fn see_statement(seen: &mut Variables, statement: &ResolvedStatement) -> Made<()
     }
 }
 
-/// Sees statements.
+// Sees statements.
 #[tactic(auto, unfolding(om_rows::specs::Slots::statements_sights))]
 #[cycle(statement)]
 fn see_statements(seen: &mut Variables, items: &[ResolvedStatement]) -> Made<()>
@@ -264,7 +264,7 @@ fn see_statements(seen: &mut Variables, items: &[ResolvedStatement]) -> Made<()>
     Ok(())
 }
 
-/// Sees the parts of `sections`.
+// Sees the parts of `sections`.
 #[tactic(auto, unfolding(om_rows::specs::Slots::parts_sights))]
 #[cycle(statement)]
 fn see_parts(seen: &mut Variables, parts: &[ResolvedPart]) -> Made<()>

@@ -55,7 +55,7 @@ pub fn sites_of<'a>(
     Ok(sites)
 }
 
-/// How many bodies a region stands in, where the body round it stands in so many.
+// How many bodies a region stands in, where the body round it stands in so many.
 fn depth_in(sites: &[Site<'_>], depth: usize) -> usize
     requires { depth < length sites.now }
     ensures { result ≡ depth + 1 }
@@ -64,7 +64,7 @@ fn depth_in(sites: &[Site<'_>], depth: usize) -> usize
     depth + 1
 }
 
-/// Adds the body of a region and those in it, and answers the numbers behind it.
+// Adds the body of a region and those in it, and answers the numbers behind it.
 #[tactic(auto, using(crate::proofs::SiteBodies::round_below))]
 #[cycle(statement)]
 fn see_region<'a>(
@@ -95,7 +95,7 @@ fn see_region<'a>(
     see_statement(sites, &site, inner, body)
 }
 
-/// Adds the bodies of the regions in a statement, which stands in an open body, and answers the numbers behind it.
+// Adds the bodies of the regions in a statement, which stands in an open body, and answers the numbers behind it.
 #[tactic(auto, unfolding(om_rows::specs::Bodies::regions), using(crate::proofs::SiteBodies::round_kept, crate::proofs::SiteBodies::kept_then))]
 #[cycle(statement)]
 fn see_statement<'a>(
@@ -168,7 +168,7 @@ fn see_statement<'a>(
     }
 }
 
-/// The same for statements.
+// The same for statements.
 #[tactic(auto, unfolding(om_rows::specs::Bodies::all_regions), using(crate::proofs::SiteBodies::round_kept, crate::proofs::SiteBodies::kept_then))]
 #[cycle(statement)]
 fn see_statements<'a>(
@@ -194,7 +194,7 @@ fn see_statements<'a>(
     Ok(behind)
 }
 
-/// The same for the parts of `sections`.
+// The same for the parts of `sections`.
 #[tactic(auto, unfolding(om_rows::specs::Bodies::parts_regions), using(crate::proofs::SiteBodies::round_kept, crate::proofs::SiteBodies::kept_then))]
 #[cycle(statement)]
 fn see_parts<'a>(

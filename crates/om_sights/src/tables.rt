@@ -17,7 +17,7 @@ use om_resolved::{Made, Resolved, ResolvedFunction};
 use om_rows::{Extents, Numbers, Tables, Texts};
 use std::alloc::Global;
 
-/// A walk over functions, and what each of them has.
+// A walk over functions, and what each of them has.
 #[derive(Drop)]
 struct Functions {
     walk: Walk,
@@ -68,7 +68,7 @@ pub fn tables_of(alloc: Global, resolved: &Resolved) -> Made<Tables>
     })
 }
 
-/// Walks over all functions, from the first numbers on.
+// Walks over all functions, from the first numbers on.
 #[tactic(auto, using(crate::proofs::Noting::cells_next, crate::proofs::Noting::cells_done))]
 fn note_functions(made: &mut Functions, functions: &[ResolvedFunction]) -> Made<()>
     requires numbers { numbers_of made.old.walk.numbers ≡ bodies.first_numbers }
@@ -98,7 +98,7 @@ fn note_functions(made: &mut Functions, functions: &[ResolvedFunction]) -> Made<
     Ok(())
 }
 
-/// Walks over a function.
+// Walks over a function.
 #[tactic(auto, using(crate::proofs::Cells::cells_measured))]
 fn note_function(made: &mut Functions, function: &ResolvedFunction) -> Made<()>
     requires empty { made.old.walk.found.extents ≡ [] }
@@ -129,7 +129,7 @@ fn note_function(made: &mut Functions, function: &ResolvedFunction) -> Made<()>
     Ok(())
 }
 
-/// Walks over the body of a function.
+// Walks over the body of a function.
 #[tactic(auto, using(crate::proofs::Ending::end_placed))]
 fn note_body(walk: &mut Walk, function: &ResolvedFunction) -> Made<()>
     requires room { HasRoom (function_weight (view_resolved_function function.now)) walk.old }

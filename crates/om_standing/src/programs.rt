@@ -15,7 +15,7 @@ pub fn programs_are_of_ints(program: &Raw)
     globals_are_of_ints(program.globals.as_slice());
 }
 
-/// The same of the constants in bodies.
+// The same of the constants in bodies.
 fn bodies_are_of_ints(bodies: &[Body])
     ensures { All (λ body. HasIntConstants body) bodies.now }
 {
@@ -24,7 +24,7 @@ fn bodies_are_of_ints(bodies: &[Body])
     }
 }
 
-/// The same of the constants in the code of a body.
+// The same of the constants in the code of a body.
 fn lines_are_of_ints(lines: &[Line])
     ensures { All (λ line. HasIntConstant line.instruction) lines.now }
 {
@@ -33,7 +33,7 @@ fn lines_are_of_ints(lines: &[Line])
     }
 }
 
-/// The same of the constant of an instruction.
+// The same of the constant of an instruction.
 fn is_of_ints(line: &Line)
     ensures { HasIntConstant line.now.instruction }
 {
@@ -42,7 +42,7 @@ fn is_of_ints(line: &Line)
     }
 }
 
-/// The same of initial values.
+// The same of initial values.
 fn globals_are_of_ints(globals: &[GlobalVariable])
     ensures { All (λ global. IsInt global.initial) globals.now }
 {
@@ -51,7 +51,7 @@ fn globals_are_of_ints(globals: &[GlobalVariable])
     }
 }
 
-/// The same of one value.
+// The same of one value.
 fn is_int(value: i32)
     ensures { IsInt value }
 {

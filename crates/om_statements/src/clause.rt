@@ -28,7 +28,7 @@ pub fn clause_value(clauses: &[ResolvedClause]) -> Option<&ResolvedExpression>
     None
 }
 
-/// Gives the copy of a reduction the value that it begins with.
+// Gives the copy of a reduction the value that it begins with.
 fn set_identity(
     draft: &mut Draft,
     here: &Here<'_>,
@@ -44,7 +44,7 @@ fn set_identity(
     Ok(())
 }
 
-/// Gives a copy the value of its original.
+// Gives a copy the value of its original.
 fn set_original(
     draft: &mut Draft,
     here: &Here<'_>,
@@ -59,8 +59,8 @@ fn set_original(
     Ok(())
 }
 
-/// Writes what the copy of a clause of a worksharing construct begins with (OpenMP API 5.2, sections 5.4.3,
-/// 5.4.4 and 5.5.3).
+// Writes what the copy of a clause of a worksharing construct begins with (OpenMP API 5.2, sections 5.4.3,
+// 5.4.4 and 5.5.3).
 fn begin_copy(draft: &mut Draft, here: &Here<'_>, clause: &ResolvedClause) -> Done
     ensures { Appends result here.now rows.clause_start (view_resolved_clause clause.now) draft.old
         draft.new }
@@ -89,7 +89,7 @@ fn begin_copy(draft: &mut Draft, here: &Here<'_>, clause: &ResolvedClause) -> Do
     }
 }
 
-/// Begins the scope of the copy that a clause makes, if it makes one, at this place.
+// Begins the scope of the copy that a clause makes, if it makes one, at this place.
 fn begin_scope(scopes: &mut ScopeStack, from: usize, clause: &ResolvedClause) -> Done
     ensures { OnOk result
         (BeginsCopy from (view_resolved_clause clause.now) scopes.old scopes.new) }
@@ -101,8 +101,8 @@ fn begin_scope(scopes: &mut ScopeStack, from: usize, clause: &ResolvedClause) ->
     Ok(())
 }
 
-/// Writes what the copy of a clause of a worksharing construct begins with, from which on it is in
-/// scope.
+// Writes what the copy of a clause of a worksharing construct begins with, from which on it is in
+// scope.
 fn clause_start(writing: &mut Writing, here: &Here<'_>, clause: &ResolvedClause) -> Done
     ensures code { Appends result here.now rows.clause_start (view_resolved_clause clause.now)
         writing.old.draft writing.new.draft }
@@ -128,8 +128,8 @@ pub fn starts(writing: &mut Writing, here: &Here<'_>, clauses: &[ResolvedClause]
     Ok(())
 }
 
-/// Writes what the copy of a clause of a `parallel` begins with, if it is combined. FORK gives the
-/// firstprivate ones their values, and the others are new with their frame.
+// Writes what the copy of a clause of a `parallel` begins with, if it is combined. FORK gives the
+// firstprivate ones their values, and the others are new with their frame.
 fn begin_reduction(draft: &mut Draft, here: &Here<'_>, clause: &ResolvedClause) -> Done
     ensures { Appends result here.now rows.clause_reduction_start (view_resolved_clause clause.now)
         draft.old draft.new }
@@ -144,8 +144,8 @@ fn begin_reduction(draft: &mut Draft, here: &Here<'_>, clause: &ResolvedClause) 
     Ok(())
 }
 
-/// Where the scope of a region's copy begins: that of a reduction at its start, which is at this place,
-/// and that of another one with the body.
+// Where the scope of a region's copy begins: that of a reduction at its start, which is at this place,
+// and that of another one with the body.
 fn team_from(place: usize, clause: &ResolvedClause) -> usize
     ensures { result ≡ team_from place (view_resolved_clause clause.now) }
 {
@@ -158,7 +158,7 @@ fn team_from(place: usize, clause: &ResolvedClause) -> usize
     place
 }
 
-/// Writes what the copy of a clause of a `parallel` begins with in its body, where it is in scope.
+// Writes what the copy of a clause of a `parallel` begins with in its body, where it is in scope.
 fn clause_reduction_start(writing: &mut Writing, here: &Here<'_>, clause: &ResolvedClause) -> Done
     ensures code { Appends result here.now rows.clause_reduction_start
         (view_resolved_clause clause.now) writing.old.draft writing.new.draft }
@@ -208,7 +208,7 @@ pub fn parameters(scopes: &mut ScopeStack, variables: &[LocalVariable]) -> Done
     Ok(())
 }
 
-/// Combines the copy of a clause with its original, if the clause is a reduction.
+// Combines the copy of a clause with its original, if the clause is a reduction.
 fn combine_clause(draft: &mut Draft, here: &Here<'_>, clause: &ResolvedClause) -> Done
     ensures { Appends result here.now rows.combine_clause (view_resolved_clause clause.now)
         draft.old draft.new }

@@ -14,8 +14,8 @@ use om_emit::draft::{Draft, Jump};
 use om_emit::{Done, Here, value};
 use om_resolved::{ConstructKind, Made, ResolvedClause};
 
-/// Writes the thread number that a `masked` asks for: 0 where no clause says another (OpenMP API 5.2,
-/// section 10.5.1).
+// Writes the thread number that a `masked` asks for: 0 where no clause says another (OpenMP API 5.2,
+// section 10.5.1).
 fn filter(draft: &mut Draft, here: &Here<'_>, clauses: &[ResolvedClause]) -> Done
     requires { IfSome (rows.clause_value (map view_resolved_clause clauses.now)) ValueHasCode }
     ensures { Appends result here.now rows.filter_row

@@ -15,7 +15,7 @@ use om_emit::draft::{Draft, Jump};
 use om_emit::{Done, Here, store, value};
 use om_resolved::{ResolvedDeclarator, ResolvedExpression, ResolvedStart, Variable};
 
-/// Writes the code of a declared name: it is made unset, or gets its initializer (C17 6.7.9).
+// Writes the code of a declared name: it is made unset, or gets its initializer (C17 6.7.9).
 fn initialize(draft: &mut Draft, here: &Here<'_>, declared: &ResolvedDeclarator) -> Done
     requires { DeclaratorHasCode (view_resolved_declarator declared.now) }
     ensures { Appends result here.now rows.declarator (view_resolved_declarator declared.now)
@@ -35,7 +35,7 @@ fn initialize(draft: &mut Draft, here: &Here<'_>, declared: &ResolvedDeclarator)
     }
 }
 
-/// Writes the code of a declared name, which is in scope from there on (C17 6.2.1p7).
+// Writes the code of a declared name, which is in scope from there on (C17 6.2.1p7).
 fn declarator(writing: &mut Writing, here: &Here<'_>, declared: &ResolvedDeclarator) -> Done
     requires { DeclaratorHasCode (view_resolved_declarator declared.now) }
     ensures code { Appends result here.now rows.declarator (view_resolved_declarator declared.now)

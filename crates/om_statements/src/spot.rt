@@ -13,7 +13,7 @@ pub struct Spot {
 }
 
 impl Spot {
-    /// With these labels for `break` and `continue`.
+    // With these labels for `break` and `continue`.
     fn with(numbers: Numbers, over: Option<usize>, next: Option<usize>) -> Spot
         ensures { result ≡ record { numbers = numbers; jumps = record { over = over; next = next } } }
     {

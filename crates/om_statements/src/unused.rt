@@ -62,7 +62,7 @@ pub fn effect(draft: &mut Draft, here: &Here<'_>, e: &ResolvedExpression) -> Don
     }
 }
 
-/// Writes an expression that leaves its value, and takes it off.
+// Writes an expression that leaves its value, and takes it off.
 fn popped(draft: &mut Draft, here: &Here<'_>, e: &ResolvedExpression) -> Done
     requires { ValueHasCode (view_resolved_expression e.now) }
     ensures { Appends result here.now rows.popped (view_resolved_expression e.now) draft.old
@@ -72,7 +72,7 @@ fn popped(draft: &mut Draft, here: &Here<'_>, e: &ResolvedExpression) -> Done
     draft.put(here.at.line, Instr::Pop)
 }
 
-/// Writes the values of a `printf`, and what prints them by its format (C17 7.21.6.3).
+// Writes the values of a `printf`, and what prints them by its format (C17 7.21.6.3).
 fn print(
     draft: &mut Draft,
     here: &Here<'_>,

@@ -80,7 +80,7 @@ impl ScopeStack {
         Ok(())
     }
 
-    /// Ends the last scope that has begun, if there is one.
+    // Ends the last scope that has begun, if there is one.
     fn end_last(&mut self, to: usize) -> Done
         ensures { OnOk result (0 < length self.old.opened.items → EndsLast to self.old self.new) }
     {
@@ -92,7 +92,7 @@ impl ScopeStack {
     }
 }
 
-/// A scope that ends at this place.
+// A scope that ends at this place.
 fn closed_at(opened: VariableScope, to: usize) -> VariableScope
     ensures { result ≡ closed_at to opened }
 {

@@ -39,14 +39,14 @@ pub(crate) fn slots_of(raw: &Raw, body: u32) -> &[Slot]
     }
 }
 
-/// A put of an int before these updates.
+// A put of an int before these updates.
 fn with_put(updates: Puts, value: i32) -> Result<Puts, AllocError>
     ensures { IfOk result (λ all. all ≡ put_of (Some value) ++ updates) }
 {
     updates.behind(Update::Put(Val::Cell(Cell::Int(value))))
 }
 
-/// What a turn makes of its worker, with these updates behind what it puts.
+// What a turn makes of its worker, with these updates behind what it puts.
 fn row_of(alloc: Global, next: u32, updates: Puts, turn: Turn) -> Result<Row, AllocError>
     requires { next + 1 < 2 ^ 32 }
     ensures { IfOk result (λ row. row ≡ row_of (next + 1) updates turn) }
@@ -71,7 +71,7 @@ fn row_of(alloc: Global, next: u32, updates: Puts, turn: Turn) -> Result<Row, Al
     }
 }
 
-/// How many cells a slot has; none where there is no such slot.
+// How many cells a slot has; none where there is no such slot.
 fn cells_of(slots: &[Slot], slot: u32) -> u32
     ensures { result ≡ unwrap_or (option_map (λ s. s.cells) (slice_get slots.now slot)) 0 }
 {
@@ -81,7 +81,7 @@ fn cells_of(slots: &[Slot], slot: u32) -> u32
     }
 }
 
-/// That cells become unset, one for each of these names.
+// That cells become unset, one for each of these names.
 #[tactic(auto, using(crate::proofs::Same::unsets_same))]
 fn unset(alloc: Global, names: &Names) -> Result<Puts, AllocError>
     ensures { IfOk result (λ updates. updates ≡ unsets names.now) }
@@ -91,8 +91,8 @@ fn unset(alloc: Global, names: &Names) -> Result<Puts, AllocError>
     Ok(updates)
 }
 
-/// An instruction of the frame machine where it is met: its program, the slots of its body, the context
-/// that runs it, and what the objects hold.
+// An instruction of the frame machine where it is met: its program, the slots of its body, the context
+// that runs it, and what the objects hold.
 #[derive(Clone, Copy)]
 struct Met<'a> {
     raw: &'a Raw,
@@ -102,8 +102,8 @@ struct Met<'a> {
     instr: Instr,
 }
 
-/// The answer where one cell of a variable is read, or written. The object is made where it is named,
-/// since it is large.
+// The answer where one cell of a variable is read, or written. The object is made where it is named,
+// since it is large.
 #[inline(never)]
 fn at_cell(
     alloc: Global,
@@ -135,7 +135,7 @@ fn at_cell(
     })
 }
 
-/// The answer where a slot becomes unset, and the turn is this one.
+// The answer where a slot becomes unset, and the turn is this one.
 #[inline(never)]
 fn clearing(
     alloc: Global,
@@ -156,7 +156,7 @@ fn clearing(
     Ok(Answer { names, row })
 }
 
-/// The answer where bytes are printed, and the turn is this one.
+// The answer where bytes are printed, and the turn is this one.
 #[inline(never)]
 fn printing(alloc: Global, next: u32, bytes: Seq<u8>, turn: Turn) -> Result<Answer, AllocError>
     requires { next + 1 < 2 ^ 32 }

@@ -42,7 +42,7 @@ pub fn first_frame(alloc: Global, body: u32, homes: Shared<Seq<Home>>) -> Frame
     }
 }
 
-/// The regions and the waiting frames of a task that begins: none.
+// The regions and the waiting frames of a task that begins: none.
 fn nothing_open(alloc: Global) -> Result<(SharedPile<Construct>, SharedPile<Frame>), AllocError>
     ensures { IfOk result (λ piles. (piles.0 ≡ []) × (piles.1 ≡ [])) }
 {

@@ -109,7 +109,7 @@ pub fn give_back(
     })
 }
 
-/// What comes of a copy of a reduction and its original.
+// What comes of a copy of a reduction and its original.
 fn reduced(
     alloc: Global,
     to: u32,

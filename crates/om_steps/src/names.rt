@@ -44,7 +44,7 @@ pub fn name_events(names: &mut Names, worker: u8) -> Result<(), AllocError>
     name(names, Obj::Events(worker), Mode::Write)
 }
 
-/// A cell of a task's frame. It stands apart, so that the name in it is copied once.
+// A cell of a task's frame. It stands apart, so that the name in it is copied once.
 #[inline(never)]
 fn cell_at(task: &Name, frame: u64, slot: u32, index: u32) -> Obj
     ensures { result ≡ obj.Cell task.now frame slot index }
@@ -148,7 +148,7 @@ pub fn object_of(context: &Context, place: Place, index: u32) -> Obj
     }
 }
 
-/// Where the cells of a slot lie; a slot that has no home lies in the frame itself.
+// Where the cells of a slot lie; a slot that has no home lies in the frame itself.
 fn home_at<'a>(homes: &'a [Home], slot: u32, own: &'a Home) -> &'a Home
     requires { own.now ≡ Home.Own }
     ensures { result.now ≡ home_at homes.now slot }
@@ -159,7 +159,7 @@ fn home_at<'a>(homes: &'a [Home], slot: u32, own: &'a Home) -> &'a Home
     }
 }
 
-/// The slot in which the cells of a slot lie.
+// The slot in which the cells of a slot lie.
 fn slot_in(context: &Context, slot: u32, home: &Home) -> SlotName
     ensures { result ≡ slot_in (plain_context context.now).task
         (plain_context context.now).frame.ordinal slot home.now }
@@ -178,7 +178,7 @@ fn slot_in(context: &Context, slot: u32, home: &Home) -> SlotName
     }
 }
 
-/// The slot in which the cells of a slot of the running frame lie.
+// The slot in which the cells of a slot of the running frame lie.
 fn slot_of(context: &Context, slot: u32) -> SlotName
     ensures { result ≡ slot_in (plain_context context.now).task
         (plain_context context.now).frame.ordinal slot
@@ -226,7 +226,7 @@ pub fn name_given(
     Ok(())
 }
 
-/// Appends the cells of a slot of the running frame, where they lie in the frame itself.
+// Appends the cells of a slot of the running frame, where they lie in the frame itself.
 fn name_own(own: &mut Names, context: &Context, slot: u32, cells: u32) -> Result<(), AllocError>
     ensures { OnOk result
         (own.new ≡ own.old ++ own_slot (plain_context context.now) slot cells
@@ -250,7 +250,7 @@ pub fn own_cells(alloc: Global, context: &Context, slots: &[Slot]) -> Result<Nam
     Ok(own)
 }
 
-/// Where the cells of a slot lie, for a frame that is begun from another one.
+// Where the cells of a slot lie, for a frame that is begun from another one.
 fn home_from(task: &Shared<Name>, frame: u64, slot: u32, home: &Home) -> Result<Home, AllocError>
     ensures { IfOk result (λ from. from ≡ home_from task.now frame slot home.now) }
 {
@@ -264,7 +264,7 @@ fn home_from(task: &Shared<Name>, frame: u64, slot: u32, home: &Home) -> Result<
     }
 }
 
-/// Where the cells of a slot lie, for a frame that is begun from one with these homes.
+// Where the cells of a slot lie, for a frame that is begun from one with these homes.
 fn home_for(
     task: &Shared<Name>,
     frame: u64,
@@ -318,7 +318,7 @@ pub fn operands_of(context: &Context) -> Operands<'_>
     Operands::of(context.frame.operands.as_slice())
 }
 
-/// The region at this depth, the innermost one at 0; `None` exactly where there is none.
+// The region at this depth, the innermost one at 0; `None` exactly where there is none.
 fn region_at(constructs: &Tape<Shared<Construct>>, depth: usize) -> Option<&Construct>
     ensures { option_map (λ t. t.now) result ≡ slice_get constructs.now.items depth }
 {
@@ -332,7 +332,7 @@ pub fn innermost(context: &Context) -> Option<Construct>
     region_at(&context.constructs, 0).copied()
 }
 
-/// The name of the task group that a region is, if it is one.
+// The name of the task group that a region is, if it is one.
 fn group_name(construct: &Construct) -> Option<Name>
     ensures { result ≡ group_name construct.now }
 {
@@ -359,7 +359,7 @@ pub fn group_of(context: &Context) -> Option<Name>
     *context.group.get()
 }
 
-/// Whether a worksharing, masked or critical region is open.
+// Whether a worksharing, masked or critical region is open.
 fn is_in_region(constructs: &Tape<Shared<Construct>>) -> bool
     ensures { result ≡ is_in_region constructs.now.items }
 {

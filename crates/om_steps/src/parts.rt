@@ -95,7 +95,7 @@ pub fn update_with_event(alloc: Global, update: Update, entry: Record) -> Result
     Ok(updates)
 }
 
-/// That an event record is appended, alone.
+// That an event record is appended, alone.
 fn one_event(alloc: Global, entry: Record) -> Result<Puts, AllocError>
     ensures { IfOk result (λ updates. updates ≡ event entry ∷ []) }
 {

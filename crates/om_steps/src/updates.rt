@@ -29,7 +29,7 @@ pub fn put_ints(updates: &mut Puts, ints: &[i32]) -> Result<(), AllocError>
     Ok(())
 }
 
-/// Appends puts of a cell, one for each of these accesses.
+// Appends puts of a cell, one for each of these accesses.
 fn put_single(updates: &mut Puts, cell: Cell, names: &[Access]) -> Result<(), AllocError>
     ensures { OnOk result (updates.new ≡ updates.old ++ same_puts cell names.now) }
 {
@@ -39,7 +39,7 @@ fn put_single(updates: &mut Puts, cell: Cell, names: &[Access]) -> Result<(), Al
     Ok(())
 }
 
-/// Appends runs of puts of a cell, one for the cells of each of these.
+// Appends runs of puts of a cell, one for the cells of each of these.
 fn put_runs(updates: &mut Puts, cell: Cell, names: &[Cells]) -> Result<(), AllocError>
     ensures { OnOk result (updates.new ≡ updates.old ++ same_puts cell (cells_listed names.now)) }
 {

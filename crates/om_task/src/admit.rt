@@ -33,7 +33,7 @@ pub(crate) fn leaving(instruction: Option<Instr>) -> Option<TaskStatus>
     }
 }
 
-/// Whether an instruction departs from a barrier.
+// Whether an instruction departs from a barrier.
 fn departs(instruction: Option<Instr>) -> bool
     ensures { result ≡ departs instruction }
 {
@@ -43,14 +43,14 @@ fn departs(instruction: Option<Instr>) -> bool
     matches!(instruction, Instr::Depart(_) | Instr::Leave)
 }
 
-/// Whether the task of a name descends from another one.
+// Whether the task of a name descends from another one.
 fn is_below(name: &Name, other: &Name) -> bool
     ensures { result ≡ is_below name.now other.now }
 {
     is_descendant(name, other)
 }
 
-/// Whether a task may be started where a context is left for it.
+// Whether a task may be started where a context is left for it.
 fn admits_on(program: &Program, name: &Name, context: &Context) -> bool
     ensures { result ≡ admits_on program.now name.now (plain_context context.now) }
 {
@@ -60,7 +60,7 @@ fn admits_on(program: &Program, name: &Name, context: &Context) -> bool
     is_below(name, context.task.get())
 }
 
-/// The context at this depth, the next one below the top at 0; `None` exactly where there is none.
+// The context at this depth, the next one below the top at 0; `None` exactly where there is none.
 #[tactic(auto, using(crate::proofs::Admits::held_at))]
 fn context_at(contexts: &Tape<Box<Context>>, depth: usize) -> Option<&Context>
     ensures { option_map (λ c. plain_context c.now) result
@@ -70,7 +70,7 @@ fn context_at(contexts: &Tape<Box<Context>>, depth: usize) -> Option<&Context>
     Some(context)
 }
 
-/// Whether a task may be started where these contexts are left for it.
+// Whether a task may be started where these contexts are left for it.
 fn admits_below(program: &Program, name: &Name, contexts: &Tape<Box<Context>>) -> bool
     ensures { result ≡ admits_all program.now name.now (map plain_held contexts.now.items) }
 {

@@ -12,7 +12,7 @@ use om_steps::names::name;
 use om_values::{Puts, Update};
 use std::alloc::AllocError;
 
-/// Appends the count of a task group, where there is a group.
+// Appends the count of a task group, where there is a group.
 fn name_group(names: &mut Names, group: &Option<Name>) -> Result<(), AllocError>
     ensures { OnOk result (names.new ≡ names.old ++ group_count group.now) }
 {

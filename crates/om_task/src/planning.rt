@@ -42,7 +42,7 @@ pub struct Planning<'a> {
     pub ghost some: { 1 ≤ workers },
 }
 
-/// The answer of the instruction at which a stack stands.
+// The answer of the instruction at which a stack stands.
 fn next_answer(
     alloc: Global,
     program: &Program,
@@ -70,7 +70,7 @@ fn next_answer(
     answer(alloc, store, program, stack, doing)
 }
 
-/// The answer of a choice on a stack.
+// The answer of a choice on a stack.
 fn choice_answer(
     alloc: Global,
     program: &Program,
@@ -98,7 +98,7 @@ fn choice_answer(
     }
 }
 
-/// The answer of a worker that has this control.
+// The answer of a worker that has this control.
 fn control_answer(
     alloc: Global,
     program: &Program,
@@ -119,7 +119,7 @@ fn control_answer(
     }
 }
 
-/// The plan of a step, by what it names and by its row. A fault is an edit of the control.
+// The plan of a step, by what it names and by its row. A fault is an edit of the control.
 #[tactic(auto, using(crate::proofs::Plans::fault_room))]
 fn planned(alloc: Global, worker: u8, line: u32, names: Names, row: Row) -> Result<Plan, AllocError>
     ensures plan { (c : plain_controls.Control) →
@@ -168,7 +168,7 @@ pub fn is_at_scheduling_point(program: &Program, control: &Control) -> bool
     leaving(instruction(program, &stack.top)).is_some()
 }
 
-/// The plan of the step of a worker that has this control.
+// The plan of the step of a worker that has this control.
 fn control_plan(
     alloc: Global,
     program: &Program,
@@ -218,7 +218,7 @@ pub fn names(
     footprint(label.worker, names.into_seq()?)
 }
 
-/// What comes of the choice of a worker that has this control.
+// What comes of the choice of a worker that has this control.
 fn control_row(
     alloc: Global,
     program: &Program,

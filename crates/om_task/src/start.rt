@@ -24,7 +24,7 @@ use om_steps::names::homes_for;
 use om_values::{Context, Control, Frame, Kind, SharedPile, Stack, Team, Val};
 use std::alloc::{AllocError, Global};
 
-/// The body of `main`.
+// The body of `main`.
 fn main_body(program: &Program) -> &Body
     ensures { result.now ≡ body_of program.now program.now.main }
 {
@@ -35,7 +35,7 @@ fn main_body(program: &Program) -> &Body
     }
 }
 
-/// The name of the initial task.
+// The name of the initial task.
 fn first_task() -> Name
     ensures { result ≡ 0 ∷ [] }
 {
@@ -45,7 +45,7 @@ fn first_task() -> Name
     }
 }
 
-/// The frame of the initial task, at the first instruction of `main`.
+// The frame of the initial task, at the first instruction of `main`.
 fn main_frame(alloc: Global, program: &Program) -> Result<Frame, AllocError>
     ensures { IfOk result (λ frame. frame ≡ (first_context program.now).frame) }
 {
@@ -56,7 +56,7 @@ fn main_frame(alloc: Global, program: &Program) -> Result<Frame, AllocError>
     Ok(first_frame(alloc, program.main(), homes))
 }
 
-/// The context of the initial task, with its frame: it is alone in a team, and in no group.
+// The context of the initial task, with its frame: it is alone in a team, and in no group.
 fn first_context(alloc: Global, frame: Frame) -> Result<Context, AllocError>
     ensures { IfOk result
         (λ context. context ≡ new_context Kind.Initial 0 (0 ∷ [])
@@ -72,7 +72,7 @@ fn first_context(alloc: Global, frame: Frame) -> Result<Context, AllocError>
     new_context(alloc, Kind::Initial, 0, standing, frame)
 }
 
-/// The control of the worker that runs the initial task.
+// The control of the worker that runs the initial task.
 fn first_control(alloc: Global, program: &Program) -> Result<Control, AllocError>
     ensures { IfOk result (λ control. control ≡ first_control program.now 0) }
 {
@@ -87,7 +87,7 @@ fn first_control(alloc: Global, program: &Program) -> Result<Control, AllocError
     }
 }
 
-/// What is recorded of the worker that runs the initial task.
+// What is recorded of the worker that runs the initial task.
 fn initial_records(alloc: Global) -> Result<Val, AllocError>
     ensures { IfOk result (λ v. v ≡ value.Events (first_records 1 0)) }
 {
@@ -104,7 +104,7 @@ fn initial_records(alloc: Global) -> Result<Val, AllocError>
     Ok(Val::Events(records))
 }
 
-/// What is recorded of any other worker.
+// What is recorded of any other worker.
 fn worker_records(alloc: Global) -> Result<Val, AllocError>
     ensures { IfOk result (λ v. v ≡ value.Events (event_record.ThreadBegin thread.Worker ∷ [])) }
 {
@@ -113,7 +113,7 @@ fn worker_records(alloc: Global) -> Result<Val, AllocError>
     Ok(Val::Events(records))
 }
 
-/// What the first cell of a global variable holds at first.
+// What the first cell of a global variable holds at first.
 fn initial_value(global: &GlobalVariable) -> Val
     ensures { result ≡ value.Cell (cells.Int (initial_in (Some global.now))) }
 {
@@ -123,7 +123,7 @@ fn initial_value(global: &GlobalVariable) -> Val
     }
 }
 
-/// Puts the control of the worker that runs the initial task. Its only error is out of memory.
+// Puts the control of the worker that runs the initial task. Its only error is out of memory.
 fn begin_initial(alloc: Global, store: &mut Store, program: &Program) -> Result<(), AllocError>
     ensures { OnOk result (state_of store.new
         ≡ with_value (obj.Control 0) (value.Control (first_control program.now 0))
@@ -135,7 +135,7 @@ fn begin_initial(alloc: Global, store: &mut Store, program: &Program) -> Result<
     begun
 }
 
-/// The store in which a program starts with one worker. Its only error is out of memory.
+// The store in which a program starts with one worker. Its only error is out of memory.
 fn with_globals(alloc: Global, program: &Program) -> Result<Store, AllocError>
     ensures { IfOk result (λ store. state_of store ≡ start_of program.now 1) }
 {

@@ -16,7 +16,7 @@ use om_steps::{Answer, Row};
 use om_team::table::{Doing, is_of_tasks, launch, slots};
 use std::alloc::{AllocError, Global};
 
-/// Tasks and task groups.
+// Tasks and task groups.
 fn task_answer(
     alloc: Global,
     store: &Store,

@@ -39,14 +39,14 @@ pub struct Making {
     pub launch: Launch,
 }
 
-/// The task group of the tasks that a context's task makes, if there is one.
+// The task group of the tasks that a context's task makes, if there is one.
 fn task_group(context: &Context) -> Option<Name>
     ensures { result ≡ group_of (plain_context context.now) }
 {
     group_of(context)
 }
 
-/// What the making of a task names.
+// What the making of a task names.
 fn made_names(
     alloc: Global,
     worker: u8,
@@ -65,7 +65,7 @@ fn made_names(
     Ok(names)
 }
 
-/// What a task that is made waits with.
+// What a task that is made waits with.
 fn ready_of(
     alloc: Global,
     making: &Making,
@@ -89,7 +89,7 @@ fn ready_of(
     })
 }
 
-/// Appends that the values of a task go to its cells, that its counts have one more, and its event.
+// Appends that the values of a task go to its cells, that its counts have one more, and its event.
 fn give_values(
     alloc: Global,
     updates: &mut Puts,
@@ -109,7 +109,7 @@ fn give_values(
     put_event(alloc, updates, entry)
 }
 
-/// A task that is ready, as what is put.
+// A task that is ready, as what is put.
 fn put_ready(
     alloc: Global,
     making: &Making,
@@ -125,7 +125,7 @@ fn put_ready(
     one_put(alloc, Update::Put(Val::Task(Task::Ready(ready))))
 }
 
-/// The answer where a task is made with these values.
+// The answer where a task is made with these values.
 fn made(
     alloc: Global,
     making: &Making,
@@ -176,7 +176,7 @@ pub fn spawn(
     }
 }
 
-/// What the end of a task of this parent names, its frame's own cells among them.
+// What the end of a task of this parent names, its frame's own cells among them.
 fn ended_names(
     alloc: Global,
     worker: u8,
@@ -194,7 +194,7 @@ fn ended_names(
     Ok(names)
 }
 
-/// What the end of a task puts and adds.
+// What the end of a task puts and adds.
 fn ended_updates(
     alloc: Global,
     context: &Context,
@@ -216,14 +216,14 @@ fn ended_updates(
     Ok(updates)
 }
 
-/// The name above that of a context's task: its parent's, since each explicit task of a run has one.
+// The name above that of a context's task: its parent's, since each explicit task of a run has one.
 fn above(context: &Context) -> Name
     ensures { result ≡ above context.now.task }
 {
     context.task.get().above()
 }
 
-/// The context next to the top, the first of those below; `None` exactly where there is none.
+// The context next to the top, the first of those below; `None` exactly where there is none.
 fn next_below(below: &Tape<Box<Context>>) -> Option<&Context>
     ensures { option_map (λ c. plain_context c.now) result
         ≡ slice_get (map plain_held below.now.items) 0 }
@@ -232,7 +232,7 @@ fn next_below(below: &Tape<Box<Context>>) -> Option<&Context>
     Some(context)
 }
 
-/// The row of the end of a task, above a context that goes on.
+// The row of the end of a task, above a context that goes on.
 fn ended(alloc: Global, context: &Context, own: &Names, next: &Context) -> Result<Row, AllocError>
     ensures { IfOk result
         (λ row. row ≡ Row.Goes (Edit.EndContext ∷ [])

@@ -31,7 +31,7 @@ pub struct Starting {
     pub admits: bool,
 }
 
-/// Where the task of a name stands that is started on another context.
+// Where the task of a name stands that is started on another context.
 fn task_standing(
     alloc: Global,
     name: &Shared<Name>,
@@ -52,7 +52,7 @@ fn task_standing(
     })
 }
 
-/// The context of a task that is started on another context.
+// The context of a task that is started on another context.
 fn task_context(
     alloc: Global,
     name: &Shared<Name>,
@@ -68,7 +68,7 @@ fn task_context(
     new_context(alloc, Kind::Explicit, ready.phase, standing, frame)
 }
 
-/// What the start of a task puts and records.
+// What the start of a task puts and records.
 fn begun_updates(
     alloc: Global,
     worker: u8,
@@ -86,7 +86,7 @@ fn begun_updates(
     update_with_event(alloc, Update::Put(Val::Task(Task::Running(worker))), entry)
 }
 
-/// The edit by which a task begins on a context.
+// The edit by which a task begins on a context.
 fn beginning(
     alloc: Global,
     name: &Shared<Name>,
@@ -101,7 +101,7 @@ fn beginning(
     Seq::one(alloc, Edit::BeginContext(context))
 }
 
-/// What a task waits with, where it is ready and of this team.
+// What a task waits with, where it is ready and of this team.
 fn ready_for<'a>(store: &'a Store, name: &Name, team: &Name) -> Option<&'a Ready>
     ensures { option_map (λ ready. ready.now) result
         ≡ ready_for team.now (task_in (state_of store.now (obj.Task name.now))) }

@@ -23,7 +23,7 @@ use om_steps::{Answer, Row};
 use om_values::{Blocked, Construct, Edit, Update};
 use std::alloc::{AllocError, Global};
 
-/// What a context's task records where it begins and ends to wait.
+// What a context's task records where it begins and ends to wait.
 fn sync_event(sync: Sync, endpoint: Endpoint, context: &Context) -> Result<Record, AllocError>
     ensures { IfOk result (λ entry. entry ≡ sync_event sync endpoint (plain_context context.now)) }
 {
@@ -53,7 +53,7 @@ pub fn wait_begin(
     recorded(alloc, worker, edits, entry)
 }
 
-/// What comes of a task that waits for its children.
+// What comes of a task that waits for its children.
 fn waited(alloc: Global, to: u32, context: &Context, is_over: bool) -> Result<Row, AllocError>
     ensures { IfOk result (λ row. row ≡ waited to (plain_context context.now) is_over) }
 {
@@ -85,7 +85,7 @@ pub fn wait_end(
     Ok(Answer { names, row })
 }
 
-/// The edits by which a task group opens.
+// The edits by which a task group opens.
 fn opening(alloc: Global, to: u32, group: &Name) -> Result<Seq<Edit>, AllocError>
     ensures { IfOk result
         (λ edits. edits ≡ Edit.Go to 0 None ∷ Edit.CountBirth
@@ -117,7 +117,7 @@ pub fn group_begin(
     recorded(alloc, worker, edits, entry)
 }
 
-/// What comes of a task that waits for the tasks of a group.
+// What comes of a task that waits for the tasks of a group.
 fn closed(alloc: Global, to: u32, context: &Context, is_over: bool) -> Result<Row, AllocError>
     ensures { IfOk result (λ row. row ≡ closed to (plain_context context.now) is_over) }
 {
@@ -130,7 +130,7 @@ fn closed(alloc: Global, to: u32, context: &Context, is_over: bool) -> Result<Ro
     Ok(Row::Goes { edits, updates })
 }
 
-/// The name of the task group that is the innermost open region of a context, if that is one.
+// The name of the task group that is the innermost open region of a context, if that is one.
 fn innermost_group(context: &Context) -> Option<Name>
     ensures { result ≡ innermost_group (innermost (plain_context context.now).constructs) }
 {

@@ -24,7 +24,7 @@ struct Planning<'a> {
     label: &'a Label,
     // 1 to 32.
     workers: u8,
-    /// There is at least one.
+    // There is at least one.
     ghost some: { 1 ≤ workers },
 }
 
@@ -45,7 +45,7 @@ pub fn footprint(worker: u8, names: Seq<Access>) -> Result<Seq<Access>, AllocErr
     Ok(footprint)
 }
 
-/// The answer of the instruction at which a stack stands.
+// The answer of the instruction at which a stack stands.
 fn next_answer(
     alloc: Global,
     program: &Program,
@@ -75,7 +75,7 @@ fn next_answer(
     Ok(Some(answer(alloc, store, program, stack, doing)?))
 }
 
-/// The answer of a choice on a stack.
+// The answer of a choice on a stack.
 fn choice_answer(
     alloc: Global,
     program: &Program,
@@ -96,7 +96,7 @@ fn choice_answer(
     }
 }
 
-/// The answer of a worker that has this control.
+// The answer of a worker that has this control.
 fn control_answer(
     alloc: Global,
     program: &Program,
@@ -146,7 +146,7 @@ pub fn names(
     Ok(Some(footprint(label.worker, names.into_seq()?)?))
 }
 
-/// What comes of the choice of a worker that has this control.
+// What comes of the choice of a worker that has this control.
 fn control_row(
     alloc: Global,
     program: &Program,

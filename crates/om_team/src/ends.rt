@@ -18,7 +18,7 @@ use om_steps::{Answer, Row};
 use om_values::{Blocked, Edit, Kind, Update};
 use std::alloc::{AllocError, Global};
 
-/// What comes of an initial task that is at its end, with this value.
+// What comes of an initial task that is at its end, with this value.
 fn finished(alloc: Global, context: &Context, value: i32, is_over: bool) -> Result<Row, AllocError>
     ensures { IfOk result (λ row. row ≡ finished (plain_context context.now) value is_over) }
 {
@@ -38,7 +38,7 @@ fn finished(alloc: Global, context: &Context, value: i32, is_over: bool) -> Resu
     Ok(Row::Goes { edits, updates })
 }
 
-/// The value with which the program ends: the operand on top where it has one, else 0.
+// The value with which the program ends: the operand on top where it has one, else 0.
 fn value_of(context: &Context, has_value: bool) -> Option<i32>
     ensures { result ≡ value_of (plain_context context.now) has_value }
 {

@@ -15,7 +15,7 @@ use om_values::{
 };
 use std::alloc::{AllocError, Global};
 
-/// The name of the task of a team's member.
+// The name of the task of a team's member.
 #[tactic(auto, using(crate::proofs::Counting::has_child))]
 fn member_name(team: &Name, number: u8) -> Name
     requires { length team.now ≤ 63 }
@@ -79,7 +79,7 @@ pub(crate) fn member(alloc: Global, team: &Team, frame: &Frame) -> Result<Contex
     new_context(alloc, Kind::Implicit, 0, standing, frame)
 }
 
-/// Appends the control that another worker becomes: a member of a team.
+// Appends the control that another worker becomes: a member of a team.
 fn put_member(
     alloc: Global,
     updates: &mut Puts,

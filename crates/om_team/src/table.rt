@@ -94,7 +94,7 @@ pub fn slots<'a>(program: &'a Program, stack: &Stack) -> &'a [Slot]
     }
 }
 
-/// Calls, returns, reductions and the numbers of threads.
+// Calls, returns, reductions and the numbers of threads.
 fn frame_answer(
     alloc: Global,
     store: &Store,
@@ -144,7 +144,7 @@ fn frame_answer(
     }
 }
 
-/// The instructions of the frame machine that go on in their frame.
+// The instructions of the frame machine that go on in their frame.
 fn serial_answer(
     alloc: Global,
     store: &Store,
@@ -162,7 +162,7 @@ fn serial_answer(
     om_steps::serial(alloc, raw, store, &stack.top, doing.instruction)
 }
 
-/// Parallel regions and barriers, and the end of the program.
+// Parallel regions and barriers, and the end of the program.
 fn team_answer(
     alloc: Global,
     store: &Store,
@@ -208,7 +208,7 @@ fn team_answer(
     }
 }
 
-/// The targets of a PICK.
+// The targets of a PICK.
 fn targets(program: &Program, list: u32) -> &[u32]
     ensures { result.now ≡ targets_of program.now list }
 {
@@ -218,7 +218,7 @@ fn targets(program: &Program, list: u32) -> &[u32]
     }
 }
 
-/// The name of a lock.
+// The name of a lock.
 fn lock_name(program: &Program, lock: u32) -> &[u8]
     ensures { result.now ≡ lock_of program.now lock }
 {
@@ -228,7 +228,7 @@ fn lock_name(program: &Program, lock: u32) -> &[u8]
     }
 }
 
-/// Worksharing regions.
+// Worksharing regions.
 fn share_answer(
     alloc: Global,
     store: &Store,
@@ -270,7 +270,7 @@ fn share_answer(
     }
 }
 
-/// Masked and critical regions.
+// Masked and critical regions.
 fn region_answer(
     alloc: Global,
     store: &Store,

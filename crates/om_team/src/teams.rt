@@ -44,7 +44,7 @@ pub struct Forking<'a> {
     pub ghost some: { 1 ≤ workers },
 }
 
-/// The size of a team of which so many threads are asked for, where there are so many workers.
+// The size of a team of which so many threads are asked for, where there are so many workers.
 fn size_of(workers: u8, level: u8, asked: Option<u32>) -> u8
     requires workers { 1 ≤ workers }
     requires asked { IfSome asked (λ threads. 1 ≤ threads) }
@@ -60,14 +60,14 @@ fn size_of(workers: u8, level: u8, asked: Option<u32>) -> u8
     }
 }
 
-/// How many active regions the members of a team of this size stand in.
+// How many active regions the members of a team of this size stand in.
 fn level_of(size: u8, level: u8) -> u8
     ensures { result ≡ level_of size level }
 {
     if size > 1 { 1 } else { level }
 }
 
-/// The team that the context's task makes, with the place of its first member.
+// The team that the context's task makes, with the place of its first member.
 #[tactic(auto, using(crate::proofs::Counting::has_child))]
 fn team_of(
     alloc: Global,
@@ -95,7 +95,7 @@ fn team_of(
     }
 }
 
-/// What a FORK names that makes this team.
+// What a FORK names that makes this team.
 #[tactic(auto, using(crate::proofs::Counting::regrouped))]
 fn team_names(alloc: Global, worker: u8, team: &Team, given: &[u32]) -> Result<Names, AllocError>
     requires { length team.now.name ≤ 63 }
@@ -110,7 +110,7 @@ fn team_names(alloc: Global, worker: u8, team: &Team, given: &[u32]) -> Result<N
     Ok(names)
 }
 
-/// What is put where a team is made.
+// What is put where a team is made.
 #[tactic(auto, using(crate::proofs::Counting::regrouped_updates))]
 fn team_updates(
     alloc: Global,
@@ -135,7 +135,7 @@ fn team_updates(
     Ok(updates)
 }
 
-/// What the maker's control becomes: it waits behind the FORK, and its part as the first member begins.
+// What the maker's control becomes: it waits behind the FORK, and its part as the first member begins.
 fn fork_edits(
     alloc: Global,
     launch: Launch,
@@ -153,7 +153,7 @@ fn fork_edits(
     go_and_then(alloc, launch.to, launch.takes, Edit::CountBirth, begin)
 }
 
-/// The row of a FORK that makes a team, whose members begin with this frame.
+// The row of a FORK that makes a team, whose members begin with this frame.
 fn made(
     alloc: Global,
     forking: &Forking<'_>,
@@ -172,7 +172,7 @@ fn made(
     Ok(Row::Goes { edits, updates })
 }
 
-/// The row of a FORK, where this worker, if one, is busy.
+// The row of a FORK, where this worker, if one, is busy.
 fn forked(
     alloc: Global,
     forking: &Forking<'_>,
@@ -197,7 +197,7 @@ fn forked(
     made(alloc, forking, team, frame, values)
 }
 
-/// The answer of a FORK that makes this team.
+// The answer of a FORK that makes this team.
 #[tactic(auto, using(crate::proofs::Counting::busy_read))]
 fn team_answer(
     alloc: Global,
@@ -220,7 +220,7 @@ fn team_answer(
     Ok(Answer { names, row })
 }
 
-/// The answer of a FORK with a size that can be asked for.
+// The answer of a FORK with a size that can be asked for.
 fn named(
     alloc: Global,
     store: &Store,
@@ -242,7 +242,7 @@ fn named(
     team_answer(alloc, store, forking, team, values)
 }
 
-/// The answer of a FORK with the number of threads that is asked for, where that is an int.
+// The answer of a FORK with the number of threads that is asked for, where that is an int.
 fn sized_answer(
     alloc: Global,
     store: &Store,

@@ -9,7 +9,7 @@ use om_seq::Seq;
 use std::alloc::{AllocError, Global};
 use std::marker::Model;
 
-/// Single accesses, then cells that are named at once, then single accesses again.
+// Single accesses, then cells that are named at once, then single accesses again.
 #[derive(Drop)]
 struct InParts {
     first: Seq<SharedAccess>,
@@ -17,7 +17,7 @@ struct InParts {
     last: Seq<SharedAccess>,
 }
 
-/// Any number of accesses, or some with cells that are named at once.
+// Any number of accesses, or some with cells that are named at once.
 #[derive(Drop)]
 enum Forms {
     Many(Seq<SharedAccess>),

@@ -9,7 +9,7 @@ use crate::accesses::Accesses;
 use om_foot::cells::spot_of;
 use om_foot::{Access, Cells, Mode, Obj, SharedAccess, SharedCells, is_in_conflict};
 
-/// Whether an access conflicts with one of these.
+// Whether an access conflicts with one of these.
 fn meets_one_of(access: &Access, others: &[SharedAccess]) -> bool
     ensures { result ≡ conflicts_with_any access.now others.now }
 {
@@ -21,8 +21,8 @@ fn meets_one_of(access: &Access, others: &[SharedAccess]) -> bool
     false
 }
 
-/// Whether an access conflicts with one of the first cells of a slot, written. That could be the cell of
-/// its own index alone, so no other one is looked at.
+// Whether an access conflicts with one of the first cells of a slot, written. That could be the cell of
+// its own index alone, so no other one is looked at.
 fn meets_slot(access: &Access, cells: &Cells) -> bool
     ensures { result ≡ conflicts_with_any access.now (cells_of cells.now) }
 {
@@ -36,7 +36,7 @@ fn meets_slot(access: &Access, cells: &Cells) -> bool
     index < cells.count && is_in_conflict(access, &cell)
 }
 
-/// Whether an access conflicts with one of these cells.
+// Whether an access conflicts with one of these cells.
 fn meets_cells(access: &Access, others: &[SharedCells]) -> bool
     ensures { result ≡ conflicts_with_any access.now (cells_listed others.now) }
 {
@@ -48,7 +48,7 @@ fn meets_cells(access: &Access, others: &[SharedCells]) -> bool
     false
 }
 
-/// Whether an access conflicts with one of a footprint.
+// Whether an access conflicts with one of a footprint.
 #[tactic(auto, using(crate::proofs::ConflictLemmas::met_append))]
 fn meets_any(access: &Access, others: &Accesses) -> bool
     ensures { result ≡ conflicts_with_any access.now (accesses_of others.now) }
@@ -59,7 +59,7 @@ fn meets_any(access: &Access, others: &Accesses) -> bool
             || (meets_cells(access, cells) || meets_one_of(access, last)))
 }
 
-/// The first object of `first` at which it conflicts with a footprint.
+// The first object of `first` at which it conflicts with a footprint.
 fn conflict_at(first: &[SharedAccess], others: &Accesses) -> Option<Obj>
     ensures { result ≡ conflict_of first.now (accesses_of others.now) }
 {
@@ -72,7 +72,7 @@ fn conflict_at(first: &[SharedAccess], others: &Accesses) -> Option<Obj>
     None
 }
 
-/// The first of the first cells of a slot at which a footprint conflicts with a write of them.
+// The first of the first cells of a slot at which a footprint conflicts with a write of them.
 #[tactic(auto, using(crate::proofs::ConflictLemmas::cells_next))]
 fn conflict_in_slot(cells: &Cells, others: &Accesses) -> Option<Obj>
     ensures { result ≡ conflict_of (cells_of cells.now) (accesses_of others.now) }
@@ -89,7 +89,7 @@ fn conflict_in_slot(cells: &Cells, others: &Accesses) -> Option<Obj>
     None
 }
 
-/// The first of these cells at which a footprint conflicts with a write of them.
+// The first of these cells at which a footprint conflicts with a write of them.
 fn conflict_in_cells(all: &[SharedCells], others: &Accesses) -> Option<Obj>
     ensures { result ≡ conflict_of (cells_listed all.now) (accesses_of others.now) }
 {

@@ -15,12 +15,12 @@ use std::alloc::{AllocError, Global};
 /// Contracts see which entry touches a worker's control, and how (`has_control_touch`).
 #[derive(Drop)]
 pub struct ControlTouches {
-    /// Those of the first workers; the others have none. Each step touches a control, so these are found
-    /// by an index.
+    // Those of the first workers; the others have none. Each step touches a control, so these are found
+    // by an index.
     workers: Vec<Touches>,
 }
 
-/// The touches of a worker's control, if it is one of the first workers.
+// The touches of a worker's control, if it is one of the first workers.
 fn touches_of(workers: &[Touches], worker: u8) -> Option<&Touches>
     ensures { option_copied result ≡ slice_get workers.now worker }
 {
@@ -37,7 +37,7 @@ impl ControlTouches {
         }
     }
 
-    /// Has a place for each worker up to this one. No touch changes, also when out of memory.
+    // Has a place for each worker up to this one. No touch changes, also when out of memory.
     fn know(&mut self, worker: u8) -> Result<(), AllocError>
         ensures same { SameControls self.old self.new }
         ensures known { OnOk result (worker < length self.new.workers.items) }
@@ -48,7 +48,7 @@ impl ControlTouches {
         Ok(())
     }
 
-    /// Adds a touch of a known worker's control. When out of memory, no touch changes.
+    // Adds a touch of a known worker's control. When out of memory, no touch changes.
     fn add_known(
         &mut self,
         alloc: Global,
@@ -63,8 +63,8 @@ impl ControlTouches {
         self.workers[worker as usize].add(alloc, mode, serial)
     }
 
-    /// Makes a worker known, and adds the first touch of its control. When out of memory, no touch
-    /// changes.
+    // Makes a worker known, and adds the first touch of its control. When out of memory, no touch
+    // changes.
     fn add_first(
         &mut self,
         alloc: Global,
@@ -97,7 +97,7 @@ impl ControlTouches {
         }
     }
 
-    /// Takes a touch of a known worker's control out, if it is there. It takes no memory.
+    // Takes a touch of a known worker's control out, if it is there. It takes no memory.
     fn remove_known(&mut self, worker: u8, mode: Mode, serial: u64)
         requires { worker < length self.old.workers.items }
         ensures { ControlsWithout worker mode serial self.old self.new }

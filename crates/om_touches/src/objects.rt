@@ -24,7 +24,7 @@ pub struct ObjectTouches {
     objects: BTreeMap<SharedObject, Touches>,
 }
 
-/// Whether an object is one of these cells.
+// Whether an object is one of these cells.
 fn is_cell_in(cells: &Cells, object: &Obj) -> bool
     ensures { result ≡ is_cell_in cells.now object.now }
 {
@@ -43,8 +43,8 @@ fn is_cell_in(cells: &Cells, object: &Obj) -> bool
         && *task == cells.slot.task
 }
 
-/// The first touch after a serial that conflicts with a write of an object, if it is one of these
-/// cells.
+// The first touch after a serial that conflicts with a write of an object, if it is one of these
+// cells.
 fn first_if_in(cells: &Cells, object: &Obj, touches: &Touches, serial: u64) -> Option<u64>
     ensures { IsFirst (λ s. is_cell_in cells.now object.now
         && meets_at (λ m s. has (list_of touches.now m) s) mode.Write s) serial result }
@@ -66,7 +66,7 @@ impl ObjectTouches {
         }
     }
 
-    /// Makes an object known. No touch changes, also when out of memory.
+    // Makes an object known. No touch changes, also when out of memory.
     fn know(&mut self, object: &SharedObject) -> Result<(), AllocError>
         ensures same { SameObjects self.old self.new }
         ensures known { OnOk result (knows self.new object.now ≡ true) }
@@ -79,7 +79,7 @@ impl ObjectTouches {
         Ok(())
     }
 
-    /// Adds a touch of an object that is known. When out of memory, no touch changes.
+    // Adds a touch of an object that is known. When out of memory, no touch changes.
     fn add_known(
         &mut self,
         alloc: Global,
@@ -96,7 +96,7 @@ impl ObjectTouches {
         }
     }
 
-    /// Makes an object known, and adds its first touch. When out of memory, no touch changes.
+    // Makes an object known, and adds its first touch. When out of memory, no touch changes.
     fn add_first(
         &mut self,
         alloc: Global,
@@ -162,7 +162,7 @@ impl ObjectTouches {
         first
     }
 
-    /// Whether an entry may touch one of these cells.
+    // Whether an entry may touch one of these cells.
     fn may_touch(&self, cells: &SharedCells, serial: u64) -> bool
         ensures { result ≡ false
             → meets (has_object_touch self.now) (cells_of cells.now) serial ≡ false }
@@ -176,7 +176,7 @@ impl ObjectTouches {
         }
     }
 
-    /// Takes all touches of an entry out. It takes no memory.
+    // Takes all touches of an entry out. It takes no memory.
     fn forget(&mut self, serial: u64)
         ensures { (o : Obj) (m : Mode) (s : ℕ) → has_object_touch self.new o m s
             ≡ cond (nat_eq serial s) false (has_object_touch self.old o m s) }

@@ -13,11 +13,11 @@ use std::alloc::{AllocError, Global};
 ///
 /// Contracts see which entry is a worker's own (`is_own`).
 pub struct OwnEntries {
-    /// Those of the first workers; the others have none.
+    // Those of the first workers; the others have none.
     workers: Vec<Serials>,
 }
 
-/// The serials of a worker's entries, if it is one of the first workers.
+// The serials of a worker's entries, if it is one of the first workers.
 fn serials_of(workers: &[Serials], worker: u8) -> Option<&Serials>
     ensures { option_copied result ≡ slice_get workers.now worker }
 {
@@ -42,7 +42,7 @@ impl OwnEntries {
         }
     }
 
-    /// Has a place for each worker up to this one. No entry is added, also when out of memory.
+    // Has a place for each worker up to this one. No entry is added, also when out of memory.
     fn know(&mut self, worker: u8) -> Result<(), AllocError>
         ensures same { SameOwn self.old self.new }
         ensures known { OnOk result (worker < length self.new.workers.items) }
@@ -53,7 +53,7 @@ impl OwnEntries {
         Ok(())
     }
 
-    /// Adds an entry of a worker that is known. When out of memory, nothing changes.
+    // Adds an entry of a worker that is known. When out of memory, nothing changes.
     fn add_known(&mut self, alloc: Global, worker: u8, serial: u64) -> Result<(), AllocError>
         requires { worker < length self.old.workers.items }
         ensures added { OnOk result (WithOwn worker serial self.old self.new) }
@@ -62,7 +62,7 @@ impl OwnEntries {
         self.workers[worker as usize].put(alloc, serial)
     }
 
-    /// Makes a worker known, and adds its first entry. When out of memory, nothing changes.
+    // Makes a worker known, and adds its first entry. When out of memory, nothing changes.
     fn add_first(&mut self, alloc: Global, worker: u8, serial: u64) -> Result<(), AllocError>
         ensures added { OnOk result (WithOwn worker serial self.old self.new) }
         ensures unchanged_on_error { OnErr result (SameOwn self.old self.new) }
@@ -83,7 +83,7 @@ impl OwnEntries {
         }
     }
 
-    /// Takes an entry of a known worker out, if it is there. It takes no memory.
+    // Takes an entry of a known worker out, if it is there. It takes no memory.
     fn remove_known(&mut self, worker: u8, serial: u64)
         requires { worker < length self.old.workers.items }
         ensures { WithoutOwn worker serial self.old self.new }

@@ -15,7 +15,7 @@ use crate::objects::ObjectTouches;
 use om_foot::{Mode, Obj, SharedAccess, SharedCells};
 use std::alloc::{AllocError, Global};
 
-/// The worker whose control an object is.
+// The worker whose control an object is.
 fn control_of(object: &Obj) -> Option<u8>
     ensures { result ≡ control_of object.now }
 {
@@ -30,7 +30,7 @@ fn control_of(object: &Obj) -> Option<u8>
 /// Contracts see which entry touches an object so, and how (`has_single_touch`).
 #[derive(Drop)]
 pub struct SingleTouches {
-    /// Each step touches its worker's control, so these lie apart, where they are found at once.
+    // Each step touches its worker's control, so these lie apart, where they are found at once.
     controls: ControlTouches,
     objects: ObjectTouches,
 }
@@ -46,7 +46,7 @@ impl SingleTouches {
         }
     }
 
-    /// Adds a touch. When out of memory, no touch changes.
+    // Adds a touch. When out of memory, no touch changes.
     fn add(&mut self, alloc: Global, access: &SharedAccess, serial: u64) -> Result<(), AllocError>
         ensures added { OnOk result
             (IsSet true (access.now ∷ []) serial (has_single_touch self.old) (has_single_touch self.new)) }

@@ -33,7 +33,7 @@ impl SlotTouches {
         }
     }
 
-    /// Adds the first writes of a slot. When out of memory, no touch changes.
+    // Adds the first writes of a slot. When out of memory, no touch changes.
     fn add_first(
         &mut self,
         alloc: Global,
@@ -51,7 +51,7 @@ impl SlotTouches {
         Ok(())
     }
 
-    /// Adds the writes of so many cells of a slot. When out of memory, no touch changes.
+    // Adds the writes of so many cells of a slot. When out of memory, no touch changes.
     fn add_of(
         &mut self,
         alloc: Global,
@@ -106,7 +106,7 @@ impl SlotTouches {
         Ok(())
     }
 
-    /// Takes the writes of a slot by an entry out, if there are any. It takes no memory.
+    // Takes the writes of a slot by an entry out, if there are any. It takes no memory.
     fn remove_of(&mut self, slot: &SlotName, serial: u64)
         ensures { SlotsWithout slot.now serial self.old self.new }
     {
@@ -139,7 +139,7 @@ impl SlotTouches {
         }
     }
 
-    /// The first write after a serial of the cell of an index.
+    // The first write after a serial of the cell of an index.
     fn first_of(&self, slot: &SlotName, index: u32, serial: u64) -> Option<u64>
         ensures { IsFirst (has_span (spans_of self.now slot.now) index) serial result }
     {

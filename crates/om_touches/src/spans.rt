@@ -24,7 +24,7 @@ pub struct Spans {
     spans: Vec<SpanTouches>,
 }
 
-/// The first entry after a serial that wrote the cell of an index.
+// The first entry after a serial that wrote the cell of an index.
 fn first_of(span: &SpanTouches, index: u32, serial: u64) -> Option<u64>
     ensures { IsFirst (λ s. nat_lt index span.now.count && has span.now.serials s) serial result }
 {

@@ -19,9 +19,9 @@ use std::alloc::{AllocError, Global};
 ///
 /// Contracts see which entry touches an object, and how (`has_touch`).
 pub struct TouchLists {
-    /// The touches by accesses of single objects.
+    // The touches by accesses of single objects.
     singles: SingleTouches,
-    /// The touches of cells that were named at once.
+    // The touches of cells that were named at once.
     slots: SlotTouches,
 }
 
@@ -83,8 +83,8 @@ impl TouchLists {
         }
     }
 
-    /// Takes the touches of a single object by an entry out, and perhaps others of the same entry, which
-    /// `remove_all` takes out too.
+    // Takes the touches of a single object by an entry out, and perhaps others of the same entry, which
+    // `remove_all` takes out too.
     fn remove(&mut self, access: &SharedAccess, serial: u64)
         ensures { LosesOfEntry (access.now ∷ []) serial (has_touch self.old) (has_touch self.new) }
     {
@@ -92,8 +92,8 @@ impl TouchLists {
         self.slots.remove_at(access.object().get(), serial);
     }
 
-    /// Takes the touches of single objects by an entry out, and perhaps others of the same entry, which
-    /// `remove_all` takes out too.
+    // Takes the touches of single objects by an entry out, and perhaps others of the same entry, which
+    // `remove_all` takes out too.
     fn remove_each(&mut self, accesses: &[SharedAccess], serial: u64)
         ensures { LosesOfEntry accesses.now serial (has_touch self.old) (has_touch self.new) }
     {
@@ -102,8 +102,8 @@ impl TouchLists {
         }
     }
 
-    /// Takes the touches of cells by an entry out, and perhaps others of the same entry, which
-    /// `remove_all` takes out too.
+    // Takes the touches of cells by an entry out, and perhaps others of the same entry, which
+    // `remove_all` takes out too.
     fn remove_in(&mut self, cells: &SharedCells, serial: u64)
         ensures { LosesOfEntry (cells_of cells.now) serial (has_touch self.old) (has_touch self.new) }
     {
@@ -111,8 +111,8 @@ impl TouchLists {
         self.slots.remove(cells, serial);
     }
 
-    /// Takes the touches of all of these cells by an entry out, and perhaps others of the same entry,
-    /// which `remove_all` takes out too.
+    // Takes the touches of all of these cells by an entry out, and perhaps others of the same entry,
+    // which `remove_all` takes out too.
     fn remove_each_in(&mut self, all: &[SharedCells], serial: u64)
         ensures { LosesOfEntry (cells_listed all.now) serial (has_touch self.old) (has_touch self.new) }
     {
@@ -135,7 +135,7 @@ impl TouchLists {
         self.remove_each(last, serial);
     }
 
-    /// The first touch after a serial that conflicts with an access.
+    // The first touch after a serial that conflicts with an access.
     fn first_at(&self, access: &SharedAccess, serial: u64) -> Option<u64>
         ensures { IsFirst (meets_at (has_touch self.now access.now.object) access.now.mode) serial
             result }
@@ -146,7 +146,7 @@ impl TouchLists {
         )
     }
 
-    /// The first touch after a serial that conflicts with one of these accesses.
+    // The first touch after a serial that conflicts with one of these accesses.
     fn first_of(&self, accesses: &[SharedAccess], serial: u64) -> Option<u64>
         ensures { IsFirst (meets (has_touch self.now) accesses.now) serial result }
     {
@@ -157,7 +157,7 @@ impl TouchLists {
         first
     }
 
-    /// The first touch after a serial that conflicts with a write of one of these cells.
+    // The first touch after a serial that conflicts with a write of one of these cells.
     fn first_in(&self, cells: &SharedCells, serial: u64) -> Option<u64>
         ensures { IsFirst (meets (has_touch self.now) (cells_of cells.now)) serial result }
     {
@@ -167,7 +167,7 @@ impl TouchLists {
         )
     }
 
-    /// The first touch after a serial that conflicts with a write of a cell of all of these.
+    // The first touch after a serial that conflicts with a write of a cell of all of these.
     fn first_in_any(&self, all: &[SharedCells], serial: u64) -> Option<u64>
         ensures { IsFirst (meets (has_touch self.now) (cells_listed all.now)) serial result }
     {

@@ -33,8 +33,8 @@ pub fn trace(alloc: Global, machine: &Machine) -> Result<Vec<Traced>, AllocError
     retraced(alloc, machine.program(), machine.workers(), &entries)
 }
 
-/// The steps of entries that can be made in turn from the start of a program with so many workers. The
-/// only error is out of memory.
+// The steps of entries that can be made in turn from the start of a program with so many workers. The
+// only error is out of memory.
 fn retraced(
     alloc: Global,
     program: &Program,
@@ -60,7 +60,7 @@ fn retraced(
     Ok(steps)
 }
 
-/// Makes the step of an entry again. The only error is out of memory.
+// Makes the step of an entry again. The only error is out of memory.
 fn traced(
     alloc: Global,
     program: &Program,
@@ -101,7 +101,7 @@ fn traced(
     }
 }
 
-/// Which step an entry is of.
+// Which step an entry is of.
 fn label_of(entry: &Entry) -> Label
     ensures { result ≡ label_of entry.now }
 {
@@ -111,7 +111,7 @@ fn label_of(entry: &Entry) -> Label
     }
 }
 
-/// The plan of a label's step where a history stands. The only error is out of memory.
+// The plan of a label's step where a history stands. The only error is out of memory.
 fn planned(
     alloc: Global,
     program: &Program,
@@ -128,7 +128,7 @@ fn planned(
     plan(alloc, program, history.store(), workers, label)
 }
 
-/// The accesses of a footprint, that of its worker's control first. The only error is out of memory.
+// The accesses of a footprint, that of its worker's control first. The only error is out of memory.
 fn listed(alloc: Global, footprint: &Footprint) -> Result<Seq<Access>, AllocError>
     ensures { IfOk result (λ accesses. accesses ≡ footprint.now) }
 {
@@ -143,8 +143,8 @@ fn listed(alloc: Global, footprint: &Footprint) -> Result<Seq<Access>, AllocErro
     accesses.into_seq()
 }
 
-/// Takes the step of a plan, and answers what it touches. When out of memory, the history may be longer
-/// or not.
+// Takes the step of a plan, and answers what it touches. When out of memory, the history may be longer
+// or not.
 fn remade(
     alloc: Global,
     history: &mut History,

@@ -36,7 +36,7 @@ pub(crate) fn place_of(instruction: Instr) -> Option<Place> {
     }
 }
 
-/// The local variable of this name where a frame is, if it is in this slot.
+// The local variable of this name where a frame is, if it is in this slot.
 fn local_named<'a>(
     program: &Program,
     frame: &Frame,
@@ -74,7 +74,7 @@ pub(crate) fn local_at<'a>(program: &'a Program, frame: &Frame, slot: u32) -> Op
     None
 }
 
-/// The index of the first cell of a variable among these accesses, if there is one.
+// The index of the first cell of a variable among these accesses, if there is one.
 fn index_among(accesses: &[Access]) -> Option<u32> {
     for access in accesses {
         match &access.object {
@@ -85,8 +85,8 @@ fn index_among(accesses: &[Access]) -> Option<u32> {
     None
 }
 
-/// The index of the first cell of a variable that the step of a plan touches, if it touches one. A step
-/// that meets a fault at an index outside of its array touches none.
+// The index of the first cell of a variable that the step of a plan touches, if it touches one. A step
+// that meets a fault at an index outside of its array touches none.
 fn index_touched(plan: &Plan) -> Option<u32> {
     let Plan::Updates(change) = plan else {
         return None;

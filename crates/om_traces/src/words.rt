@@ -31,7 +31,7 @@ pub(crate) struct Words {
     name: Vec<u8>,
     variable: Vec<u8>,
     value: Vec<u8>,
-    /// Whether the step puts a value into a variable, which stands in the words.
+    // Whether the step puts a value into a variable, which stands in the words.
     is_put: bool,
 }
 
@@ -92,7 +92,7 @@ impl Words {
     }
 }
 
-/// The fault that a worker met, if it did.
+// The fault that a worker met, if it did.
 fn fault_met(store: &Store, worker: u8) -> Option<Fault> {
     let Some(Control::Faulted(fault, _)) = store.control(worker) else {
         return None;
@@ -100,7 +100,7 @@ fn fault_met(store: &Store, worker: u8) -> Option<Fault> {
     Some(*fault)
 }
 
-/// Appends a fault in words, behind a name with `: ` between them.
+// Appends a fault in words, behind a name with `: ` between them.
 fn push_fault(text: &mut Vec<u8>, fault: Fault) -> Result<(), AllocError> {
     if !text.is_empty() {
         text.extend_from_slice(b": ")?;
@@ -110,8 +110,8 @@ fn push_fault(text: &mut Vec<u8>, fault: Fault) -> Result<(), AllocError> {
     text.extend_from_slice(fault_words(fault).as_bytes())
 }
 
-/// Appends the name of the instruction that a frame is at, and the variable or region that it names, by
-/// the plan of its step.
+// Appends the name of the instruction that a frame is at, and the variable or region that it names, by
+// the plan of its step.
 fn push_instruction(
     name: &mut Vec<u8>,
     value: &mut Vec<u8>,
@@ -136,7 +136,7 @@ fn push_instruction(
     push_lock(value, program, lock)
 }
 
-/// Appends the name of a critical region, where it has one.
+// Appends the name of a critical region, where it has one.
 fn push_lock(text: &mut Vec<u8>, program: &Program, lock: u32) -> Result<(), AllocError> {
     if let Some(name) = program.raw().locks.as_slice().get(lock as usize) {
         text.extend_from_slice(name.as_slice())?;
@@ -144,8 +144,8 @@ fn push_lock(text: &mut Vec<u8>, program: &Program, lock: u32) -> Result<(), All
     Ok(())
 }
 
-/// Appends the name of a global variable, where there is one of this number, and the index that the step
-/// of a plan has there.
+// Appends the name of a global variable, where there is one of this number, and the index that the step
+// of a plan has there.
 fn push_global(
     text: &mut Vec<u8>,
     program: &Program,
@@ -159,8 +159,8 @@ fn push_global(
     push_index(text, global.length.is_some(), plan)
 }
 
-/// Appends the name of a variable where a frame is, or the number of its slot. An array's has the index
-/// that the step of a plan has there.
+// Appends the name of a variable where a frame is, or the number of its slot. An array's has the index
+// that the step of a plan has there.
 fn push_place(
     text: &mut Vec<u8>,
     program: &Program,
@@ -180,7 +180,7 @@ fn push_place(
     }
 }
 
-/// The first number that one of these updates puts into a variable, if one does.
+// The first number that one of these updates puts into a variable, if one does.
 fn number_among(updates: &[Update]) -> Option<i32> {
     for update in updates {
         if let Update::Put(Val::Cell(Cell::Int(number))) = update {
@@ -190,7 +190,7 @@ fn number_among(updates: &[Update]) -> Option<i32> {
     None
 }
 
-/// The number that the step of a plan puts into a variable, if it puts one.
+// The number that the step of a plan puts into a variable, if it puts one.
 fn number_put(plan: &Plan) -> Option<i32> {
     let Plan::Updates(change) = plan else {
         return None;
@@ -203,7 +203,7 @@ fn number_put(plan: &Plan) -> Option<i32> {
     }
 }
 
-/// Appends a number, behind a name with ` = ` between them.
+// Appends a number, behind a name with ` = ` between them.
 fn push_number_behind(text: &mut Vec<u8>, number: i32) -> Result<(), AllocError> {
     if text.is_empty() {
         push_number(text, number)
@@ -212,7 +212,7 @@ fn push_number_behind(text: &mut Vec<u8>, number: i32) -> Result<(), AllocError>
     }
 }
 
-/// Appends the number on top of the stack of a worker's running frame, if there is one.
+// Appends the number on top of the stack of a worker's running frame, if there is one.
 fn push_top(text: &mut Vec<u8>, store: &Store, worker: u8) -> Result<(), AllocError> {
     let Some(Control::Running(stack)) = store.control(worker) else {
         return Ok(());
@@ -223,7 +223,7 @@ fn push_top(text: &mut Vec<u8>, store: &Store, worker: u8) -> Result<(), AllocEr
     Ok(())
 }
 
-/// The name of an instruction of C; `None` for those of OpenMP.
+// The name of an instruction of C; `None` for those of OpenMP.
 fn name_in_sequence(instruction: Instr) -> Option<&'static [u8]> {
     let name: &'static [u8] = match instruction {
         Instr::Constant(_) => b"CONST",
@@ -254,7 +254,7 @@ fn name_in_sequence(instruction: Instr) -> Option<&'static [u8]> {
     Some(name)
 }
 
-/// The name of an instruction of OpenMP; `None` for those of C.
+// The name of an instruction of OpenMP; `None` for those of C.
 fn name_in_construct(instruction: Instr) -> Option<&'static [u8]> {
     let name: &'static [u8] = match instruction {
         Instr::Fork { .. } => b"FORK",

@@ -11,7 +11,7 @@ use crate::tree::{
 };
 use om_pragma::{AtomicKind, Name};
 
-/// Whether two names have the same text.
+// Whether two names have the same text.
 fn same_name(one: &Name, other: &Name) -> bool
     ensures { result ≡ bytes_eq one.now.text other.now.text }
 {
@@ -135,7 +135,7 @@ pub fn same_expression(one: &Expression, other: &Expression) -> bool
     }
 }
 
-/// Whether these are as many arguments as the others, and each is the same as the other's.
+// Whether these are as many arguments as the others, and each is the same as the other's.
 #[cycle(same)]
 #[tactic(auto, unfolding(crate::specs::AtomicForms::same_expression))]
 fn same_arguments(values: &[Argument], others: &[Argument]) -> bool
@@ -155,7 +155,7 @@ fn same_arguments(values: &[Argument], others: &[Argument]) -> bool
     rest.is_empty()
 }
 
-/// Whether an expression, or a part of it, is the same as the target.
+// Whether an expression, or a part of it, is the same as the target.
 #[cycle(contains)]
 #[tactic(auto, unfolding(crate::specs::AtomicForms::contains))]
 fn contains(expression: &Expression, target: &Expression) -> bool
@@ -189,7 +189,7 @@ fn contains(expression: &Expression, target: &Expression) -> bool
     }
 }
 
-/// Whether one of these arguments, or a part of it, is the same as the target.
+// Whether one of these arguments, or a part of it, is the same as the target.
 #[cycle(contains)]
 #[tactic(auto, unfolding(crate::specs::AtomicForms::contains))]
 fn any_contains(values: &[Argument], target: &Expression) -> bool
@@ -204,14 +204,14 @@ fn any_contains(values: &[Argument], target: &Expression) -> bool
     false
 }
 
-/// Whether an expression is a name or an indexed name.
+// Whether an expression is a name or an indexed name.
 fn is_place(expression: &Expression) -> bool
     ensures { result ≡ is_place (view_expression expression.now) }
 {
     matches!(expression, Expression::Name(_) | Expression::Index { .. })
 }
 
-/// Whether an update may have this operator.
+// Whether an update may have this operator.
 fn is_atomic_operator(operator: BinaryOperator) -> bool
     ensures { result ≡ is_atomic_operator operator }
 {
@@ -224,7 +224,7 @@ fn is_atomic_operator(operator: BinaryOperator) -> bool
     )
 }
 
-/// Whether one operand is the target, and the other does not contain it.
+// Whether one operand is the target, and the other does not contain it.
 fn is_one_operand(target: &Expression, left: &Expression, right: &Expression) -> bool
     ensures { result ≡ is_one_operand (view_expression target.now) (view_expression left.now)
         (view_expression right.now) }
@@ -233,7 +233,7 @@ fn is_one_operand(target: &Expression, left: &Expression, right: &Expression) ->
         || (same_expression(target, right) && !contains(left, target))
 }
 
-/// Whether a value is an operation of the target and an operand that does not contain it.
+// Whether a value is an operation of the target and an operand that does not contain it.
 #[tactic(auto, unfolding(crate::specs::AtomicForms::is_operation_on))]
 fn is_operation_on(target: &Expression, value: &Expression) -> bool
     ensures { result ≡ is_operation_on (view_expression target.now) (view_expression value.now) }
@@ -250,7 +250,7 @@ fn is_operation_on(target: &Expression, value: &Expression) -> bool
     is_atomic_operator(*operator) && is_one_operand(target, left, right)
 }
 
-/// Whether this assignment of a value to the target updates it.
+// Whether this assignment of a value to the target updates it.
 #[tactic(auto, unfolding(crate::specs::AtomicForms::is_updated))]
 fn is_updated(target: &Expression, operator: AssignOperator, value: &Expression) -> bool
     ensures { result ≡ is_updated (view_expression target.now) operator
@@ -263,7 +263,7 @@ fn is_updated(target: &Expression, operator: AssignOperator, value: &Expression)
     }
 }
 
-/// Whether an operator before its operand is `++` or `--`.
+// Whether an operator before its operand is `++` or `--`.
 fn is_step(operator: PrefixOperator) -> bool
     ensures { result ≡ is_step operator }
 {
@@ -273,7 +273,7 @@ fn is_step(operator: PrefixOperator) -> bool
     )
 }
 
-/// Whether an expression is an update.
+// Whether an expression is an update.
 #[tactic(auto, unfolding(crate::specs::AtomicForms::is_update))]
 fn is_update(expression: &Expression) -> bool
     ensures { result ≡ is_update (view_expression expression.now) }
@@ -298,7 +298,7 @@ fn is_update(expression: &Expression) -> bool
     }
 }
 
-/// Whether an expression is a read: `v = x`.
+// Whether an expression is a read: `v = x`.
 #[tactic(auto, unfolding(crate::specs::AtomicForms::is_read))]
 fn is_read(expression: &Expression) -> bool
     ensures { result ≡ is_read (view_expression expression.now) }
@@ -315,7 +315,7 @@ fn is_read(expression: &Expression) -> bool
     is_place(target) && is_place(value)
 }
 
-/// Whether an expression is a write: `x = e`.
+// Whether an expression is a write: `x = e`.
 #[tactic(auto, unfolding(crate::specs::AtomicForms::is_write))]
 fn is_write(expression: &Expression) -> bool
     ensures { result ≡ is_write (view_expression expression.now) }

@@ -78,7 +78,7 @@ impl Model for Machine {
 #[derive(Drop)]
 pub struct PlannedStep {
     worker: u8,
-    /// The name of the task that its choice starts, if it does: names are large, so it lies apart.
+    // The name of the task that its choice starts, if it does: names are large, so it lies apart.
     start: Option<Box<Name>>,
     plan: Plan,
     at: Snapshot<Machine>,
@@ -123,7 +123,7 @@ impl PlannedStep {
     }
 }
 
-/// The step that a worker would take by its choice.
+// The step that a worker would take by its choice.
 fn label(worker: u8, choice: &Choice) -> Label
     ensures { result ≡ record { worker = worker; choice = choice.now } }
 {
@@ -133,7 +133,7 @@ fn label(worker: u8, choice: &Choice) -> Label
     }
 }
 
-/// The plan of a choice's step where a history stands. Its only error is out of memory.
+// The plan of a choice's step where a history stands. Its only error is out of memory.
 fn planned_by(
     alloc: Global,
     program: &Program,
@@ -149,7 +149,7 @@ fn planned_by(
     plan_by(alloc, program, history.store(), planning)
 }
 
-/// The plan of a label's step where a history stands. Its only error is out of memory.
+// The plan of a label's step where a history stands. Its only error is out of memory.
 fn planned(
     alloc: Global,
     program: &Program,
@@ -170,8 +170,8 @@ fn planned(
     planned_by(alloc, program, history, planning)
 }
 
-/// What `taken` of a plan for a worker's label would answer now: the reply that the definition of a run
-/// gives (`reply_to_step`). Nothing changes.
+// What `taken` of a plan for a worker's label would answer now: the reply that the definition of a run
+// gives (`reply_to_step`). Nothing changes.
 fn replied(history: &History, worker: u8, plan: &Plan) -> StepReply
     requires { (r : Rules) × IsHeld r history.now }
     ensures { (label : Label) → label.worker ≡ worker
@@ -184,8 +184,8 @@ fn replied(history: &History, worker: u8, plan: &Plan) -> StepReply
     }
 }
 
-/// Takes the step of a plan for a worker's label, or says why it can't be taken: the reply that the
-/// definition of a run gives (`reply_to_step`). When out of memory, nothing changes.
+// Takes the step of a plan for a worker's label, or says why it can't be taken: the reply that the
+// definition of a run gives (`reply_to_step`). When out of memory, nothing changes.
 fn taken(
     history: &mut History,
     alloc: Global,

@@ -18,7 +18,7 @@ use om_rules::Loop;
 use om_tree::Name;
 use std::alloc::{AllocError, Global};
 
-/// The variable of a loop that does not declare it: S7, S9.
+// The variable of a loop that does not declare it: S7, S9.
 #[tactic(auto, using(om_rules::specs::InRow::first_of_left))]
 fn check_variable(symbols: &Symbols, name: &Name) -> Result<(), SourceFault>
     ensures { ChecksExactly result (variable_breaches symbols.now name.now) }
@@ -28,7 +28,7 @@ fn check_variable(symbols: &Symbols, name: &Name) -> Result<(), SourceFault>
     refuse_if(broken, FaultCode::Misuse, name.span.start)
 }
 
-/// The first value and the bound of a loop's variable.
+// The first value and the bound of a loop's variable.
 #[tactic(auto, using(om_rules::specs::InRow::first_of_left))]
 fn resolve_values(
     alloc: Global,
@@ -55,7 +55,7 @@ pub fn enter_loop(alloc: Global, symbols: &mut Symbols, found: &Loop<'_>) -> Res
     symbols.declare_local(alloc, found.start.variable, Shape::Scalar)
 }
 
-/// The bounds of a loop: S7, S9, S13.
+// The bounds of a loop: S7, S9, S13.
 #[tactic(auto, using(om_rules::specs::InRow::first_of_left))]
 fn resolve_bounds(
     alloc: Global,

@@ -46,7 +46,7 @@ pub fn resolve_format(
     }
 }
 
-/// Whether a call of `printf` has a format, and as many values as it takes.
+// Whether a call of `printf` has a format, and as many values as it takes.
 fn is_print(values: &[Argument]) -> bool
     ensures { result ≡ is_print (arguments (map view_argument values.now)) }
 {
@@ -56,7 +56,7 @@ fn is_print(values: &[Argument]) -> bool
     is_format(&format.1, argument_count(printed))
 }
 
-/// The format that a `printf` begins with, which is there where it has one.
+// The format that a `printf` begins with, which is there where it has one.
 fn format_in(values: &[Argument]) -> Option<&Seq<u8>>
     ensures { option_map (λ text. text.now) result
         ≡ format_in (arguments (map view_argument values.now)) }
@@ -67,7 +67,7 @@ fn format_in(values: &[Argument]) -> Option<&Seq<u8>>
     text_in(&format.1)
 }
 
-/// The text that an expression is.
+// The text that an expression is.
 fn text_in(expression: &Expression) -> Option<&Seq<u8>>
     ensures { option_map (λ text. text.now) result ≡ text_in (view_expression expression.now) }
 {

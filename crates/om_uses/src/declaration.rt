@@ -46,7 +46,7 @@ pub fn cells_of(array: &Option<ArrayLength>) -> u32
     }
 }
 
-/// Whether it is an array without cells.
+// Whether it is an array without cells.
 fn is_empty_array(array: &Option<ArrayLength>) -> bool
     ensures { result ≡ is_empty_array array.now }
 {
@@ -91,7 +91,7 @@ pub fn local_of(alloc: Global, name: &Name) -> Result<LocalVariable, AllocError>
     })
 }
 
-/// What a local variable holds at the start.
+// What a local variable holds at the start.
 fn resolve_initializer(
     alloc: Global,
     symbols: &Symbols,
@@ -112,7 +112,7 @@ fn resolve_initializer(
     Ok(Some(value))
 }
 
-/// Declares the name of a local variable: S8, S9.
+// Declares the name of a local variable: S8, S9.
 #[tactic(auto, using(om_rules::specs::InRow::first_of_left))]
 fn declare_name(
     alloc: Global,
@@ -131,7 +131,7 @@ fn declare_name(
     Ok(())
 }
 
-/// Declares one local variable.
+// Declares one local variable.
 #[tactic(auto, using(om_rules::specs::InRow::first_of_left), unfolding(om_rules::specs::StatementRules::local_breaches, om_rules::specs::StatementResolution::resolved_declarator))]
 fn resolve_declarator(
     alloc: Global,
@@ -155,7 +155,7 @@ fn resolve_declarator(
     })
 }
 
-/// Declares one local variable behind those before it.
+// Declares one local variable behind those before it.
 fn add_local(
     alloc: Global,
     symbols: &mut Symbols,
@@ -176,7 +176,7 @@ fn add_local(
     add(declared, resolve_declarator(alloc, symbols, declarator))
 }
 
-/// Declares the local variables behind the first of a declaration.
+// Declares the local variables behind the first of a declaration.
 fn resolve_further_locals(
     alloc: Global,
     symbols: &mut Symbols,
@@ -203,7 +203,7 @@ fn resolve_further_locals(
     Ok(())
 }
 
-/// Declares the variables of a declaration in a function.
+// Declares the variables of a declaration in a function.
 #[tactic(auto, using(om_rules::specs::InRow::first_of_left))]
 fn add_locals(
     alloc: Global,

@@ -25,7 +25,7 @@ use om_seq::Seq;
 use om_tree::{Expression, Name};
 use std::alloc::{AllocError, Global};
 
-/// A worksharing construct or a barrier where none may stand: S14.
+// A worksharing construct or a barrier where none may stand: S14.
 fn check_nesting(flow: Flow, name: &DirectiveName) -> Result<(), SourceFault>
     ensures { ChecksExactly result (nesting_breaches flow name.now) }
 {
@@ -33,14 +33,14 @@ fn check_nesting(flow: Flow, name: &DirectiveName) -> Result<(), SourceFault>
     refuse_if(broken, FaultCode::LeavesConstruct, name.span().start)
 }
 
-/// Whether a name is that of a variable.
+// Whether a name is that of a variable.
 fn is_variable(meaning: Option<Meaning>) -> bool
     ensures { result ≡ is_variable meaning }
 {
     matches!(meaning, Some(Meaning::Variable(..)))
 }
 
-/// Whether a name can't be shared or copied so.
+// Whether a name can't be shared or copied so.
 fn is_mislisted(sharing: DataSharing, symbols: &Symbols, name: &[u8]) -> bool
     ensures { result ≡ is_mislisted sharing symbols.now name.now }
 {
@@ -52,14 +52,14 @@ fn is_mislisted(sharing: DataSharing, symbols: &Symbols, name: &[u8]) -> bool
     }
 }
 
-/// Whether a clause uses the variable outside of its construct.
+// Whether a clause uses the variable outside of its construct.
 fn uses_original(sharing: DataSharing) -> bool
     ensures { result ≡ uses_original sharing }
 {
     !matches!(sharing, DataSharing::Private)
 }
 
-/// The variable that a name of this meaning is.
+// The variable that a name of this meaning is.
 fn variable_in(meaning: Option<Meaning>) -> Option<Variable>
     ensures { result ≡ variable_of meaning }
 {
@@ -69,7 +69,7 @@ fn variable_in(meaning: Option<Meaning>) -> Option<Variable>
     Some(variable)
 }
 
-/// The variable of a name in the list of a clause: S7, S9, S13.
+// The variable of a name in the list of a clause: S7, S9, S13.
 #[tactic(auto, using(om_rules::specs::InRow::first_of_left))]
 fn resolve_listed(
     symbols: &Symbols,
@@ -95,7 +95,7 @@ fn resolve_listed(
     }
 }
 
-/// How a variable is listed of which a construct has such a copy, or none.
+// How a variable is listed of which a construct has such a copy, or none.
 fn sharing_of(kind: Option<CopyKind>) -> DataSharing
     ensures { result ≡ sharing_of kind }
 {
@@ -107,7 +107,7 @@ fn sharing_of(kind: Option<CopyKind>) -> DataSharing
     }
 }
 
-/// What a clause says of a variable that it lists by a name.
+// What a clause says of a variable that it lists by a name.
 fn clause_of(
     alloc: Global,
     kind: Option<CopyKind>,
@@ -127,16 +127,16 @@ fn clause_of(
     }
 }
 
-/// Where a clause lists its names, and which copy it makes of the variable of each.
+// Where a clause lists its names, and which copy it makes of the variable of each.
 #[derive(Drop)]
 struct Listing<'a> {
     alloc: Global,
     symbols: &'a Symbols,
-    /// None where it shares them.
+    // None where it shares them.
     kind: Option<CopyKind>,
 }
 
-/// Takes a name in the list of a clause.
+// Takes a name in the list of a clause.
 #[tactic(auto, using(om_rules::specs::InRow::first_of_left))]
 fn list_name(
     listing: &Listing<'_>,
@@ -156,7 +156,7 @@ fn list_name(
     Ok(clause_of(listing.alloc, listing.kind, variable, name)?)
 }
 
-/// Takes the names behind the first of a list.
+// Takes the names behind the first of a list.
 fn list_further_names(
     listing: &Listing<'_>,
     listed: &mut Listed,
@@ -183,7 +183,7 @@ fn list_further_names(
     Ok(())
 }
 
-/// Takes the names of a list.
+// Takes the names of a list.
 #[tactic(auto, using(om_rules::specs::InRow::first_of_left))]
 fn list_names(
     listing: &Listing<'_>,
@@ -209,7 +209,7 @@ fn list_names(
     list_further_names(listing, listed, clauses, rest)
 }
 
-/// How a clause of data sharing copies what it lists; nothing where it shares it.
+// How a clause of data sharing copies what it lists; nothing where it shares it.
 fn kind_of(sharing: DataSharing) -> Option<CopyKind>
     ensures kind { result ≡ kind_of sharing }
     ensures sharing { sharing_of result ≡ sharing }
@@ -221,7 +221,7 @@ fn kind_of(sharing: DataSharing) -> Option<CopyKind>
     }
 }
 
-/// Takes a clause.
+// Takes a clause.
 #[tactic(auto, unfolding(om_rules::specs::DirectiveRules::clause_breaches, om_rules::specs::DirectiveRules::after_clause, om_rules::specs::StatementResolution::resolved_clause))]
 fn resolve_clause(
     alloc: Global,
@@ -277,7 +277,7 @@ fn resolve_clause(
     }
 }
 
-/// Takes the clauses of a directive, in their order.
+// Takes the clauses of a directive, in their order.
 fn resolve_clauses(
     alloc: Global,
     symbols: &Symbols,
@@ -322,7 +322,7 @@ pub fn resolve_directive(
     resolve_clauses(alloc, symbols, directive.clauses.as_slice())
 }
 
-/// A variable that a `flush` names: S7, S9, S13.
+// A variable that a `flush` names: S7, S9, S13.
 fn resolve_flushed(alloc: Global, symbols: &Symbols, name: &Name) -> Result<Variable, SourceFault>
     ensures checked { ChecksExactly result (flushed_breaches symbols.now name.now) }
     ensures resolved { IfOk result
@@ -331,7 +331,7 @@ fn resolve_flushed(alloc: Global, symbols: &Symbols, name: &Name) -> Result<Vari
     resolve_listed(symbols, DataSharing::Shared, &Listed::new(alloc), name)
 }
 
-/// The variables behind the first of a list.
+// The variables behind the first of a list.
 fn resolve_further_flushed(
     alloc: Global,
     symbols: &Symbols,
@@ -352,7 +352,7 @@ fn resolve_further_flushed(
     Ok(())
 }
 
-/// The variables of a list.
+// The variables of a list.
 fn resolve_names(
     alloc: Global,
     symbols: &Symbols,

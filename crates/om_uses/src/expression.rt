@@ -152,7 +152,7 @@ pub fn constant_of(number: &Number) -> Result<i32, SourceFault>
     Ok(number.value as i32)
 }
 
-/// An operator before its operand.
+// An operator before its operand.
 #[cycle(expression)]
 fn resolve_prefix(
     alloc: Global,
@@ -178,7 +178,7 @@ fn resolve_prefix(
     }
 }
 
-/// `++x` is `x += 1`, and `--x` is `x -= 1`.
+// `++x` is `x += 1`, and `--x` is `x -= 1`.
 #[cycle(expression)]
 fn resolve_step(
     alloc: Global,
@@ -195,7 +195,7 @@ fn resolve_step(
     Ok(assigned(target, operator, one))
 }
 
-/// An operator before an operand whose value it uses.
+// An operator before an operand whose value it uses.
 #[cycle(expression)]
 fn resolve_unary(
     alloc: Global,
@@ -212,7 +212,7 @@ fn resolve_unary(
     Ok(ResolvedExpression::Unary { operator, operand })
 }
 
-/// What is assigned to.
+// What is assigned to.
 #[tactic(auto, using(om_rules::specs::InRow::first_of_left), unfolding(om_rules::specs::ExpressionRules::target_breaches, om_rules::specs::Resolution::resolved_target))]
 #[cycle(expression)]
 fn resolve_target(
@@ -241,7 +241,7 @@ fn resolve_target(
     }
 }
 
-/// An element of an array: the array and the index.
+// An element of an array: the array and the index.
 #[tactic(auto, using(om_rules::specs::InRow::first_of_left))]
 #[cycle(expression)]
 fn resolve_element(
@@ -261,7 +261,7 @@ fn resolve_element(
     Ok((array, index))
 }
 
-/// A call.
+// A call.
 #[cycle(expression)]
 fn resolve_call(
     alloc: Global,
@@ -282,7 +282,7 @@ fn resolve_call(
     resolve_own_call(alloc, symbols, for_value, name, values)
 }
 
-/// A call of `printf`: S9, S11.
+// A call of `printf`: S9, S11.
 #[tactic(auto, using(om_rules::specs::InRow::first_of_left))]
 #[cycle(expression)]
 fn resolve_print(
@@ -306,7 +306,7 @@ fn resolve_print(
     })
 }
 
-/// The arguments of a `printf`, of which the first is its format: the values behind it.
+// The arguments of a `printf`, of which the first is its format: the values behind it.
 #[tactic(auto, using(om_rules::specs::InRow::first_of_left, crate::proofs::Arguments::printed_begin, crate::proofs::Arguments::printed_format), unfolding(om_rules::specs::ExpressionRules::printed_breaches))]
 #[cycle(expression)]
 fn resolve_printed(
@@ -334,7 +334,7 @@ fn resolve_printed(
     Ok(resolved)
 }
 
-/// A value that a `printf` writes, at a place from 1: S11.
+// A value that a `printf` writes, at a place from 1: S11.
 #[cycle(expression)]
 fn resolve_argument(
     alloc: Global,
@@ -353,7 +353,7 @@ fn resolve_argument(
     refuse_among(resolved, PRINTED_LIMIT < place, FaultCode::TooMany, at)
 }
 
-/// A call of another function than `printf`.
+// A call of another function than `printf`.
 #[tactic(auto, using(om_rules::specs::InRow::first_of_left))]
 #[cycle(expression)]
 fn resolve_own_call(
@@ -375,7 +375,7 @@ fn resolve_own_call(
     Ok(call_of(place, values))
 }
 
-/// The values of a call.
+// The values of a call.
 #[tactic(auto, using(om_rules::specs::InRow::first_of_left, crate::proofs::Arguments::made_none, crate::proofs::Arguments::made_all), unfolding(om_rules::specs::ExpressionRules::arguments_breaches))]
 #[cycle(expression)]
 fn resolve_values(

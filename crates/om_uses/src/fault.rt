@@ -8,16 +8,16 @@ ghost use Rattle.om_rules.specs.Outcomes.{Refuses};
 use om_lexer::{FaultCode, SourceFault};
 use om_resolved::ResolvedExpression;
 
-/// Whether a refusal is answered before another one: it stands before it, or at the same place and
-/// has the lower number.
+// Whether a refusal is answered before another one: it stands before it, or at the same place and
+// has the lower number.
 fn goes_first(one: SourceFault, other: SourceFault) -> bool
     ensures { result ≡ goes_first one other }
 {
     one.at < other.at || (one.at == other.at && one.code.number() <= other.code.number())
 }
 
-/// What is answered of a part where a further rule of it is broken: that, or the part's own fault,
-/// if it has one that goes before.
+// What is answered of a part where a further rule of it is broken: that, or the part's own fault,
+// if it has one that goes before.
 fn fault_among(fault: Option<SourceFault>, further: SourceFault) -> SourceFault
     ensures { result ≡ answered_among fault further }
 {

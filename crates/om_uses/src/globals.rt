@@ -18,7 +18,7 @@ use om_rules::GLOBAL_CELL_LIMIT;
 use om_tree::{Declaration, Declarator, Initializer, SignedNumber};
 use std::alloc::Global;
 
-/// What a number stands for, with its minus: S10.
+// What a number stands for, with its minus: S10.
 fn value_of(signed: &SignedNumber) -> Result<i32, SourceFault>
     ensures checked { ChecksExactly result (constant_breaches signed.now.number) }
     ensures value { IfOk result (λ value. value ≡ signed_value signed.now) }
@@ -30,7 +30,7 @@ fn value_of(signed: &SignedNumber) -> Result<i32, SourceFault>
     }
 }
 
-/// What a global holds at the start.
+// What a global holds at the start.
 fn initial_of(initializer: &Option<Initializer<SignedNumber>>) -> Result<i32, SourceFault>
     ensures checked { ChecksExactly result
         (initial_breaches (option_map (view_initializer view_number) initializer.now)) }
@@ -44,7 +44,7 @@ fn initial_of(initializer: &Option<Initializer<SignedNumber>>) -> Result<i32, So
     }
 }
 
-/// That a name may be that of a further global: S8, S9, S11.
+// That a name may be that of a further global: S8, S9, S11.
 #[tactic(auto, using(om_rules::specs::InRow::first_of_left))]
 fn check_global_name(
     symbols: &Symbols,
@@ -66,7 +66,7 @@ fn check_global_name(
     refuse_if(u64::from(GLOBAL_CELL_LIMIT) < cells, FaultCode::TooMany, at)
 }
 
-/// Declares the name of a global: S8, S9, S11.
+// Declares the name of a global: S8, S9, S11.
 #[tactic(auto, using(om_rules::specs::InRow::first_of_left))]
 fn declare_global_name(
     alloc: Global,
@@ -85,7 +85,7 @@ fn declare_global_name(
     Ok(())
 }
 
-/// Adds a global behind those before it: S10.
+// Adds a global behind those before it: S10.
 fn add_global(
     alloc: Global,
     globals: &mut Vec<GlobalVariable>,
@@ -107,7 +107,7 @@ fn add_global(
     Ok(())
 }
 
-/// Declares one global.
+// Declares one global.
 #[tactic(auto, using(om_rules::specs::InRow::first_of_left))]
 fn declare_global(
     alloc: Global,
@@ -127,7 +127,7 @@ fn declare_global(
     add_global(alloc, globals, declarator)
 }
 
-/// Declares the globals behind the first of a declaration.
+// Declares the globals behind the first of a declaration.
 fn declare_further_globals(
     alloc: Global,
     symbols: &mut Symbols,

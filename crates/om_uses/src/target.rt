@@ -27,7 +27,7 @@ pub fn misplaced(symbols: &Symbols, expression: &Expression) -> SourceFault
     }
 }
 
-/// The name that an expression begins with: S7.
+// The name that an expression begins with: S7.
 #[tactic(auto, unfolding(om_rules::specs::ExpressionRules::leading_breaches))]
 fn check_leading(symbols: &Symbols, expression: &Expression) -> Result<(), SourceFault>
     ensures { ChecksExactly result (leading_breaches symbols.now (view_expression expression.now)) }

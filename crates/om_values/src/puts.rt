@@ -48,7 +48,7 @@ pub struct PutParts {
     pub last: Vec<Update>,
 }
 
-/// An update in front of others, with room for no more.
+// An update in front of others, with room for no more.
 fn in_front(updates: Seq<Update>, update: Update) -> Result<Seq<Update>, AllocError>
     ensures { IfOk result (λ all. all ≡ update ∷ updates) }
 {
@@ -59,7 +59,7 @@ fn in_front(updates: Seq<Update>, update: Update) -> Result<Seq<Update>, AllocEr
     Ok(all)
 }
 
-/// Appends each put of a run.
+// Appends each put of a run.
 fn push_each(updates: &mut Seq<Update>, run: &Run) -> Result<(), AllocError>
     ensures { OnOk result (updates.new ≡ updates.old ++ run_puts run.now) }
 {
@@ -69,7 +69,7 @@ fn push_each(updates: &mut Seq<Update>, run: &Run) -> Result<(), AllocError>
     Ok(())
 }
 
-/// Appends each put of all of these runs.
+// Appends each put of all of these runs.
 fn list_each(updates: &mut Seq<Update>, runs: &[Run]) -> Result<(), AllocError>
     ensures { OnOk result (updates.new ≡ updates.old ++ runs_listed runs.now) }
 {

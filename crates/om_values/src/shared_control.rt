@@ -13,7 +13,7 @@ use std::marker::Model;
 ///
 /// Contracts see the control alone.
 pub struct SharedControl {
-    /// `None` stands for an idle one.
+    // `None` stands for an idle one.
     control: Option<Shared<Control>>,
 }
 

@@ -64,7 +64,7 @@ pub enum Val {
 }
 
 impl Task {
-    /// A copy; its only error is out of memory.
+    // A copy; its only error is out of memory.
     fn copy(&self) -> Result<Task, AllocError>
         ensures { IfOk result (λ task. task ≡ self.now) }
     {
@@ -229,7 +229,7 @@ impl Val {
     }
 }
 
-/// Copies of event records, in their order.
+// Copies of event records, in their order.
 fn copy_records(alloc: Global, records: &[Record]) -> Result<Seq<Record>, AllocError>
     ensures { IfOk result (λ copies. copies ≡ records.now) }
 {

@@ -59,7 +59,7 @@ impl Noted {
         self.was.push(Was::Value(copy))
     }
 
-    /// Notes a cell behind the others.
+    // Notes a cell behind the others.
     #[tactic(auto, using(crate::proofs::WasLemmas::run_more, crate::proofs::WasLemmas::run_next))]
     fn note_cell(&mut self, cell: Cell) -> Result<(), AllocError>
         ensures { OnOk result (self.new ≡ self.old ++ update.Put (value.Cell cell) ∷ []) }

@@ -21,7 +21,7 @@ use std::alloc::{AllocError, Global};
 // How many steps or undos `next` and `back` make at most, besides the last one.
 const MOST_FURTHER: u32 = 9_999;
 
-/// A worker, and the line that it is to leave.
+// A worker, and the line that it is to leave.
 #[derive(Clone, Copy)]
 struct Stay {
     worker: u8,

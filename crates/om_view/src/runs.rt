@@ -143,13 +143,13 @@ fn push_without_move(book: &Book, made: u64, text: &mut Vec<u8>) -> Result<(), A
 // What came of the first move.
 #[derive(Clone, Copy)]
 enum Moved {
-    /// No worker has a move.
+    // No worker has a move.
     NoMove,
-    /// There is no room to record it.
+    // There is no room to record it.
     Full,
-    /// It was made, and the run stops behind it.
+    // It was made, and the run stops behind it.
     Stopped(Stop),
-    /// It was made, and the run goes on.
+    // It was made, and the run goes on.
     GoesOn,
 }
 

@@ -8,10 +8,10 @@ use std::io;
 use std::io::{ErrorKind, Read, Write};
 use std::test::Fail;
 
-/// A source that is accepted, and its mark.
+// A source that is accepted, and its mark.
 const ACCEPTED: &str = "int x; int main(void){ x = 1; }\n%%\n";
 
-/// An end of which each read and each write fails.
+// An end of which each read and each write fails.
 #[derive(Drop)]
 struct Broken;
 
@@ -31,7 +31,7 @@ impl Write for Broken {
     }
 }
 
-/// Two workers, and the source at the front of the input.
+// Two workers, and the source at the front of the input.
 const OPTIONS: Options<'static> = Options {
     workers: 2,
     source: None,
@@ -99,7 +99,7 @@ fn is_3_for_each_fault(rt: HostRuntime) -> Result<(), Fail> {
     Ok(())
 }
 
-/// What words ask for, as `WORKERS FILE`, with `-` for no file; `wrong` where they ask for no run.
+// What words ask for, as `WORKERS FILE`, with `-` for no file; `wrong` where they ask for no run.
 fn told(alloc: Global, words: &[&str]) -> Result<String, AllocError> {
     match words_in(alloc, words) {
         Ok(asked) => {
