@@ -8,12 +8,13 @@ use Rattle.om_journal.specs.declared.reply.Reply.{Reply}
 use Rattle.om_journal.specs.declared.journal.JournalRecord.{JournalRecord}
 use Rattle.om_book.specs.Books.{BookView, last_reply, records_of, with_record}
 
--- the last reply is that of the record that was added
+-- there is a record then
 pub some_record : (b : BookView) (seat : ℕ) (c : Command) (x : Reply) → 0 < records_of (with_record b seat c x)
 some_record b seat c x =
     let r : JournalRecord = record { seat = seat; command = c; reply = x } in
     omega (arith, length-append b.journal (r ∷ []))
 
+-- the last reply is that of the record that was added
 pub last_of_record : (b : BookView) (seat : ℕ) (c : Command) (x : Reply)
     → last_reply (with_record b seat c x) ≡ Some x
 last_of_record b seat c x =

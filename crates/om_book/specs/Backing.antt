@@ -7,7 +7,7 @@ use Rattle.om_book.specs.declared.order.Answer.{Answer}
 use Rattle.om_book.specs.declared.order.Order.{Order}
 use Rattle.om_book.specs.Rounds.{answer_number, longest, Begins}
 
--- x is one of them
+-- x is an item of the list
 abbrev pub Has : {A : Type 0} → List A → A → Type 0
 Has xs x = (i : ℕ) × (slice_get xs i ≡ Some x)
 
@@ -60,6 +60,8 @@ AreKept due ts kept = (came : List Answer) × Begins [] (map answer_number came)
 -- the answer is that of one of the turns
 abbrev pub IsOfOne : List Turn → Answer → Type 0
 IsOfOne ts a = (t : Turn) × Has ts t × IsBacked t a
+
+-- ---- for proofs: a walk over answers, turn by turn
 
 -- turns lead from answers, of which those below i are kept, to answers of which those below j are: what is kept behind
 -- them is kept of all

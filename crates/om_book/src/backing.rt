@@ -78,7 +78,7 @@ struct Walk {
     strange: bool,
 }
 
-/// What answers are compared with: the seats, each with the orders of its list.
+/// What answers are compared with: the seats, and at the same index the orders that each was told.
 #[derive(Drop)]
 pub struct Rows<'a, L: Sitting> {
     pub seats: &'a [Seat<L>],

@@ -40,7 +40,7 @@ pub struct Book {
     journal: Vec<JournalRecord>,
 }
 
-// By hand: crates above call this, and do not prove anew how each part is dropped.
+// By hand: other crates call this, and do not prove anew how each part is dropped.
 impl Drop for Book {
     fn drop(self) {
         let Book {
@@ -118,7 +118,7 @@ impl Book {
         self.records() >= MAX_RECORDS
     }
 
-    /// How many steps the calls behind the first so many of the journal made.
+    /// How many steps were made by the calls of the journal that stand behind its first `calls`.
     pub fn steps_behind(&self, calls: usize) -> u64
         requires { calls ≤ length self.now.journal }
         ensures { result ≡ done_in (drop calls self.now.journal) }
@@ -126,7 +126,7 @@ impl Book {
         done_in(&self.journal.as_slice()[calls..])
     }
 
-    /// What the last call was answered.
+    /// The reply to the last call; there has to be one.
     pub fn last_reply(&self) -> &Reply
         requires { 0 < records_of self.now }
         ensures { Some result.now ≡ last_reply self.now }

@@ -1,8 +1,8 @@
 //! Books and sessions. A book is a machine with the journal of its calls. In a session seats share a book
-//! under one lock; here are their receipts, orders, and the answers that receipts back.
+//! under one lock; here are their receipts, orders and answers. An answer to an order is kept where a receipt
+//! of its seat backs it.
 //!
-//! Of answers to orders those are kept that the receipts of their seats back. The commands, replies and
-//! records of om_journal are at this root too.
+//! The commands, replies and records of om_journal are at this root too.
 #![tactic(auto)]
 
 mod backing;

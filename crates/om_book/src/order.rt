@@ -8,6 +8,7 @@ use om_journal::{Command, Reply};
 /// A call that a worker is told to make.
 #[derive(Clone, Copy)]
 pub struct Order {
+    /// Its answer has this number. The orders of one drive have different ones.
     pub number: u64,
     pub command: Command,
 }
@@ -17,8 +18,9 @@ pub struct Order {
 pub struct Answer {
     /// The number of its order.
     pub number: u64,
+    /// What the call replied, or why it was not made.
     pub reply: Result<Reply, CallError>,
-    /// Whether the gate said no to the end.
+    /// Whether the worker went on without a yes of its gate (`om_drive::Gate`).
     pub late: bool,
     /// The place of its record in the journal; none exactly where the reply is an error.
     pub place: Option<u64>,

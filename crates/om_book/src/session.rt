@@ -26,6 +26,8 @@ pub trait Sitting: Ledger {
     ghost workers: { ℕ };
 }
 
+// A caller that passes `Brand` picks these members for its own book. What stands here is for a call that picks
+// none.
 impl Sitting for Brand {
     ghost use Rattle.om_book.specs.Books.{no_book};
 

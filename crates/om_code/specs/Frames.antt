@@ -230,8 +230,8 @@ pub record Frame : Type 0 where
   pub globals : ℕ → ℕ → Cell
   pub output : List ℕ
 
--- what an instruction leaves: the frame that goes on, or the last one and why it ended; stuck is valid code
--- that lacks something
+-- what an instruction leaves: the frame that goes on, or the last one and why it ended; stuck where an operand or
+-- the instruction is missing, or where the instruction has no row here
 pub data FrameTurn : Type 0 where
   Onward : (frame : Frame) → FrameTurn
   Returned : (value : Operand) (frame : Frame) → FrameTurn

@@ -20,7 +20,7 @@ pub struct Names {
     last: Seq<Access>,
 }
 
-// By hand: crates above call this, and do not prove anew how each part is dropped.
+// By hand: other crates call this, and do not prove anew how each part is dropped.
 impl Drop for Names {
     fn drop(self) {
         let Names { first, cells, last } = self;

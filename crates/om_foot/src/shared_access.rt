@@ -32,7 +32,7 @@ pub struct SharedAccess {
     access: Shared<ObjectAccess>,
 }
 
-// By hand: crates above call this, and do not prove anew how each part is dropped.
+// By hand: other crates call this, and do not prove anew how each part is dropped.
 impl Drop for SharedAccess {
     fn drop(self) {
         let SharedAccess { access } = self;

@@ -1,5 +1,5 @@
--- What takes the updates of a step back, as its record keeps it: in one list, or in parts that go along with those of
--- its accesses, where cells of slots were named at once.
+-- For proofs: what takes the updates of a step back, as its record keeps it. That is one list, or parts that go
+-- along with those of its accesses, where cells of slots were named at once.
 use Rattle.std.specs.Prelude.{◌≡◌, Bool, true, false, ◌&&◌, nat_eq, List, [], ◌∷◌, ◌++◌, length}
 use Rattle.om_foot.specs.declared.cells.Cells.{Cells}
 use Rattle.om_values.specs.declared.runs.Run.{Run}

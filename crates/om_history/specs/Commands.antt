@@ -69,7 +69,8 @@ abbrev pub TakesCone : Rules → History → ℕ → History → Type 0
 TakesCone r h serial after = let ts = transitions r h.entries in (t : Transition) → Contains ts t
     → (IsGone t.entry.serial after ↔ InCone ts serial t)
 
--- after any run a roll takes out the cone and nothing else
+-- after any run, of the entries that stood, a roll takes out the cone and no others. That no entry comes, and that
+-- the others keep their order, follows from `RollIsUndos`
 abbrev pub RollTakesCone : Type 0
 RollTakesCone = (r : Rules) (cs : List Command) (serial : ℕ)
     → let h = run r no_history cs in TakesCone r h serial (after_roll r h serial)

@@ -1,5 +1,6 @@
--- What each command leaves: a step that is made adds its entry behind the others, an undo that is done takes the
--- worker's last entry out, and a command that is refused changes nothing. What stands stays the same steps.
+-- What each step and each undo leaves: a step that is made adds its entry behind the others, an undo that is
+-- done takes the worker's last entry out, and one that is not done changes nothing. Each entry that stands stays
+-- the same step. A roll is a list of undos (`RollIsUndos`).
 use Rattle.std.specs.Prelude.{◌≡◌, Bool, true, false, Option, List, [], ◌∷◌, ◌++◌, map, ℕ, ◌+◌}
 use Rattle.om_code.specs.declared.frame.Fault.{Fault}
 use Rattle.om_values.specs.declared.step.Label.{Label}
@@ -44,7 +45,7 @@ pub record Leaves (r : Rules) (h : History) : Type 0 where
       → IsLast w (transitions r h.entries) before e later → IsFree e later
       → (transitions r (after_undo r h w).entries ≡ before ++ later)
       × ((after_undo r h w).entries ≡ map (λ (t : Transition). t.entry) (before ++ later))
-  -- no undo gives a serial free
+  -- no undo lets a serial be given again
   pub serials_stay : (w : ℕ) → (after_undo r h w).made ≡ h.made
   -- each entry has the line of its step
   pub lines : lines_of r h.entries ≡ map (λ (e : Entry). e.line) h.entries

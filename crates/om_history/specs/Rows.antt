@@ -1,5 +1,5 @@
--- Matter of proofs: records by serial, in a list of rows. A row whose record is taken out stays empty. Empty rows at the
--- end go when a record comes. All empty rows go when room is short.
+-- For proofs: records by serial, in a list of rows. A row whose record is taken out stays empty. Empty rows at
+-- the end go when a record comes. All empty rows go when room is short.
 use Rattle.std.specs.Prelude.{ℕ, ◌<◌, List, [], ◌∷◌, Option, None, Some, IsSome}
 use Rattle.om_history.specs.declared.by_serial.Row.{Row}
 use Rattle.om_history.specs.declared.records.UndoRecord.{UndoRecord}

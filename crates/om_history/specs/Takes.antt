@@ -1,4 +1,4 @@
--- A change that is made, with its small record, and a record that is taken out.
+-- For proofs: a change that is made, with its small record, and a record that is taken out.
 use Rattle.std.specs.Prelude.{◌≡◌, ℕ, List, ◌∷◌, drop}
 use Rattle.om_foot.specs.declared.object.Obj.TheVariants as obj
 use Rattle.om_foot.specs.declared.footprint.Mode.TheVariants as mode

@@ -55,6 +55,6 @@ pub record UndoReplies (r : Rules) (h : History) (w : ℕ) : Type 0 where
       → (reply_to_undo r h w ≡ Undone serial line) ↔ IsUndoable w (transitions r h.entries) serial line
   pub nothing : (reply_to_undo r h w ≡ Nothing) ↔ HasNone w (transitions r h.entries)
 
--- after any run an undo is done, is refused and has nothing to undo exactly where the worker's last entry says so
+-- after any run an undo is done, is refused and has nothing to undo exactly where `UndoReplies` says
 abbrev pub ExactlyWhere : Type 0
 ExactlyWhere = (r : Rules) (cs : List Command) (w : ℕ) → UndoReplies r (run r no_history cs) w

@@ -40,7 +40,7 @@ pub struct History {
     made: u64,
 }
 
-// By hand: crates above call this, and do not prove anew how each part is dropped.
+// By hand: other crates call this, and do not prove anew how each part is dropped.
 impl Drop for History {
     fn drop(self) {
         let History {

@@ -31,7 +31,7 @@ impl Model for SmallEntry {
     ghost view = { λ e. record { serial = e.serial; worker = e.worker; choice = choice_of e.start; line = e.line } };
 }
 
-/// An undo record. It shares the accesses of its footprint with other records, so that each takes 8 bytes.
+/// An undo record. It shares the accesses of its footprint with other records, so that each access takes 8 bytes.
 /// What takes updates back goes along with the footprint, part by part.
 ///
 /// Contracts see the record alone.
@@ -41,7 +41,7 @@ pub struct Kept {
     back: Backs,
 }
 
-// By hand: crates above call this, and do not prove anew how each part is dropped.
+// By hand: other crates call this, and do not prove anew how each part is dropped.
 impl Drop for Kept {
     fn drop(self) {
         let Kept {

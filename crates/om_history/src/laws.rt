@@ -21,8 +21,8 @@ pub fn commutation()
 
 /// A step with which no later one conflicts can be taken out of a history: the rest can be made
 /// in turn, its steps stay the same, and each object holds what it held before that step where it
-/// put a value or appended, that much less where it added to a count, and elsewhere what it holds
-/// now.
+/// put a value or appended, less by what it added where it added to a count, and elsewhere what
+/// it holds now.
 pub fn removal()
     ensures { Removal }
 {}
@@ -47,8 +47,8 @@ pub fn exactly_where()
 {}
 
 /// After any run: a step that is made adds its entry behind the others, an undo that is done takes the
-/// worker's last entry out, and a command that is refused changes nothing. Each entry that stands keeps
-/// its serial, its line and its footprint.
+/// worker's last entry out, and a step or an undo that is not done changes nothing. Each entry that
+/// stands keeps its serial, its line and its footprint.
 pub fn what_is_left()
     ensures { EachLeaves }
 {}

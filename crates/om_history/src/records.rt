@@ -49,7 +49,7 @@ pub struct Records {
     own: OwnEntries,
 }
 
-// By hand: crates above call this, and do not prove anew how each part is dropped.
+// By hand: other crates call this, and do not prove anew how each part is dropped.
 impl Drop for Records {
     fn drop(self) {
         let Records { kept, lists, own } = self;
@@ -334,7 +334,7 @@ impl Records {
     }
 
     /// What a roll of the entry with a serial takes out, the latest first; nothing where no entry
-    /// has it.
+    /// has it. Its only error is out of memory.
     pub fn cone(&self, alloc: Global, serial: u64) -> Result<Vec<Taken>, AllocError>
         ensures { IfOk result
             (λ v. v.items ≡ map taken_of (reverse (cone serial (transitions_of self.now)))) }
@@ -344,7 +344,7 @@ impl Records {
         Ok(names)
     }
 
-    /// The entries of the records, in their order.
+    /// The entries of the records, in their order. Its only error is out of memory.
     pub fn entries(&self, alloc: Global) -> Result<Vec<Entry>, AllocError>
         ensures { IfOk result (λ v. v.items ≡ entries_of self.now) }
     {

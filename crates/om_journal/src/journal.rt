@@ -17,7 +17,7 @@ pub struct JournalRecord {
     pub reply: Reply,
 }
 
-// By hand: crates above call this, and do not prove anew how each part is dropped.
+// By hand: other crates call this, and do not prove anew how each part is dropped.
 impl Drop for JournalRecord {
     fn drop(self) {
         let JournalRecord {

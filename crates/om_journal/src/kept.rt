@@ -77,7 +77,7 @@ pub struct KeptCommand {
     parts: CommandParts,
 }
 
-// By hand: crates above call this, and do not prove anew how each part is dropped.
+// By hand: other crates call this, and do not prove anew how each part is dropped.
 impl Drop for KeptCommand {
     fn drop(self) {
         let KeptCommand { parts } = self;

@@ -27,7 +27,7 @@ pub enum Reply {
     Entries(Seq<Entry>),
 }
 
-// By hand: crates above call this, and do not prove anew how each part is dropped.
+// By hand: other crates call this, and do not prove anew how each part is dropped.
 impl Drop for Reply {
     fn drop(self) {
         match self {

@@ -46,7 +46,7 @@ held_by ts s q = s q
 unfoldable pub state_of : Store → State
 state_of l = held_by l.trails.items (values.state_of l.values)
 
--- whether each object is kept, so that its value can be changed without a request for memory
+-- whether each object is kept, so that a value that it had can be put back without a request for memory
 abbrev pub kept_by : List TrailView → (Obj → Bool) → Obj → Bool
 kept_by ts kept (obj.Control w) = is_some (slice_get ts w)
 kept_by ts kept q = kept q
@@ -65,7 +65,7 @@ pasts_by ts q = []
 unfoldable pub pasts_of : Store → Pasts
 pasts_of l = pasts_by l.trails.items
 
--- the trails with the value before a change more
+-- the trails with one value more: that before a change
 abbrev pub noted_at : Obj → State → Pasts → Pasts
 noted_at o s ps q = cond (obj_eq o q) (s q ∷ ps q) (ps q)
 
@@ -77,13 +77,14 @@ popped_at o ps q = cond (obj_eq o q) (drop 1 (ps q)) (ps q)
 abbrev pub begun_at : Obj → Pasts → Pasts
 begun_at o ps q = cond (obj_eq o q) [] (ps q)
 
--- trails to which idle ones were added, behind them
+-- the control of a worker, and what it was before its changes, by the trails
 abbrev pub now_at : List TrailView → ℕ → plain_controls.Control
 now_at ts w = trail_now (slice_get ts w)
 
 abbrev pub past_at : List TrailView → ℕ → List plain_controls.Control
 past_at ts w = trail_past (slice_get ts w)
 
+-- trails to which idle ones were added, behind them
 pub record GrowTo (ts us : List TrailView) : Type 0 where
   pub now : (w : ℕ) → now_at us w ≡ now_at ts w
   pub past : (w : ℕ) → past_at us w ≡ past_at ts w

@@ -35,8 +35,8 @@ impl Context {
         }
     }
 
-    /// The running frame goes to a place, with so many operands taken, and waits there for the next
-    /// frame, at its first instruction, which runs. When out of memory, nothing changes.
+    /// The running frame goes to a place, with so many operands taken, and waits there. The given frame
+    /// runs from now on, at its first instruction. When out of memory, nothing changes.
     pub fn begin_frame(
         &mut self,
         to: u32,

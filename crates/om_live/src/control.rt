@@ -16,6 +16,7 @@ pub struct Frame {
     /// Its number among the frames of its task, from 0. It is never used again, but where its
     /// beginning was taken back.
     pub ordinal: u64,
+    /// Its operands, the last one that was pushed on top.
     pub operands: Tape<Operand>,
     /// Where the cells of its slots lie.
     pub homes: Shared<Seq<Home>>,
@@ -24,8 +25,11 @@ pub struct Frame {
 /// A task that a worker has begun and not ended. One frame of it runs; the others wait for it.
 #[derive(Drop)]
 pub struct Context {
+    /// Its name.
     pub task: Shared<Name>,
+    /// Whether it is initial, implicit or explicit.
     pub kind: Kind,
+    /// Its place in its team: the team's name and size, the thread number and the active level.
     pub team: SharedTeam,
     /// How many barriers of its team are behind it; of an explicit task, the phase of the team in
     /// which it was made.
@@ -49,6 +53,7 @@ pub struct Context {
 /// The tasks of a worker that runs: the one that runs, and those that it left for it.
 #[derive(Drop)]
 pub struct Stack {
+    /// The context that runs.
     pub top: Box<Context>,
     /// The contexts below, the one next to the top first.
     pub below: Tape<Box<Context>>,
@@ -72,6 +77,7 @@ pub enum Control {
 pub struct Passed {
     /// The index of the instruction at which it was.
     pub from: u32,
+    /// How many operands it took.
     pub took: u32,
 }
 

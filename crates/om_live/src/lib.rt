@@ -1,6 +1,6 @@
 //! State and rows: the store of a run's objects, in which workers' controls are changed in place.
 //!
-//! It stands above om_values, whose edits it makes of controls of its own form. Each control has a
+//! It depends on om_values, and makes its edits in controls of a form of its own. Each control has a
 //! trail that leads it back; the other objects' values are kept as om_cells keeps them.
 #![tactic(auto)]
 

@@ -1,4 +1,4 @@
-//! Controls in the form that is changed in place, of plain ones.
+//! Makes controls in the form that is changed in place, from plain ones.
 
 ghost use Rattle.std.specs.Prelude.{◌≡◌, IfOk, map};
 ghost use Rattle.om_live.specs.Plain.{plain_frame, plain_box, plain_context, plain_held};

@@ -39,7 +39,7 @@ pub struct Store {
     values: Values,
 }
 
-// By hand: crates above call this, and do not prove anew how each part is dropped.
+// By hand: other crates call this, and do not prove anew how each part is dropped.
 impl Drop for Store {
     fn drop(self) {
         let Store { trails, values } = self;
@@ -202,8 +202,8 @@ impl Store {
         }
     }
 
-    // Keeps an access's object among those that are no control, where a control is only kept to be shared,
-    // and answers the access, shared. No value changes, also when out of memory.
+    // Keeps the object of an access in `values`, and answers the access, shared. A control is kept there
+    // only so that its accesses are shared: what it holds is in its trail. No value changes, also when out of memory.
     fn keep_value(&mut self, alloc: Global, access: &Access) -> Result<SharedAccess, AllocError>
         ensures shared { IfOk result (λ shared. shared ≡ access.now) }
         ensures state { state_of self.new ≡ state_of self.old }
@@ -225,8 +225,8 @@ impl Store {
         grow(alloc, &mut self.trails, worker)
     }
 
-    /// Puts the first control of a worker, which made no step then. When out of memory, nothing
-    /// changes.
+    /// Puts the first control of a worker. Its trail begins anew, so no change before it can be taken back.
+    /// When out of memory, nothing changes.
     pub fn begin(
         &mut self,
         alloc: Global,

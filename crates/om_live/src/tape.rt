@@ -155,7 +155,7 @@ impl<T> Tape<T> {
     }
 
     /// Pushes the item that runs and has another one run, and answers the taken one that it lies
-    /// over, if any. Without memory nothing changes.
+    /// over, if any. When out of memory, nothing changes.
     pub fn push_under(&mut self, next: T, running: &mut T) -> Result<Option<T>, AllocError>
     where
         T: Drop,

@@ -64,7 +64,7 @@ AreFunctions tree lists n [] (bodies ∷ rest) = ⊥
 AreFunctions tree lists n (f ∷ fs) (bodies ∷ rest) = AreMade tree lists (function_bodies n f) bodies
     × AreFunctions tree lists (behind_function n f) fs rest
 
--- the same of a body of a tree, by the tables of that tree
+-- the code of a body of a tree, by the tables of that tree; none where it has too many instructions
 abbrev pub FitsCode : ResolvedTree → BodySite → Option Emitted → Type 0
 FitsCode tree b made =
     FitsRow (numbered_in tree (variables_of b) (is_main_function b.function)) b.numbers b.function b.tree made
@@ -91,11 +91,11 @@ abbrev pub IsPut : {A : Type 0} → (put : Bool) → (old more new : List A) →
 IsPut false old more new = new ≡ old
 IsPut true old more new = new ≡ old ++ more
 
--- those of a function
+-- the bodies of a function, if none passes a limit
 abbrev pub FitsFunction : ResolvedTree → Numbers → ResolvedFunctionTree → Option Bodies → Type 0
 FitsFunction tree n f made = FitsBodies tree (function_bodies n f) made
 
--- those of a function that are put behind others, unless one passes a limit
+-- the bodies of a function are put behind others, unless one passes a limit
 abbrev pub AddsFunction : ResolvedTree → Numbers → ResolvedFunctionTree → Lowered → Lowered → (fits : Bool) → Type 0
 AddsFunction tree n f old new false = FitsFunction tree n f None
     × (new.functions ≡ old.functions) × (new.lists ≡ old.lists)

@@ -243,7 +243,7 @@ fn code_in(seen: &SeenBody<'_>) -> Made<Option<Emitted>>
     emitted_in(input.alloc, &tables, seen.site)
 }
 
-// The slots that the values go to with which a frame of a body begins.
+// The slots that get the values with which a frame of a body begins.
 fn given_in(seen: &SeenBody<'_>) -> Made<Seq<u32>>
     requires seen { IsSeen seen.now }
     ensures { IfOk result (λ slots. slots ≡ given_of (seen_body seen.now)) }

@@ -140,7 +140,8 @@ fn add_function(
     add_bodies(lowered, &known, next, sites.as_slice())
 }
 
-// The same, where the function's bodies are found and none has too many slots.
+// Adds the bodies of a function that stand at these sites, none of which has too many slots; false where
+// one passes a limit on cells or instructions.
 fn add_bodies<'a>(
     lowered: &mut Lowered,
     known: &'a Known<'a>,

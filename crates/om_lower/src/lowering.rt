@@ -27,8 +27,9 @@ use std::alloc::Global;
 /// its region begins, and numbers of 32 bits are enough for its parts: `om_scope::resolve` and the laws of
 /// om_rules give that.
 ///
-/// The body of each function without calls and directives does what the function means: it ends with its
-/// value, its globals and its output exactly where the meaning does, and faults exactly where that does.
+/// The body of each function without directives, and without calls but `printf`, does what the function
+/// means: it ends with its value, its globals and its output exactly where the meaning does, and faults
+/// exactly where that does.
 ///
 /// Refusals:
 /// - S0 at byte 0: no memory.

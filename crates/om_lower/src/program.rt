@@ -162,8 +162,8 @@ fn main_body(input: &Input<'_>) -> u32
     body_tables.called_body(main)
 }
 
-#[tactic(auto, using(crate::proofs::Searches::position_none, crate::proofs::Searches::position_map))]
 // The index of `main`.
+#[tactic(auto, using(crate::proofs::Searches::position_none, crate::proofs::Searches::position_map))]
 fn main_of(resolved: &Resolved) -> usize
     requires { Any (λ function. is_main_function function ≡ true)
         (view_resolved resolved.now).functions }

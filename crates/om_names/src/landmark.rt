@@ -4,7 +4,8 @@
 ghost use Rattle.std.specs.Prelude.{◌≡◌, ◌≤◌, length};
 ghost use Rattle.om_names.specs.Landmarks.{Descend, IsCountWithin, deeper, first_deeper, last_within, marks_behind};
 
-/// How many scopes stand round the one in the innermost construct that is such; 0 where none is.
+/// For each of two kinds of constructs, the depth of the innermost one: how many scopes stand round the
+/// scope in it. 0 where there is none.
 #[derive(Clone, Copy)]
 pub struct Marks {
     /// It asks for clauses: `default(none)`.

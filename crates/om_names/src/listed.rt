@@ -23,7 +23,7 @@ pub struct Listed {
     copied: Names,
 }
 
-// By hand: crates above call this, and do not open the tables.
+// By hand: other crates call this, and do not open the tables.
 impl Drop for Listed {
     fn drop(self) {
         let Listed {
@@ -104,7 +104,8 @@ impl Listed {
         self.default = Some(sharing);
     }
 
-    /// Notes a name that stands in the list of a clause.
+    /// Notes a name that stands in the list of a clause. One of a `reduction` comes as `Firstprivate`: the
+    /// construct has a copy of it.
     pub fn add(
         &mut self,
         alloc: Global,

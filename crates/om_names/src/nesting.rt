@@ -20,7 +20,7 @@ pub struct Construct {
     /// How many scopes stand round the one that it stands in.
     pub depth: usize,
     pub region: Region,
-    /// The innermost ones of it and of those round it.
+    /// The marks of it and of the constructs round it.
     pub marks: Marks,
 }
 
@@ -151,7 +151,8 @@ impl Nesting {
         }
     }
 
-    /// Enters a construct in the scope of this depth, with a scope in it.
+    /// Enters a construct in the scope of this depth, with a scope in it. When out of memory, all constructs
+    /// are forgotten.
     pub fn enter(
         &mut self,
         alloc: Global,
@@ -168,6 +169,7 @@ impl Nesting {
         self.parallels.reserve(1)?;
         let outer = marks_of(self.constructs.as_slice());
         if let Err(error) = list(&mut self.listings, alloc, inside, outer, &region.shared) {
+            // A part of its names may be listed already. Without constructs the invariant holds again.
             drop(mem::replace(&mut self.constructs, Vec::new(alloc)));
             drop(mem::replace(&mut self.listings, Stacks::new(alloc)));
             self.parallels.clear();
@@ -203,7 +205,7 @@ impl Nesting {
         }
     }
 
-    // The constructs that do not list a name.
+    // The marks of those constructs that do not list a name.
     fn marks_without(&self, name: &[u8]) -> Marks
         ensures { result ≡ marks_without self.now name.now }
     {

@@ -37,7 +37,7 @@ pub struct Symbols {
     defined: Names,
 }
 
-// By hand: crates above call this, and do not prove anew how each part is dropped.
+// By hand: other crates call this, and do not prove anew how each part is dropped.
 impl Drop for Symbols {
     fn drop(self) {
         let Symbols {
@@ -224,7 +224,8 @@ impl Symbols {
         self.nesting.enter(alloc, depth, self.outer.len(), region)
     }
 
-    /// Enters a construct in which these names are declared.
+    /// Enters a construct in which these names are declared. When out of memory, it is not said what is in
+    /// scope.
     pub fn enter_region(
         &mut self,
         alloc: Global,

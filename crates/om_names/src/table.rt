@@ -19,7 +19,7 @@ pub struct Table {
     bindings: Vec<(Vec<u8>, Meaning)>,
 }
 
-// By hand: crates above call this, and do not open the table.
+// By hand: other crates call this, and do not open the table.
 impl Drop for Table {
     fn drop(self) {
         let Table {

@@ -1,5 +1,4 @@
--- Matter of proofs, for om_parser too: reading that stops by another code than that of syntax, in a part and in
--- the tree round it.
+-- For proofs: reading that stops by another code than that of syntax, in a part and in the tree round it.
 use Rattle.std.proofs.Common.{◌≡◌, ℕ, zero, suc, List, ◌++◌, Option, Some, None, Ok, Err, sym, ap, subst, ◌∙◌}
 use Rattle.std.proofs.Common.{append_assoc, inl, inr}
 use Rattle.om_lexer.specs.declared.fault.SourceFault.{SourceFault}

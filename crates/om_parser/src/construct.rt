@@ -1,4 +1,4 @@
-//! Which directive a line is, by its first word (OpenMP API 5.2, chapter 3).
+//! What a directive line begins, by the word behind `omp` (OpenMP API 5.2, chapter 3).
 
 ghost use Rattle.std.specs.Prelude.{◌≡◌};
 ghost use Rattle.om_parser.specs.ConstructReading.{at_section, ends_part, from_word, line_start, start_of_kind, start_of_line, word_start};

@@ -1,7 +1,8 @@
 //! What ends a statement behind the statement in it: of a `do`, its condition, and of an `atomic`, the test
 //! of its form.
 //!
-//! As what puts statements together, none of these may be inlined into the functions of the recursion.
+//! As with `om_tree::assembly`, none of these may be inlined into the functions of the recursion, so that
+//! their frames stay small.
 
 ghost use Rattle.std.specs.Prelude.{◌≡◌};
 ghost use Rattle.om_parser.specs.ConstructReading.{atomic_of};

@@ -17,7 +17,7 @@ use om_tree::boxed::boxed_before;
 use om_tree::{Condition, Expression, ForHead, ForStart};
 use std::alloc::Global;
 
-/// What stands before the statement that is its body.
+/// What an `if`, a `while` or a `for` has before its body.
 #[derive(Drop)]
 pub enum Opening {
     If(Span, Box<Condition>),

@@ -43,7 +43,7 @@ pub fn simple<'a>(
     }
 }
 
-// The value that is returned, if one is, its semicolon, and the tokens behind them.
+// A `return`, of which the word is taken, and the tokens behind it.
 #[tactic(auto, unfolding(crate::specs::StatementReading::return_after, crate::specs::StatementReading::optional_before))]
 fn return_after(
     alloc: Global,

@@ -61,8 +61,10 @@ pub const STACK_SIZE: usize = 256 << 20;
 ///
 /// S5, and S6 of a clause, are of whole lines, and what stands before such a line begins a
 /// well-formed unit that goes on with a line there. So do the tokens up to that of an S16, the
-/// token with them. Where a source has several faults, its tokens alone decide which of them is
-/// given, and the byte of an S3: it is the one at which reading from the left stops.
+/// token with them, where it stands in no clause. In a clause some expression begins with the tokens
+/// behind its parenthesis, up to that of the S16. Where a source has several faults, its tokens alone
+/// decide which of them is given, and the byte of an S3: it is the one at which reading from the left
+/// stops. What is known of that place is [`syntax_stands`].
 ///
 /// A source may nest deep: the call should have [`STACK_SIZE`] bytes of stack.
 pub fn parse(alloc: Global, tokens: &[Token]) -> Result<Unit, SourceFault>

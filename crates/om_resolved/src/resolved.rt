@@ -424,7 +424,7 @@ pub struct Resolved {
     pub functions: Vec<ResolvedFunction>,
 }
 
-// By hand: crates above call this, and do not prove anew how each part is dropped.
+// By hand: other crates call this, and do not prove anew how each part is dropped.
 impl Drop for Resolved {
     fn drop(self) {
         let Resolved { globals, functions } = self;

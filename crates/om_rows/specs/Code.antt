@@ -35,7 +35,7 @@ body_row at n f (ParallelBody first clauses captures s) =
 body_row at n f (TaskBody first clauses captures s) =
     part (statement at n s nowhere) ▸ ins at first.line i.TaskEnd ▸ end
 
--- the variables that the values go to with which a frame of a body begins
+-- the variables that get the values with which a frame of a body begins
 abbrev pub given_variables : ResolvedFunctionTree → BodyTree → List ℕ
 given_variables f FunctionBody = map parameter_sight f.parameters
 given_variables f (ParallelBody first clauses captures s) = map (λ copy. copy.variable)

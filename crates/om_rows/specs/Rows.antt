@@ -36,7 +36,7 @@ Row = ℕ → ℕ → Type 0
 abbrev pub end : Row
 end p q = p ≡ q
 
--- no code at all
+-- a row that no code has
 abbrev pub never : Row
 never p q = ⊥
 
@@ -56,7 +56,7 @@ infixr 3 ◌▸◌
 abbrev pub ◌▸◌ : (Row → Row) → Row → Row
 f ▸ rest = f rest
 
--- the row of what is there; without it there is no code
+-- the row of what is there; without it no code has the row
 abbrev pub given : {A : Type 0} → Option A → (A → Row) → Row
 given None row = never
 given (Some x) row = row x
@@ -71,7 +71,7 @@ abbrev pub each : {A : Type 0} → (A → Row) → List A → Row
 each row [] = end
 each row (x ∷ xs) = part (row x) ▸ each row xs
 
--- unless this is so
+-- a row, or nothing where this is so
 abbrev pub unless : Bool → Row → Row
 unless true row = end
 unless false row = row

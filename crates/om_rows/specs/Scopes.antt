@@ -101,7 +101,7 @@ abbrev pub opens_at : (from : ℕ) → Option ℕ → LocalVariable → Row → 
 opens_at from length variable row p q found =
     row p q × (found ≡ opening (opened_with length from variable ∷ []))
 
--- that begins with the first instruction of this code
+-- a scope that begins with the first instruction of this code
 abbrev pub opens : Option ℕ → LocalVariable → Row → Scoping
 opens length variable row p q found = opens_at p length variable row p q found
 

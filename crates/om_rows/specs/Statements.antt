@@ -1,5 +1,5 @@
--- The code of statements and directives, row by row as docs/LANGUAGE has it (*The code of each form*). An instruction has the line of
--- the first token of its statement, or of its `if`, `while`, `do` or `for`. Those of a directive have the
+-- The code of statements and directives, row by row as docs/LANGUAGE has it (*The code of each form*). An
+-- instruction has the line of the first token of its statement, or of its `if`, `while`, `do` or `for`. Those of a directive have the
 -- directive's, but for a loop's bounds; so have all those of an `atomic`.
 use Rattle.std.specs.Prelude.{◌≡◌, ℕ, pos, List, [], ◌∷◌, Option, None, Some, Bool, true, false, length, is_some}
 use Rattle.std.specs.Prelude.{slice_get}
@@ -313,7 +313,7 @@ abbrev mutual
   statements at n NoStatements jumps = end
   statements at n (Statement s rest) jumps = part (statement at n s jumps) ▸ statements at (behind n s) rest jumps
 
-  -- the parts of `sections`, which begin at these places; behind each one goes on with the next section
+  -- the parts of `sections`, which begin at these places; behind each a JMP leads to the next section
   pub parts : Site → Numbers → ℕ → ℕ → ResolvedPartsTree → List ℕ → Row
   parts at n l grab NoParts places = no_place places
   parts at n l grab (Part items rest) places =

@@ -41,7 +41,7 @@ pub struct Chances {
     player: Player,
 }
 
-// By hand: crates above call this, and do not prove anew how each part is dropped.
+// By hand: other crates call this, and do not prove anew how each part is dropped.
 impl Drop for Chances {
     fn drop(self) {
         let Chances { player } = self;

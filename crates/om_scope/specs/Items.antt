@@ -1,4 +1,4 @@
--- Matter of proofs: the item of a slice where a loop stands, for this crate and those above it.
+-- For proofs: the item of a slice where a loop stands.
 use Rattle.std.proofs.Common.{◌≡◌, ℕ, suc, ◌+◌, ◌<◌, List, [], ◌∷◌, map, length, drop, get_or, refl}
 use Rattle.std.proofs.Common.{sym, ap, ◌∙◌, add-one}
 use Rattle.std.proofs.Math.Seq.{drop-cons}

@@ -1,4 +1,4 @@
--- Matter of proofs, for the crates that depend on this one: a list with one more item.
+-- For proofs: a list with one more item.
 use Rattle.std.proofs.Common.{◌≡◌, List, [], ◌∷◌, ◌++◌, map}
 use Rattle.std.proofs.lemmas.List.{map-append}
 

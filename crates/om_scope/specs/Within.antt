@@ -1,4 +1,4 @@
--- Matter of proofs: what is declared in a construct or block stays within it, for this crate and those above it.
+-- For proofs: what is declared in a construct or block stays within it.
 use Rattle.std.proofs.Common.{◌≡◌, List, [], ◌∷◌, ◌++◌, refl, ap, ◌∙◌}
 use Rattle.om_tree.specs.Tree.{DeclaratorTree, ExpressionTree, StatementTree}
 use Rattle.om_tree.specs.Tree.{LocalDeclaration, Block, Empty, Expression, If, IfElse, While, Do, For, Return, Break}

@@ -287,6 +287,7 @@ pub fn check_prototype(
 fn check_definition(symbols: &Symbols, head: &FunctionHead<Name>) -> Result<(), SourceFault>
     ensures { ChecksExactly result (definition_breaches symbols.now (view_head head.now)) }
 {
+    // Three count as defined before any source: `printf` and the two calls of OpenMP.
     let full = symbols.defined_count() >= FUNCTION_LIMIT + 3;
     refuse_if(full, FaultCode::TooMany, head_first(head).start)?;
     let defined = symbols.is_defined(head.name.text.as_slice());

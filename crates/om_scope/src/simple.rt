@@ -178,7 +178,7 @@ fn resolve_alone(
     }
 }
 
-/// Refuses a `section` that begins one part too many behind so many: S11.
+/// Refuses a `section` where so many parts stand before it that it begins one too many: S11.
 pub(crate) fn check_section(
     before: usize,
     section: &Option<Box<Directive<Expression>>>,

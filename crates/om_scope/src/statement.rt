@@ -196,7 +196,7 @@ fn resolve_body(
     found
 }
 
-// The same, where it lies in a box.
+// A statement, or a declaration in a block, in a box. It gets no scope of its own.
 #[cycle(statement)]
 fn boxed_statement(
     alloc: Global,

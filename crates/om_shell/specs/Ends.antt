@@ -14,7 +14,8 @@ use Rattle.om_shell.specs.Script.{book_of, source_of, script_by, IsScript}
 use Rattle.om_shell.specs.Transcript.{Transcript}
 use Rattle.om_shell.specs.Verdict.{IsVerdict}
 
--- 0, or 1 for a source that is refused
+-- the status of a run that came to its end: 0, or 1 for a source that is refused (`Outcomes.status_of` is that of
+-- the program)
 abbrev pub status_of : Result Raw SourceFault → ℕ
 status_of (Ok program) = 0
 status_of (Err fault) = 1

@@ -1,4 +1,4 @@
--- How the bytes that are read fall into a source and lines, and a line into words.
+-- How the bytes that are read fall into a source and lines of commands.
 use Rattle.std.specs.Prelude.{◌≡◌, ℕ, Bool, true, false, List, [], ◌∷◌, ◌++◌, ◌==◌, if◌then◌else◌, codes, length}
 use Rattle.std.specs.List.{slice_split, position_or_len}
 use Rattle.std.specs.Str.{bytes_eq}

@@ -3,7 +3,7 @@ use Rattle.std.specs.Prelude.{ℕ}
 use Rattle.om_shell.specs.declared.outcome.Outcome.{Outcome}
 use Rattle.om_shell.specs.declared.outcome.Outcome.TheVariants.{Ran, Words, Fault}
 
--- 0 and 1 are a run's own, 2 stands for words, 3 for a fault
+-- the status of the program: 0 and 1 are a run's own (`Ends.status_of`), 2 stands for words, 3 for a fault
 abbrev pub status_of : Outcome → ℕ
 status_of (Ran status) = status
 status_of Words = 2

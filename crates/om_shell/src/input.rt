@@ -19,7 +19,7 @@ pub struct Input {
     pub reads_left: u64,
 }
 
-// By hand: crates above call this, and do not prove anew how each part is dropped.
+// By hand: other crates call this, and do not prove anew how each part is dropped.
 impl Drop for Input {
     fn drop(self) {
         let Input {

@@ -69,7 +69,8 @@ first_records workers worker =
     (0 ∷ []) 1 1 flag.Initial ∷ []
     else if nat_lt worker workers then event_record.ThreadBegin thread.Worker ∷ [] else []
 
--- the state in which a program starts: worker 0 runs the initial task, all else is as by default
+-- the state in which a program starts: worker 0 runs the initial task, globals have their initial values, each
+-- worker has its first event records, and all else is as by default
 abbrev pub start_of : Raw → ℕ → State
 start_of program workers (obj.Control worker) = value.Control (first_control program worker)
 start_of program workers (obj.Global variable index) = value.Cell (cell.Int (initial_at program variable index))
@@ -125,7 +126,7 @@ choice_row s instr (Start name) = start_row (record {
 abbrev pub asked : Site → Choice → Asked
 asked s choice = choice_row s (instruction_at s.program s.stack.top.frame.body s.stack.top.frame.next) choice
 
--- what comes of a row. A fault leaves the stack as it was; where something lacks, the worker has ended
+-- what comes of a row. A fault leaves the stack as it was; where something is missing, the worker has ended
 abbrev pub outcome_after : controls.Control → Row → Outcome
 outcome_after control (row.Goes edits updates) = Updates (Put (value.Control (changed edits control)) ∷ updates)
 outcome_after control (row.Faults fault) = Updates (Put (value.Control (changed (Fail fault ∷ []) control)) ∷ [])

@@ -15,6 +15,8 @@ use Rattle.om_values.specs.declared.value.Val.TheVariants as value
 use Rattle.om_values.specs.Rules.{Rules, control_access}
 use Rattle.om_task.specs.Rules.{rules_of}
 
+-- the next four are those of `om_history Shapes` once more: neither crate depends on the other
+
 -- whether an object is a worker's control
 abbrev pub is_trailed : Obj → Bool
 is_trailed (obj.Control worker) = true

@@ -36,11 +36,12 @@ group_count (Some group) = add (obj.Group group) ∷ []
 abbrev pub counts : List ℕ → Context → Option (List ℕ) → List Access
 counts parent c group = add (obj.Kids parent) ∷ add (obj.Pending c.team.name c.phase) ∷ group_count group
 
--- a number that is added to each of them
+-- a number that is added to the count of a task group, where there is a group
 abbrev pub group_addition : ℤ → Option (List ℕ) → List Update
 group_addition d None = []
 group_addition d (Some group) = Add d ∷ []
 
+-- a number that is added to each of these counts
 abbrev pub additions : ℤ → Option (List ℕ) → List Update
 additions d group = Add d ∷ Add d ∷ group_addition d group
 

@@ -1,4 +1,4 @@
--- Matter of proofs: the touches of workers' controls, with and without one, apart from those of other objects.
+-- For proofs: the touches of workers' controls, with and without one, apart from those of other objects.
 use Rattle.std.proofs.Common.{◌≡◌, refl, sym, ◌∙◌, ap, Bool, true, false, cond, ◌&&◌, nat_eq, ℕ}
 use Rattle.std.proofs.Common.{None, Some, List, [], ◌∷◌, set}
 use Rattle.std.specs.Prelude.{slice_get}

@@ -66,10 +66,6 @@ IsFirst-same P Q s None same h = λ t above. sym (same t) ∙ h t above
 IsFirst-same P Q s (Some a) same h =
     (h.0, sym (same a) ∙ h.1, λ t above below. sym (same t) ∙ h.2 t above below)
 
--- nothing passes a test that is false
-pub IsFirst-none : (P : ℕ → Bool) (s : ℕ) → ((t : ℕ) → P t ≡ false) → IsFirst P s None
-IsFirst-none P s h = λ t above. h t
-
 -- a search of a footprint goes on behind it
 pub meets-append : (touch : Obj → Mode → ℕ → Bool) (xs ys : List Access) (s : ℕ)
     → meets touch (xs ++ ys) s ≡ cond (meets touch xs s) true (meets touch ys s)

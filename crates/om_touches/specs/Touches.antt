@@ -107,7 +107,7 @@ abbrev pub has_slot_write : SlotTouches → Obj → ℕ → Bool
 has_slot_write slots (object.Cell t f n i) s = has_span (spans_of slots (record { task = t; frame = f; slot = n })) i s
 has_slot_write slots _ s = false
 
--- whether there is a touch of a cell as one of a beginning of its slot, which is a write
+-- whether an entry wrote a cell together with the first cells of its slot: such a touch is a write
 abbrev pub has_slot_touch : SlotTouches → Obj → Mode → ℕ → Bool
 has_slot_touch slots o Read s = false
 has_slot_touch slots o Write s = has_slot_write slots o s

@@ -35,7 +35,7 @@ pub struct Accesses {
     worker: u8,
 }
 
-// By hand: crates above call this, and do not prove anew how each part is dropped.
+// By hand: other crates call this, and do not prove anew how each part is dropped.
 impl Drop for Accesses {
     fn drop(self) {
         let Accesses { forms, worker: _ } = self;

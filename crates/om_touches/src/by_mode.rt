@@ -19,8 +19,7 @@ pub struct Touches {
     additions: Serials,
 }
 
-// The first touch after a serial, where all are of one mode, that conflicts with an access of
-// another one.
+// The first touch after a serial that conflicts with an access of `mode`, where all touches are `touched`.
 fn first_of_mode(serials: &Serials, touched: Mode, mode: Mode, serial: u64) -> Option<u64>
     ensures { IsFirst (λ s. modes_conflict mode touched && has serials.now s) serial result }
 {

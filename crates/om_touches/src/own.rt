@@ -24,7 +24,7 @@ fn serials_of(workers: &[Serials], worker: u8) -> Option<&Serials>
     workers.get(worker as usize)
 }
 
-// By hand: crates above call this, and do not prove anew how each part is dropped.
+// By hand: other crates call this, and do not prove anew how each part is dropped.
 impl Drop for OwnEntries {
     fn drop(self) {
         let OwnEntries { workers } = self;

@@ -14,8 +14,8 @@ use om_foot::{Obj, SharedCells, SlotName};
 use std::alloc::{AllocError, Global};
 use std::collections::BTreeMap;
 
-/// For each slot the writes of its beginnings. A run without arrays has none, and then nothing is
-/// sought here.
+/// For each slot the writes of its beginnings, each so many of its first cells. A run without arrays has
+/// none, and then nothing is sought here.
 ///
 /// Contracts see which entry touches a cell so (`has_slot_touch`).
 #[derive(Drop)]

@@ -25,7 +25,7 @@ pub struct TouchLists {
     slots: SlotTouches,
 }
 
-// By hand: crates above call this, and do not prove anew how each part is dropped.
+// By hand: other crates call this, and do not prove anew how each part is dropped.
 impl Drop for TouchLists {
     fn drop(self) {
         let TouchLists { singles, slots } = self;
@@ -121,8 +121,8 @@ impl TouchLists {
         }
     }
 
-    /// Takes the touches of an entry out. It may have been added in other parts, so all its touches
-    /// are to be of this footprint. It takes no memory.
+    /// Takes the touches of an entry out. All of them have to be of this footprint, since
+    /// some are taken out together, whatever objects they are of. It takes no memory.
     pub fn remove_all(&mut self, footprint: &Accesses, serial: u64)
         requires { AreOnly (accesses_of footprint.now) serial self.old }
         ensures { AreWithout (accesses_of footprint.now) serial self.old self.new }

@@ -380,7 +380,7 @@ pub struct Unit {
     pub end: Span,
 }
 
-// By hand: crates above call this, and do not prove anew how each part is dropped.
+// By hand: other crates call this, and do not prove anew how each part is dropped.
 impl Drop for Unit {
     fn drop(self) {
         let Unit { items, end: _ } = self;

@@ -15,7 +15,7 @@ use Rattle.om_history.specs.Leaves.{Leaves}
 abbrev pub history_after : Raw → ℕ → List Command → History
 history_after program workers commands = run (rules_of program workers) no_history commands
 
--- the three sentences, of a program with so many workers, and what each command leaves
+-- of a program with so many workers: the three sentences of README, and what each step and each undo leaves
 pub record Headline (program : Raw) (workers : ℕ) : Type 0 where
   -- after any commands the entries that remain can be made, in order, from the start; the state that they give is
   -- `state_of_entries`. That a machine's store holds that state is promised by `Machine::look` and `Machine::control`
@@ -30,8 +30,9 @@ pub record Headline (program : Raw) (workers : ℕ) : Type 0 where
   -- names the first
   pub undo_is_refused_exactly_at_conflicts : (commands : List Command) (worker : ℕ)
       → UndoReplies (rules_of program workers) (history_after program workers commands) worker
-  -- a step that is made adds its entry behind the others, an undo that is done takes out that entry and no other, and
-  -- a command that is refused changes nothing; so what remains after any commands are the very steps that stood
+  -- a step that is made adds its entry behind the others, an undo that is done takes out its worker's last entry
+  -- and no other, and a step or an undo that is not done changes nothing. Of rolls nothing is said here: each is a
+  -- list of such undos (`RollIsUndos` of om_history)
   pub commands_leave_the_other_steps : (commands : List Command)
       → Leaves (rules_of program workers) (history_after program workers commands)
 

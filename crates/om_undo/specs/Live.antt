@@ -1,4 +1,4 @@
--- Matter of proofs: a worker's control that is changed in place may cross threads, and its trail.
+-- Matter of proofs: a worker's control that is changed in place, and its trail, may cross threads.
 use Rattle.std.proofs.Crossing.{crosses}
 use denote.RattleType.{RattleType}
 use denote.Param.Send.{IsSend, sendable}

@@ -1,4 +1,4 @@
--- Matter of proofs: what an object holds may cross threads, and an update of it.
+-- Matter of proofs: what an object holds, and an update of it, may cross threads.
 use denote.Param.Send.{IsSend, IsSync, sendable}
 use Rattle.std.specs.contracts.option.Option as option
 use Rattle.om_seq.specs.contracts.Seq as seq

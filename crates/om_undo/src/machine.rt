@@ -45,7 +45,7 @@ pub struct Machine {
     history: History,
 }
 
-// By hand: crates above call this, and do not prove anew how each part is dropped.
+// By hand: other crates call this, and do not prove anew how each part is dropped.
 impl Drop for Machine {
     fn drop(self) {
         let Machine {

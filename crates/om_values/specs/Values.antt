@@ -1,4 +1,4 @@
--- Values: the defaults, one reader a kind, numbers of refusals, sums of counts, and what is appended.
+-- Values: the defaults, one reader a kind, numbers of blocked steps, sums of counts, and what is appended.
 use Rattle.std.specs.Prelude.{ℕ, Bool, true, false, ℤ, pos, ◌+ℤ◌, FitsSigned, Option, Some, None, List, [], ◌++◌}
 use Rattle.std.specs.Prelude.{length, take}
 use Rattle.std.specs.Int.{w128}
@@ -33,7 +33,7 @@ default_of (obj.Group g) = Count (pos 0)
 default_of obj.Output = Output []
 default_of (obj.Events w) = Events []
 
--- the number of a refusal: 5 for B5
+-- the number of a reason why a step is blocked: 5 for B5
 abbrev pub blocked_number : Blocked → ℕ
 blocked_number blocked.Barrier = 1
 blocked_number (blocked.Critical worker) = 2

@@ -20,7 +20,7 @@ pub struct Puts {
     last: Seq<Update>,
 }
 
-// By hand: crates above call this, and do not prove anew how each part is dropped.
+// By hand: other crates call this, and do not prove anew how each part is dropped.
 impl Drop for Puts {
     fn drop(self) {
         let Puts { first, runs, last } = self;

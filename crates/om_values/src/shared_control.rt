@@ -17,7 +17,7 @@ pub struct SharedControl {
     control: Option<Shared<Control>>,
 }
 
-// By hand: crates above call this, and do not prove anew how each part is dropped.
+// By hand: other crates call this, and do not prove anew how each part is dropped.
 impl Drop for SharedControl {
     fn drop(self) {
         let SharedControl { control } = self;

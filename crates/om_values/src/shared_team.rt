@@ -15,7 +15,7 @@ pub struct SharedTeam {
     team: Shared<Team>,
 }
 
-// By hand: crates above call this, and do not prove anew how each part is dropped.
+// By hand: other crates call this, and do not prove anew how each part is dropped.
 impl Drop for SharedTeam {
     fn drop(self) {
         let SharedTeam { team } = self;

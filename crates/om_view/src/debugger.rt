@@ -31,7 +31,7 @@ pub struct Debugger {
     marks: Marks,
 }
 
-// By hand: crates above call this, and do not prove anew how each part is dropped.
+// By hand: other crates call this, and do not prove anew how each part is dropped.
 impl Drop for Debugger {
     fn drop(self) {
         let Debugger { book, marks } = self;
