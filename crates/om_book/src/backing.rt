@@ -1,4 +1,5 @@
-//! The comparison of answers with the receipts of their seats, in one walk.
+//! The comparison of answers with the receipts of their seats, in one walk. No command needs it: om_checks alone
+//! drives seats.
 
 ghost use Rattle.std.specs.Prelude.{◌≡◌, ◌↔◌, ◌≤◌, IsTrue, IfSome, IfNone, Some, false, length, slice_get, take, drop, vec_len};
 ghost use Rattle.om_book.specs.Backing.{Has, Turn, turn_of, turns_at, in_turns, IsReceipted, IsBacked, Keeps, Passes};

@@ -218,7 +218,8 @@ impl Book {
         }
     }
 
-    /// Does what a seat's command asks, and adds its record to the journal.
+    /// Does what a seat's command asks, and adds its record to the journal. om_checks alone calls it; sessions use
+    /// the calls of single commands.
     ///
     /// Errors are `Full`, exactly where there are 200,000 records, and out of memory. They
     /// change nothing.

@@ -1,4 +1,4 @@
-//! Books and sessions. A book is a machine with the journal of its calls. In a session seats share a book
+//! Sessions: books and seats. A book is a machine with the journal of its calls. In a session seats share a book
 //! under one lock; here are their receipts, orders and answers. An answer to an order is kept where a receipt
 //! of its seat backs it.
 //!

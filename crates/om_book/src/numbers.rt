@@ -1,4 +1,4 @@
-//! The numbers of orders, round by round.
+//! The numbers of orders, round by round. No command needs it: om_checks alone drives seats.
 
 ghost use Rattle.std.specs.Prelude.{◌≡◌, ◌≢◌, ◌↔◌, ◌++◌, IsTrue, IfOk, OnOk};
 ghost use Rattle.std.specs.List.{AllPairs};

@@ -1,4 +1,5 @@
-//! Rounds: in each, every list that still has an order gives its next.
+//! Rounds: in each, every list that still has an order gives its next. No command needs it: om_checks alone
+//! drives seats.
 
 ghost use Rattle.std.specs.Prelude.{◌≡◌, slice_get};
 ghost use Rattle.om_book.specs.Rounds.{longest};

@@ -1,4 +1,4 @@
-//! Runs the cases of its standard input, and prints what is said of them: C sources, of which each has the
+//! Cases of the gate: runs the cases of its standard input, and prints what is said of them: C sources, of which each has the
 //! verdict that is wanted of the front end beside it, the beginnings of a source, and whole sessions of
 //! several workers, of which it tells what the debugger writes. Where the last line is `== checks`, it then
 //! says of sessions what no contract says: that free runs end, what their books hold, and that reads and writes

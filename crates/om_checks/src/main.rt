@@ -1,4 +1,4 @@
-//! Makes checks of the machine, the book, sessions and drives that no contract and no session script can make:
+//! Checks of the gate: makes checks of the machine, the book, sessions and drives that no contract and no session script can make:
 //! that threads of their own step the workers, that gates are asked, that calls are answered at all, and that a
 //! long history is undone in time. Prints one line a check, which ends with ` is WRONG` where it failed.
 #![tactic(auto)]

@@ -1,4 +1,4 @@
-//! The page of a session: its source beside the picture of its causal history.
+//! omplab: the page of a session: its source beside the picture of its causal history.
 #![tactic(auto)]
 
 mod beside;

@@ -1,4 +1,5 @@
-//! Rounds: in each, every list that still has an order gets its next one asked and answered.
+//! Rounds: in each, every list that still has an order gets its next one asked and answered. No command needs
+//! it: om_checks alone drives workers.
 
 ghost use Rattle.std.specs.Prelude.{◌≡◌, ℕ, ◌<◌, ◌≤◌, ◌+◌, ◌++◌, ◌∷◌, [], IfOk, OnOk, OnErr, None, length, vec_len, vec_capacity, map, take};
 ghost use Rattle.om_book.specs.Rounds.{answer_number, listed, round_at, in_rounds, Begins};

@@ -1,4 +1,4 @@
-//! Words: what each code means, and what to write in place of C that is left out. It knows no streams.
+//! omplab, words: what each code means, and what to write in place of C that is left out. It knows no streams.
 #![tactic(auto)]
 
 mod answer;

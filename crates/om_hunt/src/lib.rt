@@ -1,4 +1,4 @@
-//! The hunt, above the debugger: what it shows of the first schedule by chance that is bad.
+//! omplab, the hunt: what it shows of the first schedule by chance that is bad.
 #![tactic(auto)]
 
 mod hunting;

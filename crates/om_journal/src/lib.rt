@@ -1,4 +1,4 @@
-//! What a journal of calls has in it: commands, replies and records; and whether two values of the
+//! Sessions: what a journal of calls has in it: commands, replies and records; and whether two values of the
 //! machine are the same.
 #![tactic(auto)]
 

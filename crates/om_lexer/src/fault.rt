@@ -28,7 +28,8 @@ pub enum FaultCode {
     Undeclared,
     /// S8: a name that is declared twice.
     Redeclared,
-    /// S9: a name or a value that is used as what it is not, or a `main` or an array of a wrong form.
+    /// S9: a name that is used as the wrong kind of thing, a value where none is allowed, or a `main` or an
+    /// array of a wrong form.
     Misuse,
     /// S10: a constant above 2147483647.
     ConstantTooLarge,

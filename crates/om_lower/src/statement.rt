@@ -158,6 +158,7 @@ pub(crate) fn statement(
                 captures: captures.as_slice(),
                 statement: body,
             };
+            // Named for the prover alone: a goal in `proofs/` speaks of what is behind it.
             let after = parallel(alloc, &mut writing.draft, tables, numbers, &region)?;
             Ok(after)
         }
@@ -173,6 +174,7 @@ pub(crate) fn statement(
                 captures: captures.as_slice(),
                 statement: body,
             };
+            // Named for the prover alone: a goal in `proofs/` speaks of what is behind it.
             let after = task(alloc, &mut writing.draft, tables, numbers, &region)?;
             Ok(after)
         }

@@ -1,5 +1,5 @@
-//! The names in scope at a place, what a use of one means there, and how the constructs round it share
-//! that (C17 6.2.1; OpenMP API 5.2, section 5.1).
+//! Names and rules: the names in scope at a place, what a use of one means there, and how the constructs
+//! round it share that (C17 6.2.1; OpenMP API 5.2, section 5.1).
 #![tactic(auto)]
 
 mod construct;

@@ -1,4 +1,4 @@
-//! Notes: a filter that puts words behind the answers of a session, and changes nothing else of them.
+//! omplab, notes: a filter that puts words behind the answers of a session, and changes nothing else of them.
 #![tactic(auto)]
 
 mod cell;

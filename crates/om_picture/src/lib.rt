@@ -1,4 +1,4 @@
-//! The picture of a history, as data: its entries with what each touched, as boxes and arrows.
+//! omplab: the picture of a history, as data: its entries with what each touched, as boxes and arrows.
 #![tactic(auto)]
 
 mod arrows;

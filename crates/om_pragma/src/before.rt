@@ -31,7 +31,7 @@ pub fn expression_before(tokens: &[Token], place: u32) -> Option<&[Token]>
     }
 }
 
-/// The expression of a clause whose word stands there, where the clause ends before the place.
+// The expression of a clause whose word stands there, where the clause ends before the place.
 // Behind the place no clause is looked through, so a long run of open parentheses takes linear time.
 #[tactic(auto, unfolding(crate::specs::Reading::expression_at))]
 fn expression_at<'a>(word: &Token, tokens: &'a [Token], place: u32) -> Option<&'a [Token]>

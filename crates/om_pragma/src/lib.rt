@@ -1,4 +1,4 @@
-//! Directive lines: the tokens of one `#pragma omp` line to its directive (OpenMP API 5.2).
+//! Text, tokens, trees: the tokens of one `#pragma omp` line to its directive (OpenMP API 5.2).
 #![tactic(auto)]
 
 mod argument;

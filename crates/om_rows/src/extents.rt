@@ -42,8 +42,8 @@ impl Extents {
         }
     }
 
-    #[tactic(auto, using(crate::proofs::Cells::cells_found))]
     /// How many cells a variable has: 1 unless it is declared with more.
+    #[tactic(auto, using(crate::proofs::Cells::cells_found))]
     pub fn cells(&self, variable: u32) -> u32
         ensures { result ≡ cells_in self.now variable }
     {

@@ -1,4 +1,4 @@
-//! Scripts, above the debugger: the steps that a session leaves, as commands that make them again.
+//! omplab, scripts: the steps that a session leaves, as commands that make them again.
 #![tactic(auto)]
 
 mod answer;

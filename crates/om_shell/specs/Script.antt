@@ -24,8 +24,7 @@ abbrev pub commands_of : Option (List ℕ) → List ℕ → List (List ℕ)
 commands_of (Some source) input = lines input
 commands_of None input = commands_in (parts_of input)
 
--- the answers to the commands, by a source's program; or the one line of its refusal, and then
--- no command is run
+-- the answers to the commands, by a source's program; or the one line of its refusal, and no command is run
 abbrev pub transcript_of : Result Raw SourceFault → ℕ → List FreeRun → List ℕ → List (List ℕ) → Transcript Debugger
 transcript_of (Ok program) workers runs source commands = session (opened program workers) runs commands
 transcript_of (Err fault) workers runs source commands = record { text = refusal_text source fault; view = None }

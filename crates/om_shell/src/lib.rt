@@ -1,4 +1,5 @@
-//! The shell: a source and commands go in as bytes, replies come out, and each way to end has its status.
+//! Commands and answers: the shell. A source and commands go in as bytes, answers come out, and each way to end
+//! has its status.
 //!
 //! Files read whole, the words that a program was called with, and what else both programs do with bytes are here
 //! too: an input that is read on, its lines, its places, and a session cut into source and commands.

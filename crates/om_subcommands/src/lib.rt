@@ -1,4 +1,4 @@
-//! The words of omplab's command line: its subcommands.
+//! omplab: the words of its command line, and its subcommands.
 #![tactic(auto)]
 
 mod command;

@@ -1,4 +1,5 @@
-//! What the choice of a worker names, what comes of it, and the plan of its step.
+//! What the choice of a worker names, what comes of it, and the plan of its step. No program calls `names` and
+//! `effect`: `plan` gives both.
 
 ghost use Rattle.std.specs.Prelude.{◌≡◌, ◌∷◌, ◌≤◌, ◌^◌, IfOk};
 ghost use Rattle.om_foot.specs.declared.footprint.Mode.TheVariants as mode;

@@ -1,4 +1,4 @@
-//! The steps of a history, made again one by one: what each touched, and in words what it did.
+//! omplab: the steps of a history, made again one by one: what each touched, and in words what it did.
 #![tactic(auto)]
 
 mod replay;

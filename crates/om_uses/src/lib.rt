@@ -1,5 +1,5 @@
-//! Uses: expressions, declarations, directives and the bounds of loops. Each has its breaches or its
-//! resolution.
+//! Names and rules: the uses of names, in expressions, declarations, directives and the bounds of loops.
+//! Each has its breaches or its resolution.
 #![tactic(auto)]
 
 mod bounds;
