@@ -218,8 +218,7 @@ impl Book {
         }
     }
 
-    /// Does what a seat's command asks, and adds its record to the journal. om_checks alone calls it; sessions use
-    /// the calls of single commands.
+    /// Does what a seat's command asks, and adds its record to the journal. om_checks alone calls it.
     ///
     /// Errors are `Full`, exactly where there are 200,000 records, and out of memory. They
     /// change nothing.
