@@ -22,6 +22,11 @@ cells_more first cs c last none =
     listed_more (d ∷ ds) = ap (λ m. cells_of d ++ m) (listed_more ds)
         ∙ sym (append_assoc (cells_of d) (cells_listed ds) (cells_of c))
 
+-- the same, with nothing in front
+pub behind_more : (cs : List Cells) (c : Cells) (last : List Access) → last ≡ []
+    → cells_listed (cs ++ c ∷ []) ++ last ≡ (cells_listed cs ++ last) ++ cells_of c
+behind_more cs c last none = cells_more [] cs c last none
+
 -- the cells behind one more
 pub cells_past : (names : List Access) (slot : SlotName) (n count : ℕ) → n < count
     → (names ++ cell_access slot n ∷ []) ++ cells_from slot (n + 1) (count - (n + 1))

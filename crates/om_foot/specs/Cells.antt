@@ -1,5 +1,6 @@
 -- The cells of a slot, and the accesses that cells named at once stand for.
 use Rattle.std.specs.Prelude.{ℕ, zero, suc, ◌+◌, Option, None, Some, List, [], ◌∷◌, ◌++◌}
+use Rattle.std.specs.Global.{Box}
 use Rattle.om_foot.specs.declared.object.Obj.{Obj}
 use Rattle.om_foot.specs.declared.object.Obj.TheVariants as obj
 use Rattle.om_foot.specs.declared.footprint.Mode.TheVariants as mode
@@ -34,3 +35,8 @@ cells_of c = cells_from c.slot 0 c.count
 abbrev pub cells_listed : List Cells → List Access
 cells_listed [] = []
 cells_listed (c ∷ cs) = cells_of c ++ cells_listed cs
+
+-- what stands behind other items, in a box where there is any
+abbrev pub boxed_list : {A : Type 0} → Option (Box (List A)) → List A
+boxed_list None = []
+boxed_list (Some items) = items.value

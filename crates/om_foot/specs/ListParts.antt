@@ -12,6 +12,14 @@ first_more first middle last x none empty =
     ∙ sym (ap (λ m. (first ++ (m ++ last)) ++ x ∷ []) none ∙ ap (λ l. (first ++ l) ++ x ∷ []) empty
     ∙ ap (λ f. f ++ x ∷ []) (append-nil first))
 
+-- more behind the first part, where there is no other
+pub only_more : {A : Type 0} → (first more : List A) → (first ++ more) ++ [] ≡ (first ++ []) ++ more
+only_more first more = append-nil (first ++ more) ∙ sym (ap (λ f. f ++ more) (append-nil first))
+
+-- more behind the second of two parts
+pub second_more : {A : Type 0} → (first second more : List A) → first ++ (second ++ more) ≡ (first ++ second) ++ more
+second_more first second more = sym (append_assoc first second more)
+
 -- more behind the last part
 pub last_more : {A : Type 0} → (first middle last more : List A)
     → first ++ (middle ++ (last ++ more)) ≡ (first ++ (middle ++ last)) ++ more

@@ -1,8 +1,8 @@
 //! What a step names beside its worker's control.
 
-ghost use Rattle.std.specs.Prelude.{◌≡◌, ◌++◌, ◌∷◌, [], true, IfOk, OnOk};
+ghost use Rattle.std.specs.Prelude.{◌≡◌, ◌++◌, ◌∷◌, [], IfOk, OnOk};
 ghost use Rattle.om_foot.specs.declared.footprint.Access.{Access};
-ghost use Rattle.om_foot.specs.Cells.{cell_access, cells_of, cells_listed};
+ghost use Rattle.om_foot.specs.Cells.{cell_access, cells_of, cells_listed, boxed_list};
 
 use crate::cells::{Cells, SlotName};
 use crate::footprint::{Access, Mode};
@@ -10,69 +10,74 @@ use om_seq::Seq;
 use std::alloc::{AllocError, Global};
 use std::marker::Model;
 
-/// What a step names beside its worker's control: single objects, then cells of slots that are named at
-/// once, then single objects again.
-///
-/// Contracts see the accesses alone, those of named cells one by one.
-pub struct Names {
-    first: Seq<Access>,
+// What is named behind the single objects in front: cells of slots that are named at once, and single
+// objects behind those.
+struct Behind {
     cells: Seq<Cells>,
     last: Seq<Access>,
 }
 
-// By hand: other crates call this, and do not prove anew how each part is dropped.
-impl Drop for Names {
+impl Drop for Behind {
     fn drop(self) {
-        let Names { first, cells, last } = self;
-        drop(first);
+        let Behind { cells, last } = self;
         drop(cells);
         drop(last);
     }
 }
 
-impl Model for Names {
+impl Model for Behind {
     ghost use Rattle.std.specs.Prelude.{List, ◌++◌};
     ghost use Rattle.om_foot.specs.declared.footprint.Access.{Access};
     ghost use Rattle.om_foot.specs.Cells.{cells_listed};
 
     ghost Value = { List Access };
 
-    ghost view = { λ n. n.first ++ (cells_listed n.cells ++ n.last) };
+    ghost view = { λ b. cells_listed b.cells ++ b.last };
+}
+
+/// What a step names beside its worker's control: single objects, then cells of slots that are named at
+/// once, then single objects again.
+///
+/// Contracts see the accesses alone, those of named cells one by one.
+pub struct Names {
+    alloc: Global,
+    first: Seq<Access>,
+    // In a box, as most steps have none: what a step names is moved often.
+    behind: Option<Box<Behind>>,
+}
+
+// By hand: other crates call this, and do not prove anew how each part is dropped.
+impl Drop for Names {
+    fn drop(self) {
+        let Names {
+            alloc: _,
+            first,
+            behind,
+        } = self;
+        drop(first);
+        drop(behind);
+    }
+}
+
+impl Model for Names {
+    ghost use Rattle.std.specs.Prelude.{List, ◌++◌};
+    ghost use Rattle.om_foot.specs.declared.footprint.Access.{Access};
+    ghost use Rattle.om_foot.specs.Cells.{boxed_list};
+
+    ghost Value = { List Access };
+
+    ghost view = { λ n. n.first ++ boxed_list n.behind };
 }
 
 // From how many cells on those of a slot are named at once.
 const MANY: u32 = 8;
 
-// How more cells are named.
-#[derive(Clone, Copy)]
-enum Way {
-    // At once.
-    AtOnce,
-    // One by one, in the first part.
-    First,
-    // One by one, in the last part.
-    Last,
-}
-
-// How so many cells more are named, behind these cells and single objects.
-fn way_of(cells: &[Cells], last: &[Access], count: u32) -> Way
-    ensures at_once { result ≡ Way.AtOnce → last.now ≡ [] }
-    ensures first { result ≡ Way.First → (cells.now ≡ []) × (last.now ≡ []) }
+// Appends an access. It stands apart, as an access is large.
+fn list_access(names: &mut Seq<Access>, access: &Access) -> Result<(), AllocError>
+    ensures { OnOk result (names.new ≡ names.old ++ access.now ∷ []) }
 {
-    if !last.is_empty() {
-        return Way::Last;
-    }
-    if count >= MANY || !cells.is_empty() {
-        return Way::AtOnce;
-    }
-    Way::First
-}
-
-// Whether nothing stands behind the first part.
-fn is_alone(cells: &[Cells], last: &[Access]) -> bool
-    ensures { result ≡ true → (cells.now ≡ []) × (last.now ≡ []) }
-{
-    cells.is_empty() && last.is_empty()
+    let Access { object, mode } = *access;
+    names.push(Access { object, mode })
 }
 
 // Appends a cell of a slot. It stands apart, as an access is large.
@@ -106,16 +111,80 @@ fn list_each(names: &mut Seq<Access>, all: &[Cells]) -> Result<(), AllocError>
     Ok(())
 }
 
+impl Behind {
+    // The cells, and the single objects behind them.
+    fn parts(&self) -> (&[Cells], &[Access])
+        ensures { self.now ≡ cells_listed result.0.now ++ result.1.now }
+    {
+        (self.cells.as_slice(), self.last.as_slice())
+    }
+
+    // Appends an access. When out of memory, no more is said of the names.
+    #[tactic(auto, using(crate::specs::ListParts::second_more))]
+    fn push(&mut self, access: &Access) -> Result<(), AllocError>
+        ensures { OnOk result (self.new ≡ self.old ++ access.now ∷ []) }
+    {
+        list_access(&mut self.last, access)
+    }
+
+    // Appends cells of a slot, at once where no single object stands behind the others. When out of
+    // memory, no more is said of the names.
+    #[tactic(auto, using(crate::specs::ListParts::second_more, crate::proofs::CellLists::behind_more))]
+    fn push_cells(&mut self, cells: &Cells) -> Result<(), AllocError>
+        ensures { OnOk result (self.new ≡ self.old ++ cells_of cells.now) }
+    {
+        if self.last.is_empty() {
+            self.cells.push(*cells)
+        } else {
+            list_cells(&mut self.last, cells)
+        }
+    }
+
+    // Appends each access to others.
+    #[tactic(auto, using(crate::specs::ListParts::regrouped))]
+    fn append_to(self, mut all: Seq<Access>) -> Result<Seq<Access>, AllocError>
+        ensures { IfOk result (λ whole. whole ≡ all ++ self) }
+    {
+        let Behind { cells, last } = self;
+        list_each(&mut all, cells.as_slice())?;
+        all.append(last)?;
+        Ok(all)
+    }
+}
+
+// Many cells of a slot, named at once.
+fn many(alloc: Global, cells: &Cells) -> Result<Box<Behind>, AllocError>
+    ensures { IfOk result (λ behind. behind.value ≡ cells_of cells.now) }
+{
+    let cells = Seq::one(alloc, *cells)?;
+    let last = Seq::new(alloc);
+    Ok(Box::new(alloc, Behind { cells, last })?)
+}
+
+// Appends cells of a slot to single objects, or answers what stands behind these where the cells are
+// many.
+#[tactic(auto, using(crate::specs::ListParts::only_more))]
+fn begun(
+    alloc: Global,
+    first: &mut Seq<Access>,
+    cells: &Cells,
+) -> Result<Option<Box<Behind>>, AllocError>
+    ensures { IfOk result
+        (λ behind. first.new ++ boxed_list behind ≡ first.old ++ cells_of cells.now) }
+{
+    if cells.count < MANY {
+        list_cells(first, cells)?;
+        return Ok(None);
+    }
+    Ok(Some(many(alloc, cells)?))
+}
+
 impl Names {
     /// No objects. It takes no memory.
     pub fn new(alloc: Global) -> Names
         ensures { result ≡ [] }
     {
-        Names {
-            first: Seq::new(alloc),
-            cells: Seq::new(alloc),
-            last: Seq::new(alloc),
-        }
+        Names::of(alloc, Seq::new(alloc))
     }
 
     /// These objects. It takes no memory.
@@ -123,9 +192,9 @@ impl Names {
         ensures { result ≡ first }
     {
         Names {
+            alloc,
             first,
-            cells: Seq::new(alloc),
-            last: Seq::new(alloc),
+            behind: None,
         }
     }
 
@@ -133,35 +202,38 @@ impl Names {
     pub fn parts(&self) -> (&[Access], &[Cells], &[Access])
         ensures { self.now ≡ result.0.now ++ (cells_listed result.1.now ++ result.2.now) }
     {
-        (
-            self.first.as_slice(),
-            self.cells.as_slice(),
-            self.last.as_slice(),
-        )
+        match &self.behind {
+            None => (self.first.as_slice(), &[], &[]),
+            Some(behind) => {
+                let (cells, last) = behind.parts();
+                (self.first.as_slice(), cells, last)
+            }
+        }
     }
 
     /// Appends an access. Its only error is out of memory; then no more is said of the names.
-    #[tactic(auto, using(crate::specs::ListParts::first_more, crate::specs::ListParts::last_more))]
+    #[tactic(auto, using(crate::specs::ListParts::only_more, crate::specs::ListParts::second_more))]
     pub fn push(&mut self, access: &Access) -> Result<(), AllocError>
         ensures { OnOk result (self.new ≡ self.old ++ access.now ∷ []) }
     {
-        if is_alone(self.cells.as_slice(), self.last.as_slice()) {
-            self.first.push(*access)
-        } else {
-            self.last.push(*access)
+        match &mut self.behind {
+            None => list_access(&mut self.first, access),
+            Some(behind) => behind.push(access),
         }
     }
 
     /// Appends cells of a slot, at once where they are many or stand behind others that are. Its only
     /// error is out of memory; then no more is said of the names.
-    #[tactic(auto, using(crate::specs::ListParts::last_more, crate::proofs::CellLists::cells_more, crate::specs::ListParts::first_all))]
+    #[tactic(auto, using(crate::specs::ListParts::second_more))]
     pub fn push_cells(&mut self, cells: &Cells) -> Result<(), AllocError>
         ensures { OnOk result (self.new ≡ self.old ++ cells_of cells.now) }
     {
-        match way_of(self.cells.as_slice(), self.last.as_slice(), cells.count) {
-            Way::AtOnce => self.cells.push(*cells),
-            Way::First => list_cells(&mut self.first, cells),
-            Way::Last => list_cells(&mut self.last, cells),
+        match &mut self.behind {
+            Some(behind) => behind.push_cells(cells),
+            None => {
+                self.behind = begun(self.alloc, &mut self.first, cells)?;
+                Ok(())
+            }
         }
     }
 
@@ -181,9 +253,10 @@ impl Names {
     pub fn push_all(&mut self, others: &Names) -> Result<(), AllocError>
         ensures { OnOk result (self.new ≡ self.old ++ others.now) }
     {
-        self.push_each(others.first.as_slice())?;
-        self.push_each_of(others.cells.as_slice())?;
-        self.push_each(others.last.as_slice())
+        let (first, cells, last) = others.parts();
+        self.push_each(first)?;
+        self.push_each_of(cells)?;
+        self.push_each(last)
     }
 
     // Appends the cells of each of these.
@@ -197,14 +270,18 @@ impl Names {
     }
 
     /// Each access by itself. Its only error is out of memory.
-    #[tactic(auto, using(crate::specs::ListParts::regrouped))]
+    #[tactic(auto, using(crate::specs::ListParts::only_more))]
     pub fn into_seq(self) -> Result<Seq<Access>, AllocError>
         ensures { IfOk result (λ all. all ≡ self) }
     {
-        let Names { first, cells, last } = self;
-        let mut all = first;
-        list_each(&mut all, cells.as_slice())?;
-        all.append(last)?;
-        Ok(all)
+        let Names {
+            alloc: _,
+            first,
+            behind,
+        } = self;
+        match behind {
+            None => Ok(first),
+            Some(behind) => Box::into_inner(behind).append_to(first),
+        }
     }
 }

@@ -24,6 +24,11 @@ runs_more first rs r last none =
     listed_more (d ∷ ds) = ap (λ m. run_puts d ++ m) (listed_more ds)
         ∙ sym (append_assoc (run_puts d) (runs_listed ds) (run_puts r))
 
+-- the same, with nothing in front
+pub behind_more : (rs : List Run) (r : Run) (last : List Update) → last ≡ []
+    → runs_listed (rs ++ r ∷ []) ++ last ≡ (runs_listed rs ++ last) ++ run_puts r
+behind_more rs r last none = runs_more [] rs r last none
+
 -- the puts behind one more
 pub puts_past : (us : List Update) (c : cell.Cell) (n count : ℕ) → n < count
     → (us ++ Put (value.Cell c) ∷ []) ++ puts_of c (count - (n + 1)) ≡ us ++ puts_of c (count - n)

@@ -10,34 +10,63 @@ use om_seq::Seq;
 use std::alloc::{AllocError, Global};
 use std::marker::Model;
 
-/// What a step changes beside its worker's control: single updates, then runs of puts for cells that are
-/// named at once, then single updates again.
-///
-/// Contracts see the updates alone, those of a run one by one.
-pub struct Puts {
-    first: Seq<Update>,
+// What is put behind the single updates in front: runs of puts for cells that are named at once, and
+// single updates behind those.
+struct Behind {
     runs: Seq<Run>,
     last: Seq<Update>,
 }
 
-// By hand: other crates call this, and do not prove anew how each part is dropped.
-impl Drop for Puts {
+impl Drop for Behind {
     fn drop(self) {
-        let Puts { first, runs, last } = self;
-        drop(first);
+        let Behind { runs, last } = self;
         drop(runs);
         drop(last);
     }
 }
 
-impl Model for Puts {
+impl Model for Behind {
     ghost use Rattle.std.specs.Prelude.{List, ◌++◌};
     ghost use Rattle.om_values.specs.Runs.{runs_listed};
     ghost use Rattle.om_values.specs.declared.step.Update.{Update};
 
     ghost Value = { List Update };
 
-    ghost view = { λ p. p.first ++ (runs_listed p.runs ++ p.last) };
+    ghost view = { λ b. runs_listed b.runs ++ b.last };
+}
+
+/// What a step changes beside its worker's control: single updates, then runs of puts for cells that are
+/// named at once, then single updates again.
+///
+/// Contracts see the updates alone, those of a run one by one.
+pub struct Puts {
+    alloc: Global,
+    first: Seq<Update>,
+    // In a box, as most steps have none: what a step changes is moved often.
+    behind: Option<Box<Behind>>,
+}
+
+// By hand: other crates call this, and do not prove anew how each part is dropped.
+impl Drop for Puts {
+    fn drop(self) {
+        let Puts {
+            alloc: _,
+            first,
+            behind,
+        } = self;
+        drop(first);
+        drop(behind);
+    }
+}
+
+impl Model for Puts {
+    ghost use Rattle.std.specs.Prelude.{List, ◌++◌};
+    ghost use Rattle.om_foot.specs.Cells.{boxed_list};
+    ghost use Rattle.om_values.specs.declared.step.Update.{Update};
+
+    ghost Value = { List Update };
+
+    ghost view = { λ p. p.first ++ boxed_list p.behind };
 }
 
 /// The parts of `Puts`.
@@ -79,55 +108,25 @@ fn list_each(updates: &mut Seq<Update>, runs: &[Run]) -> Result<(), AllocError>
     Ok(())
 }
 
-impl Puts {
-    /// No updates. It takes no memory.
-    pub fn new(alloc: Global) -> Puts
-        ensures { result ≡ [] }
+impl Behind {
+    // The runs, and the single updates behind them.
+    fn parts(&self) -> (&[Run], &[Update])
+        ensures { self.now ≡ runs_listed result.0.now ++ result.1.now }
     {
-        Puts {
-            first: Seq::new(alloc),
-            runs: Seq::new(alloc),
-            last: Seq::new(alloc),
-        }
+        (self.runs.as_slice(), self.last.as_slice())
     }
 
-    /// These updates. It takes no memory.
-    pub fn of(alloc: Global, first: Seq<Update>) -> Puts
-        ensures { result ≡ first }
-    {
-        Puts {
-            first,
-            runs: Seq::new(alloc),
-            last: Seq::new(alloc),
-        }
-    }
-
-    /// The single updates in front, the runs behind them, and the single updates behind those.
-    pub fn parts(&self) -> (&[Update], &[Run], &[Update])
-        ensures { self.now ≡ result.0.now ++ (runs_listed result.1.now ++ result.2.now) }
-    {
-        (
-            self.first.as_slice(),
-            self.runs.as_slice(),
-            self.last.as_slice(),
-        )
-    }
-
-    /// Appends an update. Its only error is out of memory; then no more is said of the updates.
-    #[tactic(auto, using(om_foot::specs::ListParts::first_more, om_foot::specs::ListParts::last_more))]
-    pub fn push(&mut self, update: Update) -> Result<(), AllocError>
+    // Appends an update. When out of memory, no more is said of the updates.
+    #[tactic(auto, using(om_foot::specs::ListParts::second_more))]
+    fn push(&mut self, update: Update) -> Result<(), AllocError>
         ensures { OnOk result (self.new ≡ self.old ++ update ∷ []) }
     {
-        if self.runs.is_empty() && self.last.is_empty() {
-            self.first.push(update)
-        } else {
-            self.last.push(update)
-        }
+        self.last.push(update)
     }
 
-    /// Appends the puts of a run. Its only error is out of memory; then no more is said of the updates.
-    #[tactic(auto, using(om_foot::specs::ListParts::last_more, crate::proofs::RunLists::runs_more))]
-    pub fn push_run(&mut self, run: Run) -> Result<(), AllocError>
+    // Appends the puts of a run. When out of memory, no more is said of the updates.
+    #[tactic(auto, using(om_foot::specs::ListParts::second_more, crate::proofs::RunLists::behind_more))]
+    fn push_run(&mut self, run: Run) -> Result<(), AllocError>
         ensures { OnOk result (self.new ≡ self.old ++ run_puts run) }
     {
         if self.last.is_empty() {
@@ -137,37 +136,149 @@ impl Puts {
         }
     }
 
+    // The parts, behind the updates in front.
+    fn into_parts(self, first: Vec<Update>) -> PutParts
+        ensures same_first { result.first.items ≡ first.items }
+        ensures parts { self ≡ runs_listed result.runs ++ result.last.items }
+    {
+        let Behind { runs, last } = self;
+        PutParts {
+            first,
+            runs,
+            last: last.into_vec(),
+        }
+    }
+
+    // Appends each update to others.
+    #[tactic(auto, using(om_foot::specs::ListParts::regrouped))]
+    fn append_to(self, mut all: Seq<Update>) -> Result<Seq<Update>, AllocError>
+        ensures { IfOk result (λ whole. whole ≡ all ++ self) }
+    {
+        let Behind { runs, last } = self;
+        list_each(&mut all, runs.as_slice())?;
+        all.append(last)?;
+        Ok(all)
+    }
+}
+
+// The puts of a run.
+fn begun(alloc: Global, run: Run) -> Result<Box<Behind>, AllocError>
+    ensures { IfOk result (λ behind. behind.value ≡ run_puts run) }
+{
+    let runs = Seq::one(alloc, run)?;
+    let last = Seq::new(alloc);
+    Ok(Box::new(alloc, Behind { runs, last })?)
+}
+
+impl Puts {
+    /// No updates. It takes no memory.
+    pub fn new(alloc: Global) -> Puts
+        ensures { result ≡ [] }
+    {
+        Puts::of(alloc, Seq::new(alloc))
+    }
+
+    /// These updates. It takes no memory.
+    pub fn of(alloc: Global, first: Seq<Update>) -> Puts
+        ensures { result ≡ first }
+    {
+        Puts {
+            alloc,
+            first,
+            behind: None,
+        }
+    }
+
+    /// The single updates in front, the runs behind them, and the single updates behind those.
+    pub fn parts(&self) -> (&[Update], &[Run], &[Update])
+        ensures { self.now ≡ result.0.now ++ (runs_listed result.1.now ++ result.2.now) }
+    {
+        match &self.behind {
+            None => (self.first.as_slice(), &[], &[]),
+            Some(behind) => {
+                let (runs, last) = behind.parts();
+                (self.first.as_slice(), runs, last)
+            }
+        }
+    }
+
+    /// Appends an update. Its only error is out of memory; then no more is said of the updates.
+    #[tactic(auto, using(om_foot::specs::ListParts::only_more, om_foot::specs::ListParts::second_more))]
+    pub fn push(&mut self, update: Update) -> Result<(), AllocError>
+        ensures { OnOk result (self.new ≡ self.old ++ update ∷ []) }
+    {
+        match &mut self.behind {
+            None => self.first.push(update),
+            Some(behind) => behind.push(update),
+        }
+    }
+
+    /// Appends the puts of a run. Its only error is out of memory; then no more is said of the updates.
+    #[tactic(auto, using(om_foot::specs::ListParts::only_more, om_foot::specs::ListParts::second_more))]
+    pub fn push_run(&mut self, run: Run) -> Result<(), AllocError>
+        ensures { OnOk result (self.new ≡ self.old ++ run_puts run) }
+    {
+        match &mut self.behind {
+            Some(behind) => behind.push_run(run),
+            None => {
+                self.behind = Some(begun(self.alloc, run)?);
+                Ok(())
+            }
+        }
+    }
+
     /// These updates behind one more. The record of a step keeps them, so there is room for no others.
     /// Its only error is out of memory.
     pub fn behind(self, update: Update) -> Result<Puts, AllocError>
         ensures { IfOk result (λ all. all ≡ update ∷ self) }
     {
-        let Puts { first, runs, last } = self;
+        let Puts {
+            alloc,
+            first,
+            behind,
+        } = self;
         let first = in_front(first, update)?;
-        Ok(Puts { first, runs, last })
+        Ok(Puts {
+            alloc,
+            first,
+            behind,
+        })
     }
 
     /// The parts, to be taken apart. It takes no memory.
     pub fn into_parts(self) -> PutParts
         ensures { self ≡ result.first.items ++ (runs_listed result.runs ++ result.last.items) }
     {
-        let Puts { first, runs, last } = self;
-        PutParts {
-            first: first.into_vec(),
-            runs,
-            last: last.into_vec(),
+        let Puts {
+            alloc,
+            first,
+            behind,
+        } = self;
+        let first = first.into_vec();
+        match behind {
+            None => PutParts {
+                first,
+                runs: Seq::new(alloc),
+                last: Vec::new(alloc),
+            },
+            Some(behind) => Box::into_inner(behind).into_parts(first),
         }
     }
 
     /// Each update by itself. Its only error is out of memory.
-    #[tactic(auto, using(om_foot::specs::ListParts::regrouped))]
+    #[tactic(auto, using(om_foot::specs::ListParts::only_more))]
     pub fn into_vec(self) -> Result<Vec<Update>, AllocError>
         ensures { IfOk result (λ all. all.items ≡ self) }
     {
-        let Puts { first, runs, last } = self;
-        let mut all = first;
-        list_each(&mut all, runs.as_slice())?;
-        all.append(last)?;
+        let Puts {
+            alloc: _,
+            first,
+            behind,
+        } = self;
+        let all = match behind {
+            None => first,
+            Some(behind) => Box::into_inner(behind).append_to(first)?,
+        };
         Ok(all.into_vec())
     }
 }
