@@ -73,8 +73,7 @@ pub fits_from : (done : Finished) (at : Labels) (p q : ℕ) (c : Written) → p 
     → Fits done at q c
 fits_from done at p q c le f = record {
   code = λ k x h e. f.code k x (omega arith) e;
-  places =
-      f.places;
+  places = f.places;
   picks = f.picks;
 }
 
@@ -130,8 +129,7 @@ keeps_put : (n l : ℕ) (x : Instr) (a b : Written) → Puts l x a b → Keeps n
 keeps_put n l x a b h = record {
   picks = h.picks;
   more = omega (arith, ap length h.places);
-  same =
-      λ m lt. ap (λ s. slice_get s m) h.places;
+  same = λ m lt. ap (λ s. slice_get s m) h.places;
 }
 
 -- an instruction
@@ -177,7 +175,7 @@ goes_put_all names n l [] r a b c h g =
       };
     }) g
 goes_put_all names n l (x ∷ xs) r a b c h g =
-    let first : Written = record { code = a.code ++ line_of l x ∷ []; places = a.places; picks = a.picks } in
+    let first : Written = record a { code = a.code ++ line_of l x ∷ [] } in
     goes_put names n l x (λ done at. all_ins (site names done) at l xs (r done at)) a first c
     (record { code = refl; places = refl; picks = refl })
     (goes_put_all names n l xs r first b c (record {
@@ -201,8 +199,7 @@ goes_part n r s a b c le e g = record {
   keeps = keeps_on n a b c (record {
     picks = e.keeps.picks;
     more = e.keeps.more;
-    same =
-        λ l h. e.keeps.same l (omega arith);
+    same = λ l h. e.keeps.same l (omega arith);
   }) g.keeps;
 }
 

@@ -90,13 +90,6 @@ impl Listed {
         self.shared.contains(name) || self.copied.contains(name)
     }
 
-    /// Whether it has a `default`.
-    pub fn has_default(&self) -> bool
-        ensures { result ≡ is_some self.now.default }
-    {
-        self.default.is_some()
-    }
-
     /// Notes a `default`.
     pub fn set_default(&mut self, sharing: Sharing)
         ensures { self.new ≡ with_default self.old sharing }

@@ -24,7 +24,6 @@ use om_tree::{Expression, Statement, has_atomic_form};
 use std::alloc::Global;
 
 /// The rest of a `do` behind its body, and the tokens behind it.
-#[tactic(auto, unfolding(crate::specs::StatementReading::do_end))]
 #[inline(never)]
 pub fn do_end(
     alloc: Global,
@@ -49,7 +48,6 @@ pub fn do_end(
 }
 
 /// An `atomic` with its statement, which has one of the forms where that is `checked`.
-#[tactic(auto, unfolding(crate::specs::ConstructReading::atomic_of))]
 #[inline(never)]
 pub fn atomic_of<'a>(
     alloc: Global,
@@ -71,7 +69,6 @@ pub fn atomic_of<'a>(
 }
 
 // Whether a statement is one of the forms that this `atomic` has.
-#[tactic(auto, using(crate::proofs::AtomicKinds::atomic_viewed))]
 fn has_form(directive: &Directive<Expression>, body: &Statement) -> bool
     ensures { result ≡ has_atomic_form (atomic_kind (view_directive directive.now))
         (view_statement body.now) }

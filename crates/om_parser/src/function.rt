@@ -15,7 +15,6 @@ use om_tree::{FunctionHead, Parameter, Parameters, ResultType};
 use std::alloc::Global;
 
 /// The rest of a function's head, of which all up to the left parenthesis is taken.
-#[tactic(auto, unfolding(crate::specs::FunctionReading::head_after))]
 pub fn head_after(
     alloc: Global,
     result_type: ResultType,
@@ -39,7 +38,6 @@ pub fn head_after(
 
 /// The head of a definition, whose parameters have names (C17 6.9.1): S3 at these tokens, its body,
 /// where one has none.
-#[tactic(auto, unfolding(crate::specs::FunctionReading::named_head))]
 pub fn named_head(
     alloc: Global,
     head: Box<FunctionHead<Option<Name>>>,
@@ -60,7 +58,6 @@ pub fn named_head(
 }
 
 // The parameters of a definition: S3 at its body where one has no name.
-#[tactic(auto, unfolding(crate::specs::FunctionReading::named_parameters))]
 fn named_parameters(
     alloc: Global,
     parameters: Parameters<Option<Name>>,
@@ -96,7 +93,6 @@ fn named_further(
 }
 
 // A parameter of a definition: S3 at its body where it has no name.
-#[tactic(auto, unfolding(crate::specs::FunctionReading::named_parameter))]
 fn named_parameter(
     parameter: Parameter<Option<Name>>,
     body: &[Token],
@@ -111,7 +107,6 @@ fn named_parameter(
 }
 
 // Parameters, the right parenthesis behind them, and the tokens behind that.
-#[tactic(auto, unfolding(crate::specs::FunctionReading::parameters_at))]
 fn parameters(
     alloc: Global,
     tokens: &[Token],
@@ -129,7 +124,6 @@ fn parameters(
 }
 
 // One parameter or several, the right parenthesis behind them, and the tokens behind that.
-#[tactic(auto, unfolding(crate::specs::FunctionReading::listed_at))]
 fn listed(
     alloc: Global,
     tokens: &[Token],
@@ -169,7 +163,6 @@ fn further_parameters(
 }
 
 // A comma, the parameter behind it, and the tokens behind that.
-#[tactic(auto, unfolding(crate::specs::FunctionReading::further_parameter_at))]
 fn further_parameter(
     alloc: Global,
     tokens: &[Token],
@@ -182,7 +175,6 @@ fn further_parameter(
 }
 
 // `int` and the name behind it, where one stands, and the tokens behind them.
-#[tactic(auto, unfolding(crate::specs::FunctionReading::parameter_at))]
 fn parameter(
     alloc: Global,
     tokens: &[Token],
@@ -195,7 +187,6 @@ fn parameter(
 }
 
 // The name that stands first, if one does, and the tokens behind it.
-#[tactic(auto, unfolding(om_parts::specs::Reading::name_at, om_parts::specs::Reading::take_name, om_parts::specs::Reading::take))]
 fn optional_name(alloc: Global, tokens: &[Token]) -> Result<(Option<Name>, &[Token]), SourceFault>
     ensures { Reads (λ x. (x.0, x.1.now)) result (Ok (optional (take_name tokens.now) tokens.now)) }
 {

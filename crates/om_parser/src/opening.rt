@@ -26,7 +26,6 @@ pub enum Opening {
 }
 
 /// The opening of a statement of this start, of which the word is taken.
-#[tactic(auto, unfolding(crate::specs::StatementReading::opening_of))]
 #[inline(never)]
 pub fn opening_after(
     alloc: Global,
@@ -55,7 +54,6 @@ pub fn opening_after(
 }
 
 /// An expression in parentheses, and the tokens behind it.
-#[tactic(auto, unfolding(crate::specs::StatementReading::condition_at))]
 pub fn condition(alloc: Global, tokens: &[Token]) -> Result<(Box<Condition>, &[Token]), SourceFault>
     ensures { Reads (λ x. (view_condition x.0.value, x.1.now)) result
         (condition_at (parts accepted) tokens.now) }
@@ -73,7 +71,6 @@ pub fn condition(alloc: Global, tokens: &[Token]) -> Result<(Box<Condition>, &[T
 }
 
 // The head of a `for`, of which the word is taken, and the tokens behind it.
-#[tactic(auto, unfolding(crate::specs::StatementReading::for_head_after))]
 fn for_head(
     alloc: Global,
     word: Span,
@@ -99,7 +96,6 @@ fn for_head(
 }
 
 // What a `for` begins with, and the tokens behind it.
-#[tactic(auto, unfolding(crate::specs::StatementReading::for_start_at))]
 fn for_start(alloc: Global, tokens: &[Token]) -> Result<(Box<ForStart>, &[Token]), SourceFault>
     ensures { Reads (λ x. (view_for_start x.0.value, x.1.now)) result
         (for_start_at (parts accepted) tokens.now) }
@@ -128,7 +124,6 @@ fn start_with(first: Option<Box<Expression>>, semicolon: Span) -> ForStart
 
 // An expression in a statement's parentheses, if one stands before this punctuator, the span of
 // that, and the tokens behind it.
-#[tactic(auto, unfolding(crate::specs::StatementReading::optional_before))]
 fn enclosed_before(
     alloc: Global,
     tokens: &[Token],

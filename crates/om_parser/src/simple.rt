@@ -22,7 +22,6 @@ use std::alloc::Global;
 
 /// A statement of this start that has no statement in it, of which the first token is taken,
 /// and the tokens behind it.
-#[tactic(auto, unfolding(crate::specs::StatementReading::simple_of))]
 #[inline(never)]
 pub fn simple<'a>(
     alloc: Global,
@@ -44,7 +43,6 @@ pub fn simple<'a>(
 }
 
 // A `return`, of which the word is taken, and the tokens behind it.
-#[tactic(auto, unfolding(crate::specs::StatementReading::return_after, crate::specs::StatementReading::optional_before))]
 fn return_after(
     alloc: Global,
     at: Span,
@@ -77,7 +75,6 @@ fn return_after(
 }
 
 // A `break`, of which the word is taken, and the tokens behind it.
-#[tactic(auto, unfolding(crate::specs::StatementReading::jump_after))]
 fn break_after(
     alloc: Global,
     at: Span,
@@ -97,7 +94,6 @@ fn break_after(
 }
 
 // A `continue`, of which the word is taken, and the tokens behind it.
-#[tactic(auto, unfolding(crate::specs::StatementReading::jump_after))]
 fn continue_after(
     alloc: Global,
     at: Span,
@@ -117,7 +113,6 @@ fn continue_after(
 }
 
 // An expression and its semicolon, and the tokens behind them.
-#[tactic(auto, unfolding(crate::specs::StatementReading::expression_statement_at))]
 fn expression_statement(
     alloc: Global,
     tokens: &[Token],
@@ -144,7 +139,6 @@ pub fn declaration_item(
 }
 
 /// A directive that stands alone, and the tokens behind it.
-#[tactic(auto, unfolding(crate::specs::ConstructReading::stand_alone_at))]
 #[inline(never)]
 pub fn stand_alone(
     alloc: Global,
@@ -157,7 +151,6 @@ pub fn stand_alone(
 }
 
 /// Refuses a line whose word names no directive.
-#[tactic(auto, unfolding(crate::specs::ConstructReading::unknown_line, crate::specs::ConstructReading::misplaced))]
 #[inline(never)]
 pub fn unknown_line(
     alloc: Global,
@@ -170,7 +163,6 @@ pub fn unknown_line(
 }
 
 /// A `section`, if it stands first, and the tokens behind it.
-#[tactic(auto, unfolding(crate::specs::ConstructReading::section_of))]
 #[inline(never)]
 pub fn section(
     alloc: Global,

@@ -71,7 +71,6 @@ fn start_of_word(word: Keyword) -> Start
 
 /// The fault where a statement of this start would stand, and no further one may: S16 at its first
 /// token. A token that begins no statement is S3.
-#[tactic(auto, unfolding(crate::specs::StatementReading::no_room))]
 pub fn no_room(start: Start, tokens: &[Token], first: Span) -> SourceFault
     ensures { Err result ≡ no_room start first tokens.now }
 {

@@ -40,7 +40,6 @@ pub struct Room {
 }
 
 /// The block of a function, and the tokens behind it.
-#[tactic(auto, unfolding(crate::specs::StatementReading::block_at, crate::specs::StatementReading::block_with, crate::specs::StatementReading::block_items_after))]
 pub(crate) fn block(alloc: Global, tokens: &[Token]) -> Result<(Block, &[Token]), SourceFault>
     ensures { Reads (λ x. (view_block x.0, x.1.now)) result (block_at accepted tokens.now) }
 {
@@ -86,7 +85,6 @@ fn items(
 
 // A declaration, a statement or a directive that stands alone, and the tokens behind it.
 #[cycle(statement)]
-#[tactic(auto, unfolding(crate::specs::StatementReading::block_item_at))]
 fn block_item(
     alloc: Global,
     tokens: &[Token],
@@ -103,7 +101,6 @@ fn block_item(
 
 // A statement or a directive that stands alone, and the tokens behind it.
 #[cycle(statement)]
-#[tactic(auto, unfolding(crate::specs::ConstructReading::part_item_at, crate::specs::ConstructReading::item_of, crate::specs::ConstructReading::misplaced))]
 fn part_item(
     alloc: Global,
     tokens: &[Token],
@@ -122,7 +119,6 @@ fn part_item(
 
 // A statement, and the tokens behind it.
 #[cycle(statement)]
-#[tactic(auto, unfolding(crate::specs::StatementReading::statement_at, crate::specs::StatementReading::statement_of))]
 fn statement(
     alloc: Global,
     tokens: &[Token],
@@ -149,7 +145,6 @@ fn statement(
 
 // A block, of which the left brace is taken, and the tokens behind it.
 #[cycle(statement)]
-#[tactic(auto, unfolding(crate::specs::StatementReading::block_after, crate::specs::StatementReading::block_items_after))]
 fn block_after(
     alloc: Global,
     open_brace: Span,
@@ -170,7 +165,6 @@ fn block_after(
 
 // A statement that begins with an opening, and the tokens behind it.
 #[cycle(statement)]
-#[tactic(auto, unfolding(crate::specs::StatementReading::headed_of, crate::specs::StatementReading::body_after))]
 fn headed(
     alloc: Global,
     start: Start,
@@ -188,7 +182,6 @@ fn headed(
 
 // What follows the body of a statement.
 #[cycle(statement)]
-#[tactic(auto, unfolding(crate::specs::StatementReading::behind_body, crate::specs::StatementReading::else_after))]
 fn behind_body(
     alloc: Global,
     opening: Opening,
@@ -226,7 +219,6 @@ fn take_else(tokens: &[Token]) -> Option<(Span, &[Token])>
 
 // A `do`, of which the word is taken, and the tokens behind it.
 #[cycle(statement)]
-#[tactic(auto, unfolding(crate::specs::StatementReading::do_after))]
 fn do_after(
     alloc: Global,
     at: Span,
@@ -241,7 +233,6 @@ fn do_after(
 
 // A construct whose line stands first, and the tokens behind it.
 #[cycle(statement)]
-#[tactic(auto, unfolding(crate::specs::ConstructReading::line_of, crate::specs::ConstructReading::misplaced))]
 fn directive(
     alloc: Global,
     tokens: &[Token],
@@ -259,7 +250,6 @@ fn directive(
 
 // A construct, and the tokens behind it.
 #[cycle(statement)]
-#[tactic(auto, unfolding(crate::specs::ConstructReading::construct_at, crate::specs::ConstructReading::construct_after))]
 fn construct(
     alloc: Global,
     tokens: &[Token],
@@ -280,7 +270,6 @@ fn construct(
 
 // A construct with one statement, of which the line is taken, and the tokens behind it.
 #[cycle(statement)]
-#[tactic(auto, unfolding(crate::specs::ConstructReading::constructed_after))]
 fn constructed(
     alloc: Global,
     directive: Box<Directive<Expression>>,
@@ -296,7 +285,6 @@ fn constructed(
 
 // An `atomic`, of which the line is taken, and the tokens behind it.
 #[cycle(statement)]
-#[tactic(auto, unfolding(crate::specs::ConstructReading::atomic_after))]
 fn atomic(
     alloc: Global,
     directive: Box<Directive<Expression>>,
@@ -316,7 +304,6 @@ fn atomic(
 
 // A `sections`, of which the line is taken, and the tokens behind it.
 #[cycle(statement)]
-#[tactic(auto, unfolding(crate::specs::ConstructReading::sections_after))]
 fn sections(
     alloc: Global,
     directive: Box<Directive<Expression>>,
@@ -332,7 +319,6 @@ fn sections(
 
 // The braces of `sections`, the parts in them, and the tokens behind them.
 #[cycle(statement)]
-#[tactic(auto, unfolding(crate::specs::StatementReading::parts_at, crate::specs::StatementReading::parts_after))]
 fn braces(
     alloc: Global,
     tokens: &[Token],
@@ -380,7 +366,6 @@ fn parts(alloc: Global, tokens: &[Token], room: Room) -> Result<(Vec<Part>, &[To
 
 // A part of `sections`: its `section`, if it has one, its items, and the tokens behind them.
 #[cycle(statement)]
-#[tactic(auto, unfolding(crate::specs::ConstructReading::part_at))]
 fn part(alloc: Global, tokens: &[Token], room: Room) -> Result<(Part, &[Token]), SourceFault>
     ensures { Reads (λ x. (view_part x.0, x.1.now)) result
         (part_at (parts accepted).line (statement_in room) tokens.now) }

@@ -134,7 +134,6 @@ pub fn syntax_stands()
 }
 
 // The unit that these tokens are.
-#[tactic(auto, unfolding(crate::specs::UnitReading::unit_at))]
 fn unit(alloc: Global, tokens: &[Token]) -> Result<Unit, SourceFault>
     ensures { Reads view_unit result (unit_at accepted tokens.now) }
 {
@@ -162,7 +161,6 @@ fn items(alloc: Global, tokens: &[Token]) -> Result<(Vec<Item>, Span), SourceFau
 }
 
 // The span of the end of the source, where nothing else is left.
-#[tactic(auto, unfolding(crate::specs::UnitReading::take_end))]
 fn take_end(tokens: &[Token]) -> Option<Span>
     ensures { option_map (λ x. (x, [])) result ≡ take_end tokens.now }
 {
@@ -176,7 +174,6 @@ fn take_end(tokens: &[Token]) -> Option<Span>
 }
 
 // A declaration, a prototype or a function, and the tokens behind it.
-#[tactic(auto, unfolding(crate::specs::UnitReading::item_at))]
 fn item(alloc: Global, tokens: &[Token]) -> Result<(Item, &[Token]), SourceFault>
     ensures { Reads (λ x. (view_item x.0, x.1.now)) result (item_at accepted tokens.now) }
 {
@@ -188,7 +185,6 @@ fn item(alloc: Global, tokens: &[Token]) -> Result<(Item, &[Token]), SourceFault
 }
 
 // The rest of a function or prototype without a result, of which `void` is taken.
-#[tactic(auto, unfolding(crate::specs::UnitReading::void_after))]
 fn void_after(alloc: Global, void: Span, tokens: &[Token]) -> Result<(Item, &[Token]), SourceFault>
     ensures { Reads (λ x. (view_item x.0, x.1.now)) result (void_after accepted void tokens.now) }
 {
@@ -198,7 +194,6 @@ fn void_after(alloc: Global, void: Span, tokens: &[Token]) -> Result<(Item, &[To
 }
 
 // The rest of an item of which `int` is taken.
-#[tactic(auto, unfolding(crate::specs::UnitReading::int_after))]
 fn int_after(alloc: Global, int: Span, tokens: &[Token]) -> Result<(Item, &[Token]), SourceFault>
     ensures { Reads (λ x. (view_item x.0, x.1.now)) result (int_after accepted int tokens.now) }
 {
@@ -211,7 +206,6 @@ fn int_after(alloc: Global, int: Span, tokens: &[Token]) -> Result<(Item, &[Toke
 }
 
 // The rest of a prototype or function, of which all up to the left parenthesis is taken.
-#[tactic(auto, unfolding(crate::specs::UnitReading::prototype_after))]
 fn prototype_after(
     alloc: Global,
     result_type: ResultType,
@@ -227,7 +221,6 @@ fn prototype_after(
 }
 
 // The semicolon of a prototype or the body of a function, behind its head.
-#[tactic(auto, unfolding(crate::specs::UnitReading::function_after))]
 fn function_after(
     alloc: Global,
     head: Box<FunctionHead<Option<Name>>>,

@@ -61,7 +61,6 @@ impl Initial for SignedNumber {
 
     ghost reader = { λ room. signed_at };
 
-    #[tactic(auto, unfolding(crate::specs::DeclarationReading::signed_at))]
     fn read(
         _alloc: Global,
         _room: usize,
@@ -80,7 +79,6 @@ impl Initial for SignedNumber {
 
 /// The rest of a declaration, of which `int` and the first name are taken, and the tokens behind
 /// it. Brackets may nest `room` deep in what its variables hold at the start.
-#[tactic(auto, unfolding(crate::specs::DeclarationReading::declaration_after))]
 pub fn declaration_after<I: Initial>(
     alloc: Global,
     room: usize,
@@ -108,7 +106,6 @@ pub fn declaration_after<I: Initial>(
 
 /// The rest of a declaration in a block or a `for`, of which `int` is taken, and the tokens
 /// behind it. Brackets may nest `room` deep in its initializers.
-#[tactic(auto, unfolding(crate::specs::DeclarationReading::declared_at))]
 pub fn local_declaration(
     alloc: Global,
     room: usize,
@@ -146,7 +143,6 @@ fn further_declarators<I: Initial>(
 }
 
 // A comma, the declarator behind it, and the tokens behind that.
-#[tactic(auto, unfolding(crate::specs::DeclarationReading::further_at))]
 fn further_declarator<I: Initial>(
     alloc: Global,
     room: usize,
@@ -162,7 +158,6 @@ fn further_declarator<I: Initial>(
 }
 
 // The rest of a declarator, of which the name is taken.
-#[tactic(auto, unfolding(crate::specs::DeclarationReading::declarator_after))]
 fn declarator_after<I: Initial>(
     alloc: Global,
     room: usize,
@@ -225,7 +220,6 @@ fn initialized<'a, I: Initial>(
 }
 
 // The brackets and the size of an array, of which the left one is taken.
-#[tactic(auto, unfolding(crate::specs::DeclarationReading::array_after))]
 fn array_after(open_bracket: Span, tokens: &[Token]) -> Result<(ArrayLength, &[Token]), SourceFault>
     ensures { ReadsAlways (λ x. (x.0, x.1.now)) result (array_after open_bracket tokens.now) }
 {

@@ -37,7 +37,6 @@ pub struct Budget {
 }
 
 /// A whole expression, with room for `room` brackets round a part of it, and the tokens behind it.
-#[tactic(auto, unfolding(crate::specs::ExpressionReading::whole_at))]
 pub fn whole(
     alloc: Global,
     tokens: &[Token],
@@ -69,7 +68,6 @@ fn within(rest: &[Token], span: Span, beyond: usize) -> Result<(), SourceFault>
 // An expression, or one that is no assignment, with room for `room` brackets round a part of
 // it, and the tokens behind it. `turns` bounds how often operators and brackets nest.
 #[cycle(expression)]
-#[tactic(auto, unfolding(crate::specs::ExpressionReading::expression_at, crate::specs::ExpressionReading::expression_step))]
 fn expression(
     alloc: Global,
     tokens: &[Token],
@@ -90,7 +88,6 @@ fn expression(
 // An operand and what goes on with it: the rest of a conditional expression, of an assignment,
 // or nothing.
 #[cycle(expression)]
-#[tactic(auto, unfolding(crate::specs::ExpressionReading::expression_after, crate::specs::ExpressionReading::within))]
 fn expression_after(
     alloc: Global,
     left: Box<Expression>,
@@ -121,7 +118,6 @@ fn expression_after(
 
 // The rest of a conditional expression, of which the question mark is taken.
 #[cycle(expression)]
-#[tactic(auto, unfolding(crate::specs::ExpressionReading::conditional_after, crate::specs::ExpressionReading::within))]
 fn conditional_after(
     alloc: Global,
     condition: Box<Expression>,
@@ -238,7 +234,6 @@ fn prefixes(
 
 // An operand with the operators behind it, and the tokens behind them.
 #[cycle(expression)]
-#[tactic(auto, unfolding(crate::specs::ExpressionReading::postfix_step))]
 fn postfix(
     alloc: Global,
     tokens: &[Token],
@@ -275,7 +270,6 @@ fn postfixes(
 // A constant, an expression in parentheses, or what begins with a name, and the tokens behind
 // it.
 #[cycle(expression)]
-#[tactic(auto, unfolding(crate::specs::ExpressionReading::primary_step, crate::specs::ExpressionReading::paren_after, crate::specs::ExpressionReading::within))]
 fn primary(
     alloc: Global,
     tokens: &[Token],
@@ -311,7 +305,6 @@ fn primary(
 
 // An expression, the span of the mark that closes its bracket, and the tokens behind it.
 #[cycle(expression)]
-#[tactic(auto, unfolding(crate::specs::ExpressionReading::closed_by, crate::specs::ExpressionReading::within))]
 fn closed(
     alloc: Global,
     tokens: &[Token],
@@ -329,7 +322,6 @@ fn closed(
 
 // A name, and its index or its arguments, where they stand behind it.
 #[cycle(expression)]
-#[tactic(auto, unfolding(crate::specs::ExpressionReading::named_after, crate::specs::ExpressionReading::index_after, crate::specs::ExpressionReading::within))]
 fn named_after(
     alloc: Global,
     name: Name,
@@ -370,7 +362,6 @@ fn named_after(
 
 // The rest of a call, of which the left parenthesis is taken.
 #[cycle(expression)]
-#[tactic(auto, unfolding(crate::specs::ExpressionReading::call_after, crate::specs::ExpressionReading::arguments_after, crate::specs::ExpressionReading::within))]
 fn call_after(
     alloc: Global,
     name: Name,
@@ -408,7 +399,6 @@ fn call_after(
 
 // The first argument of a call of this function, and the tokens behind it.
 #[cycle(expression)]
-#[tactic(auto, unfolding(crate::specs::ExpressionReading::first_at, crate::specs::ExpressionReading::within))]
 fn first_argument<'a>(
     alloc: Global,
     function: &Name,
@@ -453,7 +443,6 @@ fn arguments(
 
 // A comma, the argument behind it, and the tokens behind that.
 #[cycle(expression)]
-#[tactic(auto, unfolding(crate::specs::ExpressionReading::argument_at, crate::specs::ExpressionReading::within))]
 fn argument(
     alloc: Global,
     tokens: &[Token],

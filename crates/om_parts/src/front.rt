@@ -34,7 +34,6 @@ pub fn too_deep(span: Span) -> SourceFault
 }
 
 /// The first token's span, if it is this punctuator, and the tokens behind it.
-#[tactic(auto, unfolding(crate::specs::Reading::take_mark, crate::specs::Reading::take, crate::specs::Reading::same_mark))]
 pub fn take_mark(tokens: &[Token], wanted: Punctuator) -> Option<(Span, &[Token])>
     ensures { option_map (λ x. (x.0, x.1.now)) result ≡ take_mark wanted tokens.now }
 {
@@ -48,7 +47,6 @@ pub fn take_mark(tokens: &[Token], wanted: Punctuator) -> Option<(Span, &[Token]
 }
 
 /// The first token's span, if it is this keyword, and the tokens behind it.
-#[tactic(auto, unfolding(crate::specs::Reading::take_word, crate::specs::Reading::take, crate::specs::Reading::same_word))]
 pub fn take_word(tokens: &[Token], wanted: Keyword) -> Option<(Span, &[Token])>
     ensures { option_map (λ x. (x.0, x.1.now)) result ≡ take_word wanted tokens.now }
 {
@@ -62,7 +60,6 @@ pub fn take_word(tokens: &[Token], wanted: Keyword) -> Option<(Span, &[Token])>
 }
 
 /// The first token, if it is a constant, and the tokens behind it.
-#[tactic(auto, unfolding(crate::specs::Reading::take_number, crate::specs::Reading::take))]
 pub fn take_number(tokens: &[Token]) -> Option<(Number, &[Token])>
     ensures { option_map (λ x. (x.0, x.1.now)) result ≡ take_number tokens.now }
 {
@@ -77,7 +74,6 @@ pub fn take_number(tokens: &[Token]) -> Option<(Number, &[Token])>
 }
 
 /// The span of this punctuator, which must stand first, and the tokens behind it.
-#[tactic(auto, unfolding(crate::specs::Reading::mark_at))]
 pub fn mark(tokens: &[Token], wanted: Punctuator) -> Result<(Span, &[Token]), SourceFault>
     ensures { ReadsAlways (λ x. (x.0, x.1.now)) result (mark_at wanted tokens.now) }
 {
@@ -85,7 +81,6 @@ pub fn mark(tokens: &[Token], wanted: Punctuator) -> Result<(Span, &[Token]), So
 }
 
 /// The span of this keyword, which must stand first, and the tokens behind it.
-#[tactic(auto, unfolding(crate::specs::Reading::word_at))]
 pub fn word(tokens: &[Token], wanted: Keyword) -> Result<(Span, &[Token]), SourceFault>
     ensures { ReadsAlways (λ x. (x.0, x.1.now)) result (word_at wanted tokens.now) }
 {
@@ -93,7 +88,6 @@ pub fn word(tokens: &[Token], wanted: Keyword) -> Result<(Span, &[Token]), Sourc
 }
 
 /// The constant that must stand first, and the tokens behind it.
-#[tactic(auto, unfolding(crate::specs::Reading::number_at))]
 pub fn number(tokens: &[Token]) -> Result<(Number, &[Token]), SourceFault>
     ensures { ReadsAlways (λ x. (x.0, x.1.now)) result (number_at tokens.now) }
 {
@@ -101,7 +95,6 @@ pub fn number(tokens: &[Token]) -> Result<(Number, &[Token]), SourceFault>
 }
 
 /// The name that must stand first, and the tokens behind it.
-#[tactic(auto, unfolding(crate::specs::Reading::name_at, crate::specs::Reading::take_name, crate::specs::Reading::take))]
 pub fn name(alloc: Global, tokens: &[Token]) -> Result<(Name, &[Token]), SourceFault>
     ensures { Reads (λ x. (x.0, x.1.now)) result (name_at tokens.now) }
 {

@@ -31,7 +31,6 @@ use std::alloc::Global;
 ///
 /// Where a line has two of these faults, the one in the expression of a clause that ends before
 /// the other is given.
-#[tactic(auto, unfolding(crate::specs::LineReading::line_at))]
 pub fn line(
     alloc: Global,
     tokens: &[Token],
@@ -68,7 +67,6 @@ fn directive_of(alloc: Global, run: &[Token]) -> Result<Directive<&[Token]>, Sou
 }
 
 // The fault of a run, or that of an expression before it, which is the lower one.
-#[tactic(auto, unfolding(crate::specs::LineReading::sooner))]
 fn sooner(alloc: Global, run: &[Token], fault: SourceFault) -> SourceFault
     ensures { (result ≡ no_memory) ⊎ (sooner accepted run.now fault ≡ Err result) }
 {
@@ -126,7 +124,6 @@ fn filled<E: Drop, F: Drop>(
 }
 
 // All tokens between the parentheses of a clause of a run, as one expression.
-#[tactic(auto, unfolding(crate::specs::LineReading::clause_value, crate::specs::PartReading::parts))]
 fn clause_value(
     alloc: Global,
     run: &[Token],

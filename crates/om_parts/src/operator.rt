@@ -117,7 +117,6 @@ fn is_unary(expression: &Expression) -> bool
 }
 
 /// The operator before an operand that stands first, its span, and the tokens behind it.
-#[tactic(auto, unfolding(crate::specs::ExpressionReading::take_operator, crate::specs::Reading::take))]
 pub fn take_prefix(tokens: &[Token]) -> Option<(PrefixOperator, Span, &[Token])>
     ensures { Takes result (take_operator prefix_of tokens.now) }
 {
@@ -129,7 +128,6 @@ pub fn take_prefix(tokens: &[Token]) -> Option<(PrefixOperator, Span, &[Token])>
 }
 
 /// The operator behind an operand that stands first, its span, and the tokens behind it.
-#[tactic(auto, unfolding(crate::specs::ExpressionReading::take_operator, crate::specs::Reading::take))]
 pub fn take_postfix(tokens: &[Token]) -> Option<(PostfixOperator, Span, &[Token])>
     ensures { Takes result (take_operator postfix_of tokens.now) }
 {
@@ -153,7 +151,6 @@ fn operator_of_level(kind: &TokenKind, wanted: usize) -> Option<BinaryOperator>
 }
 
 // The binary operator of this level that stands first, its span, and the tokens behind it.
-#[tactic(auto, unfolding(crate::specs::ExpressionReading::take_operator, crate::specs::Reading::take))]
 fn take_binary(tokens: &[Token], wanted: usize) -> Option<(BinaryOperator, Span, &[Token])>
     ensures { Takes result (take_operator (level_operator wanted) tokens.now) }
 {
@@ -173,7 +170,6 @@ pub fn take_looser(tokens: &[Token], tighter: usize) -> Option<(BinaryOperator, 
 }
 
 // The assignment that stands first, its span, and the tokens behind it.
-#[tactic(auto, unfolding(crate::specs::ExpressionReading::take_operator, crate::specs::Reading::take))]
 fn take_any_assign(tokens: &[Token]) -> Option<(AssignOperator, Span, &[Token])>
     ensures { Takes result (take_operator assign_of tokens.now) }
 {
@@ -186,7 +182,6 @@ fn take_any_assign(tokens: &[Token]) -> Option<(AssignOperator, Span, &[Token])>
 
 /// The assignment to this expression that stands first, its span, and the tokens behind it.
 /// None where no assignment may stand, or none to this expression.
-#[tactic(auto, unfolding(crate::specs::ExpressionReading::take_assign))]
 pub fn take_assign<'a>(
     may_assign: bool,
     target: &Expression,
@@ -202,7 +197,6 @@ pub fn take_assign<'a>(
 }
 
 // The text that stands first, and the tokens behind it.
-#[tactic(auto, unfolding(crate::specs::Reading::take))]
 fn take_any_text(alloc: Global, tokens: &[Token]) -> Result<Option<(Text, &[Token])>, AllocError>
     ensures { IfOk result (λ found. option_map (λ x. (x.0, x.1.now)) found ≡ take
         (λ t. text_of t.kind t.span) tokens.now) }
@@ -220,7 +214,6 @@ fn take_any_text(alloc: Global, tokens: &[Token]) -> Result<Option<(Text, &[Toke
 
 /// The text that stands first, where the function of this name takes one, and the tokens
 /// behind it.
-#[tactic(auto, unfolding(crate::specs::ExpressionReading::take_text))]
 pub fn take_text<'a>(
     alloc: Global,
     function: &Name,

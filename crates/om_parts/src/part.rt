@@ -1,5 +1,4 @@
 //! The parts of statements that are no statements.
-#![tactic(auto, unfolding(crate::specs::PartReading::parts))]
 
 ghost use Rattle.om_tree.specs.Limits.{accepted};
 ghost use Rattle.om_parts.specs.Made.{ReadsExpression};
@@ -69,7 +68,6 @@ pub fn directive_line(
 
 /// The rest of a declaration at file scope, of which `int` and the first name are taken, and the
 /// tokens behind it.
-#[tactic(auto, unfolding(crate::specs::PartReading::global_at))]
 pub fn global_declaration(
     alloc: Global,
     int: Span,

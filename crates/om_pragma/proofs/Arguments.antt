@@ -221,8 +221,7 @@ value_in_is k s left (t ∷ e) right us x c h =
       parts = simp append_assoc;
       kind = refl;
       at = refl;
-      formed =
-          ((λ none. absurd cc), c);
+      formed = ((λ none. absurd cc), c);
     })
 
 value_is : (k : ValueClause) (s : Span) (ts : List Token) (x : Clause (List Token) × List Token) → value_after k s

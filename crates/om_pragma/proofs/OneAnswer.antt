@@ -54,8 +54,7 @@ begins_less front more b = record {
   directive = b.directive;
   more = more ++ b.more;
   written = b.written;
-  parts =
-      b.parts ∙ append_assoc front more b.more;
+  parts = b.parts ∙ append_assoc front more b.more;
 }
 
 not_further : (ts : List Token) (a b : ℕ) (x : StopsAt ts a) (y : StopsAt ts b) → GoesFurther x.front

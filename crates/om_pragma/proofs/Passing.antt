@@ -71,8 +71,7 @@ module _ {A X : Type 0} (none : List Token → X) (ender : Ender) (item : List A
           us = ts;
           all = before;
           is_all = sym (append-nil before);
-          parts =
-              refl;
+          parts = refl;
           each = tt;
           last = inl (x, is, sym e ∙ rw is refl);
         }

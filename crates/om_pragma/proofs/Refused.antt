@@ -86,8 +86,7 @@ no_word_is {K} word ks alone known (t ∷ ts) f none e = go (is_word t.kind) ref
       unknown = unknown_word word ks
           alone known t ts none;
       code = ap (λ (g : SourceFault). g.code) (sym e);
-      place =
-          ap (λ (g : SourceFault). g.at) e;
+      place = ap (λ (g : SourceFault). g.at) e;
     })
     go false is e = inl (ap (λ (g : SourceFault). g.code) (sym e))
 
@@ -190,8 +189,7 @@ clause_err name before ts f h = elim (choose_cases (take_word clause_word all_cl
           rest = w.1;
           parts = begins;
           bad = inl can;
-          code =
-              ap (λ (g : SourceFault). g.code) is;
+          code = ap (λ (g : SourceFault). g.code) is;
           place = ap (λ (g : SourceFault). g.at) (sym is);
         }))
 
@@ -256,8 +254,7 @@ behind_fault ts o n f opening named h =
                         kind = b.kind;
                         word = b.word;
                         rest = b.rest;
-                        stands =
-                            subst (StandsClause ts n.0 e.all) b.parts stands;
+                        stands = subst (StandsClause ts n.0 e.all) b.parts stands;
                         bad = b.bad;
                         place = b.place;
                       })

@@ -266,8 +266,7 @@ critical_stuck left ts at e = elim (bind_err (name_at ts) _ at e) [
           part = (left, n.0.0, no_span);
           more = mark punctuators.CloseParen no_span ∷ [];
           begins = refl;
-          again =
-              λ t after other here. rw (name_again n.0.0 (t ∷ other), w.1 t after other here) refl;
+          again = λ t after other here. rw (name_again n.0.0 (t ∷ other), w.1 t after other here) refl;
         }
     | inr c ↦ absurd cc
   ]
@@ -312,8 +311,7 @@ opening_stuck ts at e = elim (bind_err (known ts (take_kind kinds.DirectiveBegin
               front = token kinds.DirectiveBegin b.0.0 ∷ [];
               rest = b.0.1;
               parts = begin;
-              place =
-                  w.0;
+              place = w.0;
               goes_on = refl;
               part = (b.0.0, no_span, no_span);
               more = token (kinds.Name (codes "pragma"))

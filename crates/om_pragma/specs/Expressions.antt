@@ -65,8 +65,7 @@ map_directive f d = record {
   pragma = d.pragma;
   omp = d.omp;
   name = d.name;
-  clauses =
-      map (map_item f) d.clauses;
+  clauses = map (map_item f) d.clauses;
   end = d.end;
 }
 

@@ -20,7 +20,6 @@ use om_seq::Seq;
 use std::alloc::Global;
 
 /// The clause of this kind whose word stands there, and the tokens behind it.
-#[tactic(auto, unfolding(crate::specs::Reading::clause_after))]
 pub fn clause_after(
     alloc: Global,
     kind: ClauseKind,
@@ -85,7 +84,6 @@ pub fn closing(tokens: &[Token]) -> Result<(&[Token], Span, &[Token]), Stop>
 }
 
 // `(`, one or more tokens and the parenthesis that closes.
-#[tactic(auto, unfolding(crate::specs::Reading::value_after))]
 fn value_after(
     kind: ValueClause,
     word: Span,
@@ -108,7 +106,6 @@ fn value_after(
 }
 
 // `(`, `shared` or `none`, and `)`.
-#[tactic(auto, unfolding(crate::specs::Reading::default_after))]
 fn default_after(word: Span, tokens: &[Token]) -> Result<(Clause<&[Token]>, &[Token]), Stop>
     ensures { GetsAlways (λ x. (map_clause tokens_in x.0, x.1.now)) result
         (default_after word tokens.now) }
@@ -126,7 +123,6 @@ fn default_after(word: Span, tokens: &[Token]) -> Result<(Clause<&[Token]>, &[To
 }
 
 // `shared` or `none`, its span, and the tokens behind it.
-#[tactic(auto, unfolding(crate::specs::Reading::take_word))]
 fn default_word(tokens: &[Token]) -> Result<(Sharing, Span, &[Token]), Stop>
     ensures { GetsAlways (λ x. ((x.0, x.1), x.2.now)) result
         (known tokens.now (take_word sharing_word default_words tokens.now)) }
@@ -141,7 +137,6 @@ fn default_word(tokens: &[Token]) -> Result<(Sharing, Span, &[Token]), Stop>
 }
 
 // A list in parentheses.
-#[tactic(auto, unfolding(crate::specs::Reading::data_after, crate::specs::Reading::list_at))]
 fn data_after(
     alloc: Global,
     kind: DataSharing,
@@ -157,7 +152,6 @@ fn data_after(
 }
 
 /// The rest of a list, behind its parenthesis, and the tokens behind it.
-#[tactic(auto, unfolding(crate::specs::Reading::list_after))]
 pub fn list_after(
     alloc: Global,
     open_paren: Span,
@@ -177,7 +171,6 @@ pub fn list_after(
 
 // A name, further names behind commas, the span of the parenthesis behind them, and the tokens
 // behind that.
-#[tactic(auto, unfolding(crate::specs::Reading::names_at))]
 fn names(alloc: Global, tokens: &[Token]) -> Result<(Name, Seq<FurtherName>, Span, &[Token]), Stop>
     ensures { Gets (λ x. ((x.0, x.1, x.2), x.3.now)) result (names_at tokens.now) }
 {
@@ -208,7 +201,6 @@ fn further_names(
 }
 
 // A comma, the name behind it, and the tokens behind that.
-#[tactic(auto, unfolding(crate::specs::Reading::further_at))]
 fn further_name(alloc: Global, tokens: &[Token]) -> Result<(Span, Name, &[Token]), Stop>
     ensures { Gets (λ x. ((x.0, x.1), x.2.now)) result (further_at [] tokens.now) }
 {
@@ -218,7 +210,6 @@ fn further_name(alloc: Global, tokens: &[Token]) -> Result<(Span, Name, &[Token]
 }
 
 // `(`, an operator, `:`, names and `)`.
-#[tactic(auto, unfolding(crate::specs::Reading::reduction_after))]
 fn reduction_after(
     alloc: Global,
     word: Span,
@@ -244,7 +235,6 @@ fn reduction_after(
 }
 
 // The operator of a reduction, its span, and the tokens behind it.
-#[tactic(auto, unfolding(crate::specs::Reading::take_word))]
 fn operator(tokens: &[Token]) -> Result<(ReductionOperator, Span, &[Token]), Stop>
     ensures { GetsAlways (λ x. ((x.0, x.1), x.2.now)) result
         (known tokens.now (take_word operator_word reduction_operators tokens.now)) }
@@ -259,7 +249,6 @@ fn operator(tokens: &[Token]) -> Result<(ReductionOperator, Span, &[Token]), Sto
 }
 
 // `(`, a kind, perhaps a chunk, and `)`.
-#[tactic(auto, unfolding(crate::specs::Reading::schedule_after))]
 fn schedule_after(word: Span, tokens: &[Token]) -> Result<(Clause<&[Token]>, &[Token]), Stop>
     ensures { GetsAlways (λ x. (map_clause tokens_in x.0, x.1.now)) result
         (schedule_after word tokens.now) }
@@ -279,7 +268,6 @@ fn schedule_after(word: Span, tokens: &[Token]) -> Result<(Clause<&[Token]>, &[T
 }
 
 // The kind of a schedule, its span, and the tokens behind it.
-#[tactic(auto, unfolding(crate::specs::Reading::take_word))]
 fn schedule_word(tokens: &[Token]) -> Result<(ScheduleKind, Span, &[Token]), Stop>
     ensures { GetsAlways (λ x. ((x.0, x.1), x.2.now)) result
         (known tokens.now (take_word schedule_word schedule_kinds tokens.now)) }
@@ -294,7 +282,6 @@ fn schedule_word(tokens: &[Token]) -> Result<(ScheduleKind, Span, &[Token]), Sto
 }
 
 // A comma and a chunk, where a comma stands, and the tokens behind them.
-#[tactic(auto, unfolding(crate::specs::Reading::chunk_at))]
 fn chunk(tokens: &[Token]) -> Result<(Option<(Span, Number)>, &[Token]), Stop>
     ensures { GetsAlways (λ x. (x.0, x.1.now)) result (chunk_at tokens.now) }
 {

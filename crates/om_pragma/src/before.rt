@@ -33,7 +33,6 @@ pub fn expression_before(tokens: &[Token], place: u32) -> Option<&[Token]>
 
 // The expression of a clause whose word stands there, where the clause ends before the place.
 // Behind the place no clause is looked through, so a long run of open parentheses takes linear time.
-#[tactic(auto, unfolding(crate::specs::Reading::expression_at))]
 fn expression_at<'a>(word: &Token, tokens: &'a [Token], place: u32) -> Option<&'a [Token]>
     ensures { option_map (λ e. e.now) result ≡ expression_at place word.now tokens.now }
 {
@@ -51,7 +50,6 @@ fn expression_at<'a>(word: &Token, tokens: &'a [Token], place: u32) -> Option<&'
 
 // The tokens in parentheses that stand there, the span of the parenthesis that closes, and the
 // tokens behind it.
-#[tactic(auto, unfolding(crate::specs::Reading::in_parentheses))]
 fn in_parentheses(tokens: &[Token]) -> Result<(&[Token], Span, &[Token]), Stop>
     ensures { GetsAlways (λ x. (x.0.now, x.1, x.2.now)) result (in_parentheses tokens.now) }
 {

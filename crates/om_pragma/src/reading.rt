@@ -55,7 +55,6 @@ pub fn directive(alloc: Global, tokens: &[Token]) -> Result<Directive<&[Token]>,
 }
 
 // The directive that these tokens are.
-#[tactic(auto, unfolding(crate::specs::Reading::directive_at))]
 fn read(alloc: Global, tokens: &[Token]) -> Result<Directive<&[Token]>, SourceFault>
     ensures { Reads with_tokens result (directive_at tokens.now) }
 {
@@ -105,7 +104,6 @@ fn bad_clause(word: Span) -> SourceFault
 }
 
 // The spans of `#`, `pragma` and `omp`, and the tokens behind them.
-#[tactic(auto, unfolding(crate::specs::Reading::opening_at))]
 fn opening(tokens: &[Token]) -> Result<(Span, Span, Span, &[Token]), SourceFault>
     ensures { Reads (λ x. ((x.0, x.1, x.2), x.3.now)) result (stopped (opening_at tokens.now)) }
 {
@@ -122,7 +120,6 @@ fn opening(tokens: &[Token]) -> Result<(Span, Span, Span, &[Token]), SourceFault
 }
 
 // The words of a directive, and the tokens behind them.
-#[tactic(auto, unfolding(crate::specs::Reading::directive_name_at, crate::specs::Reading::take_word))]
 fn directive_name(alloc: Global, tokens: &[Token]) -> Result<(DirectiveName, &[Token]), SourceFault>
     ensures { Reads (λ x. (x.0, x.1.now)) result (directive_name_at tokens.now) }
 {
@@ -136,7 +133,6 @@ fn directive_name(alloc: Global, tokens: &[Token]) -> Result<(DirectiveName, &[T
 }
 
 // The words of a directive of which the first is taken, and the tokens behind them.
-#[tactic(auto, unfolding(crate::specs::Reading::name_after))]
 fn name_after(
     alloc: Global,
     kind: DirectiveKind,
@@ -168,7 +164,6 @@ fn name_after(
 }
 
 // `parallel`, and the word that it is combined with, where one stands.
-#[tactic(auto, unfolding(crate::specs::Reading::parallel_at))]
 fn parallel(span: Span, tokens: &[Token]) -> (DirectiveName, &[Token])
     ensures { (result.0, result.1.now) ≡ parallel_at span tokens.now }
 {
@@ -182,7 +177,6 @@ fn parallel(span: Span, tokens: &[Token]) -> (DirectiveName, &[Token])
 }
 
 // `critical` and its name, where a parenthesis stands.
-#[tactic(auto, unfolding(crate::specs::Reading::critical_at))]
 fn critical(
     alloc: Global,
     span: Span,
@@ -201,7 +195,6 @@ fn critical(
 
 // The name of a critical region with its parentheses, of which the left one is taken, and the
 // tokens behind them.
-#[tactic(auto, unfolding(crate::specs::Reading::critical_after))]
 fn critical_after(
     alloc: Global,
     open_paren: Span,
@@ -215,7 +208,6 @@ fn critical_after(
 }
 
 // `flush` and its list, where a parenthesis stands.
-#[tactic(auto, unfolding(crate::specs::Reading::flush_at))]
 fn flush(
     alloc: Global,
     span: Span,
@@ -264,7 +256,6 @@ fn clauses<'a>(
 }
 
 // A clause behind those before it, with the comma between them, and the tokens behind it.
-#[tactic(auto, unfolding(crate::specs::Reading::item_at))]
 fn item<'a>(
     alloc: Global,
     name: &DirectiveName,
@@ -280,7 +271,6 @@ fn item<'a>(
 }
 
 // A comma, where one stands behind a clause, and the tokens behind it.
-#[tactic(auto, unfolding(crate::specs::Reading::comma_at))]
 fn comma<'a>(before: &[ClauseItem<&[Token]>], tokens: &'a [Token]) -> (Option<Span>, &'a [Token])
     ensures { (result.0, result.1.now) ≡ comma_at (map (map_item tokens_in) before.now) tokens.now }
 {
@@ -294,7 +284,6 @@ fn comma<'a>(before: &[ClauseItem<&[Token]>], tokens: &'a [Token]) -> (Option<Sp
 }
 
 // A clause behind those before it, and the tokens behind it.
-#[tactic(auto, unfolding(crate::specs::Reading::clause_at, crate::specs::Reading::take_word))]
 fn clause<'a>(
     alloc: Global,
     name: &DirectiveName,

@@ -111,7 +111,6 @@ fn group_of(kind: ClauseKind) -> ClauseKind
 }
 
 /// Whether two clauses are of one kind.
-#[tactic(auto, unfolding(crate::specs::Table::same_clause))]
 pub fn same_clause(one: ClauseKind, other: ClauseKind) -> bool
     ensures { result ≡ same_clause one other }
 {
@@ -126,7 +125,6 @@ fn excludes(earlier: ClauseKind, later: ClauseKind) -> bool
 }
 
 // Whether a directive has a clause.
-#[tactic(auto, unfolding(crate::specs::Table::same_clause))]
 fn has_clause(name: &DirectiveName, kind: ClauseKind) -> bool
     ensures { result ≡ list_any (λ k. same_clause k kind) (clauses_of (directive_kind name.now)) }
 {
@@ -142,7 +140,6 @@ fn is_excluded(before: &[ClauseItem<&[Token]>], kind: ClauseKind) -> bool
 
 /// Whether a directive can have a clause behind those before it.
 // A clause that can repeat is excluded by none, so a long line of such clauses takes linear time.
-#[tactic(auto, using(crate::proofs::SameKinds::excluded, crate::proofs::SameKinds::none_excluded), unfolding(crate::specs::Table::may_stand))]
 pub fn may_stand(name: &DirectiveName, before: &[ClauseItem<&[Token]>], kind: ClauseKind) -> bool
     ensures { result ≡ may_stand name.now (kinds_of (map (map_item tokens_in) before.now)) kind }
 {

@@ -32,7 +32,6 @@ pub fn take_first(tokens: &[Token]) -> Option<(&Token, &[Token])>
 }
 
 /// The first token's span, if it is this punctuator, and the tokens behind it.
-#[tactic(auto, unfolding(crate::specs::Reading::take_kind))]
 pub fn take_mark(tokens: &[Token], wanted: Punctuator) -> Option<(Span, &[Token])>
     ensures { option_map (λ x. (x.0, x.1.now)) result
         ≡ take_kind (kinds.Punctuator wanted) tokens.now }
@@ -48,7 +47,6 @@ pub fn take_mark(tokens: &[Token], wanted: Punctuator) -> Option<(Span, &[Token]
 }
 
 /// The first token's span, if it is this name, and the tokens behind it.
-#[tactic(auto, unfolding(crate::specs::Reading::take_kind))]
 pub fn take_named<'a>(tokens: &'a [Token], wanted: &[u8]) -> Option<(Span, &'a [Token])>
     ensures { option_map (λ x. (x.0, x.1.now)) result
         ≡ take_kind (kinds.Name wanted.now) tokens.now }
@@ -64,7 +62,6 @@ pub fn take_named<'a>(tokens: &'a [Token], wanted: &[u8]) -> Option<(Span, &'a [
 }
 
 /// The first token's span, if it is this keyword, and the tokens behind it.
-#[tactic(auto, unfolding(crate::specs::Reading::take_kind))]
 pub fn take_keyword(tokens: &[Token], wanted: Keyword) -> Option<(Span, &[Token])>
     ensures { option_map (λ x. (x.0, x.1.now)) result
         ≡ take_kind (kinds.Keyword wanted) tokens.now }
@@ -80,7 +77,6 @@ pub fn take_keyword(tokens: &[Token], wanted: Keyword) -> Option<(Span, &[Token]
 }
 
 /// The span of the `#` with which a run begins, and the tokens behind it.
-#[tactic(auto, unfolding(crate::specs::Reading::take_kind))]
 pub fn take_begin(tokens: &[Token]) -> Option<(Span, &[Token])>
     ensures { option_map (λ x. (x.0, x.1.now)) result ≡ take_kind kinds.DirectiveBegin tokens.now }
 {
@@ -94,7 +90,6 @@ pub fn take_begin(tokens: &[Token]) -> Option<(Span, &[Token])>
 }
 
 /// The place where the run ends, where nothing else is left.
-#[tactic(auto, unfolding(crate::specs::Reading::take_end))]
 pub fn take_end(tokens: &[Token]) -> Option<Span>
     ensures { option_map (λ x. (x, [])) result ≡ take_end tokens.now }
 {
@@ -108,7 +103,6 @@ pub fn take_end(tokens: &[Token]) -> Option<Span>
 }
 
 /// The first token, if it is a constant of 1 or more, and the tokens behind it.
-#[tactic(auto, unfolding(crate::specs::Reading::take_chunk))]
 pub fn take_chunk(tokens: &[Token]) -> Option<(Number, &[Token])>
     ensures { option_map (λ x. (x.0, x.1.now)) result ≡ take_chunk tokens.now }
 {
@@ -123,7 +117,6 @@ pub fn take_chunk(tokens: &[Token]) -> Option<(Number, &[Token])>
 }
 
 /// The span of this punctuator, which must stand first, and the tokens behind it.
-#[tactic(auto, unfolding(crate::specs::Reading::mark_at))]
 pub fn mark(tokens: &[Token], wanted: Punctuator) -> Result<(Span, &[Token]), Stop>
     ensures { GetsAlways (λ x. (x.0, x.1.now)) result (mark_at wanted tokens.now) }
 {
@@ -131,7 +124,6 @@ pub fn mark(tokens: &[Token], wanted: Punctuator) -> Result<(Span, &[Token]), St
 }
 
 /// The name that must stand first, and the tokens behind it.
-#[tactic(auto, unfolding(crate::specs::Reading::name_at, crate::specs::Reading::take_name))]
 pub fn name(alloc: Global, tokens: &[Token]) -> Result<(Name, &[Token]), Stop>
     ensures { Gets (λ x. (x.0, x.1.now)) result (name_at tokens.now) }
 {

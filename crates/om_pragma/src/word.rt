@@ -140,7 +140,6 @@ pub fn is_named(kind: &TokenKind, wanted: &[u8]) -> bool
 }
 
 /// Whether a token is this keyword.
-#[tactic(auto, unfolding(crate::specs::Words::same_keyword))]
 pub fn is_keyword(kind: &TokenKind, wanted: Keyword) -> bool
     ensures { result ≡ same_kind kind.now (kinds.Keyword wanted) }
 {
@@ -151,7 +150,6 @@ pub fn is_keyword(kind: &TokenKind, wanted: Keyword) -> bool
 }
 
 /// Whether a token is this punctuator.
-#[tactic(auto, unfolding(crate::specs::Words::same_mark))]
 pub fn is_mark(kind: &TokenKind, wanted: Punctuator) -> bool
     ensures { result ≡ same_kind kind.now (kinds.Punctuator wanted) }
 {

@@ -64,39 +64,15 @@ pub record Around : Type 0 where
   pub in_construct : Bool
 
 abbrev pub with_locals : Around → List Local → Around
-with_locals around locals = record {
-  globals = around.globals;
-  functions = around.functions;
-  locals = around.locals ++ locals;
-  returns = around.returns;
-  breaks = around.breaks;
-  continues = around.continues;
-  in_construct = around.in_construct;
-}
+with_locals around locals = record around { locals = around.locals ++ locals }
 
 -- in a loop
 abbrev pub repeated : Around → Around
-repeated around = record {
-  globals = around.globals;
-  functions = around.functions;
-  locals = around.locals;
-  returns = around.returns;
-  breaks = true;
-  continues = true;
-  in_construct = around.in_construct;
-}
+repeated around = record around { breaks = true; continues = true }
 
 -- in a construct, which is for a loop or not
 abbrev pub constructed : (for_loop : Bool) → Around → Around
-constructed for_loop around = record {
-  globals = around.globals;
-  functions = around.functions;
-  locals = around.locals;
-  returns = around.returns;
-  breaks = false;
-  continues = for_loop;
-  in_construct = true;
-}
+constructed for_loop around = record around { breaks = false; continues = for_loop; in_construct = true }
 
 -- a variable of this shape, among these
 abbrev pub IsAmong : List GlobalVariable → List Local → Shape → variables.Variable → Type 0
@@ -200,8 +176,7 @@ of_construct constructs.Masked = record {
   value = Some values.Filter;
   shared = false;
   copies = false;
-  reductions =
-      false;
+  reductions = false;
 }
 of_construct (constructs.Critical name) = nothing
 of_construct constructs.Atomic = nothing

@@ -13,7 +13,6 @@ use om_seq::Seq;
 use std::alloc::Global;
 
 // The variables from outside that the clauses of a region list that begins there.
-#[tactic(auto, using(crate::proofs::FoundBehind::found_behind))]
 fn listed_variables(alloc: Global, start: u32, clauses: &[ResolvedClause]) -> Made<Found>
     ensures { let listed = listed_variables start (map view_resolved_clause clauses.now) in
         IfOk result (λ found. found ≡ record { start = start; variables = listed }) }
@@ -24,7 +23,6 @@ fn listed_variables(alloc: Global, start: u32, clauses: &[ResolvedClause]) -> Ma
 }
 
 // The variables from outside that a region uses that begins there.
-#[tactic(auto, using(crate::proofs::FoundBehind::found_behind))]
 fn taken_variables(
     alloc: Global,
     start: u32,

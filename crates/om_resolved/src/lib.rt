@@ -1,6 +1,6 @@
 //! Names and rules: the resolved tree, in which every use has its variable, and every region what it
 //! takes from outside.
-#![tactic(auto)]
+#![tactic(auto, using(crate::proofs::FoundBehind::found_behind), unfolding(crate::specs::Captures::expression_uses, crate::specs::Captures::values_uses, crate::specs::Captures::statement_uses, crate::specs::Captures::statements_uses, crate::specs::Captures::parts_uses))]
 
 mod captures;
 mod found;

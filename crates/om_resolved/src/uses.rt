@@ -34,7 +34,6 @@ pub fn take<S: Sighting>(seen: &mut S, variable: Variable) -> Made<()>
 }
 
 /// Notes what an expression uses.
-#[tactic(auto, unfolding(crate::specs::Captures::expression_uses))]
 #[cycle(expression)]
 pub fn take_expression<S: Sighting>(seen: &mut S, expression: &ResolvedExpression) -> Made<()>
     ensures { OnOk result
@@ -93,7 +92,6 @@ pub fn take_expression<S: Sighting>(seen: &mut S, expression: &ResolvedExpressio
 }
 
 // Notes what the values of a call use.
-#[tactic(auto, unfolding(crate::specs::Captures::values_uses))]
 #[cycle(expression)]
 fn take_values<S: Sighting>(seen: &mut S, values: &[ResolvedExpression]) -> Made<()>
     ensures { OnOk result
@@ -267,7 +265,6 @@ pub fn take_update<S: Sighting>(seen: &mut S, update: &ResolvedUpdate) -> Made<(
 
 // Notes what a statement uses besides the statements in it. The condition of a `do` stands behind
 // its body, so that nothing is noted of that one.
-#[tactic(auto, unfolding(crate::specs::Captures::statement_uses))]
 fn take_own<S: Sighting>(seen: &mut S, statement: &ResolvedStatement) -> Made<()>
     ensures { OnOk result
         (seen.new ≡ fold S.next seen.old
@@ -320,7 +317,6 @@ fn take_own<S: Sighting>(seen: &mut S, statement: &ResolvedStatement) -> Made<()
 }
 
 /// Notes what a statement uses.
-#[tactic(auto, unfolding(crate::specs::Captures::statement_uses))]
 #[cycle(statement)]
 pub(crate) fn take_statement<S: Sighting>(seen: &mut S, statement: &ResolvedStatement) -> Made<()>
     ensures { OnOk result
@@ -362,7 +358,6 @@ pub(crate) fn take_statement<S: Sighting>(seen: &mut S, statement: &ResolvedStat
 }
 
 // Notes what statements use.
-#[tactic(auto, unfolding(crate::specs::Captures::statements_uses))]
 #[cycle(statement)]
 fn take_statements<S: Sighting>(seen: &mut S, items: &[ResolvedStatement]) -> Made<()>
     ensures { OnOk result
@@ -376,7 +371,6 @@ fn take_statements<S: Sighting>(seen: &mut S, items: &[ResolvedStatement]) -> Ma
 }
 
 // Notes what the parts of `sections` use.
-#[tactic(auto, unfolding(crate::specs::Captures::parts_uses))]
 #[cycle(statement)]
 fn take_parts<S: Sighting>(seen: &mut S, parts: &[ResolvedPart]) -> Made<()>
     ensures { OnOk result

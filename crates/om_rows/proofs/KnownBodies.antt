@@ -253,8 +253,7 @@ module _ (tree : ResolvedTree) (raw : Raw) (code : IsCodeOf tree raw) where
         function = f;
         tree = TaskBody first clauses captures s;
         outer = outer;
-        numbers =
-            n;
+        numbers = n;
       } in
       let h = table_has nat_eq same_nat (flat_map region_clause_sights clauses ++ statement_sights s) in
       let vs = has_back nat_eq (region_variables clauses s) (flat_map region_clause_sights clauses)

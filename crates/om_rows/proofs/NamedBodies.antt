@@ -269,8 +269,7 @@ module _ (tree : ResolvedTree) (raw : Raw) (at : Site) (slots : List Slot) (prog
         (region_known n.bodies (record {
           function = f;
           tree = ParallelBody first clauses captures s;
-          outer =
-              at.slots;
+          outer = at.slots;
           numbers = next_body n;
         }) clauses captures s
         (stands_head (bodies_of tree) _ (regions f (region_variables clauses s) (next_body n) s) n.bodies b) refl

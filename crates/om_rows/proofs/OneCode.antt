@@ -157,8 +157,7 @@ module _ (tree : ResolvedTree) (raw other : Raw) where
       end = length x.code;
       end' = length y.code;
       one = a.0.code;
-      other =
-          b.0.code;
+      other = b.0.code;
     },
     codes bs xs ys a.1 b.1,
   )
@@ -218,6 +217,5 @@ one_code tree raw other a b =
       main = main i;
       texts = texts i;
       picks = picks i;
-      locks =
-          locks i;
+      locks = locks i;
     }

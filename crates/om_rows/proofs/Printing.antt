@@ -129,8 +129,7 @@ written_out p w bytes rest = frames.Onward (record {
   place = p + 1;
   operands = rest;
   slots = w.slots;
-  globals =
-      w.globals;
+  globals = w.globals;
   output = w.output ++ bytes;
 })
 

@@ -156,8 +156,7 @@ module _ (functions : List ResolvedFunctionTree) (formats locks picks picks' : L
           function = f;
           tree = ParallelBody first clauses captures s;
           outer = outer;
-          numbers =
-              next_body n;
+          numbers = next_body n;
         }))
         → Twins h.code h.code' (Same nowhere nowhere) (Covers-in (region_variables clauses s) (next_body n) s)
         (statement (with_code (region_base clauses s) h.code picks) (next_body n) s nowhere)
@@ -176,8 +175,7 @@ module _ (functions : List ResolvedFunctionTree) (formats locks picks picks' : L
           function = f;
           tree = TaskBody first clauses captures s;
           outer = outer;
-          numbers =
-              next_body n;
+          numbers = next_body n;
         }))
         → Twins h.code h.code' (Same nowhere nowhere) (Covers-in (region_variables clauses s) (next_body n) s)
         (statement (with_code (region_base clauses s) h.code picks) (next_body n) s nowhere)

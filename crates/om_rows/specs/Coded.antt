@@ -1,6 +1,7 @@
--- Which resolved trees have rows for all of their parts: those in which no part has the row `never`, and, where
--- `few` asks it, no call or `printf` has more than 16 values, and no `sections` more than 256 parts. `printf` has no value, a jump is in a loop, a canonical loop has
--- one of the four comparisons, and an `atomic` that reads or writes is about an expression statement.
+-- Which resolved trees have rows for all of their parts: those in which no part has the row `never`. `printf`
+-- has no value, a jump is in a loop, a canonical loop has one of the four comparisons, and an `atomic` that
+-- reads or writes is about an expression statement. Where `few` asks it, no call or `printf` has more than 16
+-- values, and no `sections` more than 256 parts.
 use Rattle.std.specs.Prelude.{◌≡◌, ◌≤◌, ℕ, Bool, true, false, All, Any, IfSome, IsSome}
 use Rattle.om_resolved.specs.declared.resolved.ConstructKind.TheVariants as constructs
 use Rattle.om_resolved.specs.Formats.{pieces_of}

@@ -56,7 +56,7 @@ first then second = record { opened = first.opened ++ second.opened; closed = fi
 
 -- a scope that ends here
 abbrev pub closed_at : (to : ℕ) → VariableScope → VariableScope
-closed_at to v = record { name = v.name; variable = v.variable; length = v.length; from = v.from; to = to }
+closed_at to v = record v { to = to }
 
 -- the end of a block, a loop or a construct: all that it opened is closed, the last one first
 abbrev pub ending : (to : ℕ) → Found → Found

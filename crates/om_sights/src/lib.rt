@@ -1,6 +1,6 @@
 //! Lowering, before code is written: what a resolved tree mentions and uses, in the order of the text. From it
 //! come the tables of a program, and the variables of its bodies.
-#![tactic(auto)]
+#![tactic(auto, using(crate::proofs::Ending::end_placed, crate::proofs::Ending::end_there, crate::proofs::Copied::original_seen, crate::proofs::Copied::combined_seen, crate::proofs::SiteBodies::round_below, crate::proofs::SiteBodies::round_kept, crate::proofs::SiteBodies::kept_then, crate::proofs::Noting::cells_next, crate::proofs::Noting::cells_done, crate::proofs::Cells::cells_measured), unfolding(om_rows::specs::Mentions::expression_formats, om_rows::specs::Mentions::values_formats, crate::specs::Room::IsRoomFor, om_rows::specs::Mentions::mentioned, om_rows::specs::Mentions::all_mentioned, om_rows::specs::Mentions::parts_mentioned, om_rows::specs::Slots::statement_sights, om_rows::specs::Slots::statements_sights, om_rows::specs::Slots::parts_sights, om_rows::specs::Bodies::regions, om_rows::specs::Bodies::all_regions, om_rows::specs::Bodies::parts_regions))]
 
 mod mentions;
 mod sights;

@@ -44,7 +44,6 @@ pub(crate) struct Walk {
 }
 
 // Notes the formats of an expression, in the order of the text.
-#[tactic(auto, unfolding(om_rows::specs::Mentions::expression_formats))]
 #[cycle(expression)]
 fn note_expression(formats: &mut Texts, alloc: Global, expression: &ResolvedExpression) -> Made<()>
     requires room { IsRoomFor (expression_weight (view_resolved_expression expression.now)) (length formats.old) }
@@ -89,7 +88,6 @@ fn note_expression(formats: &mut Texts, alloc: Global, expression: &ResolvedExpr
 }
 
 // Notes the formats of the values of a call.
-#[tactic(auto, unfolding(om_rows::specs::Mentions::values_formats))]
 #[cycle(expression)]
 fn note_values(formats: &mut Texts, alloc: Global, values: &[ResolvedExpression]) -> Made<()>
     requires room { let tree = trees.values (map view_resolved_expression values.now) in
@@ -104,7 +102,6 @@ fn note_values(formats: &mut Texts, alloc: Global, values: &[ResolvedExpression]
 }
 
 // Notes what an expression mentions.
-#[tactic(auto, unfolding(crate::specs::Room::IsRoomFor))]
 fn note_value(found: &mut Mentions, value: &ResolvedExpression) -> Made<()>
     requires room { HasTextRoom (expression_weight (view_resolved_expression value.now)) found.old }
     ensures { let tree = view_resolved_expression value.now in
@@ -134,7 +131,6 @@ fn cells_of(length: Option<u32>) -> u32
 }
 
 // Notes declared variables.
-#[tactic(auto, unfolding(crate::specs::Room::IsRoomFor))]
 fn note_declarators(found: &mut Mentions, declarators: &[ResolvedDeclarator]) -> Made<()>
     requires room { let tree = map view_resolved_declarator declarators.now in
         HasTextRoom (sum (map declarator_weight tree)) found.old }
@@ -188,7 +184,6 @@ fn note_clauses(found: &mut Mentions, clauses: &[ResolvedClause]) -> Made<()>
 }
 
 // Notes the bounds of a canonical loop.
-#[tactic(auto, unfolding(crate::specs::Room::IsRoomFor))]
 fn note_loop(found: &mut Mentions, repeated: &ResolvedLoop) -> Made<()>
     requires room { HasTextRoom (loop_weight (view_resolved_loop repeated.now)) found.old }
     ensures { let tree = view_resolved_loop repeated.now in
@@ -199,7 +194,6 @@ fn note_loop(found: &mut Mentions, repeated: &ResolvedLoop) -> Made<()>
 }
 
 // Notes an atomic update.
-#[tactic(auto, unfolding(crate::specs::Room::IsRoomFor))]
 fn note_update(found: &mut Mentions, update: &ResolvedUpdate) -> Made<()>
     requires room { HasTextRoom (update_weight (view_resolved_update update.now)) found.old }
     ensures { let tree = view_resolved_update update.now in
@@ -210,7 +204,6 @@ fn note_update(found: &mut Mentions, update: &ResolvedUpdate) -> Made<()>
 }
 
 // Notes the name of a critical region.
-#[tactic(auto, unfolding(crate::specs::Room::IsRoomFor))]
 fn note_construct(found: &mut Mentions, kind: &ConstructKind) -> Made<()>
     requires room { HasTextRoom 1 found.old }
     ensures { OnOk result (AreNoted (λ A m. m.by_construct kind.now) found.old found.new) }
@@ -225,7 +218,6 @@ fn note_construct(found: &mut Mentions, kind: &ConstructKind) -> Made<()>
 }
 
 // Notes the head of a `for`.
-#[tactic(auto, unfolding(crate::specs::Room::IsRoomFor))]
 fn note_head(found: &mut Mentions, head: &ResolvedHead) -> Made<()>
     requires room { let first = view_resolved_start head.now.start in
         let test = option_map view_resolved_expression head.now.condition in
@@ -252,7 +244,6 @@ pub(crate) fn put_end(ends: &mut Vec<Numbers>, index: usize, behind: Numbers)
 }
 
 // Walks over the body of a region.
-#[tactic(auto, using(crate::proofs::Ending::end_placed, crate::proofs::Ending::end_there))]
 #[cycle(statement)]
 fn note_region(walk: &mut Walk, body: &ResolvedStatement) -> Made<()>
     requires room { HasRoom (1 + statement_weight (view_resolved_statement body.now)) walk.old }
@@ -274,7 +265,6 @@ fn note_region(walk: &mut Walk, body: &ResolvedStatement) -> Made<()>
 }
 
 // Walks over a statement and the regions in it, in the order of the text.
-#[tactic(auto, unfolding(om_rows::specs::Mentions::mentioned))]
 #[cycle(statement)]
 fn note_statement(walk: &mut Walk, statement: &ResolvedStatement) -> Made<()>
     requires room { HasRoom (statement_weight (view_resolved_statement statement.now)) walk.old }
@@ -367,7 +357,6 @@ fn note_statement(walk: &mut Walk, statement: &ResolvedStatement) -> Made<()>
 }
 
 /// Walks over statements.
-#[tactic(auto, unfolding(om_rows::specs::Mentions::all_mentioned))]
 #[cycle(statement)]
 pub(crate) fn note_statements(walk: &mut Walk, items: &[ResolvedStatement]) -> Made<()>
     requires room { let tree = trees.statements (map view_resolved_statement items.now) in
@@ -387,7 +376,6 @@ pub(crate) fn note_statements(walk: &mut Walk, items: &[ResolvedStatement]) -> M
 }
 
 // Walks over the parts of `sections`.
-#[tactic(auto, unfolding(om_rows::specs::Mentions::parts_mentioned))]
 #[cycle(statement)]
 fn note_parts(walk: &mut Walk, parts: &[ResolvedPart]) -> Made<()>
     requires room { let tree = trees.parts (map view_resolved_part parts.now) in

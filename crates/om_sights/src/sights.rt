@@ -81,7 +81,6 @@ fn see_start(seen: &mut Variables, start: &ResolvedStart) -> Made<()>
 }
 
 // Sees a clause of a construct in whose body it stands.
-#[tactic(auto, using(crate::proofs::Copied::original_seen))]
 fn see_clause(seen: &mut Variables, clause: &ResolvedClause) -> Made<()>
     ensures { OnOk result (Sees (clause_sights (view_resolved_clause clause.now)) seen.old seen.new) }
 {
@@ -111,7 +110,6 @@ fn see_clauses(seen: &mut Variables, clauses: &[ResolvedClause]) -> Made<()>
 }
 
 // Sees a clause of a `parallel` or a `task`, in its body.
-#[tactic(auto, using(crate::proofs::Copied::combined_seen))]
 fn see_region_clause(seen: &mut Variables, clause: &ResolvedClause) -> Made<()>
     ensures { let sights = region_clause_sights (view_resolved_clause clause.now) in
         OnOk result (Sees sights seen.old seen.new) }
@@ -164,7 +162,6 @@ fn see_head(seen: &mut Variables, head: &ResolvedHead) -> Made<()>
 }
 
 // Sees a statement. The bodies of regions in it have slots of their own.
-#[tactic(auto, unfolding(om_rows::specs::Slots::statement_sights))]
 #[cycle(statement)]
 fn see_statement(seen: &mut Variables, statement: &ResolvedStatement) -> Made<()>
     ensures { let sights = statement_sights (view_resolved_statement statement.now) in
@@ -252,7 +249,6 @@ fn see_statement(seen: &mut Variables, statement: &ResolvedStatement) -> Made<()
 }
 
 // Sees statements.
-#[tactic(auto, unfolding(om_rows::specs::Slots::statements_sights))]
 #[cycle(statement)]
 fn see_statements(seen: &mut Variables, items: &[ResolvedStatement]) -> Made<()>
     ensures { let tree = trees.statements (map view_resolved_statement items.now) in
@@ -265,7 +261,6 @@ fn see_statements(seen: &mut Variables, items: &[ResolvedStatement]) -> Made<()>
 }
 
 // Sees the parts of `sections`.
-#[tactic(auto, unfolding(om_rows::specs::Slots::parts_sights))]
 #[cycle(statement)]
 fn see_parts(seen: &mut Variables, parts: &[ResolvedPart]) -> Made<()>
     ensures { let tree = trees.parts (map view_resolved_part parts.now) in

@@ -65,7 +65,6 @@ fn depth_in(sites: &[Site<'_>], depth: usize) -> usize
 }
 
 // Adds the body of a region and those in it, and answers the numbers behind it.
-#[tactic(auto, using(crate::proofs::SiteBodies::round_below))]
 #[cycle(statement)]
 fn see_region<'a>(
     sites: &mut Vec<Site<'a>>,
@@ -96,7 +95,6 @@ fn see_region<'a>(
 }
 
 // Adds the bodies of the regions in a statement, which stands in an open body, and answers the numbers behind it.
-#[tactic(auto, unfolding(om_rows::specs::Bodies::regions), using(crate::proofs::SiteBodies::round_kept, crate::proofs::SiteBodies::kept_then))]
 #[cycle(statement)]
 fn see_statement<'a>(
     sites: &mut Vec<Site<'a>>,
@@ -169,7 +167,6 @@ fn see_statement<'a>(
 }
 
 // The same for statements.
-#[tactic(auto, unfolding(om_rows::specs::Bodies::all_regions), using(crate::proofs::SiteBodies::round_kept, crate::proofs::SiteBodies::kept_then))]
 #[cycle(statement)]
 fn see_statements<'a>(
     sites: &mut Vec<Site<'a>>,
@@ -195,7 +192,6 @@ fn see_statements<'a>(
 }
 
 // The same for the parts of `sections`.
-#[tactic(auto, unfolding(om_rows::specs::Bodies::parts_regions), using(crate::proofs::SiteBodies::round_kept, crate::proofs::SiteBodies::kept_then))]
 #[cycle(statement)]
 fn see_parts<'a>(
     sites: &mut Vec<Site<'a>>,

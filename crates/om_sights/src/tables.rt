@@ -69,7 +69,6 @@ pub fn tables_of(alloc: Global, resolved: &Resolved) -> Made<Tables>
 }
 
 // Walks over all functions, from the first numbers on.
-#[tactic(auto, using(crate::proofs::Noting::cells_next, crate::proofs::Noting::cells_done))]
 fn note_functions(made: &mut Functions, functions: &[ResolvedFunction]) -> Made<()>
     requires numbers { numbers_of made.old.walk.numbers ≡ bodies.first_numbers }
     requires empty { made.old.walk.found.extents ≡ [] }
@@ -99,7 +98,6 @@ fn note_functions(made: &mut Functions, functions: &[ResolvedFunction]) -> Made<
 }
 
 // Walks over a function.
-#[tactic(auto, using(crate::proofs::Cells::cells_measured))]
 fn note_function(made: &mut Functions, function: &ResolvedFunction) -> Made<()>
     requires empty { made.old.walk.found.extents ≡ [] }
     requires room { HasRoom (function_weight (view_resolved_function function.now)) made.old.walk }
@@ -130,7 +128,6 @@ fn note_function(made: &mut Functions, function: &ResolvedFunction) -> Made<()>
 }
 
 // Walks over the body of a function.
-#[tactic(auto, using(crate::proofs::Ending::end_placed))]
 fn note_body(walk: &mut Walk, function: &ResolvedFunction) -> Made<()>
     requires room { HasRoom (function_weight (view_resolved_function function.now)) walk.old }
     ensures behind { let tree = view_resolved_function function.now in

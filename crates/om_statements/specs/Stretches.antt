@@ -19,7 +19,7 @@ use Rattle.om_resolved.specs.ResolvedTree.{ResolvedStartTree}
 use Rattle.om_rows.specs.Coded.{ValueHasCode}
 use Rattle.om_rows.specs.Expressions.{value, effect}
 use Rattle.om_rows.specs.Operators.{comparison_of, form_with, identity_of}
-use Rattle.om_rows.specs.Rows.{Site, Row, end, never, ins, part, here, ◌▸◌, given, perhaps}
+use Rattle.om_rows.specs.Rows.{Site, Row, end, never, ins, part, here, fresh, ◌▸◌, given, perhaps}
 use Rattle.om_rows.specs.Slots.{place, slot}
 use Rattle.om_rows.specs.Statements.{test, start, starts, filter_row, lock_number, worksharing_end}
 use Rattle.om_rows.specs.Statements.{clause_value, jump}
@@ -157,9 +157,9 @@ worksharing_rest names l clauses loop labels chunk comparison done at =
     ▸ end
 
 abbrev pub worksharing_begin : Numbered → ℕ → List ResolvedClauseTree → ResolvedLoopTree → LoopLabels → Part
-worksharing_begin names l clauses loop labels done at = λ p q. (chunk : ℕ) ×
+worksharing_begin names l clauses loop labels done at = fresh (λ chunk.
     given (comparison_of loop.comparison) (λ comparison. worksharing_rest names l clauses loop labels chunk
-    comparison done at) p q
+    comparison done at))
 
 -- the list of a PICK by its number in the program, and how many parts it has
 pub record Parts : Type 0 where

@@ -20,7 +20,6 @@ fn same_name(one: &Name, other: &Name) -> bool
 
 /// Whether two expressions are the same but for their spans.
 #[cycle(same)]
-#[tactic(auto, using(crate::proofs::CallViews::view_call), unfolding(crate::specs::AtomicForms::same_expression))]
 pub fn same_expression(one: &Expression, other: &Expression) -> bool
     ensures { result ≡ same_expression (view_expression one.now) (view_expression other.now) }
 {
@@ -137,7 +136,6 @@ pub fn same_expression(one: &Expression, other: &Expression) -> bool
 
 // Whether these are as many arguments as the others, and each is the same as the other's.
 #[cycle(same)]
-#[tactic(auto, unfolding(crate::specs::AtomicForms::same_expression))]
 fn same_arguments(values: &[Argument], others: &[Argument]) -> bool
     ensures { result ≡ same_arguments (arguments (map view_argument values.now))
         (arguments (map view_argument others.now)) }
@@ -157,7 +155,6 @@ fn same_arguments(values: &[Argument], others: &[Argument]) -> bool
 
 // Whether an expression, or a part of it, is the same as the target.
 #[cycle(contains)]
-#[tactic(auto, unfolding(crate::specs::AtomicForms::contains))]
 fn contains(expression: &Expression, target: &Expression) -> bool
     ensures { result ≡ contains (view_expression target.now) (view_expression expression.now) }
 {
@@ -191,7 +188,6 @@ fn contains(expression: &Expression, target: &Expression) -> bool
 
 // Whether one of these arguments, or a part of it, is the same as the target.
 #[cycle(contains)]
-#[tactic(auto, unfolding(crate::specs::AtomicForms::contains))]
 fn any_contains(values: &[Argument], target: &Expression) -> bool
     ensures { result ≡ arguments_contain (view_expression target.now)
         (arguments (map view_argument values.now)) }
@@ -234,7 +230,6 @@ fn is_one_operand(target: &Expression, left: &Expression, right: &Expression) ->
 }
 
 // Whether a value is an operation of the target and an operand that does not contain it.
-#[tactic(auto, unfolding(crate::specs::AtomicForms::is_operation_on))]
 fn is_operation_on(target: &Expression, value: &Expression) -> bool
     ensures { result ≡ is_operation_on (view_expression target.now) (view_expression value.now) }
 {
@@ -251,7 +246,6 @@ fn is_operation_on(target: &Expression, value: &Expression) -> bool
 }
 
 // Whether this assignment of a value to the target updates it.
-#[tactic(auto, unfolding(crate::specs::AtomicForms::is_updated))]
 fn is_updated(target: &Expression, operator: AssignOperator, value: &Expression) -> bool
     ensures { result ≡ is_updated (view_expression target.now) operator
         (view_expression value.now) }
@@ -274,7 +268,6 @@ fn is_step(operator: PrefixOperator) -> bool
 }
 
 // Whether an expression is an update.
-#[tactic(auto, unfolding(crate::specs::AtomicForms::is_update))]
 fn is_update(expression: &Expression) -> bool
     ensures { result ≡ is_update (view_expression expression.now) }
 {
@@ -299,7 +292,6 @@ fn is_update(expression: &Expression) -> bool
 }
 
 // Whether an expression is a read: `v = x`.
-#[tactic(auto, unfolding(crate::specs::AtomicForms::is_read))]
 fn is_read(expression: &Expression) -> bool
     ensures { result ≡ is_read (view_expression expression.now) }
 {
@@ -316,7 +308,6 @@ fn is_read(expression: &Expression) -> bool
 }
 
 // Whether an expression is a write: `x = e`.
-#[tactic(auto, unfolding(crate::specs::AtomicForms::is_write))]
 fn is_write(expression: &Expression) -> bool
     ensures { result ≡ is_write (view_expression expression.now) }
 {
@@ -332,7 +323,6 @@ fn is_write(expression: &Expression) -> bool
 }
 
 /// Whether an `atomic` of this kind may have this statement (OpenMP API 5.2, 4.3.1.3).
-#[tactic(auto, unfolding(crate::specs::AtomicForms::has_atomic_form))]
 pub fn has_atomic_form(kind: AtomicKind, statement: &Statement) -> bool
     ensures { result ≡ has_atomic_form kind (view_statement statement.now) }
 {
