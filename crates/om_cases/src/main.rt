@@ -1,8 +1,8 @@
-//! Cases of the gate: runs the cases of its standard input, and prints what is said of them: C sources, of which each has the
-//! verdict that is wanted of the front end beside it, the beginnings of a source, and whole sessions of
-//! several workers, of which it tells what the debugger writes. Where the last line is `== checks`, it then
-//! says of sessions what no contract says: that free runs end, what their books hold, and that reads and writes
-//! may fail.
+//! Cases of the gate. It runs the cases of its standard input, and prints what is said of them. They are C
+//! sources, each with the verdict that is wanted of the front end; the beginnings of a source; and whole
+//! sessions of several workers, of which it tells what the debugger writes. Where the last line is `== checks`,
+//! it then says of sessions what no contract says: that free runs end, what their books hold, and that reads and
+//! writes may fail.
 #![tactic(auto)]
 
 mod beginnings;

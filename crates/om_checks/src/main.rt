@@ -1,6 +1,6 @@
-//! Checks of the gate: makes checks of the machine, the book, sessions and drives that no contract and no session script can make:
-//! that threads of their own step the workers, that gates are asked, that calls are answered at all, and that a
-//! long history is undone in time. Prints one line a check, which ends with ` is WRONG` where it failed.
+//! Checks of the gate, of the machine, the book, sessions and drives, that no contract and no session script can
+//! make. Threads of their own step the workers, gates are asked, calls are answered at all, and a long history
+//! is undone in time. It prints one line a check, which ends with ` is WRONG` where it failed.
 #![tactic(auto)]
 
 mod book_of_two;

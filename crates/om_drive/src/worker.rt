@@ -1,5 +1,5 @@
-//! Workers: each answers orders over one debuggee, behind a gate. Free runs use `Gate` and `Debuggee`. No command
-//! starts a `Worker`, but om_checks does.
+//! Workers: each answers orders over one debuggee, behind a gate. Free runs use `Gate` and `Debuggee`. No
+//! command starts a `Worker`, but om_checks does.
 
 ghost use Rattle.std.specs.Prelude.{◌≡◌, ℕ, ◌++◌, ◌∷◌, [], List, IfOk, OnErr, None, Some};
 ghost use Rattle.om_journal.specs.Runs.{IsInRange};

@@ -17,6 +17,7 @@ struct Behind {
     last: Seq<Access>,
 }
 
+// By hand: what it is in does not prove anew how each part is dropped.
 impl Drop for Behind {
     fn drop(self) {
         let Behind { cells, last } = self;
@@ -72,7 +73,7 @@ impl Model for Names {
 // From how many cells on those of a slot are named at once.
 const MANY: u32 = 8;
 
-// Appends an access. It stands apart, as an access is large.
+// Appends an access. It is taken apart for the prover alone.
 fn list_access(names: &mut Seq<Access>, access: &Access) -> Result<(), AllocError>
     ensures { OnOk result (names.new ≡ names.old ++ access.now ∷ []) }
 {

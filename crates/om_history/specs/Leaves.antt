@@ -1,6 +1,6 @@
--- What each step and each undo leaves: a step that is made adds its entry behind the others, an undo that is
--- done takes the worker's last entry out, and one that is not done changes nothing. Each entry that stands stays
--- the same step. A roll is a list of undos (`RollIsUndos`).
+-- What each step and each undo leaves. A step that is made adds its entry behind the others. An undo that is
+-- done takes the worker's last entry out. One that is not done changes nothing. Each entry that stands stays the
+-- same step. A roll is a list of undos (`RollIsUndos`).
 use Rattle.std.specs.Prelude.{◌≡◌, Bool, true, false, Option, List, [], ◌∷◌, ◌++◌, map, ℕ, ◌+◌}
 use Rattle.om_code.specs.declared.frame.Fault.{Fault}
 use Rattle.om_values.specs.declared.step.Label.{Label}

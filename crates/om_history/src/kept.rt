@@ -31,8 +31,8 @@ impl Model for SmallEntry {
     ghost view = { λ e. record { serial = e.serial; worker = e.worker; choice = choice_of e.start; line = e.line } };
 }
 
-/// An undo record. It shares the accesses of its footprint with other records, so that each access takes 8 bytes.
-/// What takes updates back goes along with the footprint, part by part.
+/// An undo record. It shares the accesses of its footprint with other records, so that each access takes 8
+/// bytes. What takes updates back goes along with the footprint, part by part.
 ///
 /// Contracts see the record alone.
 pub struct Kept {

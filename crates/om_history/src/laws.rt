@@ -19,10 +19,10 @@ pub fn commutation()
     ensures { Commutation }
 {}
 
-/// A step with which no later one conflicts can be taken out of a history: the rest can be made
-/// in turn, its steps stay the same, and each object holds what it held before that step where it
-/// put a value or appended, less by what it added where it added to a count, and elsewhere what
-/// it holds now.
+/// A step with which no later one conflicts can be taken out of a history. The rest can be made in turn,
+/// and its steps stay the same. An object at which it put a value, or to which it appended, holds what it
+/// held before that step. One to which it added holds less by that. Each other one holds what it holds
+/// now.
 pub fn removal()
     ensures { Removal }
 {}
@@ -46,8 +46,8 @@ pub fn exactly_where()
     ensures { ExactlyWhere }
 {}
 
-/// After any run: a step that is made adds its entry behind the others, an undo that is done takes the
-/// worker's last entry out, and a step or an undo that is not done changes nothing. Each entry that
+/// After any run a step that is made adds its entry behind the others. An undo that is done takes out its
+/// worker's last entry and no other. A step or an undo that is not done changes nothing. Each entry that
 /// stands keeps its serial, its line and its footprint.
 pub fn what_is_left()
     ensures { EachLeaves }

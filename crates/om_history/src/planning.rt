@@ -136,7 +136,7 @@ fn in_parts(
 }
 
 /// A step of this footprint and these updates: each object is kept, so that its value can be put back
-/// without memory. No value changes, also when out of memory.
+/// without a request for memory. No value changes, also when out of memory.
 pub(crate) fn planned(
     store: &mut Store,
     alloc: Global,

@@ -211,7 +211,7 @@ fn exchange(
     Ok(())
 }
 
-/// Keeps each of these objects, so that its value can be put back without memory, and adds the accesses
+/// Keeps each of these objects, so that its value can be put back without a request for memory, and adds the accesses
 /// of them, shared. No value changes, also when out of memory.
 pub(crate) fn keep_each(
     store: &mut Store,

@@ -1,4 +1,4 @@
-//! Sessions: what a journal of calls has in it: commands, replies and records; and whether two values of the
+//! Sessions: commands, replies and records, of which a journal of calls is made; and whether two values of the
 //! machine are the same.
 #![tactic(auto)]
 

@@ -1,4 +1,5 @@
-//! omplab, lines that it writes, to the byte: a report behind its head, steps as commands, a line with words behind it.
+//! omplab, lines that it writes, to the byte: a report behind its head, steps as commands, a line with words
+//! behind it.
 #![tactic(auto)]
 
 mod commands;

@@ -203,7 +203,8 @@ impl Store {
     }
 
     // Keeps the object of an access in `values`, and answers the access, shared. A control is kept there
-    // only so that its accesses are shared: what it holds is in its trail. No value changes, also when out of memory.
+    // only so that its accesses are shared: what it holds is in its trail. No value changes, also when out of
+    // memory.
     fn keep_value(&mut self, alloc: Global, access: &Access) -> Result<SharedAccess, AllocError>
         ensures shared { IfOk result (λ shared. shared ≡ access.now) }
         ensures state { state_of self.new ≡ state_of self.old }

@@ -10,6 +10,6 @@ use Rattle.om_resolved.specs.ResolvedTree.{ResolvedFunctionTree, ResolvedTree}
 abbrev pub too_many : ResolvedFunctionTree → SourceFault
 too_many function = record { code = TooMany; at = function.name_at }
 
--- a fault that is not out of memory names the first function that passes a limit
+-- a fault other than out of memory names the first function that passes a limit
 abbrev pub IsRefusal : ResolvedTree → SourceFault → Type 0
 IsRefusal tree fault = fault ≢ no_memory → IsTooMany tree fault

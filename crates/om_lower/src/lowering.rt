@@ -28,7 +28,7 @@ use std::alloc::Global;
 /// om_rules give that.
 ///
 /// The body of each function without directives, and without calls but `printf`, does what the function
-/// means: it ends with its value, its globals and its output exactly where the meaning does, and faults
+/// means. It ends with its value, its globals and its output exactly where the meaning does, and faults
 /// exactly where that does.
 ///
 /// Refusals:

@@ -1,4 +1,5 @@
-//! omplab, reports: whether a source is accepted, or why not and where, as compilers write it. It knows no streams.
+//! omplab, reports: whether a source is accepted, or why not and where, as compilers write it. It knows no
+//! streams.
 #![tactic(auto)]
 
 mod excerpt;

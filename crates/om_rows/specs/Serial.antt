@@ -1,5 +1,5 @@
--- What has a meaning here: expressions and statements without calls and directives. A statement that is a `printf`
--- has one too. The two calls that ask for numbers of threads have none.
+-- What has a meaning here: expressions without calls, and statements without directives and without calls but a
+-- `printf` that is a statement. The two calls that ask for numbers of threads have none.
 use Rattle.std.specs.Prelude.{All, IfSome}
 use Rattle.om_resolved.specs.ResolvedTree.{ResolvedExpressionTree, Constant, Variable, Element, Unary, Binary}
 use Rattle.om_resolved.specs.ResolvedTree.{Conditional, Assign, AssignElement, Postfix, PostfixElement, Print}

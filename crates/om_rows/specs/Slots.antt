@@ -1,7 +1,7 @@
 -- The slots of a body. They are numbered as its text is read: parameters, then, at first sight, each declared
 -- name, and each copy that a clause, a worksharing loop or a task makes. In the body of a `parallel` or a
--- `task` each variable of the function from outside that it uses or combines has one too, at its first sight. The data
--- clauses of a `parallel` or a `task` belong to its body.
+-- `task` each variable of the function from outside that it uses, combines or lists as `shared` has one too, at its
+-- first sight. The data clauses of a `parallel` or a `task` belong to its body.
 use Rattle.std.specs.Prelude.{ℕ, List, [], ◌∷◌, ◌++◌, Option, None, Some, Bool, true, false, map, nat_eq, length}
 use Rattle.std.specs.Prelude.{if◌then◌else◌}
 use Rattle.std.specs.List.{flat_map, list_any}

@@ -1,6 +1,6 @@
 -- The code of statements and directives, row by row as docs/LANGUAGE has it (*The code of each form*). An
--- instruction has the line of the first token of its statement, or of its `if`, `while`, `do` or `for`. Those of a directive have the
--- directive's, but for a loop's bounds; so have all those of an `atomic`.
+-- instruction has the line of the first token of its statement, or of its `if`, `while`, `do` or `for`. Those of
+-- a directive have the directive's, but for a loop's bounds; so have all those of an `atomic`.
 use Rattle.std.specs.Prelude.{◌≡◌, ℕ, pos, List, [], ◌∷◌, Option, None, Some, Bool, true, false, length, is_some}
 use Rattle.std.specs.Prelude.{slice_get}
 use Rattle.std.specs.Str.{bytes_eq}

@@ -14,7 +14,7 @@ use std::marker::Model;
 /// slots, which are numbered from 0.
 #[derive(Drop)]
 pub struct Variables {
-    // A list with a map beside it: crates above a public `IndexSet` load all of its library.
+    // A list with a map beside it: crates that depend on a public `IndexSet` load all of its library.
     seen: Vec<u32>,
     slots: BTreeMap<u32, usize>,
 }

@@ -11,7 +11,7 @@ use std::marker::Model;
 
 /// Names, each once. Contracts see them in the order in which they were added.
 pub struct Names {
-    // A list with a map beside it: crates above a public `IndexSet` load all of its library.
+    // A list with a map beside it: crates that depend on a public `IndexSet` load all of its library.
     names: Vec<Vec<u8>>,
     places: BTreeMap<Vec<u8>, usize>,
 }

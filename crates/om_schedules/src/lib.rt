@@ -1,4 +1,5 @@
-//! omplab, schedules: by chance, played on a machine, judged by what they lead to, made short, and written as commands.
+//! omplab, schedules: by chance, played on a machine, judged by what they lead to, made short, and written as
+//! commands.
 #![tactic(auto)]
 
 mod block;

@@ -40,9 +40,9 @@ pub record IsProgramOf (source : List ℕ) (program : Raw) : Type 0 where
   pub within : AreWithin resolved
   pub code : IsCodeOf resolved program
 
--- why the parser refuses tokens, by any of its codes: no tree has them (where S3 then stands,
--- `om_parser/specs/Halts` says), a limit is passed at this place, a directive is refused there, or an `atomic` there
--- has a statement that is none of its forms
+-- why the parser refuses tokens, by any of its codes. No tree has them; where S3 then stands,
+-- `om_parser/specs/Halts` says. Or a limit is passed at this place, a directive is refused there, or an `atomic`
+-- there has a statement that is none of its forms.
 abbrev pub IsSyntaxFault : List Token → SourceFault → Type 0
 IsSyntaxFault tokens fault = ((fault.code ≡ Syntax) × ((tree : UnitTree) → ¬ IsTreeOf tokens tree))
     ⊎ ((fault.code ≡ TooDeep) × IsLimitPassed tokens fault.at)

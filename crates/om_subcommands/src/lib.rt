@@ -1,4 +1,4 @@
-//! omplab: the words of its command line, and its subcommands.
+//! omplab: the words of its command line, which name its subcommands.
 #![tactic(auto)]
 
 mod command;

@@ -69,8 +69,8 @@ first_records workers worker =
     (0 ∷ []) 1 1 flag.Initial ∷ []
     else if nat_lt worker workers then event_record.ThreadBegin thread.Worker ∷ [] else []
 
--- the state in which a program starts: worker 0 runs the initial task, globals have their initial values, each
--- worker has its first event records, and all else is as by default
+-- the state in which a program starts. Worker 0 runs the initial task, globals have their initial values, and each
+-- worker has its first event records. All else is as by default.
 abbrev pub start_of : Raw → ℕ → State
 start_of program workers (obj.Control worker) = value.Control (first_control program worker)
 start_of program workers (obj.Global variable index) = value.Cell (cell.Int (initial_at program variable index))

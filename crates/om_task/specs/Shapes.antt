@@ -15,7 +15,8 @@ use Rattle.om_values.specs.declared.value.Val.TheVariants as value
 use Rattle.om_values.specs.Rules.{Rules, control_access}
 use Rattle.om_task.specs.Rules.{rules_of}
 
--- the next four are those of `om_history Shapes` once more: neither crate depends on the other
+-- the first of the next four is that of om_live Stores, by cases; the others are those of om_history Shapes once
+-- more, since neither om_task nor om_history depends on the other
 
 -- whether an object is a worker's control
 abbrev pub is_trailed : Obj → Bool

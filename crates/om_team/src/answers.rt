@@ -1,5 +1,5 @@
-//! What the choice of a worker names, and what comes of it, but for the rows of tasks. No program calls `names` and
-//! `effect`: `om_task::plan` gives both.
+//! What the choice of a worker names, and what comes of it, but for the rows of tasks. No program calls `names`
+//! and `effect`: `om_task::plan` gives both.
 
 ghost use Rattle.std.specs.Prelude.{◌≡◌, ◌∷◌, ◌≤◌, ◌^◌, IfOk, Some};
 ghost use Rattle.om_code.specs.Places.{instruction_at};

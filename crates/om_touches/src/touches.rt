@@ -121,8 +121,8 @@ impl TouchLists {
         }
     }
 
-    /// Takes the touches of an entry out. All of them have to be of this footprint, since
-    /// some are taken out together, whatever objects they are of. It takes no memory.
+    /// Takes the touches of an entry out. It must have none outside of this footprint: where cells were
+    /// named at once, others of its touches may be taken out with them. It takes no memory.
     pub fn remove_all(&mut self, footprint: &Accesses, serial: u64)
         requires { AreOnly (accesses_of footprint.now) serial self.old }
         ensures { AreWithout (accesses_of footprint.now) serial self.old self.new }

@@ -30,9 +30,9 @@ pub record Headline (program : Raw) (workers : ℕ) : Type 0 where
   -- names the first
   pub undo_is_refused_exactly_at_conflicts : (commands : List Command) (worker : ℕ)
       → UndoReplies (rules_of program workers) (history_after program workers commands) worker
-  -- a step that is made adds its entry behind the others, an undo that is done takes out its worker's last entry
-  -- and no other, and a step or an undo that is not done changes nothing. Of rolls nothing is said here: each is a
-  -- list of such undos (`RollIsUndos` of om_history)
+  -- a step that is made adds its entry behind the others. An undo that is done takes out its worker's last entry
+  -- and no other. A step or an undo that is not done changes nothing. Of rolls nothing is said here: each is a list
+  -- of such undos (`RollIsUndos` of om_history)
   pub commands_leave_the_other_steps : (commands : List Command)
       → Leaves (rules_of program workers) (history_after program workers commands)
 

@@ -345,7 +345,8 @@ impl Machine {
     }
 
     /// Takes out the members of the cone that `cone` answered at this very history. The number of steps
-    /// ever made stays. It takes no memory. No program calls it: `roll` does both at once.
+    /// ever made stays. It takes no memory. No program calls it: `roll` does both at once, and this is for
+    /// a debugger that shows the cone first.
     pub fn take_out(&mut self, taken: &[Taken])
         requires { (serial : ℕ)
             × (taken.now ≡ taken_by_roll (rules_for self.old) self.old.history serial) }

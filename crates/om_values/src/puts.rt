@@ -17,6 +17,7 @@ struct Behind {
     last: Seq<Update>,
 }
 
+// By hand: what it is in does not prove anew how each part is dropped.
 impl Drop for Behind {
     fn drop(self) {
         let Behind { runs, last } = self;
@@ -161,7 +162,7 @@ impl Behind {
     }
 }
 
-// The puts of a run.
+// What stands behind the updates in front, begun with a run.
 fn begun(alloc: Global, run: Run) -> Result<Box<Behind>, AllocError>
     ensures { IfOk result (λ behind. behind.value ≡ run_puts run) }
 {
