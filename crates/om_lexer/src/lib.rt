@@ -1,5 +1,5 @@
-//! The lexer and the preprocessor: bytes of a C source to tokens (C17 5.1.1.2, phases 2 to 4; 6.4 and
-//! 6.10).
+//! Text, tokens, trees: the lexer and the preprocessor, from bytes of a C source to tokens (C17 5.1.1.2, phases
+//! 2 to 4; 6.4 and 6.10).
 #![tactic(auto)]
 
 mod character;

@@ -1,6 +1,6 @@
-//! Resolving: a tree is checked by the rules of om_rules, on names, calls, loops, sharing and nesting, and
-//! becomes the tree in which every use has its variable (C17 6.2.1; OpenMP API 5.2, sections 4.4.1, 5.1 and
-//! 17.1).
+//! Names and rules: resolving. A tree is checked by the rules of om_rules, on names, calls, loops, sharing
+//! and nesting, and becomes the tree in which every use has its variable (C17 6.2.1; OpenMP API 5.2, sections
+//! 4.4.1, 5.1 and 17.1).
 #![tactic(auto)]
 
 mod assembly;
