@@ -9,7 +9,7 @@ use Rattle.om_resolved.specs.declared.resolved.Variable as variables
 use Rattle.om_resolved.specs.ResolvedTree.{ResolvedExpressionTree, ValuesTree}
 use Rattle.om_rows.specs.Expressions.{assigned, called, constant, stepped_back, value, values}
 use Rattle.om_rows.specs.Operators.{BinaryForm, Both, Either, Plain, compound_of, step_of, inverse_step_of}
-use Rattle.om_rows.specs.Rows.{Site, Row, end, ins, part, here, fresh, ◌▸◌}
+use Rattle.om_rows.specs.Rows.{Site, Row, end, ins, part, here, fresh_two, fresh_three, ◌▸◌}
 use Rattle.om_rows.specs.Slots.{place}
 use Rattle.om_tree.specs.declared.tree.AssignOperator.{AssignOperator}
 use Rattle.om_tree.specs.declared.tree.PostfixOperator.{PostfixOperator}
@@ -41,11 +41,11 @@ truth_row at l f e =
 
 -- behind the left operand of an operator between two
 abbrev pub binary_rest : Site → ℕ → BinaryForm → ResolvedExpressionTree → Row
-binary_rest at l Both b = fresh (λ f. fresh (λ e.
-    ins at l (i.JumpIfZero f) ▸ part (value at l b) ▸ truth_row at l f e))
-binary_rest at l Either b = fresh (λ n. fresh (λ f. fresh (λ e.
+binary_rest at l Both b = fresh_two (λ f e.
+    ins at l (i.JumpIfZero f) ▸ part (value at l b) ▸ truth_row at l f e)
+binary_rest at l Either b = fresh_three (λ n f e.
     ins at l (i.JumpIfZero n) ▸ ins at l (i.Constant (pos 1)) ▸ ins at l (i.Jump e)
-    ▸ here n ▸ part (value at l b) ▸ truth_row at l f e)))
+    ▸ here n ▸ part (value at l b) ▸ truth_row at l f e)
 binary_rest at l (Plain operator) b = part (value at l b) ▸ ins at l (i.Binary operator) ▸ end
 
 -- behind the index of an assignment to an element

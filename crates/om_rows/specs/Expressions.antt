@@ -13,7 +13,7 @@ use Rattle.om_resolved.specs.ResolvedTree.{TeamSize, Print, Unary, Binary, Condi
 use Rattle.om_resolved.specs.ResolvedTree.{PostfixElement, ValuesTree, NoValues, Value}
 use Rattle.om_rows.specs.Bodies.{called_body}
 use Rattle.om_rows.specs.Operators.{BinaryForm, Both, Either, Plain, form_of, compound_of, step_of, inverse_step_of}
-use Rattle.om_rows.specs.Rows.{Site, Row, end, never, ins, part, here, fresh, ◌▸◌}
+use Rattle.om_rows.specs.Rows.{Site, Row, end, never, ins, part, here, fresh_two, fresh_three, ◌▸◌}
 use Rattle.om_rows.specs.Slots.{place}
 use Rattle.om_rows.specs.Tables.{number_in}
 
@@ -33,21 +33,21 @@ unary_row at l unaries.Not e = part e ▸ ins at l (i.Unary unary.Not) ▸ end
 
 -- `a && b`, `a || b`, and the operators that are an instruction
 abbrev pub binary_row : Site → ℕ → BinaryForm → Row → Row → Row
-binary_row at l Both a b = fresh (λ f. fresh (λ e.
+binary_row at l Both a b = fresh_two (λ f e.
     part a ▸ ins at l (i.JumpIfZero f) ▸ part b ▸ ins at l (i.JumpIfZero f)
     ▸ ins at l (i.Constant (pos 1)) ▸ ins at l (i.Jump e)
-    ▸ here f ▸ ins at l (i.Constant (pos 0)) ▸ here e ▸ end))
-binary_row at l Either a b = fresh (λ n. fresh (λ f. fresh (λ e.
+    ▸ here f ▸ ins at l (i.Constant (pos 0)) ▸ here e ▸ end)
+binary_row at l Either a b = fresh_three (λ n f e.
     part a ▸ ins at l (i.JumpIfZero n) ▸ ins at l (i.Constant (pos 1)) ▸ ins at l (i.Jump e)
     ▸ here n ▸ part b ▸ ins at l (i.JumpIfZero f)
     ▸ ins at l (i.Constant (pos 1)) ▸ ins at l (i.Jump e)
-    ▸ here f ▸ ins at l (i.Constant (pos 0)) ▸ here e ▸ end)))
+    ▸ here f ▸ ins at l (i.Constant (pos 0)) ▸ here e ▸ end)
 binary_row at l (Plain operator) a b = part a ▸ part b ▸ ins at l (i.Binary operator) ▸ end
 
 -- `c ? a : b`
 abbrev pub conditional_row : Site → ℕ → Row → Row → Row → Row
-conditional_row at l c a b = fresh (λ f. fresh (λ e.
-    part c ▸ ins at l (i.JumpIfZero f) ▸ part a ▸ ins at l (i.Jump e) ▸ here f ▸ part b ▸ here e ▸ end))
+conditional_row at l c a b = fresh_two (λ f e.
+    part c ▸ ins at l (i.JumpIfZero f) ▸ part a ▸ ins at l (i.Jump e) ▸ here f ▸ part b ▸ here e ▸ end)
 
 -- `x = e` and `x op= e`, which keep their value where it is used
 abbrev pub assigned : Site → ℕ → Bool → variables.Variable → Option machine.BinaryOperator → Row → Row

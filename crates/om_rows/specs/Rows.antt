@@ -6,7 +6,7 @@
 --
 --     part (value at l c) ▸ ins at l (i.JumpIfZero f) ▸ part (statement at n s jumps) ▸ here f ▸ end
 --
--- is the row "c, JZ E, s, E:" of `if (c) s`, where f is the place E. `fresh λ f.` binds a label in front of its row.
+-- is the row "c, JZ E, s, E:" of `if (c) s`, where f is the place E. `fresh (λ f. ..)` binds a label in front of its row.
 -- A form that has no code has the row `never`.
 use Rattle.std.specs.Prelude.{◌≡◌, ℕ, ◌+◌, List, [], ◌∷◌, Option, None, Some, Bool, true, false, slice_get}
 use Rattle.om_code.specs.declared.instruction.Instr.{Instr}
@@ -52,9 +52,15 @@ part r rest p q = (m : ℕ) × r p m × rest m q
 abbrev pub here : ℕ → Row → Row
 here label rest p q = (label ≡ p) × rest p q
 
--- a label for some place of the row
+-- one, two or three labels, each for some place of the row
 abbrev pub fresh : (ℕ → Row) → Row
 fresh row p q = (label : ℕ) × row label p q
+
+abbrev pub fresh_two : (ℕ → ℕ → Row) → Row
+fresh_two row p q = (one other : ℕ) × row one other p q
+
+abbrev pub fresh_three : (ℕ → ℕ → ℕ → Row) → Row
+fresh_three row p q = (one other third : ℕ) × row one other third p q
 
 infixr 3 ◌▸◌
 abbrev pub ◌▸◌ : (Row → Row) → Row → Row

@@ -32,7 +32,7 @@ use Rattle.om_rows.specs.Bodies.{Numbers, next_pick, behind, behind_all, region_
 use Rattle.om_rows.specs.Expressions.{constant, value, effect}
 use Rattle.om_rows.specs.Mentions.{lock_name}
 use Rattle.om_rows.specs.Operators.{comparison_of, form_with, identity_of, reduction_of, side_of, update_of}
-use Rattle.om_rows.specs.Rows.{Site, Row, end, never, ins, part, here, fresh, ◌▸◌, given, perhaps, each, unless}
+use Rattle.om_rows.specs.Rows.{Site, Row, end, never, ins, part, here, fresh, fresh_two, fresh_three, ◌▸◌, given, perhaps, each, unless}
 use Rattle.om_rows.specs.Slots.{FirstCopy, first_copies, by_slots, place, slot}
 use Rattle.om_rows.specs.Tables.{number_in}
 
@@ -221,12 +221,12 @@ construct_row at l constructs.Taskgroup clauses s body = group_row at l body
 -- lb, ub, starts, LOOP, G: GRAB E, I: ITER i G, body, JMP I, E: RED each, ENDW, ARRIVE, DEPART
 abbrev pub loop_rest : Site → ℕ → List ResolvedClauseTree → (nowait : Bool) → ResolvedLoopTree → (ℕ → Row)
     → Comparison → Row
-loop_rest at l clauses nowait loop body comparison = fresh (λ chunk. fresh (λ next. fresh (λ over.
+loop_rest at l clauses nowait loop body comparison = fresh_three (λ chunk next over.
     part (value at loop.at.line loop.from) ▸ part (value at loop.at.line loop.to) ▸ part (starts at l clauses)
     ▸ ins at l (i.Loop (form_with loop comparison))
     ▸ here chunk ▸ ins at l (i.Grab over)
     ▸ here next ▸ ins at l (i.Iterate (slot at loop.variable) chunk) ▸ part (body next) ▸ ins at l (i.Jump next)
-    ▸ here over ▸ closes at l clauses nowait)))
+    ▸ here over ▸ closes at l clauses nowait)
 
 -- a canonical loop compares by `<`, `<=`, `>` or `>=`
 abbrev pub loop_row : Site → ℕ → List ResolvedClauseTree → (nowait : Bool) → ResolvedLoopTree → (ℕ → Row) → Row
@@ -275,21 +275,21 @@ abbrev mutual
   statement at n (If first c s) jumps = fresh (λ e.
       part (value at first.line c) ▸ ins at first.line (i.JumpIfZero e) ▸ part (statement at n s jumps)
       ▸ here e ▸ end)
-  statement at n (IfElse first c s t) jumps = fresh (λ other. fresh (λ e.
+  statement at n (IfElse first c s t) jumps = fresh_two (λ other e.
       part (value at first.line c) ▸ ins at first.line (i.JumpIfZero other)
       ▸ part (statement at n s jumps) ▸ ins at first.line (i.Jump e)
-      ▸ here other ▸ part (statement at (behind n s) t jumps) ▸ here e ▸ end))
-  statement at n (While first c s) jumps = fresh (λ again. fresh (λ e.
+      ▸ here other ▸ part (statement at (behind n s) t jumps) ▸ here e ▸ end)
+  statement at n (While first c s) jumps = fresh_two (λ again e.
       here again ▸ part (value at first.line c) ▸ ins at first.line (i.JumpIfZero e)
-      ▸ part (statement at n s (in_loop e again)) ▸ ins at first.line (i.Jump again) ▸ here e ▸ end))
-  statement at n (Do first s c) jumps = fresh (λ again. fresh (λ next. fresh (λ e.
+      ▸ part (statement at n s (in_loop e again)) ▸ ins at first.line (i.Jump again) ▸ here e ▸ end)
+  statement at n (Do first s c) jumps = fresh_three (λ again next e.
       here again ▸ part (statement at n s (in_loop e next))
       ▸ here next ▸ part (value at first.line c) ▸ ins at first.line (i.JumpIfZero e)
-      ▸ ins at first.line (i.Jump again) ▸ here e ▸ end)))
-  statement at n (For first begin c step s) jumps = fresh (λ again. fresh (λ next. fresh (λ e.
+      ▸ ins at first.line (i.Jump again) ▸ here e ▸ end)
+  statement at n (For first begin c step s) jumps = fresh_three (λ again next e.
       part (start at first.line begin) ▸ here again ▸ part (perhaps (test at first.line e) c)
       ▸ part (statement at n s (in_loop e next))
-      ▸ here next ▸ part (perhaps (effect at first.line) step) ▸ ins at first.line (i.Jump again) ▸ here e ▸ end)))
+      ▸ here next ▸ part (perhaps (effect at first.line) step) ▸ ins at first.line (i.Jump again) ▸ here e ▸ end)
   statement at n (Return first e) jumps = returned at first.line at.is_main e
   statement at n (Break first) jumps = given jumps.over (jump at first.line)
   statement at n (Continue first) jumps = given jumps.next (jump at first.line)
