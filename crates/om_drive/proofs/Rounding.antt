@@ -23,8 +23,7 @@ part_more old new more due ns rest p e =
     record {
       front = p.front ++ ns;
       added = e ∙ ap (λ xs. xs ++ ns) p.added ∙ append_assoc old p.front ns;
-      left =
-          p.left ∙ sym (append_assoc p.front ns rest);
+      left = p.left ∙ sym (append_assoc p.front ns rest);
     }
 
 -- a beginning of what was left is one of all

@@ -81,7 +81,6 @@ exchanged r s s1 s2 a b first second apart =
       mid = updated (step_at r s1 b).footprint x.updates s;
       b_first = x.b_first;
       a_then = x.a_then;
-      b_same =
-          x.b_same;
+      b_same = x.b_same;
       a_same = x.a_same;
     }

@@ -51,8 +51,7 @@ met_either m ms b true is ih h =
     record {
       one = m;
       there = Contains-first m ms;
-      not_apart =
-          some_not_none (conflict_of m.footprint b.footprint) is;
+      not_apart = some_not_none (conflict_of m.footprint b.footprint) is;
     }
 met_either m ms b false is ih h = let x : MetOne ms b =
     ih h in record { one = x.one; there = Contains-rest m ms x.one x.there; not_apart = x.not_apart }
@@ -99,8 +98,7 @@ member_in_cone ts serial members u us stands before h =
       first = a.stands;
       second = stands;
       later = a.earlier u (Contains-first u us);
-      not_apart =
-          x.not_apart;
+      not_apart = x.not_apart;
     }))
     (cond_true (u.entry.serial == serial) (meets_one members u) h)
 
@@ -123,8 +121,7 @@ cone_sound ts serial low members (u ∷ us) all before above t h =
     λ a g. record {
       in_cone = (before a g).in_cone;
       stands = (before a g).stands;
-      earlier =
-          λ b k. (before a g).earlier b (Contains-rest u us b k);
+      earlier = λ b k. (before a g).earlier b (Contains-rest u us b k);
     } in
     let own : is_member serial members u ≡ true
     → InCone ts serial u = member_in_cone ts serial members u us stands before in

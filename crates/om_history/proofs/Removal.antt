@@ -151,8 +151,7 @@ taken_out r earlier later l before s1 now start taken rest apart =
         after = without d before now;
         replayed = x.replayed;
         same_steps = x.same;
-        each_object =
-            λ q. taken_back-at d.footprint us before now q (there q);
+        each_object = λ q. taken_back-at d.footprint us before now q (there q);
       },
       replay-append r _ earlier later ∙ ap (λ o. and_then o (λ t. replay_from r t later)) start,
     )

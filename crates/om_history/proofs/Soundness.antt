@@ -82,8 +82,7 @@ record_for p l d us = record {
 abbrev pub past_after : Past → Label → Step → List Update → Past
 past_after p l d us = record {
   state = updated d.footprint us p.state;
-  records =
-      p.records ++ record_for p l d us ∷ [];
+  records = p.records ++ record_for p l d us ∷ [];
   made = p.made + 1;
 }
 

@@ -43,8 +43,7 @@ wrong_code source at to word longest codes.BadToken wrong = bad_word source at t
 wrong_code source at to word longest codes.ConstantTooLarge wrong = record {
   to = to;
   value = wrong.0;
-  longest =
-      longest;
+  longest = longest;
   spelled = wrong.1;
   large = wrong.2;
 }

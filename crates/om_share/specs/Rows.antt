@@ -261,8 +261,7 @@ lock_row worker to number lock (Some holder) = Blocked (blocked.Critical holder)
 abbrev pub enter_critical_row : ℕ → ℕ → ℕ → List ℕ → Asked
 enter_critical_row worker to number lock = record {
   names = write (obj.Lock number) ∷ events worker ∷ [];
-  row =
-      λ values. lock_row worker to number lock (holder_in (first_of values));
+  row = λ values. lock_row worker to number lock (holder_in (first_of values));
 }
 
 abbrev pub unlock_row : ℕ → List ℕ → Row
@@ -272,8 +271,7 @@ abbrev pub leave_critical_row : ℕ → ℕ → ℕ → List ℕ → Option Cons
 leave_critical_row worker to number lock region =
     if is_critical number region then record {
       names = write (obj.Lock number) ∷ events worker ∷ [];
-      row =
-          λ _. unlock_row to lock;
+      row = λ _. unlock_row to lock;
     }
     else decided Lacks
 
@@ -345,8 +343,7 @@ left c below own true = Goes (EndContext ∷ []) (kept c.team.size
 abbrev pub left_row : ℕ → Context → List Context → List Access → Asked
 left_row worker c below own = record {
   names = barrier c.team c.phase ++ (own ++ events worker ∷ []);
-  row =
-      λ values. left c below own (is_open c.phase c.team.size values);
+  row = λ values. left c below own (is_open c.phase c.team.size values);
 }
 
 -- the end of a member's task: number 0 goes on with the context that made the team, the others are idle

@@ -128,8 +128,7 @@ unwritten : (before after : Moment) (taken : List ℕ) (workers : ℕ) (given : 
 unwritten before after taken workers given fault read wrote other = record {
   taken = taken;
   text = [];
-  consumes =
-      read;
+  consumes = read;
   appends = wrote;
   begins = inl refl;
   answered = λ is_read. absurd (other is_read);

@@ -104,8 +104,7 @@ Batch_none a bytes d kept = (
     text = [];
     appends = kept;
     within = omega arith;
-    whole =
-        inl refl;
+    whole = inl refl;
     is = λ future. refl;
   },
 )

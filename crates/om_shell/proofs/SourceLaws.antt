@@ -16,8 +16,7 @@ Scanned_none bytes = record {
   within = omega arith;
   source = λ future. refl;
   commands = λ future. refl;
-  unmarked =
-      λ future. refl;
+  unmarked = λ future. refl;
 }
 
 source_cons : (part : List ℕ) (parts : List (List ℕ)) (next : List ℕ) (more : List (List ℕ)) (b : Bool) → parts

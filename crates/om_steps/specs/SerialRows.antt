@@ -84,8 +84,7 @@ touch_row raw c t (touch.Reads place index) = record {
 }
 touch_row raw c t (touch.Writes place index) = record {
   names = write (object_of c place index) ∷ [];
-  row =
-      λ values. row_of (c.frame.next + 1) [] (t (cell_in (first_of values)));
+  row = λ values. row_of (c.frame.next + 1) [] (t (cell_in (first_of values)));
 }
 touch_row raw c t (touch.Clears slot) = record {
   names = cells_of_slot raw c slot;

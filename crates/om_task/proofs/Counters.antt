@@ -59,8 +59,7 @@ given_within n v (f ∷ callers) c w = record {
   births = w.births;
   regions = w.regions;
   phase = w.phase;
-  frames =
-      w.frames;
+  frames = w.frames;
 }
 
 -- a stack after an edit has counted as much more as the edit counts

@@ -93,8 +93,7 @@ member_within n team frame = record {
   births = omega arith;
   regions = omega arith;
   phase = omega arith;
-  frames =
-      omega arith;
+  frames = omega arith;
 }
 
 pub controls_gentle : (n : ℕ) (team : Team) (frame : Frame) (number count : ℕ)

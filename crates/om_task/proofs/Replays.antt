@@ -183,8 +183,7 @@ first_within program true = (
     births = omega arith;
     regions = omega arith;
     phase = omega arith;
-    frames =
-        omega arith;
+    frames = omega arith;
   },
   tt,
 )

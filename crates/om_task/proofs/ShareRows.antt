@@ -64,8 +64,7 @@ given_within : (n to otherwise : ℕ) (share : Share) (chunk : Option Chunk)
 given_within n to otherwise share (Some chunk) = record {
   few = omega arith;
   begun = (tt, (tt, tt));
-  gentle =
-      ((tt, tt), tt);
+  gentle = ((tt, tt), tt);
 }
 given_within n to otherwise share None = record { few = omega arith; begun = (tt, tt); gentle = tt }
 
@@ -124,14 +123,12 @@ chosen_within : (n to otherwise : ℕ) (c : Context) (first : Bool) → RowWithi
 chosen_within n to otherwise c true = record {
   few = omega arith;
   begun = (tt, (tt, (tt, tt)));
-  gentle =
-      ((tt, tt), (tt, tt));
+  gentle = ((tt, tt), (tt, tt));
 }
 chosen_within n to otherwise c false = record {
   few = omega arith;
   begun = (tt, (tt, (tt, tt)));
-  gentle =
-      (tt, (tt, tt));
+  gentle = (tt, (tt, tt));
 }
 
 pub single_within : (n worker to otherwise : ℕ) (c : Context) (values : List Val)
@@ -179,8 +176,7 @@ lock_within : (n worker to number : ℕ) (lock : List ℕ) (holder : Option ℕ)
 lock_within n worker to number lock None = record {
   few = omega arith;
   begun = (tt, (tt, tt));
-  gentle =
-      ((tt, tt), (tt, tt));
+  gentle = ((tt, tt), (tt, tt));
 }
 lock_within n worker to number lock (Some holder) = tt
 

@@ -78,8 +78,7 @@ turn_within : (n to : ℕ) (us : List Update) (t : Turn) → AreGentle n us → 
 turn_within n to us (turn.Goes jump takes pushed put) h = record {
   few = omega arith;
   begun = (tt, tt);
-  gentle =
-      put_gentle n put us h;
+  gentle = put_gentle n put us h;
 }
 turn_within n to us (turn.Faults f) h = tt
 turn_within n to us turn.Lacks h = tt
@@ -404,8 +403,7 @@ started_within : (n worker : ℕ) (name : List ℕ) (c : Context) (s : statuses.
 started_within n worker name c s None h = tt
 started_within n worker name c s (Some ready) h = record {
   few = omega arith;
-  begun =
-      (context_within n name c ready (h ready refl), tt);
+  begun = (context_within n name c ready (h ready refl), tt);
   gentle = ((tt, tt), (tt, tt));
 }
 

@@ -165,8 +165,7 @@ started_row worker name c admits None = decided (Blocked blocked.Place)
 started_row worker name c false (Some s) = decided (Blocked blocked.Task)
 started_row worker name c true (Some s) = record {
   names = write (obj.Task name) ∷ events worker ∷ [];
-  row =
-      λ values. started worker name c s (ready_for c.team.name (task_in (first_of values)));
+  row = λ values. started worker name c s (ready_for c.team.name (task_in (first_of values)));
 }
 
 -- OpenMP 5.2, 12.9: the task of a name is started on a context, at a scheduling point

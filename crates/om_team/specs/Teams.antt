@@ -44,8 +44,7 @@ member_controls team frame number zero = []
 member_controls team frame number (suc count) =
     Put (value.Control (control.Running (record {
       top = member (record team { number = number }) frame;
-      below =
-          [];
+      below = [];
     }))) ∷ member_controls team frame (number + 1) count
 
 -- the cells of the members' firstprivate copies, and the values put there

@@ -11,8 +11,7 @@ pub batches-init : goal.batches-init
 batches-init g c = record {
   answered = Batch_none _ _ _ (Appends-nil _);
   at_most = omega arith;
-  within =
-      c.requires.within;
+  within = c.requires.within;
   known = c.requires.known;
 }
 
