@@ -7,25 +7,17 @@ use Rattle.om_foot.specs.declared.cells.Cells.{Cells}
 use Rattle.om_foot.specs.Cells.{cell_access, cells_from, cells_of, cells_listed}
 use Rattle.om_foot.specs.ListParts.{one_less, from_item}
 
--- more cells at the end of those in the middle, where nothing stands behind them
-pub cells_more : (first : List Access) (cs : List Cells) (c : Cells) (last : List Access) → last ≡ []
-    → first ++ (cells_listed (cs ++ c ∷ []) ++ last) ≡ (first ++ (cells_listed cs ++ last)) ++ cells_of c
-cells_more first cs c last none =
-    ap (λ l. first ++ (cells_listed (cs ++ c ∷ []) ++ l)) none
-    ∙ ap (λ m. first ++ m) (append-nil _ ∙ listed_more cs)
-    ∙ sym (append_assoc first (cells_listed cs) (cells_of c))
-    ∙ sym (ap (λ l. (first ++ (cells_listed cs ++ l)) ++ cells_of c) none
-    ∙ ap (λ m. (first ++ m) ++ cells_of c) (append-nil _))
+-- more cells at the end of the others, where nothing stands behind them
+pub behind_more : (cs : List Cells) (c : Cells) (last : List Access) → last ≡ []
+    → cells_listed (cs ++ c ∷ []) ++ last ≡ (cells_listed cs ++ last) ++ cells_of c
+behind_more cs c last none =
+    ap (λ l. cells_listed (cs ++ c ∷ []) ++ l) none ∙ append-nil _ ∙ listed_more cs
+    ∙ sym (ap (λ l. (cells_listed cs ++ l) ++ cells_of c) none ∙ ap (λ m. m ++ cells_of c) (append-nil _))
   where
     listed_more : (ds : List Cells) → cells_listed (ds ++ c ∷ []) ≡ cells_listed ds ++ cells_of c
     listed_more [] = append-nil (cells_of c)
     listed_more (d ∷ ds) = ap (λ m. cells_of d ++ m) (listed_more ds)
         ∙ sym (append_assoc (cells_of d) (cells_listed ds) (cells_of c))
-
--- the same, with nothing in front
-pub behind_more : (cs : List Cells) (c : Cells) (last : List Access) → last ≡ []
-    → cells_listed (cs ++ c ∷ []) ++ last ≡ (cells_listed cs ++ last) ++ cells_of c
-behind_more cs c last none = cells_more [] cs c last none
 
 -- the cells behind one more
 pub cells_past : (names : List Access) (slot : SlotName) (n count : ℕ) → n < count

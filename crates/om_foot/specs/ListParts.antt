@@ -1,16 +1,8 @@
--- Lists in three parts, and what is left of a list: matter of proofs, for crates that keep such lists.
+-- Lists in two and three parts, and what is left of a list: matter of proofs, for crates that keep such lists.
 use Rattle.std.proofs.Common.{◌≡◌, refl, sym, ◌∙◌, ap, ℕ, suc, ◌+◌, ◌-◌, ◌<◌, List, [], ◌∷◌, ◌++◌, arith}
 use Rattle.std.proofs.Common.{drop, slice_get, Some}
 use Rattle.std.proofs.lemmas.List.{append_assoc, append-nil, drop_more}
 use Rattle.std.proofs.lemmas.Option.{get_or_from_slice_get, slice_get_within}
-
--- one more behind the first part, where nothing stands behind it
-pub first_more : {A : Type 0} → (first middle last : List A) (x : A) → middle ≡ [] → last ≡ []
-    → (first ++ x ∷ []) ++ (middle ++ last) ≡ (first ++ (middle ++ last)) ++ x ∷ []
-first_more first middle last x none empty =
-    ap (λ m. (first ++ x ∷ []) ++ (m ++ last)) none ∙ ap (λ l. (first ++ x ∷ []) ++ l) empty ∙ append-nil (first ++ x ∷ [])
-    ∙ sym (ap (λ m. (first ++ (m ++ last)) ++ x ∷ []) none ∙ ap (λ l. (first ++ l) ++ x ∷ []) empty
-    ∙ ap (λ f. f ++ x ∷ []) (append-nil first))
 
 -- more behind the first part, where there is no other
 pub only_more : {A : Type 0} → (first more : List A) → (first ++ more) ++ [] ≡ (first ++ []) ++ more
@@ -19,12 +11,6 @@ only_more first more = append-nil (first ++ more) ∙ sym (ap (λ f. f ++ more) 
 -- more behind the second of two parts
 pub second_more : {A : Type 0} → (first second more : List A) → first ++ (second ++ more) ≡ (first ++ second) ++ more
 second_more first second more = sym (append_assoc first second more)
-
--- more behind the last part
-pub last_more : {A : Type 0} → (first middle last more : List A)
-    → first ++ (middle ++ (last ++ more)) ≡ (first ++ (middle ++ last)) ++ more
-last_more first middle last more =
-    ap (λ x. first ++ x) (sym (append_assoc middle last more)) ∙ sym (append_assoc first (middle ++ last) more)
 
 -- the middle part is one more
 pub regrouped : {A : Type 0} → (first middle last : List A) → (first ++ middle) ++ last ≡ first ++ (middle ++ last)
@@ -35,14 +21,6 @@ pub all_behind : {A : Type 0} → (names first middle last : List A)
     → ((names ++ first) ++ middle) ++ last ≡ names ++ (first ++ (middle ++ last))
 all_behind names first middle last =
     append_assoc (names ++ first) middle last ∙ append_assoc names first (middle ++ last)
-
--- more at the end of the first part, where nothing stands behind it
-pub first_all : {A : Type 0} → (first middle last more : List A) → middle ≡ [] → last ≡ []
-    → (first ++ more) ++ (middle ++ last) ≡ (first ++ (middle ++ last)) ++ more
-first_all first middle last more none empty =
-    ap (λ m. (first ++ more) ++ (m ++ last)) none ∙ ap (λ l. (first ++ more) ++ l) empty ∙ append-nil (first ++ more)
-    ∙ sym (ap (λ m. (first ++ (m ++ last)) ++ more) none ∙ ap (λ l. (first ++ l) ++ more) empty
-    ∙ ap (λ f. f ++ more) (append-nil first))
 
 -- one less is left behind one more
 pub one_less : (n size : ℕ) → n < size → size - n ≡ suc (size - (n + 1))

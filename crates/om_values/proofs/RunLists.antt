@@ -9,25 +9,17 @@ use Rattle.om_values.specs.declared.value.Val.TheVariants as value
 use Rattle.om_values.specs.Runs.{puts_of, run_puts, runs_listed}
 use Rattle.om_foot.specs.ListParts.{one_less, from_item}
 
--- more runs at the end of those in the middle, where nothing stands behind them
-pub runs_more : (first : List Update) (rs : List Run) (r : Run) (last : List Update) → last ≡ []
-    → first ++ (runs_listed (rs ++ r ∷ []) ++ last) ≡ (first ++ (runs_listed rs ++ last)) ++ run_puts r
-runs_more first rs r last none =
-    ap (λ l. first ++ (runs_listed (rs ++ r ∷ []) ++ l)) none
-    ∙ ap (λ m. first ++ m) (append-nil _ ∙ listed_more rs)
-    ∙ sym (append_assoc first (runs_listed rs) (run_puts r))
-    ∙ sym (ap (λ l. (first ++ (runs_listed rs ++ l)) ++ run_puts r) none
-    ∙ ap (λ m. (first ++ m) ++ run_puts r) (append-nil _))
+-- more runs at the end of the others, where nothing stands behind them
+pub behind_more : (rs : List Run) (r : Run) (last : List Update) → last ≡ []
+    → runs_listed (rs ++ r ∷ []) ++ last ≡ (runs_listed rs ++ last) ++ run_puts r
+behind_more rs r last none =
+    ap (λ l. runs_listed (rs ++ r ∷ []) ++ l) none ∙ append-nil _ ∙ listed_more rs
+    ∙ sym (ap (λ l. (runs_listed rs ++ l) ++ run_puts r) none ∙ ap (λ m. m ++ run_puts r) (append-nil _))
   where
     listed_more : (ds : List Run) → runs_listed (ds ++ r ∷ []) ≡ runs_listed ds ++ run_puts r
     listed_more [] = append-nil (run_puts r)
     listed_more (d ∷ ds) = ap (λ m. run_puts d ++ m) (listed_more ds)
         ∙ sym (append_assoc (run_puts d) (runs_listed ds) (run_puts r))
-
--- the same, with nothing in front
-pub behind_more : (rs : List Run) (r : Run) (last : List Update) → last ≡ []
-    → runs_listed (rs ++ r ∷ []) ++ last ≡ (runs_listed rs ++ last) ++ run_puts r
-behind_more rs r last none = runs_more [] rs r last none
 
 -- the puts behind one more
 pub puts_past : (us : List Update) (c : cell.Cell) (n count : ℕ) → n < count
