@@ -55,7 +55,7 @@ marked_back k = update.Keep ∷ k.back
 
 -- the record that a small one stands for, by the trails behind its step
 abbrev pub full : Pasts → UndoRecord → UndoRecord
-full ps k = record { entry = k.entry; footprint = k.footprint; back = filled k.footprint (marked_back k) ps }
+full ps k = record k { back = filled k.footprint (marked_back k) ps }
 
 -- the trails before a step
 abbrev pub before : Pasts → UndoRecord → Pasts

@@ -76,7 +76,7 @@ pub record Place : Type 0 where
   pub later : List Entry
 
 abbrev pub place_behind : Entry → Place → Place
-place_behind e p = record { earlier = e ∷ p.earlier; entry = p.entry; later = p.later }
+place_behind e p = record p { earlier = e ∷ p.earlier }
 
 -- the place found in the rest, else that of the first entry, if it is the worker's
 abbrev pub last_or_first : Option Place → Bool → Entry → List Entry → Option Place
