@@ -12,18 +12,10 @@ use std::marker::Model;
 
 // What is named behind the single objects in front: cells of slots that are named at once, and single
 // objects behind those.
+#[derive(Drop)]
 struct Behind {
     cells: Seq<Cells>,
     last: Seq<Access>,
-}
-
-// By hand: what it is in does not prove anew how each part is dropped.
-impl Drop for Behind {
-    fn drop(self) {
-        let Behind { cells, last } = self;
-        drop(cells);
-        drop(last);
-    }
 }
 
 impl Model for Behind {
@@ -113,13 +105,6 @@ fn list_each(names: &mut Seq<Access>, all: &[Cells]) -> Result<(), AllocError>
 }
 
 impl Behind {
-    // The cells, and the single objects behind them.
-    fn parts(&self) -> (&[Cells], &[Access])
-        ensures { self.now ≡ cells_listed result.0.now ++ result.1.now }
-    {
-        (self.cells.as_slice(), self.last.as_slice())
-    }
-
     // Appends an access. When out of memory, no more is said of the names.
     #[tactic(auto, using(crate::specs::ListParts::second_more))]
     fn push(&mut self, access: &Access) -> Result<(), AllocError>
@@ -140,26 +125,6 @@ impl Behind {
             list_cells(&mut self.last, cells)
         }
     }
-
-    // Appends each access to others.
-    #[tactic(auto, using(crate::specs::ListParts::regrouped))]
-    fn append_to(self, mut all: Seq<Access>) -> Result<Seq<Access>, AllocError>
-        ensures { IfOk result (λ whole. whole ≡ all ++ self) }
-    {
-        let Behind { cells, last } = self;
-        list_each(&mut all, cells.as_slice())?;
-        all.append(last)?;
-        Ok(all)
-    }
-}
-
-// Many cells of a slot, named at once.
-fn many(alloc: Global, cells: &Cells) -> Result<Box<Behind>, AllocError>
-    ensures { IfOk result (λ behind. behind.value ≡ cells_of cells.now) }
-{
-    let cells = Seq::one(alloc, *cells)?;
-    let last = Seq::new(alloc);
-    Ok(Box::new(alloc, Behind { cells, last })?)
 }
 
 // Appends cells of a slot to single objects, or answers what stands behind these where the cells are
@@ -177,7 +142,9 @@ fn begun(
         list_cells(first, cells)?;
         return Ok(None);
     }
-    Ok(Some(many(alloc, cells)?))
+    let cells = Seq::one(alloc, *cells)?;
+    let last = Seq::new(alloc);
+    Ok(Some(Box::new(alloc, Behind { cells, last })?))
 }
 
 impl Names {
@@ -206,7 +173,8 @@ impl Names {
         match &self.behind {
             None => (self.first.as_slice(), &[], &[]),
             Some(behind) => {
-                let (cells, last) = behind.parts();
+                let behind: &Behind = behind;
+                let (cells, last) = (behind.cells.as_slice(), behind.last.as_slice());
                 (self.first.as_slice(), cells, last)
             }
         }
@@ -271,7 +239,7 @@ impl Names {
     }
 
     /// Each access by itself. Its only error is out of memory.
-    #[tactic(auto, using(crate::specs::ListParts::only_more))]
+    #[tactic(auto, using(crate::specs::ListParts::only_more, crate::specs::ListParts::regrouped))]
     pub fn into_seq(self) -> Result<Seq<Access>, AllocError>
         ensures { IfOk result (λ all. all ≡ self) }
     {
@@ -280,9 +248,12 @@ impl Names {
             first,
             behind,
         } = self;
-        match behind {
-            None => Ok(first),
-            Some(behind) => Box::into_inner(behind).append_to(first),
+        let mut all = first;
+        if let Some(behind) = behind {
+            let Behind { cells, last } = Box::into_inner(behind);
+            list_each(&mut all, cells.as_slice())?;
+            all.append(last)?;
         }
+        Ok(all)
     }
 }
