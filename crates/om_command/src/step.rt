@@ -14,7 +14,7 @@ use om_history::{StepReply, UndoReply};
 use om_values::Blocked;
 use std::alloc::AllocError;
 
-// `#S worker W line L`, and the fault that the step came to, on a line.
+/// `#S worker W line L`, and the fault that the step came to, on a line.
 pub(crate) fn push_entry(
     text: &mut Vec<u8>,
     serial: u64,

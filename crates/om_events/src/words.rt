@@ -8,7 +8,7 @@ use itoa::Buffer;
 use om_foot::Name;
 use std::alloc::AllocError;
 
-// A word of a record's text, behind the number and the name of its callback.
+/// A word of a record's text, behind the number and the name of its callback.
 #[derive(Clone, Copy)]
 pub(crate) enum Word<'a> {
     Number(u64),
@@ -17,7 +17,7 @@ pub(crate) enum Word<'a> {
     Lock(&'a [u8]),
 }
 
-// Appends the number and the name of a callback, and then words, each behind a space; or nothing.
+/// Appends the number and the name of a callback, and then words, each behind a space; or nothing.
 pub(crate) fn push_words(first: &[u8], words: &[Word], out: &mut Vec<u8>) -> Result<(), AllocError>
     ensures appended { OnOk result
         (out.new.items ≡ out.old.items ++ (first.now ++ spaced (map word_text words.now))) }

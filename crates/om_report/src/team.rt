@@ -29,7 +29,7 @@ fn threads_asked(tokens: &[Token]) -> Option<u32> {
     is_clause.then_some(*threads)
 }
 
-// A file, its source, and how many workers there are.
+/// A file, its source, and how many workers there are.
 #[derive(Clone, Copy)]
 pub(crate) struct Checked<'a> {
     pub(crate) file: &'a str,

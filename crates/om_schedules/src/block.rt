@@ -27,7 +27,7 @@ impl Block {
         }
     }
 
-    // The worker whose next steps it is, if it is such a block.
+    /// The worker whose next steps it is, if it is such a block.
     pub(crate) fn stepper(&self) -> Option<u8> {
         let Block::Steps { worker, .. } = self else {
             return None;

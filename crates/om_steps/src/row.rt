@@ -42,7 +42,7 @@ pub struct Launch {
     pub body: u32,
 }
 
-// One item alone, with room for no others: it is let go within the step.
+/// One item alone, with room for no others: it is let go within the step.
 pub(crate) fn only<T>(alloc: Global, item: T) -> Result<Seq<T>, AllocError>
 where
     T: Drop,

@@ -17,7 +17,7 @@ pub struct Marks {
     pub watches: Seq<GlobalCell>,
 }
 
-// Whether a line is among these.
+/// Whether a line is among these.
 pub(crate) fn has_line(lines: &[u64], line: u64) -> bool
     ensures { result ≡ has_line lines.now line }
 {
