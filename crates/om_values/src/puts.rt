@@ -12,18 +12,10 @@ use std::marker::Model;
 
 // What is put behind the single updates in front: runs of puts for cells that are named at once, and
 // single updates behind those.
+#[derive(Drop)]
 struct Behind {
     runs: Seq<Run>,
     last: Seq<Update>,
-}
-
-// By hand: what it is in does not prove anew how each part is dropped.
-impl Drop for Behind {
-    fn drop(self) {
-        let Behind { runs, last } = self;
-        drop(runs);
-        drop(last);
-    }
 }
 
 impl Model for Behind {
@@ -110,13 +102,6 @@ fn list_each(updates: &mut Seq<Update>, runs: &[Run]) -> Result<(), AllocError>
 }
 
 impl Behind {
-    // The runs, and the single updates behind them.
-    fn parts(&self) -> (&[Run], &[Update])
-        ensures { self.now ≡ runs_listed result.0.now ++ result.1.now }
-    {
-        (self.runs.as_slice(), self.last.as_slice())
-    }
-
     // Appends an update. When out of memory, no more is said of the updates.
     #[tactic(auto, using(om_foot::specs::ListParts::second_more))]
     fn push(&mut self, update: Update) -> Result<(), AllocError>
@@ -135,30 +120,6 @@ impl Behind {
         } else {
             push_each(&mut self.last, &run)
         }
-    }
-
-    // The parts, behind the updates in front.
-    fn into_parts(self, first: Vec<Update>) -> PutParts
-        ensures same_first { result.first.items ≡ first.items }
-        ensures parts { self ≡ runs_listed result.runs ++ result.last.items }
-    {
-        let Behind { runs, last } = self;
-        PutParts {
-            first,
-            runs,
-            last: last.into_vec(),
-        }
-    }
-
-    // Appends each update to others.
-    #[tactic(auto, using(om_foot::specs::ListParts::regrouped))]
-    fn append_to(self, mut all: Seq<Update>) -> Result<Seq<Update>, AllocError>
-        ensures { IfOk result (λ whole. whole ≡ all ++ self) }
-    {
-        let Behind { runs, last } = self;
-        list_each(&mut all, runs.as_slice())?;
-        all.append(last)?;
-        Ok(all)
     }
 }
 
@@ -197,7 +158,8 @@ impl Puts {
         match &self.behind {
             None => (self.first.as_slice(), &[], &[]),
             Some(behind) => {
-                let (runs, last) = behind.parts();
+                let behind: &Behind = behind;
+                let (runs, last) = (behind.runs.as_slice(), behind.last.as_slice());
                 (self.first.as_slice(), runs, last)
             }
         }
@@ -262,12 +224,19 @@ impl Puts {
                 runs: Seq::new(alloc),
                 last: Vec::new(alloc),
             },
-            Some(behind) => Box::into_inner(behind).into_parts(first),
+            Some(behind) => {
+                let Behind { runs, last } = Box::into_inner(behind);
+                PutParts {
+                    first,
+                    runs,
+                    last: last.into_vec(),
+                }
+            }
         }
     }
 
     /// Each update by itself. Its only error is out of memory.
-    #[tactic(auto, using(om_foot::specs::ListParts::only_more))]
+    #[tactic(auto, using(om_foot::specs::ListParts::only_more, om_foot::specs::ListParts::regrouped))]
     pub fn into_vec(self) -> Result<Vec<Update>, AllocError>
         ensures { IfOk result (λ all. all.items ≡ self) }
     {
@@ -276,10 +245,12 @@ impl Puts {
             first,
             behind,
         } = self;
-        let all = match behind {
-            None => first,
-            Some(behind) => Box::into_inner(behind).append_to(first)?,
-        };
+        let mut all = first;
+        if let Some(behind) = behind {
+            let Behind { runs, last } = Box::into_inner(behind);
+            list_each(&mut all, runs.as_slice())?;
+            all.append(last)?;
+        }
         Ok(all.into_vec())
     }
 }
