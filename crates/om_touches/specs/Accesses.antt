@@ -23,7 +23,8 @@ control_write w = record { object = object.Control w; mode = mode.Write }
 abbrev pub accesses_of : Parts → List Access
 accesses_of p = control_write p.worker ∷ (p.first ++ (cells_listed p.cells ++ p.last))
 
-abbrev pub parts_in : ℕ → Forms → Parts
-parts_in w (forms.Many xs) = record { worker = w; first = xs; cells = []; last = [] }
-parts_in w (forms.Parts p) =
+abbrev pub parts_in : Forms → Parts
+parts_in (forms.Nothing w) = record { worker = w; first = []; cells = []; last = [] }
+parts_in (forms.One w x) = record { worker = w; first = x ∷ []; cells = []; last = [] }
+parts_in (forms.Parts w p) =
     record { worker = w; first = p.value.first; cells = p.value.cells; last = p.value.last }

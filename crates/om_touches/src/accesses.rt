@@ -8,6 +8,7 @@ use om_foot::{Access, Mode, Obj, SharedAccess, SharedCells};
 use om_seq::Seq;
 use std::alloc::{AllocError, Global};
 use std::marker::Model;
+use std::slice::from_ref;
 
 // Single accesses, then cells that are named at once, then single accesses again.
 #[derive(Drop)]
@@ -17,28 +18,29 @@ struct InParts {
     last: Seq<SharedAccess>,
 }
 
-// Any number of accesses, or some with cells that are named at once.
+// What a step touches beside the control of its worker: nothing or one object nearly always, else any number
+// of them and of cells that are named at once. The worker stands in each form: so they take 16 bytes.
 #[derive(Drop)]
 enum Forms {
-    Many(Seq<SharedAccess>),
-    Parts(Box<InParts>),
+    Nothing { worker: u8 },
+    One { worker: u8, access: SharedAccess },
+    Parts { worker: u8, parts: Box<InParts> },
 }
 
 /// The accesses of a step. The first one is always the write of its worker's control, so only the worker's
-/// number is kept for it: a step that touches nothing else takes no memory of its own. The cells of an
-/// array are named at once, by their slot.
+/// number is kept for it: a step that touches nothing else, or one object alone, takes no memory of its own.
+/// The cells of an array are named at once, by their slot.
 ///
 /// Contracts see the worker and the three parts behind its control; `accesses_of` has the accesses, those
 /// of named cells one by one.
 pub struct Accesses {
     forms: Forms,
-    worker: u8,
 }
 
 // By hand: other crates call this, and do not prove anew how each part is dropped.
 impl Drop for Accesses {
     fn drop(self) {
-        let Accesses { forms, worker: _ } = self;
+        let Accesses { forms } = self;
         drop(forms);
     }
 }
@@ -48,18 +50,25 @@ impl Model for Accesses {
 
     ghost Value = { Parts };
 
-    ghost view = { λ a. parts_in a.worker a.forms };
+    ghost view = { λ a. parts_in a.forms };
 }
 
 impl Accesses {
-    /// The write of a worker's control, and the accesses of a vector behind it, in its order. It takes no
-    /// memory.
-    pub fn many(worker: u8, others: Vec<SharedAccess>) -> Accesses
-        ensures { result ≡ record { worker = worker; first = others.items; cells = []; last = [] } }
+    /// The write of a worker's control alone. It takes no memory.
+    pub fn control_alone(worker: u8) -> Accesses
+        ensures { result ≡ record { worker = worker; first = []; cells = []; last = [] } }
     {
         Accesses {
-            forms: Forms::Many(Seq::of(others)),
-            worker,
+            forms: Forms::Nothing { worker },
+        }
+    }
+
+    /// The write of a worker's control, and one access behind it. It takes no memory.
+    pub fn one(worker: u8, access: SharedAccess) -> Accesses
+        ensures { result ≡ record { worker = worker; first = access ∷ []; cells = []; last = [] } }
+    {
+        Accesses {
+            forms: Forms::One { worker, access },
         }
     }
 
@@ -82,8 +91,7 @@ impl Accesses {
         };
         let parts = Box::new(alloc, parts)?;
         Ok(Accesses {
-            forms: Forms::Parts(parts),
-            worker,
+            forms: Forms::Parts { worker, parts },
         })
     }
 
@@ -91,7 +99,11 @@ impl Accesses {
     pub fn worker(&self) -> u8
         ensures { result ≡ self.now.worker }
     {
-        self.worker
+        match &self.forms {
+            Forms::Nothing { worker } => *worker,
+            Forms::One { worker, .. } => *worker,
+            Forms::Parts { worker, .. } => *worker,
+        }
     }
 
     /// The write of the worker's control.
@@ -99,7 +111,7 @@ impl Accesses {
         ensures { result ≡ control_write self.now.worker }
     {
         Access {
-            object: Obj::Control(self.worker),
+            object: Obj::Control(self.worker()),
             mode: Mode::Write,
         }
     }
@@ -114,8 +126,9 @@ impl Accesses {
         ensures last { result.2.now ≡ self.now.last }
     {
         match &self.forms {
-            Forms::Many(others) => (others.as_slice(), &[], &[]),
-            Forms::Parts(parts) => (
+            Forms::Nothing { .. } => (&[], &[], &[]),
+            Forms::One { access, .. } => (from_ref(access), &[], &[]),
+            Forms::Parts { parts, .. } => (
                 parts.first.as_slice(),
                 parts.cells.as_slice(),
                 parts.last.as_slice(),
