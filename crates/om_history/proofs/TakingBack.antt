@@ -257,3 +257,34 @@ pub taken_back-made : (footprint : List Access) (us : List Update) (s : State) (
 taken_back-made footprint us s ps shaped =
     ap (λ ws. taken_back footprint ws (updated footprint us s)) (filled-noted footprint us s ps shaped)
     ∙ taken_back-updated footprint us s
+
+-- the first access takes back what all take back, where there is one update alone
+pub record OneBack (footprint : List Access) (a : Access) (u : Update) (s : State) (ps : Pasts) : Type 0 where
+  pub marked : IfControl a (u ≡ update.Keep)
+  pub past : IfControl a (0 < length (ps a.object))
+  pub fits : FitsAtBack a.mode (filled_at a u ps) (s a.object)
+  pub state : state_before a (filled_at a u ps) s ≡ taken_back footprint (filled footprint (u ∷ []) ps) s
+  pub pasts : popped a u ps ≡ popped_all footprint (u ∷ []) ps
+
+pub front_back : (a : Access) (rest : List Access) (u : Update) (s : State) (ps : Pasts)
+    → CanTakeBack (a ∷ rest) (u ∷ []) s ps → OneBack (a ∷ rest) a u s ps
+front_back a [] u s ps can = record {
+  marked = can.marked.0;
+  past = can.pasts.0;
+  fits = can.fits.0;
+  state = refl;
+  pasts = refl;
+}
+front_back a (b ∷ bs) u s ps can = record {
+  marked = can.marked.0;
+  past = can.pasts.0;
+  fits = can.fits.0;
+  state = refl;
+  pasts = refl;
+}
+
+abbrev pub one_back : (footprint : List Access) (a : Access) (rest : List Access) (u : Update) (s : State) (ps : Pasts)
+    → footprint ≡ a ∷ rest → CanTakeBack footprint (u ∷ []) s ps → OneBack footprint a u s ps
+one_back footprint a rest u s ps is can =
+    subst (λ xs. OneBack xs a u s ps) (sym is)
+    (front_back a rest u s ps (subst (λ xs. CanTakeBack xs (u ∷ []) s ps) is can))

@@ -15,3 +15,4 @@ pub mod Pasts
 pub mod Touches
 pub mod Rows
 pub mod Leaves
+pub mod Entries

@@ -1,7 +1,12 @@
 //! What takes the updates of a step back, as its record keeps it.
 
+ghost use Rattle.std.specs.Prelude.{◌≡◌, ◌∷◌, [], IfSome};
+ghost use Rattle.om_touches.specs.Accesses.{Parts};
+ghost use Rattle.om_history.specs.Backs.{back_in, GoAlong};
+
+use om_code::frame::Cell;
 use om_seq::Seq;
-use om_values::{Update, Was};
+use om_values::{Update, Val, Was};
 
 /// What takes updates back at single accesses, at cells that were named at once, and at single accesses
 /// behind those.
@@ -17,6 +22,46 @@ pub(crate) struct BackParts {
 /// at once.
 #[derive(Drop)]
 pub(crate) enum Backs {
+    /// What the one cell held that a step put: it takes no memory.
+    Cell(Cell),
     Plain(Vec<Update>),
     Parts(Box<BackParts>),
+}
+
+// What a cell held, where that is all that takes updates back.
+fn only_cell(updates: &[Update]) -> Option<Cell>
+    ensures { IfSome result (λ cell. updates.now ≡ Update.Put (Val.Cell cell) ∷ []) }
+{
+    let (update, others) = updates.split_first()?;
+    let Update::Put(Val::Cell(cell)) = update else {
+        return None;
+    };
+    others.is_empty().then_some(*cell)
+}
+
+// The same updates, with no room for others.
+fn shrunk(mut updates: Vec<Update>) -> Vec<Update>
+    ensures { result.items ≡ updates.items }
+{
+    updates.shrink_to_fit();
+    updates
+}
+
+impl Backs {
+    /// The same, without memory where that is what one cell held.
+    pub(crate) fn in_place(self) -> Backs
+        ensures same { back_in result ≡ back_in self }
+        ensures along { (parts : Parts) → GoAlong parts self → GoAlong parts result }
+    {
+        let Backs::Plain(updates) = self else {
+            return self;
+        };
+        match only_cell(&updates) {
+            Some(cell) => {
+                drop(updates);
+                Backs::Cell(cell)
+            }
+            None => Backs::Plain(shrunk(updates)),
+        }
+    }
 }

@@ -26,6 +26,8 @@ pub(crate) struct Row {
 #[derive(Drop)]
 pub(crate) struct BySerial {
     rows: Vec<Row>,
+    // Whether a row may be without a record. It only says when it is worth a look at all of them.
+    has_gaps: bool,
 }
 
 impl Model for BySerial {
@@ -93,11 +95,24 @@ fn drop_gone(rows: &mut Vec<Row>)
     }
 }
 
-// Makes room for one more row. Where there is none, all rows without a record go, and then room is
-// asked for until half of it is free. So a row that comes costs amortized constant time, as long as
-// memory is given. When out of memory, the records are the same, and the next call may pass over all
-// rows again.
-fn make_room(rows: &mut Vec<Row>) -> Result<(), AllocError>
+// Lets all rows without a record go, if there may be any. It takes no memory.
+fn close_gaps(rows: &mut Vec<Row>, has_gaps: bool)
+    requires rising { AreRising 0 rows.old.items }
+    requires last { LastStands rows.old.items }
+    ensures same { entries_in rows.new.items ≡ entries_in rows.old.items }
+    ensures rising { AreRising 0 rows.new.items }
+    ensures last { LastStands rows.new.items }
+{
+    if has_gaps {
+        rows.retain(|row| row.kept.is_some());
+    }
+}
+
+// Makes room for one more row. Where there is none, all rows without a record go, if there may be any,
+// and then room is asked for until half of it is free. So a row that comes costs amortized constant time,
+// as long as memory is given. When out of memory, the records are the same, and the next call may pass
+// over all rows again.
+fn make_room(rows: &mut Vec<Row>, has_gaps: &mut bool) -> Result<(), AllocError>
     requires rising { AreRising 0 rows.old.items }
     requires last { LastStands rows.old.items }
     ensures same { entries_in rows.new.items ≡ entries_in rows.old.items }
@@ -108,8 +123,10 @@ fn make_room(rows: &mut Vec<Row>) -> Result<(), AllocError>
     if rows.len() < rows.capacity() {
         return Ok(());
     }
-    rows.retain(|row| row.kept.is_some());
-    rows.reserve(rows.len().max(1))
+    close_gaps(rows, *has_gaps);
+    rows.reserve(rows.len().max(1))?;
+    *has_gaps = false;
+    Ok(())
 }
 
 impl BySerial {
@@ -119,6 +136,7 @@ impl BySerial {
     {
         BySerial {
             rows: Vec::new(alloc),
+            has_gaps: false,
         }
     }
 
@@ -159,7 +177,7 @@ impl BySerial {
         ensures returned { IfErr result (λ k. k ≡ made) }
     {
         drop_gone(&mut self.rows);
-        if make_room(&mut self.rows).is_err() {
+        if make_room(&mut self.rows, &mut self.has_gaps).is_err() {
             return Err(made);
         }
         self.rows.push_reserved(Row {
@@ -177,6 +195,7 @@ impl BySerial {
     {
         let at = place(self.rows.as_slice(), serial)?;
         let kept = self.rows[at].kept.take();
+        self.has_gaps = true;
         drop_gone(&mut self.rows);
         kept
     }

@@ -13,7 +13,7 @@ ghost use Rattle.om_history.specs.Shapes.{AreShaped};
 ghost use Rattle.om_history.specs.Fills.{small_record, noted_all, filled, popped_all, CanTakeBack};
 
 use crate::backs::{BackParts, Backs};
-use crate::updates::{make_all, take_back_all};
+use crate::updates::{make_all, take_back_all, take_cell_back};
 use om_foot::SharedCells;
 use om_live::Store;
 use om_seq::Seq;
@@ -157,6 +157,7 @@ pub(crate) fn make_further(
     ensures kept { (q : Obj) → is_kept store.new q ≡ is_kept store.old q }
 {
     match back {
+        Backs::Cell(_) => unreachable!(),
         Backs::Plain(updates) => {
             let (first, _, _) = footprint.parts();
             make_all(store, alloc, first, updates)
@@ -206,6 +207,10 @@ pub(crate) fn take_further_back(store: &mut Store, footprint: &Accesses, back: &
     ensures kept { (q : Obj) → is_kept store.new q ≡ is_kept store.old q }
 {
     match back {
+        Backs::Cell(cell) => {
+            let (first, _, _) = footprint.parts();
+            take_cell_back(store, first, *cell);
+        }
         Backs::Plain(small) => {
             let (first, _, _) = footprint.parts();
             take_back_all(store, first, small);

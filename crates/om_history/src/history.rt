@@ -202,12 +202,7 @@ impl History {
     {
         let reply = self.reply(worker, &change);
         let serial = self.made + 1;
-        let entry = SmallEntry {
-            serial,
-            worker,
-            start,
-            line: change.line,
-        };
+        let entry = SmallEntry::of(worker, change.line, serial, start);
         match append(&mut self.store, &mut self.records, alloc, entry, change) {
             Ok(()) => {
                 self.made = serial;

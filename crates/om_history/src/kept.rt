@@ -2,33 +2,108 @@
 
 ghost use Rattle.std.specs.Prelude.{◌≡◌};
 ghost use Rattle.om_touches.specs.Accesses.{accesses_of};
+ghost use Rattle.om_history.specs.Choices.{choice_of};
 
 use crate::backs::Backs;
-use crate::choice::choice_of;
 use om_foot::Name;
 use om_touches::Accesses;
 use om_values::Choice;
 use std::marker::Model;
+
+// An entry, with the name of the task that its choice starts, if it does. The small numbers stand side by
+// side in each form: so it takes 24 bytes.
+#[derive(Drop)]
+enum EntryForms {
+    Next {
+        worker: u8,
+        line: u32,
+        serial: u64,
+    },
+    Start {
+        worker: u8,
+        line: u32,
+        serial: u64,
+        task: Box<Name>,
+    },
+}
 
 /// An entry, as its record keeps it.
 ///
 /// Contracts see the entry alone.
 #[derive(Drop)]
 pub struct SmallEntry {
-    pub(crate) serial: u64,
-    /// The name of the task that its choice starts, if it does.
-    pub(crate) start: Option<Box<Name>>,
-    pub(crate) line: u32,
-    pub(crate) worker: u8,
+    forms: EntryForms,
 }
 
 impl Model for SmallEntry {
     ghost use Rattle.om_values.specs.declared.step.Entry.{Entry};
-    ghost use Rattle.om_history.specs.Choices.{choice_of};
+    ghost use Rattle.om_history.specs.Entries.{entry_in};
 
     ghost Value = { Entry };
 
-    ghost view = { λ e. record { serial = e.serial; worker = e.worker; choice = choice_of e.start; line = e.line } };
+    ghost view = { λ e. entry_in e.forms };
+}
+
+impl SmallEntry {
+    /// The entry of a worker's step, by a choice that is kept.
+    pub(crate) fn of(worker: u8, line: u32, serial: u64, start: Option<Box<Name>>) -> SmallEntry
+        ensures { result ≡ record { serial = serial; worker = worker; choice = choice_of start; line = line } }
+    {
+        let forms = match start {
+            None => EntryForms::Next {
+                worker,
+                line,
+                serial,
+            },
+            Some(task) => EntryForms::Start {
+                worker,
+                line,
+                serial,
+                task,
+            },
+        };
+        SmallEntry { forms }
+    }
+
+    // Its serial.
+    fn serial(&self) -> u64
+        ensures { result ≡ self.now.serial }
+    {
+        match &self.forms {
+            EntryForms::Next { serial, .. } => *serial,
+            EntryForms::Start { serial, .. } => *serial,
+        }
+    }
+
+    /// Its worker.
+    pub(crate) fn worker(&self) -> u8
+        ensures { result ≡ self.now.worker }
+    {
+        match &self.forms {
+            EntryForms::Next { worker, .. } => *worker,
+            EntryForms::Start { worker, .. } => *worker,
+        }
+    }
+
+    // Its choice.
+    fn choice(&self) -> Choice
+        ensures { result ≡ self.now.choice }
+    {
+        match &self.forms {
+            EntryForms::Next { .. } => Choice::Next,
+            EntryForms::Start { task, .. } => Choice::Start(**task),
+        }
+    }
+
+    // Its line.
+    fn line(&self) -> u32
+        ensures { result ≡ self.now.line }
+    {
+        match &self.forms {
+            EntryForms::Next { line, .. } => *line,
+            EntryForms::Start { line, .. } => *line,
+        }
+    }
 }
 
 /// An undo record. It shares the accesses of its footprint with other records, so that each access takes 8
@@ -87,28 +162,28 @@ impl Kept {
     pub fn serial(&self) -> u64
         ensures { result ≡ self.now.entry.serial }
     {
-        self.entry.serial
+        self.entry.serial()
     }
 
     /// The worker of its entry.
     pub fn worker(&self) -> u8
         ensures { result ≡ self.now.entry.worker }
     {
-        self.entry.worker
+        self.entry.worker()
     }
 
     /// The choice of its entry.
     pub fn choice(&self) -> Choice
         ensures { result ≡ self.now.entry.choice }
     {
-        choice_of(&self.entry.start)
+        self.entry.choice()
     }
 
     /// The line of its entry.
     pub fn line(&self) -> u32
         ensures { result ≡ self.now.entry.line }
     {
-        self.entry.line
+        self.entry.line()
     }
 
     /// Its footprint.

@@ -1,6 +1,6 @@
 //! A step that is about to be made: its objects are kept, and its updates go along with them.
 
-ghost use Rattle.std.specs.Prelude.{◌≡◌, true, ◌∷◌, ◌++◌, OnOk, IfOk, All};
+ghost use Rattle.std.specs.Prelude.{◌≡◌, true, ◌∷◌, [], ◌++◌, OnOk, IfOk, All};
 ghost use Rattle.om_foot.specs.declared.object.Obj.{Obj};
 ghost use Rattle.om_foot.specs.declared.object.Obj.TheVariants as obj;
 ghost use Rattle.om_values.specs.Runs.{runs_listed};
@@ -56,14 +56,57 @@ fn are_along(all: &[Cells], runs: &[Run]) -> bool
     cells.count == run.count && are_along(others, behind)
 }
 
-// A step of single updates, whose worker's control is kept. Where that is all that it touches, its accesses
-// take no memory. No value changes, also when out of memory.
+// The accesses of these objects behind the write of a worker's control. Each is kept. No value changes, also
+// when out of memory.
+fn many(
+    store: &mut Store,
+    alloc: Global,
+    worker: u8,
+    others: &[Access],
+) -> Result<Accesses, AllocError>
+    ensures footprint { IfOk result (λ f. accesses_of f ≡ control_write worker ∷ others.now) }
+    ensures single { IfOk result (λ f. (f.cells ≡ []) × (f.last ≡ [])) }
+    ensures same { state_of store.new ≡ state_of store.old }
+    ensures same_pasts { pasts_of store.new ≡ pasts_of store.old }
+    ensures kept { OnOk result (All (λ a. is_kept store.new a.object ≡ true) others.now) }
+    ensures others_kept { (q : Obj) → is_kept store.old q ≡ true → is_kept store.new q ≡ true }
+{
+    let mut shared = Vec::with_capacity(alloc, others.len())?;
+    keep_each(store, alloc, &mut shared, others)?;
+    Accesses::of_parts(alloc, worker, shared, Seq::new(alloc), Vec::new(alloc))
+}
+
+// As `many`, without memory of its own where there is no object, or one.
+fn singles(
+    store: &mut Store,
+    alloc: Global,
+    worker: u8,
+    others: &[Access],
+) -> Result<Accesses, AllocError>
+    ensures footprint { IfOk result (λ f. accesses_of f ≡ control_write worker ∷ others.now) }
+    ensures single { IfOk result (λ f. (f.cells ≡ []) × (f.last ≡ [])) }
+    ensures same { state_of store.new ≡ state_of store.old }
+    ensures same_pasts { pasts_of store.new ≡ pasts_of store.old }
+    ensures kept { OnOk result (All (λ a. is_kept store.new a.object ≡ true) others.now) }
+    ensures others_kept { (q : Obj) → is_kept store.old q ≡ true → is_kept store.new q ≡ true }
+{
+    let Some((access, further)) = others.split_first() else {
+        return Ok(Accesses::control_alone(worker));
+    };
+    if !further.is_empty() {
+        return many(store, alloc, worker, others);
+    }
+    let shared = store.keep(alloc, access)?;
+    Ok(Accesses::one(worker, shared))
+}
+
+// A step of single updates, whose worker's control is kept. No value changes, also when out of memory.
 fn plain(
     store: &mut Store,
     alloc: Global,
     worker: u8,
     others: &[Access],
-    mut updates: Vec<Update>,
+    updates: Vec<Update>,
 ) -> Result<Making, AllocError>
     requires { is_kept store.old (obj.Control worker) ≡ true }
     ensures footprint { IfOk result (λ m. accesses_of m.footprint ≡ control_write worker ∷ others.now) }
@@ -75,14 +118,17 @@ fn plain(
         (All (λ a. is_kept store.new a.object ≡ true) (control_write worker ∷ others.now)) }
     ensures others_kept { (q : Obj) → is_kept store.old q ≡ true → is_kept store.new q ≡ true }
 {
-    let mut shared = Vec::with_capacity(alloc, others.len())?;
-    keep_each(store, alloc, &mut shared, others)?;
-    updates.shrink_to_fit();
-    Ok(Making {
-        footprint: Accesses::many(worker, shared),
-        back: Backs::Plain(updates),
-        runs: Seq::new(alloc),
-    })
+    match singles(store, alloc, worker, others) {
+        Ok(footprint) => Ok(Making {
+            footprint,
+            back: Backs::Plain(updates),
+            runs: Seq::new(alloc),
+        }),
+        Err(error) => {
+            drop(updates);
+            Err(error)
+        }
+    }
 }
 
 // A step that names cells at once, where each run has a put for each of them, and else one of single

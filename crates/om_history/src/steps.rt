@@ -107,13 +107,13 @@ fn make(
         line: _,
     } = change;
     let mut making = planned(store, alloc, &footprint, updates)?;
-    make_changes(store, alloc, entry.worker, edits, &mut making)?;
+    make_changes(store, alloc, entry.worker(), edits, &mut making)?;
     let Making {
         footprint,
         back,
         runs: _,
     } = making;
-    Ok(Kept::of(entry, footprint, back))
+    Ok(Kept::of(entry, footprint, back.in_place()))
 }
 
 /// Makes a change of an entry's worker, and adds the record of it at the end. When out of memory, no

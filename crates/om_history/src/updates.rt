@@ -1,6 +1,6 @@
 //! Updates of a store, each exchanged for what a small record holds of it.
 
-ghost use Rattle.std.specs.Prelude.{◌≡◌, ◌<◌, ◌≤◌, ◌++◌, true, false, All, OnOk, OnErr, IfOk, length, take, drop};
+ghost use Rattle.std.specs.Prelude.{◌≡◌, ◌<◌, ◌≤◌, ◌++◌, ◌∷◌, [], true, false, All, OnOk, OnErr, IfOk, length, take, drop};
 ghost use Rattle.om_foot.specs.declared.object.Obj.{Obj};
 ghost use Rattle.om_foot.specs.declared.object.Obj.TheVariants as obj;
 ghost use Rattle.om_foot.specs.Cells.{cells_listed};
@@ -10,6 +10,7 @@ ghost use Rattle.om_history.specs.Bounds.{FitsAt, FitsAtBack, FitsAll};
 ghost use Rattle.om_history.specs.Shapes.{IsShapedAt, AreShaped};
 ghost use Rattle.om_history.specs.Fills.{small_at, noted, small_record, noted_all, filled_at, popped, filled, popped_all, IfControl, CanTakeBack, control_at};
 
+use om_code::frame::Cell;
 use om_foot::{Access, Cells, Mode, Obj, SharedAccess, SharedCells};
 use om_live::{Store, worker_of};
 use om_seq::Seq;
@@ -329,4 +330,23 @@ pub(crate) fn take_back_all(store: &mut Store, footprint: &[SharedAccess], small
 {
     let count = footprint.len().min(small.len());
     take_back_first(store, footprint, small, count);
+}
+
+/// Takes the put of one cell back at the first access of a footprint, by what the cell held. It takes no
+/// memory.
+pub(crate) fn take_cell_back(store: &mut Store, footprint: &[SharedAccess], cell: Cell)
+    requires kept { All (λ a. is_kept store.old a.object ≡ true) footprint.now }
+    requires can { CanTakeBack footprint.now (Update.Put (Val.Cell cell) ∷ []) (state_of store.old)
+        (pasts_of store.old) }
+    ensures state { state_of store.new ≡ taken_back footprint.now
+        (filled footprint.now (Update.Put (Val.Cell cell) ∷ []) (pasts_of store.old))
+        (state_of store.old) }
+    ensures pasts { pasts_of store.new
+        ≡ popped_all footprint.now (Update.Put (Val.Cell cell) ∷ []) (pasts_of store.old) }
+    ensures kept { (q : Obj) → is_kept store.new q ≡ is_kept store.old q }
+{
+    let Some((access, _)) = footprint.split_first() else {
+        return;
+    };
+    take_back(store, access, Update::Put(Val::Cell(cell)));
 }

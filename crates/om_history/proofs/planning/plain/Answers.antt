@@ -5,7 +5,7 @@ use Rattle.om_live.specs.Stores.{is_kept}
 use Rattle.om_history.proofs.CellParts.{All-front}
 use Rattle.om_history.proofs.planning.plain.Goals as goal
 
-pub returns-clause-kept : goal.returns-clause-kept
-returns-clause-kept c =
-    All-front (λ (a : Access). is_kept c.keep_each.new.store a.object ≡ true) (control_write c.args.worker)
-    c.args.others.now (c.keep_each.ensures.others_kept _ c.requires) c.in_ok-keep_each.ensures.kept
+pub returns-in-Ok-clause-kept : goal.returns-in-Ok-clause-kept
+returns-in-Ok-clause-kept c =
+    All-front (λ (a : Access). is_kept c.singles.new.store a.object ≡ true) (control_write c.args.worker)
+    c.args.others.now (c.singles.ensures.others_kept _ c.requires) c.in-Ok.ensures.kept
