@@ -3,7 +3,7 @@
 use om_code::Program;
 use om_lexer::FaultCode;
 use om_lower::{Var, global_named, line_of, variable_at};
-use om_shell::program_of;
+use om_front::program_of;
 use std::alloc::{AllocError, Global};
 
 // Line 5 becomes `CONST 1` and `STORE x`, and line 6 `FIN 0`.

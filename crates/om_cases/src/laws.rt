@@ -16,6 +16,6 @@ pub(crate) fn call_laws() {
     om_rules::laws::unbroken_expressions_are_whole();
     om_rules::laws::unbroken_statements_are_whole();
     om_lower::laws::one_limit();
-    om_shell::laws::one_verdict();
+    om_front::laws::one_verdict();
     om_shell::laws::one_script();
 }

@@ -9,7 +9,7 @@ use om_lexer::{SourceFault, Token, lex};
 use om_parser::{Unit, parse};
 use om_pragma::directive;
 use om_scope::resolve;
-use om_shell::program_of;
+use om_front::program_of;
 use std::alloc::Global;
 
 /// How far a source is taken.

@@ -4,7 +4,7 @@ ghost use Rattle.std.specs.Prelude.{◌≡◌};
 ghost use Rattle.om_journal.specs.Runs.{IsInRange};
 
 use om_book::{Book, CallError, Command, Reply};
-use om_shell::program_of;
+use om_front::program_of;
 use std::alloc::{AllocError, Global};
 
 /// A book over a machine of two workers.

@@ -3,7 +3,7 @@
 ghost use Rattle.std.specs.Prelude.{◌≡◌, ◌<◌, ◌≤◌, IfOk};
 
 use om_foot::Obj;
-use om_shell::program_of;
+use om_front::program_of;
 use om_task::Choice;
 use om_undo::{Machine, StepReply, UndoReply};
 use om_values::Val;

@@ -4,7 +4,7 @@ use Rattle.om_code.specs.declared.raw.Raw.{Raw}
 use Rattle.om_lexer.specs.declared.fault.FaultCode.TheVariants.{Memory}
 use Rattle.om_lexer.specs.declared.fault.SourceFault.{SourceFault}
 use Rattle.om_lexer.specs.Faults.{no_memory}
-use Rattle.om_shell.specs.Verdict.{IsProgramOf, IsRefused}
+use Rattle.om_front.specs.Verdict.{IsProgramOf, IsRefused}
 use Rattle.om_lines.specs.declared.report.Report.{Report}
 use Rattle.om_lines.specs.Heads.{BeginsWith, accepted_head, refused_head}
 use Rattle.om_report.specs.Reports.{Reports}

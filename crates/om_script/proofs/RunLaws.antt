@@ -7,7 +7,7 @@ use Rattle.om_shell.specs.Ends.{RunsToEnd}
 use Rattle.om_shell.specs.Files.{ReadsAll}
 use Rattle.om_shell.specs.Progress.{moment_of}
 use Rattle.om_shell.specs.Script.{IsScript, book_of, commands_of, source_of, script_by, transcript_of}
-use Rattle.om_shell.specs.Verdict.{IsVerdict}
+use Rattle.om_front.specs.Verdict.{IsVerdict}
 use Rattle.om_values.specs.declared.step.Entry.{Entry}
 use Rattle.om_script.specs.declared.answer.Script.{Script}
 use Rattle.om_script.specs.declared.answer.Script.TheVariants.{Steps, Refused}

@@ -4,8 +4,6 @@ mod LineLaws
 mod SourceLaws
 mod Advances
 mod SessionLaws
-mod Refusals
 mod ServeLaws
 mod RunLaws
-mod OneVerdicts
 mod OneScripts

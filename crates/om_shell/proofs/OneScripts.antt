@@ -8,7 +8,8 @@ use Rattle.om_view.specs.declared.debugger.Debugger.{Debugger}
 use Rattle.om_view.specs.Freed.{FreeRun}
 use Rattle.om_view.specs.Views.{Answer, answered, opened}
 use Rattle.om_view.specs.Answering.{answered_same, none_behind}
-use Rattle.om_shell.specs.Laws.{AsksNoFreeRun, OneScript, OneVerdict}
+use Rattle.om_front.specs.Laws.{OneVerdict}
+use Rattle.om_shell.specs.Laws.{AsksNoFreeRun, OneScript}
 use Rattle.om_shell.specs.Script.{source_of, commands_of, transcript_of}
 use Rattle.om_shell.specs.Sessions.{after_answer, session}
 use Rattle.om_shell.specs.Transcript.{Transcript}

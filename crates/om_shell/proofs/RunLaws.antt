@@ -17,7 +17,7 @@ use Rattle.om_shell.specs.Script.{book_of, source_of, script_by, transcript_of}
 use Rattle.om_shell.specs.Serving.{due_for, Serves, BreaksOffServing, ServesAlone, ServesAlonePart, BreaksOffAlone}
 use Rattle.om_shell.specs.Source.{IsMarked, IsUnmarked, ReadsNoMark}
 use Rattle.om_shell.specs.Transcript.{Transcript}
-use Rattle.om_shell.specs.Verdict.{IsVerdict}
+use Rattle.om_front.specs.Verdict.{IsVerdict}
 use Rattle.om_shell.proofs.Advances.{Done_then, Breaks_then}
 
 -- reading a source up to behind the mark's line

@@ -15,7 +15,7 @@ use Rattle.om_shell.specs.Places.{refusal_text}
 use Rattle.om_shell.specs.Progress.{Moment, moment_of, AppendsPart, BreaksOff}
 use Rattle.om_shell.specs.Sessions.{due}
 use Rattle.om_view.specs.Views.{opened}
-use Rattle.om_shell.specs.Verdict.{IsProgramOf, IsRefused}
+use Rattle.om_front.specs.Verdict.{IsProgramOf, IsRefused}
 use Rattle.om_shell.specs.Serving.{due_for, DoneWith, Serves, ServesPart, IsUntouched, ServesAlone, BreaksOffAlone}
 use Rattle.om_shell.proofs.Advances.{Advance_none, Breaks_after, Done_unread}
 

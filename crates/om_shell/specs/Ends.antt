@@ -12,7 +12,7 @@ use Rattle.om_shell.specs.Lines.{parts_of, has_mark}
 use Rattle.om_shell.specs.Progress.{Moment, IsBeginning, AnswersWholeLines}
 use Rattle.om_shell.specs.Script.{book_of, source_of, script_by, IsScript}
 use Rattle.om_shell.specs.Transcript.{Transcript}
-use Rattle.om_shell.specs.Verdict.{IsVerdict}
+use Rattle.om_front.specs.Verdict.{IsVerdict}
 
 -- the status of a run that came to its end: 0, or 1 for a source that is refused (`Outcomes.status_of` is that of
 -- the program)

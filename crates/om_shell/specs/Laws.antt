@@ -1,4 +1,4 @@
--- Laws of verdicts and of scripts.
+-- Laws of scripts.
 use Rattle.std.specs.Prelude.{◌≡◌, ℕ, List, [], Option, None, Result}
 use Rattle.std.specs.List.{AllByRecursion}
 use Rattle.om_command.specs.Commands.{request_of}
@@ -9,15 +9,10 @@ use Rattle.om_view.specs.Freed.{FreeRun}
 use Rattle.om_view.specs.Views.{rounds_asked}
 use Rattle.om_shell.specs.Script.{commands_of, script_by, IsScript}
 use Rattle.om_shell.specs.Transcript.{Transcript}
-use Rattle.om_shell.specs.Verdict.{IsVerdict}
 
 -- whatever the number of workers, the line asks for no free run
 abbrev pub AsksNoFreeRun : List ℕ → Type 0
 AsksNoFreeRun line = (workers : ℕ) → rounds_asked (request_of workers line) ≡ None
-
--- a source has at most one verdict: at most one program, at most one refusal, and not both
-abbrev pub OneVerdict : Type 0
-OneVerdict = (source : List ℕ) (a b : Result Raw SourceFault) → IsVerdict source a → IsVerdict source b → a ≡ b
 
 -- where no command is a free run, a verdict makes one script of an input: the list of free runs changes nothing
 abbrev pub OneScriptByVerdict : Type 0

@@ -5,7 +5,6 @@ pub mod Batch
 pub mod Source
 pub mod Sessions
 pub mod Places
-pub mod Verdict
 pub mod Script
 pub mod Ends
 pub mod Serving

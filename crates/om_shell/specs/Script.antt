@@ -7,7 +7,7 @@ use Rattle.om_shell.specs.Lines.{parts_of, source_in, commands_in}
 use Rattle.om_shell.specs.Places.{refusal_text}
 use Rattle.om_shell.specs.Sessions.{session}
 use Rattle.om_shell.specs.Transcript.{Transcript}
-use Rattle.om_shell.specs.Verdict.{IsVerdict}
+use Rattle.om_front.specs.Verdict.{IsVerdict}
 use Rattle.om_code.specs.declared.raw.Raw.{Raw}
 use Rattle.om_book.specs.Books.{BookView}
 use Rattle.om_view.specs.declared.debugger.Debugger.{Debugger}

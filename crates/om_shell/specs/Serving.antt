@@ -13,7 +13,7 @@ use Rattle.om_shell.specs.Ends.{status_of}
 use Rattle.om_shell.specs.Progress.{Moment, AppendsPart, BreaksOff, IsDone}
 use Rattle.om_shell.specs.Script.{book_of, transcript_of}
 use Rattle.om_shell.specs.Transcript.{Transcript}
-use Rattle.om_shell.specs.Verdict.{IsVerdict}
+use Rattle.om_front.specs.Verdict.{IsVerdict}
 
 -- what is due for the bytes behind a source
 abbrev pub due_for : Result Raw SourceFault → ℕ → List FreeRun → List ℕ → List ℕ → Transcript Debugger

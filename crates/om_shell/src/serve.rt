@@ -12,7 +12,7 @@ ghost use Rattle.om_shell.specs.Serving.{DoneWith, Serves, BreaksOffServing, Ser
 use crate::conversation::converse;
 use crate::ended::Ended;
 use crate::fault::ShellFault;
-use crate::front_end::program_of;
+use om_front::program_of;
 use crate::host::Host;
 use crate::input::Input;
 use crate::output::send;

@@ -1,5 +1,5 @@
-use Rattle.om_shell.proofs.OneVerdicts.{one_verdict}
-use Rattle.om_shell.proofs.laws.one_verdict.Goals as goal
+use Rattle.om_front.proofs.OneVerdicts.{one_verdict}
+use Rattle.om_front.proofs.laws.one_verdict.Goals as goal
 
 pub returns : goal.returns
 returns c = one_verdict (record {

@@ -1,7 +1,7 @@
 use Rattle.std.proofs.lemmas.Result.{IfErr-weaker}
 use Rattle.om_resolved.specs.ResolvedView.{view_resolved}
-use Rattle.om_shell.specs.Verdict.{by_code}
-use Rattle.om_shell.proofs.front_end.program_of.Goals as goal
+use Rattle.om_front.specs.Verdict.{by_code}
+use Rattle.om_front.proofs.program.program_of.Goals as goal
 
 pub returns-clause-refused : goal.returns-clause-refused
 returns-clause-refused c = IfErr-weaker c.lower.result _ _ (λ _ refused memory.

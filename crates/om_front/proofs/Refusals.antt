@@ -14,8 +14,8 @@ use Rattle.om_rules.specs.Breaches.{breaches_of}
 use Rattle.om_rules.specs.Faults.{first_of}
 use Rattle.om_resolved.specs.ResolvedTree.{ResolvedTree}
 use Rattle.om_lower.specs.Limits.{IsTooMany}
-use Rattle.om_shell.specs.Verdict.{IsTreeOfSource, IsResolutionOfSource, IsRefused, IsSyntaxFault, by_lexer}
-use Rattle.om_shell.specs.Verdict.{by_parser, by_names, by_code}
+use Rattle.om_front.specs.Verdict.{IsTreeOfSource, IsResolutionOfSource, IsRefused, IsSyntaxFault, by_lexer}
+use Rattle.om_front.specs.Verdict.{by_parser, by_names, by_code}
 
 abbrev pub Refuses : List ℕ → SourceFault → Type 0
 Refuses source fault = fault ≢ no_memory → IsRefused source fault

@@ -2,8 +2,8 @@ use Rattle.std.proofs.lemmas.Result.{IfOk-weaker}
 use Rattle.om_resolved.specs.Beside.{TreeCopiesBehind}
 use Rattle.om_resolved.specs.Weights.{HasSmallWeight}
 use Rattle.om_resolved.specs.ResolvedView.{view_resolved}
-use Rattle.om_shell.proofs.Refusals.{names_refuse}
-use Rattle.om_shell.proofs.front_end.resolution_of.Goals as goal
+use Rattle.om_front.proofs.Refusals.{names_refuse}
+use Rattle.om_front.proofs.program.resolution_of.Goals as goal
 
 pub resolve-requires : goal.resolve-requires
 resolve-requires c = record {

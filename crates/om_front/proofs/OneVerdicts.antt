@@ -19,9 +19,9 @@ use Rattle.om_tree.specs.Formed.{IsUnit}
 use Rattle.om_tree.specs.Sizes.{IsWithinLimits, AtomicsHaveForms}
 use Rattle.om_tree.specs.Spelling.{unit_spelling}
 use Rattle.om_tree.specs.Tree.{UnitTree}
-use Rattle.om_shell.specs.Laws.{OneVerdict}
-use Rattle.om_shell.specs.Verdict.{IsTreeOfSource, IsResolutionOfSource, IsProgramOf, IsRefused, by_lexer, by_parser}
-use Rattle.om_shell.specs.Verdict.{by_names, by_code}
+use Rattle.om_front.specs.Laws.{OneVerdict}
+use Rattle.om_front.specs.Verdict.{IsTreeOfSource, IsResolutionOfSource, IsProgramOf, IsRefused, by_lexer, by_parser}
+use Rattle.om_front.specs.Verdict.{by_names, by_code}
 
 -- what the passes promise of each source, of its tokens, and of each tree
 pub record PassLaws : Type 0 where

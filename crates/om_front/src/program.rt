@@ -6,7 +6,7 @@ ghost use Rattle.om_resolved.specs.ResolvedView.{view_resolved};
 ghost use Rattle.om_resolved.specs.Beside.{TreeAtomicsAssign, TreeCopiesBehind};
 ghost use Rattle.om_resolved.specs.Weights.{HasSmallWeight};
 ghost use Rattle.om_resolved.specs.Whole.{IsWholeTree};
-ghost use Rattle.om_shell.specs.Verdict.{IsTreeOfSource, IsResolutionOfSource, IsProgramOf, IsRefused};
+ghost use Rattle.om_front.specs.Verdict.{IsTreeOfSource, IsResolutionOfSource, IsProgramOf, IsRefused};
 
 use om_code::Program;
 use om_lexer::{SourceFault, lex};

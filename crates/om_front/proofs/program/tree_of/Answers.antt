@@ -1,5 +1,5 @@
-use Rattle.om_shell.proofs.Refusals.{parser_refuses}
-use Rattle.om_shell.proofs.front_end.tree_of.Goals as goal
+use Rattle.om_front.proofs.Refusals.{parser_refuses}
+use Rattle.om_front.proofs.program.tree_of.Goals as goal
 
 pub returns-clause-refused : goal.returns-clause-refused
 returns-clause-refused c =

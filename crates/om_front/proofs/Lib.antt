@@ -1,0 +1,2 @@
+pub mod OneVerdicts
+pub mod Refusals
