@@ -2,7 +2,7 @@
 
 ghost use Rattle.std.specs.Prelude.{◌≡◌, ◌++◌, [], OnOk, IfOk, Some, map};
 ghost use Rattle.om_tree.specs.View.{view_directive};
-ghost use Rattle.om_resolved.specs.ResolvedView.{view_resolved_clause, view_resolved_loop};
+ghost use Rattle.om_resolved.specs.ResolvedView as view;
 ghost use Rattle.om_rules.specs.LoopViews.{view_loop};
 ghost use Rattle.om_rules.specs.Checks.{Checks};
 ghost use Rattle.om_rules.specs.DirectiveRules.{directive_breaches, in_construct, in_kind, traits_of};
@@ -34,7 +34,7 @@ pub fn enter_construct(
         (symbols.new ≡ in_construct (view_directive directive.now) symbols.old) }
     ensures resolved { IfOk result
         (λ clauses. resolved_clauses symbols.old (view_directive directive.now).clauses
-        ≡ Some (map view_resolved_clause clauses.items)) }
+        ≡ Some (map view.clause clauses.items)) }
 {
     let (listed, clauses) = resolve_directive(alloc, symbols, flow, directive)?;
     enter_listed(alloc, symbols, traits_of(&directive.name).region, listed)?;
@@ -74,10 +74,10 @@ pub fn enter_loop_construct(
         (view_loop found.now) ≡ []) }
     ensures in_scope { OnOk result
         (symbols.new ≡ in_construct (view_directive directive.now) symbols.old) }
-    ensures clauses { Finds (λ made. map view_resolved_clause made.0.items) result
+    ensures clauses { Finds (λ made. map view.clause made.0.items) result
         (resolved_clauses symbols.old (view_directive directive.now).clauses) }
     ensures repeated { let tree = view_directive directive.now in
-        Finds (λ made. view_resolved_loop made.1.value) result
+        Finds (λ made. view.loop made.1.value) result
         (resolved_loop (round_bounds tree symbols.old) (schedule_of tree.clauses)
         (view_loop found.now)) }
 {
@@ -102,7 +102,7 @@ fn enter_bounds(
         OnOk result (symbols.new ≡ in_kind kind listed symbols.old) }
     ensures resolved { let tree = view_directive directive.now in
         let scopes = round_listed (traits_of tree.name).region listed symbols.old in
-        Finds (λ repeated. view_resolved_loop repeated.value) result
+        Finds (λ repeated. view.loop repeated.value) result
         (resolved_loop scopes (schedule_of tree.clauses) (view_loop found.now)) }
 {
     let kind = traits_of(&directive.name).region;

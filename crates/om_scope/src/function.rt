@@ -9,7 +9,7 @@ ghost use Rattle.om_rules.specs.Proper.{AreProper};
 ghost use Rattle.om_rules.specs.Scopes.{after_function, after_optional, after_optionals, after_parameter, after_parameters, after_prototype, parameters_of, returns_value, signature_eq, signature_of, with_local};
 ghost use Rattle.om_rules.specs.Faults.{breaches_along};
 ghost use Rattle.om_resolved.specs.ResolvedTree as resolved;
-ghost use Rattle.om_resolved.specs.ResolvedView.{view_resolved_function, view_resolved_statement};
+ghost use Rattle.om_resolved.specs.ResolvedView as view;
 ghost use Rattle.om_rules.specs.UnitResolution.{parameter_variable, resolved_function, resolved_inside};
 ghost use Rattle.om_rules.specs.UnitRules.{body_breaches, definition_breaches, flow_of, function_breaches, head_breaches, is_other_main, is_redeclared, next_optional, next_parameter, optional_breaches, optionals_breaches, parameter_breaches, parameters_breaches, prototype_breaches};
 ghost use Rattle.om_rules.specs.StatementRules.{redeclared_breaches};
@@ -341,7 +341,7 @@ fn resolve_inside(
         ++ map parameter_variable
         (parameters_of (view_function function.now).head.parameters)) }
     ensures resolved { Finds
-        (λ body. resolved.statements (map view_resolved_statement body.items)) result
+        (λ body. resolved.statements (map view.statement body.items)) result
         (resolved_inside symbols.old (view_function function.now)) }
 {
     symbols.enter(alloc)?;
@@ -363,7 +363,7 @@ pub fn resolve_function(
     ensures checked { Checks result (function_breaches symbols.old (view_function function.now)) }
     ensures in_scope { OnOk result
         (symbols.new ≡ after_function symbols.old (view_function function.now).head) }
-    ensures resolved { Finds view_resolved_function result
+    ensures resolved { Finds view.function result
         (resolved_function symbols.old (view_function function.now)) }
 {
     begin_definition(alloc, symbols, &function.head)?;

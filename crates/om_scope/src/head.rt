@@ -3,7 +3,7 @@
 ghost use Rattle.std.specs.Prelude.{◌≡◌, ◌++◌, [], OnOk, IfOk, option_map};
 ghost use Rattle.om_tree.specs.View.{view_expression, view_for_head, view_for_start};
 ghost use Rattle.om_resolved.specs.ResolvedTree as resolved;
-ghost use Rattle.om_resolved.specs.ResolvedView.{view_resolved_expression, view_resolved_start, view_resolved_statement};
+ghost use Rattle.om_resolved.specs.ResolvedView as view;
 ghost use Rattle.om_rules.specs.Checks.{Checks};
 ghost use Rattle.om_rules.specs.Outcomes.{Finds};
 ghost use Rattle.om_rules.specs.StatementResolution.{resolved_perhaps, resolved_start};
@@ -30,13 +30,13 @@ pub fn resolve_for_head(
         ++ for_turn_breaches (after_for_start symbols.old tree.start) tree) }
     ensures in_scope { OnOk result
         (symbols.new ≡ after_for_start symbols.old (view_for_head head.now).start) }
-    ensures start { Finds (λ found. view_resolved_start found.value.start) result
+    ensures start { Finds (λ found. view.start found.value.start) result
         (resolved_start symbols.old (view_for_head head.now).start) }
     ensures condition { let tree = view_for_head head.now in
-        Finds (λ found. option_map view_resolved_expression found.value.condition) result
+        Finds (λ found. option_map view.expression found.value.condition) result
         (resolved_perhaps (after_for_start symbols.old tree.start) tree.condition) }
     ensures step { let tree = view_for_head head.now in
-        Finds (λ found. option_map view_resolved_expression found.value.step) result
+        Finds (λ found. option_map view.expression found.value.step) result
         (resolved_perhaps (after_for_start symbols.old tree.start) tree.step) }
 {
     let start = boxed(alloc, resolve_for_start(alloc, symbols, &head.start))?;
@@ -54,11 +54,11 @@ fn head_of(
     ensures checked { Checks result [] }
     ensures start { IfOk result (λ head. head.value.start ≡ start.value) }
     ensures condition { IfOk result
-        (λ head. option_map view_resolved_expression head.value.condition
-        ≡ option_map (λ boxed. view_resolved_expression boxed.value) condition) }
+        (λ head. option_map view.expression head.value.condition
+        ≡ option_map (λ boxed. view.expression boxed.value) condition) }
     ensures step { IfOk result
-        (λ head. option_map view_resolved_expression head.value.step
-        ≡ option_map (λ boxed. view_resolved_expression boxed.value) step) }
+        (λ head. option_map view.expression head.value.step
+        ≡ option_map (λ boxed. view.expression boxed.value) step) }
 {
     let head = ResolvedHead {
         start: Box::into_inner(start),
@@ -78,7 +78,7 @@ fn resolve_for_start(
     ensures checked { Checks result (for_start_breaches symbols.old (view_for_start start.now)) }
     ensures in_scope { OnOk result
         (symbols.new ≡ after_for_start symbols.old (view_for_start start.now)) }
-    ensures resolved { Finds view_resolved_start result
+    ensures resolved { Finds view.start result
         (resolved_start symbols.old (view_for_start start.now)) }
 {
     match start {
@@ -112,10 +112,10 @@ fn resolve_for_turn(
 >
     ensures checked { Checks result (for_turn_breaches symbols.now (view_for_head head.now)) }
     ensures condition { Finds
-        (λ found. option_map (λ boxed. view_resolved_expression boxed.value) found.0) result
+        (λ found. option_map (λ boxed. view.expression boxed.value) found.0) result
         (resolved_perhaps symbols.now (view_for_head head.now).condition) }
     ensures step { Finds
-        (λ found. option_map (λ boxed. view_resolved_expression boxed.value) found.1) result
+        (λ found. option_map (λ boxed. view.expression boxed.value) found.1) result
         (resolved_perhaps symbols.now (view_for_head head.now).step) }
 {
     let condition = resolve_perhaps(alloc, symbols, true, &head.condition)?;
@@ -133,7 +133,7 @@ fn resolve_perhaps(
     ensures checked { Checks result
         (perhaps_breaches symbols.now for_value (option_map view_expression expression.now)) }
     ensures resolved { Finds
-        (λ found. option_map (λ boxed. view_resolved_expression boxed.value) found) result
+        (λ found. option_map (λ boxed. view.expression boxed.value) found) result
         (resolved_perhaps symbols.now (option_map view_expression expression.now)) }
 {
     let Some(expression) = expression else {
@@ -145,11 +145,11 @@ fn resolve_perhaps(
 
 /// A `for` with its body.
 pub fn for_of(at: Span, head: Box<ResolvedHead>, body: Box<ResolvedStatement>) -> ResolvedStatement
-    ensures { view_resolved_statement result
-        ≡ resolved.For at (view_resolved_start head.value.start)
-        (option_map view_resolved_expression head.value.condition)
-        (option_map view_resolved_expression head.value.step)
-        (view_resolved_statement body.value) }
+    ensures { view.statement result
+        ≡ resolved.For at (view.start head.value.start)
+        (option_map view.expression head.value.condition)
+        (option_map view.expression head.value.step)
+        (view.statement body.value) }
 {
     ResolvedStatement::For { at, head, body }
 }

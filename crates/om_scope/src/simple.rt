@@ -3,7 +3,7 @@
 ghost use Rattle.std.specs.Prelude.{◌≡◌, ◌++◌, true, false, not, OnOk, option_map};
 ghost use Rattle.om_pragma.specs.Questions.{is_stand_alone};
 ghost use Rattle.om_tree.specs.View.{view_directive, view_expression, view_local};
-ghost use Rattle.om_resolved.specs.ResolvedView.{view_resolved_expression, view_resolved_statement};
+ghost use Rattle.om_resolved.specs.ResolvedView as view;
 ghost use Rattle.om_rules.specs.Checks.{Checks, ChecksExactly};
 ghost use Rattle.om_rules.specs.DirectiveRules.{flush_breaches};
 ghost use Rattle.om_rules.specs.ExpressionRules.{expression_breaches};
@@ -36,7 +36,7 @@ pub fn resolve_declaration(
     ensures in_scope { OnOk result
         (symbols.new ≡ after_locals symbols.old
         (declarators_of (view_local declaration.now))) }
-    ensures resolved { Finds view_resolved_statement result
+    ensures resolved { Finds view.statement result
         (resolved_declaration symbols.old (view_local declaration.now)) }
 {
     let declared = resolve_locals(alloc, symbols, declaration)?;
@@ -54,7 +54,7 @@ pub fn resolve_effect(
 ) -> Result<ResolvedStatement, SourceFault>
     ensures checked { Checks result
         (expression_breaches symbols.now false (view_expression expression.now)) }
-    ensures resolved { Finds view_resolved_statement result
+    ensures resolved { Finds view.statement result
         (resolved_effect symbols.now (view_expression expression.now)) }
 {
     let at = expression_first(expression);
@@ -78,7 +78,7 @@ pub fn resolve_return(
         (jump_breaches (not flow.in_construct) at.start
         ++ return_breaches symbols.now flow
         (option_map (λ boxed. view_expression boxed.value) value.now)) }
-    ensures resolved { Finds view_resolved_statement result
+    ensures resolved { Finds view.statement result
         (resolved_return symbols.now at
         (option_map (λ boxed. view_expression boxed.value) value.now)) }
 {
@@ -101,7 +101,7 @@ fn resolve_returned(
         (return_breaches symbols.now flow
         (option_map (λ boxed. view_expression boxed.value) value.now)) }
     ensures resolved { Finds
-        (λ found. option_map (λ boxed. view_resolved_expression boxed.value) found) result
+        (λ found. option_map (λ boxed. view.expression boxed.value) found) result
         (resolved_perhaps symbols.now
         (option_map (λ boxed. view_expression boxed.value) value.now)) }
 {
@@ -134,7 +134,7 @@ pub fn resolve_stand_alone(
     ensures checked { Checks result
         (stand_alone_breaches symbols.now flow (view_directive directive.now)) }
     ensures resolved { let tree = view_directive directive.now in
-        Finds view_resolved_statement result
+        Finds view.statement result
         (resolved_alone symbols.now tree tree.name) }
 {
     resolve_directive(alloc, symbols, flow, directive)?;
@@ -150,7 +150,7 @@ fn resolve_alone(
     requires stands_alone { is_stand_alone directive.now.name ≡ true }
     ensures checked { Checks result (flush_breaches symbols.now directive.now.name) }
     ensures resolved { let tree = view_directive directive.now in
-        Finds view_resolved_statement result
+        Finds view.statement result
         (resolved_alone symbols.now tree tree.name) }
 {
     let at = directive.hash;

@@ -6,7 +6,7 @@ ghost use Rattle.om_tree.specs.Sizes.{PartsHaveForms};
 ghost use Rattle.om_tree.specs.Tree.{Construct, parts, statements};
 ghost use Rattle.om_tree.specs.View.{view_directive, view_for_head, view_part, view_statement};
 ghost use Rattle.om_resolved.specs.ResolvedTree as resolved;
-ghost use Rattle.om_resolved.specs.ResolvedView.{view_resolved_part, view_resolved_statement};
+ghost use Rattle.om_resolved.specs.ResolvedView as view;
 ghost use Rattle.om_rules.specs.LoopViews.{view_loop};
 ghost use Rattle.om_rules.specs.Checks.{Checks};
 ghost use Rattle.om_rules.specs.DirectiveRules.{traits_of};
@@ -48,7 +48,7 @@ pub(crate) fn resolve_statements(
     ensures in_scope { OnOk result
         (symbols.new ≡ after_statements symbols.old (map view_statement items.now)) }
     ensures resolved { Finds
-        (λ found. resolved.statements (map view_resolved_statement found.items)) result
+        (λ found. resolved.statements (map view.statement found.items)) result
         (resolved_statements symbols.old flow.parallel
         (statements (map view_statement items.now))) }
 {
@@ -74,7 +74,7 @@ fn resolve_statement(
         (statement_breaches symbols.old flow (view_statement statement.now)) }
     ensures in_scope { OnOk result
         (symbols.new ≡ after_statement symbols.old (view_statement statement.now)) }
-    ensures resolved { Finds view_resolved_statement result
+    ensures resolved { Finds view.statement result
         (resolved_statement symbols.old flow.parallel (view_statement statement.now)) }
 {
     match statement {
@@ -187,7 +187,7 @@ fn resolve_body(
     ensures checked { Checks result
         (statement_breaches (inside symbols.old) flow (view_statement body.now)) }
     ensures in_scope { OnOk result (symbols.new ≡ symbols.old) }
-    ensures resolved { Finds (λ found. view_resolved_statement found.value) result
+    ensures resolved { Finds (λ found. view.statement found.value) result
         (resolved_statement (inside symbols.old) flow.parallel (view_statement body.now)) }
 {
     symbols.enter(alloc)?;
@@ -209,7 +209,7 @@ fn boxed_statement(
         (statement_breaches symbols.old flow (view_statement statement.now)) }
     ensures in_scope { OnOk result
         (symbols.new ≡ after_statement symbols.old (view_statement statement.now)) }
-    ensures resolved { Finds (λ found. view_resolved_statement found.value) result
+    ensures resolved { Finds (λ found. view.statement found.value) result
         (resolved_statement symbols.old flow.parallel (view_statement statement.now)) }
 {
     boxed(alloc, resolve_statement(alloc, symbols, flow, statement))
@@ -229,7 +229,7 @@ fn resolve_block(
         (statements (map view_statement items.now))) }
     ensures in_scope { OnOk result (symbols.new ≡ symbols.old) }
     ensures resolved { Finds
-        (λ found. resolved.statements (map view_resolved_statement found.items)) result
+        (λ found. resolved.statements (map view.statement found.items)) result
         (resolved_statements (inside symbols.old) flow.parallel
         (statements (map view_statement items.now))) }
 {
@@ -253,7 +253,7 @@ fn resolve_for(
     ensures checked { Checks result
         (for_breaches symbols.old flow (view_for_head head.now) (view_statement body.now)) }
     ensures in_scope { OnOk result (symbols.new ≡ symbols.old) }
-    ensures resolved { Finds view_resolved_statement result
+    ensures resolved { Finds view.statement result
         (resolved_for symbols.old flow.parallel (view_for_head head.now)
         (view_statement body.now)) }
 {
@@ -279,7 +279,7 @@ fn resolve_construct(
         (construct_breaches symbols.old flow (view_directive directive.now)
         (view_statement body.now)) }
     ensures in_scope { OnOk result (symbols.new ≡ symbols.old) }
-    ensures resolved { Finds view_resolved_statement result
+    ensures resolved { Finds view.statement result
         (resolved_construct symbols.old flow.parallel (view_directive directive.now)
         (view_statement body.now)) }
 {
@@ -307,7 +307,7 @@ fn resolve_plain_construct(
         (plain_construct_breaches symbols.old flow (view_directive directive.now)
         (view_statement body.now)) }
     ensures in_scope { OnOk result (symbols.new ≡ symbols.old) }
-    ensures resolved { Finds view_resolved_statement result
+    ensures resolved { Finds view.statement result
         (resolved_plain_construct symbols.old flow.parallel (view_directive directive.now)
         (view_statement body.now)) }
 {
@@ -337,7 +337,7 @@ fn resolve_loop_construct(
         (loop_construct_breaches symbols.old flow (view_directive directive.now)
         (loop_in (view_statement body.now)) (view_statement body.now)) }
     ensures in_scope { OnOk result (symbols.new ≡ symbols.old) }
-    ensures resolved { Finds view_resolved_statement result
+    ensures resolved { Finds view.statement result
         (resolved_loop_construct symbols.old flow.parallel (view_directive directive.now)
         (loop_in (view_statement body.now)) (view_statement body.now)) }
 {
@@ -374,7 +374,7 @@ fn resolve_loop_body(
     ensures checked { Checks result
         (body_breaches symbols.old inside (Some (view_loop found.now)) (view_statement body.now)) }
     ensures in_scope { OnOk result (symbols.new ≡ symbols.old) }
-    ensures resolved { Finds (λ made. view_resolved_statement made.value) result
+    ensures resolved { Finds (λ made. view.statement made.value) result
         (resolved_repeated symbols.old inside.parallel (view_loop found.now)
         (view_statement body.now)) }
 {
@@ -400,7 +400,7 @@ fn resolve_repeated(
         (statement_breaches (in_loop symbols.old (Some (view_loop found.now))) (continuing inside)
         (view_statement repeated.now)) }
     ensures in_scope { OnOk result (symbols.new ≡ symbols.old) }
-    ensures resolved { Finds (λ made. view_resolved_statement made.value) result
+    ensures resolved { Finds (λ made. view.statement made.value) result
         (resolved_statement (in_loop symbols.old (Some (view_loop found.now))) inside.parallel
         (view_statement repeated.now)) }
 {
@@ -426,7 +426,7 @@ fn resolve_sections(
         (sections_construct_breaches symbols.old flow (view_directive directive.now)
         (parts (map view_part sections.now))) }
     ensures in_scope { OnOk result (symbols.new ≡ symbols.old) }
-    ensures resolved { Finds view_resolved_statement result
+    ensures resolved { Finds view.statement result
         (resolved_sections symbols.old flow.parallel (view_directive directive.now)
         (parts (map view_part sections.now))) }
 {
@@ -450,7 +450,7 @@ fn resolve_parts(
     ensures checked { Checks result
         (parts_breaches symbols.old flow 0 (parts (map view_part sections.now))) }
     ensures in_scope { OnOk result (symbols.new ≡ symbols.old) }
-    ensures resolved { Finds (λ found. resolved.parts (map view_resolved_part found.items)) result
+    ensures resolved { Finds (λ found. resolved.parts (map view.part found.items)) result
         (resolved_parts symbols.old flow.parallel (parts (map view_part sections.now))) }
 {
     let mut resolved = Vec::new(alloc);
@@ -474,7 +474,7 @@ fn resolve_part(
     requires proper { AreProper (view_part part.now).items }
     ensures checked { Checks result (part_breaches symbols.old flow before (view_part part.now)) }
     ensures in_scope { OnOk result (symbols.new ≡ symbols.old) }
-    ensures resolved { Finds view_resolved_part result
+    ensures resolved { Finds view.part result
         (resolved_statements (inside symbols.old) flow.parallel (view_part part.now).items) }
 {
     check_section(before, &part.section)?;

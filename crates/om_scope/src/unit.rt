@@ -12,7 +12,7 @@ ghost use Rattle.om_rules.specs.Faults.{first_of};
 ghost use Rattle.om_rules.specs.Outcomes.{Finds};
 ghost use Rattle.om_rules.specs.Perhaps.{all_along};
 ghost use Rattle.om_rules.specs.Proper.{IsProperItem};
-ghost use Rattle.om_resolved.specs.ResolvedView.{view_resolved, view_resolved_function};
+ghost use Rattle.om_resolved.specs.ResolvedView as view;
 ghost use Rattle.om_rules.specs.Scopes.{after_definition, after_item, definitions_of, file_scope, nothing_declared};
 ghost use Rattle.om_rules.specs.UnitResolution.{globals_of, item_functions, items_resolution, resolution_of};
 ghost use Rattle.om_rules.specs.UnitRules.{item_breaches, items_breaches};
@@ -76,8 +76,8 @@ fn resolve_item(
     ensures in_scope { OnOk result (symbols.new ≡ after_item symbols.old (view_item item.now)) }
     ensures declared { OnOk result
         (globals.new.items ≡ globals.old.items ++ globals_of (view_item item.now)) }
-    ensures defined { let before = map view_resolved_function functions.old.items in
-        let after = map view_resolved_function functions.new.items in
+    ensures defined { let before = map view.function functions.old.items in
+        let after = map view.function functions.new.items in
         OnOk result
         (option_map (λ own. before ++ own) (item_functions symbols.old (view_item item.now))
         ≡ Some after) }
@@ -101,8 +101,8 @@ fn resolve_each(
     ensures checked { Checks result (items_breaches symbols.old (map view_item items.now)) }
     ensures declared { OnOk result
         (globals.new.items ≡ globals.old.items ++ flat_map globals_of (map view_item items.now)) }
-    ensures defined { let before = map view_resolved_function functions.old.items in
-        let after = map view_resolved_function functions.new.items in
+    ensures defined { let before = map view.function functions.old.items in
+        let after = map view.function functions.new.items in
         OnOk result
         (option_map (λ own. before ++ own)
         (all_along item_functions after_item symbols.old (map view_item items.now)) ≡ Some after) }
@@ -123,7 +123,7 @@ fn resolve_from(
     requires proper { All IsProperItem (map view_item items.now) }
     ensures checked { let trees = map view_item items.now in
         Checks result (items_breaches (file_scope (definitions_of trees)) trees) }
-    ensures resolved { Finds view_resolved result (items_resolution (map view_item items.now)) }
+    ensures resolved { Finds view.resolved result (items_resolution (map view_item items.now)) }
 {
     symbols.begin_file(alloc)?;
     let mut globals = Vec::new(alloc);
@@ -140,7 +140,7 @@ fn resolve_items(alloc: Global, items: &[Item]) -> Result<Resolved, SourceFault>
     requires proper { All IsProperItem (map view_item items.now) }
     ensures checked { let trees = map view_item items.now in
         Checks result (items_breaches (file_scope (definitions_of trees)) trees) }
-    ensures resolved { Finds view_resolved result (items_resolution (map view_item items.now)) }
+    ensures resolved { Finds view.resolved result (items_resolution (map view_item items.now)) }
 {
     let definitions = definitions_of(alloc, items)?;
     let mut symbols = Symbols::new(alloc, definitions);
@@ -206,10 +206,10 @@ pub fn resolve(alloc: Global, unit: Unit) -> Result<Resolved, SourceFault>
     requires formed { IsUnit (view_unit unit) }
     requires atomics_have_forms { AtomicsHaveForms (view_unit unit) }
     ensures no_breach { OnOk result (breaches_of (view_unit unit) ≡ []) }
-    ensures resolved { Finds view_resolved result (resolution_of (view_unit unit)) }
-    ensures is_resolved { IfOk result (λ resolved. IsResolved (view_resolved resolved)) }
-    ensures whole { IfOk result (λ resolved. IsWholeTree (view_resolved resolved)) }
-    ensures atomics_assign { IfOk result (λ resolved. TreeAtomicsAssign (view_resolved resolved)) }
+    ensures resolved { Finds view.resolved result (resolution_of (view_unit unit)) }
+    ensures is_resolved { IfOk result (λ resolved. IsResolved (view.resolved resolved)) }
+    ensures whole { IfOk result (λ resolved. IsWholeTree (view.resolved resolved)) }
+    ensures atomics_assign { IfOk result (λ resolved. TreeAtomicsAssign (view.resolved resolved)) }
     ensures first_breach { IfErr result
         (λ fault. fault ≢ no_memory → first_of (breaches_of (view_unit unit)) ≡ Some fault) }
 {

@@ -5,7 +5,7 @@ ghost use Rattle.om_rules.specs.Checks.{Checks, ChecksExactly};
 ghost use Rattle.om_rules.specs.Outcomes.{Finds};
 ghost use Rattle.om_rules.specs.LoopViews.{view_loop};
 ghost use Rattle.om_rules.specs.Resolution.{resolved_expression};
-ghost use Rattle.om_resolved.specs.ResolvedView.{view_resolved_expression, view_resolved_loop};
+ghost use Rattle.om_resolved.specs.ResolvedView as view;
 ghost use Rattle.om_rules.specs.StatementResolution.{bounds_scopes, resolved_loop};
 ghost use Rattle.om_rules.specs.StatementRules.{found_breaches, values_breaches, variable_breaches, with_iteration};
 
@@ -36,9 +36,9 @@ fn resolve_values(
     found: &Loop<'_>,
 ) -> Result<(Box<ResolvedExpression>, Box<ResolvedExpression>), SourceFault>
     ensures checked { Checks result (values_breaches symbols.now (view_loop found.now)) }
-    ensures from { Finds (λ made. view_resolved_expression made.0.value) result
+    ensures from { Finds (λ made. view.expression made.0.value) result
         (resolved_expression symbols.now (view_loop found.now).start.from) }
-    ensures to { Finds (λ made. view_resolved_expression made.1.value) result
+    ensures to { Finds (λ made. view.expression made.1.value) result
         (resolved_expression symbols.now (view_loop found.now).to) }
 {
     let from = boxed_expression(alloc, symbols, true, found.start.from)?;
@@ -65,10 +65,10 @@ fn resolve_bounds(
     ensures checked { Checks result (found_breaches symbols.old (view_loop found.now)) }
     ensures in_scope { OnOk result (symbols.new ≡ symbols.old) }
     ensures from { let scopes = bounds_scopes symbols.old (view_loop found.now) in
-        Finds (λ made. view_resolved_expression made.0.value) result
+        Finds (λ made. view.expression made.0.value) result
         (resolved_expression scopes (view_loop found.now).start.from) }
     ensures to { let scopes = bounds_scopes symbols.old (view_loop found.now) in
-        Finds (λ made. view_resolved_expression made.1.value) result
+        Finds (λ made. view.expression made.1.value) result
         (resolved_expression scopes (view_loop found.now).to) }
 {
     if !found.start.is_declared {
@@ -95,7 +95,7 @@ pub fn resolve_loop(
 ) -> Result<Box<ResolvedLoop>, SourceFault>
     ensures checked { Checks result (found_breaches symbols.old (view_loop found.now)) }
     ensures in_scope { OnOk result (symbols.new ≡ symbols.old) }
-    ensures resolved { Finds (λ made. view_resolved_loop made.value) result
+    ensures resolved { Finds (λ made. view.loop made.value) result
         (resolved_loop symbols.old schedule (view_loop found.now)) }
 {
     let variable = local_of(alloc, found.start.variable)?;

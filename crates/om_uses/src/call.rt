@@ -4,7 +4,7 @@ ghost use Rattle.std.specs.Prelude.{◌≡◌, Some, IfOk, map, option_map};
 ghost use Rattle.om_tree.specs.Tree.{arguments};
 ghost use Rattle.om_tree.specs.View.{view_expression};
 ghost use Rattle.om_resolved.specs.ResolvedTree as trees;
-ghost use Rattle.om_resolved.specs.ResolvedView.{view_resolved_expression};
+ghost use Rattle.om_resolved.specs.ResolvedView as view;
 ghost use Rattle.om_rules.specs.Checks.{Checks};
 ghost use Rattle.om_rules.specs.ExpressionRules.{argument_count, is_print, misprint_breaches};
 ghost use Rattle.om_rules.specs.Resolution.{call_of, format_in, text_in};
@@ -79,8 +79,8 @@ fn text_in(expression: &Expression) -> Option<&Seq<u8>>
 
 /// A call of the function at a place among the definitions.
 pub fn call_of(place: usize, values: Vec<ResolvedExpression>) -> ResolvedExpression
-    ensures { view_resolved_expression result
-        ≡ call_of place (trees.values (map view_resolved_expression values.items)) }
+    ensures { view.expression result
+        ≡ call_of place (trees.values (map view.expression values.items)) }
 {
     match place {
         1 => ResolvedExpression::ThreadNumber,

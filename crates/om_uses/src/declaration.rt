@@ -5,7 +5,7 @@ ghost use Rattle.om_tree.specs.View.{view_declarator, view_expression, view_furt
 ghost use Rattle.om_rules.specs.Checks.{Checks, ChecksExactly};
 ghost use Rattle.om_rules.specs.Outcomes.{Finds};
 ghost use Rattle.om_rules.specs.Scopes.{after_local, after_locals, behind_commas, cells_of, declarators_of, shape_of};
-ghost use Rattle.om_resolved.specs.ResolvedView.{view_resolved_declarator, view_resolved_expression};
+ghost use Rattle.om_resolved.specs.ResolvedView as view;
 ghost use Rattle.om_rules.specs.StatementResolution.{length_of, local_of, resolved_declarator, resolved_declarators, resolved_initial};
 ghost use Rattle.om_rules.specs.StatementRules.{array_size_breaches, initializer_breaches, is_empty_array, local_breaches, locals_breaches, redeclared_breaches};
 
@@ -101,7 +101,7 @@ fn resolve_initializer(
         (initializer_breaches symbols.now
         (option_map (view_initializer view_expression) initializer.now)) }
     ensures resolved { Finds
-        (λ found. option_map (λ boxed. view_resolved_expression boxed.value) found) result
+        (λ found. option_map (λ boxed. view.expression boxed.value) found) result
         (resolved_initial symbols.now
         (option_map (view_initializer view_expression) initializer.now)) }
 {
@@ -142,7 +142,7 @@ fn resolve_declarator(
         (local_breaches symbols.old (view_declarator view_expression declarator.now)) }
     ensures in_scope { OnOk result
         (symbols.new ≡ after_local symbols.old (view_declarator view_expression declarator.now)) }
-    ensures resolved { Finds view_resolved_declarator result
+    ensures resolved { Finds view.declarator result
         (resolved_declarator symbols.old (view_declarator view_expression declarator.now)) }
 {
     declare_name(alloc, symbols, declarator)?;
@@ -166,8 +166,8 @@ fn add_local(
         (local_breaches symbols.old (view_declarator view_expression declarator.now)) }
     ensures in_scope { OnOk result
         (symbols.new ≡ after_local symbols.old (view_declarator view_expression declarator.now)) }
-    ensures resolved { let before = map view_resolved_declarator declared.old.items in
-        let after = map view_resolved_declarator declared.new.items in
+    ensures resolved { let before = map view.declarator declared.old.items in
+        let after = map view.declarator declared.new.items in
         OnOk result
         (option_map (λ own. before ++ own ∷ [])
         (resolved_declarator symbols.old (view_declarator view_expression declarator.now))
@@ -189,8 +189,8 @@ fn resolve_further_locals(
     ensures in_scope { OnOk result
         (symbols.new ≡ after_locals symbols.old
         (behind_commas (map (view_further view_expression) rest.now))) }
-    ensures resolved { let before = map view_resolved_declarator declared.old.items in
-        let after = map view_resolved_declarator declared.new.items in
+    ensures resolved { let before = map view.declarator declared.old.items in
+        let after = map view.declarator declared.new.items in
         OnOk result
         (option_map (λ own. before ++ own)
         (resolved_declarators symbols.old
@@ -216,8 +216,8 @@ fn add_locals(
     ensures in_scope { OnOk result
         (symbols.new ≡ after_locals symbols.old
         (declarators_of (view_local declaration.now))) }
-    ensures resolved { let before = map view_resolved_declarator declared.old.items in
-        let after = map view_resolved_declarator declared.new.items in
+    ensures resolved { let before = map view.declarator declared.old.items in
+        let after = map view.declarator declared.new.items in
         OnOk result
         (option_map (λ own. before ++ own)
         (resolved_declarators symbols.old (declarators_of (view_local declaration.now)))
@@ -242,7 +242,7 @@ pub fn resolve_locals(
     ensures in_scope { OnOk result
         (symbols.new ≡ after_locals symbols.old
         (declarators_of (view_local declaration.now))) }
-    ensures resolved { Finds (λ found. map view_resolved_declarator found.items) result
+    ensures resolved { Finds (λ found. map view.declarator found.items) result
         (resolved_declarators symbols.old (declarators_of (view_local declaration.now))) }
 {
     let mut declared = Vec::new(alloc);

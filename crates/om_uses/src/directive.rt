@@ -10,7 +10,7 @@ ghost use Rattle.om_rules.specs.Faults.{breaches_along};
 ghost use Rattle.om_rules.specs.Outcomes.{Finds};
 ghost use Rattle.om_rules.specs.Perhaps.{each};
 ghost use Rattle.om_rules.specs.Resolution.{variable_named, variable_of};
-ghost use Rattle.om_resolved.specs.ResolvedView.{view_resolved_clause};
+ghost use Rattle.om_resolved.specs.ResolvedView as view;
 ghost use Rattle.om_rules.specs.StatementResolution.{clause_of, flushed, kind_of, resolved_clause, resolved_clauses, resolved_listed};
 
 use crate::declaration::local_of;
@@ -115,7 +115,7 @@ fn clause_of(
     name: &Name,
 ) -> Result<ResolvedClause, AllocError>
     ensures { IfOk result
-        (λ clause. view_resolved_clause clause ≡ clause_of kind variable name.now) }
+        (λ clause. view.clause clause ≡ clause_of kind variable name.now) }
 {
     match kind {
         None => Ok(ResolvedClause::Shared(variable)),
@@ -147,7 +147,7 @@ fn list_name(
         (listed_breaches listing.now.symbols.now (sharing_of listing.now.kind) listed.old name.now) }
     ensures listed { OnOk result
         (listed.new ≡ after_name (sharing_of listing.now.kind) listed.old name.now) }
-    ensures resolved { Finds view_resolved_clause result
+    ensures resolved { Finds view.clause result
         (resolved_listed listing.now.kind listing.now.symbols.now name.now) }
 {
     let sharing = sharing_of(listing.kind);
@@ -169,8 +169,8 @@ fn list_further_names(
     ensures listed { OnOk result
         (listed.new ≡ after_names (sharing_of listing.now.kind) listed.old
         (map (λ further. further.1) rest.now)) }
-    ensures resolved { let before = map view_resolved_clause clauses.old.items in
-        let after = map view_resolved_clause clauses.new.items in
+    ensures resolved { let before = map view.clause clauses.old.items in
+        let after = map view.clause clauses.new.items in
         OnOk result
         (option_map (λ own. before ++ own)
         (each (resolved_listed listing.now.kind listing.now.symbols.now)
@@ -198,8 +198,8 @@ fn list_names(
     ensures listed { OnOk result
         (listed.new ≡ after_names (sharing_of listing.now.kind) listed.old
         (names_in first.now rest.now)) }
-    ensures resolved { let before = map view_resolved_clause clauses.old.items in
-        let after = map view_resolved_clause clauses.new.items in
+    ensures resolved { let before = map view.clause clauses.old.items in
+        let after = map view.clause clauses.new.items in
         OnOk result
         (option_map (λ own. before ++ own)
         (each (resolved_listed listing.now.kind listing.now.symbols.now)
@@ -234,8 +234,8 @@ fn resolve_clause(
         (clause_breaches symbols.now listed.old (map_clause view_expression clause.now)) }
     ensures listed { OnOk result
         (listed.new ≡ after_clause listed.old (map_clause view_expression clause.now)) }
-    ensures resolved { let before = map view_resolved_clause clauses.old.items in
-        let after = map view_resolved_clause clauses.new.items in
+    ensures resolved { let before = map view.clause clauses.old.items in
+        let after = map view.clause clauses.new.items in
         OnOk result
         (option_map (λ own. before ++ own)
         (resolved_clause symbols.now (map_clause view_expression clause.now)) ≡ Some after) }
@@ -289,7 +289,7 @@ fn resolve_clauses(
     ensures listed { IfOk result
         (λ taken. taken.0 ≡ fold after_item nothing_listed
         (map (map_item view_expression) items.now)) }
-    ensures resolved { Finds (λ taken. map view_resolved_clause taken.1.items) result
+    ensures resolved { Finds (λ taken. map view.clause taken.1.items) result
         (resolved_clauses symbols.now (map (map_item view_expression) items.now)) }
 {
     let mut listed = Listed::new(alloc);
@@ -315,7 +315,7 @@ pub fn resolve_directive(
     ensures checked { Checks result
         (directive_breaches symbols.now flow (view_directive directive.now)) }
     ensures listed { IfOk result (λ taken. taken.0 ≡ listed_by (view_directive directive.now)) }
-    ensures resolved { Finds (λ taken. map view_resolved_clause taken.1.items) result
+    ensures resolved { Finds (λ taken. map view.clause taken.1.items) result
         (resolved_clauses symbols.now (view_directive directive.now).clauses) }
 {
     check_nesting(flow, &directive.name)?;

@@ -4,7 +4,7 @@ ghost use Rattle.std.specs.Prelude.{◌≡◌, ◌<◌, pos, true, IfOk, map, op
 ghost use Rattle.om_tree.specs.Tree.{arguments};
 ghost use Rattle.om_tree.specs.View.{view_expression};
 ghost use Rattle.om_resolved.specs.ResolvedTree as trees;
-ghost use Rattle.om_resolved.specs.ResolvedView.{view_resolved_expression};
+ghost use Rattle.om_resolved.specs.ResolvedView as view;
 ghost use Rattle.om_rules.specs.Checks.{Checks, ChecksExactly};
 ghost use Rattle.om_rules.specs.ExpressionRules.{argument_breaches, arguments_breaches, called_breaches, constant_breaches, element_breaches, expression_breaches, own_call_breaches, prefix_breaches, print_breaches, printed_breaches, target_breaches};
 ghost use Rattle.om_rules.specs.Outcomes.{Finds};
@@ -35,7 +35,7 @@ pub fn resolve_expression(
 ) -> Result<ResolvedExpression, SourceFault>
     ensures checked { Checks result
         (expression_breaches symbols.now for_value (view_expression expression.now)) }
-    ensures resolved { Finds view_resolved_expression result
+    ensures resolved { Finds view.expression result
         (resolved_expression symbols.now (view_expression expression.now)) }
 {
     match expression {
@@ -120,7 +120,7 @@ pub fn boxed_expression(
 ) -> Result<Box<ResolvedExpression>, SourceFault>
     ensures checked { Checks result
         (expression_breaches symbols.now for_value (view_expression expression.now)) }
-    ensures resolved { Finds (λ found. view_resolved_expression found.value) result
+    ensures resolved { Finds (λ found. view.expression found.value) result
         (resolved_expression symbols.now (view_expression expression.now)) }
 {
     boxed(
@@ -131,8 +131,8 @@ pub fn boxed_expression(
 
 /// An expression that may be left out, taken out of its box.
 pub fn unboxed(expression: Option<Box<ResolvedExpression>>) -> Option<ResolvedExpression>
-    ensures { option_map view_resolved_expression result
-        ≡ option_map (λ boxed. view_resolved_expression boxed.value) expression }
+    ensures { option_map view.expression result
+        ≡ option_map (λ boxed. view.expression boxed.value) expression }
 {
     let expression = expression?;
     Some(Box::into_inner(expression))
@@ -163,7 +163,7 @@ fn resolve_prefix(
     ensures checked { Checks result
         (prefix_breaches symbols.now operator (view_expression operand.now)) }
     ensures resolved { let tree = view_expression operand.now in
-        Finds view_resolved_expression result
+        Finds view.expression result
         (prefixed operator (resolved_target symbols.now tree)
         (resolved_expression symbols.now tree)) }
 {
@@ -187,7 +187,7 @@ fn resolve_step(
     operand: &Expression,
 ) -> Result<ResolvedExpression, SourceFault>
     ensures checked { Checks result (target_breaches symbols.now (view_expression operand.now)) }
-    ensures resolved { Finds view_resolved_expression result
+    ensures resolved { Finds view.expression result
         (step_of operator (resolved_target symbols.now (view_expression operand.now))) }
 {
     let target = resolve_target(alloc, symbols, operand)?;
@@ -205,7 +205,7 @@ fn resolve_unary(
 ) -> Result<ResolvedExpression, SourceFault>
     ensures checked { Checks result
         (expression_breaches symbols.now true (view_expression operand.now)) }
-    ensures resolved { Finds view_resolved_expression result
+    ensures resolved { Finds view.expression result
         (unary_of operator (resolved_expression symbols.now (view_expression operand.now))) }
 {
     let operand = boxed_expression(alloc, symbols, true, operand)?;
@@ -253,7 +253,7 @@ fn resolve_element(
     ensures checked { Checks result
         (element_breaches symbols.now name.now (view_expression index.now)) }
     ensures array { Finds (λ found. found.0) result (variable_named symbols.now name.now) }
-    ensures index { Finds (λ found. view_resolved_expression found.1.value) result
+    ensures index { Finds (λ found. view.expression found.1.value) result
         (resolved_expression symbols.now (view_expression index.now)) }
 {
     let array = resolve_array(symbols, name)?;
@@ -273,7 +273,7 @@ fn resolve_call(
     ensures checked { Checks result
         (called_breaches symbols.now for_value name.now
         (arguments (map view_argument values.now))) }
-    ensures resolved { Finds view_resolved_expression result
+    ensures resolved { Finds view.expression result
         (resolved_call symbols.now name.now (arguments (map view_argument values.now))) }
 {
     if is_printf(symbols.meaning_of(name.text.as_slice())) {
@@ -295,7 +295,7 @@ fn resolve_print(
     ensures checked { Checks result
         (print_breaches symbols.now for_value name.now (arguments (map view_argument values.now))) }
     ensures resolved { let given = arguments (map view_argument values.now) in
-        Finds view_resolved_expression result
+        Finds view.expression result
         (print_of (format_in given) (resolved_printed symbols.now given)) }
 {
     let format = resolve_format(alloc, for_value, name, values)?;
@@ -317,7 +317,7 @@ fn resolve_printed(
     ensures checked { Checks result
         (printed_breaches symbols.now 0 (arguments (map view_argument values.now))) }
     ensures resolved { Finds
-        (λ found. trees.values (map view_resolved_expression found.items)) result
+        (λ found. trees.values (map view.expression found.items)) result
         (resolved_printed symbols.now (arguments (map view_argument values.now))) }
 {
     let mut resolved = Vec::new(alloc);
@@ -345,7 +345,7 @@ fn resolve_argument(
     requires { 0 < place }
     ensures checked { Checks result
         (argument_breaches symbols.now place (view_expression argument.now)) }
-    ensures resolved { Finds view_resolved_expression result
+    ensures resolved { Finds view.expression result
         (resolved_expression symbols.now (view_expression argument.now)) }
 {
     let resolved = resolve_expression(alloc, symbols, true, argument);
@@ -367,7 +367,7 @@ fn resolve_own_call(
         (own_call_breaches symbols.now for_value name.now
         (arguments (map view_argument values.now))) }
     ensures resolved { let given = arguments (map view_argument values.now) in
-        Finds view_resolved_expression result
+        Finds view.expression result
         (own_call_of (callee_named symbols.now name.now) (resolved_values symbols.now given)) }
 {
     let place = resolve_callee(symbols, for_value, name, argument_count(values))?;
@@ -386,7 +386,7 @@ fn resolve_values(
     ensures checked { Checks result
         (arguments_breaches symbols.now (arguments (map view_argument values.now))) }
     ensures resolved { Finds
-        (λ found. trees.values (map view_resolved_expression found.items)) result
+        (λ found. trees.values (map view.expression found.items)) result
         (resolved_values symbols.now (arguments (map view_argument values.now))) }
 {
     let mut resolved = Vec::new(alloc);

@@ -7,7 +7,7 @@ use Rattle.om_tree.specs.declared.tree.Statement.TheViews.{size-Statement, sized
 use Rattle.om_tree.specs.View.{view_directive, view_for_start, view_part, view_statement}
 use Rattle.om_rules.specs.LoopViews.{view_loop}
 use Rattle.om_rules.specs.Loops.{loop_in}
-use Rattle.om_resolved.specs.ResolvedView.{view_resolved_part, view_resolved_statement}
+use Rattle.om_resolved.specs.ResolvedView as view
 use Rattle.om_rules.specs.ProperConstructs.{construct_there, parts_proper, proper_inside}
 use Rattle.om_rules.specs.Scopes.{outside}
 use Rattle.om_rules.specs.StatementResolution.{resolved_statement}
@@ -332,7 +332,7 @@ resolve_statements-loop-item-preserved t c =
     let checked = rw added.1 at c.resolve_statement-found.ensures.checked in
     let behind = rw added.1 at c.resolve_statement-found.ensures.in_scope in
     let made = rw added.1 at c.resolve_statement-found.ensures.resolved in
-    let grown = ap (map view_resolved_statement) added.2 ∙ map-push view_resolved_statement
+    let grown = ap (map view.statement) added.2 ∙ map-push view.statement
     c.loop-item.resolved.items added.0 in
     rw (behind, grown) (
       statements_step _ _ _ _ _ _ left.0 checked,
@@ -400,11 +400,11 @@ resolve_parts-returns-in_err-add-clause-checked t c =
     let here = ap (map view_part) (drop-item c.args.sections.now c.loop-part.part-index c.part-item.result
     c.loop-part-test.true c.part-item.is) in
     let left = rw here at c.loop-part.invariant in
-    let count : c.len.result ≡ length (map view_resolved_part c.loop-part.resolved.items) = omega (
+    let count : c.len.result ≡ length (map view.part c.loop-part.resolved.items) = omega (
       arith,
       c.len.ensures,
       c.loop-part.resolved.ok.0,
-      length-map view_resolved_part c.loop-part.resolved.items,
+      length-map view.part c.loop-part.resolved.items,
     ) in
     let checked = rw (left.1, count) at c.resolve_part-found.ensures.checked in
     rw (p.1, p.2) (parts_refuse _ _ _ _ _ _ _ left.0 (c.in_err-add.ensures.checked _ checked))
@@ -422,8 +422,8 @@ resolve_parts-loop-part-preserved t c =
     let here = ap (map view_part) (drop-item c.args.sections.now c.loop-part.part-index c.part-item.result
     c.loop-part-test.true c.part-item.is) in
     let left = rw here at c.loop-part.invariant in
-    let made = map view_resolved_part c.loop-part.resolved.items in
-    let as_many = length-map view_resolved_part c.loop-part.resolved.items in
+    let made = map view.part c.loop-part.resolved.items in
+    let as_many = length-map view.part c.loop-part.resolved.items in
     let count : c.len.result ≡ length made = omega (
       arith,
       c.len.ensures,
@@ -434,8 +434,8 @@ resolve_parts-loop-part-preserved t c =
     let checked = rw (left.1, count, added.1) at c.resolve_part-found.ensures.checked in
     let behind = rw added.1 at c.resolve_part-found.ensures.in_scope in
     let found = rw (left.1, added.1) at c.resolve_part-found.ensures.resolved in
-    let grown = ap (map view_resolved_part) added.2 ∙ map-push view_resolved_part c.loop-part.resolved.items added.0 in
-    let longer : length (made ++ view_resolved_part added.0 ∷ []) ≡ length made + 1 = length-append made _ in
+    let grown = ap (map view.part) added.2 ∙ map-push view.part c.loop-part.resolved.items added.0 in
+    let longer : length (made ++ view.part added.0 ∷ []) ≡ length made + 1 = length-append made _ in
     rw (grown, longer) (
       parts_step _ _ _ _ _ _ left.0 checked,
       behind ∙ left.1,

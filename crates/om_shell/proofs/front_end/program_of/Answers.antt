@@ -1,5 +1,5 @@
 use Rattle.std.proofs.lemmas.Result.{IfErr-weaker}
-use Rattle.om_resolved.specs.ResolvedView.{view_resolved}
+use Rattle.om_resolved.specs.ResolvedView as view
 use Rattle.om_shell.specs.Verdict.{by_code}
 use Rattle.om_shell.proofs.front_end.program_of.Goals as goal
 

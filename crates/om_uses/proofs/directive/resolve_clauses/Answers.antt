@@ -3,7 +3,7 @@ use Rattle.std.proofs.lemmas.Result.{err_from_is_err_and}
 use Rattle.om_tree.specs.View.{view_expression}
 use Rattle.om_pragma.specs.Expressions.{map_item}
 use Rattle.om_rules.specs.DirectiveRules.{after_item, item_breaches}
-use Rattle.om_resolved.specs.ResolvedView.{view_resolved_clause}
+use Rattle.om_resolved.specs.ResolvedView as view
 use Rattle.om_rules.specs.StatementResolution.{resolved_item}
 use Rattle.om_rules.specs.InRow.{all_of-step, unbroken-refuse, unbroken-step}
 use Rattle.om_uses.proofs.Items.{drop-item}
@@ -26,8 +26,8 @@ pub loop-item-preserved : goal.loop-item-preserved
 loop-item-preserved c =
     let item = map_item view_expression c.item-item.result in
     let rest = map (map_item view_expression) (drop (c.loop-item.item-index + 1) c.args.items.now) in
-    let made = map view_resolved_clause c.loop-item.clauses.items in
-    let grown = map view_resolved_clause c.resolve_clause.new.clauses.items in
+    let made = map view.clause c.loop-item.clauses.items in
+    let grown = map view.clause c.resolve_clause.new.clauses.items in
     let one = c.in_ok-resolve_clause.ensures in
     let here = ap (map (map_item view_expression)) (drop-item c.args.items.now c.loop-item.item-index
     c.item-item.result c.loop-item-test.true c.item-item.is) in

@@ -4,7 +4,7 @@ use Rattle.std.proofs.lemmas.Result.{err_from_is_err_and}
 use Rattle.om_tree.specs.Tree.{arguments}
 use Rattle.om_rules.specs.ExpressionRules.{expression_breaches}
 use Rattle.om_rules.specs.Resolution.{resolved_expression}
-use Rattle.om_resolved.specs.ResolvedView.{view_resolved_expression}
+use Rattle.om_resolved.specs.ResolvedView as view
 use Rattle.om_uses.specs.Views.{view_argument}
 use Rattle.om_uses.proofs.Arguments.{arguments_refuse, arguments_step, made_all, made_step, printed_all, printed_behind}
 use Rattle.om_uses.proofs.Arguments.{printed_format, printed_made, printed_refuse, printed_step, view_call}
@@ -44,7 +44,7 @@ resolve_values-loop-argument-preserved t c =
     let added = c.in_ok-add.ensures.added in
     let checked = rw added.1 at c.resolve_expression-value.ensures.checked in
     let made = rw added.1 at c.resolve_expression-value.ensures.resolved in
-    let grown = ap (map view_resolved_expression) added.2 ∙ map-push view_resolved_expression
+    let grown = ap (map view.expression) added.2 ∙ map-push view.expression
     c.loop-argument.resolved.items added.0 in
     rw grown (arguments_step _ _ _ _ _ left.0 checked, made_step _ _ _ _ _ _ _ left.1 made)
 
@@ -87,7 +87,7 @@ resolve_printed-loop-argument-preserved t c =
     let added = c.in_ok-add.ensures.added in
     let checked = rw added.1 at c.resolve_argument-value.ensures.checked in
     let made = rw added.1 at c.resolve_argument-value.ensures.resolved in
-    let grown = ap (map view_resolved_expression) added.2 ∙ map-push view_resolved_expression
+    let grown = ap (map view.expression) added.2 ∙ map-push view.expression
     c.loop-argument.resolved.items added.0 in
     let above : 0 < c.loop-argument.place = omega (arith, c.if-place-eq0.false) in
     rw grown (
