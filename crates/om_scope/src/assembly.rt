@@ -6,13 +6,14 @@ ghost use Rattle.om_tree.specs.View.{view_directive, view_expression};
 ghost use Rattle.om_pragma.specs.Expressions.{map_clause, map_item};
 ghost use Rattle.om_pragma.specs.Questions.{atomic_kind};
 ghost use Rattle.om_rules.specs.Checks.{Checks};
-ghost use Rattle.om_scope.specs.Arounds.{with_around};
+ghost use Rattle.om_scope.specs.Arounds.{constructed, with_around};
 ghost use Rattle.om_resolved.specs.ResolvedTree as resolved;
 ghost use Rattle.om_resolved.specs.ResolvedTree.{ResolvedClauseTree, ResolvedStatementTree};
 ghost use Rattle.om_resolved.specs.ResolvedView as view;
-ghost use Rattle.om_rules.specs.Outcomes.{Finds};
-ghost use Rattle.om_rules.specs.StatementResolution.{atomic_of, clause_schedule, construct_of, critical_name, has_default, has_nowait, loop_construct_of, parallel_of, schedule_in, schedule_of, sections_construct_of, task_of, with_update};
+ghost use Rattle.om_rules.specs.Resolves.{Resolves};
+ghost use Rattle.om_rules.specs.StatementResolution.{atomic_of, clause_schedule, critical_name, has_default, has_nowait, loop_construct_of, parallel_of, schedule_in, schedule_of, sections_construct_of, task_of, with_update};
 ghost use Rattle.om_rules.specs.Updates.{update_of};
+ghost use Rattle.om_scope.specs.Resolving.{view_body, view_clauses};
 
 use om_lexer::{SourceFault, Span};
 use om_names::{is_parallel, traits_of};
@@ -180,15 +181,13 @@ fn around_of(
     clauses: &[ResolvedClause],
     body: &ResolvedStatement,
 ) -> Result<Around, AllocError>
-    requires is_there { let tree = view_directive directive.now in
-        IsSome (construct_of setting.parallel setting.side tree tree.name
-        (map view.clause clauses.now) (view.statement body.now)) }
-    ensures { let tree = view_directive directive.now in
-        let cs = map view.clause clauses.now in
+    requires is_there { let cs = map view.clause clauses.now in
+        IsSome (constructed setting directive.now cs (view.statement body.now)) }
+    ensures { let cs = map view.clause clauses.now in
         let inner = view.statement body.now in
         IfOk result
-        (λ around. with_around around tree.hash cs inner
-        ≡ construct_of setting.parallel setting.side tree tree.name cs inner) }
+        (λ around. with_around around directive.now.hash cs inner
+        ≡ constructed setting directive.now cs inner) }
 {
     match &directive.name {
         DirectiveName::Parallel(_) => around_parallel(alloc, directive, clauses, body),
@@ -216,11 +215,9 @@ fn with_around(
     clauses: Vec<ResolvedClause>,
     body: Box<ResolvedStatement>,
 ) -> Result<ResolvedStatement, AllocError>
-    requires is_there { IsSome (with_around around at (map view.clause clauses.items)
-        (view.statement body.value)) }
-    ensures { IfOk result
-        (λ found. with_around around at (map view.clause clauses.items)
-        (view.statement body.value) ≡ Some (view.statement found)) }
+    requires is_there { IsSome (with_around around at (view_clauses clauses) (view_body body)) }
+    ensures { let made = with_around around at (view_clauses clauses) (view_body body) in
+        IfOk result (λ found. made ≡ Some (view.statement found)) }
 {
     match around {
         Around::Parallel(captures) => Ok(ResolvedStatement::Parallel {
@@ -273,14 +270,10 @@ pub(crate) fn construct_of(
     clauses: Vec<ResolvedClause>,
     body: Box<ResolvedStatement>,
 ) -> Result<ResolvedStatement, SourceFault>
-    requires is_there { let tree = view_directive directive.now in
-        IsSome (construct_of setting.parallel setting.side tree tree.name
-        (map view.clause clauses.items) (view.statement body.value)) }
-    ensures checked { Checks result [] }
-    ensures made { let tree = view_directive directive.now in
-        Finds view.statement result
-        (construct_of setting.parallel setting.side tree tree.name
-        (map view.clause clauses.items) (view.statement body.value)) }
+    requires is_there { IsSome
+        (constructed setting directive.now (view_clauses clauses) (view_body body)) }
+    ensures { Resolves view.statement result []
+        (constructed setting directive.now (view_clauses clauses) (view_body body)) }
 {
     let around = around_of(alloc, setting, directive, clauses.as_slice(), &body)?;
     Ok(with_around(alloc, around, directive.hash, clauses, body)?)

@@ -19,7 +19,7 @@ returns-in_err-add-clause-checked c =
     let left = rw here at c.loop-further.invariant.rules in
     rw (p.1, p.2) (unbroken-refuse (listed_breaches c.args.listing.now.symbols.now
     (sharing_of c.args.listing.now.kind)) (after_name (sharing_of c.args.listing.now.kind)) left
-    (c.in_err-add.ensures.checked _ c.list_name-found.ensures.checked))
+    (c.in_err-add.ensures.checked _ c.list_name-found.ensures.found.checked))
 
 pub loop-further-preserved : goal.loop-further-preserved
 loop-further-preserved c =
@@ -28,9 +28,9 @@ loop-further-preserved c =
     let made = c.loop-further.clauses.items in
     let added = c.in_ok-add.ensures.added in
     let clause = added.0 in
-    let checked = rw added.1 at c.list_name-found.ensures.checked in
+    let checked = rw added.1 at c.list_name-found.ensures.found.checked in
     let behind = rw added.1 at c.list_name-found.ensures.listed in
-    let found = rw added.1 at c.list_name-found.ensures.resolved in
+    let found = rw added.1 at c.list_name-found.ensures.found.resolved in
     let here = ap (map (λ further. further.1)) (drop-item c.args.rest.now c.loop-further.further-index
     c.further-item.result c.loop-further-test.true c.further-item.is) in
     let pushed = ap (map view.clause) added.2 ∙ map-push view.clause made clause in
