@@ -7,7 +7,7 @@ use Rattle.om_emit.specs.Emits.{site, Goes, EmitsValue, listed}
 use Rattle.om_emit.specs.Writing.{goes_part}
 use Rattle.om_resolved.specs.declared.resolved.ResolvedExpression.{ResolvedExpression}
 use Rattle.om_resolved.specs.ResolvedTree as trees
-use Rattle.om_resolved.specs.ResolvedView.{view_resolved_expression}
+use Rattle.om_resolved.specs.ResolvedView as view
 use Rattle.om_rows.specs.Coded.{CallHasCode, ValueHasCode, ValuesHaveCode}
 use Rattle.om_rows.specs.Expressions.{value, values, value_count}
 use Rattle.om_rows.specs.Numbered.{Numbered}
@@ -21,9 +21,9 @@ pub few : (es : List ResolvedExpression) → CallHasCode (listed es) → length 
 few es code = let within : value_count (listed es) ≤ 16 = code.0 in omega (arith, counted es, within)
 
 pub has_code : (es : List ResolvedExpression) (k : ℕ) (e : ResolvedExpression) → k < length es → e ≡ get_or es k e
-    → ValuesHaveCode (listed es) → ValueHasCode (view_resolved_expression e)
+    → ValuesHaveCode (listed es) → ValueHasCode (view.expression e)
 has_code [] k e lt is h = absurd (omega arith)
-has_code (x ∷ es) zero e lt is h = subst (λ z. ValueHasCode (view_resolved_expression z)) (sym is) h.0
+has_code (x ∷ es) zero e lt is h = subst (λ z. ValueHasCode (view.expression z)) (sym is) h.0
 has_code (x ∷ es) (suc k) e lt is h = has_code es k e (omega arith) is h.1
 
 -- a value is no larger than the largest one; `size` is the one by which the call of `values` is measured
@@ -36,15 +36,15 @@ with_depth size m a es k e lt is measure goes_on =
 pub emits_next : (names : Numbered) (l : ℕ) (es : List ResolvedExpression) (k n : ℕ) (e : ResolvedExpression)
     (a b c : Written)
     → k < length es → e ≡ get_or es k e → n ≤ length a.places
-    → EmitsValue names l (view_resolved_expression e) a b
+    → EmitsValue names l (view.expression e) a b
     → Goes n (λ done at. values (site names done) l (listed (drop (k + 1) es))) b c
     → Goes n (λ done at. values (site names done) l (listed (drop k es))) a c
 emits_next names l es k n e a b c lt is le h g =
-    let here : listed (drop k es) ≡ trees.Value (view_resolved_expression e) (listed (drop (k + 1) es)) =
+    let here : listed (drop k es) ≡ trees.Value (view.expression e) (listed (drop (k + 1) es)) =
     ap listed (drop-cons es k e lt)
-    ∙ ap (λ x. trees.Value (view_resolved_expression x) (listed (drop (suc k) es))) (sym is)
-    ∙ ap (λ j. trees.Value (view_resolved_expression e) (listed (drop j es))) (sym (add-one k)) in
+    ∙ ap (λ x. trees.Value (view.expression x) (listed (drop (suc k) es))) (sym is)
+    ∙ ap (λ j. trees.Value (view.expression e) (listed (drop j es))) (sym (add-one k)) in
     subst (λ z. Goes n (λ done at. values (site names done) l z) a c) (sym here)
-    (goes_part n (λ done at. value (site names done) l (view_resolved_expression e)) (λ done at. values
+    (goes_part n (λ done at. value (site names done) l (view.expression e)) (λ done at. values
     (site names done) l (listed (drop (k + 1) es)))
     a b c le h g)

@@ -8,7 +8,7 @@ use Rattle.om_resolved.specs.declared.resolved.ResolvedExpression.{ResolvedExpre
 use Rattle.om_resolved.specs.declared.resolved.Variable.{Variable}
 use Rattle.om_resolved.specs.ResolvedTree as trees
 use Rattle.om_resolved.specs.ResolvedTree.{ResolvedExpressionTree, ValuesTree}
-use Rattle.om_resolved.specs.ResolvedView.{view_resolved_expression}
+use Rattle.om_resolved.specs.ResolvedView as view
 use Rattle.om_rows.specs.BodyTables.{numbered_by}
 use Rattle.om_rows.specs.Expressions.{value, values}
 use Rattle.om_rows.specs.Rows.{Site, Row}
@@ -86,7 +86,7 @@ EmitsValues names l es = EmitsRow names (λ at. values at l es)
 
 -- the values of a call, as a tree
 abbrev pub listed : List ResolvedExpression → ValuesTree
-listed es = trees.values (map view_resolved_expression es)
+listed es = trees.values (map view.expression es)
 
 -- ---- what a function writes, unless memory runs out
 

@@ -2,7 +2,8 @@
 
 ghost use Rattle.std.specs.Prelude.{◌≡◌};
 ghost use Rattle.om_emit.specs.Rests as rows;
-ghost use Rattle.om_emit.specs.Words.{Appends, CallHasCode, ValueHasCode, ValuesHaveCode, view_resolved_expression};
+ghost use Rattle.om_emit.specs.Words.{Appends, CallHasCode, ValueHasCode, ValuesHaveCode};
+ghost use Rattle.om_resolved.specs.ResolvedView as view;
 ghost use Rattle.om_emit.specs.Words.{Both, Either, form_of, listed, value, values};
 
 use crate::draft::{Draft, Jump};
@@ -31,8 +32,8 @@ pub struct Target {
 /// Its only error is out of memory.
 #[cycle(expression)]
 pub fn value(draft: &mut Draft, here: &Here<'_>, e: &ResolvedExpression) -> Done
-    requires coded { ValueHasCode (view_resolved_expression e.now) }
-    ensures { Appends result here.now value (view_resolved_expression e.now) draft.old draft.new }
+    requires coded { ValueHasCode (view.expression e.now) }
+    ensures { Appends result here.now value (view.expression e.now) draft.old draft.new }
 {
     match e {
         ResolvedExpression::Constant(number) => draft.put(here.at.line, Instr::Constant(*number)),
@@ -153,9 +154,9 @@ fn binary_end(
     operator: om_tree::BinaryOperator,
     right: &ResolvedExpression,
 ) -> Done
-    requires { ValueHasCode (view_resolved_expression right.now) }
+    requires { ValueHasCode (view.expression right.now) }
     ensures { Appends result here.now (λ at l. rows.binary_rest at l (form_of operator))
-        (view_resolved_expression right.now) draft.old draft.new }
+        (view.expression right.now) draft.old draft.new }
 {
     match form_of(operator) {
         Form::Both => both_end(draft, here, right),
@@ -170,9 +171,9 @@ fn binary_end(
 // Writes what stands behind the left operand of `a && b` (C17 6.5.13).
 #[cycle(expression)]
 fn both_end(draft: &mut Draft, here: &Here<'_>, right: &ResolvedExpression) -> Done
-    requires { ValueHasCode (view_resolved_expression right.now) }
+    requires { ValueHasCode (view.expression right.now) }
     ensures { Appends result here.now (λ at l. rows.binary_rest at l Both)
-        (view_resolved_expression right.now) draft.old draft.new }
+        (view.expression right.now) draft.old draft.new }
 {
     let not_both = draft.fresh()?;
     let end = draft.fresh()?;
@@ -184,9 +185,9 @@ fn both_end(draft: &mut Draft, here: &Here<'_>, right: &ResolvedExpression) -> D
 // Writes what stands behind the left operand of `a || b` (C17 6.5.14).
 #[cycle(expression)]
 fn either_end(draft: &mut Draft, here: &Here<'_>, right: &ResolvedExpression) -> Done
-    requires { ValueHasCode (view_resolved_expression right.now) }
+    requires { ValueHasCode (view.expression right.now) }
     ensures { Appends result here.now (λ at l. rows.binary_rest at l Either)
-        (view_resolved_expression right.now) draft.old draft.new }
+        (view.expression right.now) draft.old draft.new }
 {
     let next = draft.fresh()?;
     let neither = draft.fresh()?;
@@ -200,10 +201,10 @@ fn either_end(draft: &mut Draft, here: &Here<'_>, right: &ResolvedExpression) ->
 /// Writes an assignment to a variable (C17 6.5.16).
 #[cycle(expression)]
 pub fn assign(draft: &mut Draft, here: &Here<'_>, target: Target, e: &ResolvedExpression) -> Done
-    requires { ValueHasCode (view_resolved_expression e.now) }
+    requires { ValueHasCode (view.expression e.now) }
     ensures { Appends result here.now
         (λ at l. rows.assignment at l target.keeps target.variable target.operator)
-        (view_resolved_expression e.now) draft.old draft.new }
+        (view.expression e.now) draft.old draft.new }
 {
     match compound_of(target.operator) {
         None => {
@@ -227,10 +228,10 @@ pub fn assign_element(
     target: Target,
     e: &ResolvedExpression,
 ) -> Done
-    requires { ValueHasCode (view_resolved_expression e.now) }
+    requires { ValueHasCode (view.expression e.now) }
     ensures { Appends result here.now
         (λ at l. rows.assignment_rest at l target.keeps target.variable target.operator)
-        (view_resolved_expression e.now) draft.old draft.new }
+        (view.expression e.now) draft.old draft.new }
 {
     let line = here.at.line;
     let place = here.tables.place(target.variable);

@@ -2,7 +2,7 @@
 ghost use Rattle.std.specs.Prelude.{◌≡◌, ◌≢◌, IfOk, IfErr};
 ghost use Rattle.om_lexer.specs.Faults.{no_memory};
 ghost use Rattle.om_tree.specs.View.{view_unit};
-ghost use Rattle.om_resolved.specs.ResolvedView.{view_resolved};
+ghost use Rattle.om_resolved.specs.ResolvedView as view;
 ghost use Rattle.om_resolved.specs.Beside.{TreeAtomicsAssign, TreeCopiesBehind};
 ghost use Rattle.om_resolved.specs.Weights.{HasSmallWeight};
 ghost use Rattle.om_resolved.specs.Whole.{IsWholeTree};
@@ -28,11 +28,11 @@ fn tree_of(alloc: Global, source: &[u8]) -> Result<Unit, SourceFault>
 // The tree of a source, with its names resolved.
 fn resolution_of(alloc: Global, source: &[u8]) -> Result<Resolved, SourceFault>
     ensures resolution { IfOk result
-        (λ resolved. IsResolutionOfSource source.now (view_resolved resolved)) }
-    ensures whole { IfOk result (λ resolved. IsWholeTree (view_resolved resolved)) }
-    ensures atomics_assign { IfOk result (λ resolved. TreeAtomicsAssign (view_resolved resolved)) }
-    ensures copies_behind { IfOk result (λ resolved. TreeCopiesBehind (view_resolved resolved)) }
-    ensures small { IfOk result (λ resolved. HasSmallWeight (view_resolved resolved)) }
+        (λ resolved. IsResolutionOfSource source.now (view.resolved resolved)) }
+    ensures whole { IfOk result (λ resolved. IsWholeTree (view.resolved resolved)) }
+    ensures atomics_assign { IfOk result (λ resolved. TreeAtomicsAssign (view.resolved resolved)) }
+    ensures copies_behind { IfOk result (λ resolved. TreeCopiesBehind (view.resolved resolved)) }
+    ensures small { IfOk result (λ resolved. HasSmallWeight (view.resolved resolved)) }
     ensures refused { IfErr result (λ fault. fault ≢ no_memory → IsRefused source.now fault) }
 {
     sources_have_copies_behind();

@@ -12,7 +12,7 @@ use Rattle.om_lexer.specs.declared.token.Span.{Span}
 use Rattle.om_resolved.specs.declared.resolved.ConstructKind.{ConstructKind}
 use Rattle.om_resolved.specs.declared.resolved.ConstructKind.TheVariants as constructs
 use Rattle.om_resolved.specs.declared.resolved.ResolvedClause.{ResolvedClause}
-use Rattle.om_resolved.specs.ResolvedView.{view_resolved_clause}
+use Rattle.om_resolved.specs.ResolvedView as view
 use Rattle.om_resolved.specs.ResolvedTree.{ResolvedExpressionTree, ResolvedClauseTree, ResolvedLoopTree}
 use Rattle.om_resolved.specs.ResolvedTree.{ResolvedStartTree, ResolvedStatementTree, If, IfElse, While, Do, For, Loop}
 use Rattle.om_resolved.specs.ResolvedTree.{Construct}
@@ -328,21 +328,21 @@ emits_construct names n first kind clauses s jumps label a b d e h1 h2 h3 =
 
 pub loop_clauses_are : (names : Numbered) (l : ℕ) (loop : ResolvedLoopTree) (labels : LoopLabels)
     (xs ys : List ResolvedClause) (a b : Written) → xs ≡ ys
-    → Begins labels.over (worksharing_begin names l (map view_resolved_clause xs) loop labels) a b
-    → Begins labels.over (worksharing_begin names l (map view_resolved_clause ys) loop labels) a b
+    → Begins labels.over (worksharing_begin names l (map view.clause xs) loop labels) a b
+    → Begins labels.over (worksharing_begin names l (map view.clause ys) loop labels) a b
 loop_clauses_are names l loop labels xs ys a b e h = subst
-    (λ z. Begins labels.over (worksharing_begin names l (map view_resolved_clause z) loop labels) a b) e h
+    (λ z. Begins labels.over (worksharing_begin names l (map view.clause z) loop labels) a b) e h
 
 pub close_clauses_are : (names : Numbered) (l : ℕ) (nowait : Bool) (xs ys : List ResolvedClause) (a b : Written)
     → xs ≡ ys
-    → Emits (λ done at. closes (site names done) l (map view_resolved_clause xs) nowait) a b
-    → Emits (λ done at. closes (site names done) l (map view_resolved_clause ys) nowait) a b
+    → Emits (λ done at. closes (site names done) l (map view.clause xs) nowait) a b
+    → Emits (λ done at. closes (site names done) l (map view.clause ys) nowait) a b
 close_clauses_are names l nowait xs ys a b e h = subst
-    (λ z. Emits (λ done at. closes (site names done) l (map view_resolved_clause z) nowait) a b) e h
+    (λ z. Emits (λ done at. closes (site names done) l (map view.clause z) nowait) a b) e h
 
 pub construct_clauses_are : (names : Numbered) (l : ℕ) (kind : ConstructKind) (label : ℕ) (xs ys : List ResolvedClause)
     (a b : Written) → xs ≡ ys
-    → Begins label (construct_begin names l kind (map view_resolved_clause xs) label) a b
-    → Begins label (construct_begin names l kind (map view_resolved_clause ys) label) a b
+    → Begins label (construct_begin names l kind (map view.clause xs) label) a b
+    → Begins label (construct_begin names l kind (map view.clause ys) label) a b
 construct_clauses_are names l kind label xs ys a b e h = subst
-    (λ z. Begins label (construct_begin names l kind (map view_resolved_clause z) label) a b) e h
+    (λ z. Begins label (construct_begin names l kind (map view.clause z) label) a b) e h

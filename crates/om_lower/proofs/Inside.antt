@@ -14,8 +14,7 @@ use Rattle.om_resolved.specs.declared.resolved.ResolvedStatement.TheViews.{sized
 use Rattle.om_resolved.specs.declared.resolved.ResolvedStatement.TheViews.{sized-Loop, sized-While}
 use Rattle.om_resolved.specs.ResolvedTree as trees
 use Rattle.om_resolved.specs.ResolvedTree.{ResolvedPartsTree, ResolvedStatementTree, ResolvedStatementsTree}
-use Rattle.om_resolved.specs.ResolvedView.{view_resolved_clause, view_resolved_expression, view_resolved_loop}
-use Rattle.om_resolved.specs.ResolvedView.{view_resolved_part, view_resolved_start, view_resolved_statement}
+use Rattle.om_resolved.specs.ResolvedView as view
 use Rattle.om_resolved.specs.Whole.{part_count}
 use Rattle.om_rows.specs.Bodies.{Numbers, behind}
 use Rattle.om_rows.specs.Coded.{AssignmentHasCode, EffectHasCode, LoopHasCode, PartsHaveCode, StartHasCode}
@@ -73,45 +72,45 @@ construct_inside tree x at kind clauses s is same =
 -- ---- code
 
 pub if_code : (breaks continues : Bool) (tree : ResolvedStatement) (at : _) (c : _) (s : _) → tree ≡ v.If at c s
-    → StatementHasCode breaks continues (view_resolved_statement tree)
-    → ValueHasCode (view_resolved_expression c) × StatementHasCode breaks continues (view_resolved_statement s.value)
+    → StatementHasCode breaks continues (view.statement tree)
+    → ValueHasCode (view.expression c) × StatementHasCode breaks continues (view.statement s.value)
 if_code breaks continues tree at c s is code =
-    subst (λ z. StatementHasCode breaks continues z) (ap view_resolved_statement is ∙ view_if at c s) code
+    subst (λ z. StatementHasCode breaks continues z) (ap view.statement is ∙ view_if at c s) code
 
 pub if_else_code : (breaks continues : Bool) (tree : ResolvedStatement) (at : _) (c : _) (s : _) (t : _)
-    → tree ≡ v.IfElse at c s t → StatementHasCode breaks continues (view_resolved_statement tree)
-    → ValueHasCode (view_resolved_expression c) × StatementHasCode breaks continues (view_resolved_statement s.value)
-    × StatementHasCode breaks continues (view_resolved_statement t.value)
+    → tree ≡ v.IfElse at c s t → StatementHasCode breaks continues (view.statement tree)
+    → ValueHasCode (view.expression c) × StatementHasCode breaks continues (view.statement s.value)
+    × StatementHasCode breaks continues (view.statement t.value)
 if_else_code breaks continues tree at c s t is code =
-    subst (λ z. StatementHasCode breaks continues z) (ap view_resolved_statement is ∙ view_if_else at c s t) code
+    subst (λ z. StatementHasCode breaks continues z) (ap view.statement is ∙ view_if_else at c s t) code
 
 pub while_code : (breaks continues : Bool) (tree : ResolvedStatement) (at : _) (c : _) (s : _)
-    → tree ≡ v.While at c s → StatementHasCode breaks continues (view_resolved_statement tree)
-    → ValueHasCode (view_resolved_expression c) × StatementHasCode true true (view_resolved_statement s.value)
+    → tree ≡ v.While at c s → StatementHasCode breaks continues (view.statement tree)
+    → ValueHasCode (view.expression c) × StatementHasCode true true (view.statement s.value)
 while_code breaks continues tree at c s is code =
-    subst (λ z. StatementHasCode breaks continues z) (ap view_resolved_statement is ∙ view_while at c s) code
+    subst (λ z. StatementHasCode breaks continues z) (ap view.statement is ∙ view_while at c s) code
 
 pub do_code : (breaks continues : Bool) (tree : ResolvedStatement) (at : _) (s : _) (c : _) → tree ≡ v.Do at s c
-    → StatementHasCode breaks continues (view_resolved_statement tree)
-    → StatementHasCode true true (view_resolved_statement s.value) × ValueHasCode (view_resolved_expression c)
+    → StatementHasCode breaks continues (view.statement tree)
+    → StatementHasCode true true (view.statement s.value) × ValueHasCode (view.expression c)
 do_code breaks continues tree at s c is code =
-    subst (λ z. StatementHasCode breaks continues z) (ap view_resolved_statement is ∙ view_do at s c) code
+    subst (λ z. StatementHasCode breaks continues z) (ap view.statement is ∙ view_do at s c) code
 
 pub for_code : (breaks continues : Bool) (tree : ResolvedStatement) (at : _) (h : _) (s : _) → tree ≡ v.For at h s
-    → StatementHasCode breaks continues (view_resolved_statement tree)
-    → StartHasCode (view_resolved_start h.value.start)
-    × IfSome (option_map view_resolved_expression h.value.condition) ValueHasCode
-    × IfSome (option_map view_resolved_expression h.value.step) EffectHasCode
-    × StatementHasCode true true (view_resolved_statement s.value)
+    → StatementHasCode breaks continues (view.statement tree)
+    → StartHasCode (view.start h.value.start)
+    × IfSome (option_map view.expression h.value.condition) ValueHasCode
+    × IfSome (option_map view.expression h.value.step) EffectHasCode
+    × StatementHasCode true true (view.statement s.value)
 for_code breaks continues tree at h s is code =
-    subst (λ z. StatementHasCode breaks continues z) (ap view_resolved_statement is ∙ view_for at h s) code
+    subst (λ z. StatementHasCode breaks continues z) (ap view.statement is ∙ view_for at h s) code
 
 pub loop_code : (breaks continues : Bool) (tree : ResolvedStatement) (at : _) (clauses : _) (nowait : _) (l : _)
     (s : _) → tree ≡ v.Loop at clauses nowait l s
-    → StatementHasCode breaks continues (view_resolved_statement tree)
-    → LoopHasCode (view_resolved_loop l.value) × StatementHasCode false true (view_resolved_statement s.value)
+    → StatementHasCode breaks continues (view.statement tree)
+    → LoopHasCode (view.loop l.value) × StatementHasCode false true (view.statement s.value)
 loop_code breaks continues tree at clauses nowait l s is code =
-    subst (λ z. StatementHasCode breaks continues z) (ap view_resolved_statement is
+    subst (λ z. StatementHasCode breaks continues z) (ap view.statement is
     ∙ view_loop at clauses nowait l s) code
 
 kind_code : (breaks continues : Bool) (at : _) (kind : ConstructKind) (clauses : _) (s : ResolvedStatementTree)
@@ -125,30 +124,30 @@ kind_code breaks continues at constructs.Taskgroup clauses s h code = code
 
 pub construct_code : (breaks continues : Bool) (tree : ResolvedStatement) (at : _) (kind : ConstructKind)
     (clauses : _) (s : _) → IsNoAtomic kind → tree ≡ v.Construct at kind clauses s
-    → StatementHasCode breaks continues (view_resolved_statement tree)
-    → StatementHasCode false false (view_resolved_statement s.value)
+    → StatementHasCode breaks continues (view.statement tree)
+    → StatementHasCode false false (view.statement s.value)
 construct_code breaks continues tree at kind clauses s h is code =
-    kind_code breaks continues at kind (map view_resolved_clause clauses.items) (view_resolved_statement s.value) h
-    (subst (λ z. StatementHasCode breaks continues z) (ap view_resolved_statement is
+    kind_code breaks continues at kind (map view.clause clauses.items) (view.statement s.value) h
+    (subst (λ z. StatementHasCode breaks continues z) (ap view.statement is
     ∙ view_construct at kind clauses s) code)
 
 pub sections_code : (breaks continues : Bool) (tree : ResolvedStatement) (at : _) (clauses : _) (nowait : _)
     (parts : _) → tree ≡ v.Sections at clauses nowait parts
-    → StatementHasCode breaks continues (view_resolved_statement tree)
-    → (part_count (trees.parts (map view_resolved_part parts.items)) ≤ 256)
-    × PartsHaveCode (trees.parts (map view_resolved_part parts.items))
+    → StatementHasCode breaks continues (view.statement tree)
+    → (part_count (trees.parts (map view.part parts.items)) ≤ 256)
+    × PartsHaveCode (trees.parts (map view.part parts.items))
 sections_code breaks continues tree at clauses nowait parts is code =
-    subst (λ z. StatementHasCode breaks continues z) (ap view_resolved_statement is
+    subst (λ z. StatementHasCode breaks continues z) (ap view.statement is
     ∙ view_sections at clauses nowait parts) code
 
-parts_counted : (ps : List ResolvedPart) → length ps ≡ part_count (trees.parts (map view_resolved_part ps))
+parts_counted : (ps : List ResolvedPart) → length ps ≡ part_count (trees.parts (map view.part ps))
 parts_counted [] = refl
-parts_counted (p ∷ ps) = ap suc (parts_counted ps) ∙ sym (add-one (part_count (trees.parts (map view_resolved_part ps))))
+parts_counted (p ∷ ps) = ap suc (parts_counted ps) ∙ sym (add-one (part_count (trees.parts (map view.part ps))))
 
 -- its parts are few
 pub sections_few : (breaks continues : Bool) (tree : ResolvedStatement) (xs : List ResolvedPart) (at : _)
     (clauses : _) (nowait : _) (parts : _) → tree ≡ v.Sections at clauses nowait parts → xs ≡ parts.items
-    → StatementHasCode breaks continues (view_resolved_statement tree) → length xs ≤ 256
+    → StatementHasCode breaks continues (view.statement tree) → length xs ≤ 256
 sections_few breaks continues tree xs at clauses nowait parts is same code =
     omega (
       arith,
@@ -164,21 +163,21 @@ assignment_ends n _ code = absurd code
 
 pub atomic_ends : (breaks continues : Bool) (n : Numbers) (tree : ResolvedStatement) (at : _) (kind : ConstructKind)
     (clauses : _) (s : _) → tree ≡ v.Construct at kind clauses s → kind ≡ constructs.Atomic
-    → StatementHasCode breaks continues (view_resolved_statement tree) → n ≡ behind n (view_resolved_statement tree)
+    → StatementHasCode breaks continues (view.statement tree) → n ≡ behind n (view.statement tree)
 atomic_ends breaks continues n tree at kind clauses s is plain code =
-    let seen = ap view_resolved_statement is ∙ view_construct at kind clauses s in
-    let assigned : AssignmentHasCode (view_resolved_statement s.value) =
-    subst (λ k. StatementHasCode breaks continues (trees.Construct at k (map view_resolved_clause clauses.items)
-    (view_resolved_statement s.value))) plain (subst (λ z. StatementHasCode breaks continues z) seen code) in
-    assignment_ends n (view_resolved_statement s.value) assigned ∙ ap (λ z. behind n z) (sym seen)
+    let seen = ap view.statement is ∙ view_construct at kind clauses s in
+    let assigned : AssignmentHasCode (view.statement s.value) =
+    subst (λ k. StatementHasCode breaks continues (trees.Construct at k (map view.clause clauses.items)
+    (view.statement s.value))) plain (subst (λ z. StatementHasCode breaks continues z) seen code) in
+    assignment_ends n (view.statement s.value) assigned ∙ ap (λ z. behind n z) (sym seen)
 
 -- where it stands at a spot
 pub code_at : (x y : Spot) (s t : ResolvedStatement) → x ≡ y → s ≡ t
-    → StatementHasCode (is_some y.jumps.over) (is_some y.jumps.next) (view_resolved_statement t)
-    → StatementHasCode (is_some x.jumps.over) (is_some x.jumps.next) (view_resolved_statement s)
+    → StatementHasCode (is_some y.jumps.over) (is_some y.jumps.next) (view.statement t)
+    → StatementHasCode (is_some x.jumps.over) (is_some x.jumps.next) (view.statement s)
 code_at x y s t e f h =
-    subst (λ z. StatementHasCode (is_some z.jumps.over) (is_some z.jumps.next) (view_resolved_statement s)) (sym e)
-    (subst (λ z. StatementHasCode (is_some y.jumps.over) (is_some y.jumps.next) (view_resolved_statement z)) (sym f) h)
+    subst (λ z. StatementHasCode (is_some z.jumps.over) (is_some z.jumps.next) (view.statement s)) (sym e)
+    (subst (λ z. StatementHasCode (is_some y.jumps.over) (is_some y.jumps.next) (view.statement z)) (sym f) h)
 
 -- ---- code in a loop
 
@@ -192,12 +191,12 @@ code_here x y left rest s e here code =
 
 pub parts_code_here : (x : Spot) (n : tables.Numbers) (left rest : ResolvedPartsTree) (xs ys : List ResolvedStatement)
     → x ≡ record { numbers = n; jumps = record { over = None; next = None } } → xs ≡ ys
-    → left ≡ trees.Part (trees.statements (map view_resolved_statement ys)) rest → PartsHaveCode left
+    → left ≡ trees.Part (trees.statements (map view.statement ys)) rest → PartsHaveCode left
     → StatementsHaveCode (is_some x.jumps.over) (is_some x.jumps.next)
-    (trees.statements (map view_resolved_statement xs))
+    (trees.statements (map view.statement xs))
 parts_code_here x n left rest xs ys e same here code =
-    let both : PartsHaveCode (trees.Part (trees.statements (map view_resolved_statement ys)) rest) =
+    let both : PartsHaveCode (trees.Part (trees.statements (map view.statement ys)) rest) =
     subst (λ z. PartsHaveCode z) here code in
     subst (λ z. StatementsHaveCode (is_some z.jumps.over) (is_some z.jumps.next)
-    (trees.statements (map view_resolved_statement xs))) (sym e)
-    (subst (λ zs. StatementsHaveCode false false (trees.statements (map view_resolved_statement zs))) (sym same) both.0)
+    (trees.statements (map view.statement xs))) (sym e)
+    (subst (λ zs. StatementsHaveCode false false (trees.statements (map view.statement zs))) (sym same) both.0)

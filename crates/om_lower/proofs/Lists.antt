@@ -8,7 +8,7 @@ use Rattle.om_emit.specs.Writing.{goes_end}
 use Rattle.om_resolved.specs.declared.resolved.ResolvedStatement.{ResolvedStatement}
 use Rattle.om_resolved.specs.ResolvedTree as trees
 use Rattle.om_resolved.specs.ResolvedTree.{ResolvedStatementTree, ResolvedStatementsTree, NoStatements, Statement}
-use Rattle.om_resolved.specs.ResolvedView.{view_resolved_statement}
+use Rattle.om_resolved.specs.ResolvedView as view
 use Rattle.om_statements.specs.Stretches.{IsNoAtomic}
 use Rattle.om_resolved.specs.declared.resolved.ConstructKind.{ConstructKind}
 use Rattle.om_resolved.specs.declared.resolved.ConstructKind.TheVariants as constructs
@@ -64,10 +64,10 @@ onward_end k names jumps first now all begun a g = g.1 a (with_none k (λ done a
 -- what is left begins with the item that is met
 pub left_item : (items : List ResolvedStatement) (k : ℕ) (x : ResolvedStatement) → k < length items → x
     ≡ get_or items k x
-    → trees.statements (map view_resolved_statement (drop k items)) ≡ Statement (view_resolved_statement x)
-    (trees.statements (map view_resolved_statement (drop (k + 1) items)))
+    → trees.statements (map view.statement (drop k items)) ≡ Statement (view.statement x)
+    (trees.statements (map view.statement (drop (k + 1) items)))
 left_item items k x lt is =
-    ap (λ xs. trees.statements (map view_resolved_statement xs))
+    ap (λ xs. trees.statements (map view.statement xs))
     (drop-cons items k x lt ∙ ap (λ y. y ∷ drop (suc k) items) (sym is) ∙ ap (λ j. x ∷ drop j items) (sym (add-one k)))
 
 -- what is left has code, its numbers lead to those behind all, and whoever writes it has written all

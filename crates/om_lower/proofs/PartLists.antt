@@ -12,8 +12,8 @@ use Rattle.om_resolved.specs.declared.resolved.ResolvedPart.{ResolvedPart, out-R
 use Rattle.om_resolved.specs.ResolvedTree as trees
 use Rattle.om_resolved.specs.ResolvedTree.{ResolvedPartsTree, ResolvedStatementTree, ResolvedStatementsTree, NoParts}
 use Rattle.om_resolved.specs.ResolvedTree.{Part}
-use Rattle.om_resolved.specs.ResolvedView.{part_layer, statement_layer, view_resolved_clause, view_resolved_part}
-use Rattle.om_resolved.specs.ResolvedView.{view_resolved_statement}
+use Rattle.om_resolved.specs.ResolvedView.{part_layer, statement_layer}
+use Rattle.om_resolved.specs.ResolvedView as view
 use Rattle.om_rows.specs.Bodies.{Numbers, behind_all, behind_parts}
 use Rattle.om_rows.specs.Coded.{PartsHaveCode}
 use Rattle.om_rows.specs.Rows.{end, here, ins, part}
@@ -101,13 +101,13 @@ onward_parts_end names spot first now all label begun a g = g a (with_none spot.
 
 -- what is left begins with the part that is met
 pub left_part : (items : List ResolvedPart) (k : ℕ) (x : ResolvedPart) → k < length items → x ≡ get_or items k x
-    → trees.parts (map view_resolved_part (drop k items))
-    ≡ Part (trees.statements (map view_resolved_statement (out-ResolvedPart x).items.items))
-    (trees.parts (map view_resolved_part (drop (k + 1) items)))
+    → trees.parts (map view.part (drop k items))
+    ≡ Part (trees.statements (map view.statement (out-ResolvedPart x).items.items))
+    (trees.parts (map view.part (drop (k + 1) items)))
 left_part items k x lt is =
-    ap (λ xs. trees.parts (map view_resolved_part xs))
+    ap (λ xs. trees.parts (map view.part xs))
     (drop-cons items k x lt ∙ ap (λ y. y ∷ drop (suc k) items) (sym is) ∙ ap (λ j. x ∷ drop j items) (sym (add-one k)))
-    ∙ ap (λ seen. Part seen (trees.parts (map view_resolved_part (drop (k + 1) items))))
+    ∙ ap (λ seen. Part seen (trees.parts (map view.part (drop (k + 1) items))))
     (fold_out-ResolvedPart ResolvedStatementTree ResolvedStatementsTree statement_layer part_layer x)
 
 -- one part fewer is left
@@ -175,27 +175,27 @@ onward_parts_done names spot first now all left label begun a none g =
 
 -- the same spot and the same statements
 pub items_are : (names : Numbered) (x y : Spot) (xs ys : List ResolvedStatement) (a b : Written) → x ≡ y → xs ≡ ys
-    → EmitsStatements names (numbers_of x.numbers) (trees.statements (map view_resolved_statement xs)) x.jumps a b
-    → EmitsStatements names (numbers_of y.numbers) (trees.statements (map view_resolved_statement ys)) y.jumps a b
+    → EmitsStatements names (numbers_of x.numbers) (trees.statements (map view.statement xs)) x.jumps a b
+    → EmitsStatements names (numbers_of y.numbers) (trees.statements (map view.statement ys)) y.jumps a b
 items_are names x y xs ys a b e f h =
-    subst (λ zs. EmitsStatements names (numbers_of y.numbers) (trees.statements (map view_resolved_statement zs))
+    subst (λ zs. EmitsStatements names (numbers_of y.numbers) (trees.statements (map view.statement zs))
     y.jumps a b) f
-    (subst (λ z. EmitsStatements names (numbers_of z.numbers) (trees.statements (map view_resolved_statement xs))
+    (subst (λ z. EmitsStatements names (numbers_of z.numbers) (trees.statements (map view.statement xs))
     z.jumps a b) e h)
 
 -- the same parts
 pub parts_are : (names : Numbered) (n : Numbers) (spot : PartsSpot) (ps qs : List ResolvedPart) (a b : Written)
     → ps ≡ qs
-    → EmitsParts names n (trees.parts (map view_resolved_part ps)) spot a b → EmitsParts names n
-    (trees.parts (map view_resolved_part qs)) spot a b
-parts_are names n spot ps qs a b e h = subst (λ z. EmitsParts names n (trees.parts (map view_resolved_part z)) spot
+    → EmitsParts names n (trees.parts (map view.part ps)) spot a b → EmitsParts names n
+    (trees.parts (map view.part qs)) spot a b
+parts_are names n spot ps qs a b e h = subst (λ z. EmitsParts names n (trees.parts (map view.part z)) spot
     a b) e h
 
 -- the same clauses and the same parts
 pub opens_are : (names : Numbered) (l : ℕ) (numbers : tables.Numbers) (spot : PartsSpot) (xs ys : List ResolvedClause)
     (ps qs : List ResolvedPart) (a b : Written)
-    → xs ≡ ys → ps ≡ qs → OpensParts names (part_head l numbers (map view_resolved_clause xs) (length ps)) spot a b
-    → OpensParts names (part_head l numbers (map view_resolved_clause ys) (length qs)) spot a b
+    → xs ≡ ys → ps ≡ qs → OpensParts names (part_head l numbers (map view.clause xs) (length ps)) spot a b
+    → OpensParts names (part_head l numbers (map view.clause ys) (length qs)) spot a b
 opens_are names l numbers spot xs ys ps qs a b e f h =
-    subst (λ z. OpensParts names (part_head l numbers (map view_resolved_clause ys) (length z)) spot a b) f
-    (subst (λ z. OpensParts names (part_head l numbers (map view_resolved_clause z) (length ps)) spot a b) e h)
+    subst (λ z. OpensParts names (part_head l numbers (map view.clause ys) (length z)) spot a b) f
+    (subst (λ z. OpensParts names (part_head l numbers (map view.clause z) (length ps)) spot a b) e h)

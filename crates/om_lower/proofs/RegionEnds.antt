@@ -4,7 +4,7 @@ use Rattle.om_resolved.specs.declared.resolved.ResolvedStatement.{ResolvedStatem
 use Rattle.om_resolved.specs.declared.resolved.ResolvedStatement.TheVariants as v
 use Rattle.om_resolved.specs.ResolvedTree as trees
 use Rattle.om_resolved.specs.ResolvedTree.{ResolvedPartsTree, ResolvedStatementTree, ResolvedStatementsTree}
-use Rattle.om_resolved.specs.ResolvedView.{view_resolved_clause, view_resolved_part, view_resolved_statement}
+use Rattle.om_resolved.specs.ResolvedView as view
 use Rattle.om_rows.specs.Bodies.{Numbers, behind, behind_all, next_body, next_pick, region_variables}
 use Rattle.om_statements.specs.declared.spot.Spot.{Spot}
 use Rattle.om_rows.specs.Ends.{HasAllEnds, HasEnds, HasPartsEnds, IsKnown, KnownBodies}
@@ -13,103 +13,103 @@ use Rattle.om_lower.proofs.Views.{view_construct, view_do, view_for, view_if, vi
 use Rattle.om_lower.proofs.Views.{view_parallel, view_sections, view_task, view_while}
 
 pub if_ends : (ends : KnownBodies) (n : Numbers) (tree : ResolvedStatement) (at : _) (c : _) (s : _)
-    → tree ≡ v.If at c s → HasEnds ends n (view_resolved_statement tree)
-    → HasEnds ends n (view_resolved_statement s.value)
+    → tree ≡ v.If at c s → HasEnds ends n (view.statement tree)
+    → HasEnds ends n (view.statement s.value)
 if_ends ends n tree at c s is has =
-    subst (λ z. HasEnds ends n z) (ap view_resolved_statement is ∙ view_if at c s) has
+    subst (λ z. HasEnds ends n z) (ap view.statement is ∙ view_if at c s) has
 
 pub if_else_ends : (ends : KnownBodies) (n : Numbers) (tree : ResolvedStatement) (at : _) (c : _) (s : _) (t : _)
-    → tree ≡ v.IfElse at c s t → HasEnds ends n (view_resolved_statement tree)
-    → HasEnds ends n (view_resolved_statement s.value)
-    × HasEnds ends (behind n (view_resolved_statement s.value)) (view_resolved_statement t.value)
+    → tree ≡ v.IfElse at c s t → HasEnds ends n (view.statement tree)
+    → HasEnds ends n (view.statement s.value)
+    × HasEnds ends (behind n (view.statement s.value)) (view.statement t.value)
 if_else_ends ends n tree at c s t is has =
-    subst (λ z. HasEnds ends n z) (ap view_resolved_statement is ∙ view_if_else at c s t) has
+    subst (λ z. HasEnds ends n z) (ap view.statement is ∙ view_if_else at c s t) has
 
 pub while_ends : (ends : KnownBodies) (n : Numbers) (tree : ResolvedStatement) (at : _) (c : _) (s : _)
-    → tree ≡ v.While at c s → HasEnds ends n (view_resolved_statement tree)
-    → HasEnds ends n (view_resolved_statement s.value)
+    → tree ≡ v.While at c s → HasEnds ends n (view.statement tree)
+    → HasEnds ends n (view.statement s.value)
 while_ends ends n tree at c s is has =
-    subst (λ z. HasEnds ends n z) (ap view_resolved_statement is ∙ view_while at c s) has
+    subst (λ z. HasEnds ends n z) (ap view.statement is ∙ view_while at c s) has
 
 pub do_ends : (ends : KnownBodies) (n : Numbers) (tree : ResolvedStatement) (at : _) (s : _) (c : _)
-    → tree ≡ v.Do at s c → HasEnds ends n (view_resolved_statement tree)
-    → HasEnds ends n (view_resolved_statement s.value)
+    → tree ≡ v.Do at s c → HasEnds ends n (view.statement tree)
+    → HasEnds ends n (view.statement s.value)
 do_ends ends n tree at s c is has =
-    subst (λ z. HasEnds ends n z) (ap view_resolved_statement is ∙ view_do at s c) has
+    subst (λ z. HasEnds ends n z) (ap view.statement is ∙ view_do at s c) has
 
 pub for_ends : (ends : KnownBodies) (n : Numbers) (tree : ResolvedStatement) (at : _) (h : _) (s : _)
-    → tree ≡ v.For at h s → HasEnds ends n (view_resolved_statement tree)
-    → HasEnds ends n (view_resolved_statement s.value)
+    → tree ≡ v.For at h s → HasEnds ends n (view.statement tree)
+    → HasEnds ends n (view.statement s.value)
 for_ends ends n tree at h s is has =
-    subst (λ z. HasEnds ends n z) (ap view_resolved_statement is ∙ view_for at h s) has
+    subst (λ z. HasEnds ends n z) (ap view.statement is ∙ view_for at h s) has
 
 pub loop_ends : (ends : KnownBodies) (n : Numbers) (tree : ResolvedStatement) (at : _) (clauses : _)
     (nowait : _) (l : _) (s : _) → tree ≡ v.Loop at clauses nowait l s
-    → HasEnds ends n (view_resolved_statement tree)
-    → HasEnds ends n (view_resolved_statement s.value)
+    → HasEnds ends n (view.statement tree)
+    → HasEnds ends n (view.statement s.value)
 loop_ends ends n tree at clauses nowait l s is has =
-    subst (λ z. HasEnds ends n z) (ap view_resolved_statement is ∙ view_loop at clauses nowait l s) has
+    subst (λ z. HasEnds ends n z) (ap view.statement is ∙ view_loop at clauses nowait l s) has
 
 pub construct_ends : (ends : KnownBodies) (n : Numbers) (tree : ResolvedStatement) (at : _) (kind : _)
     (clauses : _) (s : _) → tree ≡ v.Construct at kind clauses s
-    → HasEnds ends n (view_resolved_statement tree)
-    → HasEnds ends n (view_resolved_statement s.value)
+    → HasEnds ends n (view.statement tree)
+    → HasEnds ends n (view.statement s.value)
 construct_ends ends n tree at kind clauses s is has =
-    subst (λ z. HasEnds ends n z) (ap view_resolved_statement is ∙ view_construct at kind clauses s) has
+    subst (λ z. HasEnds ends n z) (ap view.statement is ∙ view_construct at kind clauses s) has
 
 pub sections_ends : (ends : KnownBodies) (n : Numbers) (tree : ResolvedStatement) (at : _) (clauses : _)
     (nowait : _) (parts : _) → tree ≡ v.Sections at clauses nowait parts
-    → HasEnds ends n (view_resolved_statement tree)
-    → (n.picks < 4294967295) × HasPartsEnds ends (next_pick n) (trees.parts (map view_resolved_part parts.items))
+    → HasEnds ends n (view.statement tree)
+    → (n.picks < 4294967295) × HasPartsEnds ends (next_pick n) (trees.parts (map view.part parts.items))
 sections_ends ends n tree at clauses nowait parts is has =
-    subst (λ z. HasEnds ends n z) (ap view_resolved_statement is ∙ view_sections at clauses nowait parts) has
+    subst (λ z. HasEnds ends n z) (ap view.statement is ∙ view_sections at clauses nowait parts) has
 
 pub parallel_ends : (ends : KnownBodies) (n : Numbers) (tree x : ResolvedStatement) (at : _) (clauses : _)
     (captures : _) (s : _) (xs : _) → tree ≡ v.Parallel at clauses captures s → x ≡ s.value → xs ≡ clauses.items
-    → HasEnds ends n (view_resolved_statement tree)
-    → IsKnown ends n.bodies (behind (next_body n) (view_resolved_statement x))
-    (region_variables (map view_resolved_clause xs) (view_resolved_statement x))
+    → HasEnds ends n (view.statement tree)
+    → IsKnown ends n.bodies (behind (next_body n) (view.statement x))
+    (region_variables (map view.clause xs) (view.statement x))
 parallel_ends ends n tree x at clauses captures s xs is same listed has =
-    let known : HasEnds ends n (trees.Parallel at (map view_resolved_clause clauses.items) captures
-    (view_resolved_statement s.value)) =
-    subst (λ z. HasEnds ends n z) (ap view_resolved_statement is ∙ view_parallel at clauses captures s) has in
-    subst (λ ys. IsKnown ends n.bodies (behind (next_body n) (view_resolved_statement x))
-    (region_variables (map view_resolved_clause ys) (view_resolved_statement x))) (sym listed)
-    (subst (λ z. IsKnown ends n.bodies (behind (next_body n) (view_resolved_statement z))
-    (region_variables (map view_resolved_clause clauses.items) (view_resolved_statement z))) (sym same) known)
+    let known : HasEnds ends n (trees.Parallel at (map view.clause clauses.items) captures
+    (view.statement s.value)) =
+    subst (λ z. HasEnds ends n z) (ap view.statement is ∙ view_parallel at clauses captures s) has in
+    subst (λ ys. IsKnown ends n.bodies (behind (next_body n) (view.statement x))
+    (region_variables (map view.clause ys) (view.statement x))) (sym listed)
+    (subst (λ z. IsKnown ends n.bodies (behind (next_body n) (view.statement z))
+    (region_variables (map view.clause clauses.items) (view.statement z))) (sym same) known)
 
 pub task_ends : (ends : KnownBodies) (n : Numbers) (tree x : ResolvedStatement) (at : _) (clauses : _)
     (captures : _) (s : _) (xs : _) → tree ≡ v.Task at clauses captures s → x ≡ s.value → xs ≡ clauses.items
-    → HasEnds ends n (view_resolved_statement tree)
-    → IsKnown ends n.bodies (behind (next_body n) (view_resolved_statement x))
-    (region_variables (map view_resolved_clause xs) (view_resolved_statement x))
+    → HasEnds ends n (view.statement tree)
+    → IsKnown ends n.bodies (behind (next_body n) (view.statement x))
+    (region_variables (map view.clause xs) (view.statement x))
 task_ends ends n tree x at clauses captures s xs is same listed has =
-    let known : HasEnds ends n (trees.Task at (map view_resolved_clause clauses.items) captures
-    (view_resolved_statement s.value)) =
-    subst (λ z. HasEnds ends n z) (ap view_resolved_statement is ∙ view_task at clauses captures s) has in
-    subst (λ ys. IsKnown ends n.bodies (behind (next_body n) (view_resolved_statement x))
-    (region_variables (map view_resolved_clause ys) (view_resolved_statement x))) (sym listed)
-    (subst (λ z. IsKnown ends n.bodies (behind (next_body n) (view_resolved_statement z))
-    (region_variables (map view_resolved_clause clauses.items) (view_resolved_statement z))) (sym same) known)
+    let known : HasEnds ends n (trees.Task at (map view.clause clauses.items) captures
+    (view.statement s.value)) =
+    subst (λ z. HasEnds ends n z) (ap view.statement is ∙ view_task at clauses captures s) has in
+    subst (λ ys. IsKnown ends n.bodies (behind (next_body n) (view.statement x))
+    (region_variables (map view.clause ys) (view.statement x))) (sym listed)
+    (subst (λ z. IsKnown ends n.bodies (behind (next_body n) (view.statement z))
+    (region_variables (map view.clause clauses.items) (view.statement z))) (sym same) known)
 
 -- where it stands at a spot
 pub ends_at : (ends : KnownBodies) (x y : Spot) (s t : ResolvedStatement) → x ≡ y → s ≡ t
-    → HasEnds ends (numbers_of y.numbers) (view_resolved_statement t)
-    → HasEnds ends (numbers_of x.numbers) (view_resolved_statement s)
+    → HasEnds ends (numbers_of y.numbers) (view.statement t)
+    → HasEnds ends (numbers_of x.numbers) (view.statement s)
 ends_at ends x y s t e f h =
-    subst (λ z. HasEnds ends (numbers_of z.numbers) (view_resolved_statement s)) (sym e)
-    (subst (λ z. HasEnds ends (numbers_of y.numbers) (view_resolved_statement z)) (sym f) h)
+    subst (λ z. HasEnds ends (numbers_of z.numbers) (view.statement s)) (sym e)
+    (subst (λ z. HasEnds ends (numbers_of y.numbers) (view.statement z)) (sym f) h)
 
 -- behind another statement
 pub ends_behind : (ends : KnownBodies) (x y : Spot) (n : Numbers) (before s t u : ResolvedStatement)
-    → x ≡ y → numbers_of y.numbers ≡ behind n (view_resolved_statement before) → before ≡ u → s ≡ t
-    → HasEnds ends (behind n (view_resolved_statement u)) (view_resolved_statement t)
-    → HasEnds ends (numbers_of x.numbers) (view_resolved_statement s)
+    → x ≡ y → numbers_of y.numbers ≡ behind n (view.statement before) → before ≡ u → s ≡ t
+    → HasEnds ends (behind n (view.statement u)) (view.statement t)
+    → HasEnds ends (numbers_of x.numbers) (view.statement s)
 ends_behind ends x y n before s t u e is same f h =
-    subst (λ z. HasEnds ends (numbers_of z.numbers) (view_resolved_statement s)) (sym e)
-    (subst (λ m. HasEnds ends m (view_resolved_statement s))
-    (sym (is ∙ ap (λ z. behind n (view_resolved_statement z)) same))
-    (subst (λ z. HasEnds ends (behind n (view_resolved_statement u)) (view_resolved_statement z)) (sym f) h))
+    subst (λ z. HasEnds ends (numbers_of z.numbers) (view.statement s)) (sym e)
+    (subst (λ m. HasEnds ends m (view.statement s))
+    (sym (is ∙ ap (λ z. behind n (view.statement z)) same))
+    (subst (λ z. HasEnds ends (behind n (view.statement u)) (view.statement z)) (sym f) h))
 
 -- ---- in a loop
 
@@ -137,13 +137,13 @@ parts_ends_next ends now after left rest items here is has =
 
 pub parts_ends_here : (ends : KnownBodies) (x y : Spot) (left rest : ResolvedPartsTree)
     (xs ys : List ResolvedStatement) → x ≡ y → xs ≡ ys
-    → left ≡ trees.Part (trees.statements (map view_resolved_statement ys)) rest
+    → left ≡ trees.Part (trees.statements (map view.statement ys)) rest
     → HasPartsEnds ends (numbers_of y.numbers) left
-    → HasAllEnds ends (numbers_of x.numbers) (trees.statements (map view_resolved_statement xs))
+    → HasAllEnds ends (numbers_of x.numbers) (trees.statements (map view.statement xs))
 parts_ends_here ends x y left rest xs ys e same here has =
     let both : HasPartsEnds ends (numbers_of y.numbers)
-    (trees.Part (trees.statements (map view_resolved_statement ys)) rest) =
+    (trees.Part (trees.statements (map view.statement ys)) rest) =
     subst (λ z. HasPartsEnds ends (numbers_of y.numbers) z) here has in
-    subst (λ z. HasAllEnds ends (numbers_of z.numbers) (trees.statements (map view_resolved_statement xs))) (sym e)
-    (subst (λ zs. HasAllEnds ends (numbers_of y.numbers) (trees.statements (map view_resolved_statement zs))) (sym same)
+    subst (λ z. HasAllEnds ends (numbers_of z.numbers) (trees.statements (map view.statement xs))) (sym e)
+    (subst (λ zs. HasAllEnds ends (numbers_of y.numbers) (trees.statements (map view.statement zs))) (sym same)
     both.0)

@@ -12,7 +12,7 @@ use Rattle.om_resolved.specs.declared.resolved.ResolvedClause.{ResolvedClause}
 use Rattle.om_resolved.specs.declared.resolved.ResolvedPart.{ResolvedPart}
 use Rattle.om_resolved.specs.ResolvedTree as trees
 use Rattle.om_resolved.specs.ResolvedTree.{Do, For, Loop, Sections, Construct, ResolvedPartsTree}
-use Rattle.om_resolved.specs.ResolvedView.{view_resolved_clause, view_resolved_part}
+use Rattle.om_resolved.specs.ResolvedView as view
 use Rattle.om_resolved.specs.ResolvedTree.{ResolvedStatementsTree}
 use Rattle.om_rows.specs.Bodies.{Numbers}
 use Rattle.om_rows.specs.Expressions.{effect}
@@ -217,29 +217,29 @@ module _ (names : Numbered) where
   -- the same clauses, and the same parts
   pub loop_scopes_clauses : (l : ℕ) (loop : ResolvedLoopTree) (xs ys : List ResolvedClause) (a : Written)
       (x : ScopeStack) (b : Written) (y : ScopeStack) → xs ≡ ys
-      → Stand (λ at. loop_head at l (map view_resolved_clause xs) loop) a x b y
-      → Stand (λ at. loop_head at l (map view_resolved_clause ys) loop) a x b y
+      → Stand (λ at. loop_head at l (map view.clause xs) loop) a x b y
+      → Stand (λ at. loop_head at l (map view.clause ys) loop) a x b y
   loop_scopes_clauses l loop xs ys a x b y e h =
-      subst (λ z. Stand (λ at. loop_head at l (map view_resolved_clause z) loop) a x b y) e h
+      subst (λ z. Stand (λ at. loop_head at l (map view.clause z) loop) a x b y) e h
 
   pub sections_scopes_clauses : (l : ℕ) (xs ys : List ResolvedClause) (a : Written) (x : ScopeStack) (b : Written)
-      (y : ScopeStack) → xs ≡ ys → Stand (λ at. sections_head at l (map view_resolved_clause xs)) a x b y
-      → Stand (λ at. sections_head at l (map view_resolved_clause ys)) a x b y
+      (y : ScopeStack) → xs ≡ ys → Stand (λ at. sections_head at l (map view.clause xs)) a x b y
+      → Stand (λ at. sections_head at l (map view.clause ys)) a x b y
   sections_scopes_clauses l xs ys a x b y e h =
-      subst (λ z. Stand (λ at. sections_head at l (map view_resolved_clause z)) a x b y) e h
+      subst (λ z. Stand (λ at. sections_head at l (map view.clause z)) a x b y) e h
 
   pub construct_scopes_clauses : (l : ℕ) (kind : ConstructKind) (xs ys : List ResolvedClause) (a : Written)
       (x : ScopeStack) (b : Written) (y : ScopeStack) → xs ≡ ys
-      → Stand (λ at. construct_head at l kind (map view_resolved_clause xs)) a x b y
-      → Stand (λ at. construct_head at l kind (map view_resolved_clause ys)) a x b y
+      → Stand (λ at. construct_head at l kind (map view.clause xs)) a x b y
+      → Stand (λ at. construct_head at l kind (map view.clause ys)) a x b y
   construct_scopes_clauses l kind xs ys a x b y e h =
-      subst (λ z. Stand (λ at. construct_head at l kind (map view_resolved_clause z)) a x b y) e h
+      subst (λ z. Stand (λ at. construct_head at l kind (map view.clause z)) a x b y) e h
 
   pub part_scopes_are : (xs ys : List ResolvedPart) (a : Written) (x : ScopeStack) (b : Written) (y : ScopeStack)
-      → xs ≡ ys → Stand (λ at. part_scopes at (trees.parts (map view_resolved_part xs))) a x b y
-      → Stand (λ at. part_scopes at (trees.parts (map view_resolved_part ys))) a x b y
+      → xs ≡ ys → Stand (λ at. part_scopes at (trees.parts (map view.part xs))) a x b y
+      → Stand (λ at. part_scopes at (trees.parts (map view.part ys))) a x b y
   part_scopes_are xs ys a x b y e h =
-      subst (λ z. Stand (λ at. part_scopes at (trees.parts (map view_resolved_part z))) a x b y) e h
+      subst (λ z. Stand (λ at. part_scopes at (trees.parts (map view.part z))) a x b y) e h
 
   -- one behind another
   pub all_scopes_next : (all left rest : ResolvedStatementsTree) (s : ResolvedStatementTree) (a : Written)

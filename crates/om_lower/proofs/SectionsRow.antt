@@ -10,7 +10,7 @@ use Rattle.om_lexer.specs.declared.token.Span.{Span}
 use Rattle.om_resolved.specs.declared.resolved.ResolvedPart.{ResolvedPart}
 use Rattle.om_resolved.specs.ResolvedTree as trees
 use Rattle.om_resolved.specs.ResolvedTree.{ResolvedClauseTree, ResolvedPartsTree, Sections}
-use Rattle.om_resolved.specs.ResolvedView.{view_resolved_part}
+use Rattle.om_resolved.specs.ResolvedView as view
 use Rattle.om_rows.specs.Bodies.{Numbers, next_pick}
 use Rattle.om_rows.specs.Rows.{end, here, part}
 use Rattle.om_rows.specs.Statements.{closes, parts}
@@ -30,7 +30,7 @@ labels_length first (suc count) = ap suc (labels_length (first + 1) count)
 
 -- as many labels as there are parts are those of the parts
 pub labels_are : (first : ℕ) (xs : List ResolvedPart)
-    → labels_from first (length xs) ≡ part_labels first (trees.parts (map view_resolved_part xs))
+    → labels_from first (length xs) ≡ part_labels first (trees.parts (map view.part xs))
 labels_are first [] = refl
 labels_are first (x ∷ xs) = ap (λ z. first ∷ z) (labels_are (first + 1) xs)
 

@@ -13,7 +13,7 @@ use Rattle.om_resolved.specs.declared.resolved.ResolvedStatement.TheVariants as 
 use Rattle.om_resolved.specs.declared.resolved.ResolvedStatement.TheViews.{size-ResolvedPart, size-ResolvedStatement}
 use Rattle.om_resolved.specs.declared.resolved.ResolvedStatement.TheViews.{sized-Block, sized-Sections}
 use Rattle.om_resolved.specs.ResolvedTree as trees
-use Rattle.om_resolved.specs.ResolvedView.{view_resolved_part, view_resolved_statement}
+use Rattle.om_resolved.specs.ResolvedView as view
 use Rattle.om_rows.specs.Bodies.{Numbers, behind, next_pick}
 use Rattle.om_rows.specs.Coded.{PartsHaveCode, StatementHasCode, StatementsHaveCode}
 use Rattle.om_rows.specs.declared.numbers.Numbers as tables
@@ -28,16 +28,16 @@ use Rattle.om_lower.proofs.Views.{view_block}
 
 abbrev Within : (ends : KnownBodies) → (tree s : ResolvedStatement) → Spot → Type 0
 Within ends tree s x = (size-ResolvedStatement s < size-ResolvedStatement tree)
-    × StatementHasCode (is_some x.jumps.over) (is_some x.jumps.next) (view_resolved_statement s)
-    × HasEnds ends (numbers_of x.numbers) (view_resolved_statement s)
+    × StatementHasCode (is_some x.jumps.over) (is_some x.jumps.next) (view.statement s)
+    × HasEnds ends (numbers_of x.numbers) (view.statement s)
 
 -- a statement has code at a spot
 abbrev HasCodeAt : Spot → ResolvedStatement → Type 0
-HasCodeAt x tree = StatementHasCode (is_some x.jumps.over) (is_some x.jumps.next) (view_resolved_statement tree)
+HasCodeAt x tree = StatementHasCode (is_some x.jumps.over) (is_some x.jumps.next) (view.statement tree)
 
 -- the numbers behind its regions are known there
 abbrev HasEndsAt : (ends : KnownBodies) → Spot → ResolvedStatement → Type 0
-HasEndsAt ends x tree = HasEnds ends (numbers_of x.numbers) (view_resolved_statement tree)
+HasEndsAt ends x tree = HasEnds ends (numbers_of x.numbers) (view.statement tree)
 
 pub if_within : (ends : KnownBodies) (y : Spot) (tree s : ResolvedStatement) (at : _) (c : _) (body : _)
     → tree ≡ v.If at c body → s ≡ body.value → HasCodeAt y tree → HasEndsAt ends y tree → Within ends tree s y
@@ -59,7 +59,7 @@ then_within ends y tree s at c body other is same code has = (
 pub else_within : (ends : KnownBodies) (x y : Spot) (between : tables.Numbers) (tree before s : ResolvedStatement)
     (at : _) (c : _) (body : _) (other : _) → tree ≡ v.IfElse at c body other → before ≡ body.value → s ≡ other.value
     → x ≡ record { numbers = between; jumps = y.jumps }
-    → numbers_of between ≡ behind (numbers_of y.numbers) (view_resolved_statement before)
+    → numbers_of between ≡ behind (numbers_of y.numbers) (view.statement before)
     → HasCodeAt y tree → HasEndsAt ends y tree → Within ends tree s x
 else_within ends x y between tree before s at c body other is first same e behind_it code has = (
   else_inside tree s at c body other is same,
@@ -135,11 +135,11 @@ pub block_within : (ends : KnownBodies) (y : Spot) (tree : ResolvedStatement) (x
     (items : _) → tree ≡ v.Block at items → xs ≡ items.items → HasCodeAt y tree → HasEndsAt ends y tree
     → (most size-ResolvedStatement xs < size-ResolvedStatement tree)
     × StatementsHaveCode (is_some y.jumps.over) (is_some y.jumps.next)
-    (trees.statements (map view_resolved_statement xs))
-    × HasAllEnds ends (numbers_of y.numbers) (trees.statements (map view_resolved_statement xs))
+    (trees.statements (map view.statement xs))
+    × HasAllEnds ends (numbers_of y.numbers) (trees.statements (map view.statement xs))
 block_within ends y tree xs at items is same code has =
-    let seen = ap view_resolved_statement is ∙ view_block at items in
-    let listed = ap (λ ys. trees.statements (map view_resolved_statement ys)) (sym same) in (
+    let seen = ap view.statement is ∙ view_block at items in
+    let listed = ap (λ ys. trees.statements (map view.statement ys)) (sym same) in (
       omega (
         arith,
         ap size-ResolvedStatement is,
@@ -156,10 +156,10 @@ pub parts_within : (ends : KnownBodies) (m : Numbers) (y : Spot) (tree : Resolve
     (at : _) (clauses : _) (nowait : _) (parts : _) → tree ≡ v.Sections at clauses nowait parts → xs ≡ parts.items
     → m ≡ next_pick (numbers_of y.numbers) → HasCodeAt y tree → HasEndsAt ends y tree
     → (most size-ResolvedPart xs < size-ResolvedStatement tree)
-    × PartsHaveCode (trees.parts (map view_resolved_part xs))
-    × HasPartsEnds ends m (trees.parts (map view_resolved_part xs))
+    × PartsHaveCode (trees.parts (map view.part xs))
+    × HasPartsEnds ends m (trees.parts (map view.part xs))
 parts_within ends m y tree xs at clauses nowait parts is same begun code has =
-    let listed = ap (λ ys. trees.parts (map view_resolved_part ys)) (sym same) in (
+    let listed = ap (λ ys. trees.parts (map view.part ys)) (sym same) in (
       omega (
         arith,
         ap size-ResolvedStatement is,
@@ -167,7 +167,7 @@ parts_within ends m y tree xs at clauses nowait parts is same begun code has =
         ap (most size-ResolvedPart) same,
       ),
       subst (λ z. PartsHaveCode z) listed (sections_code _ _ tree at clauses nowait parts is code).1,
-      subst (λ k. HasPartsEnds ends k (trees.parts (map view_resolved_part xs))) (sym begun)
+      subst (λ k. HasPartsEnds ends k (trees.parts (map view.part xs))) (sym begun)
           (subst (λ z. HasPartsEnds ends (next_pick (numbers_of y.numbers)) z) listed
           (sections_ends ends (numbers_of y.numbers) tree at clauses nowait parts is has).1),
     )

@@ -6,7 +6,7 @@ use Rattle.om_lower.specs.declared.input.SeenBody.{SeenBody}
 use Rattle.om_lower.specs.Ready.{IsReady}
 use Rattle.om_resolved.specs.Beside.{TreeCopiesBehind}
 use Rattle.om_resolved.specs.ResolvedTree.{ResolvedTree}
-use Rattle.om_resolved.specs.ResolvedView.{view_resolved}
+use Rattle.om_resolved.specs.ResolvedView as view
 use Rattle.om_resolved.specs.Weights.{HasSmallWeight}
 use Rattle.om_resolved.specs.Whole.{IsWholeTree}
 use Rattle.om_rows.specs.Bodies.{BodySite, variables_of}
@@ -16,7 +16,7 @@ use Rattle.om_rows.specs.ProgramTables.{IsTablesOf, known_of}
 use Rattle.om_sights.specs.Sites.{body_in}
 
 abbrev pub tree_of : Input → ResolvedTree
-tree_of input = view_resolved input.resolved.now
+tree_of input = view.resolved input.resolved.now
 
 -- Its tree is whole, each part of it has a row, each copy of a region stands behind where the region begins, and its
 -- weight is small. The tables are those of the tree.

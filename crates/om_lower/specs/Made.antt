@@ -25,7 +25,7 @@ use Rattle.om_rows.specs.Code.{given_of, slots_of}
 use Rattle.om_rows.specs.Coded.{BodyHasCode}
 use Rattle.om_rows.specs.Scopes.{names_with}
 use Rattle.om_rows.specs.Positions.{StandsAt}
-use Rattle.om_resolved.specs.ResolvedView.{view_resolved_function}
+use Rattle.om_resolved.specs.ResolvedView as view
 use Rattle.om_resolved.specs.Uses.{is_main_function}
 use Rattle.om_rows.specs.Numbered.{numbered_in}
 use Rattle.om_rows.specs.declared.tables.Tables.{Tables}
@@ -107,7 +107,7 @@ abbrev pub AddsSlots : Numbers → ResolvedFunctionTree → (old new : List (Lis
 AddsSlots n f old new = new ≡ old ++ map variables_of (function_bodies n f)
 
 abbrev pub next_function : Next → ResolvedFunctionTree
-next_function next = view_resolved_function next.function.now
+next_function next = view.function next.function.now
 
 abbrev pub next_numbers : Next → Numbers
 next_numbers next = numbers_of next.numbers

@@ -2,7 +2,7 @@
 use Rattle.std.specs.Prelude.{◌≡◌, ℕ, List, IfOk, OnOk, Result, map}
 use Rattle.om_resolved.specs.ResolvedTree.{ResolvedClauseTree, ResolvedStatementTree}
 use Rattle.om_resolved.specs.ResolvedTree as trees
-use Rattle.om_resolved.specs.ResolvedView.{view_resolved_clause, view_resolved_statement}
+use Rattle.om_resolved.specs.ResolvedView as view
 use Rattle.om_rows.specs.Bodies as rows
 use Rattle.om_rows.specs.BodyTables.{numbered_by}
 use Rattle.om_rows.specs.Ends.{IsKnown}
@@ -18,30 +18,30 @@ use Rattle.om_statements.specs.Emits.{EmitsStatement}
 use Rattle.om_statements.specs.declared.spot.JumpLabels.{JumpLabels}
 
 abbrev pub clauses_of : Region → List ResolvedClauseTree
-clauses_of region = map view_resolved_clause region.clauses.now
+clauses_of region = map view.clause region.clauses.now
 
 abbrev pub parallel_of : Region → ResolvedStatementTree
 parallel_of region =
-    trees.Parallel region.at (clauses_of region) region.captures.now (view_resolved_statement region.statement.now)
+    trees.Parallel region.at (clauses_of region) region.captures.now (view.statement region.statement.now)
 
 abbrev pub task_of : Region → ResolvedStatementTree
 task_of region =
-    trees.Task region.at (clauses_of region) region.captures.now (view_resolved_statement region.statement.now)
+    trees.Task region.at (clauses_of region) region.captures.now (view.statement region.statement.now)
 
 -- the slots of its body, by the variables that they hold
 abbrev pub slots_of : Region → List ℕ
-slots_of region = rows.region_variables (clauses_of region) (view_resolved_statement region.statement.now)
+slots_of region = rows.region_variables (clauses_of region) (view.statement region.statement.now)
 
 -- its firstprivate copies, which get their values where it is met
 abbrev pub given_to : Region → List FirstCopy
 given_to region =
-    given_copies (clauses_of region) region.captures.now (view_resolved_statement region.statement.now)
+    given_copies (clauses_of region) region.captures.now (view.statement region.statement.now)
 
 -- its body is the next one, and the tables have it
 abbrev pub IsKnownThere : BodyTables → Numbers → Region → Type 0
 IsKnownThere tables numbers region =
     IsKnown (known_in tables) numbers.bodies
-    (rows.behind (rows.next_body (numbers_of numbers)) (view_resolved_statement region.statement.now))
+    (rows.behind (rows.next_body (numbers_of numbers)) (view.statement region.statement.now))
     (slots_of region)
 
 -- a function gives the numbers behind it, unless memory runs out

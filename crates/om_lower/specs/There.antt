@@ -3,7 +3,7 @@ use Rattle.std.specs.Prelude.{◌≡◌, List, IfOk, OnOk, Result, is_some, map}
 use Rattle.om_resolved.specs.declared.resolved.ResolvedStatement.{ResolvedStatement}
 use Rattle.om_resolved.specs.ResolvedTree.{ResolvedStatementsTree}
 use Rattle.om_resolved.specs.ResolvedTree as trees
-use Rattle.om_resolved.specs.ResolvedView.{view_resolved_statement}
+use Rattle.om_resolved.specs.ResolvedView as view
 use Rattle.om_rows.specs.Bodies as rows
 use Rattle.om_rows.specs.BodyTables.{numbered_by}
 use Rattle.om_rows.specs.Coded.{StatementHasCode, StatementsHaveCode}
@@ -24,17 +24,17 @@ use Rattle.om_statements.specs.declared.writing.Writing.{Writing}
 -- it has code there
 abbrev pub HasCodeThere : Spot → ResolvedStatement → Type 0
 HasCodeThere spot tree =
-    StatementHasCode (is_some spot.jumps.over) (is_some spot.jumps.next) (view_resolved_statement tree)
+    StatementHasCode (is_some spot.jumps.over) (is_some spot.jumps.next) (view.statement tree)
 
 -- the tables have the regions in it
 abbrev pub HasEndsThere : BodyTables → Spot → ResolvedStatement → Type 0
-HasEndsThere tables spot tree = HasEnds (known_in tables) (numbers_of spot.numbers) (view_resolved_statement tree)
+HasEndsThere tables spot tree = HasEnds (known_in tables) (numbers_of spot.numbers) (view.statement tree)
 
 -- a function writes its code, unless memory runs out
 abbrev pub EmitsThere : {T E : Type 0} → Result T E → BodyTables → Spot → ResolvedStatement → Writing → Writing
     → Type 0
 EmitsThere result tables spot tree old new = OnOk result (EmitsStatement (numbered_by tables)
-    (numbers_of spot.numbers) (view_resolved_statement tree) spot.jumps old.draft new.draft)
+    (numbers_of spot.numbers) (view.statement tree) spot.jumps old.draft new.draft)
 
 -- and the scopes of this row
 abbrev pub ScopesThere : {T E : Type 0} → Result T E → BodyTables → (Site → Scoping) → Writing → Writing → Type 0
@@ -43,7 +43,7 @@ ScopesThere result tables row old new = OnOk result (EmitsScopes (numbered_by ta
 -- ---- statements
 
 abbrev pub statement_trees : List ResolvedStatement → ResolvedStatementsTree
-statement_trees items = trees.statements (map view_resolved_statement items)
+statement_trees items = trees.statements (map view.statement items)
 
 abbrev pub HaveCodeThere : Spot → List ResolvedStatement → Type 0
 HaveCodeThere spot items =

@@ -19,9 +19,6 @@ pub use Rattle.om_emit.specs.Emits.{Appends, EmitsRow, names_at}
 pub use Rattle.om_emit.specs.Settled.{ListsStand, number_of, settled_lists}
 pub use Rattle.om_resolved.specs.Beside.{TreeAtomicsAssign, TreeCopiesBehind}
 pub use Rattle.om_resolved.specs.Formats.{pieces_of}
-pub use Rattle.om_resolved.specs.ResolvedView.{view_resolved, view_resolved_clause, view_resolved_function}
-pub use Rattle.om_resolved.specs.ResolvedView.{view_resolved_part, view_resolved_statement}
-pub use Rattle.om_resolved.specs.ResolvedView.{view_resolved_expression, view_resolved_loop, view_resolved_start}
 pub use Rattle.om_resolved.specs.Uses.{is_main_function}
 pub use Rattle.om_resolved.specs.Weights.{HasSmallWeight}
 pub use Rattle.om_resolved.specs.Whole.{IsWholeTree}

@@ -6,7 +6,7 @@ ghost use Rattle.om_lower.specs.Words.{HasSlots, IsInput, IsListed, IsReady, IsS
 ghost use Rattle.om_lower.specs.Words.{body_round, captures_of, given_copies, given_of, innermost, known_bodies};
 ghost use Rattle.om_lower.specs.Words.{part_tree, region_variables, round_with, seen_body, seen_tree, slot_of};
 ghost use Rattle.om_lower.specs.Words.{slots_of, statement_of, tree_of, variables_at, variables_of};
-ghost use Rattle.om_lower.specs.Words.{view_resolved_clause, view_resolved_function};
+ghost use Rattle.om_resolved.specs.ResolvedView as view;
 
 use crate::body::{Emitted, emitted_in};
 use crate::frames::{SLOT_LIMIT, frame_of};
@@ -53,7 +53,7 @@ fn add_variables(slots: &mut Vec<Variables>, alloc: Global, site: &Site<'_>) -> 
 
 // The variables of a body, by their slots.
 fn variables_in(alloc: Global, site: &Site<'_>) -> Made<Variables>
-    ensures { let f = view_resolved_function site.now.function.now in
+    ensures { let f = view.function site.now.function.now in
         IfOk result (λ made. made ≡ variables_at f site.now.part) }
 {
     match &site.part {
@@ -261,9 +261,9 @@ fn given_in(seen: &SeenBody<'_>) -> Made<Seq<u32>>
 // The slots of the firstprivate copies of a region.
 fn copies_given(alloc: Global, region: &Region<'_>, variables: &Variables) -> Made<Seq<u32>>
     requires few { length variables.now ≤ 256 }
-    requires variables { let clauses = map view_resolved_clause region.now.clauses.now in
+    requires variables { let clauses = map view.clause region.now.clauses.now in
         variables.now ≡ region_variables clauses (statement_of region.now) }
-    ensures { let clauses = map view_resolved_clause region.now.clauses.now in
+    ensures { let clauses = map view.clause region.now.clauses.now in
         let copies = given_copies clauses region.now.captures.now (statement_of region.now) in
         IfOk result (λ slots. slots
         ≡ map (slot_of variables.now) (map (λ copy. copy.variable) copies)) }

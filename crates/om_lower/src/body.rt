@@ -5,7 +5,7 @@ ghost use Rattle.om_lower.specs.Words.{BodyHasCode, EmitsBody, EmitsRegion, Emit
 ghost use Rattle.om_lower.specs.Words.{FitsRow, FunctionBody, HasBodyEnds, HasEnds, StatementHasCode};
 ghost use Rattle.om_lower.specs.Words.{body_in, body_scopes, known_in, numbered_by, numbers_of, parallel_tree};
 ghost use Rattle.om_lower.specs.Words.{settled_code, settled_lists, statement_of, task_tree};
-ghost use Rattle.om_lower.specs.Words.{view_resolved_function};
+ghost use Rattle.om_resolved.specs.ResolvedView as view;
 
 use crate::functions::INSTRUCTION_LIMIT;
 use crate::statement::{inner, statements};
@@ -81,14 +81,14 @@ fn write_function(
     numbers: Numbers,
     function: &ResolvedFunction,
 ) -> Done
-    requires code { BodyHasCode (view_resolved_function function.now) FunctionBody }
+    requires code { BodyHasCode (view.function function.now) FunctionBody }
     requires ends { HasBodyEnds (known_in tables.now) (numbers_of numbers)
-        (view_resolved_function function.now) FunctionBody }
-    ensures code { let seen = view_resolved_function function.now in
+        (view.function function.now) FunctionBody }
+    ensures code { let seen = view.function function.now in
         let names = numbered_by tables.now in
         OnOk result (EmitsBody names (numbers_of numbers) seen FunctionBody writing.old.draft
         writing.new.draft) }
-    ensures scopes { let seen = view_resolved_function function.now in
+    ensures scopes { let seen = view.function function.now in
         OnOk result (EmitsScopes (numbered_by tables.now) (λ at. body_scopes at seen FunctionBody)
         writing.old writing.new) }
 {

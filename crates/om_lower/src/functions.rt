@@ -3,7 +3,8 @@
 ghost use Rattle.std.specs.Prelude.{◌≡◌, ◌<◌, ◌∷◌, [], All, IfOk, Ok, OnOk, Some, length, slice_get, true};
 ghost use Rattle.om_lower.specs.Words.{AddsFunction, AddsSlots, IsGathered, IsInput, IsNext, IsPut, IsReady};
 ghost use Rattle.om_lower.specs.Words.{bodies_in, ends_in, function_bodies, is_main_function, known_bodies};
-ghost use Rattle.om_lower.specs.Words.{next_function, next_numbers, numbers_of, tree_of, view_resolved_function};
+ghost use Rattle.om_lower.specs.Words.{next_function, next_numbers, numbers_of, tree_of};
+ghost use Rattle.om_resolved.specs.ResolvedView as view;
 
 use crate::bodies::{Bodies, add_sites, add_slots, put_both};
 use crate::input::{Input, Known};
@@ -204,7 +205,7 @@ fn put_where<T: Drop, L: Drop>(
 
 /// Whether a function is `main`.
 pub(crate) fn is_main(function: &ResolvedFunction) -> bool
-    ensures { result ≡ is_main_function (view_resolved_function function.now) }
+    ensures { result ≡ is_main_function (view.function function.now) }
 {
     function.name.as_slice() == b"main".as_slice()
 }

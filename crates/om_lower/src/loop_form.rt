@@ -1,7 +1,8 @@
 //! The comparisons and schedules of worksharing loops as those of instructions.
 
 ghost use Rattle.std.specs.Prelude.{◌≡◌};
-ghost use Rattle.om_lower.specs.Words.{comparison_of, form_with, schedule_in, view_resolved_loop};
+ghost use Rattle.om_lower.specs.Words.{comparison_of, form_with, schedule_in};
+ghost use Rattle.om_resolved.specs.ResolvedView as view;
 
 use om_code::instruction::{Comparison, LoopForm, Schedule};
 use om_pragma::ScheduleKind;
@@ -40,7 +41,7 @@ fn schedule_in(kind: ScheduleKind, chunk: Option<u32>) -> Schedule
 
 /// What LOOP opens for a loop that compares so.
 pub(crate) fn form_with(repeated: &ResolvedLoop, comparison: Comparison) -> LoopForm
-    ensures { result ≡ form_with (view_resolved_loop repeated.now) comparison }
+    ensures { result ≡ form_with (view.loop repeated.now) comparison }
 {
     let ResolvedSchedule { kind, chunk } = repeated.schedule;
     LoopForm {

@@ -4,7 +4,8 @@ ghost use Rattle.std.specs.Prelude.{◌≡◌, ◌≢◌, ◌<◌, IfErr, IfOk, 
 ghost use Rattle.om_lower.specs.Words.{AreWithin, HasSmallWeight, IsCodeOf, IsEachOnce, IsInput, IsLowered};
 ghost use Rattle.om_lower.specs.Words.{IsOverAt, IsRefusal, IsTooMany, IsWholeTree, KeepsMeaning, ListsStand};
 ghost use Rattle.om_lower.specs.Words.{TreeAtomicsAssign, TreeCopiesBehind, no_memory, number_of, too_many};
-ghost use Rattle.om_lower.specs.Words.{tree_of, view_resolved, view_resolved_function};
+ghost use Rattle.om_lower.specs.Words.{tree_of};
+ghost use Rattle.om_resolved.specs.ResolvedView as view;
 
 use crate::functions::{Lowered, Placed, lower_functions};
 use crate::heights::first_high;
@@ -37,14 +38,14 @@ use std::alloc::Global;
 ///   own, more than 65,536 instructions, or more than 256 operands at once. Of several such functions
 ///   the first is named.
 pub fn lower(alloc: Global, resolved: &Resolved) -> Result<Program, SourceFault>
-    requires whole { IsWholeTree (view_resolved resolved.now) }
-    requires atomics { TreeAtomicsAssign (view_resolved resolved.now) }
-    requires copies { TreeCopiesBehind (view_resolved resolved.now) }
-    requires small { HasSmallWeight (view_resolved resolved.now) }
-    ensures code { IfOk result (λ program. IsCodeOf (view_resolved resolved.now) program) }
-    ensures means { IfOk result (λ program. KeepsMeaning (view_resolved resolved.now) program) }
-    ensures within { OnOk result (AreWithin (view_resolved resolved.now)) }
-    ensures refused { let tree = view_resolved resolved.now in
+    requires whole { IsWholeTree (view.resolved resolved.now) }
+    requires atomics { TreeAtomicsAssign (view.resolved resolved.now) }
+    requires copies { TreeCopiesBehind (view.resolved resolved.now) }
+    requires small { HasSmallWeight (view.resolved resolved.now) }
+    ensures code { IfOk result (λ program. IsCodeOf (view.resolved resolved.now) program) }
+    ensures means { IfOk result (λ program. KeepsMeaning (view.resolved resolved.now) program) }
+    ensures within { OnOk result (AreWithin (view.resolved resolved.now)) }
+    ensures refused { let tree = view.resolved resolved.now in
         IfErr result (λ fault. fault ≢ no_memory → IsTooMany tree fault) }
 {
     whole_has_code();
@@ -126,7 +127,7 @@ fn over_at(input: &Input<'_>, placed: &Placed) -> Made<Option<usize>>
 
 // S11 at the function's name.
 fn too_many(function: &ResolvedFunction) -> SourceFault
-    ensures { result ≡ too_many (view_resolved_function function.now) }
+    ensures { result ≡ too_many (view.function function.now) }
 {
     SourceFault {
         code: FaultCode::TooMany,

@@ -5,7 +5,7 @@ ghost use Rattle.std.specs.Prelude.{option_map, position, slice_get};
 ghost use Rattle.std.specs.List.{AllZip, flat_map};
 ghost use Rattle.om_lower.specs.Words.{AreLow, IsCodeOf, IsInput, IsLowered, IsTextOf, called_body, global_of};
 ghost use Rattle.om_lower.specs.Words.{is_main_function, no_memory, pieces_of, tree_of};
-ghost use Rattle.om_lower.specs.Words.{view_resolved, view_resolved_function};
+ghost use Rattle.om_resolved.specs.ResolvedView as view;
 
 use crate::functions::{Placed, is_main};
 use crate::input::Input;
@@ -166,8 +166,8 @@ fn main_body(input: &Input<'_>) -> u32
 #[tactic(auto, using(crate::proofs::Searches::position_none, crate::proofs::Searches::position_map))]
 fn main_of(resolved: &Resolved) -> usize
     requires { Any (λ function. is_main_function function ≡ true)
-        (view_resolved resolved.now).functions }
-    ensures { position is_main_function (view_resolved resolved.now).functions ≡ Some result }
+        (view.resolved resolved.now).functions }
+    ensures { position is_main_function (view.resolved resolved.now).functions ≡ Some result }
 {
     match index_of_main(resolved.functions.as_slice()) {
         Some(index) => index,
@@ -178,7 +178,7 @@ fn main_of(resolved: &Resolved) -> usize
 // The index of the first function named `main`.
 fn index_of_main(functions: &[ResolvedFunction]) -> Option<usize>
     ensures { result
-        ≡ position (λ function. is_main_function (view_resolved_function function)) functions.now }
+        ≡ position (λ function. is_main_function (view.function function)) functions.now }
 {
     functions.iter().position(is_main)
 }

@@ -4,7 +4,8 @@ ghost use Rattle.std.specs.Prelude.{◌≡◌, ◌≤◌, IfOk, IfSome, OnOk, is
 ghost use Rattle.om_lower.specs.Regions.{EmitsRegion, IsKnownThere, clauses_of, given_to, parallel_of, slots_of};
 ghost use Rattle.om_lower.specs.Regions.{task_of};
 ghost use Rattle.om_lower.specs.Words.{Appends, EmitsRow, GivesBehind, ValueHasCode, each, first_copies_of};
-ghost use Rattle.om_lower.specs.Words.{numbered_by, perhaps, view_resolved_clause};
+ghost use Rattle.om_lower.specs.Words.{numbered_by, perhaps};
+ghost use Rattle.om_resolved.specs.ResolvedView as view;
 ghost use Rattle.om_rows.specs.Expressions as expressions;
 ghost use Rattle.om_rows.specs.Statements as rows;
 
@@ -98,11 +99,11 @@ fn load_given(
 // Writes the size that a `parallel` asks for, if one of its clauses does (OpenMP API 5.2, section
 // 10.1.2), and says whether one does.
 fn team_size(draft: &mut Draft, here: &Here<'_>, clauses: &[ResolvedClause]) -> Made<bool>
-    requires { IfSome (rows.clause_value (map view_resolved_clause clauses.now)) ValueHasCode }
+    requires { IfSome (rows.clause_value (map view.clause clauses.now)) ValueHasCode }
     ensures sized { IfOk result
-        (λ sized. sized ≡ is_some (rows.clause_value (map view_resolved_clause clauses.now))) }
+        (λ sized. sized ≡ is_some (rows.clause_value (map view.clause clauses.now))) }
     ensures emitted { Appends result here.now (λ at l. perhaps (expressions.value at l))
-        (rows.clause_value (map view_resolved_clause clauses.now)) draft.old draft.new }
+        (rows.clause_value (map view.clause clauses.now)) draft.old draft.new }
 {
     match clause_value(clauses) {
         None => Ok(false),

@@ -4,8 +4,9 @@ ghost use Rattle.std.specs.Prelude.{◌≡◌, ◌<◌, IfOk, IfSome, None, OnOk
 ghost use Rattle.om_lower.specs.Words.{AppendsEnd, AppendsHead, AppendsScopes, Begins, BeginsTurn};
 ghost use Rattle.om_lower.specs.Words.{EffectHasCode, Ends, FreshTurn, Numbered, Opens, StartHasCode};
 ghost use Rattle.om_lower.specs.Words.{ValueHasCode, do_begin, do_end, else_begin, for_begin, for_end};
-ghost use Rattle.om_lower.specs.Words.{for_head, loop_end, names_at, test_at, view_resolved_expression};
-ghost use Rattle.om_lower.specs.Words.{view_resolved_start, while_begin};
+ghost use Rattle.om_lower.specs.Words.{for_head, loop_end, names_at, test_at};
+ghost use Rattle.om_resolved.specs.ResolvedView as view;
+ghost use Rattle.om_lower.specs.Words.{while_begin};
 
 use om_emit::draft::{Draft, Jump};
 use om_emit::{Done, Here};
@@ -20,8 +21,8 @@ pub(crate) fn begin_while(
     here: &Here<'_>,
     condition: &ResolvedExpression,
 ) -> Made<LoopLabels>
-    requires { ValueHasCode (view_resolved_expression condition.now) }
-    ensures { AppendsHead result here.now while_begin (view_resolved_expression condition.now)
+    requires { ValueHasCode (view.expression condition.now) }
+    ensures { AppendsHead result here.now while_begin (view.expression condition.now)
         draft.old draft.new }
 {
     let again = draft.fresh()?;
@@ -68,12 +69,12 @@ pub(crate) fn end_do(
     labels: TurnLabels,
     condition: &ResolvedExpression,
 ) -> Done
-    requires condition { ValueHasCode (view_resolved_expression condition.now) }
+    requires condition { ValueHasCode (view.expression condition.now) }
     requires next { slice_get draft.old.places labels.next ≡ Some None }
     requires over { slice_get draft.old.places labels.over ≡ Some None }
     requires apart { labels.next < labels.over }
     ensures { AppendsEnd result here.now labels.next (λ names l. do_end names l labels)
-        (view_resolved_expression condition.now) draft.old draft.new }
+        (view.expression condition.now) draft.old draft.new }
 {
     let TurnLabels { again, next, over } = labels;
     draft.define(next);
@@ -89,15 +90,15 @@ pub(crate) fn begin_for(
     begin: &ResolvedStart,
     condition: &Option<ResolvedExpression>,
 ) -> Made<TurnLabels>
-    requires start { StartHasCode (view_resolved_start begin.now) }
-    requires condition { IfSome (option_map view_resolved_expression condition.now) ValueHasCode }
+    requires start { StartHasCode (view.start begin.now) }
+    requires condition { IfSome (option_map view.expression condition.now) ValueHasCode }
     ensures code { let stretch = for_begin (names_at here.now) here.now.at.line
-        (view_resolved_start begin.now) (option_map view_resolved_expression condition.now) in
+        (view.start begin.now) (option_map view.expression condition.now) in
         IfOk result
         (λ labels. BeginsTurn labels (stretch labels) writing.old.draft writing.new.draft) }
     ensures scopes { AppendsScopes result here.now
-        (λ at l. for_head at l (view_resolved_start begin.now))
-        (option_map view_resolved_expression condition.now) writing.old writing.new }
+        (λ at l. for_head at l (view.start begin.now))
+        (option_map view.expression condition.now) writing.old writing.new }
 {
     let labels = turn_labels(&mut writing.draft)?;
     start(writing, here, begin)?;
@@ -113,12 +114,12 @@ pub(crate) fn end_for(
     labels: TurnLabels,
     step: &Option<ResolvedExpression>,
 ) -> Done
-    requires step { IfSome (option_map view_resolved_expression step.now) EffectHasCode }
+    requires step { IfSome (option_map view.expression step.now) EffectHasCode }
     requires next { slice_get draft.old.places labels.next ≡ Some None }
     requires over { slice_get draft.old.places labels.over ≡ Some None }
     requires apart { labels.next < labels.over }
     ensures { AppendsEnd result here.now labels.next (λ names l. for_end names l labels)
-        (option_map view_resolved_expression step.now) draft.old draft.new }
+        (option_map view.expression step.now) draft.old draft.new }
 {
     let TurnLabels { again, next, over } = labels;
     draft.define(next);
@@ -133,8 +134,8 @@ pub(crate) fn begin_if(
     here: &Here<'_>,
     condition: &ResolvedExpression,
 ) -> Made<usize>
-    requires { ValueHasCode (view_resolved_expression condition.now) }
-    ensures { let tree = view_resolved_expression condition.now in
+    requires { ValueHasCode (view.expression condition.now) }
+    ensures { let tree = view.expression condition.now in
         IfOk result (λ label. Begins label (test_at (names_at here.now) here.now.at.line label tree)
         draft.old draft.new) }
 {

@@ -5,7 +5,8 @@ ghost use Rattle.om_lower.specs.Words.{AreFree, EmitsAllThere, EmitsParts, Emits
 ghost use Rattle.om_lower.specs.Words.{GivesBehind, HasCodeThere, HasEndsThere, HasPartsEnds, HaveCodeThere};
 ghost use Rattle.om_lower.specs.Words.{HaveEndsThere, PartsHaveCode, ScopesThere, all_scopes, block};
 ghost use Rattle.om_lower.specs.Words.{known_in, numbered_by, numbers_of, part_scopes, scopes};
-ghost use Rattle.om_lower.specs.Words.{statement_trees, view_resolved_part, view_resolved_statement};
+ghost use Rattle.om_lower.specs.Words.{statement_trees};
+ghost use Rattle.om_resolved.specs.ResolvedView as view;
 ghost use Rattle.om_resolved.specs.ResolvedTree as trees;
 ghost use Rattle.om_rows.specs.Bodies as rows;
 
@@ -41,9 +42,9 @@ pub(crate) fn statement(
 ) -> Made<Numbers>
     requires code { HasCodeThere spot tree.now }
     requires ends { HasEndsThere tables.now spot tree.now }
-    ensures behind { GivesBehind result spot.numbers (view_resolved_statement tree.now) }
+    ensures behind { GivesBehind result spot.numbers (view.statement tree.now) }
     ensures emitted { EmitsThere result tables.now spot tree.now writing.old writing.new }
-    ensures scopes { let seen = view_resolved_statement tree.now in
+    ensures scopes { let seen = view.statement tree.now in
         ScopesThere result tables.now (λ at. scopes at seen) writing.old writing.new }
 {
     let numbers = spot.numbers;
@@ -262,9 +263,9 @@ pub(crate) fn inner(
 ) -> Made<Numbers>
     requires code { HasCodeThere spot tree.now }
     requires ends { HasEndsThere tables.now spot tree.now }
-    ensures behind { GivesBehind result spot.numbers (view_resolved_statement tree.now) }
+    ensures behind { GivesBehind result spot.numbers (view.statement tree.now) }
     ensures emitted { EmitsThere result tables.now spot tree.now writing.old writing.new }
-    ensures scopes { let seen = view_resolved_statement tree.now in
+    ensures scopes { let seen = view.statement tree.now in
         ScopesThere result tables.now (λ at. block (scopes at seen)) writing.old writing.new }
 {
     let height = writing.scopes.height();
@@ -309,18 +310,18 @@ pub(crate) fn parts(
     spot: PartsSpot,
     sections: &[ResolvedPart],
 ) -> Made<Numbers>
-    requires code { PartsHaveCode (trees.parts (map view_resolved_part sections.now)) }
+    requires code { PartsHaveCode (trees.parts (map view.part sections.now)) }
     requires ends { HasPartsEnds (known_in tables.now) (numbers_of spot.numbers)
-        (trees.parts (map view_resolved_part sections.now)) }
+        (trees.parts (map view.part sections.now)) }
     requires free { AreFree spot.first (length sections.now) writing.old.draft }
     requires fit { spot.first + length sections.now ≤ 2 ^ 64 }
-    ensures behind { let all = trees.parts (map view_resolved_part sections.now) in
+    ensures behind { let all = trees.parts (map view.part sections.now) in
         IfOk result (λ after. numbers_of after ≡ rows.behind_parts (numbers_of spot.numbers) all) }
-    ensures emitted { let all = trees.parts (map view_resolved_part sections.now) in
+    ensures emitted { let all = trees.parts (map view.part sections.now) in
         OnOk result
         (EmitsParts (numbered_by tables.now) (numbers_of spot.numbers) all spot writing.old.draft
         writing.new.draft) }
-    ensures scopes { let all = trees.parts (map view_resolved_part sections.now) in
+    ensures scopes { let all = trees.parts (map view.part sections.now) in
         ScopesThere result tables.now (λ at. part_scopes at all) writing.old writing.new }
 {
     let mut numbers = spot.numbers;

@@ -2,8 +2,9 @@
 
 ghost use Rattle.std.specs.Prelude.{◌<◌, ◌≤◌, IfOk, length, map};
 ghost use Rattle.om_lower.specs.Words.{Appends, AppendsHead, AppendsScopes, LoopHasCode, OpensParts, closes};
-ghost use Rattle.om_lower.specs.Words.{loop_head, names_at, part_head, sections_head, view_resolved_clause};
-ghost use Rattle.om_lower.specs.Words.{view_resolved_loop, worksharing_begin};
+ghost use Rattle.om_lower.specs.Words.{loop_head, names_at, part_head, sections_head};
+ghost use Rattle.om_resolved.specs.ResolvedView as view;
+ghost use Rattle.om_lower.specs.Words.{worksharing_begin};
 
 use crate::loop_form::{comparison_of, form_with};
 use om_code::Instr;
@@ -47,13 +48,13 @@ pub(crate) fn begin_worksharing(
     clauses: &[ResolvedClause],
     repeated: &ResolvedLoop,
 ) -> Made<LoopLabels>
-    requires { LoopHasCode (view_resolved_loop repeated.now) }
+    requires { LoopHasCode (view.loop repeated.now) }
     ensures code { AppendsHead result here.now
-        (λ names l. worksharing_begin names l (map view_resolved_clause clauses.now))
-        (view_resolved_loop repeated.now) writing.old.draft writing.new.draft }
+        (λ names l. worksharing_begin names l (map view.clause clauses.now))
+        (view.loop repeated.now) writing.old.draft writing.new.draft }
     ensures scopes { AppendsScopes result here.now
-        (λ at l. loop_head at l (map view_resolved_clause clauses.now))
-        (view_resolved_loop repeated.now) writing.old writing.new }
+        (λ at l. loop_head at l (map view.clause clauses.now))
+        (view.loop repeated.now) writing.old writing.new }
 {
     let Some(comparison) = comparison_of(repeated.comparison) else {
         unreachable!();
@@ -90,7 +91,7 @@ pub(crate) fn end_worksharing(
     nowait: bool,
 ) -> Done
     ensures { Appends result here.now (λ at l clauses. closes at l clauses nowait)
-        (map view_resolved_clause clauses.now) draft.old draft.new }
+        (map view.clause clauses.now) draft.old draft.new }
 {
     reductions(draft, here, clauses)?;
     worksharing_end(draft, here.at.line, nowait)?;
@@ -109,11 +110,11 @@ pub(crate) fn begin_parts(
     requires few { length parts.now ≤ 256 }
     requires numbered { head.now.numbers.picks < 4294967295 }
     ensures code { let begin = part_head here.now.at.line head.now.numbers
-        (map view_resolved_clause head.now.clauses.now) (length parts.now) in
+        (map view.clause head.now.clauses.now) (length parts.now) in
         IfOk result (λ spot. OpensParts (names_at here.now) begin spot writing.old.draft
         writing.new.draft) }
     ensures scopes { AppendsScopes result here.now sections_head
-        (map view_resolved_clause head.now.clauses.now) writing.old writing.new }
+        (map view.clause head.now.clauses.now) writing.old writing.new }
 {
     let line = here.at.line;
     let number = head.numbers.picks;

@@ -38,75 +38,75 @@ expression_layer (ResolvedExpression-F.Postfix v o) = trees.Postfix v o
 expression_layer (ResolvedExpression-F.PostfixElement v index o) = trees.PostfixElement v index.value o
 
 -- an expression without boxes and capacities
-abbrev pub view_resolved_expression : ResolvedExpression → ResolvedExpressionTree
-view_resolved_expression = fold-ResolvedExpression ResolvedExpressionTree expression_layer
+abbrev pub expression : ResolvedExpression → ResolvedExpressionTree
+expression = fold-ResolvedExpression ResolvedExpressionTree expression_layer
 
-abbrev pub view_resolved_declarator : ResolvedDeclarator → ResolvedDeclaratorTree
-view_resolved_declarator d = record {
+abbrev pub declarator : ResolvedDeclarator → ResolvedDeclaratorTree
+declarator d = record {
   variable = d.variable;
   length = d.length;
   initial = option_map
-      view_resolved_expression d.initial;
+      expression d.initial;
 }
 
-abbrev pub view_resolved_clause : ResolvedClause → ResolvedClauseTree
-view_resolved_clause (clauses.Value kind e) = trees.ClauseValue kind (view_resolved_expression e)
-view_resolved_clause (clauses.Shared v) = trees.Shared v
-view_resolved_clause (clauses.Copied kind original copy) = trees.Copied kind original copy
+abbrev pub clause : ResolvedClause → ResolvedClauseTree
+clause (clauses.Value kind e) = trees.ClauseValue kind (expression e)
+clause (clauses.Shared v) = trees.Shared v
+clause (clauses.Copied kind original copy) = trees.Copied kind original copy
 
-abbrev pub view_resolved_loop : ResolvedLoop → ResolvedLoopTree
-view_resolved_loop l = record {
+abbrev pub loop : ResolvedLoop → ResolvedLoopTree
+loop l = record {
   at = l.at;
   variable = l.variable;
-  from = view_resolved_expression l.from;
+  from = expression l.from;
   comparison = l.comparison;
-  to = view_resolved_expression l.to;
+  to = expression l.to;
   step = l.step;
   schedule = l.schedule;
 }
 
-abbrev pub view_resolved_update : ResolvedUpdate → ResolvedUpdateTree
-view_resolved_update u = record {
+abbrev pub update : ResolvedUpdate → ResolvedUpdateTree
+update u = record {
   at = u.at;
   variable = u.variable;
-  index = option_map view_resolved_expression u.index;
+  index = option_map expression u.index;
   operator = u.operator;
   side = u.side;
-  operand = view_resolved_expression u.operand;
+  operand = expression u.operand;
 }
 
-abbrev pub view_resolved_start : ResolvedStart → ResolvedStartTree
-view_resolved_start starts.Nothing = trees.StartNothing
-view_resolved_start (starts.Expression e) = trees.StartExpression (view_resolved_expression e)
-view_resolved_start (starts.Declaration ds) = trees.StartDeclaration (map view_resolved_declarator ds.items)
+abbrev pub start : ResolvedStart → ResolvedStartTree
+start starts.Nothing = trees.StartNothing
+start (starts.Expression e) = trees.StartExpression (expression e)
+start (starts.Declaration ds) = trees.StartDeclaration (map declarator ds.items)
 
 -- one layer of a statement, whose parts are trees already
 abbrev pub statement_layer : ResolvedStatement-F ResolvedStatementTree ResolvedStatementsTree → ResolvedStatementTree
-statement_layer (ResolvedStatement-F.Declaration at ds) = trees.Declaration at (map view_resolved_declarator ds.items)
+statement_layer (ResolvedStatement-F.Declaration at ds) = trees.Declaration at (map declarator ds.items)
 statement_layer (ResolvedStatement-F.Block at items) = trees.Block at (trees.statements items.items)
 statement_layer (ResolvedStatement-F.Empty at) = trees.Empty at
-statement_layer (ResolvedStatement-F.Expression at e) = trees.Expression at (view_resolved_expression e)
-statement_layer (ResolvedStatement-F.If at c s) = trees.If at (view_resolved_expression c) s.value
-statement_layer (ResolvedStatement-F.IfElse at c s t) = trees.IfElse at (view_resolved_expression c) s.value t.value
-statement_layer (ResolvedStatement-F.While at c s) = trees.While at (view_resolved_expression c) s.value
-statement_layer (ResolvedStatement-F.Do at s c) = trees.Do at s.value (view_resolved_expression c)
+statement_layer (ResolvedStatement-F.Expression at e) = trees.Expression at (expression e)
+statement_layer (ResolvedStatement-F.If at c s) = trees.If at (expression c) s.value
+statement_layer (ResolvedStatement-F.IfElse at c s t) = trees.IfElse at (expression c) s.value t.value
+statement_layer (ResolvedStatement-F.While at c s) = trees.While at (expression c) s.value
+statement_layer (ResolvedStatement-F.Do at s c) = trees.Do at s.value (expression c)
 statement_layer (ResolvedStatement-F.For at head s) =
-    trees.For at (view_resolved_start head.value.start) (option_map view_resolved_expression head.value.condition)
-    (option_map view_resolved_expression head.value.step) s.value
-statement_layer (ResolvedStatement-F.Return at value) = trees.Return at (option_map view_resolved_expression value)
+    trees.For at (start head.value.start) (option_map expression head.value.condition)
+    (option_map expression head.value.step) s.value
+statement_layer (ResolvedStatement-F.Return at value) = trees.Return at (option_map expression value)
 statement_layer (ResolvedStatement-F.Break at) = trees.Break at
 statement_layer (ResolvedStatement-F.Continue at) = trees.Continue at
 statement_layer (ResolvedStatement-F.Parallel at clauses captures s) = trees.Parallel at
-    (map view_resolved_clause clauses.items) captures s.value
+    (map clause clauses.items) captures s.value
 statement_layer (ResolvedStatement-F.Task at clauses captures s) = trees.Task at
-    (map view_resolved_clause clauses.items) captures s.value
+    (map clause clauses.items) captures s.value
 statement_layer (ResolvedStatement-F.Loop at clauses nowait l s) = trees.Loop at
-    (map view_resolved_clause clauses.items) nowait (view_resolved_loop l.value) s.value
+    (map clause clauses.items) nowait (loop l.value) s.value
 statement_layer (ResolvedStatement-F.Sections at clauses nowait parts) = trees.Sections at
-    (map view_resolved_clause clauses.items) nowait (trees.parts parts.items)
+    (map clause clauses.items) nowait (trees.parts parts.items)
 statement_layer (ResolvedStatement-F.Construct at kind clauses s) = trees.Construct at kind
-    (map view_resolved_clause clauses.items) s.value
-statement_layer (ResolvedStatement-F.Update at u) = trees.Update at (view_resolved_update u.value)
+    (map clause clauses.items) s.value
+statement_layer (ResolvedStatement-F.Update at u) = trees.Update at (update u.value)
 statement_layer (ResolvedStatement-F.StandAlone at directive) = trees.StandAlone at directive
 
 -- the same of a part of `sections`
@@ -114,23 +114,23 @@ abbrev pub part_layer : ResolvedPart-F ResolvedStatementTree ResolvedStatementsT
 part_layer part = trees.statements part.items.items
 
 -- a statement without boxes and capacities
-abbrev pub view_resolved_statement : ResolvedStatement → ResolvedStatementTree
-view_resolved_statement = fold-ResolvedStatement ResolvedStatementTree ResolvedStatementsTree statement_layer part_layer
+abbrev pub statement : ResolvedStatement → ResolvedStatementTree
+statement = fold-ResolvedStatement ResolvedStatementTree ResolvedStatementsTree statement_layer part_layer
 
 -- the statements of a part of `sections`
-abbrev pub view_resolved_part : ResolvedPart → ResolvedStatementsTree
-view_resolved_part = fold-ResolvedPart ResolvedStatementTree ResolvedStatementsTree statement_layer part_layer
+abbrev pub part : ResolvedPart → ResolvedStatementsTree
+part = fold-ResolvedPart ResolvedStatementTree ResolvedStatementsTree statement_layer part_layer
 
-abbrev pub view_resolved_function : ResolvedFunction → ResolvedFunctionTree
-view_resolved_function f = record {
+abbrev pub function : ResolvedFunction → ResolvedFunctionTree
+function f = record {
   name = f.name;
   name_at = f.name_at;
   first = f.first;
   returns = f.returns;
   parameters = f.parameters;
-  body = trees.statements (map view_resolved_statement f.body.items);
+  body = trees.statements (map statement f.body.items);
   closing_line = f.closing_line;
 }
 
-abbrev pub view_resolved : wholes.Resolved → ResolvedTree
-view_resolved r = record { globals = r.globals; functions = map view_resolved_function r.functions.items }
+abbrev pub resolved : wholes.Resolved → ResolvedTree
+resolved r = record { globals = r.globals; functions = map function r.functions.items }

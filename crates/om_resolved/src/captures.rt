@@ -3,7 +3,7 @@
 ghost use Rattle.std.specs.Prelude.{◌≡◌, OnOk, IfOk, fold, map};
 ghost use Rattle.std.specs.List.{flat_map};
 ghost use Rattle.om_resolved.specs.Captures.{captured, captures_of, combined_uses, is_before, listed_uses, listed_variables, taken_by_parallel, taken_by_task, taken_variables, with_use};
-ghost use Rattle.om_resolved.specs.ResolvedView.{view_resolved_clause, view_resolved_statement};
+ghost use Rattle.om_resolved.specs.ResolvedView as view;
 
 use crate::found::Found;
 use crate::made::Made;
@@ -14,7 +14,7 @@ use std::alloc::Global;
 
 // The variables from outside that the clauses of a region list that begins there.
 fn listed_variables(alloc: Global, start: u32, clauses: &[ResolvedClause]) -> Made<Found>
-    ensures { let listed = listed_variables start (map view_resolved_clause clauses.now) in
+    ensures { let listed = listed_variables start (map view.clause clauses.now) in
         IfOk result (λ found. found ≡ record { start = start; variables = listed }) }
 {
     let mut found = Found::new(alloc, start);
@@ -29,8 +29,8 @@ fn taken_variables(
     clauses: &[ResolvedClause],
     body: &ResolvedStatement,
 ) -> Made<Found>
-    ensures { let trees = map view_resolved_clause clauses.now in
-        let taken = taken_variables start trees (view_resolved_statement body.now) in
+    ensures { let trees = map view.clause clauses.now in
+        let taken = taken_variables start trees (view.statement body.now) in
         IfOk result (λ found. found ≡ record { start = start; variables = taken }) }
 {
     let mut found = listed_variables(alloc, start, clauses)?;
@@ -61,7 +61,7 @@ pub fn captures_of_parallel(
 ) -> Made<Seq<Capture>>
     ensures { IfOk result
         (λ captures. captures ≡ captures_of taken_by_parallel start
-        (map view_resolved_clause clauses.now) (view_resolved_statement body.now)) }
+        (map view.clause clauses.now) (view.statement body.now)) }
 {
     let found = taken_variables(alloc, start, clauses, body)?;
     captured_by_parallel(alloc, found.variables())
@@ -125,11 +125,11 @@ pub fn captures_of_task(
     clauses: &[ResolvedClause],
     body: &ResolvedStatement,
 ) -> Made<Seq<Capture>>
-    ensures { let trees = map view_resolved_clause clauses.now in
+    ensures { let trees = map view.clause clauses.now in
         let listed = listed_variables start trees in
         let taking = taken_by_task sharing.has_default sharing.parallel listed in
         IfOk result
-        (λ captures. captures ≡ captures_of taking start trees (view_resolved_statement body.now)) }
+        (λ captures. captures ≡ captures_of taking start trees (view.statement body.now)) }
 {
     let listed = listed_variables(alloc, start, clauses)?;
     let found = taken_variables(alloc, start, clauses, body)?;

@@ -4,7 +4,7 @@ ghost use Rattle.std.specs.Prelude.{◌≡◌, ◌++◌, ℕ, OnOk, fold, map, o
 ghost use Rattle.std.specs.List.{flat_map};
 ghost use Rattle.om_resolved.specs.Captures.{captured_variable, clause_uses, combined_uses, copy_uses, declarator_uses, expression_uses, listed_uses, own_uses, perhaps_uses, stand_alone_uses, start_uses, parts_uses, statement_uses, statements_uses, update_uses, values_uses, variable_uses};
 ghost use Rattle.om_resolved.specs.ResolvedTree as trees;
-ghost use Rattle.om_resolved.specs.ResolvedView.{view_resolved_clause, view_resolved_declarator, view_resolved_expression, view_resolved_part, view_resolved_start, view_resolved_statement, view_resolved_update};
+ghost use Rattle.om_resolved.specs.ResolvedView as view;
 
 use crate::made::Made;
 use crate::resolved::{
@@ -38,7 +38,7 @@ pub fn take<S: Sighting>(seen: &mut S, variable: Variable) -> Made<()>
 pub fn take_expression<S: Sighting>(seen: &mut S, expression: &ResolvedExpression) -> Made<()>
     ensures { OnOk result
         (seen.new ≡ fold S.next seen.old
-        (expression_uses (view_resolved_expression expression.now))) }
+        (expression_uses (view.expression expression.now))) }
 {
     match expression {
         ResolvedExpression::Constant(_)
@@ -96,7 +96,7 @@ pub fn take_expression<S: Sighting>(seen: &mut S, expression: &ResolvedExpressio
 fn take_values<S: Sighting>(seen: &mut S, values: &[ResolvedExpression]) -> Made<()>
     ensures { OnOk result
         (seen.new ≡ fold S.next seen.old
-        (values_uses (trees.values (map view_resolved_expression values.now)))) }
+        (values_uses (trees.values (map view.expression values.now)))) }
 {
     for value in values {
         take_expression(seen, value)?;
@@ -108,7 +108,7 @@ fn take_values<S: Sighting>(seen: &mut S, values: &[ResolvedExpression]) -> Made
 pub fn take_perhaps<S: Sighting>(seen: &mut S, expression: &Option<ResolvedExpression>) -> Made<()>
     ensures { OnOk result
         (seen.new ≡ fold S.next seen.old
-        (perhaps_uses (option_map view_resolved_expression expression.now))) }
+        (perhaps_uses (option_map view.expression expression.now))) }
 {
     let Some(expression) = expression else {
         return Ok(());
@@ -120,7 +120,7 @@ pub fn take_perhaps<S: Sighting>(seen: &mut S, expression: &Option<ResolvedExpre
 fn take_declarators<S: Sighting>(seen: &mut S, declarators: &[ResolvedDeclarator]) -> Made<()>
     ensures { OnOk result
         (seen.new ≡ fold S.next seen.old
-        (flat_map declarator_uses (map view_resolved_declarator declarators.now))) }
+        (flat_map declarator_uses (map view.declarator declarators.now))) }
 {
     for declarator in declarators {
         take_perhaps(seen, &declarator.initial)?;
@@ -131,7 +131,7 @@ fn take_declarators<S: Sighting>(seen: &mut S, declarators: &[ResolvedDeclarator
 // Notes what the beginning of a `for` uses.
 fn take_start<S: Sighting>(seen: &mut S, begin: &ResolvedStart) -> Made<()>
     ensures { OnOk result
-        (seen.new ≡ fold S.next seen.old (start_uses (view_resolved_start begin.now))) }
+        (seen.new ≡ fold S.next seen.old (start_uses (view.start begin.now))) }
 {
     match begin {
         ResolvedStart::Nothing => Ok(()),
@@ -156,7 +156,7 @@ pub fn take_original<S: Sighting>(seen: &mut S, kind: CopyKind, original: Variab
 fn take_clause<S: Sighting>(seen: &mut S, clause: &ResolvedClause) -> Made<()>
     ensures { OnOk result
         (seen.new ≡ fold S.next seen.old
-        (clause_uses (view_resolved_clause clause.now))) }
+        (clause_uses (view.clause clause.now))) }
 {
     match clause {
         ResolvedClause::Value { value, .. } => take_expression(seen, value),
@@ -169,7 +169,7 @@ fn take_clause<S: Sighting>(seen: &mut S, clause: &ResolvedClause) -> Made<()>
 fn take_clauses<S: Sighting>(seen: &mut S, clauses: &[ResolvedClause]) -> Made<()>
     ensures { OnOk result
         (seen.new ≡ fold S.next seen.old
-        (flat_map clause_uses (map view_resolved_clause clauses.now))) }
+        (flat_map clause_uses (map view.clause clauses.now))) }
 {
     for clause in clauses {
         take_clause(seen, clause)?;
@@ -215,7 +215,7 @@ pub fn take_region<S: Sighting>(
 ) -> Made<()>
     ensures { OnOk result
         (seen.new ≡ fold S.next seen.old
-        (flat_map clause_uses (map view_resolved_clause clauses.now)
+        (flat_map clause_uses (map view.clause clauses.now)
         ++ map captured_variable captures.now)) }
 {
     take_clauses(seen, clauses)?;
@@ -226,9 +226,9 @@ pub fn take_region<S: Sighting>(
 fn take_head<S: Sighting>(seen: &mut S, head: &ResolvedHead) -> Made<()>
     ensures { OnOk result
         (seen.new ≡ fold S.next seen.old
-        (start_uses (view_resolved_start head.now.start)
-        ++ (perhaps_uses (option_map view_resolved_expression head.now.condition)
-        ++ perhaps_uses (option_map view_resolved_expression head.now.step)))) }
+        (start_uses (view.start head.now.start)
+        ++ (perhaps_uses (option_map view.expression head.now.condition)
+        ++ perhaps_uses (option_map view.expression head.now.step)))) }
 {
     take_start(seen, &head.start)?;
     take_perhaps(seen, &head.condition)?;
@@ -243,9 +243,9 @@ fn take_bounds<S: Sighting>(
 ) -> Made<()>
     ensures { OnOk result
         (seen.new ≡ fold S.next seen.old
-        (flat_map clause_uses (map view_resolved_clause clauses.now)
-        ++ (expression_uses (view_resolved_expression repeated.now.from)
-        ++ expression_uses (view_resolved_expression repeated.now.to)))) }
+        (flat_map clause_uses (map view.clause clauses.now)
+        ++ (expression_uses (view.expression repeated.now.from)
+        ++ expression_uses (view.expression repeated.now.to)))) }
 {
     take_clauses(seen, clauses)?;
     take_expression(seen, &repeated.from)?;
@@ -256,7 +256,7 @@ fn take_bounds<S: Sighting>(
 pub fn take_update<S: Sighting>(seen: &mut S, update: &ResolvedUpdate) -> Made<()>
     ensures { OnOk result
         (seen.new ≡ fold S.next seen.old
-        (update_uses (view_resolved_update update.now))) }
+        (update_uses (view.update update.now))) }
 {
     take(seen, update.variable)?;
     take_perhaps(seen, &update.index)?;
@@ -268,7 +268,7 @@ pub fn take_update<S: Sighting>(seen: &mut S, update: &ResolvedUpdate) -> Made<(
 fn take_own<S: Sighting>(seen: &mut S, statement: &ResolvedStatement) -> Made<()>
     ensures { OnOk result
         (seen.new ≡ fold S.next seen.old
-        (own_uses (view_resolved_statement statement.now))) }
+        (own_uses (view.statement statement.now))) }
 {
     match statement {
         ResolvedStatement::Declaration { declarators, .. } => {
@@ -321,7 +321,7 @@ fn take_own<S: Sighting>(seen: &mut S, statement: &ResolvedStatement) -> Made<()
 pub(crate) fn take_statement<S: Sighting>(seen: &mut S, statement: &ResolvedStatement) -> Made<()>
     ensures { OnOk result
         (seen.new ≡ fold S.next seen.old
-        (statement_uses (view_resolved_statement statement.now))) }
+        (statement_uses (view.statement statement.now))) }
 {
     take_own(seen, statement)?;
     match statement {
@@ -362,7 +362,7 @@ pub(crate) fn take_statement<S: Sighting>(seen: &mut S, statement: &ResolvedStat
 fn take_statements<S: Sighting>(seen: &mut S, items: &[ResolvedStatement]) -> Made<()>
     ensures { OnOk result
         (seen.new ≡ fold S.next seen.old
-        (statements_uses (trees.statements (map view_resolved_statement items.now)))) }
+        (statements_uses (trees.statements (map view.statement items.now)))) }
 {
     for item in items {
         take_statement(seen, item)?;
@@ -375,7 +375,7 @@ fn take_statements<S: Sighting>(seen: &mut S, items: &[ResolvedStatement]) -> Ma
 fn take_parts<S: Sighting>(seen: &mut S, parts: &[ResolvedPart]) -> Made<()>
     ensures { OnOk result
         (seen.new ≡ fold S.next seen.old
-        (parts_uses (trees.parts (map view_resolved_part parts.now)))) }
+        (parts_uses (trees.parts (map view.part parts.now)))) }
 {
     for part in parts {
         take_statements(seen, part.items.as_slice())?;
@@ -397,7 +397,7 @@ pub fn take_combined<S: Sighting>(seen: &mut S, kind: CopyKind, original: Variab
 fn take_listed<S: Sighting>(seen: &mut S, clause: &ResolvedClause) -> Made<()>
     ensures { OnOk result
         (seen.new ≡ fold S.next seen.old
-        (listed_uses (view_resolved_clause clause.now))) }
+        (listed_uses (view.clause clause.now))) }
 {
     match clause {
         ResolvedClause::Value { .. } => Ok(()),
@@ -410,7 +410,7 @@ fn take_listed<S: Sighting>(seen: &mut S, clause: &ResolvedClause) -> Made<()>
 pub(crate) fn take_all_listed<S: Sighting>(seen: &mut S, clauses: &[ResolvedClause]) -> Made<()>
     ensures { OnOk result
         (seen.new ≡ fold S.next seen.old
-        (flat_map listed_uses (map view_resolved_clause clauses.now))) }
+        (flat_map listed_uses (map view.clause clauses.now))) }
 {
     for clause in clauses {
         take_listed(seen, clause)?;

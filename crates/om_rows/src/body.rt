@@ -1,7 +1,7 @@
 //! What the instructions of a body name by numbers.
 
 ghost use Rattle.std.specs.Prelude.{◌≡◌, ◌≤◌, length, map, slice_get};
-ghost use Rattle.om_resolved.specs.ResolvedView.{view_resolved_function};
+ghost use Rattle.om_resolved.specs.ResolvedView as view;
 ghost use Rattle.om_rows.specs.Bodies as rows;
 ghost use Rattle.om_rows.specs.Numbering.{function_numbers};
 
@@ -26,14 +26,13 @@ pub struct BodyTables<'a> {
     /// Whether the body stands in `main`.
     pub is_main: bool,
     ghost few: { length variables.now ≤ 256 },
-    ghost numbered: { program.now.bodies.items ≡ function_numbers rows.first_numbers (map view_resolved_function functions.now) },
-    ghost behind: { program.now.behind.bodies ≡ (rows.behind_functions rows.first_numbers (map view_resolved_function functions.now)).bodies },
+    ghost numbered: { program.now.bodies.items ≡ function_numbers rows.first_numbers (map view.function functions.now) },
+    ghost behind: { program.now.behind.bodies ≡ (rows.behind_functions rows.first_numbers (map view.function functions.now)).bodies },
 }
 
 impl<'a> BodyTables<'a> {
     ghost use Rattle.std.specs.Prelude.{◌≡◌, ◌≤◌, ◌<◌, Some, length, slice_get};
     ghost use Rattle.std.specs.Str.{bytes_eq};
-    ghost use Rattle.om_resolved.specs.ResolvedView.{view_resolved};
     ghost use Rattle.om_rows.specs.Bodies as rows;
     ghost use Rattle.om_rows.specs.Mentions.{lock_name};
     ghost use Rattle.om_rows.specs.Slots.{place_of, slot_of};
@@ -52,9 +51,9 @@ impl<'a> BodyTables<'a> {
         is_main: bool,
     ) -> BodyTables<'a>
         requires few { length variables.now ≤ 256 }
-        requires tables { IsTablesOf (view_resolved resolved.now) tables.now }
+        requires tables { IsTablesOf (view.resolved resolved.now) tables.now }
         ensures names { numbered_by result
-            ≡ numbered_in (view_resolved resolved.now) variables.now is_main }
+            ≡ numbered_in (view.resolved resolved.now) variables.now is_main }
         ensures known { known_in result ≡ known_of tables.now known.now }
     {
         BodyTables {

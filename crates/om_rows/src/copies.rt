@@ -2,7 +2,7 @@
 
 ghost use Rattle.std.specs.Prelude.{◌≡◌, ◌++◌, ◌∷◌, [], OnOk, IfOk, map};
 ghost use Rattle.std.specs.List.{flat_map};
-ghost use Rattle.om_resolved.specs.ResolvedView.{view_resolved_clause};
+ghost use Rattle.om_resolved.specs.ResolvedView as view;
 ghost use Rattle.om_rows.specs.Slots.{by_slots, capture_first, clause_first, first_copies, first_copy_at};
 ghost use Rattle.om_rows.specs.Copies.{first_copies_of};
 
@@ -35,7 +35,7 @@ pub fn given_copies(
     captures: &[Capture],
     variables: &Variables,
 ) -> Made<Vec<FirstCopy>>
-    ensures { let copies = first_copies (map view_resolved_clause clauses.now) captures.now in
+    ensures { let copies = first_copies (map view.clause clauses.now) captures.now in
         IfOk result (λ made. first_copies_of made.items ≡ by_slots variables.now copies) }
 {
     let mut copies = Vec::new(alloc);
@@ -46,7 +46,7 @@ pub fn given_copies(
 
 // Adds the copies of clauses.
 fn add_clauses(copies: &mut Vec<FirstCopy>, clauses: &[ResolvedClause]) -> Made<()>
-    ensures { let added = flat_map clause_first (map view_resolved_clause clauses.now) in
+    ensures { let added = flat_map clause_first (map view.clause clauses.now) in
         OnOk result (first_copies_of copies.new.items ≡ first_copies_of copies.old.items ++ added) }
 {
     for clause in clauses {
@@ -57,7 +57,7 @@ fn add_clauses(copies: &mut Vec<FirstCopy>, clauses: &[ResolvedClause]) -> Made<
 
 // Adds the copy of a clause, where that begins with its original's value.
 fn add_clause(copies: &mut Vec<FirstCopy>, clause: &ResolvedClause) -> Made<()>
-    ensures { let added = clause_first (view_resolved_clause clause.now) in
+    ensures { let added = clause_first (view.clause clause.now) in
         OnOk result (first_copies_of copies.new.items ≡ first_copies_of copies.old.items ++ added) }
 {
     let ResolvedClause::Copied {

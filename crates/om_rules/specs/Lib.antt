@@ -1,6 +1,7 @@
 pub mod Faults
 pub mod Outcomes
 pub mod Checks
+pub mod Resolves
 pub mod Perhaps
 pub mod InRow
 pub mod Places

@@ -1,7 +1,18 @@
 -- What is done to the target of an update, as trees.
-use Rattle.om_resolved.specs.ResolvedView.{view_resolved_expression}
+use Rattle.std.specs.Prelude.{Option, option_map}
+use Rattle.om_resolved.specs.declared.resolved.ResolvedUpdate.{ResolvedUpdate}
+use Rattle.om_resolved.specs.ResolvedTree.{ResolvedUpdateTree}
+use Rattle.om_resolved.specs.ResolvedView as view
 use Rattle.om_rules.specs.declared.update.Operation as operations
 use Rattle.om_rules.specs.Updates.{Operation}
 
 abbrev pub view_operation : operations.Operation → Operation
-view_operation o = record { operator = o.operator; side = o.side; operand = view_resolved_expression o.operand }
+view_operation o = record { operator = o.operator; side = o.side; operand = view.expression o.operand }
+
+-- the same, where something is done to it
+abbrev pub view_found : Option operations.Operation → Option Operation
+view_found found = option_map view_operation found
+
+-- the update that is made of it, if one is
+abbrev pub view_made : Option ResolvedUpdate → Option ResolvedUpdateTree
+view_made made = option_map view.update made

@@ -4,7 +4,7 @@
 ghost use Rattle.std.specs.Prelude.{◌≡◌, ◌≤◌, option_map, map};
 ghost use Rattle.om_tree.specs.View.{view_declarator, view_expression, view_for_head, view_for_start, view_further, view_initializer, view_statement};
 ghost use Rattle.om_rules.specs.Loops as loops;
-ghost use Rattle.om_rules.specs.LoopViews.{view_bound, view_loop, view_start};
+ghost use Rattle.om_rules.specs.LoopViews.{tree_of, view_bound, view_loop, view_start};
 
 use crate::direction::{Direction, Step};
 use om_lexer::Span;
@@ -47,8 +47,7 @@ pub struct Loop<'a> {
 
 // The name that an expression is.
 fn name_in(expression: &Expression) -> Option<&Name>
-    ensures { option_map (λ name. name.now) result
-        ≡ loops.name_in (view_expression expression.now) }
+    ensures { option_map (λ name. name.now) result ≡ loops.name_in (tree_of expression.now) }
 {
     let Expression::Name(name) = expression else {
         return None;
@@ -58,7 +57,7 @@ fn name_in(expression: &Expression) -> Option<&Name>
 
 // Whether an expression is this name.
 fn is_named(expression: &Expression, name: &[u8]) -> bool
-    ensures { result ≡ loops.is_named (view_expression expression.now) name.now }
+    ensures { result ≡ loops.is_named (tree_of expression.now) name.now }
 {
     let Expression::Name(found) = expression else {
         return false;
@@ -99,7 +98,7 @@ fn step_of(direction: Direction, value: u32) -> Option<Step>
 
 // The step by an expression, which is a constant of 1 or more.
 fn stride_in(direction: Direction, expression: &Expression) -> Option<Step>
-    ensures { result ≡ loops.stride_in direction (view_expression expression.now) }
+    ensures { result ≡ loops.stride_in direction (tree_of expression.now) }
 {
     let Expression::Constant(number) = expression else {
         return None;
@@ -114,7 +113,7 @@ fn set_start<'a>(
     value: &'a Expression,
 ) -> Option<LoopStart<'a>>
     ensures { option_map view_start result
-        ≡ loops.set_start operator (view_expression target.now) (view_expression value.now) }
+        ≡ loops.set_start operator (tree_of target.now) (tree_of value.now) }
 {
     let AssignOperator::Set = operator else {
         return None;
@@ -129,7 +128,7 @@ fn set_start<'a>(
 
 // What an expression begins a loop with.
 fn assigned_start(expression: &Expression) -> Option<LoopStart<'_>>
-    ensures { option_map view_start result ≡ loops.assigned_start (view_expression expression.now) }
+    ensures { option_map view_start result ≡ loops.assigned_start (tree_of expression.now) }
 {
     let Expression::Assign {
         target,
@@ -208,7 +207,7 @@ fn comparison_direction(operator: BinaryOperator) -> Option<Direction>
 
 // The bound that a comparison of a variable has.
 fn compared<'a>(operator: BinaryOperator, to: &'a Expression) -> Option<Bound<'a>>
-    ensures { option_map view_bound result ≡ loops.compared operator (view_expression to.now) }
+    ensures { option_map view_bound result ≡ loops.compared operator (tree_of to.now) }
 {
     let direction = comparison_direction(operator)?;
     Some(Bound {
@@ -220,8 +219,7 @@ fn compared<'a>(operator: BinaryOperator, to: &'a Expression) -> Option<Bound<'a
 
 // The bound that a condition gives a variable.
 fn bound_of<'a>(condition: &'a Expression, name: &[u8]) -> Option<Bound<'a>>
-    ensures { option_map view_bound result
-        ≡ loops.bound_of (view_expression condition.now) name.now }
+    ensures { option_map view_bound result ≡ loops.bound_of (tree_of condition.now) name.now }
 {
     let Expression::Binary {
         left,
@@ -263,8 +261,7 @@ fn postfix_step(operator: PostfixOperator) -> Step
 
 // The step by a sum with the variable, `i + c` or `c + i`.
 fn added_step(left: &Expression, right: &Expression, name: &[u8]) -> Option<Step>
-    ensures { result ≡ loops.added_step (view_expression left.now) (view_expression right.now)
-        name.now }
+    ensures { result ≡ loops.added_step (tree_of left.now) (tree_of right.now) name.now }
 {
     if is_named(left, name) {
         stride_in(Direction::Up, right)
@@ -277,8 +274,7 @@ fn added_step(left: &Expression, right: &Expression, name: &[u8]) -> Option<Step
 
 // The step by `i - c`.
 fn subtracted_step(left: &Expression, right: &Expression, name: &[u8]) -> Option<Step>
-    ensures { result ≡ loops.subtracted_step (view_expression left.now) (view_expression right.now)
-        name.now }
+    ensures { result ≡ loops.subtracted_step (tree_of left.now) (tree_of right.now) name.now }
 {
     if is_named(left, name) {
         stride_in(Direction::Down, right)
@@ -294,8 +290,7 @@ fn sum_step(
     right: &Expression,
     name: &[u8],
 ) -> Option<Step>
-    ensures { result ≡ loops.sum_step operator (view_expression left.now)
-        (view_expression right.now) name.now }
+    ensures { result ≡ loops.sum_step operator (tree_of left.now) (tree_of right.now) name.now }
 {
     match operator {
         BinaryOperator::Add => added_step(left, right, name),
@@ -306,7 +301,7 @@ fn sum_step(
 
 // The step to a value.
 fn value_step(value: &Expression, name: &[u8]) -> Option<Step>
-    ensures { result ≡ loops.value_step (view_expression value.now) name.now }
+    ensures { result ≡ loops.value_step (tree_of value.now) name.now }
 {
     let Expression::Binary {
         left,
@@ -322,7 +317,7 @@ fn value_step(value: &Expression, name: &[u8]) -> Option<Step>
 
 // The step by an assignment to the variable.
 fn assigned_step(operator: AssignOperator, value: &Expression, name: &[u8]) -> Option<Step>
-    ensures { result ≡ loops.assigned_step operator (view_expression value.now) name.now }
+    ensures { result ≡ loops.assigned_step operator (tree_of value.now) name.now }
 {
     match operator {
         AssignOperator::Set => value_step(value, name),
@@ -334,7 +329,7 @@ fn assigned_step(operator: AssignOperator, value: &Expression, name: &[u8]) -> O
 
 // A loop's step.
 fn step_in(step: &Expression, name: &[u8]) -> Option<Step>
-    ensures { result ≡ loops.step_in (view_expression step.now) name.now }
+    ensures { result ≡ loops.step_in (tree_of step.now) name.now }
 {
     let (variable, stepped) = match step {
         Expression::Prefix {

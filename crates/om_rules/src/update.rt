@@ -1,9 +1,9 @@
 //! The updates of `atomic`: target, operator, side and operand.
 
 ghost use Rattle.std.specs.Prelude.{◌≡◌, option_map};
-ghost use Rattle.om_resolved.specs.ResolvedView.{view_resolved_expression, view_resolved_statement, view_resolved_update};
+ghost use Rattle.om_resolved.specs.ResolvedView as view;
 ghost use Rattle.om_rules.specs.Updates.{binary_operator, expression_side, expression_update, operation, other_operand, statement_side, step_operation, step_operator, update_of, updated, value_operation, value_side};
-ghost use Rattle.om_rules.specs.UpdateViews.{view_operation};
+ghost use Rattle.om_rules.specs.UpdateViews.{view_found, view_made, view_operation};
 ghost use Rattle.om_tree.specs.View.{view_expression, view_statement};
 
 use om_lexer::Span;
@@ -89,9 +89,9 @@ fn other_operand(
     left: &mut ResolvedExpression,
     right: &mut ResolvedExpression,
 ) -> ResolvedExpression
-    ensures { view_resolved_expression result
-        ≡ other_operand side (view_resolved_expression left.old)
-        (view_resolved_expression right.old) }
+    ensures { view.expression result
+        ≡ other_operand side (view.expression left.old)
+        (view.expression right.old) }
 {
     match side {
         Side::Left => taken(right),
@@ -101,8 +101,7 @@ fn other_operand(
 
 // What an assigned value does to a target on that side.
 fn value_operation(side: Side, value: &mut ResolvedExpression) -> Option<Operation>
-    ensures { option_map view_operation result
-        ≡ value_operation side (view_resolved_expression value.old) }
+    ensures { view_found result ≡ value_operation side (view.expression value.old) }
 {
     let ResolvedExpression::Binary {
         left,
@@ -125,7 +124,7 @@ fn value_operation(side: Side, value: &mut ResolvedExpression) -> Option<Operati
 fn compound(operator: UpdateOperator, operand: ResolvedExpression) -> Operation
     ensures { view_operation result
         ≡ record
-        { operator = operator; side = Side.Left; operand = view_resolved_expression operand } }
+        { operator = operator; side = Side.Left; operand = view.expression operand } }
 {
     Operation {
         operator,
@@ -140,8 +139,7 @@ fn assignment(
     operator: AssignOperator,
     value: &mut ResolvedExpression,
 ) -> Option<Operation>
-    ensures { option_map view_operation result
-        ≡ operation side operator (view_resolved_expression value.old) }
+    ensures { view_found result ≡ operation side operator (view.expression value.old) }
 {
     let operator = match operator {
         AssignOperator::Set => return value_operation(side, value),
@@ -177,8 +175,8 @@ fn updated(
     index: Option<ResolvedExpression>,
     found: Operation,
 ) -> ResolvedUpdate
-    ensures { view_resolved_update result
-        ≡ updated at variable (option_map view_resolved_expression index) (view_operation found) }
+    ensures { view.update result
+        ≡ updated at variable (option_map view.expression index) (view_operation found) }
 {
     ResolvedUpdate {
         at,
@@ -196,8 +194,7 @@ fn expression_update(
     side: Side,
     expression: &mut ResolvedExpression,
 ) -> Option<ResolvedUpdate>
-    ensures { option_map view_resolved_update result
-        ≡ expression_update at side (view_resolved_expression expression.old) }
+    ensures { view_made result ≡ expression_update at side (view.expression expression.old) }
 {
     let (variable, index, found) = match expression {
         ResolvedExpression::Assign {
@@ -233,8 +230,7 @@ fn expression_update(
 /// The update that a statement is, whose target stands on that side of its operator (OpenMP API 5.2,
 /// section 4.3.1.3); nothing where it is another statement. It takes the operands out of the statement.
 pub fn update_of(side: Side, statement: &mut ResolvedStatement) -> Option<ResolvedUpdate>
-    ensures { option_map view_resolved_update result
-        ≡ update_of side (view_resolved_statement statement.old) }
+    ensures { view_made result ≡ update_of side (view.statement statement.old) }
 {
     let ResolvedStatement::Expression {
         at,

@@ -6,13 +6,14 @@ ghost use Rattle.om_tree.specs.View.{view_directive, view_expression};
 ghost use Rattle.om_pragma.specs.Expressions.{map_clause, map_item};
 ghost use Rattle.om_pragma.specs.Questions.{atomic_kind};
 ghost use Rattle.om_rules.specs.Checks.{Checks};
-ghost use Rattle.om_scope.specs.Arounds.{with_around};
+ghost use Rattle.om_scope.specs.Arounds.{constructed, with_around};
 ghost use Rattle.om_resolved.specs.ResolvedTree as resolved;
 ghost use Rattle.om_resolved.specs.ResolvedTree.{ResolvedClauseTree, ResolvedStatementTree};
-ghost use Rattle.om_resolved.specs.ResolvedView.{view_resolved_clause, view_resolved_loop, view_resolved_part, view_resolved_statement};
-ghost use Rattle.om_rules.specs.Outcomes.{Finds};
-ghost use Rattle.om_rules.specs.StatementResolution.{atomic_of, clause_schedule, construct_of, critical_name, has_default, has_nowait, loop_construct_of, parallel_of, schedule_in, schedule_of, sections_construct_of, task_of, with_update};
+ghost use Rattle.om_resolved.specs.ResolvedView as view;
+ghost use Rattle.om_rules.specs.Resolves.{Resolves};
+ghost use Rattle.om_rules.specs.StatementResolution.{atomic_of, clause_schedule, critical_name, has_default, has_nowait, loop_construct_of, parallel_of, schedule_in, schedule_of, sections_construct_of, task_of, with_update};
 ghost use Rattle.om_rules.specs.Updates.{update_of};
+ghost use Rattle.om_scope.specs.Resolving.{view_body, view_clauses};
 
 use om_lexer::{SourceFault, Span};
 use om_names::{is_parallel, traits_of};
@@ -62,9 +63,9 @@ fn parallel_of(
 ) -> Result<ResolvedStatement, SourceFault>
     ensures checked { Checks result [] }
     ensures made { IfOk result
-        (λ found. view_resolved_statement found
-        ≡ parallel_of (view_directive directive.now) (map view_resolved_clause clauses.items)
-        (view_resolved_statement inner)) }
+        (λ found. view.statement found
+        ≡ parallel_of (view_directive directive.now) (map view.clause clauses.items)
+        (view.statement inner)) }
 {
     let at = directive.hash;
     let body = boxed(alloc, inner)?;
@@ -110,8 +111,8 @@ fn around_task(
     clauses: &[ResolvedClause],
     body: &ResolvedStatement,
 ) -> Result<Around, AllocError>
-    ensures { let cs = map view_resolved_clause clauses.now in
-        let tree = view_resolved_statement body.now in
+    ensures { let cs = map view.clause clauses.now in
+        let tree = view.statement body.now in
         IfOk result
         (λ around. with_around around directive.now.hash cs tree
         ≡ Some (task_of parallel (view_directive directive.now) cs tree)) }
@@ -131,8 +132,8 @@ fn around_parallel(
     clauses: &[ResolvedClause],
     body: &ResolvedStatement,
 ) -> Result<Around, AllocError>
-    ensures { let cs = map view_resolved_clause clauses.now in
-        let tree = view_resolved_statement body.now in
+    ensures { let cs = map view.clause clauses.now in
+        let tree = view.statement body.now in
         IfOk result
         (λ around. with_around around directive.now.hash cs tree
         ≡ Some (parallel_of (view_directive directive.now) cs tree)) }
@@ -180,15 +181,13 @@ fn around_of(
     clauses: &[ResolvedClause],
     body: &ResolvedStatement,
 ) -> Result<Around, AllocError>
-    requires is_there { let tree = view_directive directive.now in
-        IsSome (construct_of setting.parallel setting.side tree tree.name
-        (map view_resolved_clause clauses.now) (view_resolved_statement body.now)) }
-    ensures { let tree = view_directive directive.now in
-        let cs = map view_resolved_clause clauses.now in
-        let inner = view_resolved_statement body.now in
+    requires is_there { let cs = map view.clause clauses.now in
+        IsSome (constructed setting directive.now cs (view.statement body.now)) }
+    ensures { let cs = map view.clause clauses.now in
+        let inner = view.statement body.now in
         IfOk result
-        (λ around. with_around around tree.hash cs inner
-        ≡ construct_of setting.parallel setting.side tree tree.name cs inner) }
+        (λ around. with_around around directive.now.hash cs inner
+        ≡ constructed setting directive.now cs inner) }
 {
     match &directive.name {
         DirectiveName::Parallel(_) => around_parallel(alloc, directive, clauses, body),
@@ -216,11 +215,9 @@ fn with_around(
     clauses: Vec<ResolvedClause>,
     body: Box<ResolvedStatement>,
 ) -> Result<ResolvedStatement, AllocError>
-    requires is_there { IsSome (with_around around at (map view_resolved_clause clauses.items)
-        (view_resolved_statement body.value)) }
-    ensures { IfOk result
-        (λ found. with_around around at (map view_resolved_clause clauses.items)
-        (view_resolved_statement body.value) ≡ Some (view_resolved_statement found)) }
+    requires is_there { IsSome (with_around around at (view_clauses clauses) (view_body body)) }
+    ensures { let made = with_around around at (view_clauses clauses) (view_body body) in
+        IfOk result (λ found. made ≡ Some (view.statement found)) }
 {
     match around {
         Around::Parallel(captures) => Ok(ResolvedStatement::Parallel {
@@ -252,10 +249,10 @@ fn with_update(
     side: Side,
     body: Box<ResolvedStatement>,
 ) -> Result<ResolvedStatement, AllocError>
-    requires is_update { IsSome (update_of side (view_resolved_statement body.value)) }
+    requires is_update { IsSome (update_of side (view.statement body.value)) }
     ensures { IfOk result
-        (λ found. with_update at (update_of side (view_resolved_statement body.value))
-        ≡ Some (view_resolved_statement found)) }
+        (λ found. with_update at (update_of side (view.statement body.value))
+        ≡ Some (view.statement found)) }
 {
     let mut body = body;
     let Some(update) = update_of(side, &mut body) else {
@@ -273,14 +270,10 @@ pub(crate) fn construct_of(
     clauses: Vec<ResolvedClause>,
     body: Box<ResolvedStatement>,
 ) -> Result<ResolvedStatement, SourceFault>
-    requires is_there { let tree = view_directive directive.now in
-        IsSome (construct_of setting.parallel setting.side tree tree.name
-        (map view_resolved_clause clauses.items) (view_resolved_statement body.value)) }
-    ensures checked { Checks result [] }
-    ensures made { let tree = view_directive directive.now in
-        Finds view_resolved_statement result
-        (construct_of setting.parallel setting.side tree tree.name
-        (map view_resolved_clause clauses.items) (view_resolved_statement body.value)) }
+    requires is_there { IsSome
+        (constructed setting directive.now (view_clauses clauses) (view_body body)) }
+    ensures { Resolves view.statement result []
+        (constructed setting directive.now (view_clauses clauses) (view_body body)) }
 {
     let around = around_of(alloc, setting, directive, clauses.as_slice(), &body)?;
     Ok(with_around(alloc, around, directive.hash, clauses, body)?)
@@ -296,9 +289,9 @@ pub(crate) fn loop_construct_of(
 ) -> Result<ResolvedStatement, SourceFault>
     ensures checked { Checks result [] }
     ensures made { IfOk result
-        (λ found. view_resolved_statement found
-        ≡ loop_construct_of (view_directive directive.now) (map view_resolved_clause clauses.items)
-        (view_resolved_loop repeated.value) (view_resolved_statement body.value)) }
+        (λ found. view.statement found
+        ≡ loop_construct_of (view_directive directive.now) (map view.clause clauses.items)
+        (view.loop repeated.value) (view.statement body.value)) }
 {
     let at = directive.hash;
     if is_parallel(traits_of(&directive.name).region) {
@@ -317,9 +310,9 @@ fn shared_loop(
     repeated: Box<ResolvedLoop>,
     body: Box<ResolvedStatement>,
 ) -> ResolvedStatement
-    ensures { view_resolved_statement result
-        ≡ resolved.Loop at (map view_resolved_clause clauses.items) nowait
-        (view_resolved_loop repeated.value) (view_resolved_statement body.value) }
+    ensures { view.statement result
+        ≡ resolved.Loop at (map view.clause clauses.items) nowait
+        (view.loop repeated.value) (view.statement body.value) }
 {
     ResolvedStatement::Loop {
         at,
@@ -346,10 +339,10 @@ pub(crate) fn sections_construct_of(
 ) -> Result<ResolvedStatement, SourceFault>
     ensures checked { Checks result [] }
     ensures made { IfOk result
-        (λ found. view_resolved_statement found
+        (λ found. view.statement found
         ≡ sections_construct_of (view_directive directive.now)
-        (map view_resolved_clause clauses.items)
-        (resolved.parts (map view_resolved_part parts.items))) }
+        (map view.clause clauses.items)
+        (resolved.parts (map view.part parts.items))) }
 {
     let at = directive.hash;
     if is_parallel(traits_of(&directive.name).region) {
@@ -367,9 +360,9 @@ fn shared_parts(
     nowait: bool,
     parts: Vec<ResolvedPart>,
 ) -> ResolvedStatement
-    ensures { view_resolved_statement result
-        ≡ resolved.Sections at (map view_resolved_clause clauses.items) nowait
-        (resolved.parts (map view_resolved_part parts.items)) }
+    ensures { view.statement result
+        ≡ resolved.Sections at (map view.clause clauses.items) nowait
+        (resolved.parts (map view.part parts.items)) }
 {
     ResolvedStatement::Sections {
         at,

@@ -1,15 +1,17 @@
 //! Constructs, as they are entered: behind their clauses, and the bounds of their loop.
 
-ghost use Rattle.std.specs.Prelude.{◌≡◌, ◌++◌, [], OnOk, IfOk, Some, map};
+ghost use Rattle.std.specs.Prelude.{◌≡◌, ◌++◌, [], OnOk};
 ghost use Rattle.om_tree.specs.View.{view_directive};
-ghost use Rattle.om_resolved.specs.ResolvedView.{view_resolved_clause, view_resolved_loop};
+ghost use Rattle.om_resolved.specs.ResolvedView as view;
 ghost use Rattle.om_rules.specs.LoopViews.{view_loop};
 ghost use Rattle.om_rules.specs.Checks.{Checks};
-ghost use Rattle.om_rules.specs.DirectiveRules.{directive_breaches, in_construct, in_kind, traits_of};
+ghost use Rattle.om_rules.specs.DirectiveRules.{directive_breaches, in_kind, traits_of};
 ghost use Rattle.om_rules.specs.Outcomes.{Finds};
+ghost use Rattle.om_rules.specs.Resolves.{Resolves};
 ghost use Rattle.om_rules.specs.StatementResolution.{resolved_clauses, resolved_loop, schedule_of};
 ghost use Rattle.om_rules.specs.StatementRules.{found_breaches, round_bounds};
 ghost use Rattle.om_scope.specs.Parts.{round_listed};
+ghost use Rattle.om_scope.specs.Resolving.{EntersConstruct, view_clauses};
 
 use crate::assembly::schedule_of;
 use om_lexer::SourceFault;
@@ -28,13 +30,10 @@ pub fn enter_construct(
     flow: Flow,
     directive: &Directive<Expression>,
 ) -> Result<Vec<ResolvedClause>, SourceFault>
-    ensures checked { Checks result
-        (directive_breaches symbols.old flow (view_directive directive.now)) }
-    ensures in_scope { OnOk result
-        (symbols.new ≡ in_construct (view_directive directive.now) symbols.old) }
-    ensures resolved { IfOk result
-        (λ clauses. resolved_clauses symbols.old (view_directive directive.now).clauses
-        ≡ Some (map view_resolved_clause clauses.items)) }
+    ensures found { let tree = view_directive directive.now in
+        Resolves view_clauses result (directive_breaches symbols.old flow tree)
+        (resolved_clauses symbols.old tree.clauses) }
+    ensures in_scope { EntersConstruct result symbols.old symbols.new directive.now }
 {
     let (listed, clauses) = resolve_directive(alloc, symbols, flow, directive)?;
     enter_listed(alloc, symbols, traits_of(&directive.name).region, listed)?;
@@ -72,12 +71,11 @@ pub fn enter_loop_construct(
     ensures bounded { OnOk result
         (found_breaches (round_bounds (view_directive directive.now) symbols.old)
         (view_loop found.now) ≡ []) }
-    ensures in_scope { OnOk result
-        (symbols.new ≡ in_construct (view_directive directive.now) symbols.old) }
-    ensures clauses { Finds (λ made. map view_resolved_clause made.0.items) result
+    ensures in_scope { EntersConstruct result symbols.old symbols.new directive.now }
+    ensures clauses { Finds (λ made. view_clauses made.0) result
         (resolved_clauses symbols.old (view_directive directive.now).clauses) }
     ensures repeated { let tree = view_directive directive.now in
-        Finds (λ made. view_resolved_loop made.1.value) result
+        Finds (λ made. view.loop made.1.value) result
         (resolved_loop (round_bounds tree symbols.old) (schedule_of tree.clauses)
         (view_loop found.now)) }
 {
@@ -95,15 +93,13 @@ fn enter_bounds(
     listed: Listed,
     found: &Loop<'_>,
 ) -> Result<Box<ResolvedLoop>, SourceFault>
-    ensures checked { let kind = (traits_of (view_directive directive.now).name).region in
-        Checks result
-        (found_breaches (round_listed kind listed symbols.old) (view_loop found.now)) }
+    ensures found { let tree = view_directive directive.now in
+        let scopes = round_listed (traits_of tree.name).region listed symbols.old in
+        Resolves (λ repeated. view.loop repeated.value) result
+        (found_breaches scopes (view_loop found.now))
+        (resolved_loop scopes (schedule_of tree.clauses) (view_loop found.now)) }
     ensures in_scope { let kind = (traits_of (view_directive directive.now).name).region in
         OnOk result (symbols.new ≡ in_kind kind listed symbols.old) }
-    ensures resolved { let tree = view_directive directive.now in
-        let scopes = round_listed (traits_of tree.name).region listed symbols.old in
-        Finds (λ repeated. view_resolved_loop repeated.value) result
-        (resolved_loop scopes (schedule_of tree.clauses) (view_loop found.now)) }
 {
     let kind = traits_of(&directive.name).region;
     let schedule = schedule_of(directive.clauses.as_slice());

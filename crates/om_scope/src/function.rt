@@ -1,19 +1,20 @@
 //! Functions: their rules, and their variables.
 
-ghost use Rattle.std.specs.Prelude.{◌≡◌, ◌++◌, ◌+◌, ◌<◌, [], ◌∷◌, OnOk, length, map};
+ghost use Rattle.std.specs.Prelude.{◌≡◌, ◌<◌, [], ◌∷◌, OnOk, length};
 ghost use Rattle.om_tree.specs.Tree.{statements};
-ghost use Rattle.om_tree.specs.View.{view_function, view_head, view_parameters};
+ghost use Rattle.om_tree.specs.View.{view_function, view_head};
 ghost use Rattle.om_rules.specs.Checks.{Checks, ChecksExactly};
-ghost use Rattle.om_rules.specs.Outcomes.{Finds};
+ghost use Rattle.om_rules.specs.Resolves.{Resolves};
 ghost use Rattle.om_rules.specs.Proper.{AreProper};
-ghost use Rattle.om_rules.specs.Scopes.{after_function, after_optional, after_optionals, after_parameter, after_parameters, after_prototype, parameters_of, returns_value, signature_eq, signature_of, with_local};
+ghost use Rattle.om_rules.specs.Scopes.{after_optional, after_parameter, returns_value, signature_eq, signature_of, with_local};
 ghost use Rattle.om_rules.specs.Faults.{breaches_along};
-ghost use Rattle.om_resolved.specs.ResolvedTree as resolved;
-ghost use Rattle.om_resolved.specs.ResolvedView.{view_resolved_function, view_resolved_statement};
-ghost use Rattle.om_rules.specs.UnitResolution.{parameter_variable, resolved_function, resolved_inside};
+ghost use Rattle.om_resolved.specs.ResolvedView as view;
+ghost use Rattle.om_rules.specs.UnitResolution.{resolved_function, resolved_inside};
 ghost use Rattle.om_rules.specs.UnitRules.{body_breaches, definition_breaches, flow_of, function_breaches, head_breaches, is_other_main, is_redeclared, next_optional, next_parameter, optional_breaches, optionals_breaches, parameter_breaches, parameters_breaches, prototype_breaches};
 ghost use Rattle.om_rules.specs.StatementRules.{redeclared_breaches};
 ghost use Rattle.om_resolved.specs.declared.resolved.Shape.TheVariants.{Scalar};
+ghost use Rattle.om_scope.specs.Resolving.{AddsParameters, DeclaresHead, DefinesHead, HasOptionals, HasParameters};
+ghost use Rattle.om_scope.specs.Resolving.{further, listed, view_items};
 
 use crate::statement::resolve_statements;
 use om_lexer::{FaultCode, SourceFault, Span};
@@ -34,7 +35,7 @@ fn returns_value(kind: &ResultType) -> bool
 
 // How many parameters there are.
 fn parameter_count<N>(parameters: &Parameters<N>) -> usize
-    ensures { result ≡ length (parameters_of (view_parameters parameters.now)) }
+    ensures { result ≡ length (listed parameters.now) }
 {
     match parameters {
         Parameters::Nothing => 0,
@@ -104,7 +105,7 @@ fn declare_head<N>(
     symbols: &mut Symbols,
     head: &FunctionHead<N>,
 ) -> Result<(), AllocError>
-    ensures { OnOk result (symbols.new ≡ after_prototype symbols.old (view_head head.now)) }
+    ensures { DeclaresHead result symbols.old symbols.new head.now }
 {
     let name = head.name.text.as_slice();
     if symbols.is_declared(name) {
@@ -138,8 +139,7 @@ fn declare_parameter(
 ) -> Result<(), SourceFault>
     ensures checked { Checks result (parameter_breaches (before, symbols.old) parameter.now) }
     ensures in_scope { OnOk result (symbols.new ≡ after_parameter symbols.old parameter.now) }
-    ensures resolved { OnOk result
-        (parameters.new.items ≡ parameters.old.items ++ parameter_variable parameter.now ∷ []) }
+    ensures resolved { AddsParameters result parameters.old parameters.new (parameter.now ∷ []) }
     ensures few { OnOk result (before < PARAMETER_LIMIT) }
 {
     refuse_if(
@@ -161,12 +161,9 @@ fn declare_further_parameters(
 ) -> Result<(), SourceFault>
     ensures checked { Checks result
         (breaches_along parameter_breaches next_parameter (1, symbols.old)
-        (map (λ further. further.1) rest.now)) }
-    ensures in_scope { OnOk result
-        (symbols.new ≡ after_parameters symbols.old (map (λ further. further.1) rest.now)) }
-    ensures resolved { OnOk result
-        (parameters.new.items ≡ parameters.old.items
-        ++ map parameter_variable (map (λ further. further.1) rest.now)) }
+        (further rest.now)) }
+    ensures in_scope { HasParameters result symbols.old symbols.new (further rest.now) }
+    ensures resolved { AddsParameters result parameters.old parameters.new (further rest.now) }
 {
     let mut before = 1;
     for further in rest {
@@ -184,14 +181,9 @@ fn declare_parameters(
     found: &mut Vec<LocalVariable>,
     parameters: &Parameters<Name>,
 ) -> Result<(), SourceFault>
-    ensures checked { Checks result
-        (parameters_breaches symbols.old (parameters_of (view_parameters parameters.now))) }
-    ensures in_scope { OnOk result
-        (symbols.new ≡ after_parameters symbols.old
-        (parameters_of (view_parameters parameters.now))) }
-    ensures resolved { OnOk result
-        (found.new.items ≡ found.old.items
-        ++ map parameter_variable (parameters_of (view_parameters parameters.now))) }
+    ensures checked { Checks result (parameters_breaches symbols.old (listed parameters.now)) }
+    ensures in_scope { HasParameters result symbols.old symbols.new (listed parameters.now) }
+    ensures resolved { AddsParameters result found.old found.new (listed parameters.now) }
 {
     let Parameters::Listed { first, rest } = parameters else {
         return Ok(());
@@ -231,9 +223,8 @@ fn declare_further_optionals(
 ) -> Result<(), SourceFault>
     ensures checked { Checks result
         (breaches_along optional_breaches next_optional (1, symbols.old)
-        (map (λ further. further.1) rest.now)) }
-    ensures in_scope { OnOk result
-        (symbols.new ≡ after_optionals symbols.old (map (λ further. further.1) rest.now)) }
+        (further rest.now)) }
+    ensures in_scope { HasOptionals result symbols.old symbols.new (further rest.now) }
 {
     let mut before = 1;
     for further in rest {
@@ -250,11 +241,8 @@ fn declare_optionals(
     symbols: &mut Symbols,
     parameters: &Parameters<Option<Name>>,
 ) -> Result<(), SourceFault>
-    ensures checked { Checks result
-        (optionals_breaches symbols.old (parameters_of (view_parameters parameters.now))) }
-    ensures in_scope { OnOk result
-        (symbols.new ≡ after_optionals symbols.old
-        (parameters_of (view_parameters parameters.now))) }
+    ensures checked { Checks result (optionals_breaches symbols.old (listed parameters.now)) }
+    ensures in_scope { HasOptionals result symbols.old symbols.new (listed parameters.now) }
 {
     let Parameters::Listed { first, rest } = parameters else {
         return Ok(());
@@ -271,8 +259,7 @@ pub fn check_prototype(
     head: &FunctionHead<Option<Name>>,
 ) -> Result<(), SourceFault>
     ensures checked { Checks result (prototype_breaches symbols.old (view_head head.now)) }
-    ensures in_scope { OnOk result
-        (symbols.new ≡ after_prototype symbols.old (view_head head.now)) }
+    ensures in_scope { DeclaresHead result symbols.old symbols.new head.now }
 {
     check_head(symbols, head)?;
     declare_head(alloc, symbols, head)?;
@@ -317,7 +304,7 @@ fn begin_definition(
     head: &FunctionHead<Name>,
 ) -> Result<(), SourceFault>
     ensures checked { Checks result (definition_breaches symbols.old (view_head head.now)) }
-    ensures in_scope { OnOk result (symbols.new ≡ after_function symbols.old (view_head head.now)) }
+    ensures in_scope { DefinesHead result symbols.old symbols.new head.now }
 {
     check_definition(symbols, head)?;
     declare_head(alloc, symbols, head)?;
@@ -334,15 +321,12 @@ fn resolve_inside(
     function: &Function,
 ) -> Result<Vec<ResolvedStatement>, SourceFault>
     requires proper { AreProper (statements (view_function function.now).body.items) }
-    ensures checked { Checks result (body_breaches symbols.old (view_function function.now)) }
+    ensures found { let tree = view_function function.now in
+        Resolves view_items result (body_breaches symbols.old tree)
+        (resolved_inside symbols.old tree) }
     ensures in_scope { OnOk result (symbols.new ≡ symbols.old) }
-    ensures parameters { OnOk result
-        (parameters.new.items ≡ parameters.old.items
-        ++ map parameter_variable
-        (parameters_of (view_function function.now).head.parameters)) }
-    ensures resolved { Finds
-        (λ body. resolved.statements (map view_resolved_statement body.items)) result
-        (resolved_inside symbols.old (view_function function.now)) }
+    ensures parameters { let own = listed function.now.head.parameters in
+        AddsParameters result parameters.old parameters.new own }
 {
     symbols.enter(alloc)?;
     declare_parameters(alloc, symbols, parameters, &function.head.parameters)?;
@@ -360,11 +344,10 @@ pub fn resolve_function(
     function: &Function,
 ) -> Result<ResolvedFunction, SourceFault>
     requires proper { AreProper (statements (view_function function.now).body.items) }
-    ensures checked { Checks result (function_breaches symbols.old (view_function function.now)) }
-    ensures in_scope { OnOk result
-        (symbols.new ≡ after_function symbols.old (view_function function.now).head) }
-    ensures resolved { Finds view_resolved_function result
-        (resolved_function symbols.old (view_function function.now)) }
+    ensures found { let tree = view_function function.now in
+        Resolves view.function result (function_breaches symbols.old tree)
+        (resolved_function symbols.old tree) }
+    ensures in_scope { DefinesHead result symbols.old symbols.new function.now.head }
 {
     begin_definition(alloc, symbols, &function.head)?;
     let name = copy_of(alloc, &function.head.name)?;

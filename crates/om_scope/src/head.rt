@@ -1,13 +1,15 @@
 //! What a `for` has before its body (C17 6.8.5.3).
 
-ghost use Rattle.std.specs.Prelude.{◌≡◌, ◌++◌, [], OnOk, IfOk, option_map};
+ghost use Rattle.std.specs.Prelude.{◌≡◌, [], IfOk, option_map};
 ghost use Rattle.om_tree.specs.View.{view_expression, view_for_head, view_for_start};
 ghost use Rattle.om_resolved.specs.ResolvedTree as resolved;
-ghost use Rattle.om_resolved.specs.ResolvedView.{view_resolved_expression, view_resolved_start, view_resolved_statement};
+ghost use Rattle.om_resolved.specs.ResolvedView as view;
 ghost use Rattle.om_rules.specs.Checks.{Checks};
-ghost use Rattle.om_rules.specs.Outcomes.{Finds};
+ghost use Rattle.om_rules.specs.Resolves.{Resolves};
 ghost use Rattle.om_rules.specs.StatementResolution.{resolved_perhaps, resolved_start};
-ghost use Rattle.om_rules.specs.StatementRules.{after_for_start, continuing, for_start_breaches, for_turn_breaches, looping, perhaps_breaches};
+ghost use Rattle.om_rules.specs.StatementRules.{continuing, for_start_breaches, looping, perhaps_breaches};
+ghost use Rattle.om_scope.specs.Resolving.{GoesBehindStart, ResolvesHead, ResolvesTurn};
+ghost use Rattle.om_uses.specs.Views.{view_boxed};
 
 use om_lexer::{SourceFault, Span};
 use om_names::Symbols;
@@ -24,20 +26,8 @@ pub fn resolve_for_head(
     symbols: &mut Symbols,
     head: &ForHead,
 ) -> Result<Box<ResolvedHead>, SourceFault>
-    ensures checked { let tree = view_for_head head.now in
-        Checks result
-        (for_start_breaches symbols.old tree.start
-        ++ for_turn_breaches (after_for_start symbols.old tree.start) tree) }
-    ensures in_scope { OnOk result
-        (symbols.new ≡ after_for_start symbols.old (view_for_head head.now).start) }
-    ensures start { Finds (λ found. view_resolved_start found.value.start) result
-        (resolved_start symbols.old (view_for_head head.now).start) }
-    ensures condition { let tree = view_for_head head.now in
-        Finds (λ found. option_map view_resolved_expression found.value.condition) result
-        (resolved_perhaps (after_for_start symbols.old tree.start) tree.condition) }
-    ensures step { let tree = view_for_head head.now in
-        Finds (λ found. option_map view_resolved_expression found.value.step) result
-        (resolved_perhaps (after_for_start symbols.old tree.start) tree.step) }
+    ensures found { ResolvesHead result symbols.old (view_for_head head.now) }
+    ensures in_scope { GoesBehindStart result symbols.old symbols.new head.now.start }
 {
     let start = boxed(alloc, resolve_for_start(alloc, symbols, &head.start))?;
     let (condition, step) = resolve_for_turn(alloc, symbols, head)?;
@@ -53,12 +43,10 @@ fn head_of(
 ) -> Result<Box<ResolvedHead>, SourceFault>
     ensures checked { Checks result [] }
     ensures start { IfOk result (λ head. head.value.start ≡ start.value) }
-    ensures condition { IfOk result
-        (λ head. option_map view_resolved_expression head.value.condition
-        ≡ option_map (λ boxed. view_resolved_expression boxed.value) condition) }
-    ensures step { IfOk result
-        (λ head. option_map view_resolved_expression head.value.step
-        ≡ option_map (λ boxed. view_resolved_expression boxed.value) step) }
+    ensures condition { let made = option_map view_boxed condition in
+        IfOk result (λ head. option_map view.expression head.value.condition ≡ made) }
+    ensures step { let made = option_map view_boxed step in
+        IfOk result (λ head. option_map view.expression head.value.step ≡ made) }
 {
     let head = ResolvedHead {
         start: Box::into_inner(start),
@@ -75,11 +63,10 @@ fn resolve_for_start(
     symbols: &mut Symbols,
     start: &ForStart,
 ) -> Result<ResolvedStart, SourceFault>
-    ensures checked { Checks result (for_start_breaches symbols.old (view_for_start start.now)) }
-    ensures in_scope { OnOk result
-        (symbols.new ≡ after_for_start symbols.old (view_for_start start.now)) }
-    ensures resolved { Finds view_resolved_start result
-        (resolved_start symbols.old (view_for_start start.now)) }
+    ensures found { let tree = view_for_start start.now in
+        Resolves view.start result (for_start_breaches symbols.old tree)
+        (resolved_start symbols.old tree) }
+    ensures in_scope { GoesBehindStart result symbols.old symbols.new start.now }
 {
     match start {
         ForStart::Nothing(_) => Ok(ResolvedStart::Nothing),
@@ -110,13 +97,7 @@ fn resolve_for_turn(
     ),
     SourceFault,
 >
-    ensures checked { Checks result (for_turn_breaches symbols.now (view_for_head head.now)) }
-    ensures condition { Finds
-        (λ found. option_map (λ boxed. view_resolved_expression boxed.value) found.0) result
-        (resolved_perhaps symbols.now (view_for_head head.now).condition) }
-    ensures step { Finds
-        (λ found. option_map (λ boxed. view_resolved_expression boxed.value) found.1) result
-        (resolved_perhaps symbols.now (view_for_head head.now).step) }
+    ensures { ResolvesTurn result symbols.now (view_for_head head.now) }
 {
     let condition = resolve_perhaps(alloc, symbols, true, &head.condition)?;
     let step = resolve_perhaps(alloc, symbols, false, &head.step)?;
@@ -130,11 +111,9 @@ fn resolve_perhaps(
     for_value: bool,
     expression: &Option<Expression>,
 ) -> Result<Option<Box<ResolvedExpression>>, SourceFault>
-    ensures checked { Checks result
-        (perhaps_breaches symbols.now for_value (option_map view_expression expression.now)) }
-    ensures resolved { Finds
-        (λ found. option_map (λ boxed. view_resolved_expression boxed.value) found) result
-        (resolved_perhaps symbols.now (option_map view_expression expression.now)) }
+    ensures { let tree = option_map view_expression expression.now in
+        Resolves (option_map view_boxed) result (perhaps_breaches symbols.now for_value tree)
+        (resolved_perhaps symbols.now tree) }
 {
     let Some(expression) = expression else {
         return Ok(None);
@@ -145,11 +124,11 @@ fn resolve_perhaps(
 
 /// A `for` with its body.
 pub fn for_of(at: Span, head: Box<ResolvedHead>, body: Box<ResolvedStatement>) -> ResolvedStatement
-    ensures { view_resolved_statement result
-        ≡ resolved.For at (view_resolved_start head.value.start)
-        (option_map view_resolved_expression head.value.condition)
-        (option_map view_resolved_expression head.value.step)
-        (view_resolved_statement body.value) }
+    ensures { view.statement result
+        ≡ resolved.For at (view.start head.value.start)
+        (option_map view.expression head.value.condition)
+        (option_map view.expression head.value.step)
+        (view.statement body.value) }
 {
     ResolvedStatement::For { at, head, body }
 }

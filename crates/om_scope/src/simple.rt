@@ -1,17 +1,20 @@
 //! Statements that have no statement in them.
 
-ghost use Rattle.std.specs.Prelude.{◌≡◌, ◌++◌, true, false, not, OnOk, option_map};
+ghost use Rattle.std.specs.Prelude.{◌≡◌, ◌++◌, true, false, not, option_map};
 ghost use Rattle.om_pragma.specs.Questions.{is_stand_alone};
 ghost use Rattle.om_tree.specs.View.{view_directive, view_expression, view_local};
-ghost use Rattle.om_resolved.specs.ResolvedView.{view_resolved_expression, view_resolved_statement};
+ghost use Rattle.om_resolved.specs.ResolvedView as view;
 ghost use Rattle.om_rules.specs.Checks.{Checks, ChecksExactly};
 ghost use Rattle.om_rules.specs.DirectiveRules.{flush_breaches};
 ghost use Rattle.om_rules.specs.ExpressionRules.{expression_breaches};
-ghost use Rattle.om_rules.specs.Outcomes.{Finds};
-ghost use Rattle.om_rules.specs.Scopes.{after_locals, declarators_of};
+ghost use Rattle.om_rules.specs.Resolves.{Resolves};
+ghost use Rattle.om_rules.specs.Scopes.{declarators_of};
 ghost use Rattle.om_rules.specs.StatementResolution.{resolved_alone, resolved_perhaps};
 ghost use Rattle.om_rules.specs.StatementRules.{jump_breaches, locals_breaches, return_breaches, section_breaches, stand_alone_breaches};
 ghost use Rattle.om_scope.specs.Parts.{resolved_declaration, resolved_effect, resolved_return};
+ghost use Rattle.om_scope.specs.Resolving.{perhaps_tree};
+ghost use Rattle.om_uses.specs.Declares.{DeclaresLocals, locals_in};
+ghost use Rattle.om_uses.specs.Views.{view_boxed};
 
 use om_lexer::{FaultCode, SourceFault, Span};
 use om_names::Symbols;
@@ -31,13 +34,10 @@ pub fn resolve_declaration(
     symbols: &mut Symbols,
     declaration: &Declaration<Expression>,
 ) -> Result<ResolvedStatement, SourceFault>
-    ensures checked { Checks result
-        (locals_breaches symbols.old (declarators_of (view_local declaration.now))) }
-    ensures in_scope { OnOk result
-        (symbols.new ≡ after_locals symbols.old
-        (declarators_of (view_local declaration.now))) }
-    ensures resolved { Finds view_resolved_statement result
-        (resolved_declaration symbols.old (view_local declaration.now)) }
+    ensures found { let tree = view_local declaration.now in
+        Resolves view.statement result (locals_breaches symbols.old (declarators_of tree))
+        (resolved_declaration symbols.old tree) }
+    ensures in_scope { DeclaresLocals result symbols.old symbols.new (locals_in declaration.now) }
 {
     let declared = resolve_locals(alloc, symbols, declaration)?;
     Ok(ResolvedStatement::Declaration {
@@ -52,10 +52,9 @@ pub fn resolve_effect(
     symbols: &Symbols,
     expression: &Expression,
 ) -> Result<ResolvedStatement, SourceFault>
-    ensures checked { Checks result
-        (expression_breaches symbols.now false (view_expression expression.now)) }
-    ensures resolved { Finds view_resolved_statement result
-        (resolved_effect symbols.now (view_expression expression.now)) }
+    ensures { let tree = view_expression expression.now in
+        Resolves view.statement result (expression_breaches symbols.now false tree)
+        (resolved_effect symbols.now tree) }
 {
     let at = expression_first(expression);
     let expression = boxed_expression(alloc, symbols, false, expression)?;
@@ -74,13 +73,10 @@ pub fn resolve_return(
     at: Span,
     value: &Option<Box<Expression>>,
 ) -> Result<ResolvedStatement, SourceFault>
-    ensures checked { Checks result
-        (jump_breaches (not flow.in_construct) at.start
-        ++ return_breaches symbols.now flow
-        (option_map (λ boxed. view_expression boxed.value) value.now)) }
-    ensures resolved { Finds view_resolved_statement result
-        (resolved_return symbols.now at
-        (option_map (λ boxed. view_expression boxed.value) value.now)) }
+    ensures { let tree = perhaps_tree value.now in
+        Resolves view.statement result
+        (jump_breaches (not flow.in_construct) at.start ++ return_breaches symbols.now flow tree)
+        (resolved_return symbols.now at tree) }
 {
     check_jump(!flow.in_construct, at.start)?;
     let value = resolve_returned(alloc, symbols, flow, value)?;
@@ -97,13 +93,9 @@ fn resolve_returned(
     flow: Flow,
     value: &Option<Box<Expression>>,
 ) -> Result<Option<Box<ResolvedExpression>>, SourceFault>
-    ensures checked { Checks result
-        (return_breaches symbols.now flow
-        (option_map (λ boxed. view_expression boxed.value) value.now)) }
-    ensures resolved { Finds
-        (λ found. option_map (λ boxed. view_resolved_expression boxed.value) found) result
-        (resolved_perhaps symbols.now
-        (option_map (λ boxed. view_expression boxed.value) value.now)) }
+    ensures { let tree = perhaps_tree value.now in
+        Resolves (option_map view_boxed) result (return_breaches symbols.now flow tree)
+        (resolved_perhaps symbols.now tree) }
 {
     let Some(value) = value else {
         return Ok(None);
@@ -131,10 +123,8 @@ pub fn resolve_stand_alone(
     directive: &Directive<Expression>,
 ) -> Result<ResolvedStatement, SourceFault>
     requires stands_alone { is_stand_alone directive.now.name ≡ true }
-    ensures checked { Checks result
-        (stand_alone_breaches symbols.now flow (view_directive directive.now)) }
-    ensures resolved { let tree = view_directive directive.now in
-        Finds view_resolved_statement result
+    ensures { let tree = view_directive directive.now in
+        Resolves view.statement result (stand_alone_breaches symbols.now flow tree)
         (resolved_alone symbols.now tree tree.name) }
 {
     resolve_directive(alloc, symbols, flow, directive)?;
@@ -148,9 +138,8 @@ fn resolve_alone(
     directive: &Directive<Expression>,
 ) -> Result<ResolvedStatement, SourceFault>
     requires stands_alone { is_stand_alone directive.now.name ≡ true }
-    ensures checked { Checks result (flush_breaches symbols.now directive.now.name) }
-    ensures resolved { let tree = view_directive directive.now in
-        Finds view_resolved_statement result
+    ensures { let tree = view_directive directive.now in
+        Resolves view.statement result (flush_breaches symbols.now directive.now.name)
         (resolved_alone symbols.now tree tree.name) }
 {
     let at = directive.hash;

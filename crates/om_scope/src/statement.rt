@@ -1,21 +1,20 @@
 //! Statements: their rules, and the variables of their names.
 
-ghost use Rattle.std.specs.Prelude.{◌≡◌, true, false, OnOk, Some, is_some, map};
+ghost use Rattle.std.specs.Prelude.{◌≡◌, true, false, OnOk, Some, is_some};
 ghost use Rattle.om_tree.specs.Formed.{AreParts};
 ghost use Rattle.om_tree.specs.Sizes.{PartsHaveForms};
-ghost use Rattle.om_tree.specs.Tree.{Construct, parts, statements};
 ghost use Rattle.om_tree.specs.View.{view_directive, view_for_head, view_part, view_statement};
-ghost use Rattle.om_resolved.specs.ResolvedTree as resolved;
-ghost use Rattle.om_resolved.specs.ResolvedView.{view_resolved_part, view_resolved_statement};
+ghost use Rattle.om_resolved.specs.ResolvedView as view;
 ghost use Rattle.om_rules.specs.LoopViews.{view_loop};
-ghost use Rattle.om_rules.specs.Checks.{Checks};
 ghost use Rattle.om_rules.specs.DirectiveRules.{traits_of};
 ghost use Rattle.om_rules.specs.Loops.{loop_in};
-ghost use Rattle.om_rules.specs.Outcomes.{Finds};
+ghost use Rattle.om_rules.specs.Resolves.{Resolves};
 ghost use Rattle.om_rules.specs.Proper.{AreProper, AreProperParts, IsProper};
 ghost use Rattle.om_rules.specs.Scopes.{inside};
-ghost use Rattle.om_rules.specs.StatementResolution.{resolved_construct, resolved_for, resolved_loop_construct, resolved_parts, resolved_plain_construct, resolved_repeated, resolved_sections, resolved_statement, resolved_statements};
-ghost use Rattle.om_rules.specs.StatementRules.{after_statement, after_statements, body_breaches, construct_breaches, continuing, for_breaches, in_loop, loop_construct_breaches, part_breaches, parts_breaches, plain_construct_breaches, sections_construct_breaches, statement_breaches, statements_breaches};
+ghost use Rattle.om_rules.specs.StatementResolution.{resolved_construct, resolved_for, resolved_loop_construct, resolved_parts, resolved_plain_construct, resolved_repeated, resolved_sections, resolved_statements};
+ghost use Rattle.om_rules.specs.StatementRules.{body_breaches, construct_breaches, continuing, for_breaches, in_loop, loop_construct_breaches, part_breaches, parts_breaches, plain_construct_breaches, sections_construct_breaches};
+ghost use Rattle.om_scope.specs.Resolving.{GoesBehind, GoesBehindItems, IsProperConstruct, ResolvesItems, ResolvesStatement};
+ghost use Rattle.om_scope.specs.Resolving.{item_trees, part_trees, view_body, view_parts};
 
 use crate::assembly::{Setting, construct_of, loop_construct_of, sections_construct_of};
 use crate::entering::{enter_construct, enter_loop_construct};
@@ -42,15 +41,9 @@ pub(crate) fn resolve_statements(
     flow: Flow,
     items: &[Statement],
 ) -> Result<Vec<ResolvedStatement>, SourceFault>
-    requires proper { AreProper (statements (map view_statement items.now)) }
-    ensures checked { Checks result
-        (statements_breaches symbols.old flow (statements (map view_statement items.now))) }
-    ensures in_scope { OnOk result
-        (symbols.new ≡ after_statements symbols.old (map view_statement items.now)) }
-    ensures resolved { Finds
-        (λ found. resolved.statements (map view_resolved_statement found.items)) result
-        (resolved_statements symbols.old flow.parallel
-        (statements (map view_statement items.now))) }
+    requires proper { AreProper (item_trees items.now) }
+    ensures found { ResolvesItems result symbols.old flow items.now }
+    ensures in_scope { GoesBehindItems result symbols.old symbols.new items.now }
 {
     let mut resolved = Vec::new(alloc);
     for item in items {
@@ -70,12 +63,8 @@ fn resolve_statement(
     statement: &Statement,
 ) -> Result<ResolvedStatement, SourceFault>
     requires proper { IsProper (view_statement statement.now) }
-    ensures checked { Checks result
-        (statement_breaches symbols.old flow (view_statement statement.now)) }
-    ensures in_scope { OnOk result
-        (symbols.new ≡ after_statement symbols.old (view_statement statement.now)) }
-    ensures resolved { Finds view_resolved_statement result
-        (resolved_statement symbols.old flow.parallel (view_statement statement.now)) }
+    ensures found { ResolvesStatement view.statement result symbols.old flow statement.now }
+    ensures in_scope { GoesBehind result symbols.old symbols.new statement.now }
 {
     match statement {
         Statement::Declaration(declaration) => resolve_declaration(alloc, symbols, declaration),
@@ -184,11 +173,8 @@ fn resolve_body(
     body: &Statement,
 ) -> Result<Box<ResolvedStatement>, SourceFault>
     requires proper { IsProper (view_statement body.now) }
-    ensures checked { Checks result
-        (statement_breaches (inside symbols.old) flow (view_statement body.now)) }
+    ensures found { ResolvesStatement view_body result (inside symbols.old) flow body.now }
     ensures in_scope { OnOk result (symbols.new ≡ symbols.old) }
-    ensures resolved { Finds (λ found. view_resolved_statement found.value) result
-        (resolved_statement (inside symbols.old) flow.parallel (view_statement body.now)) }
 {
     symbols.enter(alloc)?;
     let found = boxed_statement(alloc, symbols, flow, body);
@@ -205,12 +191,8 @@ fn boxed_statement(
     statement: &Statement,
 ) -> Result<Box<ResolvedStatement>, SourceFault>
     requires proper { IsProper (view_statement statement.now) }
-    ensures checked { Checks result
-        (statement_breaches symbols.old flow (view_statement statement.now)) }
-    ensures in_scope { OnOk result
-        (symbols.new ≡ after_statement symbols.old (view_statement statement.now)) }
-    ensures resolved { Finds (λ found. view_resolved_statement found.value) result
-        (resolved_statement symbols.old flow.parallel (view_statement statement.now)) }
+    ensures found { ResolvesStatement view_body result symbols.old flow statement.now }
+    ensures in_scope { GoesBehind result symbols.old symbols.new statement.now }
 {
     boxed(alloc, resolve_statement(alloc, symbols, flow, statement))
 }
@@ -223,15 +205,9 @@ fn resolve_block(
     flow: Flow,
     items: &[Statement],
 ) -> Result<Vec<ResolvedStatement>, SourceFault>
-    requires proper { AreProper (statements (map view_statement items.now)) }
-    ensures checked { Checks result
-        (statements_breaches (inside symbols.old) flow
-        (statements (map view_statement items.now))) }
+    requires proper { AreProper (item_trees items.now) }
+    ensures found { ResolvesItems result (inside symbols.old) flow items.now }
     ensures in_scope { OnOk result (symbols.new ≡ symbols.old) }
-    ensures resolved { Finds
-        (λ found. resolved.statements (map view_resolved_statement found.items)) result
-        (resolved_statements (inside symbols.old) flow.parallel
-        (statements (map view_statement items.now))) }
 {
     symbols.enter(alloc)?;
     let items = resolve_statements(alloc, symbols, flow, items);
@@ -250,12 +226,11 @@ fn resolve_for(
     body: &Statement,
 ) -> Result<ResolvedStatement, SourceFault>
     requires proper { IsProper (view_statement body.now) }
-    ensures checked { Checks result
-        (for_breaches symbols.old flow (view_for_head head.now) (view_statement body.now)) }
+    ensures found { let tree = view_for_head head.now in
+        let inner = view_statement body.now in
+        Resolves view.statement result (for_breaches symbols.old flow tree inner)
+        (resolved_for symbols.old flow.parallel tree inner) }
     ensures in_scope { OnOk result (symbols.new ≡ symbols.old) }
-    ensures resolved { Finds view_resolved_statement result
-        (resolved_for symbols.old flow.parallel (view_for_head head.now)
-        (view_statement body.now)) }
 {
     symbols.enter(alloc)?;
     let turn = resolve_for_head(alloc, symbols, head)?;
@@ -273,15 +248,12 @@ fn resolve_construct(
     directive: &Directive<Expression>,
     body: &Statement,
 ) -> Result<ResolvedStatement, SourceFault>
-    requires proper { IsProper (Construct (view_directive directive.now)
-        (view_statement body.now)) }
-    ensures checked { Checks result
-        (construct_breaches symbols.old flow (view_directive directive.now)
-        (view_statement body.now)) }
+    requires proper { IsProperConstruct directive.now body.now }
+    ensures found { let tree = view_directive directive.now in
+        let inner = view_statement body.now in
+        Resolves view.statement result (construct_breaches symbols.old flow tree inner)
+        (resolved_construct symbols.old flow.parallel tree inner) }
     ensures in_scope { OnOk result (symbols.new ≡ symbols.old) }
-    ensures resolved { Finds view_resolved_statement result
-        (resolved_construct symbols.old flow.parallel (view_directive directive.now)
-        (view_statement body.now)) }
 {
     if !traits_of(&directive.name).takes_loop {
         resolve_plain_construct(alloc, symbols, flow, directive, body)
@@ -300,16 +272,13 @@ fn resolve_plain_construct(
     directive: &Directive<Expression>,
     body: &Statement,
 ) -> Result<ResolvedStatement, SourceFault>
-    requires proper { IsProper (Construct (view_directive directive.now)
-        (view_statement body.now)) }
+    requires proper { IsProperConstruct directive.now body.now }
     requires for_any { (traits_of directive.now.name).takes_loop ≡ false }
-    ensures checked { Checks result
-        (plain_construct_breaches symbols.old flow (view_directive directive.now)
-        (view_statement body.now)) }
+    ensures found { let tree = view_directive directive.now in
+        let inner = view_statement body.now in
+        Resolves view.statement result (plain_construct_breaches symbols.old flow tree inner)
+        (resolved_plain_construct symbols.old flow.parallel tree inner) }
     ensures in_scope { OnOk result (symbols.new ≡ symbols.old) }
-    ensures resolved { Finds view_resolved_statement result
-        (resolved_plain_construct symbols.old flow.parallel (view_directive directive.now)
-        (view_statement body.now)) }
 {
     let inside = constructing(directive, flow);
     let setting = Setting {
@@ -333,13 +302,12 @@ fn resolve_loop_construct(
     body: &Statement,
 ) -> Result<ResolvedStatement, SourceFault>
     requires proper { IsProper (view_statement body.now) }
-    ensures checked { Checks result
-        (loop_construct_breaches symbols.old flow (view_directive directive.now)
-        (loop_in (view_statement body.now)) (view_statement body.now)) }
+    ensures found { let tree = view_directive directive.now in
+        let inner = view_statement body.now in
+        Resolves view.statement result
+        (loop_construct_breaches symbols.old flow tree (loop_in inner) inner)
+        (resolved_loop_construct symbols.old flow.parallel tree (loop_in inner) inner) }
     ensures in_scope { OnOk result (symbols.new ≡ symbols.old) }
-    ensures resolved { Finds view_resolved_statement result
-        (resolved_loop_construct symbols.old flow.parallel (view_directive directive.now)
-        (loop_in (view_statement body.now)) (view_statement body.now)) }
 {
     let inside = constructing(directive, flow);
     match loop_in(body) {
@@ -371,12 +339,11 @@ fn resolve_loop_body(
 ) -> Result<Box<ResolvedStatement>, SourceFault>
     requires proper { IsProper (view_statement body.now) }
     requires is_loop { is_some (loop_in (view_statement body.now)) ≡ true }
-    ensures checked { Checks result
-        (body_breaches symbols.old inside (Some (view_loop found.now)) (view_statement body.now)) }
+    ensures found { let tree = view_loop found.now in
+        let inner = view_statement body.now in
+        Resolves view_body result (body_breaches symbols.old inside (Some tree) inner)
+        (resolved_repeated symbols.old inside.parallel tree inner) }
     ensures in_scope { OnOk result (symbols.new ≡ symbols.old) }
-    ensures resolved { Finds (λ made. view_resolved_statement made.value) result
-        (resolved_repeated symbols.old inside.parallel (view_loop found.now)
-        (view_statement body.now)) }
 {
     match body {
         Statement::For { body: repeated, .. } => resolve_repeated(
@@ -396,13 +363,9 @@ fn resolve_repeated(
     repeated: &Statement,
 ) -> Result<Box<ResolvedStatement>, SourceFault>
     requires proper { IsProper (view_statement repeated.now) }
-    ensures checked { Checks result
-        (statement_breaches (in_loop symbols.old (Some (view_loop found.now))) (continuing inside)
-        (view_statement repeated.now)) }
+    ensures found { let scopes = in_loop symbols.old (Some (view_loop found.now)) in
+        ResolvesStatement view_body result scopes (continuing inside) repeated.now }
     ensures in_scope { OnOk result (symbols.new ≡ symbols.old) }
-    ensures resolved { Finds (λ made. view_resolved_statement made.value) result
-        (resolved_statement (in_loop symbols.old (Some (view_loop found.now))) inside.parallel
-        (view_statement repeated.now)) }
 {
     enter_loop(alloc, symbols, found)?;
     let repeated = resolve_body(alloc, symbols, continuing(inside), repeated)?;
@@ -420,15 +383,13 @@ fn resolve_sections(
     directive: &Directive<Expression>,
     sections: &[Part],
 ) -> Result<ResolvedStatement, SourceFault>
-    requires formed { AreParts (parts (map view_part sections.now)) }
-    requires forms { PartsHaveForms true (parts (map view_part sections.now)) }
-    ensures checked { Checks result
-        (sections_construct_breaches symbols.old flow (view_directive directive.now)
-        (parts (map view_part sections.now))) }
+    requires formed { AreParts (part_trees sections.now) }
+    requires forms { PartsHaveForms true (part_trees sections.now) }
+    ensures found { let tree = view_directive directive.now in
+        let inner = part_trees sections.now in
+        Resolves view.statement result (sections_construct_breaches symbols.old flow tree inner)
+        (resolved_sections symbols.old flow.parallel tree inner) }
     ensures in_scope { OnOk result (symbols.new ≡ symbols.old) }
-    ensures resolved { Finds view_resolved_statement result
-        (resolved_sections symbols.old flow.parallel (view_directive directive.now)
-        (parts (map view_part sections.now))) }
 {
     let inside = constructing(directive, flow);
     let clauses = enter_construct(alloc, symbols, flow, directive)?;
@@ -446,12 +407,11 @@ fn resolve_parts(
     flow: Flow,
     sections: &[Part],
 ) -> Result<Vec<ResolvedPart>, SourceFault>
-    requires proper { AreProperParts (parts (map view_part sections.now)) }
-    ensures checked { Checks result
-        (parts_breaches symbols.old flow 0 (parts (map view_part sections.now))) }
+    requires proper { AreProperParts (part_trees sections.now) }
+    ensures found { let trees = part_trees sections.now in
+        Resolves view_parts result (parts_breaches symbols.old flow 0 trees)
+        (resolved_parts symbols.old flow.parallel trees) }
     ensures in_scope { OnOk result (symbols.new ≡ symbols.old) }
-    ensures resolved { Finds (λ found. resolved.parts (map view_resolved_part found.items)) result
-        (resolved_parts symbols.old flow.parallel (parts (map view_part sections.now))) }
 {
     let mut resolved = Vec::new(alloc);
     for part in sections {
@@ -472,10 +432,10 @@ fn resolve_part(
     part: &Part,
 ) -> Result<ResolvedPart, SourceFault>
     requires proper { AreProper (view_part part.now).items }
-    ensures checked { Checks result (part_breaches symbols.old flow before (view_part part.now)) }
+    ensures found { let tree = view_part part.now in
+        Resolves view.part result (part_breaches symbols.old flow before tree)
+        (resolved_statements (inside symbols.old) flow.parallel tree.items) }
     ensures in_scope { OnOk result (symbols.new ≡ symbols.old) }
-    ensures resolved { Finds view_resolved_part result
-        (resolved_statements (inside symbols.old) flow.parallel (view_part part.now).items) }
 {
     check_section(before, &part.section)?;
     let items = resolve_block(alloc, symbols, flow, part.items.as_slice())?;

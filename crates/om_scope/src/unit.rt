@@ -1,6 +1,6 @@
 //! A whole source.
 
-ghost use Rattle.std.specs.Prelude.{◌≡◌, ◌≢◌, ◌++◌, [], All, OnOk, IfOk, IfErr, Some, map, option_map};
+ghost use Rattle.std.specs.Prelude.{◌≡◌, ◌≢◌, [], All, OnOk, IfOk, IfErr, Some, map};
 ghost use Rattle.std.specs.List.{flat_map, list_any};
 ghost use Rattle.om_lexer.specs.Faults.{no_memory};
 ghost use Rattle.om_tree.specs.Formed.{IsUnit};
@@ -10,9 +10,10 @@ ghost use Rattle.om_rules.specs.Breaches.{breaches_of, is_main, main_breaches};
 ghost use Rattle.om_rules.specs.Checks.{Checks, ChecksExactly};
 ghost use Rattle.om_rules.specs.Faults.{first_of};
 ghost use Rattle.om_rules.specs.Outcomes.{Finds};
+ghost use Rattle.om_rules.specs.Resolves.{Adds, Appends, Resolves};
 ghost use Rattle.om_rules.specs.Perhaps.{all_along};
 ghost use Rattle.om_rules.specs.Proper.{IsProperItem};
-ghost use Rattle.om_resolved.specs.ResolvedView.{view_resolved, view_resolved_function};
+ghost use Rattle.om_resolved.specs.ResolvedView as view;
 ghost use Rattle.om_rules.specs.Scopes.{after_definition, after_item, definitions_of, file_scope, nothing_declared};
 ghost use Rattle.om_rules.specs.UnitResolution.{globals_of, item_functions, items_resolution, resolution_of};
 ghost use Rattle.om_rules.specs.UnitRules.{item_breaches, items_breaches};
@@ -74,13 +75,9 @@ fn resolve_item(
     requires proper { IsProperItem (view_item item.now) }
     ensures checked { Checks result (item_breaches symbols.old (view_item item.now)) }
     ensures in_scope { OnOk result (symbols.new ≡ after_item symbols.old (view_item item.now)) }
-    ensures declared { OnOk result
-        (globals.new.items ≡ globals.old.items ++ globals_of (view_item item.now)) }
-    ensures defined { let before = map view_resolved_function functions.old.items in
-        let after = map view_resolved_function functions.new.items in
-        OnOk result
-        (option_map (λ own. before ++ own) (item_functions symbols.old (view_item item.now))
-        ≡ Some after) }
+    ensures declared { Appends result globals.old globals.new (globals_of (view_item item.now)) }
+    ensures defined { let own = item_functions symbols.old (view_item item.now) in
+        Adds view.function result functions.old functions.new own }
 {
     match item {
         Item::Declaration(declaration) => declare_globals(alloc, symbols, globals, declaration),
@@ -99,13 +96,11 @@ fn resolve_each(
 ) -> Result<(), SourceFault>
     requires proper { All IsProperItem (map view_item items.now) }
     ensures checked { Checks result (items_breaches symbols.old (map view_item items.now)) }
-    ensures declared { OnOk result
-        (globals.new.items ≡ globals.old.items ++ flat_map globals_of (map view_item items.now)) }
-    ensures defined { let before = map view_resolved_function functions.old.items in
-        let after = map view_resolved_function functions.new.items in
-        OnOk result
-        (option_map (λ own. before ++ own)
-        (all_along item_functions after_item symbols.old (map view_item items.now)) ≡ Some after) }
+    ensures declared { let own = flat_map globals_of (map view_item items.now) in
+        Appends result globals.old globals.new own }
+    ensures defined { let trees = map view_item items.now in
+        let own = all_along item_functions after_item symbols.old trees in
+        Adds view.function result functions.old functions.new own }
 {
     for item in items {
         resolve_item(alloc, symbols, globals, functions, item)?;
@@ -121,9 +116,9 @@ fn resolve_from(
 ) -> Result<Resolved, SourceFault>
     requires is_empty { symbols.old ≡ nothing_declared (definitions_of (map view_item items.now)) }
     requires proper { All IsProperItem (map view_item items.now) }
-    ensures checked { let trees = map view_item items.now in
-        Checks result (items_breaches (file_scope (definitions_of trees)) trees) }
-    ensures resolved { Finds view_resolved result (items_resolution (map view_item items.now)) }
+    ensures { let trees = map view_item items.now in
+        Resolves view.resolved result (items_breaches (file_scope (definitions_of trees)) trees)
+        (items_resolution trees) }
 {
     symbols.begin_file(alloc)?;
     let mut globals = Vec::new(alloc);
@@ -138,9 +133,9 @@ fn resolve_from(
 // Resolves the items of a source, in their order.
 fn resolve_items(alloc: Global, items: &[Item]) -> Result<Resolved, SourceFault>
     requires proper { All IsProperItem (map view_item items.now) }
-    ensures checked { let trees = map view_item items.now in
-        Checks result (items_breaches (file_scope (definitions_of trees)) trees) }
-    ensures resolved { Finds view_resolved result (items_resolution (map view_item items.now)) }
+    ensures { let trees = map view_item items.now in
+        Resolves view.resolved result (items_breaches (file_scope (definitions_of trees)) trees)
+        (items_resolution trees) }
 {
     let definitions = definitions_of(alloc, items)?;
     let mut symbols = Symbols::new(alloc, definitions);
@@ -206,10 +201,10 @@ pub fn resolve(alloc: Global, unit: Unit) -> Result<Resolved, SourceFault>
     requires formed { IsUnit (view_unit unit) }
     requires atomics_have_forms { AtomicsHaveForms (view_unit unit) }
     ensures no_breach { OnOk result (breaches_of (view_unit unit) ≡ []) }
-    ensures resolved { Finds view_resolved result (resolution_of (view_unit unit)) }
-    ensures is_resolved { IfOk result (λ resolved. IsResolved (view_resolved resolved)) }
-    ensures whole { IfOk result (λ resolved. IsWholeTree (view_resolved resolved)) }
-    ensures atomics_assign { IfOk result (λ resolved. TreeAtomicsAssign (view_resolved resolved)) }
+    ensures resolved { Finds view.resolved result (resolution_of (view_unit unit)) }
+    ensures is_resolved { IfOk result (λ resolved. IsResolved (view.resolved resolved)) }
+    ensures whole { IfOk result (λ resolved. IsWholeTree (view.resolved resolved)) }
+    ensures atomics_assign { IfOk result (λ resolved. TreeAtomicsAssign (view.resolved resolved)) }
     ensures first_breach { IfErr result
         (λ fault. fault ≢ no_memory → first_of (breaches_of (view_unit unit)) ≡ Some fault) }
 {

@@ -12,7 +12,7 @@ use Rattle.om_sights.specs.Sites.{AddsBodies, IsOpen, function_of, round_behind,
 use Rattle.om_sights.specs.Sites.{variables_at}
 use Rattle.om_resolved.specs.ResolvedTree.{ResolvedFunctionTree, ResolvedPartsTree, ResolvedStatementTree, IfElse}
 use Rattle.om_resolved.specs.ResolvedTree.{ResolvedStatementsTree, Part, Statement}
-use Rattle.om_resolved.specs.ResolvedView.{view_resolved_function}
+use Rattle.om_resolved.specs.ResolvedView as view
 use Rattle.om_rows.specs.Bodies.{BodySite, Numbers, all_regions, behind, behind_all, parts_regions, regions}
 use Rattle.om_rows.specs.Numbering.{numbers_of}
 
@@ -51,7 +51,7 @@ length_behind : (round : List (List ℕ)) (sites : List Site) → length (round_
     ≤ length round + length sites
 length_behind round [] = omega arith
 length_behind round (x ∷ sites) =
-    let vars = variables_at (view_resolved_function x.function.now) x.part in
+    let vars = variables_at (view.function x.function.now) x.part in
     let long : length (round_with round x) ≡ length (take x.depth round) + 1 =
     length-append (take x.depth round) (vars ∷ []) in
     let taken = length-take x.depth round in
@@ -63,7 +63,7 @@ length_behind round (x ∷ sites) =
 
 abbrev numbered : List ℕ → Site → Numbers → BodySite
 numbered outer site n = record {
-  function = view_resolved_function site.function.now;
+  function = view.function site.function.now;
   tree = part_tree site.part;
   outer = outer;
   numbers = n;
@@ -86,7 +86,7 @@ kept_innermost round d v open_at =
 pub region_pushed : (old new : List Site) (site : Site) (d : ℕ) (v : List ℕ) (n : Numbers)
     → new ≡ old ++ site ∷ [] → IsRound d v old → site.depth ≡ d + 1 → numbers_of site.numbers ≡ n
     → bodies_in [] new ≡ bodies_in [] old ++ record {
-      function = view_resolved_function site.function.now;
+      function = view.function site.function.now;
       tree = part_tree site.part;
       outer = v;
       numbers = n;
@@ -100,18 +100,18 @@ region_pushed old new site d v n same open_at deep is =
 
 behind_region : (old new : List Site) (site : Site) (d : ℕ) → site.depth ≡ d + 1 → new ≡ old ++ site ∷ []
     → round_behind [] new
-    ≡ take (d + 1) (round_behind [] old) ++ variables_at (view_resolved_function site.function.now) site.part ∷ []
+    ≡ take (d + 1) (round_behind [] old) ++ variables_at (view.function site.function.now) site.part ∷ []
 behind_region old new site d deep same =
-    let vars = variables_at (view_resolved_function site.function.now) site.part in
+    let vars = variables_at (view.function site.function.now) site.part in
     ap (λ sites. round_behind [] sites) same ∙ behind_append [] old (site ∷ [])
     ∙ ap (λ n. take n (round_behind [] old) ++ vars ∷ []) deep
 
 pub region_round : (old new : List Site) (site : Site) (d : ℕ) (v : List ℕ) → new ≡ old ++ site ∷ []
     → IsRound d v old → site.depth ≡ d + 1
-    → IsRound site.depth (variables_at (view_resolved_function site.function.now) site.part) new
+    → IsRound site.depth (variables_at (view.function site.function.now) site.part) new
 region_round old new site d v same open_at deep =
     let round = round_behind [] old in
-    let vars = variables_at (view_resolved_function site.function.now) site.part in
+    let vars = variables_at (view.function site.function.now) site.part in
     ap (λ all. slice_get all site.depth) (behind_region old new site d deep same)
     ∙ ap (λ n. slice_get (take (d + 1) round ++ vars ∷ []) n) (deep ∙ sym (kept_length round d v open_at))
     ∙ get_end (take (d + 1) round) vars
@@ -120,7 +120,7 @@ pub region_keeps : (old new : List Site) (site : Site) (d : ℕ) (v : List ℕ) 
     → site.depth ≡ d + 1 → new ≡ old ++ site ∷ [] → KeepsRound d old new
 region_keeps old new site d v open_at deep same =
     let round = round_behind [] old in
-    let vars = variables_at (view_resolved_function site.function.now) site.part in
+    let vars = variables_at (view.function site.function.now) site.part in
     ap (λ all. take (d + 1) all) (behind_region old new site d deep same)
     ∙ ap (λ n. take n (take (d + 1) round ++ vars ∷ [])) (sym (kept_length round d v open_at))
     ∙ take-append_seam (take (d + 1) round) (vars ∷ [])

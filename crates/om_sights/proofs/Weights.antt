@@ -21,9 +21,8 @@ use Rattle.om_resolved.specs.declared.resolved.ResolvedStatement.TheViews.{sized
 use Rattle.om_resolved.specs.declared.resolved.ResolvedStatement.TheViews.{sized-Parallel, sized-Task, sized-While}
 use Rattle.om_resolved.specs.ResolvedTree as trees
 use Rattle.om_resolved.specs.ResolvedTree.{ResolvedExpressionTree, ResolvedStatementTree, ResolvedStatementsTree}
-use Rattle.om_resolved.specs.ResolvedView.{expression_layer, part_layer, statement_layer, view_resolved_clause}
-use Rattle.om_resolved.specs.ResolvedView.{view_resolved_declarator, view_resolved_expression, view_resolved_loop}
-use Rattle.om_resolved.specs.ResolvedView.{view_resolved_part, view_resolved_start, view_resolved_statement, view_resolved_update}
+use Rattle.om_resolved.specs.ResolvedView.{expression_layer, part_layer, statement_layer}
+use Rattle.om_resolved.specs.ResolvedView as view
 use Rattle.om_resolved.specs.Weights.{clause_weight, declarator_weight, expression_weight, loop_weight, parts_weight}
 use Rattle.om_resolved.specs.Weights.{perhaps_weight, update_weight}
 use Rattle.om_resolved.specs.Weights.{start_weight, statement_weight, statements_weight, values_weight}
@@ -31,16 +30,16 @@ use Rattle.om_resolved.specs.Weights.{start_weight, statement_weight, statements
 -- ---- expressions
 
 abbrev pub weight_of : ResolvedExpression → ℕ
-weight_of t = expression_weight (view_resolved_expression t)
+weight_of t = expression_weight (view.expression t)
 
 pub weight_call : (t : ResolvedExpression) (f : _) (es : _) → t ≡ expressions.Call f es
-    → weight_of t ≡ values_weight (trees.values (map view_resolved_expression es.items))
+    → weight_of t ≡ values_weight (trees.values (map view.expression es.items))
 unfolding expression_weight
 weight_call t f es is = ap weight_of (is ∙ sym (expressions.rolls-Call f es)) ∙ ap expression_weight
     (fold-roll-ResolvedExpression ResolvedExpressionTree expression_layer (ResolvedExpression-F.Call f es))
 
 pub weight_print : (t : ResolvedExpression) (text : _) (es : _) → t ≡ expressions.Print text es
-    → weight_of t ≡ 1 + values_weight (trees.values (map view_resolved_expression es.items))
+    → weight_of t ≡ 1 + values_weight (trees.values (map view.expression es.items))
 unfolding expression_weight
 weight_print t text es is = ap weight_of (is ∙ sym (expressions.rolls-Print text es)) ∙ ap expression_weight
     (fold-roll-ResolvedExpression ResolvedExpressionTree expression_layer (ResolvedExpression-F.Print text es))
@@ -98,16 +97,16 @@ smaller_inner t e (inr (inr (inr is))) = omega (arith, ap size-ResolvedExpressio
 -- ---- statements
 
 abbrev pub all_weight_of : ResolvedStatement → ℕ
-all_weight_of t = statement_weight (view_resolved_statement t)
+all_weight_of t = statement_weight (view.statement t)
 
 -- of the head of a `for`
 abbrev pub head_weight : ResolvedHead → ℕ
-head_weight h = start_weight (view_resolved_start h.start)
-    + (perhaps_weight (option_map view_resolved_expression h.condition)
-    + perhaps_weight (option_map view_resolved_expression h.step))
+head_weight h = start_weight (view.start h.start)
+    + (perhaps_weight (option_map view.expression h.condition)
+    + perhaps_weight (option_map view.expression h.step))
 
 pub weight_declaration : (t : ResolvedStatement) (at : _) (ds : _) → t ≡ v.Declaration at ds
-    → all_weight_of t ≡ sum (map declarator_weight (map view_resolved_declarator ds.items))
+    → all_weight_of t ≡ sum (map declarator_weight (map view.declarator ds.items))
 unfolding statement_weight
 weight_declaration t at ds is = ap all_weight_of (is ∙ sym (v.rolls-Declaration at ds)) ∙ ap statement_weight
     (fold-roll-ResolvedStatement ResolvedStatementTree ResolvedStatementsTree statement_layer part_layer
@@ -121,21 +120,21 @@ weight_expression t at e is = ap all_weight_of (is ∙ sym (v.rolls-Expression a
     (ResolvedStatement-F.Expression at e))
 
 pub weight_return : (t : ResolvedStatement) (at : _) (e : _) → t ≡ v.Return at e
-    → all_weight_of t ≡ perhaps_weight (option_map view_resolved_expression e)
+    → all_weight_of t ≡ perhaps_weight (option_map view.expression e)
 unfolding statement_weight
 weight_return t at e is = ap all_weight_of (is ∙ sym (v.rolls-Return at e)) ∙ ap statement_weight
     (fold-roll-ResolvedStatement ResolvedStatementTree ResolvedStatementsTree statement_layer part_layer
     (ResolvedStatement-F.Return at e))
 
 pub weight_update : (t : ResolvedStatement) (at : _) (u : _) → t ≡ v.Update at u
-    → all_weight_of t ≡ update_weight (view_resolved_update u.value)
+    → all_weight_of t ≡ update_weight (view.update u.value)
 unfolding statement_weight
 weight_update t at u is = ap all_weight_of (is ∙ sym (v.rolls-Update at u)) ∙ ap statement_weight
     (fold-roll-ResolvedStatement ResolvedStatementTree ResolvedStatementsTree statement_layer part_layer
     (ResolvedStatement-F.Update at u))
 
 pub weight_block : (t : ResolvedStatement) (at : _) (items : _) → t ≡ v.Block at items
-    → all_weight_of t ≡ statements_weight (trees.statements (map view_resolved_statement items.items))
+    → all_weight_of t ≡ statements_weight (trees.statements (map view.statement items.items))
 unfolding statement_weight
 weight_block t at items is = ap all_weight_of (is ∙ sym (v.rolls-Block at items)) ∙ ap statement_weight
     (fold-roll-ResolvedStatement ResolvedStatementTree ResolvedStatementsTree statement_layer part_layer
@@ -149,9 +148,9 @@ weight_if t at c s is = ap all_weight_of (is ∙ sym (v.rolls-If at c s)) ∙ ap
     (ResolvedStatement-F.If at c s))
 
 pub view_if_else : (t : ResolvedStatement) (at : _) (c : _) (s : _) (u : _) → t ≡ v.IfElse at c s u
-    → view_resolved_statement t
-    ≡ trees.IfElse at (view_resolved_expression c) (view_resolved_statement s.value) (view_resolved_statement u.value)
-view_if_else t at c s u is = ap view_resolved_statement (is ∙ sym (v.rolls-IfElse at c s u))
+    → view.statement t
+    ≡ trees.IfElse at (view.expression c) (view.statement s.value) (view.statement u.value)
+view_if_else t at c s u is = ap view.statement (is ∙ sym (v.rolls-IfElse at c s u))
     ∙ fold-roll-ResolvedStatement ResolvedStatementTree ResolvedStatementsTree statement_layer part_layer
     (ResolvedStatement-F.IfElse at c s u)
 
@@ -177,30 +176,30 @@ weight_do t at s c is = ap all_weight_of (is ∙ sym (v.rolls-Do at s c)) ∙ ap
     (ResolvedStatement-F.Do at s c))
 
 pub weight_for : (t : ResolvedStatement) (at : _) (h : _) (s : _) → t ≡ v.For at h s
-    → all_weight_of t ≡ start_weight (view_resolved_start h.value.start)
-    + (perhaps_weight (option_map view_resolved_expression h.value.condition)
-    + (perhaps_weight (option_map view_resolved_expression h.value.step) + all_weight_of s.value))
+    → all_weight_of t ≡ start_weight (view.start h.value.start)
+    + (perhaps_weight (option_map view.expression h.value.condition)
+    + (perhaps_weight (option_map view.expression h.value.step) + all_weight_of s.value))
 unfolding statement_weight
 weight_for t at h s is = ap all_weight_of (is ∙ sym (v.rolls-For at h s)) ∙ ap statement_weight
     (fold-roll-ResolvedStatement ResolvedStatementTree ResolvedStatementsTree statement_layer part_layer
     (ResolvedStatement-F.For at h s))
 
 pub weight_parallel : (t : ResolvedStatement) (at : _) (clauses : _) (captures : _) (s : _) → t ≡ v.Parallel at clauses captures s
-    → all_weight_of t ≡ 1 + (sum (map clause_weight (map view_resolved_clause clauses.items)) + all_weight_of s.value)
+    → all_weight_of t ≡ 1 + (sum (map clause_weight (map view.clause clauses.items)) + all_weight_of s.value)
 unfolding statement_weight
 weight_parallel t at clauses captures s is = ap all_weight_of (is ∙ sym (v.rolls-Parallel at clauses captures s)) ∙ ap statement_weight
     (fold-roll-ResolvedStatement ResolvedStatementTree ResolvedStatementsTree statement_layer part_layer
     (ResolvedStatement-F.Parallel at clauses captures s))
 
 pub weight_task : (t : ResolvedStatement) (at : _) (clauses : _) (captures : _) (s : _) → t ≡ v.Task at clauses captures s
-    → all_weight_of t ≡ 1 + (sum (map clause_weight (map view_resolved_clause clauses.items)) + all_weight_of s.value)
+    → all_weight_of t ≡ 1 + (sum (map clause_weight (map view.clause clauses.items)) + all_weight_of s.value)
 unfolding statement_weight
 weight_task t at clauses captures s is = ap all_weight_of (is ∙ sym (v.rolls-Task at clauses captures s)) ∙ ap statement_weight
     (fold-roll-ResolvedStatement ResolvedStatementTree ResolvedStatementsTree statement_layer part_layer
     (ResolvedStatement-F.Task at clauses captures s))
 
 pub weight_loop : (t : ResolvedStatement) (at : _) (clauses : _) (nowait : _) (l : _) (s : _) → t ≡ v.Loop at clauses nowait l s
-    → all_weight_of t ≡ sum (map clause_weight (map view_resolved_clause clauses.items)) + (loop_weight (view_resolved_loop l.value)
+    → all_weight_of t ≡ sum (map clause_weight (map view.clause clauses.items)) + (loop_weight (view.loop l.value)
     + all_weight_of s.value)
 unfolding statement_weight
 weight_loop t at clauses nowait l s is = ap all_weight_of (is ∙ sym (v.rolls-Loop at clauses nowait l s)) ∙ ap statement_weight
@@ -208,15 +207,15 @@ weight_loop t at clauses nowait l s is = ap all_weight_of (is ∙ sym (v.rolls-L
     (ResolvedStatement-F.Loop at clauses nowait l s))
 
 pub weight_sections : (t : ResolvedStatement) (at : _) (clauses : _) (nowait : _) (parts : _) → t ≡ v.Sections at clauses nowait parts
-    → all_weight_of t ≡ 1 + (sum (map clause_weight (map view_resolved_clause clauses.items)) + parts_weight
-    (trees.parts (map view_resolved_part parts.items)))
+    → all_weight_of t ≡ 1 + (sum (map clause_weight (map view.clause clauses.items)) + parts_weight
+    (trees.parts (map view.part parts.items)))
 unfolding statement_weight
 weight_sections t at clauses nowait parts is = ap all_weight_of (is ∙ sym (v.rolls-Sections at clauses nowait parts)) ∙ ap statement_weight
     (fold-roll-ResolvedStatement ResolvedStatementTree ResolvedStatementsTree statement_layer part_layer
     (ResolvedStatement-F.Sections at clauses nowait parts))
 
 pub weight_construct : (t : ResolvedStatement) (at : _) (kind : _) (clauses : _) (s : _) → t ≡ v.Construct at kind clauses s
-    → all_weight_of t ≡ 1 + (sum (map clause_weight (map view_resolved_clause clauses.items)) + all_weight_of s.value)
+    → all_weight_of t ≡ 1 + (sum (map clause_weight (map view.clause clauses.items)) + all_weight_of s.value)
 unfolding statement_weight
 weight_construct t at kind clauses s is = ap all_weight_of (is ∙ sym (v.rolls-Construct at kind clauses s)) ∙ ap statement_weight
     (fold-roll-ResolvedStatement ResolvedStatementTree ResolvedStatementsTree statement_layer part_layer
@@ -231,7 +230,7 @@ weight_tested t c s (inr is) = weight_while t is.0 c s is.1
 pub weight_region : (t : ResolvedStatement) (clauses : _) (s : _)
     → ((at : Span) × (captures : _) × (t ≡ v.Parallel at clauses captures s))
     ⊎ ((at : Span) × (captures : _) × (t ≡ v.Task at clauses captures s))
-    → all_weight_of t ≡ 1 + (sum (map clause_weight (map view_resolved_clause clauses.items)) + all_weight_of s.value)
+    → all_weight_of t ≡ 1 + (sum (map clause_weight (map view.clause clauses.items)) + all_weight_of s.value)
 weight_region t clauses s (inl is) = weight_parallel t is.0 clauses is.1 s is.2
 weight_region t clauses s (inr is) = weight_task t is.0 clauses is.1 s is.2
 
@@ -300,39 +299,39 @@ sum_left weigh see xs k x lt is =
     ∙ sum_by-cons (λ n. n) (weigh (see x)) (map weigh (map see (drop (k + 1) xs)))
 
 pub value_left : (es : List ResolvedExpression) (k : ℕ) (e : ResolvedExpression) → k < length es → e ≡ get_or es k e
-    → values_weight (trees.values (map view_resolved_expression (drop k es)))
-    ≡ weight_of e + values_weight (trees.values (map view_resolved_expression (drop (k + 1) es)))
+    → values_weight (trees.values (map view.expression (drop k es)))
+    ≡ weight_of e + values_weight (trees.values (map view.expression (drop (k + 1) es)))
 unfolding values_weight
 value_left es k e lt is =
-    ap (λ xs. values_weight (trees.values (map view_resolved_expression xs))) (next_left es k e lt is)
+    ap (λ xs. values_weight (trees.values (map view.expression xs))) (next_left es k e lt is)
 
 pub next_item : (items : List ResolvedStatement) (k : ℕ) (x : ResolvedStatement) → k < length items
     → x ≡ get_or items k x
-    → trees.statements (map view_resolved_statement (drop k items))
-    ≡ trees.Statement (view_resolved_statement x) (trees.statements (map view_resolved_statement (drop (k + 1) items)))
+    → trees.statements (map view.statement (drop k items))
+    ≡ trees.Statement (view.statement x) (trees.statements (map view.statement (drop (k + 1) items)))
 next_item items k x lt is =
-    ap (λ xs. trees.statements (map view_resolved_statement xs)) (next_left items k x lt is)
+    ap (λ xs. trees.statements (map view.statement xs)) (next_left items k x lt is)
 
 pub item_left : (items : List ResolvedStatement) (k : ℕ) (x : ResolvedStatement) → k < length items
     → x ≡ get_or items k x
-    → statements_weight (trees.statements (map view_resolved_statement (drop k items)))
-    ≡ all_weight_of x + statements_weight (trees.statements (map view_resolved_statement (drop (k + 1) items)))
+    → statements_weight (trees.statements (map view.statement (drop k items)))
+    ≡ all_weight_of x + statements_weight (trees.statements (map view.statement (drop (k + 1) items)))
 unfolding statements_weight
 item_left items k x lt is = ap (λ all. statements_weight all) (next_item items k x lt is)
 
 pub next_part : (parts : List ResolvedPart) (k : ℕ) (x : ResolvedPart) → k < length parts → x ≡ get_or parts k x
-    → trees.parts (map view_resolved_part (drop k parts))
-    ≡ trees.Part (trees.statements (map view_resolved_statement (out-ResolvedPart x).items.items))
-    (trees.parts (map view_resolved_part (drop (k + 1) parts)))
+    → trees.parts (map view.part (drop k parts))
+    ≡ trees.Part (trees.statements (map view.statement (out-ResolvedPart x).items.items))
+    (trees.parts (map view.part (drop (k + 1) parts)))
 next_part parts k x lt is =
-    ap (λ xs. trees.parts (map view_resolved_part xs)) (next_left parts k x lt is)
-    ∙ ap (λ items. trees.Part items (trees.parts (map view_resolved_part (drop (k + 1) parts))))
+    ap (λ xs. trees.parts (map view.part xs)) (next_left parts k x lt is)
+    ∙ ap (λ items. trees.Part items (trees.parts (map view.part (drop (k + 1) parts))))
     (fold_out-ResolvedPart ResolvedStatementTree ResolvedStatementsTree statement_layer part_layer x)
 
 pub part_left : (parts : List ResolvedPart) (k : ℕ) (x : ResolvedPart) → k < length parts → x ≡ get_or parts k x
-    → parts_weight (trees.parts (map view_resolved_part (drop k parts)))
-    ≡ statements_weight (trees.statements (map view_resolved_statement (out-ResolvedPart x).items.items))
-    + parts_weight (trees.parts (map view_resolved_part (drop (k + 1) parts)))
+    → parts_weight (trees.parts (map view.part (drop k parts)))
+    ≡ statements_weight (trees.statements (map view.statement (out-ResolvedPart x).items.items))
+    + parts_weight (trees.parts (map view.part (drop (k + 1) parts)))
 unfolding parts_weight
 part_left parts k x lt is = ap (λ all. parts_weight all) (next_part parts k x lt is)
 

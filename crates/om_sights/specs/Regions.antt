@@ -2,16 +2,16 @@
 use Rattle.std.specs.Prelude.{map}
 use Rattle.om_rows.specs.declared.copies.Region.{Region}
 use Rattle.om_resolved.specs.ResolvedTree.{ResolvedStatementTree}
-use Rattle.om_resolved.specs.ResolvedView.{view_resolved_clause, view_resolved_statement}
+use Rattle.om_resolved.specs.ResolvedView as view
 use Rattle.om_rows.specs.Bodies.{BodyTree, ParallelBody, TaskBody}
 
 abbrev pub statement_of : Region → ResolvedStatementTree
-statement_of region = view_resolved_statement region.statement.now
+statement_of region = view.statement region.statement.now
 
 abbrev pub parallel_tree : Region → BodyTree
 parallel_tree region =
-    ParallelBody region.at (map view_resolved_clause region.clauses.now) region.captures.now (statement_of region)
+    ParallelBody region.at (map view.clause region.clauses.now) region.captures.now (statement_of region)
 
 abbrev pub task_tree : Region → BodyTree
 task_tree region =
-    TaskBody region.at (map view_resolved_clause region.clauses.now) region.captures.now (statement_of region)
+    TaskBody region.at (map view.clause region.clauses.now) region.captures.now (statement_of region)

@@ -5,7 +5,7 @@ use Rattle.om_sights.specs.declared.sites.BodyPart.{BodyPart}
 use Rattle.om_sights.specs.declared.sites.BodyPart.TheVariants as parts
 use Rattle.om_sights.specs.declared.sites.Site.{Site}
 use Rattle.om_resolved.specs.ResolvedTree.{ResolvedFunctionTree, ResolvedStatementTree}
-use Rattle.om_resolved.specs.ResolvedView.{view_resolved_function}
+use Rattle.om_resolved.specs.ResolvedView as view
 use Rattle.om_rows.specs.Bodies.{BodySite, BodyTree, FunctionBody, Numbers, regions, variables_in}
 use Rattle.om_rows.specs.Numbering.{numbers_of}
 
@@ -21,14 +21,14 @@ variables_at f part = variables_in f (part_tree part)
 -- a body of a function, in a body with these variables
 abbrev pub body_in : List ℕ → Site → BodySite
 body_in outer site = record {
-  function = view_resolved_function site.function.now;
+  function = view.function site.function.now;
   tree = part_tree site.part;
   outer = outer;
   numbers = numbers_of site.numbers;
 }
 
 abbrev pub function_of : Site → ResolvedFunctionTree
-function_of site = view_resolved_function site.function.now
+function_of site = view.function site.function.now
 
 abbrev pub site_variables : Site → List ℕ
 site_variables site = variables_at (function_of site) site.part
@@ -48,7 +48,7 @@ body_round round site = body_in (innermost (round_of round site)) site
 
 -- those behind the begin of a body
 abbrev pub round_with : List (List ℕ) → Site → List (List ℕ)
-round_with round site = round_of round site ++ variables_at (view_resolved_function site.function.now) site.part ∷ []
+round_with round site = round_of round site ++ variables_at (view.function site.function.now) site.part ∷ []
 
 abbrev pub round_behind : List (List ℕ) → List Site → List (List ℕ)
 round_behind round [] = round

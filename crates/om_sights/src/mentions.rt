@@ -4,7 +4,7 @@
 ghost use Rattle.std.specs.Prelude.{◌≡◌, ◌<◌, ◌+◌, ◌++◌, OnOk, length, map, option_map, set, sum};
 ghost use Rattle.std.specs.List.{flat_map};
 ghost use Rattle.om_resolved.specs.ResolvedTree as trees;
-ghost use Rattle.om_resolved.specs.ResolvedView.{view_resolved_clause, view_resolved_declarator, view_resolved_expression, view_resolved_loop, view_resolved_part, view_resolved_start, view_resolved_statement, view_resolved_update};
+ghost use Rattle.om_resolved.specs.ResolvedView as view;
 ghost use Rattle.om_resolved.specs.Weights.{clause_weight, declarator_weight, expression_weight, loop_weight, parts_weight, perhaps_weight, start_weight, statement_weight, statements_weight, update_weight, values_weight};
 ghost use Rattle.om_rows.specs.Mentions.{all_mentioned, clause_mentioned, declarator_mentioned, expression_formats, loop_mentioned, mentioned, parts_mentioned, perhaps_mentioned, start_mentioned, update_mentioned, values_formats};
 ghost use Rattle.om_rows.specs.Slots.{cells_of_length};
@@ -46,8 +46,8 @@ pub(crate) struct Walk {
 // Notes the formats of an expression, in the order of the text.
 #[cycle(expression)]
 fn note_expression(formats: &mut Texts, alloc: Global, expression: &ResolvedExpression) -> Made<()>
-    requires room { IsRoomFor (expression_weight (view_resolved_expression expression.now)) (length formats.old) }
-    ensures { let tree = view_resolved_expression expression.now in
+    requires room { IsRoomFor (expression_weight (view.expression expression.now)) (length formats.old) }
+    ensures { let tree = view.expression expression.now in
         OnOk result (formats.new ≡ noted formats.old (expression_formats tree)) }
 {
     match expression {
@@ -90,9 +90,9 @@ fn note_expression(formats: &mut Texts, alloc: Global, expression: &ResolvedExpr
 // Notes the formats of the values of a call.
 #[cycle(expression)]
 fn note_values(formats: &mut Texts, alloc: Global, values: &[ResolvedExpression]) -> Made<()>
-    requires room { let tree = trees.values (map view_resolved_expression values.now) in
+    requires room { let tree = trees.values (map view.expression values.now) in
         IsRoomFor (values_weight tree) (length formats.old) }
-    ensures { let tree = trees.values (map view_resolved_expression values.now) in
+    ensures { let tree = trees.values (map view.expression values.now) in
         OnOk result (formats.new ≡ noted formats.old (values_formats tree)) }
 {
     for value in values {
@@ -103,8 +103,8 @@ fn note_values(formats: &mut Texts, alloc: Global, values: &[ResolvedExpression]
 
 // Notes what an expression mentions.
 fn note_value(found: &mut Mentions, value: &ResolvedExpression) -> Made<()>
-    requires room { HasTextRoom (expression_weight (view_resolved_expression value.now)) found.old }
-    ensures { let tree = view_resolved_expression value.now in
+    requires room { HasTextRoom (expression_weight (view.expression value.now)) found.old }
+    ensures { let tree = view.expression value.now in
         OnOk result (AreNoted (λ A m. m.in_expression tree) found.old found.new) }
 {
     note_expression(&mut found.formats, found.alloc, value)
@@ -112,9 +112,9 @@ fn note_value(found: &mut Mentions, value: &ResolvedExpression) -> Made<()>
 
 // Notes the formats of an expression that may be left out.
 fn note_perhaps(found: &mut Mentions, expression: &Option<ResolvedExpression>) -> Made<()>
-    requires room { let tree = option_map view_resolved_expression expression.now in
+    requires room { let tree = option_map view.expression expression.now in
         HasTextRoom (perhaps_weight tree) found.old }
-    ensures { let tree = option_map view_resolved_expression expression.now in
+    ensures { let tree = option_map view.expression expression.now in
         OnOk result (AreNoted (λ A m. perhaps_mentioned m tree) found.old found.new) }
 {
     let Some(expression) = expression else {
@@ -132,9 +132,9 @@ fn cells_of(length: Option<u32>) -> u32
 
 // Notes declared variables.
 fn note_declarators(found: &mut Mentions, declarators: &[ResolvedDeclarator]) -> Made<()>
-    requires room { let tree = map view_resolved_declarator declarators.now in
+    requires room { let tree = map view.declarator declarators.now in
         HasTextRoom (sum (map declarator_weight tree)) found.old }
-    ensures { let tree = map view_resolved_declarator declarators.now in
+    ensures { let tree = map view.declarator declarators.now in
         OnOk result (AreNoted (λ A m. flat_map (declarator_mentioned m) tree) found.old found.new) }
 {
     for declarator in declarators {
@@ -147,8 +147,8 @@ fn note_declarators(found: &mut Mentions, declarators: &[ResolvedDeclarator]) ->
 
 // Notes the beginning of a `for`.
 fn note_start(found: &mut Mentions, start: &ResolvedStart) -> Made<()>
-    requires room { HasTextRoom (start_weight (view_resolved_start start.now)) found.old }
-    ensures { let tree = view_resolved_start start.now in
+    requires room { HasTextRoom (start_weight (view.start start.now)) found.old }
+    ensures { let tree = view.start start.now in
         OnOk result (AreNoted (λ A m. start_mentioned m tree) found.old found.new) }
 {
     match start {
@@ -160,8 +160,8 @@ fn note_start(found: &mut Mentions, start: &ResolvedStart) -> Made<()>
 
 // Notes a clause.
 fn note_clause(found: &mut Mentions, clause: &ResolvedClause) -> Made<()>
-    requires room { HasTextRoom (clause_weight (view_resolved_clause clause.now)) found.old }
-    ensures { let tree = view_resolved_clause clause.now in
+    requires room { HasTextRoom (clause_weight (view.clause clause.now)) found.old }
+    ensures { let tree = view.clause clause.now in
         OnOk result (AreNoted (λ A m. clause_mentioned m tree) found.old found.new) }
 {
     let ResolvedClause::Value { value, .. } = clause else {
@@ -172,9 +172,9 @@ fn note_clause(found: &mut Mentions, clause: &ResolvedClause) -> Made<()>
 
 // Notes clauses.
 fn note_clauses(found: &mut Mentions, clauses: &[ResolvedClause]) -> Made<()>
-    requires room { let tree = map view_resolved_clause clauses.now in
+    requires room { let tree = map view.clause clauses.now in
         HasTextRoom (sum (map clause_weight tree)) found.old }
-    ensures { let tree = map view_resolved_clause clauses.now in
+    ensures { let tree = map view.clause clauses.now in
         OnOk result (AreNoted (λ A m. flat_map (clause_mentioned m) tree) found.old found.new) }
 {
     for clause in clauses {
@@ -185,8 +185,8 @@ fn note_clauses(found: &mut Mentions, clauses: &[ResolvedClause]) -> Made<()>
 
 // Notes the bounds of a canonical loop.
 fn note_loop(found: &mut Mentions, repeated: &ResolvedLoop) -> Made<()>
-    requires room { HasTextRoom (loop_weight (view_resolved_loop repeated.now)) found.old }
-    ensures { let tree = view_resolved_loop repeated.now in
+    requires room { HasTextRoom (loop_weight (view.loop repeated.now)) found.old }
+    ensures { let tree = view.loop repeated.now in
         OnOk result (AreNoted (λ A m. loop_mentioned m tree) found.old found.new) }
 {
     note_value(found, &repeated.from)?;
@@ -195,8 +195,8 @@ fn note_loop(found: &mut Mentions, repeated: &ResolvedLoop) -> Made<()>
 
 // Notes an atomic update.
 fn note_update(found: &mut Mentions, update: &ResolvedUpdate) -> Made<()>
-    requires room { HasTextRoom (update_weight (view_resolved_update update.now)) found.old }
-    ensures { let tree = view_resolved_update update.now in
+    requires room { HasTextRoom (update_weight (view.update update.now)) found.old }
+    ensures { let tree = view.update update.now in
         OnOk result (AreNoted (λ A m. update_mentioned m tree) found.old found.new) }
 {
     note_perhaps(found, &update.index)?;
@@ -219,13 +219,13 @@ fn note_construct(found: &mut Mentions, kind: &ConstructKind) -> Made<()>
 
 // Notes the head of a `for`.
 fn note_head(found: &mut Mentions, head: &ResolvedHead) -> Made<()>
-    requires room { let first = view_resolved_start head.now.start in
-        let test = option_map view_resolved_expression head.now.condition in
-        let after = option_map view_resolved_expression head.now.step in
+    requires room { let first = view.start head.now.start in
+        let test = option_map view.expression head.now.condition in
+        let after = option_map view.expression head.now.step in
         HasTextRoom (start_weight first + (perhaps_weight test + perhaps_weight after)) found.old }
-    ensures { let first = view_resolved_start head.now.start in
-        let test = option_map view_resolved_expression head.now.condition in
-        let after = option_map view_resolved_expression head.now.step in
+    ensures { let first = view.start head.now.start in
+        let test = option_map view.expression head.now.condition in
+        let after = option_map view.expression head.now.step in
         OnOk result (AreNoted
         (λ A m. start_mentioned m first ++ (perhaps_mentioned m test ++ perhaps_mentioned m after))
         found.old found.new) }
@@ -246,13 +246,13 @@ pub(crate) fn put_end(ends: &mut Vec<Numbers>, index: usize, behind: Numbers)
 // Walks over the body of a region.
 #[cycle(statement)]
 fn note_region(walk: &mut Walk, body: &ResolvedStatement) -> Made<()>
-    requires room { HasRoom (1 + statement_weight (view_resolved_statement body.now)) walk.old }
-    ensures behind { let tree = view_resolved_statement body.now in
+    requires room { HasRoom (1 + statement_weight (view.statement body.now)) walk.old }
+    ensures behind { let tree = view.statement body.now in
         OnOk result (numbers_of walk.new.numbers ≡ bodies.behind (bodies.next_body (numbers_of walk.old.numbers)) tree) }
-    ensures ends { let tree = view_resolved_statement body.now in
+    ensures ends { let tree = view.statement body.now in
         OnOk result (map numbers_of walk.new.ends.items
         ≡ map numbers_of walk.old.ends.items ++ body_ends (numbers_of walk.old.numbers) tree) }
-    ensures noted { let tree = view_resolved_statement body.now in
+    ensures noted { let tree = view.statement body.now in
         OnOk result (AreNoted (λ A m. mentioned m tree) walk.old.found walk.new.found) }
 {
     let inner = walk.numbers.next_body();
@@ -267,13 +267,13 @@ fn note_region(walk: &mut Walk, body: &ResolvedStatement) -> Made<()>
 // Walks over a statement and the regions in it, in the order of the text.
 #[cycle(statement)]
 fn note_statement(walk: &mut Walk, statement: &ResolvedStatement) -> Made<()>
-    requires room { HasRoom (statement_weight (view_resolved_statement statement.now)) walk.old }
-    ensures behind { let tree = view_resolved_statement statement.now in
+    requires room { HasRoom (statement_weight (view.statement statement.now)) walk.old }
+    ensures behind { let tree = view.statement statement.now in
         OnOk result (numbers_of walk.new.numbers ≡ bodies.behind (numbers_of walk.old.numbers) tree) }
-    ensures ends { let tree = view_resolved_statement statement.now in
+    ensures ends { let tree = view.statement statement.now in
         OnOk result (map numbers_of walk.new.ends.items
         ≡ map numbers_of walk.old.ends.items ++ region_ends (numbers_of walk.old.numbers) tree) }
-    ensures noted { let tree = view_resolved_statement statement.now in
+    ensures noted { let tree = view.statement statement.now in
         OnOk result (AreNoted (λ A m. mentioned m tree) walk.old.found walk.new.found) }
 {
     match statement {
@@ -359,14 +359,14 @@ fn note_statement(walk: &mut Walk, statement: &ResolvedStatement) -> Made<()>
 /// Walks over statements.
 #[cycle(statement)]
 pub(crate) fn note_statements(walk: &mut Walk, items: &[ResolvedStatement]) -> Made<()>
-    requires room { let tree = trees.statements (map view_resolved_statement items.now) in
+    requires room { let tree = trees.statements (map view.statement items.now) in
         HasRoom (statements_weight tree) walk.old }
-    ensures behind { let tree = trees.statements (map view_resolved_statement items.now) in
+    ensures behind { let tree = trees.statements (map view.statement items.now) in
         OnOk result (numbers_of walk.new.numbers ≡ bodies.behind_all (numbers_of walk.old.numbers) tree) }
-    ensures ends { let tree = trees.statements (map view_resolved_statement items.now) in
+    ensures ends { let tree = trees.statements (map view.statement items.now) in
         OnOk result (map numbers_of walk.new.ends.items
         ≡ map numbers_of walk.old.ends.items ++ all_region_ends (numbers_of walk.old.numbers) tree) }
-    ensures noted { let tree = trees.statements (map view_resolved_statement items.now) in
+    ensures noted { let tree = trees.statements (map view.statement items.now) in
         OnOk result (AreNoted (λ A m. all_mentioned m tree) walk.old.found walk.new.found) }
 {
     for item in items {
@@ -378,14 +378,14 @@ pub(crate) fn note_statements(walk: &mut Walk, items: &[ResolvedStatement]) -> M
 // Walks over the parts of `sections`.
 #[cycle(statement)]
 fn note_parts(walk: &mut Walk, parts: &[ResolvedPart]) -> Made<()>
-    requires room { let tree = trees.parts (map view_resolved_part parts.now) in
+    requires room { let tree = trees.parts (map view.part parts.now) in
         HasRoom (parts_weight tree) walk.old }
-    ensures behind { let tree = trees.parts (map view_resolved_part parts.now) in
+    ensures behind { let tree = trees.parts (map view.part parts.now) in
         OnOk result (numbers_of walk.new.numbers ≡ bodies.behind_parts (numbers_of walk.old.numbers) tree) }
-    ensures ends { let tree = trees.parts (map view_resolved_part parts.now) in
+    ensures ends { let tree = trees.parts (map view.part parts.now) in
         OnOk result (map numbers_of walk.new.ends.items
         ≡ map numbers_of walk.old.ends.items ++ parts_region_ends (numbers_of walk.old.numbers) tree) }
-    ensures noted { let tree = trees.parts (map view_resolved_part parts.now) in
+    ensures noted { let tree = trees.parts (map view.part parts.now) in
         OnOk result (AreNoted (λ A m. parts_mentioned m tree) walk.old.found walk.new.found) }
 {
     for part in parts {

@@ -4,7 +4,7 @@ ghost use Rattle.std.specs.Prelude.{◌≡◌, ◌++◌, OnOk, IfOk, map, option
 ghost use Rattle.std.specs.List.{flat_map};
 ghost use Rattle.om_resolved.specs.Captures.{perhaps_uses};
 ghost use Rattle.om_resolved.specs.ResolvedTree as trees;
-ghost use Rattle.om_resolved.specs.ResolvedView.{view_resolved_clause, view_resolved_declarator, view_resolved_expression, view_resolved_function, view_resolved_loop, view_resolved_part, view_resolved_start, view_resolved_statement};
+ghost use Rattle.om_resolved.specs.ResolvedView as view;
 ghost use Rattle.om_rows.specs.Bodies as bodies;
 ghost use Rattle.om_rows.specs.Slots.{clause_sights, declarator_sights, loop_sights, parameter_sight, parts_sights, region_clause_sights, start_sights, statement_sights, statements_sights};
 ghost use Rattle.om_sights.specs.Sighted.{Sees};
@@ -23,7 +23,7 @@ use std::alloc::Global;
 /// The variables of a function's own body, by their slots: parameters first.
 pub fn function_variables(alloc: Global, function: &ResolvedFunction) -> Made<Variables>
     ensures { IfOk result
-        (λ made. made ≡ bodies.function_variables (view_resolved_function function.now)) }
+        (λ made. made ≡ bodies.function_variables (view.function function.now)) }
 {
     let mut variables = Variables::new(alloc);
     see_parameters(&mut variables, function.parameters.as_slice())?;
@@ -37,9 +37,9 @@ pub fn region_variables(
     clauses: &[ResolvedClause],
     body: &ResolvedStatement,
 ) -> Made<Variables>
-    ensures { let trees = map view_resolved_clause clauses.now in
+    ensures { let trees = map view.clause clauses.now in
         IfOk result
-        (λ made. made ≡ bodies.region_variables trees (view_resolved_statement body.now)) }
+        (λ made. made ≡ bodies.region_variables trees (view.statement body.now)) }
 {
     let mut variables = Variables::new(alloc);
     see_region_clauses(&mut variables, clauses)?;
@@ -59,7 +59,7 @@ fn see_parameters(seen: &mut Variables, parameters: &[LocalVariable]) -> Made<()
 
 // Sees declared names, and after each what it begins as.
 fn see_declarators(seen: &mut Variables, declarators: &[ResolvedDeclarator]) -> Made<()>
-    ensures { let trees = map view_resolved_declarator declarators.now in
+    ensures { let trees = map view.declarator declarators.now in
         OnOk result (Sees (flat_map declarator_sights trees) seen.old seen.new) }
 {
     for declarator in declarators {
@@ -71,7 +71,7 @@ fn see_declarators(seen: &mut Variables, declarators: &[ResolvedDeclarator]) -> 
 
 // Sees the beginning of a `for`.
 fn see_start(seen: &mut Variables, start: &ResolvedStart) -> Made<()>
-    ensures { OnOk result (Sees (start_sights (view_resolved_start start.now)) seen.old seen.new) }
+    ensures { OnOk result (Sees (start_sights (view.start start.now)) seen.old seen.new) }
 {
     match start {
         ResolvedStart::Nothing => Ok(()),
@@ -82,7 +82,7 @@ fn see_start(seen: &mut Variables, start: &ResolvedStart) -> Made<()>
 
 // Sees a clause of a construct in whose body it stands.
 fn see_clause(seen: &mut Variables, clause: &ResolvedClause) -> Made<()>
-    ensures { OnOk result (Sees (clause_sights (view_resolved_clause clause.now)) seen.old seen.new) }
+    ensures { OnOk result (Sees (clause_sights (view.clause clause.now)) seen.old seen.new) }
 {
     match clause {
         ResolvedClause::Value { value, .. } => take_expression(seen, value),
@@ -100,7 +100,7 @@ fn see_clause(seen: &mut Variables, clause: &ResolvedClause) -> Made<()>
 
 // Sees clauses of a construct in whose body they stand.
 fn see_clauses(seen: &mut Variables, clauses: &[ResolvedClause]) -> Made<()>
-    ensures { let trees = map view_resolved_clause clauses.now in
+    ensures { let trees = map view.clause clauses.now in
         OnOk result (Sees (flat_map clause_sights trees) seen.old seen.new) }
 {
     for clause in clauses {
@@ -111,7 +111,7 @@ fn see_clauses(seen: &mut Variables, clauses: &[ResolvedClause]) -> Made<()>
 
 // Sees a clause of a `parallel` or a `task`, in its body.
 fn see_region_clause(seen: &mut Variables, clause: &ResolvedClause) -> Made<()>
-    ensures { let sights = region_clause_sights (view_resolved_clause clause.now) in
+    ensures { let sights = region_clause_sights (view.clause clause.now) in
         OnOk result (Sees sights seen.old seen.new) }
 {
     match clause {
@@ -130,7 +130,7 @@ fn see_region_clause(seen: &mut Variables, clause: &ResolvedClause) -> Made<()>
 
 // Sees the clauses of a `parallel` or a `task`, in its body.
 fn see_region_clauses(seen: &mut Variables, clauses: &[ResolvedClause]) -> Made<()>
-    ensures { let trees = map view_resolved_clause clauses.now in
+    ensures { let trees = map view.clause clauses.now in
         OnOk result (Sees (flat_map region_clause_sights trees) seen.old seen.new) }
 {
     for clause in clauses {
@@ -141,7 +141,7 @@ fn see_region_clauses(seen: &mut Variables, clauses: &[ResolvedClause]) -> Made<
 
 // Sees the iteration variable of a canonical loop and then its bounds.
 fn see_loop(seen: &mut Variables, repeated: &ResolvedLoop) -> Made<()>
-    ensures { OnOk result (Sees (loop_sights (view_resolved_loop repeated.now)) seen.old seen.new) }
+    ensures { OnOk result (Sees (loop_sights (view.loop repeated.now)) seen.old seen.new) }
 {
     seen.add(repeated.variable.at)?;
     take_expression(seen, &repeated.from)?;
@@ -150,9 +150,9 @@ fn see_loop(seen: &mut Variables, repeated: &ResolvedLoop) -> Made<()>
 
 // Sees the head of a `for`.
 fn see_head(seen: &mut Variables, head: &ResolvedHead) -> Made<()>
-    ensures { let test = option_map view_resolved_expression head.now.condition in
-        let step_tree = option_map view_resolved_expression head.now.step in
-        let sights = start_sights (view_resolved_start head.now.start)
+    ensures { let test = option_map view.expression head.now.condition in
+        let step_tree = option_map view.expression head.now.step in
+        let sights = start_sights (view.start head.now.start)
         ++ (perhaps_uses test ++ perhaps_uses step_tree) in
         OnOk result (Sees sights seen.old seen.new) }
 {
@@ -164,7 +164,7 @@ fn see_head(seen: &mut Variables, head: &ResolvedHead) -> Made<()>
 // Sees a statement. The bodies of regions in it have slots of their own.
 #[cycle(statement)]
 fn see_statement(seen: &mut Variables, statement: &ResolvedStatement) -> Made<()>
-    ensures { let sights = statement_sights (view_resolved_statement statement.now) in
+    ensures { let sights = statement_sights (view.statement statement.now) in
         OnOk result (Sees sights seen.old seen.new) }
 {
     match statement {
@@ -251,7 +251,7 @@ fn see_statement(seen: &mut Variables, statement: &ResolvedStatement) -> Made<()
 // Sees statements.
 #[cycle(statement)]
 fn see_statements(seen: &mut Variables, items: &[ResolvedStatement]) -> Made<()>
-    ensures { let tree = trees.statements (map view_resolved_statement items.now) in
+    ensures { let tree = trees.statements (map view.statement items.now) in
         OnOk result (Sees (statements_sights tree) seen.old seen.new) }
 {
     for item in items {
@@ -263,7 +263,7 @@ fn see_statements(seen: &mut Variables, items: &[ResolvedStatement]) -> Made<()>
 // Sees the parts of `sections`.
 #[cycle(statement)]
 fn see_parts(seen: &mut Variables, parts: &[ResolvedPart]) -> Made<()>
-    ensures { let tree = trees.parts (map view_resolved_part parts.now) in
+    ensures { let tree = trees.parts (map view.part parts.now) in
         OnOk result (Sees (parts_sights tree) seen.old seen.new) }
 {
     for part in parts {

@@ -4,7 +4,7 @@ ghost use Rattle.std.specs.Prelude.{◌≡◌, ◌<◌, ◌+◌, [], OnOk, IfOk,
 ghost use Rattle.om_sights.specs.Sites.{AddsBodies, IsOpen, bodies_in, function_of, region_bodies, site_variables};
 ghost use Rattle.om_sights.specs.Room.{HasNumbers};
 ghost use Rattle.om_resolved.specs.ResolvedTree as trees;
-ghost use Rattle.om_resolved.specs.ResolvedView.{view_resolved_function, view_resolved_part, view_resolved_statement};
+ghost use Rattle.om_resolved.specs.ResolvedView as view;
 ghost use Rattle.om_resolved.specs.Weights.{function_weight, parts_weight, statement_weight, statements_weight};
 ghost use Rattle.om_rows.specs.Bodies as bodies;
 ghost use Rattle.om_rows.specs.Numbering.{numbers_of};
@@ -37,8 +37,8 @@ pub fn sites_of<'a>(
     function: &'a ResolvedFunction,
     numbers: Numbers,
 ) -> Made<Vec<Site<'a>>>
-    requires room { HasNumbers (function_weight (view_resolved_function function.now)) numbers }
-    ensures { let tree = view_resolved_function function.now in
+    requires room { HasNumbers (function_weight (view.function function.now)) numbers }
+    ensures { let tree = view.function function.now in
         IfOk result (λ sites.
         bodies_in [] sites.items ≡ bodies.function_bodies (numbers_of numbers) tree) }
 {
@@ -74,12 +74,12 @@ fn see_region<'a>(
     body: &'a ResolvedStatement,
 ) -> Made<Numbers>
     requires round { IsOpen round.now sites.old.items }
-    requires room { HasNumbers (1 + statement_weight (view_resolved_statement body.now)) numbers }
+    requires room { HasNumbers (1 + statement_weight (view.statement body.now)) numbers }
     ensures behind { let n = bodies.next_body (numbers_of numbers) in
-        let tree = view_resolved_statement body.now in
+        let tree = view.statement body.now in
         IfOk result (λ behind. numbers_of behind ≡ bodies.behind n tree) }
     ensures sites { let n = bodies.next_body (numbers_of numbers) in
-        let added = region_bodies round.now part.now n (view_resolved_statement body.now) in
+        let added = region_bodies round.now part.now n (view.statement body.now) in
         OnOk result (AddsBodies round.now added sites.old.items sites.new.items) }
 {
     let inner = numbers.next_body();
@@ -103,11 +103,11 @@ fn see_statement<'a>(
     statement: &'a ResolvedStatement,
 ) -> Made<Numbers>
     requires round { IsOpen round.now sites.old.items }
-    requires room { HasNumbers (statement_weight (view_resolved_statement statement.now)) numbers }
-    ensures behind { let tree = view_resolved_statement statement.now in
+    requires room { HasNumbers (statement_weight (view.statement statement.now)) numbers }
+    ensures behind { let tree = view.statement statement.now in
         IfOk result (λ behind. numbers_of behind ≡ bodies.behind (numbers_of numbers) tree) }
     ensures sites { let regions = bodies.regions (function_of round.now) (site_variables round.now) in
-        let added = regions (numbers_of numbers) (view_resolved_statement statement.now) in
+        let added = regions (numbers_of numbers) (view.statement statement.now) in
         OnOk result (AddsBodies round.now added sites.old.items sites.new.items) }
 {
     match statement {
@@ -175,11 +175,11 @@ fn see_statements<'a>(
     items: &'a [ResolvedStatement],
 ) -> Made<Numbers>
     requires round { IsOpen round.now sites.old.items }
-    requires room { let tree = trees.statements (map view_resolved_statement items.now) in
+    requires room { let tree = trees.statements (map view.statement items.now) in
         HasNumbers (statements_weight tree) numbers }
-    ensures behind { let tree = trees.statements (map view_resolved_statement items.now) in
+    ensures behind { let tree = trees.statements (map view.statement items.now) in
         IfOk result (λ behind. numbers_of behind ≡ bodies.behind_all (numbers_of numbers) tree) }
-    ensures sites { let tree = trees.statements (map view_resolved_statement items.now) in
+    ensures sites { let tree = trees.statements (map view.statement items.now) in
         let regions = bodies.all_regions (function_of round.now) (site_variables round.now) in
         let added = regions (numbers_of numbers) tree in
         OnOk result (AddsBodies round.now added sites.old.items sites.new.items) }
@@ -200,11 +200,11 @@ fn see_parts<'a>(
     parts: &'a [ResolvedPart],
 ) -> Made<Numbers>
     requires round { IsOpen round.now sites.old.items }
-    requires room { let tree = trees.parts (map view_resolved_part parts.now) in
+    requires room { let tree = trees.parts (map view.part parts.now) in
         HasNumbers (parts_weight tree) numbers }
-    ensures behind { let tree = trees.parts (map view_resolved_part parts.now) in
+    ensures behind { let tree = trees.parts (map view.part parts.now) in
         IfOk result (λ behind. numbers_of behind ≡ bodies.behind_parts (numbers_of numbers) tree) }
-    ensures sites { let tree = trees.parts (map view_resolved_part parts.now) in
+    ensures sites { let tree = trees.parts (map view.part parts.now) in
         let regions = bodies.parts_regions (function_of round.now) (site_variables round.now) in
         let added = regions (numbers_of numbers) tree in
         OnOk result (AddsBodies round.now added sites.old.items sites.new.items) }

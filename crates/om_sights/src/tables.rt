@@ -2,7 +2,7 @@
 
 ghost use Rattle.std.specs.Prelude.{◌≡◌, ◌++◌, ◌∷◌, [], OnOk, IfOk, map, sum};
 ghost use Rattle.std.specs.List.{AllZip, flat_map};
-ghost use Rattle.om_resolved.specs.ResolvedView.{view_resolved, view_resolved_function};
+ghost use Rattle.om_resolved.specs.ResolvedView as view;
 ghost use Rattle.om_resolved.specs.Weights.{HasSmallWeight, function_weight};
 ghost use Rattle.om_rows.specs.Bodies as bodies;
 ghost use Rattle.om_rows.specs.Mentions.{format_mention, function_mentioned, lock_mention};
@@ -27,8 +27,8 @@ struct Functions {
 
 /// The tables of a tree: one walk over it finds them all.
 pub fn tables_of(alloc: Global, resolved: &Resolved) -> Made<Tables>
-    requires small { HasSmallWeight (view_resolved resolved.now) }
-    ensures { IfOk result (λ tables. IsTablesOf (view_resolved resolved.now) tables) }
+    requires small { HasSmallWeight (view.resolved resolved.now) }
+    ensures { IfOk result (λ tables. IsTablesOf (view.resolved resolved.now) tables) }
 {
     let found = Mentions {
         alloc,
@@ -73,23 +73,23 @@ fn note_functions(made: &mut Functions, functions: &[ResolvedFunction]) -> Made<
     requires numbers { numbers_of made.old.walk.numbers ≡ bodies.first_numbers }
     requires empty { made.old.walk.found.extents ≡ [] }
     requires none { made.old.extents.items ≡ [] }
-    requires room { let trees = map view_resolved_function functions.now in
+    requires room { let trees = map view.function functions.now in
         HasRoom (sum (map function_weight trees)) made.old.walk }
     ensures behind { OnOk result (numbers_of made.new.walk.numbers
-        ≡ bodies.behind_functions bodies.first_numbers (map view_resolved_function functions.now)) }
-    ensures formats { let trees = map view_resolved_function functions.now in
+        ≡ bodies.behind_functions bodies.first_numbers (map view.function functions.now)) }
+    ensures formats { let trees = map view.function functions.now in
         let sights = flat_map (function_mentioned format_mention) trees in
         OnOk result (made.new.walk.found.formats ≡ noted made.old.walk.found.formats sights) }
-    ensures locks { let trees = map view_resolved_function functions.now in
+    ensures locks { let trees = map view.function functions.now in
         let sights = flat_map (function_mentioned lock_mention) trees in
         OnOk result (made.new.walk.found.locks ≡ noted made.old.walk.found.locks sights) }
     ensures bodies { OnOk result (made.new.bodies.items ≡ made.old.bodies.items
-        ++ function_numbers bodies.first_numbers (map view_resolved_function functions.now)) }
+        ++ function_numbers bodies.first_numbers (map view.function functions.now)) }
     ensures ends { OnOk result (map numbers_of made.new.walk.ends.items
         ≡ map numbers_of made.old.walk.ends.items
-        ++ ends_from bodies.first_numbers (map view_resolved_function functions.now)) }
+        ++ ends_from bodies.first_numbers (map view.function functions.now)) }
     ensures cells { OnOk result
-        (AllZip AreCellsOf (map view_resolved_function functions.now) made.new.extents.items) }
+        (AllZip AreCellsOf (map view.function functions.now) made.new.extents.items) }
 {
     for function in functions {
         note_function(made, function)?;
@@ -100,14 +100,14 @@ fn note_functions(made: &mut Functions, functions: &[ResolvedFunction]) -> Made<
 // Walks over a function.
 fn note_function(made: &mut Functions, function: &ResolvedFunction) -> Made<()>
     requires empty { made.old.walk.found.extents ≡ [] }
-    requires room { HasRoom (function_weight (view_resolved_function function.now)) made.old.walk }
-    ensures behind { let tree = view_resolved_function function.now in
+    requires room { HasRoom (function_weight (view.function function.now)) made.old.walk }
+    ensures behind { let tree = view.function function.now in
         let behind = bodies.behind_function (numbers_of made.old.walk.numbers) tree in
         OnOk result (numbers_of made.new.walk.numbers ≡ behind) }
-    ensures formats { let tree = view_resolved_function function.now in
+    ensures formats { let tree = view.function function.now in
         let sights = function_mentioned format_mention tree in
         OnOk result (made.new.walk.found.formats ≡ noted made.old.walk.found.formats sights) }
-    ensures locks { let tree = view_resolved_function function.now in
+    ensures locks { let tree = view.function function.now in
         let sights = function_mentioned lock_mention tree in
         OnOk result (made.new.walk.found.locks ≡ noted made.old.walk.found.locks sights) }
     ensures empty { OnOk result (made.new.walk.found.extents ≡ []) }
@@ -115,8 +115,8 @@ fn note_function(made: &mut Functions, function: &ResolvedFunction) -> Made<()>
         ≡ made.old.bodies.items ++ made.old.walk.numbers.bodies ∷ []) }
     ensures ends { let ends = function_ends (numbers_of made.old.walk.numbers) in
         OnOk result (map numbers_of made.new.walk.ends.items
-        ≡ map numbers_of made.old.walk.ends.items ++ ends (view_resolved_function function.now)) }
-    ensures cells { let tree = view_resolved_function function.now in
+        ≡ map numbers_of made.old.walk.ends.items ++ ends (view.function function.now)) }
+    ensures cells { let tree = view.function function.now in
         OnOk result (AddsCells tree made.old.extents.items made.new.extents.items) }
 {
     made.bodies.push(made.walk.numbers.bodies)?;
@@ -129,13 +129,13 @@ fn note_function(made: &mut Functions, function: &ResolvedFunction) -> Made<()>
 
 // Walks over the body of a function.
 fn note_body(walk: &mut Walk, function: &ResolvedFunction) -> Made<()>
-    requires room { HasRoom (function_weight (view_resolved_function function.now)) walk.old }
-    ensures behind { let tree = view_resolved_function function.now in
+    requires room { HasRoom (function_weight (view.function function.now)) walk.old }
+    ensures behind { let tree = view.function function.now in
         OnOk result (numbers_of walk.new.numbers ≡ bodies.behind_function (numbers_of walk.old.numbers) tree) }
-    ensures ends { let tree = view_resolved_function function.now in
+    ensures ends { let tree = view.function function.now in
         OnOk result (map numbers_of walk.new.ends.items
         ≡ map numbers_of walk.old.ends.items ++ function_ends (numbers_of walk.old.numbers) tree) }
-    ensures noted { let tree = view_resolved_function function.now in
+    ensures noted { let tree = view.function function.now in
         OnOk result (AreNoted (λ A m. function_mentioned m tree) walk.old.found walk.new.found) }
 {
     let inner = walk.numbers.next_body();

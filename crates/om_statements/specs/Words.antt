@@ -1,9 +1,6 @@
 -- What contracts of this crate name, from here and from the crates below.
 pub use Rattle.om_emit.specs.Drafts.{HasNoTarget, Written, nothing}
 pub use Rattle.om_emit.specs.Emits.{Appends, listed, names_at}
-pub use Rattle.om_resolved.specs.ResolvedView.{view_resolved_clause, view_resolved_declarator}
-pub use Rattle.om_resolved.specs.ResolvedView.{view_resolved_expression}
-pub use Rattle.om_resolved.specs.ResolvedView.{view_resolved_start, view_resolved_statement, view_resolved_update}
 pub use Rattle.om_rows.specs.Coded.{AssignmentHasCode, CallHasCode, DeclaratorHasCode, EffectHasCode}
 pub use Rattle.om_rows.specs.Coded.{StartHasCode, UpdateHasCode, ValueHasCode}
 pub use Rattle.om_rows.specs.Expressions.{effect}

@@ -3,7 +3,8 @@
 ghost use Rattle.std.specs.Prelude.{◌≡◌, OnOk, is_some, true};
 ghost use Rattle.om_statements.specs.Words.{Appends, AssignmentHasCode, EmitsAnywhere, EmitsJump, UpdateHasCode};
 ghost use Rattle.om_statements.specs.Words.{alone_row, assignment_row, barrier, update_row};
-ghost use Rattle.om_statements.specs.Words.{view_resolved_statement, view_resolved_update, worksharing_end};
+ghost use Rattle.om_statements.specs.Words.{worksharing_end};
+ghost use Rattle.om_resolved.specs.ResolvedView as view;
 
 use crate::operator::{side_of, update_of};
 use crate::unused::effect;
@@ -41,8 +42,8 @@ pub fn stand_alone(draft: &mut Draft, line: u32, directive: &StandAlone) -> Done
 
 /// Writes an `atomic` that updates (OpenMP API 5.2, section 15.8.4).
 pub fn update(draft: &mut Draft, here: &Here<'_>, update: &ResolvedUpdate) -> Done
-    requires { UpdateHasCode (view_resolved_update update.now) }
-    ensures { Appends result here.now update_row (view_resolved_update update.now) draft.old
+    requires { UpdateHasCode (view.update update.now) }
+    ensures { Appends result here.now update_row (view.update update.now) draft.old
         draft.new }
 {
     let operator = update_of(update.operator);
@@ -79,8 +80,8 @@ pub fn update(draft: &mut Draft, here: &Here<'_>, update: &ResolvedUpdate) -> Do
 
 /// Writes the assignment of an `atomic` that reads or writes, on the directive's line.
 pub fn assignment(draft: &mut Draft, here: &Here<'_>, statement: &ResolvedStatement) -> Done
-    requires { AssignmentHasCode (view_resolved_statement statement.now) }
-    ensures { Appends result here.now assignment_row (view_resolved_statement statement.now)
+    requires { AssignmentHasCode (view.statement statement.now) }
+    ensures { Appends result here.now assignment_row (view.statement statement.now)
         draft.old draft.new }
 {
     let ResolvedStatement::Expression {

@@ -4,7 +4,7 @@ ghost use Rattle.std.specs.Prelude.{◌≡◌, OnOk, map, option_map};
 ghost use Rattle.om_statements.specs.Words.{Appends, AppendsScopes, BeginsCopy, Numbered, ScopesStand, Written};
 ghost use Rattle.om_statements.specs.Words.{clause_scope, each_scope, identity_start, original_start};
 ghost use Rattle.om_statements.specs.Words.{parameter_scope, task_scope, team_from, team_scope};
-ghost use Rattle.om_statements.specs.Words.{view_resolved_clause, view_resolved_expression};
+ghost use Rattle.om_resolved.specs.ResolvedView as view;
 ghost use Rattle.om_rows.specs.Statements as rows;
 
 use crate::operator::{identity_of, reduction_of};
@@ -17,8 +17,8 @@ use om_resolved::{CopyKind, LocalVariable, ResolvedClause, ResolvedExpression, V
 
 /// The value of `num_threads` or `filter`, where there is one.
 pub fn clause_value(clauses: &[ResolvedClause]) -> Option<&ResolvedExpression>
-    ensures { option_map (λ value. view_resolved_expression value.now) result
-        ≡ rows.clause_value (map view_resolved_clause clauses.now) }
+    ensures { option_map (λ value. view.expression value.now) result
+        ≡ rows.clause_value (map view.clause clauses.now) }
 {
     for clause in clauses {
         if let ResolvedClause::Value { value, .. } = clause {
@@ -62,7 +62,7 @@ fn set_original(
 // Writes what the copy of a clause of a worksharing construct begins with (OpenMP API 5.2, sections 5.4.3,
 // 5.4.4 and 5.5.3).
 fn begin_copy(draft: &mut Draft, here: &Here<'_>, clause: &ResolvedClause) -> Done
-    ensures { Appends result here.now rows.clause_start (view_resolved_clause clause.now) draft.old
+    ensures { Appends result here.now rows.clause_start (view.clause clause.now) draft.old
         draft.new }
 {
     let ResolvedClause::Copied {
@@ -92,7 +92,7 @@ fn begin_copy(draft: &mut Draft, here: &Here<'_>, clause: &ResolvedClause) -> Do
 // Begins the scope of the copy that a clause makes, if it makes one, at this place.
 fn begin_scope(scopes: &mut ScopeStack, from: usize, clause: &ResolvedClause) -> Done
     ensures { OnOk result
-        (BeginsCopy from (view_resolved_clause clause.now) scopes.old scopes.new) }
+        (BeginsCopy from (view.clause clause.now) scopes.old scopes.new) }
 {
     let ResolvedClause::Copied { copy, .. } = clause else {
         return Ok(());
@@ -104,9 +104,9 @@ fn begin_scope(scopes: &mut ScopeStack, from: usize, clause: &ResolvedClause) ->
 // Writes what the copy of a clause of a worksharing construct begins with, from which on it is in
 // scope.
 fn clause_start(writing: &mut Writing, here: &Here<'_>, clause: &ResolvedClause) -> Done
-    ensures code { Appends result here.now rows.clause_start (view_resolved_clause clause.now)
+    ensures code { Appends result here.now rows.clause_start (view.clause clause.now)
         writing.old.draft writing.new.draft }
-    ensures scopes { AppendsScopes result here.now clause_scope (view_resolved_clause clause.now)
+    ensures scopes { AppendsScopes result here.now clause_scope (view.clause clause.now)
         writing.old writing.new }
 {
     let from = writing.draft.place();
@@ -117,10 +117,10 @@ fn clause_start(writing: &mut Writing, here: &Here<'_>, clause: &ResolvedClause)
 
 /// Writes what the copies of a worksharing construct begin with, in clause order.
 pub fn starts(writing: &mut Writing, here: &Here<'_>, clauses: &[ResolvedClause]) -> Done
-    ensures code { Appends result here.now rows.starts (map view_resolved_clause clauses.now)
+    ensures code { Appends result here.now rows.starts (map view.clause clauses.now)
         writing.old.draft writing.new.draft }
     ensures scopes { AppendsScopes result here.now (λ at l. each_scope (clause_scope at l))
-        (map view_resolved_clause clauses.now) writing.old writing.new }
+        (map view.clause clauses.now) writing.old writing.new }
 {
     for clause in clauses {
         clause_start(writing, here, clause)?;
@@ -131,7 +131,7 @@ pub fn starts(writing: &mut Writing, here: &Here<'_>, clauses: &[ResolvedClause]
 // Writes what the copy of a clause of a `parallel` begins with, if it is combined. FORK gives the
 // firstprivate ones their values, and the others are new with their frame.
 fn begin_reduction(draft: &mut Draft, here: &Here<'_>, clause: &ResolvedClause) -> Done
-    ensures { Appends result here.now rows.clause_reduction_start (view_resolved_clause clause.now)
+    ensures { Appends result here.now rows.clause_reduction_start (view.clause clause.now)
         draft.old draft.new }
 {
     let ResolvedClause::Copied { kind, copy, .. } = clause else {
@@ -147,7 +147,7 @@ fn begin_reduction(draft: &mut Draft, here: &Here<'_>, clause: &ResolvedClause) 
 // Where the scope of a region's copy begins: that of a reduction at its start, which is at this place,
 // and that of another one with the body.
 fn team_from(place: usize, clause: &ResolvedClause) -> usize
-    ensures { result ≡ team_from place (view_resolved_clause clause.now) }
+    ensures { result ≡ team_from place (view.clause clause.now) }
 {
     let ResolvedClause::Copied { kind, .. } = clause else {
         return 0;
@@ -161,8 +161,8 @@ fn team_from(place: usize, clause: &ResolvedClause) -> usize
 // Writes what the copy of a clause of a `parallel` begins with in its body, where it is in scope.
 fn clause_reduction_start(writing: &mut Writing, here: &Here<'_>, clause: &ResolvedClause) -> Done
     ensures code { Appends result here.now rows.clause_reduction_start
-        (view_resolved_clause clause.now) writing.old.draft writing.new.draft }
-    ensures scopes { AppendsScopes result here.now team_scope (view_resolved_clause clause.now)
+        (view.clause clause.now) writing.old.draft writing.new.draft }
+    ensures scopes { AppendsScopes result here.now team_scope (view.clause clause.now)
         writing.old writing.new }
 {
     let from = team_from(writing.draft.place(), clause);
@@ -174,9 +174,9 @@ fn clause_reduction_start(writing: &mut Writing, here: &Here<'_>, clause: &Resol
 /// Writes what the copies of a `parallel` begin with in its body, in clause order.
 pub fn reduction_starts(writing: &mut Writing, here: &Here<'_>, clauses: &[ResolvedClause]) -> Done
     ensures code { Appends result here.now rows.reduction_starts
-        (map view_resolved_clause clauses.now) writing.old.draft writing.new.draft }
+        (map view.clause clauses.now) writing.old.draft writing.new.draft }
     ensures scopes { AppendsScopes result here.now (λ at l. each_scope (team_scope at l))
-        (map view_resolved_clause clauses.now) writing.old writing.new }
+        (map view.clause clauses.now) writing.old writing.new }
 {
     for clause in clauses {
         clause_reduction_start(writing, here, clause)?;
@@ -186,7 +186,7 @@ pub fn reduction_starts(writing: &mut Writing, here: &Here<'_>, clauses: &[Resol
 
 /// Begins the scopes of the copies of a `task`, in its body.
 pub fn task_copies(scopes: &mut ScopeStack, clauses: &[ResolvedClause]) -> Done
-    ensures { let trees = map view_resolved_clause clauses.now in
+    ensures { let trees = map view.clause clauses.now in
         OnOk result ((names : Numbered) (d : Written)
         → ScopesStand names (λ at. each_scope task_scope trees) d scopes.old d scopes.new) }
 {
@@ -210,7 +210,7 @@ pub fn parameters(scopes: &mut ScopeStack, variables: &[LocalVariable]) -> Done
 
 // Combines the copy of a clause with its original, if the clause is a reduction.
 fn combine_clause(draft: &mut Draft, here: &Here<'_>, clause: &ResolvedClause) -> Done
-    ensures { Appends result here.now rows.combine_clause (view_resolved_clause clause.now)
+    ensures { Appends result here.now rows.combine_clause (view.clause clause.now)
         draft.old draft.new }
 {
     let ResolvedClause::Copied {
@@ -241,7 +241,7 @@ fn combine_clause(draft: &mut Draft, here: &Here<'_>, clause: &ResolvedClause) -
 /// Combines the copies of reductions with their originals, in clause order (OpenMP API 5.2, section
 /// 5.5.8).
 pub fn reductions(draft: &mut Draft, here: &Here<'_>, clauses: &[ResolvedClause]) -> Done
-    ensures { Appends result here.now rows.reductions (map view_resolved_clause clauses.now)
+    ensures { Appends result here.now rows.reductions (map view.clause clauses.now)
         draft.old draft.new }
 {
     for clause in clauses {

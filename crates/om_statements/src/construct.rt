@@ -3,7 +3,8 @@
 ghost use Rattle.std.specs.Prelude.{◌≡◌, IfOk, IfSome, None, Some, map, slice_get};
 ghost use Rattle.om_statements.specs.Words.{Appends, AppendsEnd, AppendsScopes, BeginHasCode, Begins, IsNoAtomic};
 ghost use Rattle.om_statements.specs.Words.{ValueHasCode, construct_begin, construct_end, construct_head};
-ghost use Rattle.om_statements.specs.Words.{names_at, view_resolved_clause};
+ghost use Rattle.om_statements.specs.Words.{names_at};
+ghost use Rattle.om_resolved.specs.ResolvedView as view;
 ghost use Rattle.om_rows.specs.Statements as rows;
 
 use crate::alone::worksharing_end;
@@ -17,9 +18,9 @@ use om_resolved::{ConstructKind, Made, ResolvedClause};
 // Writes the thread number that a `masked` asks for: 0 where no clause says another (OpenMP API 5.2,
 // section 10.5.1).
 fn filter(draft: &mut Draft, here: &Here<'_>, clauses: &[ResolvedClause]) -> Done
-    requires { IfSome (rows.clause_value (map view_resolved_clause clauses.now)) ValueHasCode }
+    requires { IfSome (rows.clause_value (map view.clause clauses.now)) ValueHasCode }
     ensures { Appends result here.now rows.filter_row
-        (rows.clause_value (map view_resolved_clause clauses.now)) draft.old draft.new }
+        (rows.clause_value (map view.clause clauses.now)) draft.old draft.new }
 {
     match clause_value(clauses) {
         None => {
@@ -38,13 +39,13 @@ pub fn begin_construct(
     kind: &ConstructKind,
     clauses: &[ResolvedClause],
 ) -> Made<usize>
-    requires { BeginHasCode kind.now (map view_resolved_clause clauses.now) }
+    requires { BeginHasCode kind.now (map view.clause clauses.now) }
     ensures code { let begin = construct_begin (names_at here.now) here.now.at.line kind.now
-        (map view_resolved_clause clauses.now) in
+        (map view.clause clauses.now) in
         IfOk result
         (λ label. Begins label (begin label) writing.old.draft writing.new.draft) }
     ensures scopes { AppendsScopes result here.now (λ at l. construct_head at l kind.now)
-        (map view_resolved_clause clauses.now) writing.old writing.new }
+        (map view.clause clauses.now) writing.old writing.new }
 {
     let line = here.at.line;
     let label = writing.draft.fresh()?;

@@ -4,8 +4,8 @@ ghost use Rattle.std.specs.Prelude.{◌≡◌, All, IfSome, OnOk, map, option_ma
 ghost use Rattle.om_statements.specs.Words.{Appends, AppendsScopes, DeclaratorHasCode, EffectHasCode};
 ghost use Rattle.om_statements.specs.Words.{EmitsPerhapsTest, EmitsTest, HasNoTarget, StartHasCode, ValueHasCode};
 ghost use Rattle.om_statements.specs.Words.{declarator_scope, each, each_scope, effect, names_at, perhaps};
-ghost use Rattle.om_statements.specs.Words.{start_scopes, view_resolved_declarator, view_resolved_expression};
-ghost use Rattle.om_statements.specs.Words.{view_resolved_start};
+ghost use Rattle.om_statements.specs.Words.{start_scopes};
+ghost use Rattle.om_resolved.specs.ResolvedView as view;
 ghost use Rattle.om_rows.specs.Statements as rows;
 
 use crate::unused::effect;
@@ -17,8 +17,8 @@ use om_resolved::{ResolvedDeclarator, ResolvedExpression, ResolvedStart, Variabl
 
 // Writes the code of a declared name: it is made unset, or gets its initializer (C17 6.7.9).
 fn initialize(draft: &mut Draft, here: &Here<'_>, declared: &ResolvedDeclarator) -> Done
-    requires { DeclaratorHasCode (view_resolved_declarator declared.now) }
-    ensures { Appends result here.now rows.declarator (view_resolved_declarator declared.now)
+    requires { DeclaratorHasCode (view.declarator declared.now) }
+    ensures { Appends result here.now rows.declarator (view.declarator declared.now)
         draft.old draft.new }
 {
     let variable = &declared.variable;
@@ -37,11 +37,11 @@ fn initialize(draft: &mut Draft, here: &Here<'_>, declared: &ResolvedDeclarator)
 
 // Writes the code of a declared name, which is in scope from there on (C17 6.2.1p7).
 fn declarator(writing: &mut Writing, here: &Here<'_>, declared: &ResolvedDeclarator) -> Done
-    requires { DeclaratorHasCode (view_resolved_declarator declared.now) }
-    ensures code { Appends result here.now rows.declarator (view_resolved_declarator declared.now)
+    requires { DeclaratorHasCode (view.declarator declared.now) }
+    ensures code { Appends result here.now rows.declarator (view.declarator declared.now)
         writing.old.draft writing.new.draft }
     ensures scopes { AppendsScopes result here.now declarator_scope
-        (view_resolved_declarator declared.now) writing.old writing.new }
+        (view.declarator declared.now) writing.old writing.new }
 {
     let from = writing.draft.place();
     let scopes = &mut writing.scopes;
@@ -52,11 +52,11 @@ fn declarator(writing: &mut Writing, here: &Here<'_>, declared: &ResolvedDeclara
 
 /// Writes the code of the names of a declaration, in their order.
 pub fn declarators(writing: &mut Writing, here: &Here<'_>, declared: &[ResolvedDeclarator]) -> Done
-    requires { All DeclaratorHasCode (map view_resolved_declarator declared.now) }
+    requires { All DeclaratorHasCode (map view.declarator declared.now) }
     ensures code { Appends result here.now (λ at l. each (rows.declarator at l))
-        (map view_resolved_declarator declared.now) writing.old.draft writing.new.draft }
+        (map view.declarator declared.now) writing.old.draft writing.new.draft }
     ensures scopes { AppendsScopes result here.now (λ at l. each_scope (declarator_scope at l))
-        (map view_resolved_declarator declared.now) writing.old writing.new }
+        (map view.declarator declared.now) writing.old writing.new }
 {
     for one in declared {
         declarator(writing, here, one)?;
@@ -66,10 +66,10 @@ pub fn declarators(writing: &mut Writing, here: &Here<'_>, declared: &[ResolvedD
 
 /// Writes what a `for` begins with (C17 6.8.5.3).
 pub fn start(writing: &mut Writing, here: &Here<'_>, start: &ResolvedStart) -> Done
-    requires { StartHasCode (view_resolved_start start.now) }
-    ensures code { Appends result here.now rows.start (view_resolved_start start.now)
+    requires { StartHasCode (view.start start.now) }
+    ensures code { Appends result here.now rows.start (view.start start.now)
         writing.old.draft writing.new.draft }
-    ensures scopes { AppendsScopes result here.now start_scopes (view_resolved_start start.now)
+    ensures scopes { AppendsScopes result here.now start_scopes (view.start start.now)
         writing.old writing.new }
 {
     match start {
@@ -92,9 +92,9 @@ pub fn test(
     condition: &ResolvedExpression,
     otherwise: usize,
 ) -> Done
-    requires { ValueHasCode (view_resolved_expression condition.now) }
+    requires { ValueHasCode (view.expression condition.now) }
     ensures { OnOk result (EmitsTest (names_at here.now) here.now.at.line otherwise
-        (view_resolved_expression condition.now) draft.old draft.new) }
+        (view.expression condition.now) draft.old draft.new) }
 {
     value(draft, here, condition)?;
     draft.put_jump(here.at.line, Jump::IfZero, otherwise)?;
@@ -108,9 +108,9 @@ pub fn perhaps_test(
     condition: &Option<ResolvedExpression>,
     otherwise: usize,
 ) -> Done
-    requires { IfSome (option_map view_resolved_expression condition.now) ValueHasCode }
+    requires { IfSome (option_map view.expression condition.now) ValueHasCode }
     ensures { OnOk result (EmitsPerhapsTest (names_at here.now) here.now.at.line otherwise
-        (option_map view_resolved_expression condition.now) draft.old draft.new) }
+        (option_map view.expression condition.now) draft.old draft.new) }
 {
     let Some(condition) = condition else {
         return Ok(());
@@ -124,9 +124,9 @@ pub fn perhaps_effect(
     here: &Here<'_>,
     expression: &Option<ResolvedExpression>,
 ) -> Done
-    requires { IfSome (option_map view_resolved_expression expression.now) EffectHasCode }
+    requires { IfSome (option_map view.expression expression.now) EffectHasCode }
     ensures { Appends result here.now (λ at l. perhaps (effect at l))
-        (option_map view_resolved_expression expression.now) draft.old draft.new }
+        (option_map view.expression expression.now) draft.old draft.new }
 {
     let Some(expression) = expression else {
         return Ok(());
@@ -136,9 +136,9 @@ pub fn perhaps_effect(
 
 /// Writes a `return`, which in `main` ends the program (C17 6.8.6.4, 5.1.2.2.3).
 pub fn returned(draft: &mut Draft, here: &Here<'_>, answer: &Option<ResolvedExpression>) -> Done
-    requires { IfSome (option_map view_resolved_expression answer.now) ValueHasCode }
+    requires { IfSome (option_map view.expression answer.now) ValueHasCode }
     ensures { Appends result here.now (λ at l. rows.returned at l at.is_main)
-        (option_map view_resolved_expression answer.now) draft.old draft.new }
+        (option_map view.expression answer.now) draft.old draft.new }
 {
     let is_main = here.tables.is_main();
     match answer {

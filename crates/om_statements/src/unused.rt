@@ -2,7 +2,8 @@
 
 ghost use Rattle.om_statements.specs.Effects as rows;
 ghost use Rattle.om_statements.specs.Words.{Appends, CallHasCode, EffectHasCode, ValueHasCode};
-ghost use Rattle.om_statements.specs.Words.{effect, listed, view_resolved_expression};
+ghost use Rattle.om_statements.specs.Words.{effect, listed};
+ghost use Rattle.om_resolved.specs.ResolvedView as view;
 
 use om_code::Instr;
 use om_emit::draft::Draft;
@@ -15,8 +16,8 @@ use om_resolved::ResolvedExpression;
 ///
 /// Its only error is out of memory.
 pub fn effect(draft: &mut Draft, here: &Here<'_>, e: &ResolvedExpression) -> Done
-    requires { EffectHasCode (view_resolved_expression e.now) }
-    ensures { Appends result here.now effect (view_resolved_expression e.now) draft.old draft.new }
+    requires { EffectHasCode (view.expression e.now) }
+    ensures { Appends result here.now effect (view.expression e.now) draft.old draft.new }
 {
     match e {
         ResolvedExpression::Assign {
@@ -64,8 +65,8 @@ pub fn effect(draft: &mut Draft, here: &Here<'_>, e: &ResolvedExpression) -> Don
 
 // Writes an expression that leaves its value, and takes it off.
 fn popped(draft: &mut Draft, here: &Here<'_>, e: &ResolvedExpression) -> Done
-    requires { ValueHasCode (view_resolved_expression e.now) }
-    ensures { Appends result here.now rows.popped (view_resolved_expression e.now) draft.old
+    requires { ValueHasCode (view.expression e.now) }
+    ensures { Appends result here.now rows.popped (view.expression e.now) draft.old
         draft.new }
 {
     value(draft, here, e)?;

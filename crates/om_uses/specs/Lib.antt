@@ -1,3 +1,5 @@
 pub mod Parts
 pub mod TargetViews
 pub mod Views
+pub mod Declares
+pub mod Lists

@@ -1,11 +1,11 @@
 //! The bounds of a canonical loop.
 
-ghost use Rattle.std.specs.Prelude.{◌≡◌, ◌++◌, OnOk};
-ghost use Rattle.om_rules.specs.Checks.{Checks, ChecksExactly};
-ghost use Rattle.om_rules.specs.Outcomes.{Finds};
+ghost use Rattle.std.specs.Prelude.{◌≡◌, OnOk};
+ghost use Rattle.om_rules.specs.Checks.{ChecksExactly};
+ghost use Rattle.om_rules.specs.Resolves.{Resolves};
 ghost use Rattle.om_rules.specs.LoopViews.{view_loop};
-ghost use Rattle.om_rules.specs.Resolution.{resolved_expression};
-ghost use Rattle.om_resolved.specs.ResolvedView.{view_resolved_expression, view_resolved_loop};
+ghost use Rattle.om_uses.specs.Views.{ResolvesBounds};
+ghost use Rattle.om_resolved.specs.ResolvedView as view;
 ghost use Rattle.om_rules.specs.StatementResolution.{bounds_scopes, resolved_loop};
 ghost use Rattle.om_rules.specs.StatementRules.{found_breaches, values_breaches, variable_breaches, with_iteration};
 
@@ -35,11 +35,8 @@ fn resolve_values(
     symbols: &Symbols,
     found: &Loop<'_>,
 ) -> Result<(Box<ResolvedExpression>, Box<ResolvedExpression>), SourceFault>
-    ensures checked { Checks result (values_breaches symbols.now (view_loop found.now)) }
-    ensures from { Finds (λ made. view_resolved_expression made.0.value) result
-        (resolved_expression symbols.now (view_loop found.now).start.from) }
-    ensures to { Finds (λ made. view_resolved_expression made.1.value) result
-        (resolved_expression symbols.now (view_loop found.now).to) }
+    ensures { let tree = view_loop found.now in
+        ResolvesBounds result (values_breaches symbols.now tree) symbols.now tree }
 {
     let from = boxed_expression(alloc, symbols, true, found.start.from)?;
     let to = boxed_expression(alloc, symbols, true, found.to)?;
@@ -62,14 +59,10 @@ fn resolve_bounds(
     symbols: &mut Symbols,
     found: &Loop<'_>,
 ) -> Result<(Box<ResolvedExpression>, Box<ResolvedExpression>), SourceFault>
-    ensures checked { Checks result (found_breaches symbols.old (view_loop found.now)) }
+    ensures found { let tree = view_loop found.now in
+        let scopes = bounds_scopes symbols.old tree in
+        ResolvesBounds result (found_breaches symbols.old tree) scopes tree }
     ensures in_scope { OnOk result (symbols.new ≡ symbols.old) }
-    ensures from { let scopes = bounds_scopes symbols.old (view_loop found.now) in
-        Finds (λ made. view_resolved_expression made.0.value) result
-        (resolved_expression scopes (view_loop found.now).start.from) }
-    ensures to { let scopes = bounds_scopes symbols.old (view_loop found.now) in
-        Finds (λ made. view_resolved_expression made.1.value) result
-        (resolved_expression scopes (view_loop found.now).to) }
 {
     if !found.start.is_declared {
         check_variable(symbols, found.start.variable)?;
@@ -93,10 +86,10 @@ pub fn resolve_loop(
     schedule: ResolvedSchedule,
     found: &Loop<'_>,
 ) -> Result<Box<ResolvedLoop>, SourceFault>
-    ensures checked { Checks result (found_breaches symbols.old (view_loop found.now)) }
+    ensures found { let tree = view_loop found.now in
+        Resolves (λ made. view.loop made.value) result (found_breaches symbols.old tree)
+        (resolved_loop symbols.old schedule tree) }
     ensures in_scope { OnOk result (symbols.new ≡ symbols.old) }
-    ensures resolved { Finds (λ made. view_resolved_loop made.value) result
-        (resolved_loop symbols.old schedule (view_loop found.now)) }
 {
     let variable = local_of(alloc, found.start.variable)?;
     let (from, to) = resolve_bounds(alloc, symbols, found)?;

@@ -1,14 +1,12 @@
 //! Calls, beside their values: the format of a `printf`, and the function that is called.
 
-ghost use Rattle.std.specs.Prelude.{◌≡◌, Some, IfOk, map, option_map};
-ghost use Rattle.om_tree.specs.Tree.{arguments};
+ghost use Rattle.std.specs.Prelude.{◌≡◌, Some, IfOk, option_map};
 ghost use Rattle.om_tree.specs.View.{view_expression};
-ghost use Rattle.om_resolved.specs.ResolvedTree as trees;
-ghost use Rattle.om_resolved.specs.ResolvedView.{view_resolved_expression};
+ghost use Rattle.om_resolved.specs.ResolvedView as view;
 ghost use Rattle.om_rules.specs.Checks.{Checks};
 ghost use Rattle.om_rules.specs.ExpressionRules.{argument_count, is_print, misprint_breaches};
 ghost use Rattle.om_rules.specs.Resolution.{call_of, format_in, text_in};
-ghost use Rattle.om_uses.specs.Views.{view_argument};
+ghost use Rattle.om_uses.specs.Views.{view_arguments, view_values};
 
 use om_lexer::{FaultCode, SourceFault};
 use om_names::refuse_if;
@@ -20,7 +18,7 @@ use std::alloc::Global;
 
 /// How many values a call has.
 pub fn argument_count(values: &[Argument]) -> usize
-    ensures { result ≡ argument_count (arguments (map view_argument values.now)) }
+    ensures { result ≡ argument_count (view_arguments values.now) }
 {
     values.len()
 }
@@ -34,9 +32,9 @@ pub fn resolve_format(
     values: &[Argument],
 ) -> Result<Seq<u8>, SourceFault>
     ensures checked { Checks result
-        (misprint_breaches for_value name.now (arguments (map view_argument values.now))) }
+        (misprint_breaches for_value name.now (view_arguments values.now)) }
     ensures resolved { IfOk result
-        (λ format. format_in (arguments (map view_argument values.now)) ≡ Some format) }
+        (λ format. format_in (view_arguments values.now) ≡ Some format) }
 {
     let broken = for_value || !is_print(values);
     refuse_if(broken, FaultCode::Misuse, name.span.start)?;
@@ -48,7 +46,7 @@ pub fn resolve_format(
 
 // Whether a call of `printf` has a format, and as many values as it takes.
 fn is_print(values: &[Argument]) -> bool
-    ensures { result ≡ is_print (arguments (map view_argument values.now)) }
+    ensures { result ≡ is_print (view_arguments values.now) }
 {
     let [format, printed @ ..] = values else {
         return false;
@@ -58,8 +56,7 @@ fn is_print(values: &[Argument]) -> bool
 
 // The format that a `printf` begins with, which is there where it has one.
 fn format_in(values: &[Argument]) -> Option<&Seq<u8>>
-    ensures { option_map (λ text. text.now) result
-        ≡ format_in (arguments (map view_argument values.now)) }
+    ensures { option_map (λ text. text.now) result ≡ format_in (view_arguments values.now) }
 {
     let [format, ..] = values else {
         return None;
@@ -79,8 +76,7 @@ fn text_in(expression: &Expression) -> Option<&Seq<u8>>
 
 /// A call of the function at a place among the definitions.
 pub fn call_of(place: usize, values: Vec<ResolvedExpression>) -> ResolvedExpression
-    ensures { view_resolved_expression result
-        ≡ call_of place (trees.values (map view_resolved_expression values.items)) }
+    ensures { view.expression result ≡ call_of place (view_values values) }
 {
     match place {
         1 => ResolvedExpression::ThreadNumber,

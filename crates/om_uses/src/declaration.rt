@@ -1,13 +1,15 @@
 //! Declarations in functions: their rules, and the variables that they declare.
 
 ghost use Rattle.std.specs.Prelude.{◌≡◌, ◌++◌, [], ◌∷◌, OnOk, IfOk, Some, option_map, map};
-ghost use Rattle.om_tree.specs.View.{view_declarator, view_expression, view_further, view_initializer, view_local};
+ghost use Rattle.om_tree.specs.View.{view_declarator, view_expression, view_initializer};
 ghost use Rattle.om_rules.specs.Checks.{Checks, ChecksExactly};
-ghost use Rattle.om_rules.specs.Outcomes.{Finds};
-ghost use Rattle.om_rules.specs.Scopes.{after_local, after_locals, behind_commas, cells_of, declarators_of, shape_of};
-ghost use Rattle.om_resolved.specs.ResolvedView.{view_resolved_declarator, view_resolved_expression};
+ghost use Rattle.om_rules.specs.Resolves.{Adds, Resolves};
+ghost use Rattle.om_rules.specs.Scopes.{cells_of, shape_of};
+ghost use Rattle.om_resolved.specs.ResolvedView as view;
 ghost use Rattle.om_rules.specs.StatementResolution.{length_of, local_of, resolved_declarator, resolved_declarators, resolved_initial};
 ghost use Rattle.om_rules.specs.StatementRules.{array_size_breaches, initializer_breaches, is_empty_array, local_breaches, locals_breaches, redeclared_breaches};
+ghost use Rattle.om_uses.specs.Declares.{DeclaresLocal, DeclaresLocals, further_locals, locals_in};
+ghost use Rattle.om_uses.specs.Views.{view_boxed};
 
 use crate::expression::{boxed_expression, unboxed};
 use crate::kept::add;
@@ -97,13 +99,9 @@ fn resolve_initializer(
     symbols: &Symbols,
     initializer: &Option<Initializer<Expression>>,
 ) -> Result<Option<Box<ResolvedExpression>>, SourceFault>
-    ensures checked { Checks result
-        (initializer_breaches symbols.now
-        (option_map (view_initializer view_expression) initializer.now)) }
-    ensures resolved { Finds
-        (λ found. option_map (λ boxed. view_resolved_expression boxed.value) found) result
-        (resolved_initial symbols.now
-        (option_map (view_initializer view_expression) initializer.now)) }
+    ensures { let tree = option_map (view_initializer view_expression) initializer.now in
+        Resolves (option_map view_boxed) result (initializer_breaches symbols.now tree)
+        (resolved_initial symbols.now tree) }
 {
     let Some(initializer) = initializer else {
         return Ok(None);
@@ -121,8 +119,7 @@ fn declare_name(
 ) -> Result<(), SourceFault>
     ensures checked { let tree = view_declarator view_expression declarator.now in
         Checks result (redeclared_breaches symbols.old tree.name ++ array_size_breaches tree) }
-    ensures in_scope { OnOk result
-        (symbols.new ≡ after_local symbols.old (view_declarator view_expression declarator.now)) }
+    ensures in_scope { DeclaresLocal result symbols.old symbols.new declarator.now }
 {
     check_new(symbols, &declarator.name)?;
     check_size(declarator)?;
@@ -138,12 +135,10 @@ fn resolve_declarator(
     symbols: &mut Symbols,
     declarator: &Declarator<Expression>,
 ) -> Result<ResolvedDeclarator, SourceFault>
-    ensures checked { Checks result
-        (local_breaches symbols.old (view_declarator view_expression declarator.now)) }
-    ensures in_scope { OnOk result
-        (symbols.new ≡ after_local symbols.old (view_declarator view_expression declarator.now)) }
-    ensures resolved { Finds view_resolved_declarator result
-        (resolved_declarator symbols.old (view_declarator view_expression declarator.now)) }
+    ensures found { let tree = view_declarator view_expression declarator.now in
+        Resolves view.declarator result (local_breaches symbols.old tree)
+        (resolved_declarator symbols.old tree) }
+    ensures in_scope { DeclaresLocal result symbols.old symbols.new declarator.now }
 {
     declare_name(alloc, symbols, declarator)?;
     let variable = local_of(alloc, &declarator.name)?;
@@ -164,14 +159,12 @@ fn add_local(
 ) -> Result<(), SourceFault>
     ensures checked { Checks result
         (local_breaches symbols.old (view_declarator view_expression declarator.now)) }
-    ensures in_scope { OnOk result
-        (symbols.new ≡ after_local symbols.old (view_declarator view_expression declarator.now)) }
-    ensures resolved { let before = map view_resolved_declarator declared.old.items in
-        let after = map view_resolved_declarator declared.new.items in
-        OnOk result
-        (option_map (λ own. before ++ own ∷ [])
-        (resolved_declarator symbols.old (view_declarator view_expression declarator.now))
-        ≡ Some after) }
+    ensures in_scope { DeclaresLocal result symbols.old symbols.new declarator.now }
+    ensures resolved { let before = map view.declarator declared.old.items in
+        let after = map view.declarator declared.new.items in
+        let tree = view_declarator view_expression declarator.now in
+        let own = resolved_declarator symbols.old tree in
+        OnOk result (option_map (λ own. before ++ own ∷ []) own ≡ Some after) }
 {
     add(declared, resolve_declarator(alloc, symbols, declarator))
 }
@@ -183,19 +176,10 @@ fn resolve_further_locals(
     declared: &mut Vec<ResolvedDeclarator>,
     rest: &[(Span, Declarator<Expression>)],
 ) -> Result<(), SourceFault>
-    ensures checked { Checks result
-        (locals_breaches symbols.old
-        (behind_commas (map (view_further view_expression) rest.now))) }
-    ensures in_scope { OnOk result
-        (symbols.new ≡ after_locals symbols.old
-        (behind_commas (map (view_further view_expression) rest.now))) }
-    ensures resolved { let before = map view_resolved_declarator declared.old.items in
-        let after = map view_resolved_declarator declared.new.items in
-        OnOk result
-        (option_map (λ own. before ++ own)
-        (resolved_declarators symbols.old
-        (behind_commas (map (view_further view_expression) rest.now)))
-        ≡ Some after) }
+    ensures checked { Checks result (locals_breaches symbols.old (further_locals rest.now)) }
+    ensures in_scope { DeclaresLocals result symbols.old symbols.new (further_locals rest.now) }
+    ensures resolved { let own = resolved_declarators symbols.old (further_locals rest.now) in
+        Adds view.declarator result declared.old declared.new own }
 {
     for further in rest {
         add_local(alloc, symbols, declared, &further.1)?;
@@ -211,17 +195,10 @@ fn add_locals(
     declared: &mut Vec<ResolvedDeclarator>,
     declaration: &Declaration<Expression>,
 ) -> Result<(), SourceFault>
-    ensures checked { Checks result
-        (locals_breaches symbols.old (declarators_of (view_local declaration.now))) }
-    ensures in_scope { OnOk result
-        (symbols.new ≡ after_locals symbols.old
-        (declarators_of (view_local declaration.now))) }
-    ensures resolved { let before = map view_resolved_declarator declared.old.items in
-        let after = map view_resolved_declarator declared.new.items in
-        OnOk result
-        (option_map (λ own. before ++ own)
-        (resolved_declarators symbols.old (declarators_of (view_local declaration.now)))
-        ≡ Some after) }
+    ensures checked { Checks result (locals_breaches symbols.old (locals_in declaration.now)) }
+    ensures in_scope { DeclaresLocals result symbols.old symbols.new (locals_in declaration.now) }
+    ensures resolved { let own = resolved_declarators symbols.old (locals_in declaration.now) in
+        Adds view.declarator result declared.old declared.new own }
 {
     add_local(alloc, symbols, declared, &declaration.first)?;
     resolve_further_locals(alloc, symbols, declared, declaration.rest.as_slice())
@@ -237,13 +214,10 @@ pub fn resolve_locals(
     symbols: &mut Symbols,
     declaration: &Declaration<Expression>,
 ) -> Result<Vec<ResolvedDeclarator>, SourceFault>
-    ensures checked { Checks result
-        (locals_breaches symbols.old (declarators_of (view_local declaration.now))) }
-    ensures in_scope { OnOk result
-        (symbols.new ≡ after_locals symbols.old
-        (declarators_of (view_local declaration.now))) }
-    ensures resolved { Finds (λ found. map view_resolved_declarator found.items) result
-        (resolved_declarators symbols.old (declarators_of (view_local declaration.now))) }
+    ensures found { let trees = locals_in declaration.now in
+        Resolves (λ found. map view.declarator found.items) result
+        (locals_breaches symbols.old trees) (resolved_declarators symbols.old trees) }
+    ensures in_scope { DeclaresLocals result symbols.old symbols.new (locals_in declaration.now) }
 {
     let mut declared = Vec::new(alloc);
     add_locals(alloc, symbols, &mut declared, declaration)?;

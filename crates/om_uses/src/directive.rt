@@ -1,17 +1,19 @@
 //! Directives and their clauses: their rules, and what they say of variables.
 
-ghost use Rattle.std.specs.Prelude.{◌≡◌, ◌++◌, ◌&&◌, ◌||◌, false, OnOk, IfOk, Some, map, fold, option_map};
+ghost use Rattle.std.specs.Prelude.{◌≡◌, ◌++◌, ◌&&◌, ◌||◌, false, OnOk, IfOk, Some, fold, option_map};
 ghost use Rattle.std.specs.List.{flat_map};
-ghost use Rattle.om_tree.specs.View.{view_directive, view_expression};
-ghost use Rattle.om_pragma.specs.Expressions.{map_clause, map_item};
+ghost use Rattle.om_tree.specs.View.{view_directive};
 ghost use Rattle.om_rules.specs.Checks.{Checks, ChecksExactly};
-ghost use Rattle.om_rules.specs.DirectiveRules.{after_clause, after_item, after_name, after_names, clause_breaches, directive_breaches, flushed_breaches, is_listed, is_mislisted, is_variable, item_breaches, list_breaches, listed_breaches, listed_by, names_breaches, names_in, nesting_breaches, nothing_listed, sharing_of, uses_original};
+ghost use Rattle.om_rules.specs.DirectiveRules.{after_clause, after_item, after_name, clause_breaches, directive_breaches, flushed_breaches, is_listed, is_mislisted, is_variable, item_breaches, list_breaches, listed_breaches, listed_by, names_in, nesting_breaches, nothing_listed, sharing_of, uses_original};
 ghost use Rattle.om_rules.specs.Faults.{breaches_along};
 ghost use Rattle.om_rules.specs.Outcomes.{Finds};
+ghost use Rattle.om_rules.specs.Resolves.{Adds, Resolves};
 ghost use Rattle.om_rules.specs.Perhaps.{each};
 ghost use Rattle.om_rules.specs.Resolution.{variable_named, variable_of};
-ghost use Rattle.om_resolved.specs.ResolvedView.{view_resolved_clause};
+ghost use Rattle.om_resolved.specs.ResolvedView as view;
 ghost use Rattle.om_rules.specs.StatementResolution.{clause_of, flushed, kind_of, resolved_clause, resolved_clauses, resolved_listed};
+ghost use Rattle.om_uses.specs.Lists.{ChecksNames, ListsNames, further_names, listed_clauses, view_clause};
+ghost use Rattle.om_uses.specs.Lists.{view_items, view_taken};
 
 use crate::declaration::local_of;
 use crate::expression::boxed_expression;
@@ -80,8 +82,7 @@ fn resolve_listed(
     ensures checked { ChecksExactly result
         (listed_breaches symbols.now sharing listed.now name.now) }
     ensures is_new { OnOk result (is_listed listed.now name.now.text ≡ false) }
-    ensures resolved { IfOk result
-        (λ variable. variable_named symbols.now name.now ≡ Some variable) }
+    ensures resolved { Finds (λ found. found) result (variable_named symbols.now name.now) }
 {
     check_declared(symbols, name)?;
     let text = name.text.as_slice();
@@ -115,7 +116,7 @@ fn clause_of(
     name: &Name,
 ) -> Result<ResolvedClause, AllocError>
     ensures { IfOk result
-        (λ clause. view_resolved_clause clause ≡ clause_of kind variable name.now) }
+        (λ clause. view.clause clause ≡ clause_of kind variable name.now) }
 {
     match kind {
         None => Ok(ResolvedClause::Shared(variable)),
@@ -143,12 +144,12 @@ fn list_name(
     listed: &mut Listed,
     name: &Name,
 ) -> Result<ResolvedClause, SourceFault>
-    ensures checked { Checks result
-        (listed_breaches listing.now.symbols.now (sharing_of listing.now.kind) listed.old name.now) }
+    ensures found { let scopes = listing.now.symbols.now in
+        Resolves view.clause result
+        (listed_breaches scopes (sharing_of listing.now.kind) listed.old name.now)
+        (resolved_listed listing.now.kind scopes name.now) }
     ensures listed { OnOk result
         (listed.new ≡ after_name (sharing_of listing.now.kind) listed.old name.now) }
-    ensures resolved { Finds view_resolved_clause result
-        (resolved_listed listing.now.kind listing.now.symbols.now name.now) }
 {
     let sharing = sharing_of(listing.kind);
     let variable = resolve_listed(listing.symbols, sharing, listed, name)?;
@@ -163,18 +164,10 @@ fn list_further_names(
     clauses: &mut Vec<ResolvedClause>,
     rest: &[FurtherName],
 ) -> Result<(), SourceFault>
-    ensures checked { Checks result
-        (names_breaches listing.now.symbols.now (sharing_of listing.now.kind) listed.old
-        (map (λ further. further.1) rest.now)) }
-    ensures listed { OnOk result
-        (listed.new ≡ after_names (sharing_of listing.now.kind) listed.old
-        (map (λ further. further.1) rest.now)) }
-    ensures resolved { let before = map view_resolved_clause clauses.old.items in
-        let after = map view_resolved_clause clauses.new.items in
-        OnOk result
-        (option_map (λ own. before ++ own)
-        (each (resolved_listed listing.now.kind listing.now.symbols.now)
-        (map (λ further. further.1) rest.now)) ≡ Some after) }
+    ensures checked { ChecksNames result listing.now listed.old (further_names rest.now) }
+    ensures listed { ListsNames result listing.now listed.old listed.new (further_names rest.now) }
+    ensures resolved { let own = listed_clauses listing.now (further_names rest.now) in
+        Adds view.clause result clauses.old clauses.new own }
 {
     for further in rest {
         let found = list_name(listing, listed, &further.1);
@@ -192,18 +185,11 @@ fn list_names(
     first: &Name,
     rest: &[FurtherName],
 ) -> Result<(), SourceFault>
-    ensures checked { Checks result
-        (names_breaches listing.now.symbols.now (sharing_of listing.now.kind) listed.old
-        (names_in first.now rest.now)) }
-    ensures listed { OnOk result
-        (listed.new ≡ after_names (sharing_of listing.now.kind) listed.old
-        (names_in first.now rest.now)) }
-    ensures resolved { let before = map view_resolved_clause clauses.old.items in
-        let after = map view_resolved_clause clauses.new.items in
-        OnOk result
-        (option_map (λ own. before ++ own)
-        (each (resolved_listed listing.now.kind listing.now.symbols.now)
-        (names_in first.now rest.now)) ≡ Some after) }
+    ensures checked { ChecksNames result listing.now listed.old (names_in first.now rest.now) }
+    ensures listed { let names = names_in first.now rest.now in
+        ListsNames result listing.now listed.old listed.new names }
+    ensures resolved { let own = listed_clauses listing.now (names_in first.now rest.now) in
+        Adds view.clause result clauses.old clauses.new own }
 {
     add(clauses, list_name(listing, listed, first))?;
     list_further_names(listing, listed, clauses, rest)
@@ -231,14 +217,10 @@ fn resolve_clause(
     clause: &Clause<Expression>,
 ) -> Result<(), SourceFault>
     ensures checked { Checks result
-        (clause_breaches symbols.now listed.old (map_clause view_expression clause.now)) }
-    ensures listed { OnOk result
-        (listed.new ≡ after_clause listed.old (map_clause view_expression clause.now)) }
-    ensures resolved { let before = map view_resolved_clause clauses.old.items in
-        let after = map view_resolved_clause clauses.new.items in
-        OnOk result
-        (option_map (λ own. before ++ own)
-        (resolved_clause symbols.now (map_clause view_expression clause.now)) ≡ Some after) }
+        (clause_breaches symbols.now listed.old (view_clause clause.now)) }
+    ensures listed { OnOk result (listed.new ≡ after_clause listed.old (view_clause clause.now)) }
+    ensures resolved { let own = resolved_clause symbols.now (view_clause clause.now) in
+        Adds view.clause result clauses.old clauses.new own }
 {
     match clause {
         Clause::Value(kind, _, value) => {
@@ -283,14 +265,12 @@ fn resolve_clauses(
     symbols: &Symbols,
     items: &[ClauseItem<Expression>],
 ) -> Result<(Listed, Vec<ResolvedClause>), SourceFault>
-    ensures checked { Checks result
-        (breaches_along (item_breaches symbols.now) after_item nothing_listed
-        (map (map_item view_expression) items.now)) }
+    ensures found { let trees = view_items items.now in
+        Resolves view_taken result
+        (breaches_along (item_breaches symbols.now) after_item nothing_listed trees)
+        (resolved_clauses symbols.now trees) }
     ensures listed { IfOk result
-        (λ taken. taken.0 ≡ fold after_item nothing_listed
-        (map (map_item view_expression) items.now)) }
-    ensures resolved { Finds (λ taken. map view_resolved_clause taken.1.items) result
-        (resolved_clauses symbols.now (map (map_item view_expression) items.now)) }
+        (λ taken. taken.0 ≡ fold after_item nothing_listed (view_items items.now)) }
 {
     let mut listed = Listed::new(alloc);
     let mut clauses = Vec::new(alloc);
@@ -312,11 +292,10 @@ pub fn resolve_directive(
     flow: Flow,
     directive: &Directive<Expression>,
 ) -> Result<(Listed, Vec<ResolvedClause>), SourceFault>
-    ensures checked { Checks result
-        (directive_breaches symbols.now flow (view_directive directive.now)) }
+    ensures found { let tree = view_directive directive.now in
+        Resolves view_taken result (directive_breaches symbols.now flow tree)
+        (resolved_clauses symbols.now tree.clauses) }
     ensures listed { IfOk result (λ taken. taken.0 ≡ listed_by (view_directive directive.now)) }
-    ensures resolved { Finds (λ taken. map view_resolved_clause taken.1.items) result
-        (resolved_clauses symbols.now (view_directive directive.now).clauses) }
 {
     check_nesting(flow, &directive.name)?;
     resolve_clauses(alloc, symbols, directive.clauses.as_slice())
@@ -325,8 +304,7 @@ pub fn resolve_directive(
 // A variable that a `flush` names: S7, S9, S13.
 fn resolve_flushed(alloc: Global, symbols: &Symbols, name: &Name) -> Result<Variable, SourceFault>
     ensures checked { ChecksExactly result (flushed_breaches symbols.now name.now) }
-    ensures resolved { IfOk result
-        (λ variable. variable_named symbols.now name.now ≡ Some variable) }
+    ensures resolved { Finds (λ found. found) result (variable_named symbols.now name.now) }
 {
     resolve_listed(symbols, DataSharing::Shared, &Listed::new(alloc), name)
 }
@@ -339,12 +317,10 @@ fn resolve_further_flushed(
     rest: &[FurtherName],
 ) -> Result<(), SourceFault>
     ensures checked { Checks result
-        (flat_map (flushed_breaches symbols.now) (map (λ further. further.1) rest.now)) }
-    ensures resolved { let before = variables.old.items in
+        (flat_map (flushed_breaches symbols.now) (further_names rest.now)) }
+    ensures resolved { let own = each (variable_named symbols.now) (further_names rest.now) in
         OnOk result
-        (option_map (λ own. before ++ own)
-        (each (variable_named symbols.now) (map (λ further. further.1) rest.now))
-        ≡ Some variables.new.items) }
+        (option_map (λ own. variables.old.items ++ own) own ≡ Some variables.new.items) }
 {
     for further in rest {
         variables.push(resolve_flushed(alloc, symbols, &further.1)?)?;
@@ -359,10 +335,9 @@ fn resolve_names(
     first: &Name,
     rest: &[FurtherName],
 ) -> Result<Seq<Variable>, SourceFault>
-    ensures checked { Checks result
-        (flat_map (flushed_breaches symbols.now) (names_in first.now rest.now)) }
-    ensures resolved { IfOk result
-        (λ found. each (variable_named symbols.now) (names_in first.now rest.now) ≡ Some found) }
+    ensures { let names = names_in first.now rest.now in
+        Resolves (λ found. found) result (flat_map (flushed_breaches symbols.now) names)
+        (each (variable_named symbols.now) names) }
 {
     let mut variables = Vec::new(alloc);
     variables.push(resolve_flushed(alloc, symbols, first)?)?;
@@ -378,8 +353,8 @@ pub fn resolve_flush(
     symbols: &Symbols,
     list: &Option<NameList>,
 ) -> Result<Seq<Variable>, SourceFault>
-    ensures checked { Checks result (list_breaches symbols.now list.now) }
-    ensures resolved { IfOk result (λ found. flushed symbols.now list.now ≡ Some found) }
+    ensures { Resolves (λ found. found) result (list_breaches symbols.now list.now)
+        (flushed symbols.now list.now) }
 {
     match list {
         None => Ok(Seq::of(Vec::new(alloc))),

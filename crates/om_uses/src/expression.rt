@@ -1,17 +1,16 @@
 //! Expressions: their rules, and the variable of each use.
 
-ghost use Rattle.std.specs.Prelude.{◌≡◌, ◌<◌, pos, true, IfOk, map, option_map};
-ghost use Rattle.om_tree.specs.Tree.{arguments};
+ghost use Rattle.std.specs.Prelude.{◌≡◌, ◌<◌, pos, true, IfOk, option_map};
 ghost use Rattle.om_tree.specs.View.{view_expression};
-ghost use Rattle.om_resolved.specs.ResolvedTree as trees;
-ghost use Rattle.om_resolved.specs.ResolvedView.{view_resolved_expression};
-ghost use Rattle.om_rules.specs.Checks.{Checks, ChecksExactly};
+ghost use Rattle.om_resolved.specs.ResolvedView as view;
+ghost use Rattle.om_rules.specs.Checks.{ChecksExactly};
 ghost use Rattle.om_rules.specs.ExpressionRules.{argument_breaches, arguments_breaches, called_breaches, constant_breaches, element_breaches, expression_breaches, own_call_breaches, prefix_breaches, print_breaches, printed_breaches, target_breaches};
 ghost use Rattle.om_rules.specs.Outcomes.{Finds};
+ghost use Rattle.om_rules.specs.Resolves.{Resolves};
 ghost use Rattle.om_rules.specs.Resolution.{callee_named, format_in, own_call_of, prefixed, print_of, resolved_call, resolved_expression, resolved_printed, resolved_target, resolved_values, variable_named};
 ghost use Rattle.om_uses.specs.Parts.{step_of, unary_of};
 ghost use Rattle.om_uses.specs.TargetViews.{view_target};
-ghost use Rattle.om_uses.specs.Views.{view_argument};
+ghost use Rattle.om_uses.specs.Views.{ResolvesExpression, view_arguments, view_boxed, view_values};
 
 use crate::call::{argument_count, call_of, resolve_format};
 use crate::fault::refuse_among;
@@ -33,10 +32,7 @@ pub fn resolve_expression(
     for_value: bool,
     expression: &Expression,
 ) -> Result<ResolvedExpression, SourceFault>
-    ensures checked { Checks result
-        (expression_breaches symbols.now for_value (view_expression expression.now)) }
-    ensures resolved { Finds view_resolved_expression result
-        (resolved_expression symbols.now (view_expression expression.now)) }
+    ensures { ResolvesExpression view.expression result symbols.now for_value expression.now }
 {
     match expression {
         Expression::Name(name) => Ok(ResolvedExpression::Variable(resolve_scalar(symbols, name)?)),
@@ -118,10 +114,7 @@ pub fn boxed_expression(
     for_value: bool,
     expression: &Expression,
 ) -> Result<Box<ResolvedExpression>, SourceFault>
-    ensures checked { Checks result
-        (expression_breaches symbols.now for_value (view_expression expression.now)) }
-    ensures resolved { Finds (λ found. view_resolved_expression found.value) result
-        (resolved_expression symbols.now (view_expression expression.now)) }
+    ensures { ResolvesExpression view_boxed result symbols.now for_value expression.now }
 {
     boxed(
         alloc,
@@ -131,8 +124,7 @@ pub fn boxed_expression(
 
 /// An expression that may be left out, taken out of its box.
 pub fn unboxed(expression: Option<Box<ResolvedExpression>>) -> Option<ResolvedExpression>
-    ensures { option_map view_resolved_expression result
-        ≡ option_map (λ boxed. view_resolved_expression boxed.value) expression }
+    ensures { option_map view.expression result ≡ option_map view_boxed expression }
 {
     let expression = expression?;
     Some(Box::into_inner(expression))
@@ -160,10 +152,8 @@ fn resolve_prefix(
     operator: PrefixOperator,
     operand: &Expression,
 ) -> Result<ResolvedExpression, SourceFault>
-    ensures checked { Checks result
-        (prefix_breaches symbols.now operator (view_expression operand.now)) }
-    ensures resolved { let tree = view_expression operand.now in
-        Finds view_resolved_expression result
+    ensures { let tree = view_expression operand.now in
+        Resolves view.expression result (prefix_breaches symbols.now operator tree)
         (prefixed operator (resolved_target symbols.now tree)
         (resolved_expression symbols.now tree)) }
 {
@@ -186,9 +176,9 @@ fn resolve_step(
     operator: AssignOperator,
     operand: &Expression,
 ) -> Result<ResolvedExpression, SourceFault>
-    ensures checked { Checks result (target_breaches symbols.now (view_expression operand.now)) }
-    ensures resolved { Finds view_resolved_expression result
-        (step_of operator (resolved_target symbols.now (view_expression operand.now))) }
+    ensures { let tree = view_expression operand.now in
+        Resolves view.expression result (target_breaches symbols.now tree)
+        (step_of operator (resolved_target symbols.now tree)) }
 {
     let target = resolve_target(alloc, symbols, operand)?;
     let one = Box::new(alloc, ResolvedExpression::Constant(1))?;
@@ -203,10 +193,9 @@ fn resolve_unary(
     operator: UnaryOperator,
     operand: &Expression,
 ) -> Result<ResolvedExpression, SourceFault>
-    ensures checked { Checks result
-        (expression_breaches symbols.now true (view_expression operand.now)) }
-    ensures resolved { Finds view_resolved_expression result
-        (unary_of operator (resolved_expression symbols.now (view_expression operand.now))) }
+    ensures { let tree = view_expression operand.now in
+        Resolves view.expression result (expression_breaches symbols.now true tree)
+        (unary_of operator (resolved_expression symbols.now tree)) }
 {
     let operand = boxed_expression(alloc, symbols, true, operand)?;
     Ok(ResolvedExpression::Unary { operator, operand })
@@ -220,9 +209,9 @@ fn resolve_target(
     symbols: &Symbols,
     target: &Expression,
 ) -> Result<Target, SourceFault>
-    ensures checked { Checks result (target_breaches symbols.now (view_expression target.now)) }
-    ensures resolved { Finds view_target result
-        (resolved_target symbols.now (view_expression target.now)) }
+    ensures { let tree = view_expression target.now in
+        Resolves view_target result (target_breaches symbols.now tree)
+        (resolved_target symbols.now tree) }
 {
     match target {
         Expression::Name(name) => Ok(Target::Variable(resolve_scalar(symbols, name)?)),
@@ -250,11 +239,10 @@ fn resolve_element(
     name: &Name,
     index: &Expression,
 ) -> Result<(Variable, Box<ResolvedExpression>), SourceFault>
-    ensures checked { Checks result
-        (element_breaches symbols.now name.now (view_expression index.now)) }
+    ensures index { let tree = view_expression index.now in
+        Resolves (λ found. view_boxed found.1) result (element_breaches symbols.now name.now tree)
+        (resolved_expression symbols.now tree) }
     ensures array { Finds (λ found. found.0) result (variable_named symbols.now name.now) }
-    ensures index { Finds (λ found. view_resolved_expression found.1.value) result
-        (resolved_expression symbols.now (view_expression index.now)) }
 {
     let array = resolve_array(symbols, name)?;
     let index = boxed_expression(alloc, symbols, true, index)?;
@@ -270,11 +258,9 @@ fn resolve_call(
     name: &Name,
     values: &[Argument],
 ) -> Result<ResolvedExpression, SourceFault>
-    ensures checked { Checks result
-        (called_breaches symbols.now for_value name.now
-        (arguments (map view_argument values.now))) }
-    ensures resolved { Finds view_resolved_expression result
-        (resolved_call symbols.now name.now (arguments (map view_argument values.now))) }
+    ensures { let given = view_arguments values.now in
+        Resolves view.expression result (called_breaches symbols.now for_value name.now given)
+        (resolved_call symbols.now name.now given) }
 {
     if is_printf(symbols.meaning_of(name.text.as_slice())) {
         return resolve_print(alloc, symbols, for_value, name, values);
@@ -292,10 +278,8 @@ fn resolve_print(
     name: &Name,
     values: &[Argument],
 ) -> Result<ResolvedExpression, SourceFault>
-    ensures checked { Checks result
-        (print_breaches symbols.now for_value name.now (arguments (map view_argument values.now))) }
-    ensures resolved { let given = arguments (map view_argument values.now) in
-        Finds view_resolved_expression result
+    ensures { let given = view_arguments values.now in
+        Resolves view.expression result (print_breaches symbols.now for_value name.now given)
         (print_of (format_in given) (resolved_printed symbols.now given)) }
 {
     let format = resolve_format(alloc, for_value, name, values)?;
@@ -314,11 +298,9 @@ fn resolve_printed(
     symbols: &Symbols,
     values: &[Argument],
 ) -> Result<Vec<ResolvedExpression>, SourceFault>
-    ensures checked { Checks result
-        (printed_breaches symbols.now 0 (arguments (map view_argument values.now))) }
-    ensures resolved { Finds
-        (λ found. trees.values (map view_resolved_expression found.items)) result
-        (resolved_printed symbols.now (arguments (map view_argument values.now))) }
+    ensures { let given = view_arguments values.now in
+        Resolves view_values result (printed_breaches symbols.now 0 given)
+        (resolved_printed symbols.now given) }
 {
     let mut resolved = Vec::new(alloc);
     let mut place = 0;
@@ -343,10 +325,9 @@ fn resolve_argument(
     argument: &Expression,
 ) -> Result<ResolvedExpression, SourceFault>
     requires { 0 < place }
-    ensures checked { Checks result
-        (argument_breaches symbols.now place (view_expression argument.now)) }
-    ensures resolved { Finds view_resolved_expression result
-        (resolved_expression symbols.now (view_expression argument.now)) }
+    ensures { let tree = view_expression argument.now in
+        Resolves view.expression result (argument_breaches symbols.now place tree)
+        (resolved_expression symbols.now tree) }
 {
     let resolved = resolve_expression(alloc, symbols, true, argument);
     let at = expression_start(argument);
@@ -363,11 +344,8 @@ fn resolve_own_call(
     name: &Name,
     values: &[Argument],
 ) -> Result<ResolvedExpression, SourceFault>
-    ensures checked { Checks result
-        (own_call_breaches symbols.now for_value name.now
-        (arguments (map view_argument values.now))) }
-    ensures resolved { let given = arguments (map view_argument values.now) in
-        Finds view_resolved_expression result
+    ensures { let given = view_arguments values.now in
+        Resolves view.expression result (own_call_breaches symbols.now for_value name.now given)
         (own_call_of (callee_named symbols.now name.now) (resolved_values symbols.now given)) }
 {
     let place = resolve_callee(symbols, for_value, name, argument_count(values))?;
@@ -383,11 +361,9 @@ fn resolve_values(
     symbols: &Symbols,
     values: &[Argument],
 ) -> Result<Vec<ResolvedExpression>, SourceFault>
-    ensures checked { Checks result
-        (arguments_breaches symbols.now (arguments (map view_argument values.now))) }
-    ensures resolved { Finds
-        (λ found. trees.values (map view_resolved_expression found.items)) result
-        (resolved_values symbols.now (arguments (map view_argument values.now))) }
+    ensures { let given = view_arguments values.now in
+        Resolves view_values result (arguments_breaches symbols.now given)
+        (resolved_values symbols.now given) }
 {
     let mut resolved = Vec::new(alloc);
     for argument in values {

@@ -1,13 +1,15 @@
 //! Globals: their rules, and what they hold at the start.
 
-ghost use Rattle.std.specs.Prelude.{◌≡◌, ◌++◌, ◌+◌, ◌≤◌, ◌<◌, [], ◌∷◌, false, OnOk, IfOk, map, option_map};
-ghost use Rattle.om_tree.specs.View.{view_declarator, view_further, view_global, view_initializer, view_number};
+ghost use Rattle.std.specs.Prelude.{◌≡◌, ◌+◌, ◌≤◌, ◌<◌, false, OnOk, IfOk, option_map};
+ghost use Rattle.om_tree.specs.View.{view_initializer, view_number};
 ghost use Rattle.om_rules.specs.Checks.{Checks, ChecksExactly};
 ghost use Rattle.om_rules.specs.Constants.{signed_value};
 ghost use Rattle.om_rules.specs.ExpressionRules.{constant_breaches};
-ghost use Rattle.om_rules.specs.Scopes.{after_global, after_globals, behind_commas, cells_of, declarators_of, is_declared};
-ghost use Rattle.om_rules.specs.UnitResolution.{global_of, initial_of};
+ghost use Rattle.om_rules.specs.Scopes.{cells_of, is_declared};
+ghost use Rattle.om_rules.specs.UnitResolution.{initial_of};
 ghost use Rattle.om_rules.specs.UnitRules.{global_breaches, global_name_breaches, globals_breaches, initial_breaches};
+ghost use Rattle.om_uses.specs.Declares.{AppendsGlobal, AppendsGlobals, DeclaresGlobal, DeclaresGlobals, further_globals};
+ghost use Rattle.om_uses.specs.Declares.{globals_in, view_one};
 
 use crate::declaration::{cells_of, check_new, check_size, copy_of, length_of, shape_of};
 use crate::expression::constant_of;
@@ -32,11 +34,10 @@ fn value_of(signed: &SignedNumber) -> Result<i32, SourceFault>
 
 // What a global holds at the start.
 fn initial_of(initializer: &Option<Initializer<SignedNumber>>) -> Result<i32, SourceFault>
-    ensures checked { ChecksExactly result
-        (initial_breaches (option_map (view_initializer view_number) initializer.now)) }
-    ensures value { IfOk result
-        (λ value. value
-        ≡ initial_of (option_map (view_initializer view_number) initializer.now)) }
+    ensures checked { let tree = option_map (view_initializer view_number) initializer.now in
+        ChecksExactly result (initial_breaches tree) }
+    ensures value { let tree = option_map (view_initializer view_number) initializer.now in
+        IfOk result (λ value. value ≡ initial_of tree) }
 {
     match initializer {
         None => Ok(0),
@@ -51,7 +52,7 @@ fn check_global_name(
     declarator: &Declarator<SignedNumber>,
 ) -> Result<(), SourceFault>
     ensures checked { ChecksExactly result
-        (global_name_breaches symbols.now (view_declarator view_number declarator.now)) }
+        (global_name_breaches symbols.now (view_one declarator.now)) }
     ensures has_room { OnOk result
         (symbols.now.cells + cells_of declarator.now.array ≤ GLOBAL_CELL_LIMIT) }
     ensures has_cells { OnOk result (0 < cells_of declarator.now.array) }
@@ -74,9 +75,8 @@ fn declare_global_name(
     declarator: &Declarator<SignedNumber>,
 ) -> Result<(), SourceFault>
     ensures checked { Checks result
-        (global_name_breaches symbols.old (view_declarator view_number declarator.now)) }
-    ensures in_scope { OnOk result
-        (symbols.new ≡ after_global symbols.old (view_declarator view_number declarator.now)) }
+        (global_name_breaches symbols.old (view_one declarator.now)) }
+    ensures in_scope { DeclaresGlobal result symbols.old symbols.new declarator.now }
 {
     check_global_name(symbols, declarator)?;
     let shape = shape_of(&declarator.array);
@@ -91,11 +91,8 @@ fn add_global(
     globals: &mut Vec<GlobalVariable>,
     declarator: &Declarator<SignedNumber>,
 ) -> Result<(), SourceFault>
-    ensures checked { Checks result
-        (initial_breaches (view_declarator view_number declarator.now).initializer) }
-    ensures declared { OnOk result
-        (globals.new.items ≡ globals.old.items
-        ++ global_of (view_declarator view_number declarator.now) ∷ []) }
+    ensures checked { Checks result (initial_breaches (view_one declarator.now).initializer) }
+    ensures declared { AppendsGlobal result globals.old globals.new declarator.now }
 {
     let initial = initial_of(&declarator.initializer)?;
     globals.push(GlobalVariable {
@@ -115,13 +112,9 @@ fn declare_global(
     globals: &mut Vec<GlobalVariable>,
     declarator: &Declarator<SignedNumber>,
 ) -> Result<(), SourceFault>
-    ensures checked { Checks result
-        (global_breaches symbols.old (view_declarator view_number declarator.now)) }
-    ensures in_scope { OnOk result
-        (symbols.new ≡ after_global symbols.old (view_declarator view_number declarator.now)) }
-    ensures declared { OnOk result
-        (globals.new.items ≡ globals.old.items
-        ++ global_of (view_declarator view_number declarator.now) ∷ []) }
+    ensures checked { Checks result (global_breaches symbols.old (view_one declarator.now)) }
+    ensures in_scope { DeclaresGlobal result symbols.old symbols.new declarator.now }
+    ensures declared { AppendsGlobal result globals.old globals.new declarator.now }
 {
     declare_global_name(alloc, symbols, declarator)?;
     add_global(alloc, globals, declarator)
@@ -134,14 +127,9 @@ fn declare_further_globals(
     globals: &mut Vec<GlobalVariable>,
     rest: &[(Span, Declarator<SignedNumber>)],
 ) -> Result<(), SourceFault>
-    ensures checked { Checks result
-        (globals_breaches symbols.old (behind_commas (map (view_further view_number) rest.now))) }
-    ensures in_scope { OnOk result
-        (symbols.new ≡ after_globals symbols.old
-        (behind_commas (map (view_further view_number) rest.now))) }
-    ensures declared { OnOk result
-        (globals.new.items ≡ globals.old.items
-        ++ map global_of (behind_commas (map (view_further view_number) rest.now))) }
+    ensures checked { Checks result (globals_breaches symbols.old (further_globals rest.now)) }
+    ensures in_scope { DeclaresGlobals result symbols.old symbols.new (further_globals rest.now) }
+    ensures declared { AppendsGlobals result globals.old globals.new (further_globals rest.now) }
 {
     for further in rest {
         declare_global(alloc, symbols, globals, &further.1)?;
@@ -161,14 +149,9 @@ pub fn declare_globals(
     globals: &mut Vec<GlobalVariable>,
     declaration: &Declaration<SignedNumber>,
 ) -> Result<(), SourceFault>
-    ensures checked { Checks result
-        (globals_breaches symbols.old (declarators_of (view_global declaration.now))) }
-    ensures in_scope { OnOk result
-        (symbols.new ≡ after_globals symbols.old
-        (declarators_of (view_global declaration.now))) }
-    ensures declared { OnOk result
-        (globals.new.items ≡ globals.old.items
-        ++ map global_of (declarators_of (view_global declaration.now))) }
+    ensures checked { Checks result (globals_breaches symbols.old (globals_in declaration.now)) }
+    ensures in_scope { DeclaresGlobals result symbols.old symbols.new (globals_in declaration.now) }
+    ensures declared { AppendsGlobals result globals.old globals.new (globals_in declaration.now) }
 {
     declare_global(alloc, symbols, globals, &declaration.first)?;
     declare_further_globals(alloc, symbols, globals, declaration.rest.as_slice())

@@ -2,7 +2,7 @@
 
 ghost use Rattle.std.specs.Prelude.{◌≡◌, Some};
 ghost use Rattle.om_tree.specs.View.{view_expression};
-ghost use Rattle.om_resolved.specs.ResolvedView.{view_resolved_expression};
+ghost use Rattle.om_resolved.specs.ResolvedView as view;
 ghost use Rattle.om_rules.specs.Checks.{ChecksExactly};
 ghost use Rattle.om_rules.specs.ExpressionRules.{is_target, leading_breaches, misplaced_breaches};
 ghost use Rattle.om_rules.specs.Faults.{first_of};
@@ -69,8 +69,8 @@ pub fn assigned(
     operator: AssignOperator,
     value: Box<ResolvedExpression>,
 ) -> ResolvedExpression
-    ensures { view_resolved_expression result
-        ≡ assigned (view_target target) operator (view_resolved_expression value.value) }
+    ensures { view.expression result
+        ≡ assigned (view_target target) operator (view.expression value.value) }
 {
     match target {
         Target::Variable(variable) => ResolvedExpression::Assign {
@@ -91,7 +91,7 @@ pub fn assigned(
 
 /// A target with `++` or `--` behind it.
 pub fn stepped(target: Target, operator: PostfixOperator) -> ResolvedExpression
-    ensures { view_resolved_expression result ≡ stepped (view_target target) operator }
+    ensures { view.expression result ≡ stepped (view_target target) operator }
 {
     match target {
         Target::Variable(variable) => ResolvedExpression::Postfix { variable, operator },

@@ -14,7 +14,7 @@ use Rattle.om_emit.proofs.Singles.{emits_constant}
 use Rattle.om_emit.specs.Views.{view_constant, view_variable, view_element, view_thread_number, view_team_size}
 use Rattle.om_emit.specs.Views.{view_call, view_unary, view_binary, view_conditional, view_assign_element, view_postfix_element}
 use Rattle.om_resolved.specs.ResolvedTree as trees
-use Rattle.om_resolved.specs.ResolvedView.{view_resolved_expression}
+use Rattle.om_resolved.specs.ResolvedView as view
 use Rattle.om_rows.specs.Expressions.{value}
 use Rattle.om_rows.specs.Operators.{Both, Either, Plain, form_of, compound_of}
 use Rattle.om_rows.specs.Slots.{place_of}
@@ -37,7 +37,7 @@ pub binary_end-returns-in-Both : goal.binary_end-returns-in-Both
 binary_end-returns-in-Both t c =
     on_ok_weaker c.both_end.result
     (rest_is (names_at c.args.here.now) c.args.here.now.at.line Both (form_of c.args.operator)
-    (view_resolved_expression c.args.right.now) _ _
+    (view.expression c.args.right.now) _ _
     (ap form (sym c.in-Both.is) ∙ c.form_of.ensures))
     c.both_end.ensures
 
@@ -45,7 +45,7 @@ pub binary_end-returns-in-Either : goal.binary_end-returns-in-Either
 binary_end-returns-in-Either t c =
     on_ok_weaker c.either_end.result
     (rest_is (names_at c.args.here.now) c.args.here.now.at.line Either (form_of c.args.operator)
-    (view_resolved_expression c.args.right.now) _ _
+    (view.expression c.args.right.now) _ _
     (ap form (sym c.in-Either.is) ∙ c.form_of.ensures))
     c.either_end.ensures
 
@@ -53,10 +53,10 @@ pub binary_end-returns-in_ok-value-in-Plain : goal.binary_end-returns-in_ok-valu
 binary_end-returns-in_ok-value-in-Plain t c =
     on_ok_weaker c.put.result
     (λ h. rest_is (names_at c.args.here.now) c.args.here.now.at.line (Plain c.in-Plain.operator) (form_of c.args.operator)
-    (view_resolved_expression c.args.right.now) _ _
+    (view.expression c.args.right.now) _ _
     (ap form (sym c.in-Plain.is) ∙ c.form_of.ensures)
     (emits_right (names_at c.args.here.now) c.args.here.now.at.line c.in-Plain.operator
-    (view_resolved_expression c.args.right.now) _ _ _
+    (view.expression c.args.right.now) _ _ _
     c.in_ok-value-in-Plain.ensures h))
     c.put.ensures
 
@@ -77,7 +77,7 @@ pub both_end-returns : goal.both_end-returns
 both_end-returns t c =
     let names = names_at c.args.here.now in
     on_ok_weaker c.truth.result
-    (λ h. emits_both names c.args.here.now.at.line (view_resolved_expression c.args.right.now)
+    (λ h. emits_both names c.args.here.now.at.line (view.expression c.args.right.now)
     c.in_ok-not_both.not_both c.in_ok-end.end _ _ _ _ _ _
     c.in_ok-not_both.ensures c.in_ok-end.ensures c.in_ok-put_jump.ensures c.in_ok-value.ensures h)
     (c.truth.ensures names)
@@ -112,7 +112,7 @@ pub either_end-returns : goal.either_end-returns
 either_end-returns t c =
     let names = names_at c.args.here.now in
     on_ok_weaker c.truth.result
-    (λ h. emits_either names c.args.here.now.at.line (view_resolved_expression c.args.right.now)
+    (λ h. emits_either names c.args.here.now.at.line (view.expression c.args.right.now)
     c.in_ok-next.next c.in_ok-neither.neither c.in_ok-end.end _ _ _ _ _ _ _ _
     c.in_ok-next.ensures c.in_ok-neither.ensures c.in_ok-end.ensures c.in_ok-one_unless_zero.ensures c.define.ensures
     c.in_ok-value.ensures h)
@@ -124,7 +124,7 @@ pub assign-returns-in_ok-value-in-None : goal.assign-returns-in_ok-value-in-None
 assign-returns-in_ok-value-in-None t c =
     on_ok_weaker c.store.result
     (λ h. emits_set (names_at c.args.here.now) c.args.here.now.at.line c.args.target.keeps c.args.target.variable
-    c.args.target.operator (view_resolved_expression c.args.e.now) _ _ _ (sym c.in-None.is ∙ c.compound_of.ensures)
+    c.args.target.operator (view.expression c.args.e.now) _ _ _ (sym c.in-None.is ∙ c.compound_of.ensures)
     c.in_ok-value-in-None.ensures h)
     c.store.ensures
 
@@ -132,7 +132,7 @@ pub assign-returns-in_ok-put-in-Some : goal.assign-returns-in_ok-put-in-Some
 assign-returns-in_ok-put-in-Some t c =
     on_ok_weaker c.store-in-Some.result
     (λ h. emits_compound (names_at c.args.here.now) c.args.here.now.at.line c.args.target.keeps c.args.target.variable
-    c.args.target.operator _ (view_resolved_expression c.args.e.now) _ _ _ _ _
+    c.args.target.operator _ (view.expression c.args.e.now) _ _ _ _ _
     (sym c.in-Some.is ∙ c.compound_of.ensures) c.in_ok-load-in-Some.ensures
     c.in_ok-value-in-Some.ensures c.in_ok-put-in-Some.ensures h)
     c.store-in-Some.ensures
@@ -141,7 +141,7 @@ pub assign_element-returns-in_ok-value-in-None : goal.assign_element-returns-in_
 assign_element-returns-in_ok-value-in-None t c =
     on_ok_weaker c.put.result
     (λ h. emits_set_element (names_at c.args.here.now) c.args.here.now.at.line c.args.target.keeps c.args.target.variable
-    c.args.target.operator _ (view_resolved_expression c.args.e.now) _ _ _ (sym c.in-None.is ∙ c.compound_of.ensures)
+    c.args.target.operator _ (view.expression c.args.e.now) _ _ _ (sym c.in-None.is ∙ c.compound_of.ensures)
     c.place-place.ensures c.in_ok-value-in-None.ensures h)
     c.put.ensures
 
@@ -149,7 +149,7 @@ pub assign_element-returns-in_ok-value-in-Some : goal.assign_element-returns-in_
 assign_element-returns-in_ok-value-in-Some t c =
     on_ok_weaker c.put_all-in-Some.result
     (λ h. emits_compound_element (names_at c.args.here.now) c.args.here.now.at.line c.args.target.keeps
-    c.args.target.variable c.args.target.operator _ _ (view_resolved_expression c.args.e.now) _ _ _ _
+    c.args.target.variable c.args.target.operator _ _ (view.expression c.args.e.now) _ _ _ _
     (sym c.in-Some.is ∙ c.compound_of.ensures) c.place-place.ensures c.in_ok-put_all-in-Some.ensures
     c.in_ok-value-in-Some.ensures h)
     c.put_all-in-Some.ensures
@@ -208,38 +208,38 @@ values-loop-e-preserved t c = (
 pub value-returns-in-Constant : goal.value-returns-in-Constant
 value-returns-in-Constant t c =
     let names = names_at c.args.here.now in
-    let is = ap view_resolved_expression c.in-Constant.is ∙ view_constant c.in-Constant.number in
+    let is = ap view.expression c.in-Constant.is ∙ view_constant c.in-Constant.number in
     on_ok_weaker c.put.result
     (λ h. value_is names c.args.here.now.at.line (trees.Constant c.in-Constant.number)
-    (view_resolved_expression c.args.e.now) _ _ (sym is)
+    (view.expression c.args.e.now) _ _ (sym is)
     (emits_constant names c.args.here.now.at.line c.in-Constant.number _ _ _ (search rules) h))
     c.put.ensures
 
 pub value-returns-in-Variable : goal.value-returns-in-Variable
 value-returns-in-Variable t c =
     let names = names_at c.args.here.now in
-    let is = ap view_resolved_expression c.in-Variable.is ∙ view_variable c.in-Variable.variable in
+    let is = ap view.expression c.in-Variable.is ∙ view_variable c.in-Variable.variable in
     on_ok_weaker c.load.result
     (λ h. value_is names c.args.here.now.at.line (trees.Variable c.in-Variable.variable)
-    (view_resolved_expression c.args.e.now) _ _ (sym is)
+    (view.expression c.args.e.now) _ _ (sym is)
     (emits_one names c.args.here.now.at.line (i.Load (place_of names.slots c.in-Variable.variable)) _ _ h))
     c.load.ensures
 
 pub value-returns-in-ThreadNumber : goal.value-returns-in-ThreadNumber
 value-returns-in-ThreadNumber t c =
     let names = names_at c.args.here.now in
-    let is = ap view_resolved_expression c.in-ThreadNumber.is ∙ view_thread_number in
+    let is = ap view.expression c.in-ThreadNumber.is ∙ view_thread_number in
     on_ok_weaker c.put-in-ThreadNumber.result
-    (λ h. value_is names c.args.here.now.at.line trees.ThreadNumber (view_resolved_expression c.args.e.now) _ _ (sym is)
+    (λ h. value_is names c.args.here.now.at.line trees.ThreadNumber (view.expression c.args.e.now) _ _ (sym is)
     (emits_one names c.args.here.now.at.line i.ThreadNumber _ _ h))
     c.put-in-ThreadNumber.ensures
 
 pub value-returns-in-TeamSize : goal.value-returns-in-TeamSize
 value-returns-in-TeamSize t c =
     let names = names_at c.args.here.now in
-    let is = ap view_resolved_expression c.in-TeamSize.is ∙ view_team_size in
+    let is = ap view.expression c.in-TeamSize.is ∙ view_team_size in
     on_ok_weaker c.put-in-TeamSize.result
-    (λ h. value_is names c.args.here.now.at.line trees.TeamSize (view_resolved_expression c.args.e.now) _ _ (sym is)
+    (λ h. value_is names c.args.here.now.at.line trees.TeamSize (view.expression c.args.e.now) _ _ (sym is)
     (emits_one names c.args.here.now.at.line i.TeamSize _ _ h))
     c.put-in-TeamSize.ensures
 
@@ -248,23 +248,23 @@ value-returns-in_ok-value-in-Element t c =
     let names = names_at c.args.here.now in
     let j = c.deref.result.now in
     let x = c.in-Element.array in
-    let is = ap view_resolved_expression c.in-Element.is ∙ view_element x c.in-Element.index in
-    let same = ap (λ z. trees.Element x (view_resolved_expression z)) c.deref.ensures in
+    let is = ap view.expression c.in-Element.is ∙ view_element x c.in-Element.index in
+    let same = ap (λ z. trees.Element x (view.expression z)) c.deref.ensures in
     on_ok_weaker c.load_element.result
-    (λ h. value_is names c.args.here.now.at.line (trees.Element x (view_resolved_expression j))
-    (view_resolved_expression c.args.e.now) _ _ (same ∙ sym is)
-    (emits_element names c.args.here.now.at.line x (view_resolved_expression j) _ _ _
+    (λ h. value_is names c.args.here.now.at.line (trees.Element x (view.expression j))
+    (view.expression c.args.e.now) _ _ (same ∙ sym is)
+    (emits_element names c.args.here.now.at.line x (view.expression j) _ _ _
     c.in_ok-value-in-Element.ensures h))
     c.load_element.ensures
 
 pub value-returns-in_ok-call-in-Call : goal.value-returns-in_ok-call-in-Call
 value-returns-in_ok-call-in-Call t c =
     let names = names_at c.args.here.now in
-    let is = ap view_resolved_expression c.in-Call.is ∙ view_call c.in-Call.function c.in-Call.values in
+    let is = ap view.expression c.in-Call.is ∙ view_call c.in-Call.function c.in-Call.values in
     let same = ap (λ es. trees.Call c.in-Call.function (listed es)) c.as_slice.ensures.value in
     on_ok_weaker c.put-in-Call.result
     (λ h. value_is names c.args.here.now.at.line (trees.Call c.in-Call.function (listed c.as_slice.result.now))
-    (view_resolved_expression c.args.e.now) _ _ (same ∙ sym is)
+    (view.expression c.args.e.now) _ _ (same ∙ sym is)
     (emits_used_call names c.args.here.now.at.line c.in-Call.function (listed c.as_slice.result.now) _ _ _
     c.in_ok-call-in-Call.ensures h))
     c.put-in-Call.ensures
@@ -274,12 +274,12 @@ value-returns-in_ok-value-in-Unary t c =
     let names = names_at c.args.here.now in
     let e = c.deref-in-Unary.result.now in
     let o = c.in-Unary.operator in
-    let is = ap view_resolved_expression c.in-Unary.is ∙ view_unary o c.in-Unary.operand in
-    let same = ap (λ z. trees.Unary o (view_resolved_expression z)) c.deref-in-Unary.ensures in
+    let is = ap view.expression c.in-Unary.is ∙ view_unary o c.in-Unary.operand in
+    let same = ap (λ z. trees.Unary o (view.expression z)) c.deref-in-Unary.ensures in
     on_ok_weaker c.unary_end.result
-    (λ h. value_is names c.args.here.now.at.line (trees.Unary o (view_resolved_expression e))
-    (view_resolved_expression c.args.e.now) _ _ (same ∙ sym is)
-    (emits_unary names c.args.here.now.at.line o (view_resolved_expression e) _ _ _
+    (λ h. value_is names c.args.here.now.at.line (trees.Unary o (view.expression e))
+    (view.expression c.args.e.now) _ _ (same ∙ sym is)
+    (emits_unary names c.args.here.now.at.line o (view.expression e) _ _ _
     c.in_ok-value-in-Unary.ensures h))
     c.unary_end.ensures
 
@@ -288,19 +288,19 @@ value-returns-in_ok-value-in-Binary t c =
     let names = names_at c.args.here.now in
     let left = c.deref-in-Binary.result.now in
     let right = c.deref-in-Binary-2.result.now in
-    let is = ap view_resolved_expression c.in-Binary.is
+    let is = ap view.expression c.in-Binary.is
     ∙ view_binary c.in-Binary.left c.in-Binary.operator c.in-Binary.right in
     let same =
-    ap (λ e. trees.Binary (view_resolved_expression e) c.in-Binary.operator
-    (view_resolved_expression right)) c.deref-in-Binary.ensures
-    ∙ ap (λ e. trees.Binary (view_resolved_expression c.in-Binary.left.value) c.in-Binary.operator
-    (view_resolved_expression e)) c.deref-in-Binary-2.ensures in
+    ap (λ e. trees.Binary (view.expression e) c.in-Binary.operator
+    (view.expression right)) c.deref-in-Binary.ensures
+    ∙ ap (λ e. trees.Binary (view.expression c.in-Binary.left.value) c.in-Binary.operator
+    (view.expression e)) c.deref-in-Binary-2.ensures in
     on_ok_weaker c.binary_end.result
-    (λ h. value_is names c.args.here.now.at.line (trees.Binary (view_resolved_expression left) c.in-Binary.operator
-    (view_resolved_expression right)) (view_resolved_expression c.args.e.now)
+    (λ h. value_is names c.args.here.now.at.line (trees.Binary (view.expression left) c.in-Binary.operator
+    (view.expression right)) (view.expression c.args.e.now)
     _ _ (same ∙ sym is)
-    (emits_binary names c.args.here.now.at.line c.in-Binary.operator (view_resolved_expression left)
-    (view_resolved_expression right) _ _ _
+    (emits_binary names c.args.here.now.at.line c.in-Binary.operator (view.expression left)
+    (view.expression right) _ _ _
     c.in_ok-value-in-Binary.ensures h))
     c.binary_end.ensures
 
@@ -338,19 +338,19 @@ value-returns-in_ok-value-in-Conditional-3 t c =
     let at_a = c.in-Conditional.condition in
     let at_b = c.in-Conditional.then in
     let at_d = c.in-Conditional.other in
-    let is = ap view_resolved_expression c.in-Conditional.is ∙ view_conditional at_a at_b at_d in
+    let is = ap view.expression c.in-Conditional.is ∙ view_conditional at_a at_b at_d in
     let same =
-    ap (λ e. trees.Conditional (view_resolved_expression e) (view_resolved_expression b)
-    (view_resolved_expression d)) c.deref-in-Conditional.ensures
-    ∙ ap (λ e. trees.Conditional (view_resolved_expression at_a.value) (view_resolved_expression e)
-    (view_resolved_expression d)) c.deref-in-Conditional-2.ensures
-    ∙ ap (λ e. trees.Conditional (view_resolved_expression at_a.value) (view_resolved_expression at_b.value)
-    (view_resolved_expression e)) c.deref-in-Conditional-3.ensures in
-    value_is names c.args.here.now.at.line (trees.Conditional (view_resolved_expression a) (view_resolved_expression b)
-    (view_resolved_expression d)) (view_resolved_expression c.args.e.now)
+    ap (λ e. trees.Conditional (view.expression e) (view.expression b)
+    (view.expression d)) c.deref-in-Conditional.ensures
+    ∙ ap (λ e. trees.Conditional (view.expression at_a.value) (view.expression e)
+    (view.expression d)) c.deref-in-Conditional-2.ensures
+    ∙ ap (λ e. trees.Conditional (view.expression at_a.value) (view.expression at_b.value)
+    (view.expression e)) c.deref-in-Conditional-3.ensures in
+    value_is names c.args.here.now.at.line (trees.Conditional (view.expression a) (view.expression b)
+    (view.expression d)) (view.expression c.args.e.now)
     _ _ (same ∙ sym is)
-    (emits_conditional names c.args.here.now.at.line (view_resolved_expression a) (view_resolved_expression b)
-    (view_resolved_expression d)
+    (emits_conditional names c.args.here.now.at.line (view.expression a) (view.expression b)
+    (view.expression d)
     c.in_ok-otherwise-in-Conditional.otherwise c.in_ok-end-in-Conditional.end _ _ _ _ _ _ _ _ _ _
     c.in_ok-otherwise-in-Conditional.ensures c.in_ok-end-in-Conditional.ensures c.in_ok-value-in-Conditional.ensures
     c.in_ok-put_jump-in-Conditional.ensures
@@ -365,21 +365,21 @@ value-returns-in_ok-value-in-AssignElement t c =
     let e = c.deref-in-AssignElement-2.result.now in
     let x = c.in-AssignElement.array in
     let o = c.in-AssignElement.operator in
-    let is = ap view_resolved_expression c.in-AssignElement.is
+    let is = ap view.expression c.in-AssignElement.is
     ∙ view_assign_element x c.in-AssignElement.index o c.in-AssignElement.e in
     let same =
-    ap (λ z. trees.AssignElement x (view_resolved_expression z) o
-    (view_resolved_expression e)) c.deref-in-AssignElement.ensures
-    ∙ ap (λ z. trees.AssignElement x (view_resolved_expression c.in-AssignElement.index.value) o
-    (view_resolved_expression z)) c.deref-in-AssignElement-2.ensures in
+    ap (λ z. trees.AssignElement x (view.expression z) o
+    (view.expression e)) c.deref-in-AssignElement.ensures
+    ∙ ap (λ z. trees.AssignElement x (view.expression c.in-AssignElement.index.value) o
+    (view.expression z)) c.deref-in-AssignElement-2.ensures in
     on_ok_weaker c.assign_element.result
-    (λ h. value_is names c.args.here.now.at.line (trees.AssignElement x (view_resolved_expression j) o (view_resolved_expression e))
-    (view_resolved_expression c.args.e.now)
+    (λ h. value_is names c.args.here.now.at.line (trees.AssignElement x (view.expression j) o (view.expression e))
+    (view.expression c.args.e.now)
     _ _ (same ∙ sym is)
-    (emits_element_assigned names c.args.here.now.at.line true x (view_resolved_expression j) (compound_of o)
-    (λ at. value at c.args.here.now.at.line (view_resolved_expression e)) _ _ _
+    (emits_element_assigned names c.args.here.now.at.line true x (view.expression j) (compound_of o)
+    (λ at. value at c.args.here.now.at.line (view.expression e)) _ _ _
     c.in_ok-value-in-AssignElement.ensures
-    (target_is names c.args.here.now.at.line (view_resolved_expression e) c.assigned-in-AssignElement.result
+    (target_is names c.args.here.now.at.line (view.expression e) c.assigned-in-AssignElement.result
     (record { variable = x; operator = o; keeps = true }) _ _ c.assigned-in-AssignElement.ensures h)))
     c.assign_element.ensures
 
@@ -389,12 +389,12 @@ value-returns-in_ok-value-in-PostfixElement t c =
     let j = c.deref-in-PostfixElement.result.now in
     let x = c.in-PostfixElement.array in
     let o = c.in-PostfixElement.operator in
-    let is = ap view_resolved_expression c.in-PostfixElement.is
+    let is = ap view.expression c.in-PostfixElement.is
     ∙ view_postfix_element x c.in-PostfixElement.index o in
-    let same = ap (λ z. trees.PostfixElement x (view_resolved_expression z) o) c.deref-in-PostfixElement.ensures in
+    let same = ap (λ z. trees.PostfixElement x (view.expression z) o) c.deref-in-PostfixElement.ensures in
     on_ok_weaker c.postfix_element.result
-    (λ h. value_is names c.args.here.now.at.line (trees.PostfixElement x (view_resolved_expression j) o)
-    (view_resolved_expression c.args.e.now) _ _ (same ∙ sym is)
-    (emits_postfix_element names c.args.here.now.at.line x (view_resolved_expression j) o _ _ _
+    (λ h. value_is names c.args.here.now.at.line (trees.PostfixElement x (view.expression j) o)
+    (view.expression c.args.e.now) _ _ (same ∙ sym is)
+    (emits_postfix_element names c.args.here.now.at.line x (view.expression j) o _ _ _
     c.in_ok-value-in-PostfixElement.ensures h))
     c.postfix_element.ensures

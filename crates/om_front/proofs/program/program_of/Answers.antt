@@ -1,5 +1,5 @@
 use Rattle.std.proofs.lemmas.Result.{IfErr-weaker}
-use Rattle.om_resolved.specs.ResolvedView.{view_resolved}
+use Rattle.om_resolved.specs.ResolvedView as view
 use Rattle.om_front.specs.Verdict.{by_code}
 use Rattle.om_front.proofs.program.program_of.Goals as goal
 

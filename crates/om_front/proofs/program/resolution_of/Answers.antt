@@ -1,7 +1,7 @@
 use Rattle.std.proofs.lemmas.Result.{IfOk-weaker}
 use Rattle.om_resolved.specs.Beside.{TreeCopiesBehind}
 use Rattle.om_resolved.specs.Weights.{HasSmallWeight}
-use Rattle.om_resolved.specs.ResolvedView.{view_resolved}
+use Rattle.om_resolved.specs.ResolvedView as view
 use Rattle.om_front.proofs.Refusals.{names_refuse}
 use Rattle.om_front.proofs.program.resolution_of.Goals as goal
 
@@ -18,15 +18,15 @@ returns-clause-refused c = names_refuse c.args.source.now _ c.resolve.result c.i
 pub returns-clause-copies_behind : goal.returns-clause-copies_behind
 returns-clause-copies_behind c =
     let tree = c.in_ok-unit.ensures.tree in
-    IfOk-weaker c.resolve.result _ (λ resolved. TreeCopiesBehind (view_resolved resolved))
+    IfOk-weaker c.resolve.result _ (λ resolved. TreeCopiesBehind (view.resolved resolved))
     (λ resolved made. c.sources_have_copies_behind.ensures c.args.source.now tree.tokens _
-    (view_resolved resolved) tree.lexed tree.parsed.spelled made)
+    (view.resolved resolved) tree.lexed tree.parsed.spelled made)
     c.resolve.ensures.resolved
 
 pub returns-clause-small : goal.returns-clause-small
 returns-clause-small c =
     let tree = c.in_ok-unit.ensures.tree in
-    IfOk-weaker c.resolve.result _ (λ resolved. HasSmallWeight (view_resolved resolved))
+    IfOk-weaker c.resolve.result _ (λ resolved. HasSmallWeight (view.resolved resolved))
     (λ resolved made. c.sources_have_small_weight.ensures c.args.source.now tree.tokens _
-    (view_resolved resolved) tree.lexed tree.parsed.spelled made)
+    (view.resolved resolved) tree.lexed tree.parsed.spelled made)
     c.resolve.ensures.resolved

@@ -1,7 +1,7 @@
 use Rattle.std.specs.Prelude.{map}
 use Rattle.std.proofs.lemmas.Result.{on_ok_weaker}
 use Rattle.om_lower.proofs.Wholes.{parallel_emits, parallel_scopes}
-use Rattle.om_resolved.specs.ResolvedView.{view_resolved_clause}
+use Rattle.om_resolved.specs.ResolvedView as view
 use Rattle.om_rows.specs.BodyTables.{numbered_by}
 use Rattle.om_lower.proofs.body.write_parallel.Goals as goal
 
@@ -9,7 +9,7 @@ pub returns-clause-code : goal.returns-clause-code
 returns-clause-code c =
     on_ok_weaker c.end.result
     (λ h. parallel_emits (numbered_by c.args.tables.now) c.args.numbers _ c.args.region.now.at
-    (map view_resolved_clause c.args.region.now.clauses.now) c.args.region.now.captures.now _ _ _ _ _ _ _ _
+    (map view.clause c.args.region.now.clauses.now) c.args.region.now.captures.now _ _ _ _ _ _ _ _
     c.outside-spot.ensures
     c.in_ok-put.ensures c.in_ok-reduction_starts.ensures.code c.in_ok-inner.ensures.emitted
     c.in_ok-reductions.ensures c.in_ok-put-2.ensures c.in_ok-put-3.ensures)
@@ -19,7 +19,7 @@ pub returns-clause-scopes : goal.returns-clause-scopes
 returns-clause-scopes c =
     on_ok_weaker c.end.result
     (λ h. parallel_scopes (numbered_by c.args.tables.now) c.args.region.now.at
-    (map view_resolved_clause c.args.region.now.clauses.now) c.args.region.now.captures.now _ _ _ _ _ _ _ _ _ _ _ _ _
+    (map view.clause c.args.region.now.clauses.now) c.args.region.now.captures.now _ _ _ _ _ _ _ _ _ _ _ _ _
     _ _ _ _ c.height-height.ensures c.place-to.ensures c.in_ok-put.ensures c.in_ok-reduction_starts.ensures.scopes
     c.in_ok-inner.ensures.scopes c.in_ok-reductions.ensures c.in_ok-put-2.ensures c.in_ok-put-3.ensures
     h)

@@ -1,7 +1,7 @@
 use Rattle.std.proofs.Common.{◌≡◌, All, Some, ap, arith, map, slice_get, subst, sym, ◌∙◌}
 use Rattle.om_lower.specs.Inputs.{tree_of}
 use Rattle.om_lower.specs.Made.{AddsFunction}
-use Rattle.om_resolved.specs.ResolvedView.{view_resolved_function}
+use Rattle.om_resolved.specs.ResolvedView as view
 use Rattle.om_resolved.specs.ResolvedTree.{ResolvedFunctionTree}
 use Rattle.om_resolved.specs.Weights.{function_weight}
 use Rattle.om_sights.specs.Room.{HasNumbers, IsRoomFor}
@@ -26,12 +26,12 @@ pub extents_at-requires : goal.extents_at-requires
 extents_at-requires c =
     let tree = tree_of c.args.input.now in
     let tables = c.args.input.now.tables.now in
-    let f = view_resolved_function c.function-item.result in
+    let f = view.function c.function-item.result in
     let n = numbers_of c.loop-index.numbers in
     let there : slice_get tree.functions c.loop-index.index ≡ Some f =
-    subst (λ items. slice_get (map view_resolved_function items) c.loop-index.index ≡ Some f)
+    subst (λ items. slice_get (map view.function items) c.loop-index.index ≡ Some f)
     c.as_slice-function-items.ensures.value
-    (item_at view_resolved_function c.as_slice-function-items.result.now c.loop-index.index c.function-item.result
+    (item_at view.function c.as_slice-function-items.result.now c.loop-index.index c.function-item.result
     c.loop-index-test.true c.function-item.is) in
     extents_there tree.functions tables.extents.items c.loop-index.index f c.requires.given.tables.cells there
 
@@ -39,12 +39,12 @@ pub add_function-requires-clause-next : goal.add_function-requires-clause-next
 add_function-requires-clause-next c =
     let tree = tree_of c.args.input.now in
     let tables = c.args.input.now.tables.now in
-    let f = view_resolved_function c.function-item.result in
+    let f = view.function c.function-item.result in
     let n = numbers_of c.loop-index.numbers in
     let there : slice_get tree.functions c.loop-index.index ≡ Some f =
-    subst (λ items. slice_get (map view_resolved_function items) c.loop-index.index ≡ Some f)
+    subst (λ items. slice_get (map view.function items) c.loop-index.index ≡ Some f)
     c.as_slice-function-items.ensures.value
-    (item_at view_resolved_function c.as_slice-function-items.result.now c.loop-index.index c.function-item.result
+    (item_at view.function c.as_slice-function-items.result.now c.loop-index.index c.function-item.result
     c.loop-index-test.true c.function-item.is) in
     record {
       cells = zip_at AreCellsOf tree.functions tables.extents.items c.loop-index.index f _ c.requires.given.tables.cells there
@@ -65,12 +65,12 @@ pub returns-then-not-branch : goal.returns-then-not-branch
 returns-then-not-branch c =
     let tree = tree_of c.args.input.now in
     let tables = c.args.input.now.tables.now in
-    let f = view_resolved_function c.function-item.result in
+    let f = view.function c.function-item.result in
     let n = numbers_of c.loop-index.numbers in
     let there : slice_get tree.functions c.loop-index.index ≡ Some f =
-    subst (λ items. slice_get (map view_resolved_function items) c.loop-index.index ≡ Some f)
+    subst (λ items. slice_get (map view.function items) c.loop-index.index ≡ Some f)
     c.as_slice-function-items.ensures.value
-    (item_at view_resolved_function c.as_slice-function-items.result.now c.loop-index.index c.function-item.result
+    (item_at view.function c.as_slice-function-items.result.now c.loop-index.index c.function-item.result
     c.loop-index-test.true c.function-item.is) in
     stopped_at tree c.loop-index.lowered c.add_function.new.lowered c.loop-index.index f n c.loop-index.invariant.0
     there
@@ -81,12 +81,12 @@ pub numbers_behind-numbers-requires : goal.numbers_behind-numbers-requires
 numbers_behind-numbers-requires c =
     let tree = tree_of c.args.input.now in
     let tables = c.args.input.now.tables.now in
-    let f = view_resolved_function c.function-item.result in
+    let f = view.function c.function-item.result in
     let n = numbers_of c.loop-index.numbers in
     let there : slice_get tree.functions c.loop-index.index ≡ Some f =
-    subst (λ items. slice_get (map view_resolved_function items) c.loop-index.index ≡ Some f)
+    subst (λ items. slice_get (map view.function items) c.loop-index.index ≡ Some f)
     c.as_slice-function-items.ensures.value
-    (item_at view_resolved_function c.as_slice-function-items.result.now c.loop-index.index c.function-item.result
+    (item_at view.function c.as_slice-function-items.result.now c.loop-index.index c.function-item.result
     c.loop-index-test.true c.function-item.is) in
     let stand = ends_stand (ends_in tables) tree.functions c.loop-index.index f n c.requires.given.tables.ends there
     c.loop-index.invariant.0.numbers in
@@ -96,12 +96,12 @@ pub loop-index-preserved : goal.loop-index-preserved
 loop-index-preserved c =
     let tree = tree_of c.args.input.now in
     let tables = c.args.input.now.tables.now in
-    let f = view_resolved_function c.function-item.result in
+    let f = view.function c.function-item.result in
     let n = numbers_of c.loop-index.numbers in
     let there : slice_get tree.functions c.loop-index.index ≡ Some f =
-    subst (λ items. slice_get (map view_resolved_function items) c.loop-index.index ≡ Some f)
+    subst (λ items. slice_get (map view.function items) c.loop-index.index ≡ Some f)
     c.as_slice-function-items.ensures.value
-    (item_at view_resolved_function c.as_slice-function-items.result.now c.loop-index.index c.function-item.result
+    (item_at view.function c.as_slice-function-items.result.now c.loop-index.index c.function-item.result
     c.loop-index-test.true c.function-item.is) in
     let stand = ends_stand (ends_in tables) tree.functions c.loop-index.index f n c.requires.given.tables.ends there
     c.loop-index.invariant.0.numbers in

@@ -1,5 +1,5 @@
 use Rattle.std.proofs.lemmas.Result.{IfOk-weaker}
-use Rattle.om_resolved.specs.ResolvedView.{view_resolved}
+use Rattle.om_resolved.specs.ResolvedView as view
 use Rattle.om_lower.proofs.lowering.lower.Goals as goal
 
 pub lower_input-requires : goal.lower_input-requires
@@ -7,7 +7,7 @@ lower_input-requires c = record {
   given = record {
     tables = c.in_ok-tables.ensures;
     whole = c.requires.whole;
-    has_code = c.whole_has_code.ensures (view_resolved c.args.resolved.now) c.requires.whole c.requires.atomics;
+    has_code = c.whole_has_code.ensures (view.resolved c.args.resolved.now) c.requires.whole c.requires.atomics;
     copies = c.requires.copies;
     small = c.requires.small;
   };
@@ -16,5 +16,5 @@ lower_input-requires c = record {
 pub returns-clause-means : goal.returns-clause-means
 returns-clause-means c =
     IfOk-weaker c.lower_input.result _ _
-    (λ program code. c.serial_meaning.ensures (view_resolved c.args.resolved.now) program code)
+    (λ program code. c.serial_meaning.ensures (view.resolved c.args.resolved.now) program code)
     c.lower_input.ensures.code

@@ -2,7 +2,7 @@ use Rattle.std.proofs.Common.{◌≡◌, ◌<◌, IfSome, Some, length, map, sli
 use Rattle.om_lower.specs.Inputs.{tree_of}
 use Rattle.om_lower.specs.Limits.{IsTooMany}
 use Rattle.om_lower.specs.Made.{IsOverAt}
-use Rattle.om_resolved.specs.ResolvedView.{view_resolved_function}
+use Rattle.om_resolved.specs.ResolvedView as view
 use Rattle.om_lower.proofs.Items.{item_at}
 use Rattle.om_lower.proofs.Refusing.{refused}
 use Rattle.om_lower.proofs.lowering.within_limits.Goals as goal
@@ -13,12 +13,12 @@ returns-clause-refused c =
     let placed = c.args.placed.now in
     let items = c.args.input.now.resolved.now.functions.items in
     let index = c.in-Some.index in
-    let function = view_resolved_function c.index-as_slice-index.result in
+    let function = view.function c.index-as_slice-index.result in
     let within = subst (λ found.
     IfSome found (λ index. index < length items)) c.in-Some.is c.in_ok-index.ensures.within in
     let at = subst (λ all.
-    slice_get (map view_resolved_function all) index ≡ Some function) c.as_slice.ensures.value
-    (item_at view_resolved_function c.as_slice.result.now index c.index-as_slice-index.result
+    slice_get (map view.function all) index ≡ Some function) c.as_slice.ensures.value
+    (item_at view.function c.as_slice.result.now index c.index-as_slice-index.result
     (subst (λ all. index < length all) (sym c.as_slice.ensures.value) within) c.index-as_slice-index.is) in
     let over = subst (λ found.
     IsOverAt placed.picks placed.functions placed.is_whole found) c.in-Some.is c.in_ok-index.ensures.over in

@@ -1,5 +1,5 @@
 use Rattle.std.specs.Prelude.{map}
-use Rattle.om_resolved.specs.ResolvedView.{view_resolved_clause, view_resolved_statement}
+use Rattle.om_resolved.specs.ResolvedView as view
 use Rattle.om_rows.specs.BodyTables.{numbered_by}
 use Rattle.om_rows.specs.Numbering.{numbers_of}
 use Rattle.om_emit.specs.Writing.{emits_one}
@@ -9,7 +9,7 @@ use Rattle.om_lower.proofs.region.parallel.Goals as goal
 pub returns-clause-emitted : goal.returns-clause-emitted
 returns-clause-emitted c = λ jumps.
     emits_parallel (numbered_by c.args.tables.now) (numbers_of c.args.numbers) c.args.region.now.at
-    (map view_resolved_clause c.args.region.now.clauses.now) c.args.region.now.captures.now
-    (view_resolved_statement c.args.region.now.statement.now) jumps _ _ _ _ _ _ c.in_ok-count.ensures.count
+    (map view.clause c.args.region.now.clauses.now) c.args.region.now.captures.now
+    (view.statement c.args.region.now.statement.now) jumps _ _ _ _ _ _ c.in_ok-count.ensures.count
     c.in_ok-sized.ensures.sized c.in_ok-sized.ensures.emitted c.in_ok-count.ensures.emitted
     (emits_one (numbered_by c.args.tables.now) _ _ _ _ c.in_ok-put.ensures)

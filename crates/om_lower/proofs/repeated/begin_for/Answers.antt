@@ -1,5 +1,5 @@
 use Rattle.std.proofs.Common.{option_map}
-use Rattle.om_resolved.specs.ResolvedView.{view_resolved_expression, view_resolved_start}
+use Rattle.om_resolved.specs.ResolvedView as view
 use Rattle.om_lower.proofs.Opened.{begins_turn}
 use Rattle.om_lower.proofs.Begun.{for_begins}
 use Rattle.om_emit.specs.Emits.{names_at}
@@ -11,6 +11,6 @@ returns-clause-code c = begins_turn _ _ _ _ _ _ _ _ c.in_ok-labels.ensures c.in_
 
 pub returns-clause-scopes : goal.returns-clause-scopes
 returns-clause-scopes c =
-    for_begins (names_at c.args.here.now) c.args.here.now.at.line (view_resolved_start c.args.begin.now)
-    (option_map view_resolved_expression c.args.condition.now) _ _ _ _ _ _ _ _
+    for_begins (names_at c.args.here.now) c.args.here.now.at.line (view.start c.args.begin.now)
+    (option_map view.expression c.args.condition.now) _ _ _ _ _ _ _ _
     c.in_ok-labels.ensures c.in_ok-start.ensures.scopes c.define.ensures c.in_ok-perhaps_test.ensures

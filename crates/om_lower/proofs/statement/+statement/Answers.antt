@@ -10,9 +10,7 @@ use Rattle.om_resolved.specs.declared.resolved.ResolvedStatement.{ResolvedStatem
 use Rattle.om_resolved.specs.declared.resolved.ResolvedStatement.TheVariants as v
 use Rattle.om_resolved.specs.declared.resolved.ResolvedStatement.TheViews.{size-ResolvedStatement, size_is-ResolvedPart}
 use Rattle.om_resolved.specs.ResolvedTree as trees
-use Rattle.om_resolved.specs.ResolvedView.{view_resolved_clause, view_resolved_declarator, view_resolved_expression}
-use Rattle.om_resolved.specs.ResolvedView.{view_resolved_loop, view_resolved_part, view_resolved_start}
-use Rattle.om_resolved.specs.ResolvedView.{view_resolved_statement, view_resolved_update}
+use Rattle.om_resolved.specs.ResolvedView as view
 use Rattle.om_rows.specs.Bodies as rows
 use Rattle.om_rows.specs.BodyTables.{numbered_by}
 use Rattle.om_rows.specs.Numbered.{Numbered}
@@ -87,8 +85,8 @@ statement-end_construct-requires t c =
 
 pub statement-returns-in_ok-after-in-If : goal.statement-returns-in_ok-after-in-If
 statement-returns-in_ok-after-in-If t c =
-    let seen = (ap (λ z. trees.If c.in-If.at (view_resolved_expression c.in-If.condition) (view_resolved_statement z))
-    c.deref.ensures ∙ sym (ap view_resolved_statement c.in-If.is ∙ view_if c.in-If.at c.in-If.condition
+    let seen = (ap (λ z. trees.If c.in-If.at (view.expression c.in-If.condition) (view.statement z))
+    c.deref.ensures ∙ sym (ap view.statement c.in-If.is ∙ view_if c.in-If.at c.in-If.condition
     c.in-If.then)) in
     record {
       behind = c.in_ok-after-in-If.ensures.behind
@@ -96,47 +94,47 @@ statement-returns-in_ok-after-in-If t c =
       emitted = statement_is (numbered_by c.args.tables.now) (numbers_of c.args.spot.numbers) _ _ c.args.spot.jumps _ _
           seen
           (emits_if (numbered_by c.args.tables.now) (numbers_of c.args.spot.numbers) c.in-If.at
-          (view_resolved_expression c.in-If.condition) (view_resolved_statement c.deref.result.now) c.args.spot.jumps
+          (view.expression c.in-If.condition) (view.statement c.deref.result.now) c.args.spot.jumps
           c.in_ok-end-in-If.end _ _ _ _
           c.in_ok-end-in-If.ensures c.in_ok-after-in-If.ensures.emitted c.define.ensures);
       scopes = scopes_are (numbered_by c.args.tables.now) _ _ _ _ _ _ seen
-          (if_scopes (numbered_by c.args.tables.now) c.in-If.at (view_resolved_expression c.in-If.condition)
-          (view_resolved_statement c.deref.result.now) c.in_ok-end-in-If.end _ _ _ _ _ _ c.in_ok-end-in-If.ensures
+          (if_scopes (numbered_by c.args.tables.now) c.in-If.at (view.expression c.in-If.condition)
+          (view.statement c.deref.result.now) c.in_ok-end-in-If.end _ _ _ _ _ _ c.in_ok-end-in-If.ensures
           c.in_ok-after-in-If.ensures.scopes c.define.ensures);
     }
 
 pub statement-returns-in_ok-after-in-IfElse : goal.statement-returns-in_ok-after-in-IfElse
 statement-returns-in_ok-after-in-IfElse t c =
-    let seen = (ap (λ z. trees.IfElse c.in-IfElse.at (view_resolved_expression c.in-IfElse.condition)
-    (view_resolved_statement z) (view_resolved_statement c.deref-in-IfElse-2.result.now)) c.deref-in-IfElse.ensures
-    ∙ ap (λ z. trees.IfElse c.in-IfElse.at (view_resolved_expression c.in-IfElse.condition)
-    (view_resolved_statement c.in-IfElse.then.value) (view_resolved_statement z)) c.deref-in-IfElse-2.ensures
-    ∙ sym (ap view_resolved_statement c.in-IfElse.is ∙ view_if_else c.in-IfElse.at c.in-IfElse.condition
+    let seen = (ap (λ z. trees.IfElse c.in-IfElse.at (view.expression c.in-IfElse.condition)
+    (view.statement z) (view.statement c.deref-in-IfElse-2.result.now)) c.deref-in-IfElse.ensures
+    ∙ ap (λ z. trees.IfElse c.in-IfElse.at (view.expression c.in-IfElse.condition)
+    (view.statement c.in-IfElse.then.value) (view.statement z)) c.deref-in-IfElse-2.ensures
+    ∙ sym (ap view.statement c.in-IfElse.is ∙ view_if_else c.in-IfElse.at c.in-IfElse.condition
     c.in-IfElse.then c.in-IfElse.other)) in
     record {
       behind = c.in_ok-after-in-IfElse.ensures.behind
-          ∙ ap (λ x. rows.behind (numbers_of x.numbers) (view_resolved_statement c.deref-in-IfElse-2.result.now))
+          ∙ ap (λ x. rows.behind (numbers_of x.numbers) (view.statement c.deref-in-IfElse-2.result.now))
           c.behind.ensures
-          ∙ ap (λ n. rows.behind n (view_resolved_statement c.deref-in-IfElse-2.result.now))
+          ∙ ap (λ n. rows.behind n (view.statement c.deref-in-IfElse-2.result.now))
           c.in_ok-between-in-IfElse.ensures.behind
           ∙ ap (λ z. rows.behind (numbers_of c.args.spot.numbers) z) seen;
       emitted = statement_is (numbered_by c.args.tables.now) (numbers_of c.args.spot.numbers) _ _ c.args.spot.jumps _ _
           seen
           (emits_if_else (numbered_by c.args.tables.now) (numbers_of c.args.spot.numbers) c.in-IfElse.at
-          (view_resolved_expression c.in-IfElse.condition) (view_resolved_statement c.deref-in-IfElse.result.now)
-          (view_resolved_statement c.deref-in-IfElse-2.result.now) c.args.spot.jumps c.in_ok-head-in-IfElse.head
+          (view.expression c.in-IfElse.condition) (view.statement c.deref-in-IfElse.result.now)
+          (view.statement c.deref-in-IfElse-2.result.now) c.args.spot.jumps c.in_ok-head-in-IfElse.head
           c.in_ok-end-in-IfElse.end _ _ _ _ _ _
           c.in_ok-head-in-IfElse.ensures c.in_ok-between-in-IfElse.ensures.emitted
           (c.in_ok-end-in-IfElse.ensures (numbered_by c.args.tables.now))
-          (numbers_are (numbered_by c.args.tables.now) _ _ (view_resolved_statement c.deref-in-IfElse-2.result.now)
+          (numbers_are (numbered_by c.args.tables.now) _ _ (view.statement c.deref-in-IfElse-2.result.now)
           c.args.spot.jumps _ _ c.in_ok-between-in-IfElse.ensures.behind (spot_is (numbered_by c.args.tables.now)
-          (view_resolved_statement c.deref-in-IfElse-2.result.now) _ _ _ _ c.behind.ensures
+          (view.statement c.deref-in-IfElse-2.result.now) _ _ _ _ c.behind.ensures
           c.in_ok-after-in-IfElse.ensures.emitted))
           c.define-in-IfElse.ensures);
       scopes = scopes_are (numbered_by c.args.tables.now) _ _ _ _ _ _ seen
-          (if_else_scopes (numbered_by c.args.tables.now) c.in-IfElse.at (view_resolved_expression c.in-IfElse.condition)
-          (view_resolved_statement c.deref-in-IfElse.result.now)
-          (view_resolved_statement c.deref-in-IfElse-2.result.now) c.in_ok-head-in-IfElse.head
+          (if_else_scopes (numbered_by c.args.tables.now) c.in-IfElse.at (view.expression c.in-IfElse.condition)
+          (view.statement c.deref-in-IfElse.result.now)
+          (view.statement c.deref-in-IfElse-2.result.now) c.in_ok-head-in-IfElse.head
           c.in_ok-end-in-IfElse.end _ _ _ _ _ _ _ _ _ c.in_ok-head-in-IfElse.ensures
           c.in_ok-between-in-IfElse.ensures.scopes (c.in_ok-end-in-IfElse.ensures (numbered_by c.args.tables.now))
           c.in_ok-after-in-IfElse.ensures.scopes c.define-in-IfElse.ensures);
@@ -144,85 +142,85 @@ statement-returns-in_ok-after-in-IfElse t c =
 
 pub statement-returns-in_ok-end_loop-in-While : goal.statement-returns-in_ok-end_loop-in-While
 statement-returns-in_ok-end_loop-in-While t c =
-    let seen = (ap (λ z. trees.While c.in-While.at (view_resolved_expression c.in-While.condition)
-    (view_resolved_statement z))
-    c.deref-in-While.ensures ∙ sym (ap view_resolved_statement c.in-While.is ∙ view_while c.in-While.at
+    let seen = (ap (λ z. trees.While c.in-While.at (view.expression c.in-While.condition)
+    (view.statement z))
+    c.deref-in-While.ensures ∙ sym (ap view.statement c.in-While.is ∙ view_while c.in-While.at
     c.in-While.condition c.in-While.body)) in
     record {
       behind = c.in_ok-after-in-While.ensures.behind
-          ∙ ap (λ x. rows.behind (numbers_of x.numbers) (view_resolved_statement c.deref-in-While.result.now))
+          ∙ ap (λ x. rows.behind (numbers_of x.numbers) (view.statement c.deref-in-While.result.now))
           c.in_loop-inside.ensures
           ∙ ap (λ z. rows.behind (numbers_of c.args.spot.numbers) z) seen;
       emitted = statement_is (numbered_by c.args.tables.now) (numbers_of c.args.spot.numbers) _ _ c.args.spot.jumps _ _
           seen
           (emits_while (numbered_by c.args.tables.now) (numbers_of c.args.spot.numbers) c.in-While.at
-          (view_resolved_expression c.in-While.condition) (view_resolved_statement c.deref-in-While.result.now)
+          (view.expression c.in-While.condition) (view.statement c.deref-in-While.result.now)
           c.args.spot.jumps c.in_ok-labels-in-While.labels _ _ _ _
           c.in_ok-labels-in-While.ensures (spot_is (numbered_by c.args.tables.now)
-          (view_resolved_statement c.deref-in-While.result.now) _ _ _ _ c.in_loop-inside.ensures
+          (view.statement c.deref-in-While.result.now) _ _ _ _ c.in_loop-inside.ensures
           c.in_ok-after-in-While.ensures.emitted) (c.in_ok-end_loop-in-While.ensures (numbered_by c.args.tables.now)));
       scopes = scopes_are (numbered_by c.args.tables.now) _ _ _ _ _ _ seen
-          (while_scopes (numbered_by c.args.tables.now) c.in-While.at (view_resolved_expression c.in-While.condition)
-          (view_resolved_statement c.deref-in-While.result.now) c.in_ok-labels-in-While.labels _ _ _ _ _ _
+          (while_scopes (numbered_by c.args.tables.now) c.in-While.at (view.expression c.in-While.condition)
+          (view.statement c.deref-in-While.result.now) c.in_ok-labels-in-While.labels _ _ _ _ _ _
           c.in_ok-labels-in-While.ensures c.in_ok-after-in-While.ensures.scopes
           (c.in_ok-end_loop-in-While.ensures (numbered_by c.args.tables.now)));
     }
 
 pub statement-returns-in_ok-end_do-in-Do : goal.statement-returns-in_ok-end_do-in-Do
 statement-returns-in_ok-end_do-in-Do t c =
-    let seen = (ap (λ z. trees.Do c.in-Do.at (view_resolved_statement z) (view_resolved_expression c.in-Do.condition))
-    c.deref-in-Do.ensures ∙ sym (ap view_resolved_statement c.in-Do.is ∙ view_do c.in-Do.at c.in-Do.body
+    let seen = (ap (λ z. trees.Do c.in-Do.at (view.statement z) (view.expression c.in-Do.condition))
+    c.deref-in-Do.ensures ∙ sym (ap view.statement c.in-Do.is ∙ view_do c.in-Do.at c.in-Do.body
     c.in-Do.condition)) in
     record {
       behind = c.in_ok-after-in-Do.ensures.behind
-          ∙ ap (λ x. rows.behind (numbers_of x.numbers) (view_resolved_statement c.deref-in-Do.result.now))
+          ∙ ap (λ x. rows.behind (numbers_of x.numbers) (view.statement c.deref-in-Do.result.now))
           c.in_loop-inside-in-Do.ensures
           ∙ ap (λ z. rows.behind (numbers_of c.args.spot.numbers) z) seen;
       emitted = statement_is (numbered_by c.args.tables.now) (numbers_of c.args.spot.numbers) _ _ c.args.spot.jumps _ _
           seen
           (emits_do (numbered_by c.args.tables.now) (numbers_of c.args.spot.numbers) c.in-Do.at
-          (view_resolved_expression c.in-Do.condition) (view_resolved_statement c.deref-in-Do.result.now)
+          (view.expression c.in-Do.condition) (view.statement c.deref-in-Do.result.now)
           c.args.spot.jumps c.in_ok-labels-in-Do.labels _ _ _ _
           c.in_ok-labels-in-Do.ensures (spot_is (numbered_by c.args.tables.now)
-          (view_resolved_statement c.deref-in-Do.result.now) _ _ _ _ c.in_loop-inside-in-Do.ensures
+          (view.statement c.deref-in-Do.result.now) _ _ _ _ c.in_loop-inside-in-Do.ensures
           c.in_ok-after-in-Do.ensures.emitted) c.in_ok-end_do-in-Do.ensures);
       scopes = scopes_are (numbered_by c.args.tables.now) _ _ _ _ _ _ seen
-          (do_scopes (numbered_by c.args.tables.now) c.in-Do.at (view_resolved_expression c.in-Do.condition)
-          (view_resolved_statement c.deref-in-Do.result.now) c.in_ok-labels-in-Do.labels _ _ _ _ _ _
+          (do_scopes (numbered_by c.args.tables.now) c.in-Do.at (view.expression c.in-Do.condition)
+          (view.statement c.deref-in-Do.result.now) c.in_ok-labels-in-Do.labels _ _ _ _ _ _
           c.in_ok-labels-in-Do.ensures c.in_ok-after-in-Do.ensures.scopes c.in_ok-end_do-in-Do.ensures);
     }
 
 pub statement-returns-in_ok-end-in-For : goal.statement-returns-in_ok-end-in-For
 statement-returns-in_ok-end-in-For t c =
-    let seen = (ap (λ z. trees.For c.in-For.at (view_resolved_start z.start) (option_map view_resolved_expression
+    let seen = (ap (λ z. trees.For c.in-For.at (view.start z.start) (option_map view.expression
     z.condition)
-    (option_map view_resolved_expression z.step) (view_resolved_statement c.deref-in-For.result.now))
+    (option_map view.expression z.step) (view.statement c.deref-in-For.result.now))
     c.deref-head.ensures
-    ∙ ap (λ z. trees.For c.in-For.at (view_resolved_start c.in-For.head.value.start) (option_map
-    view_resolved_expression c.in-For.head.value.condition) (option_map view_resolved_expression
-    c.in-For.head.value.step) (view_resolved_statement z)) c.deref-in-For.ensures
-    ∙ sym (ap view_resolved_statement c.in-For.is ∙ view_for c.in-For.at c.in-For.head c.in-For.body)) in
+    ∙ ap (λ z. trees.For c.in-For.at (view.start c.in-For.head.value.start) (option_map
+    view.expression c.in-For.head.value.condition) (option_map view.expression
+    c.in-For.head.value.step) (view.statement z)) c.deref-in-For.ensures
+    ∙ sym (ap view.statement c.in-For.is ∙ view_for c.in-For.at c.in-For.head c.in-For.body)) in
     record {
       behind = c.in_ok-after-in-For.ensures.behind
-          ∙ ap (λ x. rows.behind (numbers_of x.numbers) (view_resolved_statement c.deref-in-For.result.now))
+          ∙ ap (λ x. rows.behind (numbers_of x.numbers) (view.statement c.deref-in-For.result.now))
           c.in_loop-inside-in-For.ensures
           ∙ ap (λ z. rows.behind (numbers_of c.args.spot.numbers) z) seen;
       emitted = statement_is (numbered_by c.args.tables.now) (numbers_of c.args.spot.numbers) _ _ c.args.spot.jumps _ _
           seen
           (emits_for (numbered_by c.args.tables.now) (numbers_of c.args.spot.numbers) c.in-For.at
-          (view_resolved_start c.deref-head.result.now.start) (option_map view_resolved_expression
+          (view.start c.deref-head.result.now.start) (option_map view.expression
           c.deref-head.result.now.condition)
-          (option_map view_resolved_expression c.deref-head.result.now.step) (view_resolved_statement
+          (option_map view.expression c.deref-head.result.now.step) (view.statement
           c.deref-in-For.result.now)
           c.args.spot.jumps c.in_ok-labels-in-For.labels _ _ _ _
           c.in_ok-labels-in-For.ensures.code (spot_is (numbered_by c.args.tables.now)
-          (view_resolved_statement c.deref-in-For.result.now) _ _ _ _ c.in_loop-inside-in-For.ensures
+          (view.statement c.deref-in-For.result.now) _ _ _ _ c.in_loop-inside-in-For.ensures
           c.in_ok-after-in-For.ensures.emitted) c.in_ok-end_for-in-For.ensures);
       scopes = scopes_are (numbered_by c.args.tables.now) _ _ _ _ _ _ seen
           (for_scopes (numbered_by c.args.tables.now) c.in-For.at
-          (view_resolved_start c.deref-head.result.now.start) (option_map view_resolved_expression
+          (view.start c.deref-head.result.now.start) (option_map view.expression
           c.deref-head.result.now.condition)
-          (option_map view_resolved_expression c.deref-head.result.now.step) (view_resolved_statement
+          (option_map view.expression c.deref-head.result.now.step) (view.statement
           c.deref-in-For.result.now)
           c.in_ok-labels-in-For.labels _ _ _ _ _ _ _ _ _ _ c.height-height-in-For.ensures c.place-to-in-For.ensures
           c.in_ok-labels-in-For.ensures.scopes c.in_ok-after-in-For.ensures.scopes c.in_ok-end_for-in-For.ensures
@@ -233,57 +231,57 @@ pub statement-returns-in_ok-jump-in-Break-clause-emitted :
     goal.statement-returns-in_ok-jump-in-Break-clause-emitted
 statement-returns-in_ok-jump-in-Break-clause-emitted t c =
     statement_is (numbered_by c.args.tables.now) (numbers_of c.args.spot.numbers) _ _ c.args.spot.jumps _ _
-    (sym (ap view_resolved_statement c.in-Break.is ∙ view_break c.in-Break.at))
+    (sym (ap view.statement c.in-Break.is ∙ view_break c.in-Break.at))
     (with_none _ _ _ _ (c.in_ok-jump-in-Break.ensures (numbered_by c.args.tables.now)))
 
 pub statement-returns-in_ok-jump-in-Continue-clause-emitted :
     goal.statement-returns-in_ok-jump-in-Continue-clause-emitted
 statement-returns-in_ok-jump-in-Continue-clause-emitted t c =
     statement_is (numbered_by c.args.tables.now) (numbers_of c.args.spot.numbers) _ _ c.args.spot.jumps _ _
-    (sym (ap view_resolved_statement c.in-Continue.is ∙ view_continue c.in-Continue.at))
+    (sym (ap view.statement c.in-Continue.is ∙ view_continue c.in-Continue.at))
     (with_none _ _ _ _ (c.in_ok-jump-in-Continue.ensures (numbered_by c.args.tables.now)))
 
 pub statement-returns-in_ok-stand_alone-in-StandAlone-clause-emitted :
     goal.statement-returns-in_ok-stand_alone-in-StandAlone-clause-emitted
 statement-returns-in_ok-stand_alone-in-StandAlone-clause-emitted t c =
     statement_is (numbered_by c.args.tables.now) (numbers_of c.args.spot.numbers) _ _ c.args.spot.jumps _ _
-    (sym (ap view_resolved_statement c.in-StandAlone.is ∙ view_stand_alone c.in-StandAlone.at
+    (sym (ap view.statement c.in-StandAlone.is ∙ view_stand_alone c.in-StandAlone.at
     c.in-StandAlone.directive))
     (with_none _ _ _ _ (c.in_ok-stand_alone-in-StandAlone.ensures (numbered_by c.args.tables.now)))
 
 pub statement-returns-in_ok-end-in-Loop : goal.statement-returns-in_ok-end-in-Loop
 statement-returns-in_ok-end-in-Loop t c =
-    let seen = (ap (λ z. trees.Loop c.in-Loop.at (map view_resolved_clause c.in-Loop.clauses.items) c.in-Loop.nowait
-    (view_resolved_loop z) (view_resolved_statement c.deref-in-Loop-2.result.now)) c.deref-in-Loop.ensures
-    ∙ ap (λ z. trees.Loop c.in-Loop.at (map view_resolved_clause c.in-Loop.clauses.items) c.in-Loop.nowait
-    (view_resolved_loop c.in-Loop.repeated.value) (view_resolved_statement z)) c.deref-in-Loop-2.ensures
-    ∙ sym (ap view_resolved_statement c.in-Loop.is ∙ view_loop c.in-Loop.at c.in-Loop.clauses c.in-Loop.nowait
+    let seen = (ap (λ z. trees.Loop c.in-Loop.at (map view.clause c.in-Loop.clauses.items) c.in-Loop.nowait
+    (view.loop z) (view.statement c.deref-in-Loop-2.result.now)) c.deref-in-Loop.ensures
+    ∙ ap (λ z. trees.Loop c.in-Loop.at (map view.clause c.in-Loop.clauses.items) c.in-Loop.nowait
+    (view.loop c.in-Loop.repeated.value) (view.statement z)) c.deref-in-Loop-2.ensures
+    ∙ sym (ap view.statement c.in-Loop.is ∙ view_loop c.in-Loop.at c.in-Loop.clauses c.in-Loop.nowait
     c.in-Loop.repeated c.in-Loop.body)) in
     record {
       behind = c.in_ok-after-in-Loop.ensures.behind
-          ∙ ap (λ x. rows.behind (numbers_of x.numbers) (view_resolved_statement c.deref-in-Loop-2.result.now))
+          ∙ ap (λ x. rows.behind (numbers_of x.numbers) (view.statement c.deref-in-Loop-2.result.now))
           c.in_iteration-inside.ensures
           ∙ ap (λ z. rows.behind (numbers_of c.args.spot.numbers) z) seen;
       emitted = statement_is (numbered_by c.args.tables.now) (numbers_of c.args.spot.numbers) _ _ c.args.spot.jumps _ _
           seen
           (emits_loop (numbered_by c.args.tables.now) (numbers_of c.args.spot.numbers) c.in-Loop.at
-          (map view_resolved_clause c.in-Loop.clauses.items) c.in-Loop.nowait (view_resolved_loop
+          (map view.clause c.in-Loop.clauses.items) c.in-Loop.nowait (view.loop
           c.deref-in-Loop.result.now)
-          (view_resolved_statement c.deref-in-Loop-2.result.now) c.args.spot.jumps c.in_ok-labels-in-Loop.labels _ _
+          (view.statement c.deref-in-Loop-2.result.now) c.args.spot.jumps c.in_ok-labels-in-Loop.labels _ _
           _ _ _
-          (loop_clauses_are (numbered_by c.args.tables.now) c.in-Loop.at.line (view_resolved_loop
+          (loop_clauses_are (numbered_by c.args.tables.now) c.in-Loop.at.line (view.loop
           c.deref-in-Loop.result.now)
           c.in_ok-labels-in-Loop.labels _ _ _ _ c.as_slice-in-Loop.ensures.value c.in_ok-labels-in-Loop.ensures.code)
-          (spot_is (numbered_by c.args.tables.now) (view_resolved_statement c.deref-in-Loop-2.result.now) _ _ _ _
+          (spot_is (numbered_by c.args.tables.now) (view.statement c.deref-in-Loop-2.result.now) _ _ _ _
           c.in_iteration-inside.ensures c.in_ok-after-in-Loop.ensures.emitted)
           (c.in_ok-end_loop-in-Loop.ensures (numbered_by c.args.tables.now))
           (close_clauses_are (numbered_by c.args.tables.now) c.in-Loop.at.line c.in-Loop.nowait _ _ _ _
           c.as_slice-in-Loop-2.ensures.value c.in_ok-end_worksharing-in-Loop.ensures));
       scopes = scopes_are (numbered_by c.args.tables.now) _ _ _ _ _ _ seen
-          (loop_scopes (numbered_by c.args.tables.now) c.in-Loop.at (map view_resolved_clause c.in-Loop.clauses.items) c.in-Loop.nowait
-          (view_resolved_loop c.deref-in-Loop.result.now) (view_resolved_statement c.deref-in-Loop-2.result.now)
+          (loop_scopes (numbered_by c.args.tables.now) c.in-Loop.at (map view.clause c.in-Loop.clauses.items) c.in-Loop.nowait
+          (view.loop c.deref-in-Loop.result.now) (view.statement c.deref-in-Loop-2.result.now)
           c.in_ok-labels-in-Loop.labels _ _ _ _ _ _ _ _ _ _ _ c.height-height-in-Loop.ensures c.place-to-in-Loop.ensures
-          (loop_scopes_clauses (numbered_by c.args.tables.now) c.in-Loop.at.line (view_resolved_loop c.deref-in-Loop.result.now) _ _ _ _ _ _
+          (loop_scopes_clauses (numbered_by c.args.tables.now) c.in-Loop.at.line (view.loop c.deref-in-Loop.result.now) _ _ _ _ _ _
           c.as_slice-in-Loop.ensures.value c.in_ok-labels-in-Loop.ensures.scopes) c.in_ok-after-in-Loop.ensures.scopes
           (c.in_ok-end_loop-in-Loop.ensures (numbered_by c.args.tables.now))
           (close_clauses_are (numbered_by c.args.tables.now) c.in-Loop.at.line c.in-Loop.nowait _ _ _ _
@@ -293,29 +291,29 @@ statement-returns-in_ok-end-in-Loop t c =
 pub statement-returns-in_ok-end-in-Construct : goal.statement-returns-in_ok-end-in-Construct
 statement-returns-in_ok-end-in-Construct t c =
     let seen = (ap (λ z. trees.Construct c.in-Construct.at c.in-Construct.kind
-    (map view_resolved_clause c.in-Construct.clauses.items) (view_resolved_statement z))
-    c.deref-in-Construct.ensures ∙ sym (ap view_resolved_statement c.in-Construct.is
+    (map view.clause c.in-Construct.clauses.items) (view.statement z))
+    c.deref-in-Construct.ensures ∙ sym (ap view.statement c.in-Construct.is
     ∙ view_construct c.in-Construct.at c.in-Construct.kind c.in-Construct.clauses c.in-Construct.body)) in
     record {
       behind = c.in_ok-after-in-Construct.ensures.behind
-          ∙ ap (λ x. rows.behind (numbers_of x.numbers) (view_resolved_statement c.deref-in-Construct.result.now))
+          ∙ ap (λ x. rows.behind (numbers_of x.numbers) (view.statement c.deref-in-Construct.result.now))
           c.outside-inside.ensures ∙ ap (λ z. rows.behind (numbers_of c.args.spot.numbers) z) seen;
       emitted = statement_is (numbered_by c.args.tables.now) (numbers_of c.args.spot.numbers) _ _ c.args.spot.jumps _ _
           seen
           (emits_construct (numbered_by c.args.tables.now) (numbers_of c.args.spot.numbers) c.in-Construct.at
-          c.in-Construct.kind (map view_resolved_clause c.in-Construct.clauses.items)
-          (view_resolved_statement c.deref-in-Construct.result.now) c.args.spot.jumps
+          c.in-Construct.kind (map view.clause c.in-Construct.clauses.items)
+          (view.statement c.deref-in-Construct.result.now) c.args.spot.jumps
           c.in_ok-label-in-Construct.label _ _ _ _
           (construct_clauses_are (numbered_by c.args.tables.now) c.in-Construct.at.line c.in-Construct.kind
           c.in_ok-label-in-Construct.label _ _ _ _ c.as_slice-in-Construct.ensures.value
           c.in_ok-label-in-Construct.ensures.code)
-          (spot_is (numbered_by c.args.tables.now) (view_resolved_statement c.deref-in-Construct.result.now) _ _ _ _
+          (spot_is (numbered_by c.args.tables.now) (view.statement c.deref-in-Construct.result.now) _ _ _ _
           c.outside-inside.ensures c.in_ok-after-in-Construct.ensures.emitted)
           c.in_ok-end_construct-in-Construct.ensures);
       scopes = scopes_are (numbered_by c.args.tables.now) _ _ _ _ _ _ seen
           (construct_stands (numbered_by c.args.tables.now) c.in-Construct.at c.in-Construct.kind
-          (map view_resolved_clause c.in-Construct.clauses.items)
-          (view_resolved_statement c.deref-in-Construct.result.now) c.in_ok-label-in-Construct.label _ _ _ _ _ _ _ _ _ _
+          (map view.clause c.in-Construct.clauses.items)
+          (view.statement c.deref-in-Construct.result.now) c.in_ok-label-in-Construct.label _ _ _ _ _ _ _ _ _ _
           (no_atomic c.in-Construct.kind c.in_default.not-Atomic) c.height-height-in-Construct.ensures
           c.place-to-in-Construct.ensures
           (construct_scopes_clauses (numbered_by c.args.tables.now) c.in-Construct.at.line c.in-Construct.kind _ _ _ _ _ _
@@ -345,7 +343,7 @@ statements-loop-item-preserved t c =
     let here = left_item c.args.items.now c.loop-item.item-index c.item-item.result c.loop-item-test.true
     c.item-item.is in
     let after = c.in_ok-after.ensures.behind
-    ∙ ap (λ x. rows.behind (numbers_of x.numbers) (view_resolved_statement c.item-item.result))
+    ∙ ap (λ x. rows.behind (numbers_of x.numbers) (view.statement c.item-item.result))
     c.behind-here.ensures in
     let next = left_next _ _ _ (numbered_by c.args.tables.now) c.args.spot.jumps _ _ _ _ _ _ _ _ _ _ here after
     (spot_is (numbered_by c.args.tables.now) _ _ _ _ _ c.behind-here.ensures c.in_ok-after.ensures.emitted)
@@ -361,39 +359,39 @@ statements-loop-item-preserved t c =
 pub statements-returns-clause-emitted : goal.statements-returns-clause-emitted
 statements-returns-clause-emitted t c =
     onward_done _ (numbered_by c.args.tables.now) c.args.spot.jumps _ _ _ _ _ _
-    (ap (λ xs. trees.statements (map view_resolved_statement xs))
+    (ap (λ xs. trees.statements (map view.statement xs))
     (drop_all c.loop-item.item-index c.args.items.now c.loop-item-test.false)) c.loop-item.invariant.2
 
 pub statement-returns-in_ok-after-in-Parallel-clause-emitted :
     goal.statement-returns-in_ok-after-in-Parallel-clause-emitted
 statement-returns-in_ok-after-in-Parallel-clause-emitted t c =
     statement_is (numbered_by c.args.tables.now) (numbers_of c.args.spot.numbers) _ _ c.args.spot.jumps _ _
-    (ap (λ x. trees.Parallel c.in-Parallel.at (map view_resolved_clause x) c.as_slice-in-Parallel-2.result.now
-    (view_resolved_statement c.deref-in-Parallel.result.now)) c.as_slice-in-Parallel.ensures.value
-    ∙ ap (λ x. trees.Parallel c.in-Parallel.at (map view_resolved_clause c.in-Parallel.clauses.items) x
-    (view_resolved_statement c.deref-in-Parallel.result.now)) c.as_slice-in-Parallel-2.ensures
-    ∙ ap (λ z. trees.Parallel c.in-Parallel.at (map view_resolved_clause c.in-Parallel.clauses.items)
-    c.in-Parallel.captures (view_resolved_statement z)) c.deref-in-Parallel.ensures
-    ∙ sym (ap view_resolved_statement c.in-Parallel.is ∙ view_parallel c.in-Parallel.at c.in-Parallel.clauses
+    (ap (λ x. trees.Parallel c.in-Parallel.at (map view.clause x) c.as_slice-in-Parallel-2.result.now
+    (view.statement c.deref-in-Parallel.result.now)) c.as_slice-in-Parallel.ensures.value
+    ∙ ap (λ x. trees.Parallel c.in-Parallel.at (map view.clause c.in-Parallel.clauses.items) x
+    (view.statement c.deref-in-Parallel.result.now)) c.as_slice-in-Parallel-2.ensures
+    ∙ ap (λ z. trees.Parallel c.in-Parallel.at (map view.clause c.in-Parallel.clauses.items)
+    c.in-Parallel.captures (view.statement z)) c.deref-in-Parallel.ensures
+    ∙ sym (ap view.statement c.in-Parallel.is ∙ view_parallel c.in-Parallel.at c.in-Parallel.clauses
     c.in-Parallel.captures c.in-Parallel.body))
     (c.in_ok-after-in-Parallel.ensures.emitted c.args.spot.jumps)
 
 pub statement-returns-in_ok-after-in-Task-clause-emitted : goal.statement-returns-in_ok-after-in-Task-clause-emitted
 statement-returns-in_ok-after-in-Task-clause-emitted t c =
     statement_is (numbered_by c.args.tables.now) (numbers_of c.args.spot.numbers) _ _ c.args.spot.jumps _ _
-    (ap (λ x. trees.Task c.in-Task.at (map view_resolved_clause x) c.as_slice-in-Task-2.result.now
-    (view_resolved_statement c.deref-in-Task.result.now)) c.as_slice-in-Task.ensures.value
-    ∙ ap (λ x. trees.Task c.in-Task.at (map view_resolved_clause c.in-Task.clauses.items) x
-    (view_resolved_statement c.deref-in-Task.result.now)) c.as_slice-in-Task-2.ensures
-    ∙ ap (λ z. trees.Task c.in-Task.at (map view_resolved_clause c.in-Task.clauses.items) c.in-Task.captures
-    (view_resolved_statement z)) c.deref-in-Task.ensures
-    ∙ sym (ap view_resolved_statement c.in-Task.is ∙ view_task c.in-Task.at c.in-Task.clauses c.in-Task.captures
+    (ap (λ x. trees.Task c.in-Task.at (map view.clause x) c.as_slice-in-Task-2.result.now
+    (view.statement c.deref-in-Task.result.now)) c.as_slice-in-Task.ensures.value
+    ∙ ap (λ x. trees.Task c.in-Task.at (map view.clause c.in-Task.clauses.items) x
+    (view.statement c.deref-in-Task.result.now)) c.as_slice-in-Task-2.ensures
+    ∙ ap (λ z. trees.Task c.in-Task.at (map view.clause c.in-Task.clauses.items) c.in-Task.captures
+    (view.statement z)) c.deref-in-Task.ensures
+    ∙ sym (ap view.statement c.in-Task.is ∙ view_task c.in-Task.at c.in-Task.clauses c.in-Task.captures
     c.in-Task.body))
     (c.in_ok-after-in-Task.ensures.emitted c.args.spot.jumps)
 
 pub parts-loop-index-init : goal.parts-loop-index-init
 parts-loop-index-init t c =
-    let all = trees.parts (map view_resolved_part c.args.sections.now) in (
+    let all = trees.parts (map view.part c.args.sections.now) in (
       c.requires.code,
       refl,
       free_start c.args.spot.first (length c.args.sections.now) c.args.writing.now.draft c.requires.free,
@@ -429,10 +427,10 @@ parts-statements-requires t c =
 -- the same statements
 item_scopes_are : (names : Numbered) (xs ys : List ResolvedStatement) (a : Written) (x : ScopeStack) (b : Written)
     (y : ScopeStack) → xs ≡ ys
-    → ScopesStand names (λ at. all_scopes at (trees.statements (map view_resolved_statement xs))) a x b y
-    → ScopesStand names (λ at. all_scopes at (trees.statements (map view_resolved_statement ys))) a x b y
+    → ScopesStand names (λ at. all_scopes at (trees.statements (map view.statement xs))) a x b y
+    → ScopesStand names (λ at. all_scopes at (trees.statements (map view.statement ys))) a x b y
 item_scopes_are names xs ys a x b y same stand =
-    subst (λ z. ScopesStand names (λ at. all_scopes at (trees.statements (map view_resolved_statement z))) a x b y) same
+    subst (λ z. ScopesStand names (λ at. all_scopes at (trees.statements (map view.statement z))) a x b y) same
     stand
 
 pub parts-loop-index-preserved : goal.parts-loop-index-preserved
@@ -444,12 +442,12 @@ parts-loop-index-preserved t c =
     let label = c.args.spot.first + c.loop-index.index in
     let next = c.args.spot.first + (c.loop-index.index + 1) in
     let items = (out-ResolvedPart c.index-sections-index.result).items.items in
-    let seen = trees.statements (map view_resolved_statement items) in
+    let seen = trees.statements (map view.statement items) in
     let after = c.in_ok-after.ensures.behind
     ∙ ap (λ x. rows.behind_all (numbers_of x.numbers)
-    (trees.statements (map view_resolved_statement c.as_slice.result.now))) c.outside-inside.ensures
+    (trees.statements (map view.statement c.as_slice.result.now))) c.outside-inside.ensures
     ∙ ap (λ xs. rows.behind_all (numbers_of c.loop-index.numbers)
-    (trees.statements (map view_resolved_statement xs))) c.as_slice.ensures.value in
+    (trees.statements (map view.statement xs))) c.as_slice.ensures.value in
     let written = parts_next (numbered_by c.args.tables.now) c.args.spot (numbers_of c.args.spot.numbers)
     (numbers_of c.loop-index.numbers) (numbers_of c.in_ok-after.after) _ _ _ seen
     label next (length (drop (c.loop-index.index + 1) c.args.sections.now)) _ _ _ _ _ here after
@@ -474,7 +472,7 @@ pub parts-returns-clause-emitted : goal.parts-returns-clause-emitted
 parts-returns-clause-emitted t c =
     onward_parts_done (numbered_by c.args.tables.now) c.args.spot (numbers_of c.args.spot.numbers)
     (numbers_of c.loop-index.numbers) _ _ _ _ _
-    (ap (λ xs. trees.parts (map view_resolved_part xs)) (drop_all c.loop-index.index c.args.sections.now
+    (ap (λ xs. trees.parts (map view.part xs)) (drop_all c.loop-index.index c.args.sections.now
     c.loop-index-test.false)) c.loop-index.invariant.3
 
 pub statement-parts-requires : goal.statement-parts-requires
@@ -493,12 +491,12 @@ pub statement-returns-in_ok-end-in-Sections-clause-emitted :
 statement-returns-in_ok-end-in-Sections-clause-emitted t c =
     let parts = c.in-Sections.sections.items in
     let inside = c.in_ok-inside-in-Sections.inside in
-    let all = trees.parts (map view_resolved_part parts) in
+    let all = trees.parts (map view.part parts) in
     statement_is (numbered_by c.args.tables.now) (numbers_of c.args.spot.numbers) _ _ c.args.spot.jumps _ _
-    (sym (ap view_resolved_statement c.in-Sections.is ∙ view_sections c.in-Sections.at c.in-Sections.clauses
+    (sym (ap view.statement c.in-Sections.is ∙ view_sections c.in-Sections.at c.in-Sections.clauses
     c.in-Sections.nowait c.in-Sections.sections))
     (emits_sections (numbered_by c.args.tables.now) (numbers_of c.args.spot.numbers) c.in-Sections.at
-    (map view_resolved_clause c.in-Sections.clauses.items) c.in-Sections.nowait all c.args.spot.jumps (length parts)
+    (map view.clause c.in-Sections.clauses.items) c.in-Sections.nowait all c.args.spot.jumps (length parts)
     inside _ _ _ _ _ (labels_are inside.first parts)
     (opens_are (numbered_by c.args.tables.now) c.in-Sections.at.line c.args.spot.numbers inside _ _ _ _ _ _
     c.as_slice-in-Sections.ensures.value c.as_slice-in-Sections-2.ensures.value c.in_ok-inside-in-Sections.ensures.code)
@@ -592,21 +590,21 @@ statement-task-requires t c =
 
 pub statement-returns-in_ok-jump-in-Break-clause-scopes : goal.statement-returns-in_ok-jump-in-Break-clause-scopes
 statement-returns-in_ok-jump-in-Break-clause-scopes t c =
-    scopes_are (numbered_by c.args.tables.now) _ _ _ _ _ _ (sym (ap view_resolved_statement c.in-Break.is ∙ view_break c.in-Break.at))
+    scopes_are (numbered_by c.args.tables.now) _ _ _ _ _ _ (sym (ap view.statement c.in-Break.is ∙ view_break c.in-Break.at))
     (alone (numbered_by c.args.tables.now) (numbers_of c.args.spot.numbers)
     (trees.Break c.in-Break.at)
     c.args.spot.jumps _ _ _ (c.in_ok-jump-in-Break.ensures (numbered_by c.args.tables.now)).writes)
 
 pub statement-returns-in_ok-jump-in-Continue-clause-scopes : goal.statement-returns-in_ok-jump-in-Continue-clause-scopes
 statement-returns-in_ok-jump-in-Continue-clause-scopes t c =
-    scopes_are (numbered_by c.args.tables.now) _ _ _ _ _ _ (sym (ap view_resolved_statement c.in-Continue.is ∙ view_continue c.in-Continue.at))
+    scopes_are (numbered_by c.args.tables.now) _ _ _ _ _ _ (sym (ap view.statement c.in-Continue.is ∙ view_continue c.in-Continue.at))
     (alone (numbered_by c.args.tables.now) (numbers_of c.args.spot.numbers)
     (trees.Continue c.in-Continue.at)
     c.args.spot.jumps _ _ _ (c.in_ok-jump-in-Continue.ensures (numbered_by c.args.tables.now)).writes)
 
 pub statement-returns-in_ok-stand_alone-in-StandAlone-clause-scopes : goal.statement-returns-in_ok-stand_alone-in-StandAlone-clause-scopes
 statement-returns-in_ok-stand_alone-in-StandAlone-clause-scopes t c =
-    scopes_are (numbered_by c.args.tables.now) _ _ _ _ _ _ (sym (ap view_resolved_statement c.in-StandAlone.is ∙ view_stand_alone c.in-StandAlone.at
+    scopes_are (numbered_by c.args.tables.now) _ _ _ _ _ _ (sym (ap view.statement c.in-StandAlone.is ∙ view_stand_alone c.in-StandAlone.at
     c.in-StandAlone.directive))
     (alone (numbered_by c.args.tables.now) (numbers_of c.args.spot.numbers)
     (trees.StandAlone c.in-StandAlone.at c.in-StandAlone.directive)
@@ -614,41 +612,41 @@ statement-returns-in_ok-stand_alone-in-StandAlone-clause-scopes t c =
 
 pub statement-returns-in_ok-after-in-Parallel-clause-scopes : goal.statement-returns-in_ok-after-in-Parallel-clause-scopes
 statement-returns-in_ok-after-in-Parallel-clause-scopes t c =
-    scopes_are (numbered_by c.args.tables.now) _ _ _ _ _ _ (ap (λ x. trees.Parallel c.in-Parallel.at (map view_resolved_clause x) c.as_slice-in-Parallel-2.result.now
-    (view_resolved_statement c.deref-in-Parallel.result.now)) c.as_slice-in-Parallel.ensures.value
-    ∙ ap (λ x. trees.Parallel c.in-Parallel.at (map view_resolved_clause c.in-Parallel.clauses.items) x
-    (view_resolved_statement c.deref-in-Parallel.result.now)) c.as_slice-in-Parallel-2.ensures
-    ∙ ap (λ z. trees.Parallel c.in-Parallel.at (map view_resolved_clause c.in-Parallel.clauses.items)
-    c.in-Parallel.captures (view_resolved_statement z)) c.deref-in-Parallel.ensures
-    ∙ sym (ap view_resolved_statement c.in-Parallel.is ∙ view_parallel c.in-Parallel.at c.in-Parallel.clauses
+    scopes_are (numbered_by c.args.tables.now) _ _ _ _ _ _ (ap (λ x. trees.Parallel c.in-Parallel.at (map view.clause x) c.as_slice-in-Parallel-2.result.now
+    (view.statement c.deref-in-Parallel.result.now)) c.as_slice-in-Parallel.ensures.value
+    ∙ ap (λ x. trees.Parallel c.in-Parallel.at (map view.clause c.in-Parallel.clauses.items) x
+    (view.statement c.deref-in-Parallel.result.now)) c.as_slice-in-Parallel-2.ensures
+    ∙ ap (λ z. trees.Parallel c.in-Parallel.at (map view.clause c.in-Parallel.clauses.items)
+    c.in-Parallel.captures (view.statement z)) c.deref-in-Parallel.ensures
+    ∙ sym (ap view.statement c.in-Parallel.is ∙ view_parallel c.in-Parallel.at c.in-Parallel.clauses
     c.in-Parallel.captures c.in-Parallel.body))
     (alone (numbered_by c.args.tables.now) (numbers_of c.args.spot.numbers)
-    (trees.Parallel c.in-Parallel.at (map view_resolved_clause c.as_slice-in-Parallel.result.now) c.as_slice-in-Parallel-2.result.now
-    (view_resolved_statement c.deref-in-Parallel.result.now))
+    (trees.Parallel c.in-Parallel.at (map view.clause c.as_slice-in-Parallel.result.now) c.as_slice-in-Parallel-2.result.now
+    (view.statement c.deref-in-Parallel.result.now))
     c.args.spot.jumps _ _ _ (c.in_ok-after-in-Parallel.ensures.emitted c.args.spot.jumps).writes)
 
 pub statement-returns-in_ok-after-in-Task-clause-scopes : goal.statement-returns-in_ok-after-in-Task-clause-scopes
 statement-returns-in_ok-after-in-Task-clause-scopes t c =
-    scopes_are (numbered_by c.args.tables.now) _ _ _ _ _ _ (ap (λ x. trees.Task c.in-Task.at (map view_resolved_clause x) c.as_slice-in-Task-2.result.now
-    (view_resolved_statement c.deref-in-Task.result.now)) c.as_slice-in-Task.ensures.value
-    ∙ ap (λ x. trees.Task c.in-Task.at (map view_resolved_clause c.in-Task.clauses.items) x
-    (view_resolved_statement c.deref-in-Task.result.now)) c.as_slice-in-Task-2.ensures
-    ∙ ap (λ z. trees.Task c.in-Task.at (map view_resolved_clause c.in-Task.clauses.items) c.in-Task.captures
-    (view_resolved_statement z)) c.deref-in-Task.ensures
-    ∙ sym (ap view_resolved_statement c.in-Task.is ∙ view_task c.in-Task.at c.in-Task.clauses c.in-Task.captures
+    scopes_are (numbered_by c.args.tables.now) _ _ _ _ _ _ (ap (λ x. trees.Task c.in-Task.at (map view.clause x) c.as_slice-in-Task-2.result.now
+    (view.statement c.deref-in-Task.result.now)) c.as_slice-in-Task.ensures.value
+    ∙ ap (λ x. trees.Task c.in-Task.at (map view.clause c.in-Task.clauses.items) x
+    (view.statement c.deref-in-Task.result.now)) c.as_slice-in-Task-2.ensures
+    ∙ ap (λ z. trees.Task c.in-Task.at (map view.clause c.in-Task.clauses.items) c.in-Task.captures
+    (view.statement z)) c.deref-in-Task.ensures
+    ∙ sym (ap view.statement c.in-Task.is ∙ view_task c.in-Task.at c.in-Task.clauses c.in-Task.captures
     c.in-Task.body))
     (alone (numbered_by c.args.tables.now) (numbers_of c.args.spot.numbers)
-    (trees.Task c.in-Task.at (map view_resolved_clause c.as_slice-in-Task.result.now) c.as_slice-in-Task-2.result.now
-    (view_resolved_statement c.deref-in-Task.result.now))
+    (trees.Task c.in-Task.at (map view.clause c.as_slice-in-Task.result.now) c.as_slice-in-Task-2.result.now
+    (view.statement c.deref-in-Task.result.now))
     c.args.spot.jumps _ _ _ (c.in_ok-after-in-Task.ensures.emitted c.args.spot.jumps).writes)
 
 pub statement-returns-in_ok-end-in-Sections-clause-scopes : goal.statement-returns-in_ok-end-in-Sections-clause-scopes
 statement-returns-in_ok-end-in-Sections-clause-scopes t c =
-    let all = trees.parts (map view_resolved_part c.in-Sections.sections.items) in
+    let all = trees.parts (map view.part c.in-Sections.sections.items) in
     scopes_are (numbered_by c.args.tables.now) _ _ _ _ _ _
-    (sym (ap view_resolved_statement c.in-Sections.is ∙ view_sections c.in-Sections.at c.in-Sections.clauses
+    (sym (ap view.statement c.in-Sections.is ∙ view_sections c.in-Sections.at c.in-Sections.clauses
     c.in-Sections.nowait c.in-Sections.sections))
-    (sections_scopes (numbered_by c.args.tables.now) c.in-Sections.at (map view_resolved_clause c.in-Sections.clauses.items) c.in-Sections.nowait all
+    (sections_scopes (numbered_by c.args.tables.now) c.in-Sections.at (map view.clause c.in-Sections.clauses.items) c.in-Sections.nowait all
     _ _ _ _ _ _ _ _ _ _ _ _ c.height-height-in-Sections.ensures c.place-to-in-Sections.ensures
     (sections_scopes_clauses (numbered_by c.args.tables.now) c.in-Sections.at.line _ _ _ _ _ _ c.as_slice-in-Sections.ensures.value
     c.in_ok-inside-in-Sections.ensures.scopes)
@@ -662,26 +660,26 @@ inner-statement-requires t c = (omega (arith, c.decreases), (c.requires.code, c.
 
 pub inner-returns-clause-scopes : goal.inner-returns-clause-scopes
 inner-returns-clause-scopes t c =
-    stand_block (numbered_by c.args.tables.now) (λ at. scopes at (view_resolved_statement c.args.tree.now)) _ _ _ _ _ _ _ c.height-height.ensures
+    stand_block (numbered_by c.args.tables.now) (λ at. scopes at (view.statement c.args.tree.now)) _ _ _ _ _ _ _ c.height-height.ensures
     c.place-to.ensures c.in_ok-after.ensures.scopes c.in_ok-end.ensures
 
 pub statements-returns-clause-scopes : goal.statements-returns-clause-scopes
 statements-returns-clause-scopes t c =
-    all_scopes_done (numbered_by c.args.tables.now) _ _ _ _ _ _ (ap (λ xs. trees.statements (map view_resolved_statement xs))
+    all_scopes_done (numbered_by c.args.tables.now) _ _ _ _ _ _ (ap (λ xs. trees.statements (map view.statement xs))
     (drop_all c.loop-item.item-index c.args.items.now c.loop-item-test.false)) c.loop-item.invariant.4
 
 pub parts-returns-clause-scopes : goal.parts-returns-clause-scopes
 parts-returns-clause-scopes t c =
-    part_scopes_done (numbered_by c.args.tables.now) _ _ _ _ _ _ (ap (λ xs. trees.parts (map view_resolved_part xs))
+    part_scopes_done (numbered_by c.args.tables.now) _ _ _ _ _ _ (ap (λ xs. trees.parts (map view.part xs))
     (drop_all c.loop-index.index c.args.sections.now c.loop-index-test.false)) c.loop-index.invariant.5
 
 pub statement-returns-in_ok-end-in-Block-clause-scopes : goal.statement-returns-in_ok-end-in-Block-clause-scopes
 statement-returns-in_ok-end-in-Block-clause-scopes t c =
-    let items = trees.statements (map view_resolved_statement c.as_slice-in-Block.result.now) in
+    let items = trees.statements (map view.statement c.as_slice-in-Block.result.now) in
     scopes_are (numbered_by c.args.tables.now) _ _ _ _ _ _
-    (ap (λ xs. trees.Block c.in-Block.at (trees.statements (map view_resolved_statement xs)))
+    (ap (λ xs. trees.Block c.in-Block.at (trees.statements (map view.statement xs)))
     c.as_slice-in-Block.ensures.value
-    ∙ sym (ap view_resolved_statement c.in-Block.is ∙ view_block c.in-Block.at c.in-Block.items))
+    ∙ sym (ap view.statement c.in-Block.is ∙ view_block c.in-Block.at c.in-Block.items))
     (stand_block (numbered_by c.args.tables.now) (λ at. all_scopes at items) _ _ _ _ _ _ _ c.height-height.ensures
     c.place-to.ensures c.in_ok-after-in-Block.ensures.scopes c.in_ok-end-in-Block.ensures)
 
@@ -689,8 +687,8 @@ pub statement-returns-in_ok-declarators-in-Declaration-clause-scopes :
     goal.statement-returns-in_ok-declarators-in-Declaration-clause-scopes
 statement-returns-in_ok-declarators-in-Declaration-clause-scopes t c =
     scopes_are (numbered_by c.args.tables.now) _ _ _ _ _ _
-    (ap (λ xs. trees.Declaration c.in-Declaration.at (map view_resolved_declarator xs)) c.as_slice.ensures.value
-    ∙ sym (ap view_resolved_statement c.in-Declaration.is
+    (ap (λ xs. trees.Declaration c.in-Declaration.at (map view.declarator xs)) c.as_slice.ensures.value
+    ∙ sym (ap view.statement c.in-Declaration.is
     ∙ view_declaration c.in-Declaration.at c.in-Declaration.declared))
     c.in_ok-declarators-in-Declaration.ensures.scopes
 
@@ -698,37 +696,37 @@ pub statement-returns-in_ok-effect-in-Expression-clause-scopes :
     goal.statement-returns-in_ok-effect-in-Expression-clause-scopes
 statement-returns-in_ok-effect-in-Expression-clause-scopes t c =
     scopes_are (numbered_by c.args.tables.now) _ _ _ _ _ _
-    (sym (ap view_resolved_statement c.in-Expression.is
+    (sym (ap view.statement c.in-Expression.is
     ∙ view_expression c.in-Expression.at c.in-Expression.expression))
     (alone (numbered_by c.args.tables.now) (numbers_of c.args.spot.numbers)
-    (trees.Expression c.in-Expression.at (view_resolved_expression c.in-Expression.expression)) c.args.spot.jumps _ _ _
+    (trees.Expression c.in-Expression.at (view.expression c.in-Expression.expression)) c.args.spot.jumps _ _ _
     c.in_ok-effect-in-Expression.ensures.writes)
 
 pub statement-returns-in_ok-returned-in-Return-clause-scopes :
     goal.statement-returns-in_ok-returned-in-Return-clause-scopes
 statement-returns-in_ok-returned-in-Return-clause-scopes t c =
     scopes_are (numbered_by c.args.tables.now) _ _ _ _ _ _
-    (sym (ap view_resolved_statement c.in-Return.is ∙ view_return c.in-Return.at c.in-Return.answer))
+    (sym (ap view.statement c.in-Return.is ∙ view_return c.in-Return.at c.in-Return.answer))
     (alone (numbered_by c.args.tables.now) (numbers_of c.args.spot.numbers)
-    (trees.Return c.in-Return.at (option_map view_resolved_expression c.in-Return.answer)) c.args.spot.jumps _ _ _
+    (trees.Return c.in-Return.at (option_map view.expression c.in-Return.answer)) c.args.spot.jumps _ _ _
     c.in_ok-returned-in-Return.ensures.writes)
 
 pub statement-returns-in_ok-update-in-Update-clause-scopes :
     goal.statement-returns-in_ok-update-in-Update-clause-scopes
 statement-returns-in_ok-update-in-Update-clause-scopes t c =
     scopes_are (numbered_by c.args.tables.now) _ _ _ _ _ _
-    (ap (λ z. trees.Update c.in-Update.at (view_resolved_update z)) c.deref-in-Update.ensures
-    ∙ sym (ap view_resolved_statement c.in-Update.is ∙ view_update c.in-Update.at c.in-Update.updated))
+    (ap (λ z. trees.Update c.in-Update.at (view.update z)) c.deref-in-Update.ensures
+    ∙ sym (ap view.statement c.in-Update.is ∙ view_update c.in-Update.at c.in-Update.updated))
     (alone (numbered_by c.args.tables.now) (numbers_of c.args.spot.numbers)
-    (trees.Update c.in-Update.at (view_resolved_update c.deref-in-Update.result.now)) c.args.spot.jumps _ _ _
+    (trees.Update c.in-Update.at (view.update c.deref-in-Update.result.now)) c.args.spot.jumps _ _ _
     c.in_ok-update-in-Update.ensures.writes)
 
 -- nothing is written, so no scope begins or ends
 empty_stands : (names : Numbered) (n : rows.Numbers) (jumps : JumpLabels) (tree : ResolvedStatement) (first : Span)
     (draft : Written) (x : ScopeStack) → tree ≡ v.Empty first
-    → ScopesStand names (λ at. scopes at (view_resolved_statement tree)) draft x draft x
+    → ScopesStand names (λ at. scopes at (view.statement tree)) draft x draft x
 empty_stands names n jumps tree first draft x is =
-    scopes_are names (trees.Empty first) _ draft x draft x (sym (ap view_resolved_statement is ∙ view_empty first))
+    scopes_are names (trees.Empty first) _ draft x draft x (sym (ap view.statement is ∙ view_empty first))
     (alone names n (trees.Empty first) jumps draft draft x (goes_end 0 draft).writes)
 
 pub statement-returns-in-Empty-clause-scopes : goal.statement-returns-in-Empty-clause-scopes
@@ -738,13 +736,13 @@ statement-returns-in-Empty-clause-scopes t c =
 
 pub statement-returns-in-Atomic-clause-scopes : goal.statement-returns-in-Atomic-clause-scopes
 statement-returns-in-Atomic-clause-scopes t c =
-    let clauses = map view_resolved_clause c.in-Construct.clauses.items in
-    let s = view_resolved_statement c.deref-in-Atomic.result.now in
+    let clauses = map view.clause c.in-Construct.clauses.items in
+    let s = view.statement c.deref-in-Atomic.result.now in
     scopes_are (numbered_by c.args.tables.now) _ _ _ _ _ _
     (ap (λ k. trees.Construct c.in-Construct.at k clauses s) (sym c.in-Atomic.is)
-    ∙ ap (λ z. trees.Construct c.in-Construct.at c.in-Construct.kind clauses (view_resolved_statement z))
+    ∙ ap (λ z. trees.Construct c.in-Construct.at c.in-Construct.kind clauses (view.statement z))
     c.deref-in-Atomic.ensures
-    ∙ sym (ap view_resolved_statement c.in-Construct.is ∙ view_construct c.in-Construct.at c.in-Construct.kind
+    ∙ sym (ap view.statement c.in-Construct.is ∙ view_construct c.in-Construct.at c.in-Construct.kind
     c.in-Construct.clauses c.in-Construct.body))
     (stand_plain (numbered_by c.args.tables.now) (λ at. assignment_row at c.in-Construct.at.line s) _ _ _
     c.in_ok-assignment-in-Construct.ensures.writes)
@@ -774,30 +772,30 @@ pub statement-returns-in_ok-declarators-in-Declaration-clause-emitted :
     goal.statement-returns-in_ok-declarators-in-Declaration-clause-emitted
 statement-returns-in_ok-declarators-in-Declaration-clause-emitted t c =
     statement_is (numbered_by c.args.tables.now) (numbers_of c.args.spot.numbers) _ _ c.args.spot.jumps _ _
-    (ap (λ xs. trees.Declaration c.in-Declaration.at (map view_resolved_declarator xs)) c.as_slice.ensures.value
-    ∙ sym (ap view_resolved_statement c.in-Declaration.is
+    (ap (λ xs. trees.Declaration c.in-Declaration.at (map view.declarator xs)) c.as_slice.ensures.value
+    ∙ sym (ap view.statement c.in-Declaration.is
     ∙ view_declaration c.in-Declaration.at c.in-Declaration.declared))
     (with_none _ _ _ _ c.in_ok-declarators-in-Declaration.ensures.code)
 
 pub statement-returns-in_ok-end-in-Block-clause-emitted : goal.statement-returns-in_ok-end-in-Block-clause-emitted
 statement-returns-in_ok-end-in-Block-clause-emitted t c =
     statement_is (numbered_by c.args.tables.now) (numbers_of c.args.spot.numbers) _ _ c.args.spot.jumps _ _
-    (ap (λ xs. trees.Block c.in-Block.at (trees.statements (map view_resolved_statement xs)))
+    (ap (λ xs. trees.Block c.in-Block.at (trees.statements (map view.statement xs)))
     c.as_slice-in-Block.ensures.value
-    ∙ sym (ap view_resolved_statement c.in-Block.is ∙ view_block c.in-Block.at c.in-Block.items))
+    ∙ sym (ap view.statement c.in-Block.is ∙ view_block c.in-Block.at c.in-Block.items))
     c.in_ok-after-in-Block.ensures.emitted
 
 pub statement-returns-in-Empty-clause-emitted : goal.statement-returns-in-Empty-clause-emitted
 statement-returns-in-Empty-clause-emitted t c =
     statement_is (numbered_by c.args.tables.now) (numbers_of c.args.spot.numbers) _ _ c.args.spot.jumps _ _
-    (sym (ap view_resolved_statement c.in-Empty.is ∙ view_empty _))
+    (sym (ap view.statement c.in-Empty.is ∙ view_empty _))
     (with_none _ _ _ _ (goes_end _ c.args.writing.now.draft))
 
 pub statement-returns-in_ok-effect-in-Expression-clause-emitted :
     goal.statement-returns-in_ok-effect-in-Expression-clause-emitted
 statement-returns-in_ok-effect-in-Expression-clause-emitted t c =
     statement_is (numbered_by c.args.tables.now) (numbers_of c.args.spot.numbers) _ _ c.args.spot.jumps _ _
-    (sym (ap view_resolved_statement c.in-Expression.is
+    (sym (ap view.statement c.in-Expression.is
     ∙ view_expression c.in-Expression.at c.in-Expression.expression))
     (with_none _ _ _ _ c.in_ok-effect-in-Expression.ensures)
 
@@ -805,15 +803,15 @@ pub statement-returns-in_ok-returned-in-Return-clause-emitted :
     goal.statement-returns-in_ok-returned-in-Return-clause-emitted
 statement-returns-in_ok-returned-in-Return-clause-emitted t c =
     statement_is (numbered_by c.args.tables.now) (numbers_of c.args.spot.numbers) _ _ c.args.spot.jumps _ _
-    (sym (ap view_resolved_statement c.in-Return.is ∙ view_return c.in-Return.at c.in-Return.answer))
+    (sym (ap view.statement c.in-Return.is ∙ view_return c.in-Return.at c.in-Return.answer))
     (with_none _ _ _ _ c.in_ok-returned-in-Return.ensures)
 
 pub statement-returns-in_ok-update-in-Update-clause-emitted :
     goal.statement-returns-in_ok-update-in-Update-clause-emitted
 statement-returns-in_ok-update-in-Update-clause-emitted t c =
     statement_is (numbered_by c.args.tables.now) (numbers_of c.args.spot.numbers) _ _ c.args.spot.jumps _ _
-    (ap (λ z. trees.Update c.in-Update.at (view_resolved_update z)) c.deref-in-Update.ensures
-    ∙ sym (ap view_resolved_statement c.in-Update.is ∙ view_update c.in-Update.at c.in-Update.updated))
+    (ap (λ z. trees.Update c.in-Update.at (view.update z)) c.deref-in-Update.ensures
+    ∙ sym (ap view.statement c.in-Update.is ∙ view_update c.in-Update.at c.in-Update.updated))
     (with_none _ _ _ _ c.in_ok-update-in-Update.ensures)
 
 -- where memory runs out, nothing is promised

@@ -1,7 +1,7 @@
 use Rattle.std.proofs.Common.{◌≡◌, ◌+◌, drop, length, map}
 use Rattle.std.specs.Prelude.{is_some}
 use Rattle.om_resolved.specs.ResolvedTree as trees
-use Rattle.om_resolved.specs.ResolvedView.{view_resolved_part, view_resolved_statement}
+use Rattle.om_resolved.specs.ResolvedView as view
 use Rattle.om_rows.specs.Bodies as rows
 use Rattle.om_rows.specs.Coded.{PartsHaveCode, StatementsHaveCode}
 use Rattle.om_rows.specs.BodyTables.{numbered_by}
@@ -18,8 +18,8 @@ use Rattle.om_lower.proofs.statement.+statement.Given as goal
 -- what is left has code, whoever writes it has written all, and the numbers behind its regions are known
 abbrev pub invariant-statements-loop-item : goal.invariant-statements-loop-item
 invariant-statements-loop-item l =
-    let all = trees.statements (map view_resolved_statement l.items) in
-    let left = trees.statements (map view_resolved_statement (drop l.item-index l.items)) in
+    let all = trees.statements (map view.statement l.items) in
+    let left = trees.statements (map view.statement (drop l.item-index l.items)) in
     StatementsHaveCode (is_some l.spot.jumps.over) (is_some l.spot.jumps.next) left
     × (rows.behind_all (numbers_of l.numbers) left ≡ rows.behind_all (numbers_of l.spot.numbers) all)
     × Onward (length l.fn.writing.draft.places) (numbered_by l.tables) l.spot.jumps (numbers_of l.spot.numbers)
@@ -31,8 +31,8 @@ invariant-statements-loop-item l =
 -- the same of the parts of a `sections`, whose labels are free
 abbrev pub invariant-parts-loop-index : goal.invariant-parts-loop-index
 invariant-parts-loop-index l =
-    let all = trees.parts (map view_resolved_part l.sections) in
-    let left = trees.parts (map view_resolved_part (drop l.index l.sections)) in
+    let all = trees.parts (map view.part l.sections) in
+    let left = trees.parts (map view.part (drop l.index l.sections)) in
     PartsHaveCode left
     × (rows.behind_parts (numbers_of l.numbers) left ≡ rows.behind_parts (numbers_of l.spot.numbers) all)
     × AreFree (l.spot.first + l.index) (length (drop l.index l.sections)) l.writing.draft

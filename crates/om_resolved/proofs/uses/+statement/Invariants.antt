@@ -1,16 +1,16 @@
 use Rattle.std.proofs.Common.{◌≡◌, fold, map, drop}
 use Rattle.om_resolved.specs.Captures.{parts_uses, statements_uses}
 use Rattle.om_resolved.specs.ResolvedTree as trees
-use Rattle.om_resolved.specs.ResolvedView.{view_resolved_part, view_resolved_statement}
+use Rattle.om_resolved.specs.ResolvedView as view
 use Rattle.om_resolved.proofs.uses.+statement.Given as goal
 
 abbrev pub invariant-take_statements-loop-item : goal.invariant-take_statements-loop-item
 invariant-take_statements-loop-item g l =
     fold g.S.Sighting.next l.seen
-    (statements_uses (trees.statements (map view_resolved_statement (drop l.item-index l.items))))
-    ≡ fold g.S.Sighting.next l.fn.seen (statements_uses (trees.statements (map view_resolved_statement l.items)))
+    (statements_uses (trees.statements (map view.statement (drop l.item-index l.items))))
+    ≡ fold g.S.Sighting.next l.fn.seen (statements_uses (trees.statements (map view.statement l.items)))
 
 abbrev pub invariant-take_parts-loop-part : goal.invariant-take_parts-loop-part
 invariant-take_parts-loop-part g l =
-    fold g.S.Sighting.next l.seen (parts_uses (trees.parts (map view_resolved_part (drop l.part-index l.parts))))
-    ≡ fold g.S.Sighting.next l.fn.seen (parts_uses (trees.parts (map view_resolved_part l.parts)))
+    fold g.S.Sighting.next l.seen (parts_uses (trees.parts (map view.part (drop l.part-index l.parts))))
+    ≡ fold g.S.Sighting.next l.fn.seen (parts_uses (trees.parts (map view.part l.parts)))

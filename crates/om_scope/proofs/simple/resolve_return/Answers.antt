@@ -1,8 +1,12 @@
 use Rattle.std.proofs.Common.{refl}
 use Rattle.om_resolved.specs.declared.resolved.ResolvedStatement.{fold-roll-ResolvedStatement}
 use Rattle.om_resolved.specs.declared.resolved.ResolvedStatement.TheVariants as made
+use Rattle.om_rules.specs.InRow.{both_whole}
 use Rattle.om_scope.proofs.simple.resolve_return.Goals as goal
 
-pub returns-clause-resolved : goal.returns-clause-resolved
-returns-clause-resolved c =
-    rw (c.in_ok-value.ensures.resolved, ← made.rolls-Return, fold-roll-ResolvedStatement, c.unboxed.ensures) refl
+pub returns : goal.returns
+returns c = record {
+  checked = both_whole _ _ c.in_ok-check_jump.ensures c.in_ok-value.ensures.checked;
+  resolved =
+      rw (c.in_ok-value.ensures.resolved, ← made.rolls-Return, fold-roll-ResolvedStatement, c.unboxed.ensures) refl;
+}

@@ -1,7 +1,7 @@
 use Rattle.std.proofs.Common.{◌≡◌, length, map, drop}
 use Rattle.om_tree.specs.Tree.{parts, statements}
 use Rattle.om_tree.specs.View.{view_part, view_statement}
-use Rattle.om_resolved.specs.ResolvedView.{view_resolved_part, view_resolved_statement}
+use Rattle.om_resolved.specs.ResolvedView as view
 use Rattle.om_rules.specs.Proper.{AreProper, AreProperParts}
 use Rattle.om_rules.specs.StatementResolution.{resolved_parts, resolved_statements}
 use Rattle.om_rules.specs.StatementRules.{after_statements, parts_breaches, statements_breaches}
@@ -18,7 +18,7 @@ invariant-resolve_statements-loop-item l =
     (statements_breaches l.fn.symbols l.flow (statements all) ≡ statements_breaches l.symbols l.flow (statements left))
     × (after_statements l.fn.symbols all ≡ after_statements l.symbols left)
     × Made (resolved_statements l.fn.symbols parallel (statements all)) (resolved_statements l.symbols parallel
-    (statements left)) (map view_resolved_statement l.resolved.items)
+    (statements left)) (map view.statement l.resolved.items)
     × AreProper (statements left)
 
 abbrev pub invariant-resolve_parts-loop-part : goal.invariant-resolve_parts-loop-part
@@ -26,7 +26,7 @@ invariant-resolve_parts-loop-part l =
     let all = map view_part l.sections in
     let left = map view_part (drop l.part-index l.sections) in
     let parallel = l.flow.parallel in
-    let made = map view_resolved_part l.resolved.items in
+    let made = map view.part l.resolved.items in
     (parts_breaches l.fn.symbols l.flow 0 (parts all) ≡ parts_breaches l.fn.symbols l.flow (length made) (parts left))
     × (l.symbols ≡ l.fn.symbols)
     × MadeParts (resolved_parts l.fn.symbols parallel (parts all)) (resolved_parts l.fn.symbols parallel (parts left))

@@ -2,7 +2,7 @@ use Rattle.std.proofs.Common.{refl, subst}
 use Rattle.std.specs.Prelude.{IfSome, IsSomeAnd}
 use Rattle.om_tree.specs.View.{view_unit}
 use Rattle.om_resolved.specs.Beside.{TreeAtomicsAssign}
-use Rattle.om_resolved.specs.ResolvedView.{view_resolved}
+use Rattle.om_resolved.specs.ResolvedView as view
 use Rattle.om_resolved.specs.Whole.{IsWholeTree}
 use Rattle.om_rules.specs.Breaches.{breaches_of}
 use Rattle.om_rules.specs.UnitResolution.{resolution_of}
@@ -20,7 +20,7 @@ unfolding breaches_of resolution_of
 returns-clause-is_resolved c =
     let rules = rw c.as_slice.ensures.value at c.in_ok-resolved.ensures.checked in
     let made = rw c.as_slice.ensures.value at c.in_ok-resolved.ensures.resolved in
-    c.unbroken_trees_are_resolved.ensures (view_unit c.args.unit) (view_resolved c.in_ok-resolved.resolved)
+    c.unbroken_trees_are_resolved.ensures (view_unit c.args.unit) (view.resolved c.in_ok-resolved.resolved)
     (rw (rules, c.in_ok-check_main.ensures) refl) made
 
 pub returns-clause-whole : goal.returns-clause-whole

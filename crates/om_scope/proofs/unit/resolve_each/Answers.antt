@@ -3,7 +3,7 @@ use Rattle.std.specs.List.{flat_map}
 use Rattle.std.proofs.lemmas.List.{append-nil, drop_all}
 use Rattle.std.proofs.lemmas.Result.{err_from_is_err_and}
 use Rattle.om_tree.specs.View.{view_item}
-use Rattle.om_resolved.specs.ResolvedView.{view_resolved_function}
+use Rattle.om_resolved.specs.ResolvedView as view
 use Rattle.om_rules.specs.Perhaps.{all_along}
 use Rattle.om_rules.specs.Scopes.{after_item}
 use Rattle.om_rules.specs.UnitResolution.{globals_of, item_functions}
@@ -59,7 +59,7 @@ returns-clause-declared c =
 pub returns-clause-defined : goal.returns-clause-defined
 returns-clause-defined c =
     let none = ap (map view_item) (drop_all c.loop-item.item-index c.args.items.now c.loop-item-test.false) in
-    let made = map view_resolved_function c.loop-item.functions.items in
+    let made = map view.function c.loop-item.functions.items in
     c.loop-item.invariant.functions
     ∙ ap (λ left. made_and made (all_along item_functions after_item c.loop-item.symbols left)) none
     ∙ ap Some (append-nil made)

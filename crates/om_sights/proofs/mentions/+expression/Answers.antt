@@ -6,7 +6,7 @@ use Rattle.om_resolved.specs.declared.resolved.ResolvedExpression.TheViews.{size
 use Rattle.om_resolved.specs.declared.resolved.ResolvedExpression.TheViews.{sized-Call, sized-Conditional}
 use Rattle.om_resolved.specs.declared.resolved.ResolvedExpression.TheViews.{sized-Print}
 use Rattle.om_resolved.specs.ResolvedTree as trees
-use Rattle.om_resolved.specs.ResolvedView.{view_resolved_expression}
+use Rattle.om_resolved.specs.ResolvedView as view
 use Rattle.om_resolved.specs.Weights.{values_weight}
 use Rattle.om_sights.specs.Room.{IsRoomFor}
 use Rattle.om_sights.proofs.Rooms.{formats_behind, text_behind}
@@ -28,7 +28,7 @@ note_expression-note_values-requires t c = (
   omega (
     arith,
     weight_call _ _ _ c.in-Call.is,
-    ap (λ es. values_weight (trees.values (map view_resolved_expression es))) c.as_slice.ensures.value,
+    ap (λ es. values_weight (trees.values (map view.expression es))) c.as_slice.ensures.value,
     c.requires.room,
   ),
 )
@@ -46,7 +46,7 @@ note_expression-note_values-requires-in-Print t c = (
   omega (
     arith,
     weight_print _ _ _ c.in-Print.is,
-    ap (λ es. values_weight (trees.values (map view_resolved_expression es))) c.as_slice-in-Print-2.ensures.value,
+    ap (λ es. values_weight (trees.values (map view.expression es))) c.as_slice-in-Print-2.ensures.value,
     text_behind c.as_slice-in-Print.result.now _ _ c.in_ok-note-in-Print.ensures,
     c.requires.room,
   ),
@@ -202,7 +202,7 @@ note_values-loop-value-preserved t c = (
   omega (
     arith,
     value_left c.args.values.now c.loop-value.value-index c.value-item.result c.loop-value-test.true c.value-item.is,
-    formats_behind (view_resolved_expression c.value-item.result) c.loop-value.formats c.note_expression.new.formats
+    formats_behind (view.expression c.value-item.result) c.loop-value.formats c.note_expression.new.formats
         c.in_ok-note_expression.ensures,
     c.loop-value.invariant.1,
   ),

@@ -1,6 +1,6 @@
 use Rattle.std.proofs.Common.{◌≡◌, length, map, drop}
 use Rattle.om_resolved.specs.ResolvedTree as trees
-use Rattle.om_resolved.specs.ResolvedView.{view_resolved_expression}
+use Rattle.om_resolved.specs.ResolvedView as view
 use Rattle.om_resolved.specs.Weights.{values_weight}
 use Rattle.om_rows.specs.Mentions.{values_formats}
 use Rattle.om_sights.specs.Noted.{noted}
@@ -9,7 +9,7 @@ use Rattle.om_sights.proofs.mentions.+expression.Given as goal
 
 abbrev pub invariant-note_values-loop-value : goal.invariant-note_values-loop-value
 invariant-note_values-loop-value l =
-    let left = trees.values (map view_resolved_expression (drop l.value-index l.values)) in
-    let all = trees.values (map view_resolved_expression l.values) in
+    let left = trees.values (map view.expression (drop l.value-index l.values)) in
+    let all = trees.values (map view.expression l.values) in
     (noted l.formats (values_formats left) ≡ noted l.fn.formats (values_formats all))
     × IsRoomFor (values_weight left) (length l.formats)

@@ -7,8 +7,7 @@ use Rattle.om_resolved.specs.declared.resolved.ResolvedStatement.TheViews.{sized
 use Rattle.om_resolved.specs.declared.resolved.ResolvedStatement.TheViews.{sized-For, sized-IfElse, sized-Loop}
 use Rattle.om_resolved.specs.declared.resolved.ResolvedStatement.TheViews.{size_is-ResolvedPart, sized-Sections}
 use Rattle.om_resolved.specs.ResolvedTree as trees
-use Rattle.om_resolved.specs.ResolvedView.{view_resolved_clause, view_resolved_expression, view_resolved_loop, view_resolved_part}
-use Rattle.om_resolved.specs.ResolvedView.{view_resolved_declarator, view_resolved_start, view_resolved_statement, view_resolved_update}
+use Rattle.om_resolved.specs.ResolvedView as view
 use Rattle.om_resolved.specs.Weights.{clause_weight, declarator_weight, loop_weight, parts_weight, statements_weight, update_weight}
 use Rattle.om_rows.specs.Mentions.{all_mentioned}
 use Rattle.om_rows.specs.Numbering.{numbers_of}
@@ -37,7 +36,7 @@ note_statement-note_statements-requires t c = (
   omega (
     arith,
     weight_block _ _ _ c.in-Block.is,
-    ap (λ xs. statements_weight (trees.statements (map view_resolved_statement xs))) c.as_slice-in-Block.ensures.value,
+    ap (λ xs. statements_weight (trees.statements (map view.statement xs))) c.as_slice-in-Block.ensures.value,
     c.requires.room,
   ),
 )
@@ -56,7 +55,7 @@ note_statement-note_statement-requires t c = (
     arith,
     weight_if_else _ _ _ _ _ c.in-IfElse.is,
     ap all_weight_of c.deref.ensures,
-    value_behind (view_resolved_expression c.in-IfElse.condition) c.args.walk.now.found c.note_value-in-IfElse.new.found c.in_ok-note_value-in-IfElse.ensures,
+    value_behind (view.expression c.in-IfElse.condition) c.args.walk.now.found c.note_value-in-IfElse.new.found c.in_ok-note_value-in-IfElse.ensures,
     c.requires.room,
   ),
 )
@@ -76,8 +75,8 @@ note_statement-note_statement-requires-in-IfElse t c = (
     weight_if_else _ _ _ _ _ c.in-IfElse.is,
     ap all_weight_of c.deref.ensures,
     ap all_weight_of c.deref-in-IfElse.ensures,
-    value_behind (view_resolved_expression c.in-IfElse.condition) c.args.walk.now.found c.note_value-in-IfElse.new.found c.in_ok-note_value-in-IfElse.ensures,
-    statement_behind (view_resolved_statement c.deref.result.now) (numbers_of c.args.walk.now.numbers) c.note_statement.new.walk.numbers c.note_value-in-IfElse.new.found c.note_statement.new.walk.found c.in_ok-note_statement-in-IfElse.ensures.behind c.in_ok-note_statement-in-IfElse.ensures.noted,
+    value_behind (view.expression c.in-IfElse.condition) c.args.walk.now.found c.note_value-in-IfElse.new.found c.in_ok-note_value-in-IfElse.ensures,
+    statement_behind (view.statement c.deref.result.now) (numbers_of c.args.walk.now.numbers) c.note_statement.new.walk.numbers c.note_value-in-IfElse.new.found c.note_statement.new.walk.found c.in_ok-note_statement-in-IfElse.ensures.behind c.in_ok-note_statement-in-IfElse.ensures.noted,
     c.requires.room,
   ),
 )
@@ -115,7 +114,7 @@ note_statement-note_statement-requires-in-For t c = (
     weight_for _ _ _ _ c.in-For.is,
     ap all_weight_of c.deref-in-For-2.ensures,
     ap head_weight c.deref-in-For.ensures,
-    head_behind (view_resolved_start c.deref-in-For.result.now.start) (option_map view_resolved_expression c.deref-in-For.result.now.condition) (option_map view_resolved_expression c.deref-in-For.result.now.step) c.args.walk.now.found c.note_head.new.found c.in_ok-note_head-in-For.ensures,
+    head_behind (view.start c.deref-in-For.result.now.start) (option_map view.expression c.deref-in-For.result.now.condition) (option_map view.expression c.deref-in-For.result.now.step) c.args.walk.now.found c.note_head.new.found c.in_ok-note_head-in-For.ensures,
     c.requires.room,
   ),
 )
@@ -134,10 +133,10 @@ note_statement-note_statement-requires-in-Loop t c = (
     arith,
     weight_loop _ _ _ _ _ _ c.in-Loop.is,
     ap all_weight_of c.deref-in-Loop-2.ensures,
-    ap (λ xs. sum (map clause_weight (map view_resolved_clause xs))) c.as_slice-in-Loop.ensures.value,
-    clauses_behind (map view_resolved_clause c.as_slice-in-Loop.result.now) c.args.walk.now.found c.note_clauses.new.found c.in_ok-note_clauses-in-Loop.ensures,
-    ap (λ l. loop_weight (view_resolved_loop l)) c.deref-in-Loop.ensures,
-    loop_behind (view_resolved_loop c.deref-in-Loop.result.now) c.note_clauses.new.found c.note_loop.new.found c.in_ok-note_loop-in-Loop.ensures,
+    ap (λ xs. sum (map clause_weight (map view.clause xs))) c.as_slice-in-Loop.ensures.value,
+    clauses_behind (map view.clause c.as_slice-in-Loop.result.now) c.args.walk.now.found c.note_clauses.new.found c.in_ok-note_clauses-in-Loop.ensures,
+    ap (λ l. loop_weight (view.loop l)) c.deref-in-Loop.ensures,
+    loop_behind (view.loop c.deref-in-Loop.result.now) c.note_clauses.new.found c.note_loop.new.found c.in_ok-note_loop-in-Loop.ensures,
     c.requires.room,
   ),
 )
@@ -155,9 +154,9 @@ note_statement-note_parts-requires t c = (
   omega (
     arith,
     weight_sections _ _ _ _ _ c.in-Sections.is,
-    ap (λ xs. sum (map clause_weight (map view_resolved_clause xs))) c.as_slice-in-Sections.ensures.value,
-    ap (λ xs. parts_weight (trees.parts (map view_resolved_part xs))) c.as_slice-in-Sections-2.ensures.value,
-    clauses_behind (map view_resolved_clause c.as_slice-in-Sections.result.now) c.args.walk.now.found c.note_clauses-in-Sections.new.found c.in_ok-note_clauses-in-Sections.ensures,
+    ap (λ xs. sum (map clause_weight (map view.clause xs))) c.as_slice-in-Sections.ensures.value,
+    ap (λ xs. parts_weight (trees.parts (map view.part xs))) c.as_slice-in-Sections-2.ensures.value,
+    clauses_behind (map view.clause c.as_slice-in-Sections.result.now) c.args.walk.now.found c.note_clauses-in-Sections.new.found c.in_ok-note_clauses-in-Sections.ensures,
     ap given c.next_pick-walk.ensures,
     c.requires.room,
   ),
@@ -176,10 +175,10 @@ note_statement-note_statement-requires-in-Construct t c = (
   omega (
     arith,
     weight_construct _ _ _ _ _ c.in-Construct.is,
-    ap (λ xs. sum (map clause_weight (map view_resolved_clause xs))) c.as_slice-in-Construct.ensures.value,
+    ap (λ xs. sum (map clause_weight (map view.clause xs))) c.as_slice-in-Construct.ensures.value,
     ap all_weight_of c.deref-in-Construct.ensures,
     construct_behind c.in-Construct.kind c.args.walk.now.found c.note_construct.new.found c.in_ok-note_construct-in-Construct.ensures,
-    clauses_behind (map view_resolved_clause c.as_slice-in-Construct.result.now) c.note_construct.new.found c.note_clauses-in-Construct.new.found c.in_ok-note_clauses-in-Construct.ensures,
+    clauses_behind (map view.clause c.as_slice-in-Construct.result.now) c.note_construct.new.found c.note_clauses-in-Construct.new.found c.in_ok-note_clauses-in-Construct.ensures,
     c.requires.room,
   ),
 )
@@ -198,7 +197,7 @@ note_statement-note_value-requires-in-Do t c =
       arith,
       weight_do _ _ _ _ c.in-Do.is,
       ap all_weight_of c.deref-in-Do.ensures,
-      statement_behind (view_resolved_statement c.deref-in-Do.result.now) (numbers_of c.args.walk.now.numbers) c.note_statement-in-Do.new.walk.numbers c.args.walk.now.found c.note_statement-in-Do.new.walk.found c.in_ok-note_statement-in-Do.ensures.behind c.in_ok-note_statement-in-Do.ensures.noted,
+      statement_behind (view.statement c.deref-in-Do.result.now) (numbers_of c.args.walk.now.numbers) c.note_statement-in-Do.new.walk.numbers c.args.walk.now.found c.note_statement-in-Do.new.walk.found c.in_ok-note_statement-in-Do.ensures.behind c.in_ok-note_statement-in-Do.ensures.noted,
       c.requires.room,
     )
 
@@ -208,9 +207,9 @@ note_statement-note_loop-requires t c =
     omega (
       arith,
       weight_loop _ _ _ _ _ _ c.in-Loop.is,
-      ap (λ l. loop_weight (view_resolved_loop l)) c.deref-in-Loop.ensures,
-      ap (λ xs. sum (map clause_weight (map view_resolved_clause xs))) c.as_slice-in-Loop.ensures.value,
-      clauses_behind (map view_resolved_clause c.as_slice-in-Loop.result.now) c.args.walk.now.found c.note_clauses.new.found c.in_ok-note_clauses-in-Loop.ensures,
+      ap (λ l. loop_weight (view.loop l)) c.deref-in-Loop.ensures,
+      ap (λ xs. sum (map clause_weight (map view.clause xs))) c.as_slice-in-Loop.ensures.value,
+      clauses_behind (map view.clause c.as_slice-in-Loop.result.now) c.args.walk.now.found c.note_clauses.new.found c.in_ok-note_clauses-in-Loop.ensures,
       c.requires.room,
     )
 
@@ -220,7 +219,7 @@ note_statement-note_clauses-requires-in-Construct t c =
     omega (
       arith,
       weight_construct _ _ _ _ _ c.in-Construct.is,
-      ap (λ xs. sum (map clause_weight (map view_resolved_clause xs))) c.as_slice-in-Construct.ensures.value,
+      ap (λ xs. sum (map clause_weight (map view.clause xs))) c.as_slice-in-Construct.ensures.value,
       construct_behind c.in-Construct.kind c.args.walk.now.found c.note_construct.new.found c.in_ok-note_construct-in-Construct.ensures,
       c.requires.room,
     )
@@ -231,7 +230,7 @@ note_statement-note_declarators-requires t c =
     omega (
       arith,
       weight_declaration _ _ _ c.in-Declaration.is,
-      ap (λ xs. sum (map declarator_weight (map view_resolved_declarator xs))) c.as_slice.ensures.value,
+      ap (λ xs. sum (map declarator_weight (map view.declarator xs))) c.as_slice.ensures.value,
       c.requires.room,
     )
 
@@ -278,7 +277,7 @@ note_statement-note_clauses-requires t c =
     omega (
       arith,
       weight_loop _ _ _ _ _ _ c.in-Loop.is,
-      ap (λ xs. sum (map clause_weight (map view_resolved_clause xs))) c.as_slice-in-Loop.ensures.value,
+      ap (λ xs. sum (map clause_weight (map view.clause xs))) c.as_slice-in-Loop.ensures.value,
       c.requires.room,
     )
 
@@ -288,7 +287,7 @@ note_statement-note_clauses-requires-in-Sections t c =
     omega (
       arith,
       weight_sections _ _ _ _ _ c.in-Sections.is,
-      ap (λ xs. sum (map clause_weight (map view_resolved_clause xs))) c.as_slice-in-Sections.ensures.value,
+      ap (λ xs. sum (map clause_weight (map view.clause xs))) c.as_slice-in-Sections.ensures.value,
       c.requires.room,
     )
 
@@ -316,7 +315,7 @@ note_statement-note_update-requires t c =
     omega (
       arith,
       weight_update _ _ _ c.in-Update.is,
-      ap (λ u. update_weight (view_resolved_update u)) c.deref-in-Update.ensures,
+      ap (λ u. update_weight (view.update u)) c.deref-in-Update.ensures,
       c.requires.room,
     )
 
@@ -326,7 +325,7 @@ note_statement-note_clauses-requires-in-Parallel t c =
     omega (
       arith,
       weight_region _ _ _ c.in-Parallel.is,
-      ap (λ xs. sum (map clause_weight (map view_resolved_clause xs))) c.as_slice-in-Parallel.ensures.value,
+      ap (λ xs. sum (map clause_weight (map view.clause xs))) c.as_slice-in-Parallel.ensures.value,
       c.requires.room,
     )
 
@@ -342,9 +341,9 @@ note_statement-note_region-requires t c = (
   omega (
     arith,
     weight_region _ _ _ c.in-Parallel.is,
-    ap (λ xs. sum (map clause_weight (map view_resolved_clause xs))) c.as_slice-in-Parallel.ensures.value,
+    ap (λ xs. sum (map clause_weight (map view.clause xs))) c.as_slice-in-Parallel.ensures.value,
     ap all_weight_of c.deref-in-Parallel.ensures,
-    clauses_behind (map view_resolved_clause c.as_slice-in-Parallel.result.now) c.args.walk.now.found c.note_clauses-in-Parallel.new.found c.in_ok-note_clauses-in-Parallel.ensures,
+    clauses_behind (map view.clause c.as_slice-in-Parallel.result.now) c.args.walk.now.found c.note_clauses-in-Parallel.new.found c.in_ok-note_clauses-in-Parallel.ensures,
     c.requires.room,
   ),
 )
@@ -371,7 +370,7 @@ note_statement-note_statement-requires-in-If t c = (
     arith,
     weight_tested _ _ _ c.in-If.is,
     ap all_weight_of c.deref-in-If.ensures,
-    value_behind (view_resolved_expression c.in-If.test) c.args.walk.now.found c.note_value-in-If.new.found c.in_ok-note_value-in-If.ensures,
+    value_behind (view.expression c.in-If.test) c.args.walk.now.found c.note_value-in-If.new.found c.in_ok-note_value-in-If.ensures,
     c.requires.room,
   ),
 )
@@ -396,7 +395,7 @@ note_parts-note_statements-requires t c = (
   omega (
     arith,
     part_left c.args.parts.now c.loop-part.part-index c.part-item.result c.loop-part-test.true c.part-item.is,
-    ap (λ xs. statements_weight (trees.statements (map view_resolved_statement xs))) c.as_slice.ensures.value,
+    ap (λ xs. statements_weight (trees.statements (map view.statement xs))) c.as_slice.ensures.value,
     c.loop-part.invariant.2,
   ),
 )
@@ -413,7 +412,7 @@ note_statements-loop-item-preserved t c = (
   omega (
     arith,
     item_left c.args.items.now c.loop-item.item-index c.item-item.result c.loop-item-test.true c.item-item.is,
-    statement_behind (view_resolved_statement c.item-item.result) (numbers_of c.loop-item.walk.numbers)
+    statement_behind (view.statement c.item-item.result) (numbers_of c.loop-item.walk.numbers)
         c.note_statement.new.walk.numbers c.loop-item.walk.found c.note_statement.new.walk.found
         c.in_ok-note_statement.ensures.behind c.in_ok-note_statement.ensures.noted,
     c.loop-item.invariant.2,
@@ -426,12 +425,12 @@ unfolding IsRoomFor
 note_parts-loop-part-preserved t c =
     let k = c.loop-part.part-index in
     let x = c.part-item.result in
-    let seen = trees.statements (map view_resolved_statement c.as_slice.result.now) in
-    let rest = trees.parts (map view_resolved_part (drop (k + 1) c.args.parts.now)) in
-    let listed = ap (λ xs. trees.statements (map view_resolved_statement xs)) c.as_slice.ensures.value in
+    let seen = trees.statements (map view.statement c.as_slice.result.now) in
+    let rest = trees.parts (map view.part (drop (k + 1) c.args.parts.now)) in
+    let listed = ap (λ xs. trees.statements (map view.statement xs)) c.as_slice.ensures.value in
     let here = next_part c.args.parts.now k x c.loop-part-test.true c.part-item.is
     ∙ ap (λ items. trees.Part items rest) (sym listed) in
-    let next = parts_next seen _ rest (trees.parts (map view_resolved_part c.args.parts.now))
+    let next = parts_next seen _ rest (trees.parts (map view.part c.args.parts.now))
     (numbers_of c.loop-part.walk.numbers) (numbers_of c.args.walk.now.numbers) c.note_statements.new.walk.numbers
     c.loop-part.walk.ends.items c.note_statements.new.walk.ends.items c.args.walk.now.ends.items c.loop-part.walk.found
     c.note_statements.new.walk.found c.args.walk.now.found here c.in_ok-note_statements.ensures.behind

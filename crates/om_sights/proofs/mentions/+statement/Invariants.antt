@@ -1,6 +1,6 @@
 use Rattle.std.proofs.Common.{◌≡◌, ◌++◌, map, drop}
 use Rattle.om_resolved.specs.ResolvedTree as trees
-use Rattle.om_resolved.specs.ResolvedView.{view_resolved_part, view_resolved_statement}
+use Rattle.om_resolved.specs.ResolvedView as view
 use Rattle.om_resolved.specs.Weights.{parts_weight, statements_weight}
 use Rattle.om_rows.specs.Bodies as bodies
 use Rattle.om_rows.specs.Mentions.{all_mentioned, parts_mentioned}
@@ -12,8 +12,8 @@ use Rattle.om_sights.proofs.mentions.+statement.Given as goal
 
 abbrev pub invariant-note_statements-loop-item : goal.invariant-note_statements-loop-item
 invariant-note_statements-loop-item l =
-    let left = trees.statements (map view_resolved_statement (drop l.item-index l.items)) in
-    let all = trees.statements (map view_resolved_statement l.items) in
+    let left = trees.statements (map view.statement (drop l.item-index l.items)) in
+    let all = trees.statements (map view.statement l.items) in
     (bodies.behind_all (numbers_of l.walk.numbers) left ≡ bodies.behind_all (numbers_of l.fn.walk.numbers) all)
     × (map numbers_of l.walk.ends.items ++ all_region_ends (numbers_of l.walk.numbers) left
     ≡ map numbers_of l.fn.walk.ends.items ++ all_region_ends (numbers_of l.fn.walk.numbers) all)
@@ -23,8 +23,8 @@ invariant-note_statements-loop-item l =
 
 abbrev pub invariant-note_parts-loop-part : goal.invariant-note_parts-loop-part
 invariant-note_parts-loop-part l =
-    let left = trees.parts (map view_resolved_part (drop l.part-index l.parts)) in
-    let all = trees.parts (map view_resolved_part l.parts) in
+    let left = trees.parts (map view.part (drop l.part-index l.parts)) in
+    let all = trees.parts (map view.part l.parts) in
     (bodies.behind_parts (numbers_of l.walk.numbers) left ≡ bodies.behind_parts (numbers_of l.fn.walk.numbers) all)
     × (map numbers_of l.walk.ends.items ++ parts_region_ends (numbers_of l.walk.numbers) left
     ≡ map numbers_of l.fn.walk.ends.items ++ parts_region_ends (numbers_of l.fn.walk.numbers) all)

@@ -1,6 +1,6 @@
 use Rattle.std.proofs.Common.{arith}
 use Rattle.std.proofs.lemmas.Grind.{common_steps}
-use Rattle.om_resolved.specs.ResolvedView.{view_resolved_clause}
+use Rattle.om_resolved.specs.ResolvedView as view
 use Rattle.om_resolved.specs.Weights.{clause_weight}
 use Rattle.om_sights.specs.Room.{IsRoomFor}
 use Rattle.om_sights.proofs.Rooms.{clause_behind}
@@ -12,7 +12,7 @@ unfolding IsRoomFor
 note_clause-requires c =
     omega (
       arith,
-      sum_left clause_weight view_resolved_clause c.args.clauses.now c.loop-clause.clause-index c.clause-item.result
+      sum_left clause_weight view.clause c.args.clauses.now c.loop-clause.clause-index c.clause-item.result
           c.loop-clause-test.true c.clause-item.is,
       c.loop-clause.invariant.0,
     )
@@ -22,9 +22,9 @@ unfolding IsRoomFor
 loop-clause-preserved c = (
   omega (
     arith,
-    sum_left clause_weight view_resolved_clause c.args.clauses.now c.loop-clause.clause-index c.clause-item.result
+    sum_left clause_weight view.clause c.args.clauses.now c.loop-clause.clause-index c.clause-item.result
         c.loop-clause-test.true c.clause-item.is,
-    clause_behind (view_resolved_clause c.clause-item.result) c.loop-clause.found c.note_clause.new.found
+    clause_behind (view.clause c.clause-item.result) c.loop-clause.found c.note_clause.new.found
         c.in_ok-note_clause.ensures,
     c.loop-clause.invariant.0,
   ),

@@ -1,7 +1,7 @@
 use Rattle.std.proofs.Common.{map, drop}
 use Rattle.std.specs.Prelude.{sum}
 use Rattle.std.specs.List.{flat_map}
-use Rattle.om_resolved.specs.ResolvedView.{view_resolved_clause}
+use Rattle.om_resolved.specs.ResolvedView as view
 use Rattle.om_resolved.specs.Weights.{clause_weight}
 use Rattle.om_rows.specs.Mentions.{clause_mentioned}
 use Rattle.om_sights.specs.Room.{HasTextRoom}
@@ -10,7 +10,7 @@ use Rattle.om_sights.proofs.mentions.note_clauses.Given as goal
 
 abbrev pub invariant-loop-clause : goal.invariant-loop-clause
 invariant-loop-clause l =
-    let left = map view_resolved_clause (drop l.clause-index l.clauses) in
-    let all = map view_resolved_clause l.clauses in
+    let left = map view.clause (drop l.clause-index l.clauses) in
+    let all = map view.clause l.clauses in
     HasTextRoom (sum (map clause_weight left)) l.found
     × AreLeft (λ A m. flat_map (clause_mentioned m) left) (λ A m. flat_map (clause_mentioned m) all) l.found l.fn.found

@@ -1,6 +1,6 @@
 use Rattle.std.proofs.Common.{option_map, arith}
 use Rattle.std.proofs.lemmas.Grind.{common_steps}
-use Rattle.om_resolved.specs.ResolvedView.{view_resolved_declarator, view_resolved_expression}
+use Rattle.om_resolved.specs.ResolvedView as view
 use Rattle.om_resolved.specs.Weights.{declarator_weight}
 use Rattle.om_sights.specs.Room.{IsRoomFor}
 use Rattle.om_sights.proofs.Rooms.{perhaps_behind}
@@ -12,9 +12,9 @@ unfolding IsRoomFor
 loop-declarator-preserved c = (
   omega (
     arith,
-    sum_left declarator_weight view_resolved_declarator c.args.declarators.now c.loop-declarator.declarator-index
+    sum_left declarator_weight view.declarator c.args.declarators.now c.loop-declarator.declarator-index
         c.declarator-item.result c.loop-declarator-test.true c.declarator-item.is,
-    perhaps_behind (option_map view_resolved_expression c.declarator-item.result.initial) _ _
+    perhaps_behind (option_map view.expression c.declarator-item.result.initial) _ _
         c.in_ok-note_perhaps.ensures,
     c.loop-declarator.invariant.0,
   ),

@@ -1,5 +1,5 @@
 use Rattle.std.proofs.Common.{option_map, arith}
-use Rattle.om_resolved.specs.ResolvedView.{view_resolved_expression, view_resolved_start}
+use Rattle.om_resolved.specs.ResolvedView as view
 use Rattle.om_sights.specs.Room.{IsRoomFor}
 use Rattle.om_sights.proofs.Rooms.{perhaps_behind, start_behind}
 use Rattle.om_sights.proofs.mentions.note_head.Goals as goal
@@ -9,7 +9,7 @@ unfolding IsRoomFor
 note_perhaps-requires c =
     omega (
       arith,
-      start_behind (view_resolved_start c.args.head.now.start) c.args.found.now c.note_start.new.found
+      start_behind (view.start c.args.head.now.start) c.args.found.now c.note_start.new.found
           c.in_ok-note_start.ensures,
       c.requires.room,
     )
@@ -19,9 +19,9 @@ unfolding IsRoomFor
 note_perhaps-requires-2 c =
     omega (
       arith,
-      start_behind (view_resolved_start c.args.head.now.start) c.args.found.now c.note_start.new.found
+      start_behind (view.start c.args.head.now.start) c.args.found.now c.note_start.new.found
           c.in_ok-note_start.ensures,
-      perhaps_behind (option_map view_resolved_expression c.args.head.now.condition) c.note_start.new.found
+      perhaps_behind (option_map view.expression c.args.head.now.condition) c.note_start.new.found
           c.note_perhaps.new.found c.in_ok-note_perhaps.ensures,
       c.requires.room,
     )

@@ -1,5 +1,5 @@
 use Rattle.std.proofs.Common.{arith}
-use Rattle.om_resolved.specs.ResolvedView.{view_resolved_expression}
+use Rattle.om_resolved.specs.ResolvedView as view
 use Rattle.om_sights.specs.Room.{IsRoomFor}
 use Rattle.om_sights.proofs.Rooms.{value_behind}
 use Rattle.om_sights.proofs.mentions.note_loop.Goals as goal
@@ -9,7 +9,7 @@ unfolding IsRoomFor
 note_value-requires-2 c =
     omega (
       arith,
-      value_behind (view_resolved_expression c.args.repeated.now.from) c.args.found.now c.note_value.new.found
+      value_behind (view.expression c.args.repeated.now.from) c.args.found.now c.note_value.new.found
           c.in_ok-note_value.ensures,
       c.requires.room,
     )

@@ -1,5 +1,5 @@
 use Rattle.std.proofs.Common.{option_map, arith}
-use Rattle.om_resolved.specs.ResolvedView.{view_resolved_expression}
+use Rattle.om_resolved.specs.ResolvedView as view
 use Rattle.om_sights.specs.Room.{IsRoomFor}
 use Rattle.om_sights.proofs.Rooms.{perhaps_behind}
 use Rattle.om_sights.proofs.mentions.note_update.Goals as goal
@@ -9,7 +9,7 @@ unfolding IsRoomFor
 note_value-requires c =
     omega (
       arith,
-      perhaps_behind (option_map view_resolved_expression c.args.update.now.index) c.args.found.now
+      perhaps_behind (option_map view.expression c.args.update.now.index) c.args.found.now
           c.note_perhaps.new.found c.in_ok-note_perhaps.ensures,
       c.requires.room,
     )

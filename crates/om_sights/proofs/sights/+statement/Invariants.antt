@@ -1,17 +1,17 @@
 use Rattle.std.proofs.Common.{◌≡◌, map, drop}
 use Rattle.om_rows.specs.Slots.{parts_sights, statements_sights}
 use Rattle.om_resolved.specs.ResolvedTree as trees
-use Rattle.om_resolved.specs.ResolvedView.{view_resolved_part, view_resolved_statement}
+use Rattle.om_resolved.specs.ResolvedView as view
 use Rattle.om_sights.specs.Sighted.{sighted}
 use Rattle.om_sights.proofs.sights.+statement.Given as goal
 
 abbrev pub invariant-see_statements-loop-item : goal.invariant-see_statements-loop-item
 invariant-see_statements-loop-item l =
     sighted l.seen (statements_sights
-    (trees.statements (map view_resolved_statement (drop l.item-index l.items)))) ≡ sighted l.fn.seen
-    (statements_sights (trees.statements (map view_resolved_statement l.items)))
+    (trees.statements (map view.statement (drop l.item-index l.items)))) ≡ sighted l.fn.seen
+    (statements_sights (trees.statements (map view.statement l.items)))
 
 abbrev pub invariant-see_parts-loop-part : goal.invariant-see_parts-loop-part
 invariant-see_parts-loop-part l =
-    sighted l.seen (parts_sights (trees.parts (map view_resolved_part (drop l.part-index l.parts))))
-    ≡ sighted l.fn.seen (parts_sights (trees.parts (map view_resolved_part l.parts)))
+    sighted l.seen (parts_sights (trees.parts (map view.part (drop l.part-index l.parts))))
+    ≡ sighted l.fn.seen (parts_sights (trees.parts (map view.part l.parts)))

@@ -6,7 +6,7 @@ use Rattle.om_resolved.specs.declared.resolved.ResolvedStatement.TheViews.{size_
 use Rattle.om_resolved.specs.declared.resolved.ResolvedStatement.TheViews.{sized-IfElse, sized-Parallel, sized-Sections}
 use Rattle.om_resolved.specs.declared.resolved.ResolvedStatement.TheViews.{sized-Task}
 use Rattle.om_resolved.specs.ResolvedTree as trees
-use Rattle.om_resolved.specs.ResolvedView.{view_resolved_expression, view_resolved_part, view_resolved_statement}
+use Rattle.om_resolved.specs.ResolvedView as view
 use Rattle.om_resolved.specs.Weights.{parts_weight, statements_weight}
 use Rattle.om_rows.specs.Bodies.{all_regions, behind_all, behind_parts, parts_regions, regions}
 use Rattle.om_rows.specs.Numbering.{numbers_of}
@@ -35,7 +35,7 @@ see_statement-see_statements-requires t c = (
     omega (
       arith,
       weight_block _ _ _ c.in-Block.is,
-      ap (λ xs. statements_weight (trees.statements (map view_resolved_statement xs))) c.as_slice.ensures.value,
+      ap (λ xs. statements_weight (trees.statements (map view.statement xs))) c.as_slice.ensures.value,
       c.requires.room,
     ),
   ),
@@ -80,7 +80,7 @@ see_statement-see_statement-requires-in-IfElse t c = (
       weight_if_else _ _ _ _ _ c.in-IfElse.is,
       ap all_weight_of c.deref.ensures,
       ap all_weight_of c.deref-in-IfElse.ensures,
-      numbers_behind (view_resolved_statement c.deref.result.now) (numbers_of c.args.numbers)
+      numbers_behind (view.statement c.deref.result.now) (numbers_of c.args.numbers)
           c.in_ok-between-in-IfElse.between c.in_ok-between-in-IfElse.ensures.behind,
       c.requires.room,
     ),
@@ -102,7 +102,7 @@ see_statement-see_parts-requires t c = (
     omega (
       arith,
       weight_sections _ _ _ _ _ c.in-Sections.is,
-      ap (λ xs. parts_weight (trees.parts (map view_resolved_part xs))) c.as_slice-in-Sections.ensures.value,
+      ap (λ xs. parts_weight (trees.parts (map view.part xs))) c.as_slice-in-Sections.ensures.value,
       ap given c.next_pick.ensures,
       c.requires.room,
     ),
@@ -123,7 +123,7 @@ pub see_region-returns-clause-sites : goal.see_region-returns-clause-sites
 unfolding IsRoomFor
 see_region-returns-clause-sites t c =
     on_ok_weaker c.see_statement.result (λ added. region_added _ _ _ c.args.round.now _ _
-    (view_resolved_statement c.args.body.now) c.in_ok-push.ensures.items c.requires.round c.depth_in-depth.ensures
+    (view.statement c.args.body.now) c.in_ok-push.ensures.items c.requires.round c.depth_in-depth.ensures
     c.next_body-inner.ensures added) c.see_statement.ensures.sites
 
 pub see_region-next_body-inner-requires : goal.see_region-next_body-inner-requires
@@ -191,15 +191,15 @@ see_statement-returns-in_ok-between-in-IfElse-clause-sites t c =
     let outer = site_variables c.args.round.now in
     let n = numbers_of c.args.numbers in
     let m = numbers_of c.in_ok-between-in-IfElse.between in
-    let s = view_resolved_statement c.deref.result.now in
-    let u = view_resolved_statement c.deref-in-IfElse.result.now in
+    let s = view.statement c.deref.result.now in
+    let u = view.statement c.deref-in-IfElse.result.now in
     let at = c.in-IfElse.at in
-    let test = view_resolved_expression c.in-IfElse.condition in
+    let test = view.expression c.in-IfElse.condition in
     let tree = view_if_else _ _ _ _ _ c.in-IfElse.is
-    ∙ ap (λ x. trees.IfElse at test (view_resolved_statement x) (view_resolved_statement c.in-IfElse.other.value))
+    ∙ ap (λ x. trees.IfElse at test (view.statement x) (view.statement c.in-IfElse.other.value))
     (sym c.deref.ensures)
-    ∙ ap (λ x. trees.IfElse at test s (view_resolved_statement x)) (sym c.deref-in-IfElse.ensures) in
-    let both = if_else_regions f outer n m (view_resolved_statement c.args.statement.now) at test s u tree
+    ∙ ap (λ x. trees.IfElse at test s (view.statement x)) (sym c.deref-in-IfElse.ensures) in
+    let both = if_else_regions f outer n m (view.statement c.args.statement.now) at test s u tree
     c.in_ok-between-in-IfElse.ensures.behind in
     on_ok_weaker c.see_statement-in-IfElse.result
     (λ added. subst (λ bodies. AddsBodies c.args.round.now bodies c.args.sites.now.items
@@ -229,13 +229,13 @@ unfolding IsRoomFor
 see_statements-loop-item-preserved t c =
     let k = c.loop-item.item-index in
     let x = c.item-item.result in
-    let s = view_resolved_statement x in
+    let s = view.statement x in
     let f = function_of c.args.round.now in
     let outer = site_variables c.args.round.now in
     let n = numbers_of c.loop-item.behind in
     let m = numbers_of c.in_ok-behind.behind in
-    let rest = trees.statements (map view_resolved_statement (drop (k + 1) c.args.items.now)) in
-    let all = trees.statements (map view_resolved_statement c.args.items.now) in
+    let rest = trees.statements (map view.statement (drop (k + 1) c.args.items.now)) in
+    let all = trees.statements (map view.statement c.args.items.now) in
     let here = next_item c.args.items.now k x c.loop-item-test.true c.item-item.is in
     let next = c.in_ok-behind.ensures.behind in
     let added = left_added c.args.round.now (regions f outer n s) (all_regions f outer m rest) _
@@ -266,7 +266,7 @@ see_parts-see_statements-requires t c =
         omega (
           arith,
           part_left c.args.parts.now c.loop-part.part-index c.part-item.result c.loop-part-test.true c.part-item.is,
-          ap (λ xs. statements_weight (trees.statements (map view_resolved_statement xs))) c.as_slice.ensures.value,
+          ap (λ xs. statements_weight (trees.statements (map view.statement xs))) c.as_slice.ensures.value,
           c.loop-part.invariant.2,
         ),
       ),
@@ -277,14 +277,14 @@ unfolding IsRoomFor
 see_parts-loop-part-preserved t c =
     let k = c.loop-part.part-index in
     let x = c.part-item.result in
-    let seen = trees.statements (map view_resolved_statement c.as_slice.result.now) in
+    let seen = trees.statements (map view.statement c.as_slice.result.now) in
     let f = function_of c.args.round.now in
     let outer = site_variables c.args.round.now in
     let n = numbers_of c.loop-part.behind in
     let m = numbers_of c.in_ok-behind.behind in
-    let rest = trees.parts (map view_resolved_part (drop (k + 1) c.args.parts.now)) in
-    let all = trees.parts (map view_resolved_part c.args.parts.now) in
-    let listed = ap (λ xs. trees.statements (map view_resolved_statement xs)) c.as_slice.ensures.value in
+    let rest = trees.parts (map view.part (drop (k + 1) c.args.parts.now)) in
+    let all = trees.parts (map view.part c.args.parts.now) in
+    let listed = ap (λ xs. trees.statements (map view.statement xs)) c.as_slice.ensures.value in
     let here = next_part c.args.parts.now k x c.loop-part-test.true c.part-item.is
     ∙ ap (λ items. trees.Part items rest) (sym listed) in
     let next = c.in_ok-behind.ensures.behind in

@@ -2,7 +2,7 @@ use Rattle.std.proofs.Common.{◌≡◌, ◌++◌, [], map, drop}
 use Rattle.om_sights.specs.Sites.{KeepsRound, bodies_in, function_of, site_variables}
 use Rattle.om_sights.specs.Room.{HasNumbers}
 use Rattle.om_resolved.specs.ResolvedTree as trees
-use Rattle.om_resolved.specs.ResolvedView.{view_resolved_part, view_resolved_statement}
+use Rattle.om_resolved.specs.ResolvedView as view
 use Rattle.om_resolved.specs.Weights.{parts_weight, statements_weight}
 use Rattle.om_rows.specs.Bodies as bodies
 use Rattle.om_rows.specs.Numbering.{numbers_of}
@@ -10,8 +10,8 @@ use Rattle.om_sights.proofs.sites.+statement.Given as goal
 
 abbrev pub invariant-see_statements-loop-item : goal.invariant-see_statements-loop-item
 invariant-see_statements-loop-item l =
-    let left = trees.statements (map view_resolved_statement (drop l.item-index l.items)) in
-    let all = trees.statements (map view_resolved_statement l.items) in
+    let left = trees.statements (map view.statement (drop l.item-index l.items)) in
+    let all = trees.statements (map view.statement l.items) in
     let regions = bodies.all_regions (function_of l.round) (site_variables l.round) in
     (bodies.behind_all (numbers_of l.behind) left ≡ bodies.behind_all (numbers_of l.fn.numbers) all)
     × (bodies_in [] l.sites.items ++ regions (numbers_of l.behind) left
@@ -21,8 +21,8 @@ invariant-see_statements-loop-item l =
 
 abbrev pub invariant-see_parts-loop-part : goal.invariant-see_parts-loop-part
 invariant-see_parts-loop-part l =
-    let left = trees.parts (map view_resolved_part (drop l.part-index l.parts)) in
-    let all = trees.parts (map view_resolved_part l.parts) in
+    let left = trees.parts (map view.part (drop l.part-index l.parts)) in
+    let all = trees.parts (map view.part l.parts) in
     let regions = bodies.parts_regions (function_of l.round) (site_variables l.round) in
     (bodies.behind_parts (numbers_of l.behind) left ≡ bodies.behind_parts (numbers_of l.fn.numbers) all)
     × (bodies_in [] l.sites.items ++ regions (numbers_of l.behind) left

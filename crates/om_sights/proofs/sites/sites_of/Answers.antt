@@ -1,6 +1,6 @@
 use Rattle.std.proofs.Common.{map, ap, arith}
 use Rattle.om_resolved.specs.ResolvedTree as trees
-use Rattle.om_resolved.specs.ResolvedView.{view_resolved_statement}
+use Rattle.om_resolved.specs.ResolvedView as view
 use Rattle.om_resolved.specs.Weights.{statements_weight}
 use Rattle.om_sights.specs.Room.{IsRoomFor}
 use Rattle.om_sights.proofs.Rooms.{given}
@@ -16,6 +16,6 @@ see_statements-requires-clause-room c =
     omega (
       arith,
       ap given c.next_body-numbers.ensures,
-      ap (λ xs. statements_weight (trees.statements (map view_resolved_statement xs))) c.as_slice.ensures.value,
+      ap (λ xs. statements_weight (trees.statements (map view.statement xs))) c.as_slice.ensures.value,
       c.requires.room,
     )

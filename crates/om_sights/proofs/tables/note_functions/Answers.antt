@@ -1,7 +1,7 @@
 use Rattle.std.proofs.Common.{◌+◌, ◌∷◌, ◌++◌, [], map, drop, ap, arith, sym, ◌∙◌, subst}
 use Rattle.std.specs.List.{flat_map}
 use Rattle.std.proofs.lemmas.List.{append_assoc, drop_all}
-use Rattle.om_resolved.specs.ResolvedView.{view_resolved_function}
+use Rattle.om_resolved.specs.ResolvedView as view
 use Rattle.om_resolved.specs.Weights.{function_weight}
 use Rattle.om_rows.specs.Bodies.{behind_functions}
 use Rattle.om_rows.specs.Ends.{ends_from, function_ends}
@@ -16,9 +16,9 @@ use Rattle.om_sights.proofs.tables.note_functions.Goals as goal
 
 pub returns-clause-cells : goal.returns-clause-cells
 returns-clause-cells c =
-    let all = map view_resolved_function c.args.functions.now in
+    let all = map view.function c.args.functions.now in
     let noted = c.loop-function.made.extents.items in
-    cells_done all noted (subst (λ left. Onward all (map view_resolved_function left) noted)
+    cells_done all noted (subst (λ left. Onward all (map view.function left) noted)
     (drop_all c.loop-function.function-index c.args.functions.now c.loop-function-test.false)
     c.loop-function.invariant.7)
 
@@ -27,7 +27,7 @@ unfolding IsRoomFor
 note_function-requires-clause-room c =
     omega (
       arith,
-      sum_left function_weight view_resolved_function c.args.functions.now c.loop-function.function-index
+      sum_left function_weight view.function c.args.functions.now c.loop-function.function-index
           c.function-item.result c.loop-function-test.true c.function-item.is,
       c.loop-function.invariant.4,
     )
@@ -36,9 +36,9 @@ pub loop-function-preserved : goal.loop-function-preserved
 unfolding IsRoomFor
 loop-function-preserved c =
     let k = c.loop-function.function-index in
-    let f = view_resolved_function c.function-item.result in
-    let rest = map view_resolved_function (drop (k + 1) c.args.functions.now) in
-    let here = ap (λ fs. map view_resolved_function fs)
+    let f = view.function c.function-item.result in
+    let rest = map view.function (drop (k + 1) c.args.functions.now) in
+    let here = ap (λ fs. map view.function fs)
     (next_left c.args.functions.now k c.function-item.result c.loop-function-test.true c.function-item.is) in
     let old = c.loop-function.made in
     let new = c.note_function.new.made in
@@ -58,7 +58,7 @@ loop-function-preserved c =
       next.empty,
       omega (
         arith,
-        sum_left function_weight view_resolved_function c.args.functions.now k c.function-item.result
+        sum_left function_weight view.function c.args.functions.now k c.function-item.result
             c.loop-function-test.true c.function-item.is,
         function_behind f n new.walk.numbers old.walk.found.formats new.walk.found.formats old.walk.found.locks
             new.walk.found.locks next.behind next.formats next.locks,
@@ -72,7 +72,7 @@ loop-function-preserved c =
           ∙ append_assoc ends (function_ends n f) (ends_from (numbers_of new.walk.numbers) rest)
           ∙ ap (λ b. ends ++ (function_ends n f ++ ends_from b rest)) next.behind
           ∙ ap (λ fs. ends ++ ends_from n fs) (sym here) ∙ c.loop-function.invariant.6,
-      cells_next (map view_resolved_function c.args.functions.now) rest f old.extents.items new.extents.items
-          (subst (λ fs. Onward (map view_resolved_function c.args.functions.now) fs old.extents.items) here
+      cells_next (map view.function c.args.functions.now) rest f old.extents.items new.extents.items
+          (subst (λ fs. Onward (map view.function c.args.functions.now) fs old.extents.items) here
           c.loop-function.invariant.7) next.cells,
     )

@@ -1,7 +1,7 @@
 use Rattle.std.proofs.Common.{◌≡◌, ◌++◌, [], List, map, drop}
 use Rattle.std.specs.Prelude.{sum}
 use Rattle.std.specs.List.{AllZip, flat_map}
-use Rattle.om_resolved.specs.ResolvedView.{view_resolved_function}
+use Rattle.om_resolved.specs.ResolvedView as view
 use Rattle.om_resolved.specs.Weights.{function_weight}
 use Rattle.om_rows.specs.Bodies.{behind_functions, first_numbers}
 use Rattle.om_rows.specs.Mentions.{format_mention, function_mentioned, lock_mention}
@@ -15,8 +15,8 @@ use Rattle.om_sights.proofs.tables.note_functions.Given as goal
 
 abbrev pub invariant-loop-function : goal.invariant-loop-function
 invariant-loop-function l =
-    let left = map view_resolved_function (drop l.function-index l.functions) in
-    let all = map view_resolved_function l.functions in
+    let left = map view.function (drop l.function-index l.functions) in
+    let all = map view.function l.functions in
     (behind_functions (numbers_of l.made.walk.numbers) left ≡ behind_functions first_numbers all)
     × (noted l.made.walk.found.formats (flat_map (function_mentioned format_mention) left)
     ≡ noted l.fn.made.walk.found.formats (flat_map (function_mentioned format_mention) all))

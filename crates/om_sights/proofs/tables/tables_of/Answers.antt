@@ -1,6 +1,6 @@
 use Rattle.std.proofs.Common.{length, map, ap, arith}
 use Rattle.std.specs.Prelude.{sum}
-use Rattle.om_resolved.specs.ResolvedView.{view_resolved_function}
+use Rattle.om_resolved.specs.ResolvedView as view
 use Rattle.om_resolved.specs.Weights.{function_weight}
 use Rattle.om_sights.specs.Room.{IsRoomFor}
 use Rattle.om_sights.proofs.Rooms.{given}
@@ -14,6 +14,6 @@ note_functions-requires-clause-room c =
       ap length c.new.ensures,
       ap length c.new-2.ensures,
       ap given c.first.ensures,
-      ap (λ fs. sum (map function_weight (map view_resolved_function fs))) c.as_slice.ensures.value,
+      ap (λ fs. sum (map function_weight (map view.function fs))) c.as_slice.ensures.value,
       c.requires.small,
     )

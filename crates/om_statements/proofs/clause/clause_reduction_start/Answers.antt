@@ -1,5 +1,5 @@
 use Rattle.std.proofs.Common.{ap, ◌∙◌}
-use Rattle.om_resolved.specs.ResolvedView.{view_resolved_clause}
+use Rattle.om_resolved.specs.ResolvedView as view
 use Rattle.om_statements.proofs.Scoped.{team_stands}
 use Rattle.om_statements.specs.Scoped.{team_from}
 use Rattle.om_emit.specs.Emits.{names_at}
@@ -7,6 +7,6 @@ use Rattle.om_statements.proofs.clause.clause_reduction_start.Goals as goal
 
 pub returns-clause-scopes : goal.returns-clause-scopes
 returns-clause-scopes c =
-    team_stands (names_at c.args.here.now) c.args.here.now.at.line (view_resolved_clause c.args.clause.now) _ _ _ _ _
-    (c.team_from-from.ensures ∙ ap (λ p. team_from p (view_resolved_clause c.args.clause.now)) c.place.ensures)
+    team_stands (names_at c.args.here.now) c.args.here.now.at.line (view.clause c.args.clause.now) _ _ _ _ _
+    (c.team_from-from.ensures ∙ ap (λ p. team_from p (view.clause c.args.clause.now)) c.place.ensures)
     c.in_ok-begin_scope.ensures c.in_ok-begin_reduction.ensures.writes

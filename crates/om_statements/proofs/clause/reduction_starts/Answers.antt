@@ -1,6 +1,6 @@
 use Rattle.std.proofs.Common.{◌+◌, ap, drop, map}
 use Rattle.std.proofs.lemmas.List.{drop_all}
-use Rattle.om_resolved.specs.ResolvedView.{view_resolved_clause}
+use Rattle.om_resolved.specs.ResolvedView as view
 use Rattle.om_rows.specs.Scopes.{team_scope}
 use Rattle.om_statements.specs.Each.{begin_each, end_each, next_each}
 use Rattle.om_statements.proofs.ScopeStacks.{left_one}
@@ -16,8 +16,8 @@ loop-clause-preserved c = (
   next_each _ _ _ _ _ _ _ _ _ _ c.loop-clause-test.true c.clause-item.is c.loop-clause.invariant.0
       c.in_ok-clause_reduction_start.ensures.code,
   each_next (names_at c.args.here.now) (λ at. team_scope at c.args.here.now.at.line) _ _
-      (map view_resolved_clause (drop (c.loop-clause.clause-index + 1) c.args.clauses.now)) _ _ _ _ _ _ _
-      (ap (map view_resolved_clause) (left_one c.args.clauses.now c.loop-clause.clause-index c.clause-item.result
+      (map view.clause (drop (c.loop-clause.clause-index + 1) c.args.clauses.now)) _ _ _ _ _ _ _
+      (ap (map view.clause) (left_one c.args.clauses.now c.loop-clause.clause-index c.clause-item.result
       c.loop-clause-test.true c.clause-item.is))
       c.loop-clause.invariant.1 c.in_ok-clause_reduction_start.ensures.scopes,
 )
@@ -29,5 +29,5 @@ returns-clause-code c = end_each _ _ _ _ _ _ _ _ (drop_all c.loop-clause.clause-
 pub returns-clause-scopes : goal.returns-clause-scopes
 returns-clause-scopes c =
     each_end (names_at c.args.here.now) (λ at. team_scope at c.args.here.now.at.line) _ _ _ _ _ _
-    (ap (map view_resolved_clause) (drop_all c.loop-clause.clause-index c.args.clauses.now c.loop-clause-test.false))
+    (ap (map view.clause) (drop_all c.loop-clause.clause-index c.args.clauses.now c.loop-clause-test.false))
     c.loop-clause.invariant.1

@@ -1,5 +1,5 @@
 use Rattle.std.proofs.Common.{drop, length}
-use Rattle.om_resolved.specs.ResolvedView.{view_resolved_clause}
+use Rattle.om_resolved.specs.ResolvedView as view
 use Rattle.om_rows.specs.Statements.{combine_clause}
 use Rattle.om_emit.specs.Emits.{names_at}
 use Rattle.om_statements.specs.Each.{GoesOn}
@@ -7,5 +7,5 @@ use Rattle.om_statements.proofs.clause.reductions.Given as goal
 
 abbrev pub invariant-loop-clause : goal.invariant-loop-clause
 invariant-loop-clause l =
-    GoesOn (length l.fn.draft.places) (names_at l.here) (λ at. combine_clause at l.here.at.line) view_resolved_clause
+    GoesOn (length l.fn.draft.places) (names_at l.here) (λ at. combine_clause at l.here.at.line) view.clause
     l.clauses (drop l.clause-index l.clauses) l.fn.draft l.draft

@@ -1,5 +1,5 @@
 use Rattle.std.proofs.Common.{drop, length, map}
-use Rattle.om_resolved.specs.ResolvedView.{view_resolved_clause}
+use Rattle.om_resolved.specs.ResolvedView as view
 use Rattle.om_rows.specs.Scopes.{each_scope, clause_scope}
 use Rattle.om_rows.specs.Statements.{clause_start}
 use Rattle.om_emit.specs.Emits.{names_at}
@@ -9,8 +9,8 @@ use Rattle.om_statements.proofs.clause.starts.Given as goal
 
 abbrev pub invariant-loop-clause : goal.invariant-loop-clause
 invariant-loop-clause l =
-    GoesOn (length l.fn.writing.draft.places) (names_at l.here) (λ at. clause_start at l.here.at.line) view_resolved_clause
+    GoesOn (length l.fn.writing.draft.places) (names_at l.here) (λ at. clause_start at l.here.at.line) view.clause
     l.clauses (drop l.clause-index l.clauses) l.fn.writing.draft l.writing.draft
-    × ScopesOn (names_at l.here) (λ at. each_scope (clause_scope at l.here.at.line) (map view_resolved_clause l.clauses))
-    (λ at. each_scope (clause_scope at l.here.at.line) (map view_resolved_clause (drop l.clause-index l.clauses)))
+    × ScopesOn (names_at l.here) (λ at. each_scope (clause_scope at l.here.at.line) (map view.clause l.clauses))
+    (λ at. each_scope (clause_scope at l.here.at.line) (map view.clause (drop l.clause-index l.clauses)))
     l.fn.writing.draft l.fn.writing.scopes l.writing.draft l.writing.scopes

@@ -1,6 +1,6 @@
 use Rattle.std.proofs.Common.{◌+◌, ap, drop, map}
 use Rattle.std.proofs.lemmas.List.{drop_all}
-use Rattle.om_resolved.specs.ResolvedView.{view_resolved_clause}
+use Rattle.om_resolved.specs.ResolvedView as view
 use Rattle.om_rows.specs.Scopes.{task_scope}
 use Rattle.om_statements.proofs.Scoped.{task_stands}
 use Rattle.om_statements.proofs.ScopeStacks.{left_one}
@@ -12,14 +12,14 @@ loop-clause-init c = λ names d. scopes_begin names _ _ _
 
 pub loop-clause-preserved : goal.loop-clause-preserved
 loop-clause-preserved c = λ names d.
-    each_next names (λ at. task_scope) _ _ (map view_resolved_clause (drop (c.loop-clause.clause-index + 1) c.args.clauses.now)) _ d _ d _ d _
-    (ap (map view_resolved_clause) (left_one c.args.clauses.now c.loop-clause.clause-index c.clause-item.result
+    each_next names (λ at. task_scope) _ _ (map view.clause (drop (c.loop-clause.clause-index + 1) c.args.clauses.now)) _ d _ d _ d _
+    (ap (map view.clause) (left_one c.args.clauses.now c.loop-clause.clause-index c.clause-item.result
     c.loop-clause-test.true c.clause-item.is))
     (c.loop-clause.invariant names d)
-    (task_stands names (view_resolved_clause c.clause-item.result) d _ _ c.in_ok-begin_scope.ensures)
+    (task_stands names (view.clause c.clause-item.result) d _ _ c.in_ok-begin_scope.ensures)
 
 pub returns : goal.returns
 returns c = λ names d.
     each_end names (λ at. task_scope) _ _ d _ d _
-    (ap (map view_resolved_clause) (drop_all c.loop-clause.clause-index c.args.clauses.now c.loop-clause-test.false))
+    (ap (map view.clause) (drop_all c.loop-clause.clause-index c.args.clauses.now c.loop-clause-test.false))
     (c.loop-clause.invariant names d)

@@ -1,6 +1,6 @@
 use Rattle.std.proofs.Common.{drop, map}
 use Rattle.om_emit.specs.Drafts.{Written}
-use Rattle.om_resolved.specs.ResolvedView.{view_resolved_clause}
+use Rattle.om_resolved.specs.ResolvedView as view
 use Rattle.om_rows.specs.Scopes.{each_scope, task_scope}
 use Rattle.om_statements.specs.Scoping.{ScopesOn}
 use Rattle.om_rows.specs.Numbered.{Numbered}
@@ -8,5 +8,5 @@ use Rattle.om_statements.proofs.clause.task_copies.Given as goal
 
 abbrev pub invariant-loop-clause : goal.invariant-loop-clause
 invariant-loop-clause l = (names : Numbered) (d : Written)
-    → ScopesOn names (λ at. each_scope task_scope (map view_resolved_clause l.clauses))
-    (λ at. each_scope task_scope (map view_resolved_clause (drop l.clause-index l.clauses))) d l.fn.scopes d l.scopes
+    → ScopesOn names (λ at. each_scope task_scope (map view.clause l.clauses))
+    (λ at. each_scope task_scope (map view.clause (drop l.clause-index l.clauses))) d l.fn.scopes d l.scopes

@@ -1,4 +1,4 @@
-use Rattle.om_resolved.specs.ResolvedView.{view_resolved_declarator}
+use Rattle.om_resolved.specs.ResolvedView as view
 use Rattle.om_rows.specs.Statements.{declarator}
 use Rattle.om_statements.specs.Scoping.{stand_opens}
 use Rattle.om_emit.specs.Emits.{names_at}
@@ -7,5 +7,5 @@ use Rattle.om_statements.proofs.declaration.declarator.Goals as goal
 pub returns-clause-scopes : goal.returns-clause-scopes
 returns-clause-scopes c =
     stand_opens (names_at c.args.here.now) _ _ _
-    (λ at. declarator at c.args.here.now.at.line (view_resolved_declarator c.args.declared.now)) _ _ _ _ c.place-from.ensures
+    (λ at. declarator at c.args.here.now.at.line (view.declarator c.args.declared.now)) _ _ _ _ c.place-from.ensures
     c.in_ok-begin.ensures c.in_ok-initialize.ensures.writes

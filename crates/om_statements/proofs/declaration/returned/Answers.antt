@@ -1,5 +1,5 @@
 use Rattle.std.proofs.Common.{◌∙◌, ap, true, false}
-use Rattle.om_resolved.specs.ResolvedView.{view_resolved_expression}
+use Rattle.om_resolved.specs.ResolvedView as view
 use Rattle.om_emit.specs.Emits.{names_at}
 use Rattle.om_rows.specs.Statements.{last_instruction}
 use Rattle.om_statements.proofs.Leaves.{returned_none, returned_some}
@@ -12,5 +12,5 @@ returns-in_ok-put-in-None c = rw c.in-None.is
 
 pub returns-in_ok-put-in-Some : goal.returns-in_ok-put-in-Some
 returns-in_ok-put-in-Some c = rw c.in-Some.is
-    (returned_some (names_at c.args.here.now) _ _ _ (view_resolved_expression c.in-Some.answer) _ _ _ (c.last_instruction-last-in-Some.ensures.last
+    (returned_some (names_at c.args.here.now) _ _ _ (view.expression c.in-Some.answer) _ _ _ (c.last_instruction-last-in-Some.ensures.last
     ∙ ap (λ m. last_instruction m true) c.is_main-is_main.ensures) c.in_ok-value-in-Some.ensures c.in_ok-put-in-Some.ensures)

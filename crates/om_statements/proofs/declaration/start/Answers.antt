@@ -1,5 +1,5 @@
 use Rattle.om_emit.specs.Writing.{goes_end}
-use Rattle.om_resolved.specs.ResolvedView.{view_resolved_expression}
+use Rattle.om_resolved.specs.ResolvedView as view
 use Rattle.om_rows.specs.Expressions.{effect}
 use Rattle.om_rows.specs.Rows.{end}
 use Rattle.om_statements.specs.Scoping.{stand_plain}
@@ -12,5 +12,5 @@ returns-in-Nothing-clause-scopes c = rw c.in-Nothing.is (stand_plain (names_at c
 
 pub returns-in_ok-effect-in-Expression-clause-scopes : goal.returns-in_ok-effect-in-Expression-clause-scopes
 returns-in_ok-effect-in-Expression-clause-scopes c = rw c.in-Expression.is (stand_plain (names_at c.args.here.now)
-    (λ at. effect at c.args.here.now.at.line (view_resolved_expression c.in-Expression.expression)) _ _ _
+    (λ at. effect at c.args.here.now.at.line (view.expression c.in-Expression.expression)) _ _ _
     c.in_ok-effect-in-Expression.ensures.writes)

@@ -1,6 +1,6 @@
 use Rattle.std.proofs.lemmas.Result.{on_ok_weaker}
 use Rattle.om_emit.specs.Emits.{names_at}
-use Rattle.om_resolved.specs.ResolvedView.{view_resolved_expression}
+use Rattle.om_resolved.specs.ResolvedView as view
 use Rattle.om_statements.proofs.Effects.{emits_popped}
 use Rattle.om_statements.proofs.unused.popped.Goals as goal
 
@@ -8,5 +8,5 @@ pub returns : goal.returns
 returns c =
     on_ok_weaker c.put.result
     (λ h. emits_popped (names_at c.args.here.now) c.args.here.now.at.line
-    (view_resolved_expression c.args.e.now) _ _ _ c.in_ok-value.ensures h)
+    (view.expression c.args.e.now) _ _ _ c.in_ok-value.ensures h)
     c.put.ensures

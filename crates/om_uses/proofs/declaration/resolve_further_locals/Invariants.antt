@@ -1,6 +1,6 @@
 use Rattle.std.proofs.Common.{◌≡◌, map, drop}
 use Rattle.om_tree.specs.View.{view_expression, view_further}
-use Rattle.om_resolved.specs.ResolvedView.{view_resolved_declarator}
+use Rattle.om_resolved.specs.ResolvedView as view
 use Rattle.om_rules.specs.Scopes.{after_local, behind_commas}
 use Rattle.om_rules.specs.StatementResolution.{resolved_declarators}
 use Rattle.om_rules.specs.StatementRules.{local_breaches}
@@ -11,8 +11,8 @@ abbrev pub invariant-loop-further : goal.invariant-loop-further
 invariant-loop-further l =
     let all = behind_commas (map (view_further view_expression) l.rest) in
     let left = behind_commas (map (view_further view_expression) (drop l.further-index l.rest)) in
-    let before = map view_resolved_declarator l.fn.declared.items in
-    let now = map view_resolved_declarator l.declared.items in
+    let before = map view.declarator l.fn.declared.items in
+    let now = map view.declarator l.declared.items in
     record {
       rules : Unbroken local_breaches after_local l.fn.symbols all l.symbols left;
       resolved : made_and before (resolved_declarators l.fn.symbols all)

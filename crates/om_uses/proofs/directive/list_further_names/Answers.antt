@@ -2,7 +2,7 @@ use Rattle.std.proofs.Common.{◌+◌, map, drop, ap, sym, refl, ◌∙◌}
 use Rattle.std.proofs.lemmas.Result.{err_from_is_err_and}
 use Rattle.om_rules.specs.DirectiveRules.{after_name, listed_breaches, sharing_of}
 use Rattle.om_rules.specs.Perhaps.{each}
-use Rattle.om_resolved.specs.ResolvedView.{view_resolved_clause}
+use Rattle.om_resolved.specs.ResolvedView as view
 use Rattle.om_rules.specs.StatementResolution.{resolved_listed}
 use Rattle.om_rules.specs.InRow.{each-step, made_and, unbroken-refuse, unbroken-step}
 use Rattle.om_uses.proofs.Items.{drop-item, map-push}
@@ -19,7 +19,7 @@ returns-in_err-add-clause-checked c =
     let left = rw here at c.loop-further.invariant.rules in
     rw (p.1, p.2) (unbroken-refuse (listed_breaches c.args.listing.now.symbols.now
     (sharing_of c.args.listing.now.kind)) (after_name (sharing_of c.args.listing.now.kind)) left
-    (c.in_err-add.ensures.checked _ c.list_name-found.ensures.checked))
+    (c.in_err-add.ensures.checked _ c.list_name-found.ensures.found.checked))
 
 pub loop-further-preserved : goal.loop-further-preserved
 loop-further-preserved c =
@@ -28,20 +28,20 @@ loop-further-preserved c =
     let made = c.loop-further.clauses.items in
     let added = c.in_ok-add.ensures.added in
     let clause = added.0 in
-    let checked = rw added.1 at c.list_name-found.ensures.checked in
+    let checked = rw added.1 at c.list_name-found.ensures.found.checked in
     let behind = rw added.1 at c.list_name-found.ensures.listed in
-    let found = rw added.1 at c.list_name-found.ensures.resolved in
+    let found = rw added.1 at c.list_name-found.ensures.found.resolved in
     let here = ap (map (λ further. further.1)) (drop-item c.args.rest.now c.loop-further.further-index
     c.further-item.result c.loop-further-test.true c.further-item.is) in
-    let pushed = ap (map view_resolved_clause) added.2 ∙ map-push view_resolved_clause made clause in
+    let pushed = ap (map view.clause) added.2 ∙ map-push view.clause made clause in
     record {
       rules = rw behind (unbroken-step (listed_breaches c.args.listing.now.symbols.now
           (sharing_of c.args.listing.now.kind)) (after_name (sharing_of c.args.listing.now.kind))
           (rw here at c.loop-further.invariant.rules) checked);
       resolved =
           (rw here at c.loop-further.invariant.resolved)
-          ∙ each-step part c.further-item.result.1 rest (map view_resolved_clause made)
-          (view_resolved_clause clause) found
+          ∙ each-step part c.further-item.result.1 rest (map view.clause made)
+          (view.clause clause) found
           ∙ ap (λ grown. made_and grown (each part rest)) (sym pushed);
     }
 

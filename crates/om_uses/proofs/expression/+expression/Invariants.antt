@@ -1,7 +1,7 @@
 use Rattle.std.proofs.Common.{◌≡◌, ◌≤◌, map, drop}
 use Rattle.om_tree.specs.Tree.{arguments}
 use Rattle.om_rules.specs.ExpressionRules.{arguments_breaches, printed_breaches}
-use Rattle.om_resolved.specs.ResolvedView.{view_resolved_expression}
+use Rattle.om_resolved.specs.ResolvedView as view
 use Rattle.om_uses.specs.Views.{view_argument}
 use Rattle.om_uses.proofs.Arguments.{ArePrinted, IsMade}
 use Rattle.om_uses.proofs.expression.+expression.Given as goal
@@ -11,7 +11,7 @@ abbrev pub invariant-resolve_values-loop-argument : goal.invariant-resolve_value
 invariant-resolve_values-loop-argument l =
     (arguments_breaches l.symbols (arguments (map view_argument l.values)) ≡ arguments_breaches l.symbols
     (arguments (map view_argument (drop l.argument-index l.values))))
-    × IsMade l.symbols (arguments (map view_argument l.values)) (map view_resolved_expression l.resolved.items)
+    × IsMade l.symbols (arguments (map view_argument l.values)) (map view.expression l.resolved.items)
     (arguments (map view_argument (drop l.argument-index l.values)))
 
 abbrev pub invariant-resolve_printed-loop-argument : goal.invariant-resolve_printed-loop-argument
@@ -19,5 +19,5 @@ invariant-resolve_printed-loop-argument l =
     (printed_breaches l.symbols 0 (arguments (map view_argument l.values)) ≡ printed_breaches l.symbols l.place
     (arguments (map view_argument (drop l.argument-index l.values))))
     × ArePrinted l.symbols (arguments (map view_argument l.values)) l.place
-    (map view_resolved_expression l.resolved.items) (arguments (map view_argument (drop l.argument-index l.values)))
+    (map view.expression l.resolved.items) (arguments (map view_argument (drop l.argument-index l.values)))
     × (l.place ≤ l.argument-index)

@@ -1,6 +1,6 @@
 use Rattle.std.proofs.Common.{ap, map, ◌∙◌}
 use Rattle.std.specs.Option.{unwrap_or}
-use Rattle.om_resolved.specs.ResolvedView.{view_resolved_function}
+use Rattle.om_resolved.specs.ResolvedView as view
 use Rattle.om_rows.proofs.Called.{called_in}
 use Rattle.om_rows.proofs.body.BodyTables.called_body.Goals as goal
 
@@ -9,5 +9,5 @@ returns c =
     let tables = c.args.self.now in
     c.unwrap_or.ensures
     ∙ ap (λ found. unwrap_or found tables.program.now.behind.bodies) c.number_at-number.ensures
-    ∙ called_in (map view_resolved_function tables.functions.now) c.args.function c.as_slice.result.now
+    ∙ called_in (map view.function tables.functions.now) c.args.function c.as_slice.result.now
     tables.program.now.behind.bodies (c.as_slice.ensures.value ∙ tables.numbered) tables.behind
