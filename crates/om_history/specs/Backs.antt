@@ -1,5 +1,5 @@
--- For proofs: what takes the updates of a step back, as its record keeps it. That is one list, or parts that go
--- along with those of its accesses, where cells of slots were named at once.
+-- For proofs: what takes the updates of a step back, as its record keeps it. That is what one cell held, one list,
+-- or parts that go along with those of its accesses, where cells of slots were named at once.
 use Rattle.std.specs.Prelude.{◌≡◌, Bool, true, false, ◌&&◌, nat_eq, List, [], ◌∷◌, ◌++◌, length}
 use Rattle.om_foot.specs.declared.cells.Cells.{Cells}
 use Rattle.om_values.specs.declared.runs.Run.{Run}
@@ -48,7 +48,7 @@ GoAlong f (backs.Cell v) = (f.cells ≡ []) × (f.last ≡ [])
 GoAlong f (backs.Plain us) = (f.cells ≡ []) × (f.last ≡ [])
 GoAlong f (backs.Parts p) = (length f.first ≡ length p.value.first.items) × WereAlong f.cells p.value.cells.items
 
--- and so do those of updates that are wanted, which no record keeps yet
+-- and so do those of updates that are wanted. What one cell held is of a step that is made, so it is never there
 abbrev pub CanGoAlong : Parts → Backs → List Run → Type 0
 CanGoAlong f (backs.Cell v) rs = ⊥
 CanGoAlong f (backs.Plain us) rs = (f.cells ≡ []) × (f.last ≡ [])

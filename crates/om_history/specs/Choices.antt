@@ -1,4 +1,4 @@
--- Choices as records keep them.
+-- Choices as a planned step keeps them.
 use Rattle.std.specs.Prelude.{List, ℕ, Option, None, Some}
 use Rattle.std.specs.Global.{Box}
 use Rattle.om_values.specs.declared.step.Choice.{Choice}

@@ -1,4 +1,4 @@
--- Entries as records keep them.
+-- For proofs: entries as records keep them.
 use Rattle.om_values.specs.declared.step.Entry.{Entry}
 use Rattle.om_values.specs.declared.step.Choice.TheVariants.{Next, Start}
 use Rattle.om_history.specs.declared.kept.EntryForms.{EntryForms}

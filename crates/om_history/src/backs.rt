@@ -22,7 +22,7 @@ pub(crate) struct BackParts {
 /// at once.
 #[derive(Drop)]
 pub(crate) enum Backs {
-    /// What the one cell held that a step put: it takes no memory.
+    /// What the one cell that a step put held before. It takes no memory.
     Cell(Cell),
     Plain(Vec<Update>),
     Parts(Box<BackParts>),
@@ -39,21 +39,14 @@ fn only_cell(updates: &[Update]) -> Option<Cell>
     others.is_empty().then_some(*cell)
 }
 
-// The same updates, with no room for others.
-fn shrunk(mut updates: Vec<Update>) -> Vec<Update>
-    ensures { result.items ≡ updates.items }
-{
-    updates.shrink_to_fit();
-    updates
-}
-
 impl Backs {
-    /// The same, without memory where that is what one cell held.
+    /// The same, as a record keeps it: what one cell held in place, other single updates with no room for
+    /// more.
     pub(crate) fn in_place(self) -> Backs
         ensures same { back_in result ≡ back_in self }
         ensures along { (parts : Parts) → GoAlong parts self → GoAlong parts result }
     {
-        let Backs::Plain(updates) = self else {
+        let Backs::Plain(mut updates) = self else {
             return self;
         };
         match only_cell(&updates) {
@@ -61,7 +54,10 @@ impl Backs {
                 drop(updates);
                 Backs::Cell(cell)
             }
-            None => Backs::Plain(shrunk(updates)),
+            None => {
+                updates.shrink_to_fit();
+                Backs::Plain(updates)
+            }
         }
     }
 }

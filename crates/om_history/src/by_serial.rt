@@ -26,7 +26,7 @@ pub(crate) struct Row {
 #[derive(Drop)]
 pub(crate) struct BySerial {
     rows: Vec<Row>,
-    // Whether a row may be without a record. It only says when it is worth a look at all of them.
+    // Whether a row may be without a record. It only says when all rows are worth a look.
     has_gaps: bool,
 }
 
@@ -110,8 +110,7 @@ fn close_gaps(rows: &mut Vec<Row>, has_gaps: bool)
 
 // Makes room for one more row. Where there is none, all rows without a record go, if there may be any,
 // and then room is asked for until half of it is free. So a row that comes costs amortized constant time,
-// as long as memory is given. When out of memory, the records are the same, and the next call may pass
-// over all rows again.
+// as long as memory is given. When out of memory, the records are the same.
 fn make_room(rows: &mut Vec<Row>, has_gaps: &mut bool) -> Result<(), AllocError>
     requires rising { AreRising 0 rows.old.items }
     requires last { LastStands rows.old.items }
@@ -124,9 +123,8 @@ fn make_room(rows: &mut Vec<Row>, has_gaps: &mut bool) -> Result<(), AllocError>
         return Ok(());
     }
     close_gaps(rows, *has_gaps);
-    rows.reserve(rows.len().max(1))?;
     *has_gaps = false;
-    Ok(())
+    rows.reserve(rows.len().max(1))
 }
 
 impl BySerial {
@@ -195,7 +193,7 @@ impl BySerial {
     {
         let at = place(self.rows.as_slice(), serial)?;
         let kept = self.rows[at].kept.take();
-        self.has_gaps = true;
+        self.has_gaps |= at + 1 < self.rows.len();
         drop_gone(&mut self.rows);
         kept
     }

@@ -1,4 +1,4 @@
-//! Choices as records keep them: few start a task, so its name lies apart.
+//! Choices as a planned step keeps them: few start a task, so its name lies apart.
 
 ghost use Rattle.std.specs.Prelude.{◌≡◌, IfOk};
 ghost use Rattle.om_history.specs.Choices.{choice_of};
@@ -15,14 +15,4 @@ pub fn start_of(alloc: Global, choice: &Choice) -> Result<Option<Box<Name>>, All
         return Ok(None);
     };
     Ok(Some(Box::new(alloc, *name)?))
-}
-
-/// The choice that starts the task of this name, if there is one.
-pub fn choice_of(start: &Option<Box<Name>>) -> Choice
-    ensures { result ≡ choice_of start.now }
-{
-    match start {
-        Some(name) => Choice::Start(**name),
-        None => Choice::Next,
-    }
 }

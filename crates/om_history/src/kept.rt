@@ -9,6 +9,7 @@ use om_foot::Name;
 use om_touches::Accesses;
 use om_values::Choice;
 use std::marker::Model;
+use std::mem::size_of;
 
 // An entry, with the name of the task that its choice starts, if it does. The small numbers stand side by
 // side in each form: so it takes 24 bytes.
@@ -45,9 +46,11 @@ impl Model for SmallEntry {
 }
 
 impl SmallEntry {
-    /// The entry of a worker's step, by a choice that is kept.
+    /// The entry of a worker's step at a line. `start` is the name of the task that its choice starts, if it
+    /// does.
     pub(crate) fn of(worker: u8, line: u32, serial: u64, start: Option<Box<Name>>) -> SmallEntry
-        ensures { result ≡ record { serial = serial; worker = worker; choice = choice_of start; line = line } }
+        ensures { let choice = choice_of start in
+            result ≡ record { serial = serial; worker = worker; choice = choice; line = line } }
     {
         let forms = match start {
             None => EntryForms::Next {
@@ -65,16 +68,6 @@ impl SmallEntry {
         SmallEntry { forms }
     }
 
-    // Its serial.
-    fn serial(&self) -> u64
-        ensures { result ≡ self.now.serial }
-    {
-        match &self.forms {
-            EntryForms::Next { serial, .. } => *serial,
-            EntryForms::Start { serial, .. } => *serial,
-        }
-    }
-
     /// Its worker.
     pub(crate) fn worker(&self) -> u8
         ensures { result ≡ self.now.worker }
@@ -84,50 +77,20 @@ impl SmallEntry {
             EntryForms::Start { worker, .. } => *worker,
         }
     }
-
-    // Its choice.
-    fn choice(&self) -> Choice
-        ensures { result ≡ self.now.choice }
-    {
-        match &self.forms {
-            EntryForms::Next { .. } => Choice::Next,
-            EntryForms::Start { task, .. } => Choice::Start(**task),
-        }
-    }
-
-    // Its line.
-    fn line(&self) -> u32
-        ensures { result ≡ self.now.line }
-    {
-        match &self.forms {
-            EntryForms::Next { line, .. } => *line,
-            EntryForms::Start { line, .. } => *line,
-        }
-    }
 }
+
+// There is one for each entry of a record.
+const _: () = prove!(size_of::<SmallEntry>() <= 24);
 
 /// An undo record. It shares the accesses of its footprint with other records, so that each access takes 8
 /// bytes. What takes updates back goes along with the footprint, part by part.
 ///
 /// Contracts see the record alone.
+#[derive(Drop)]
 pub struct Kept {
     entry: SmallEntry,
     footprint: Accesses,
     back: Backs,
-}
-
-// By hand: other crates call this, and do not prove anew how each part is dropped.
-impl Drop for Kept {
-    fn drop(self) {
-        let Kept {
-            entry,
-            footprint,
-            back,
-        } = self;
-        drop(entry);
-        drop(footprint);
-        drop(back);
-    }
 }
 
 impl Model for Kept {
@@ -162,7 +125,10 @@ impl Kept {
     pub fn serial(&self) -> u64
         ensures { result ≡ self.now.entry.serial }
     {
-        self.entry.serial()
+        match &self.entry.forms {
+            EntryForms::Next { serial, .. } => *serial,
+            EntryForms::Start { serial, .. } => *serial,
+        }
     }
 
     /// The worker of its entry.
@@ -176,14 +142,20 @@ impl Kept {
     pub fn choice(&self) -> Choice
         ensures { result ≡ self.now.entry.choice }
     {
-        self.entry.choice()
+        match &self.entry.forms {
+            EntryForms::Next { .. } => Choice::Next,
+            EntryForms::Start { task, .. } => Choice::Start(**task),
+        }
     }
 
     /// The line of its entry.
     pub fn line(&self) -> u32
         ensures { result ≡ self.now.entry.line }
     {
-        self.entry.line()
+        match &self.entry.forms {
+            EntryForms::Next { line, .. } => *line,
+            EntryForms::Start { line, .. } => *line,
+        }
     }
 
     /// Its footprint.

@@ -56,27 +56,8 @@ fn are_along(all: &[Cells], runs: &[Run]) -> bool
     cells.count == run.count && are_along(others, behind)
 }
 
-// The accesses of these objects behind the write of a worker's control. Each is kept. No value changes, also
-// when out of memory.
-fn many(
-    store: &mut Store,
-    alloc: Global,
-    worker: u8,
-    others: &[Access],
-) -> Result<Accesses, AllocError>
-    ensures footprint { IfOk result (λ f. accesses_of f ≡ control_write worker ∷ others.now) }
-    ensures single { IfOk result (λ f. (f.cells ≡ []) × (f.last ≡ [])) }
-    ensures same { state_of store.new ≡ state_of store.old }
-    ensures same_pasts { pasts_of store.new ≡ pasts_of store.old }
-    ensures kept { OnOk result (All (λ a. is_kept store.new a.object ≡ true) others.now) }
-    ensures others_kept { (q : Obj) → is_kept store.old q ≡ true → is_kept store.new q ≡ true }
-{
-    let mut shared = Vec::with_capacity(alloc, others.len())?;
-    keep_each(store, alloc, &mut shared, others)?;
-    Accesses::of_parts(alloc, worker, shared, Seq::new(alloc), Vec::new(alloc))
-}
-
-// As `many`, without memory of its own where there is no object, or one.
+// The accesses of these objects behind the write of a worker's control. Each is kept. Where there is none, or
+// one, they take no memory of their own. No value changes, also when out of memory.
 fn singles(
     store: &mut Store,
     alloc: Global,
@@ -93,11 +74,13 @@ fn singles(
     let Some((access, further)) = others.split_first() else {
         return Ok(Accesses::control_alone(worker));
     };
-    if !further.is_empty() {
-        return many(store, alloc, worker, others);
+    if further.is_empty() {
+        let shared = store.keep(alloc, access)?;
+        return Ok(Accesses::one(worker, shared));
     }
-    let shared = store.keep(alloc, access)?;
-    Ok(Accesses::one(worker, shared))
+    let mut shared = Vec::with_capacity(alloc, others.len())?;
+    keep_each(store, alloc, &mut shared, others)?;
+    Accesses::of_parts(alloc, worker, shared, Seq::new(alloc), Vec::new(alloc))
 }
 
 // A step of single updates, whose worker's control is kept. No value changes, also when out of memory.
@@ -162,12 +145,12 @@ fn in_parts(
         let updates = rejoined(alloc, puts)?;
         return plain(store, alloc, worker, all.as_slice(), updates);
     }
-    let mut singles = Vec::with_capacity(alloc, first.len())?;
-    keep_each(store, alloc, &mut singles, first)?;
+    let mut in_front = Vec::with_capacity(alloc, first.len())?;
+    keep_each(store, alloc, &mut in_front, first)?;
     let cells = keep_cells(store, alloc, cells)?;
     let mut behind = Vec::with_capacity(alloc, last.len())?;
     keep_each(store, alloc, &mut behind, last)?;
-    let footprint = Accesses::of_parts(alloc, worker, singles, cells, behind)?;
+    let footprint = Accesses::of_parts(alloc, worker, in_front, cells, behind)?;
     let PutParts { first, runs, last } = puts;
     let parts = BackParts {
         first,

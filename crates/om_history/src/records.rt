@@ -43,20 +43,11 @@ pub struct UndoRecord {
 /// first entry that conflicts with one, and each worker's last one.
 ///
 /// Contracts see the records, in the order of their serials, which rise.
+#[derive(Drop)]
 pub struct Records {
     kept: BySerial,
     lists: TouchLists,
     own: OwnEntries,
-}
-
-// By hand: other crates call this, and do not prove anew how each part is dropped.
-impl Drop for Records {
-    fn drop(self) {
-        let Records { kept, lists, own } = self;
-        drop(kept);
-        drop(lists);
-        drop(own);
-    }
 }
 
 impl Model for Records {
@@ -231,17 +222,6 @@ fn is_member(members: &TouchLists, made: &Kept, serial: u64) -> bool
     made.serial() == serial || meets(members, made)
 }
 
-// What names the entry of a record.
-fn name(made: &Kept) -> Taken
-    ensures { result ≡ taken_of (transition_of made.now) }
-{
-    Taken {
-        serial: made.serial(),
-        worker: made.worker(),
-        line: made.line(),
-    }
-}
-
 // What names the members of the cone of the entry with a serial, in their order: a later entry is
 // one where it conflicts with the touches of the members so far. There is none where no entry has
 // that serial.
@@ -257,8 +237,13 @@ fn members(alloc: Global, kept: &BySerial, serial: u64) -> Result<Vec<Taken>, Al
             continue;
         };
         if is_member(&members, candidate, serial) {
-            members.add_each(alloc, candidate.footprint(), candidate.serial())?;
-            names.push(name(candidate))?;
+            let serial = candidate.serial();
+            members.add_each(alloc, candidate.footprint(), serial)?;
+            names.push(Taken {
+                serial,
+                worker: candidate.worker(),
+                line: candidate.line(),
+            })?;
         }
     }
     Ok(names)

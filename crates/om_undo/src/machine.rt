@@ -22,7 +22,7 @@ ghost use Rattle.om_undo.specs.ReadyNames.{ready_names};
 use crate::laws::{headline, shaped_rules, steady_rules};
 use om_code::Program;
 use om_foot::{Name, Obj};
-use om_history::choice::{choice_of, start_of};
+use om_history::choice::start_of;
 use om_history::{History, RollReply, StepReply, Taken, UndoReply};
 use om_live::Control;
 use om_task::laws::low_counters;
@@ -93,6 +93,16 @@ impl Model for PlannedStep {
     ghost view = { λ p. record { machine = p.at.value; label = label_by p.worker p.start } };
 
     ghost invariant = { λ p. IsPlanAt p.at.value (label_by p.worker p.start) p.plan };
+}
+
+// The choice that starts the task of this name, if there is one.
+fn choice_of(start: &Option<Box<Name>>) -> Choice
+    ensures { result ≡ choice_of start.now }
+{
+    match start {
+        Some(name) => Choice::Start(**name),
+        None => Choice::Next,
+    }
 }
 
 impl PlannedStep {

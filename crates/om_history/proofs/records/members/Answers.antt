@@ -34,12 +34,16 @@ loop-row-preserved c =
     elim c.if-is_member.branch [
       | then-is_member+in_ok-add_each+in_ok-push w ↦
           let added : AreWith k.footprint k.entry.serial c.loop-row.members w.add_each.new.self =
-          subst (λ n. AreWith k.footprint n c.loop-row.members w.add_each.new.self) w.serial.ensures
-          (subst (λ xs. AreWith xs w.serial.result c.loop-row.members w.add_each.new.self) w.footprint.ensures
+          subst (λ n. AreWith k.footprint n c.loop-row.members w.add_each.new.self) w.serial-serial.ensures
+          (subst (λ xs. AreWith xs w.serial-serial.result c.loop-row.members w.add_each.new.self) w.footprint.ensures
           w.in_ok-add_each.ensures.added) in
           subst (λ v. MembersTo c.args.serial all rest v.items c.if-is_member.members) (sym w.names-is)
           (subst (λ ns. MembersTo c.args.serial all rest ns c.if-is_member.members)
-          (sym (w.in_ok-push.ensures.items ∙ ap (λ n. c.loop-row.names.items ++ n ∷ []) w.name.ensures))
+          (sym (w.in_ok-push.ensures.items ∙ ap (λ n. c.loop-row.names.items ++ n ∷ []) (λ j. record {
+            serial = w.serial-serial.ensures j;
+            worker = w.worker.ensures j;
+            line = w.line.ensures j;
+          })))
           (subst (λ m. MembersTo c.args.serial all rest (c.loop-row.names.items ++ taken_of (transition_of k) ∷ []) m)
           (sym w.members-is)
           (member_with c.args.serial all left rest k c.loop-row.names.items c.loop-row.members w.add_each.new.self
