@@ -31,7 +31,6 @@ use om_uses::copy_of;
 use std::alloc::{AllocError, Global};
 
 // Whether a directive is `nowait`.
-#[tactic(auto, using(crate::proofs::Clauses::has_clause_viewed))]
 fn has_nowait(directive: &Directive<Expression>) -> bool
     ensures { result ≡ has_nowait (view_directive directive.now) }
 {
@@ -39,7 +38,6 @@ fn has_nowait(directive: &Directive<Expression>) -> bool
 }
 
 // Whether a directive has a `default`.
-#[tactic(auto, using(crate::proofs::Clauses::has_clause_viewed))]
 fn has_default(directive: &Directive<Expression>) -> bool
     ensures { result ≡ has_default (view_directive directive.now) }
 {
@@ -47,7 +45,6 @@ fn has_default(directive: &Directive<Expression>) -> bool
 }
 
 // What an `atomic` does with its variable.
-#[tactic(auto, using(crate::proofs::Clauses::has_clause_viewed))]
 fn atomic_kind(directive: &Directive<Expression>) -> AtomicKind
     ensures { result ≡ atomic_kind (view_directive directive.now) }
 {
@@ -173,7 +170,6 @@ pub(crate) struct Setting {
 }
 
 // What a construct puts round its statement.
-#[tactic(auto, unfolding(om_rules::specs::StatementResolution::construct_of))]
 fn around_of(
     alloc: Global,
     setting: Setting,

@@ -54,7 +54,6 @@ fn enter_listed(
 }
 
 /// Enters a construct that is for a loop, after its clauses and the loop's bounds.
-#[tactic(auto, using(om_rules::specs::InRow::first_of_left))]
 pub fn enter_loop_construct(
     alloc: Global,
     symbols: &mut Symbols,

@@ -87,7 +87,6 @@ fn is_other_main(name: &[u8], signature: Signature) -> bool
 }
 
 // The name and the signature of a function: S8, S9.
-#[tactic(auto, using(om_rules::specs::InRow::first_of_left))]
 fn check_head<N>(symbols: &Symbols, head: &FunctionHead<N>) -> Result<(), SourceFault>
     ensures { ChecksExactly result (head_breaches symbols.now (view_head head.now)) }
 {
@@ -129,7 +128,6 @@ fn declare_parameter_name(
 }
 
 // Declares a parameter of a definition behind so many others: S8, S11.
-#[tactic(auto, using(om_rules::specs::InRow::first_of_left))]
 fn declare_parameter(
     alloc: Global,
     symbols: &mut Symbols,
@@ -174,7 +172,6 @@ fn declare_further_parameters(
 }
 
 // Declares the parameters of a definition.
-#[tactic(auto, using(om_rules::specs::InRow::first_of_left))]
 fn declare_parameters(
     alloc: Global,
     symbols: &mut Symbols,
@@ -193,7 +190,6 @@ fn declare_parameters(
 }
 
 // Declares a parameter of a prototype, if it has a name, behind so many others: S8, S11.
-#[tactic(auto, using(om_rules::specs::InRow::first_of_left))]
 fn declare_optional(
     alloc: Global,
     symbols: &mut Symbols,
@@ -235,7 +231,6 @@ fn declare_further_optionals(
 }
 
 // Declares the parameters of a prototype.
-#[tactic(auto, using(om_rules::specs::InRow::first_of_left))]
 fn declare_optionals(
     alloc: Global,
     symbols: &mut Symbols,
@@ -252,7 +247,6 @@ fn declare_optionals(
 }
 
 /// A function that is declared and not defined.
-#[tactic(auto, using(om_rules::specs::InRow::first_of_left))]
 pub fn check_prototype(
     alloc: Global,
     symbols: &mut Symbols,
@@ -270,7 +264,6 @@ pub fn check_prototype(
 }
 
 // That a definition is not one too many, that of no function before, and keeps the rules of its name.
-#[tactic(auto, using(om_rules::specs::InRow::first_of_left))]
 fn check_definition(symbols: &Symbols, head: &FunctionHead<Name>) -> Result<(), SourceFault>
     ensures { ChecksExactly result (definition_breaches symbols.now (view_head head.now)) }
 {
@@ -297,7 +290,6 @@ fn flow_of(head: &FunctionHead<Name>) -> Flow
 }
 
 // Begins the definition of a function: its name is declared and defined.
-#[tactic(auto, using(om_rules::specs::InRow::first_of_left))]
 fn begin_definition(
     alloc: Global,
     symbols: &mut Symbols,
@@ -313,7 +305,6 @@ fn begin_definition(
 }
 
 // The parameters and the statements of a function, in a scope of their own.
-#[tactic(auto, using(om_rules::specs::InRow::first_of_left))]
 fn resolve_inside(
     alloc: Global,
     symbols: &mut Symbols,
@@ -337,7 +328,6 @@ fn resolve_inside(
 }
 
 /// The definition of a function.
-#[tactic(auto, using(om_rules::specs::InRow::first_of_left), unfolding(om_rules::specs::UnitResolution::resolved_function))]
 pub fn resolve_function(
     alloc: Global,
     symbols: &mut Symbols,

@@ -20,7 +20,6 @@ use om_uses::{boxed, boxed_expression, resolve_locals, unboxed};
 use std::alloc::Global;
 
 /// What a `for` has before its body: what it begins with, its condition and its step.
-#[tactic(auto, using(om_rules::specs::InRow::first_of_left))]
 pub fn resolve_for_head(
     alloc: Global,
     symbols: &mut Symbols,
@@ -57,7 +56,6 @@ fn head_of(
 }
 
 // What a `for` begins with.
-#[tactic(auto, unfolding(om_rules::specs::StatementResolution::resolved_start))]
 fn resolve_for_start(
     alloc: Global,
     symbols: &mut Symbols,
@@ -85,7 +83,6 @@ fn resolve_for_start(
 }
 
 // The condition and the step of a `for`.
-#[tactic(auto, using(om_rules::specs::InRow::first_of_left))]
 fn resolve_for_turn(
     alloc: Global,
     symbols: &Symbols,

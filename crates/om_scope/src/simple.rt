@@ -65,7 +65,6 @@ pub fn resolve_effect(
 }
 
 /// A `return`: S9, S14.
-#[tactic(auto, using(om_rules::specs::InRow::first_of_left))]
 pub fn resolve_return(
     alloc: Global,
     symbols: &Symbols,
@@ -115,7 +114,6 @@ pub fn check_jump(allowed: bool, at: u32) -> Result<(), SourceFault>
 }
 
 /// A directive that stands alone.
-#[tactic(auto, using(om_rules::specs::InRow::first_of_left))]
 pub fn resolve_stand_alone(
     alloc: Global,
     symbols: &Symbols,

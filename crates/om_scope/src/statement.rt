@@ -54,7 +54,7 @@ pub(crate) fn resolve_statements(
 }
 
 // A statement, or a declaration in a block.
-#[tactic(auto, using(om_rules::specs::InRow::first_of_left), unfolding(om_rules::specs::StatementRules::statement_breaches, om_rules::specs::StatementResolution::resolved_statement, om_tree::specs::Formed::IsStatement, om_tree::specs::Sizes::HasForms))]
+#[tactic(auto, unfolding(om_rules::specs::StatementRules::statement_breaches, om_rules::specs::StatementResolution::resolved_statement, om_tree::specs::Formed::IsStatement, om_tree::specs::Sizes::HasForms))]
 #[cycle(statement)]
 fn resolve_statement(
     alloc: Global,
@@ -216,7 +216,6 @@ fn resolve_block(
 }
 
 // A `for`, in a scope of its own.
-#[tactic(auto, using(om_rules::specs::InRow::first_of_left))]
 #[cycle(statement)]
 fn resolve_for(
     alloc: Global,
@@ -263,7 +262,6 @@ fn resolve_construct(
 }
 
 // A construct that is for any statement.
-#[tactic(auto, using(om_rules::specs::InRow::first_of_left))]
 #[cycle(statement)]
 fn resolve_plain_construct(
     alloc: Global,
@@ -292,7 +290,6 @@ fn resolve_plain_construct(
 }
 
 // A worksharing-loop construct, or a `parallel for`: S12.
-#[tactic(auto, using(om_rules::specs::InRow::first_of_left))]
 #[cycle(statement)]
 fn resolve_loop_construct(
     alloc: Global,
@@ -374,7 +371,6 @@ fn resolve_repeated(
 }
 
 // A construct of parts.
-#[tactic(auto, using(om_rules::specs::InRow::first_of_left))]
 #[cycle(statement)]
 fn resolve_sections(
     alloc: Global,
@@ -422,7 +418,6 @@ fn resolve_parts(
 }
 
 // A part of `sections` behind so many of them, which is a block of its own.
-#[tactic(auto, using(om_rules::specs::InRow::first_of_left))]
 #[cycle(statement)]
 fn resolve_part(
     alloc: Global,

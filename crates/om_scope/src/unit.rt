@@ -64,7 +64,6 @@ fn definitions_of(alloc: Global, items: &[Item]) -> Result<Names, AllocError>
 }
 
 // Resolves an item in the scopes behind those before it.
-#[tactic(auto, unfolding(om_rules::specs::UnitResolution::item_functions, om_tree::specs::Formed::IsItem, om_tree::specs::Formed::IsFunction))]
 fn resolve_item(
     alloc: Global,
     symbols: &mut Symbols,
@@ -196,7 +195,6 @@ fn check_main(unit: &Unit) -> Result<(), SourceFault>
 /// - S15 at the end of the source: no function is named `main`.
 ///
 /// A tree that the parser made of the lexer's tokens never meets S10; no clause says it.
-#[tactic(auto, using(om_rules::specs::InRow::first_of_left), unfolding(om_rules::specs::Breaches::breaches_of, om_rules::specs::UnitResolution::resolution_of))]
 pub fn resolve(alloc: Global, unit: Unit) -> Result<Resolved, SourceFault>
     requires formed { IsUnit (view_unit unit) }
     requires atomics_have_forms { AtomicsHaveForms (view_unit unit) }

@@ -19,7 +19,6 @@ use om_tree::Name;
 use std::alloc::{AllocError, Global};
 
 // The variable of a loop that does not declare it: S7, S9.
-#[tactic(auto, using(om_rules::specs::InRow::first_of_left))]
 fn check_variable(symbols: &Symbols, name: &Name) -> Result<(), SourceFault>
     ensures { ChecksExactly result (variable_breaches symbols.now name.now) }
 {
@@ -29,7 +28,6 @@ fn check_variable(symbols: &Symbols, name: &Name) -> Result<(), SourceFault>
 }
 
 // The first value and the bound of a loop's variable.
-#[tactic(auto, using(om_rules::specs::InRow::first_of_left))]
 fn resolve_values(
     alloc: Global,
     symbols: &Symbols,
@@ -53,7 +51,6 @@ pub fn enter_loop(alloc: Global, symbols: &mut Symbols, found: &Loop<'_>) -> Res
 }
 
 // The bounds of a loop: S7, S9, S13.
-#[tactic(auto, using(om_rules::specs::InRow::first_of_left))]
 fn resolve_bounds(
     alloc: Global,
     symbols: &mut Symbols,
@@ -79,7 +76,6 @@ fn resolve_bounds(
 ///
 /// Refusals: S7 and S9 at a variable that the loop does not declare, those of the bounds' expressions,
 /// and S0 out of memory.
-#[tactic(auto, unfolding(om_rules::specs::StatementResolution::resolved_loop))]
 pub fn resolve_loop(
     alloc: Global,
     symbols: &mut Symbols,

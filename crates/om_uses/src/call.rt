@@ -24,7 +24,6 @@ pub fn argument_count(values: &[Argument]) -> usize
 }
 
 /// The format of a `printf`: S9.
-#[tactic(auto, using(om_rules::specs::InRow::first_of_left))]
 pub fn resolve_format(
     alloc: Global,
     for_value: bool,

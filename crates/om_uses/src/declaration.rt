@@ -111,7 +111,6 @@ fn resolve_initializer(
 }
 
 // Declares the name of a local variable: S8, S9.
-#[tactic(auto, using(om_rules::specs::InRow::first_of_left))]
 fn declare_name(
     alloc: Global,
     symbols: &mut Symbols,
@@ -129,7 +128,6 @@ fn declare_name(
 }
 
 // Declares one local variable.
-#[tactic(auto, using(om_rules::specs::InRow::first_of_left), unfolding(om_rules::specs::StatementRules::local_breaches, om_rules::specs::StatementResolution::resolved_declarator))]
 fn resolve_declarator(
     alloc: Global,
     symbols: &mut Symbols,
@@ -188,7 +186,6 @@ fn resolve_further_locals(
 }
 
 // Declares the variables of a declaration in a function.
-#[tactic(auto, using(om_rules::specs::InRow::first_of_left))]
 fn add_locals(
     alloc: Global,
     symbols: &mut Symbols,

@@ -72,7 +72,6 @@ fn variable_in(meaning: Option<Meaning>) -> Option<Variable>
 }
 
 // The variable of a name in the list of a clause: S7, S9, S13.
-#[tactic(auto, using(om_rules::specs::InRow::first_of_left))]
 fn resolve_listed(
     symbols: &Symbols,
     sharing: DataSharing,
@@ -138,7 +137,6 @@ struct Listing<'a> {
 }
 
 // Takes a name in the list of a clause.
-#[tactic(auto, using(om_rules::specs::InRow::first_of_left))]
 fn list_name(
     listing: &Listing<'_>,
     listed: &mut Listed,
@@ -177,7 +175,6 @@ fn list_further_names(
 }
 
 // Takes the names of a list.
-#[tactic(auto, using(om_rules::specs::InRow::first_of_left))]
 fn list_names(
     listing: &Listing<'_>,
     listed: &mut Listed,
@@ -208,7 +205,6 @@ fn kind_of(sharing: DataSharing) -> Option<CopyKind>
 }
 
 // Takes a clause.
-#[tactic(auto, unfolding(om_rules::specs::DirectiveRules::clause_breaches, om_rules::specs::DirectiveRules::after_clause, om_rules::specs::StatementResolution::resolved_clause))]
 fn resolve_clause(
     alloc: Global,
     symbols: &Symbols,
@@ -285,7 +281,6 @@ fn resolve_clauses(
 /// Refusals: S14 at the word of a worksharing construct or a barrier that may not stand there (OpenMP
 /// API 5.2, section 17.1); S7, S9 and S13 at a listed name; those of a clause's expression; S0 out of
 /// memory. Nothing is declared.
-#[tactic(auto, using(om_rules::specs::InRow::first_of_left))]
 pub fn resolve_directive(
     alloc: Global,
     symbols: &Symbols,

@@ -24,7 +24,7 @@ use om_tree::{Argument, AssignOperator, Expression, Name, Number, PrefixOperator
 use std::alloc::Global;
 
 /// An expression, whose value is used or not.
-#[tactic(auto, using(om_rules::specs::InRow::first_of_left), unfolding(om_rules::specs::ExpressionRules::expression_breaches, om_rules::specs::Resolution::resolved_expression))]
+#[tactic(auto, unfolding(om_rules::specs::ExpressionRules::expression_breaches, om_rules::specs::Resolution::resolved_expression))]
 #[cycle(expression)]
 pub fn resolve_expression(
     alloc: Global,
@@ -202,7 +202,7 @@ fn resolve_unary(
 }
 
 // What is assigned to.
-#[tactic(auto, using(om_rules::specs::InRow::first_of_left), unfolding(om_rules::specs::ExpressionRules::target_breaches, om_rules::specs::Resolution::resolved_target))]
+#[tactic(auto, unfolding(om_rules::specs::ExpressionRules::target_breaches, om_rules::specs::Resolution::resolved_target))]
 #[cycle(expression)]
 fn resolve_target(
     alloc: Global,
@@ -231,7 +231,6 @@ fn resolve_target(
 }
 
 // An element of an array: the array and the index.
-#[tactic(auto, using(om_rules::specs::InRow::first_of_left))]
 #[cycle(expression)]
 fn resolve_element(
     alloc: Global,
@@ -269,7 +268,6 @@ fn resolve_call(
 }
 
 // A call of `printf`: S9, S11.
-#[tactic(auto, using(om_rules::specs::InRow::first_of_left))]
 #[cycle(expression)]
 fn resolve_print(
     alloc: Global,
@@ -291,7 +289,7 @@ fn resolve_print(
 }
 
 // The arguments of a `printf`, of which the first is its format: the values behind it.
-#[tactic(auto, using(om_rules::specs::InRow::first_of_left, crate::proofs::Arguments::printed_begin, crate::proofs::Arguments::printed_format), unfolding(om_rules::specs::ExpressionRules::printed_breaches))]
+#[tactic(auto, using(crate::proofs::Arguments::printed_begin, crate::proofs::Arguments::printed_format), unfolding(om_rules::specs::ExpressionRules::printed_breaches))]
 #[cycle(expression)]
 fn resolve_printed(
     alloc: Global,
@@ -335,7 +333,6 @@ fn resolve_argument(
 }
 
 // A call of another function than `printf`.
-#[tactic(auto, using(om_rules::specs::InRow::first_of_left))]
 #[cycle(expression)]
 fn resolve_own_call(
     alloc: Global,
@@ -354,7 +351,7 @@ fn resolve_own_call(
 }
 
 // The values of a call.
-#[tactic(auto, using(om_rules::specs::InRow::first_of_left, crate::proofs::Arguments::made_none, crate::proofs::Arguments::made_all), unfolding(om_rules::specs::ExpressionRules::arguments_breaches))]
+#[tactic(auto, using(crate::proofs::Arguments::made_none, crate::proofs::Arguments::made_all), unfolding(om_rules::specs::ExpressionRules::arguments_breaches))]
 #[cycle(expression)]
 fn resolve_values(
     alloc: Global,

@@ -35,7 +35,6 @@ fn fault_among(fault: Option<SourceFault>, further: SourceFault) -> SourceFault
 
 /// What is answered of a part whose check answered `checked`, where a further rule of it is broken
 /// or not.
-#[tactic(auto, using(crate::proofs::Firsts::among_refuses))]
 pub fn refuse_among(
     checked: Result<ResolvedExpression, SourceFault>,
     broken: bool,

@@ -46,7 +46,6 @@ fn initial_of(initializer: &Option<Initializer<SignedNumber>>) -> Result<i32, So
 }
 
 // That a name may be that of a further global: S8, S9, S11.
-#[tactic(auto, using(om_rules::specs::InRow::first_of_left))]
 fn check_global_name(
     symbols: &Symbols,
     declarator: &Declarator<SignedNumber>,
@@ -68,7 +67,6 @@ fn check_global_name(
 }
 
 // Declares the name of a global: S8, S9, S11.
-#[tactic(auto, using(om_rules::specs::InRow::first_of_left))]
 fn declare_global_name(
     alloc: Global,
     symbols: &mut Symbols,
@@ -105,7 +103,6 @@ fn add_global(
 }
 
 // Declares one global.
-#[tactic(auto, using(om_rules::specs::InRow::first_of_left))]
 fn declare_global(
     alloc: Global,
     symbols: &mut Symbols,
@@ -142,7 +139,6 @@ fn declare_further_globals(
 ///
 /// Refusals: S8 at a name that is declared already; S9 at `main` or an array without cells; S11 at the
 /// first that has cells too many; S10 at an initializer; S0 out of memory.
-#[tactic(auto, using(om_rules::specs::InRow::first_of_left))]
 pub fn declare_globals(
     alloc: Global,
     symbols: &mut Symbols,

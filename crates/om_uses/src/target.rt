@@ -28,7 +28,6 @@ pub fn misplaced(symbols: &Symbols, expression: &Expression) -> SourceFault
 }
 
 // The name that an expression begins with: S7.
-#[tactic(auto, unfolding(om_rules::specs::ExpressionRules::leading_breaches))]
 fn check_leading(symbols: &Symbols, expression: &Expression) -> Result<(), SourceFault>
     ensures { ChecksExactly result (leading_breaches symbols.now (view_expression expression.now)) }
 {
@@ -45,7 +44,6 @@ fn check_leading(symbols: &Symbols, expression: &Expression) -> Result<(), Sourc
 }
 
 /// Whether an expression is a name or an element, in parentheses or not.
-#[tactic(auto, unfolding(om_rules::specs::ExpressionRules::is_target))]
 pub fn is_target(expression: &Expression) -> bool
     ensures { result ≡ is_target (view_expression expression.now) }
 {
