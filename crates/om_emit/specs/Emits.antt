@@ -105,3 +105,8 @@ Adds result here x old new = OnOk result (Puts here.at.line x old new)
 abbrev pub Appends : {T E X : Type 0} → Result T E → Here → (row : Site → ℕ → X → Row) → (x : X)
     → Written → Written → Type 0
 Appends result here row x old new = OnOk result (EmitsRow (names_at here) (λ at. row at here.at.line x) old new)
+
+-- the same of a row that depends on one thing more
+abbrev pub AppendsBy : {T E P X : Type 0} → Result T E → Here → (row : Site → ℕ → P → X → Row) → (by : P) → (x : X)
+    → Written → Written → Type 0
+AppendsBy result here row by x old new = Appends result here (λ at l. row at l by) x old new

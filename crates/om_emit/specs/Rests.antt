@@ -1,12 +1,18 @@
 -- Rows of parts of expressions: an assignment, and what stands behind an operand or an index.
-use Rattle.std.specs.Prelude.{ℕ, pos, Option, None, Some, Bool, true}
+use Rattle.std.specs.Prelude.{ℕ, pos, Option, None, Result, Some, Bool, true}
 use Rattle.om_code.specs.declared.instruction.BinaryOperator as machine
 use Rattle.om_code.specs.declared.instruction.Instr.TheVariants as i
 use Rattle.om_code.specs.declared.instruction.UnaryOperator.TheVariants as unary
+use Rattle.om_emit.specs.declared.expression.Target.{Target}
+use Rattle.om_emit.specs.declared.here.Here.{Here}
+use Rattle.om_emit.specs.Drafts.{Written}
+use Rattle.om_emit.specs.Emits.{Appends, AppendsBy}
+use Rattle.om_resolved.specs.declared.resolved.ResolvedExpression.{ResolvedExpression}
 use Rattle.om_resolved.specs.declared.resolved.UnaryOperator.{UnaryOperator}
 use Rattle.om_resolved.specs.declared.resolved.UnaryOperator.TheVariants as unaries
 use Rattle.om_resolved.specs.declared.resolved.Variable as variables
 use Rattle.om_resolved.specs.ResolvedTree.{ResolvedExpressionTree, ValuesTree}
+use Rattle.om_resolved.specs.ResolvedView as view
 use Rattle.om_rows.specs.Expressions.{assigned, called, constant, stepped_back, value, values}
 use Rattle.om_rows.specs.Operators.{BinaryForm, Both, Either, Plain, compound_of, step_of, inverse_step_of}
 use Rattle.om_rows.specs.Rows.{Site, Row, end, ins, part, here, fresh_two, fresh_three, ◌▸◌}
@@ -67,3 +73,23 @@ stepped_rest at l keeps a operator =
 
 abbrev pub postfix_rest : Site → ℕ → variables.Variable → PostfixOperator → Row
 postfix_rest at l a operator = part (stepped_rest at l true a operator) ▸ stepped_back at l (inverse_step_of operator)
+
+-- ---- what a function writes of an expression, unless memory runs out
+
+-- it is the right operand, and what an operator of this form does with both
+abbrev pub AppendsOperand : {T E : Type 0} → Result T E → Here → BinaryForm → ResolvedExpression → Written → Written
+    → Type 0
+AppendsOperand result here form right old new =
+    AppendsBy result here binary_rest form (view.expression right) old new
+
+-- it is assigned to a variable
+abbrev pub AppendsAssignment : {T E : Type 0} → Result T E → Here → Target → ResolvedExpression → Written → Written
+    → Type 0
+AppendsAssignment result here to e old new =
+    Appends result here (λ at l. assignment at l to.keeps to.variable to.operator) (view.expression e) old new
+
+-- it is assigned to an element, whose index stands before it
+abbrev pub AppendsElement : {T E : Type 0} → Result T E → Here → Target → ResolvedExpression → Written → Written
+    → Type 0
+AppendsElement result here to e old new =
+    Appends result here (λ at l. assignment_rest at l to.keeps to.variable to.operator) (view.expression e) old new

@@ -1,8 +1,9 @@
 //! The code of expressions (C17 6.5).
 
 ghost use Rattle.std.specs.Prelude.{◌≡◌};
-ghost use Rattle.om_emit.specs.Rests as rows;
-ghost use Rattle.om_emit.specs.Words.{Appends, CallHasCode, ValueHasCode, ValuesHaveCode};
+ghost use Rattle.om_emit.specs.Rests.{call};
+ghost use Rattle.om_emit.specs.Words.{Appends, AppendsAssignment, AppendsBy, AppendsElement, AppendsOperand};
+ghost use Rattle.om_emit.specs.Words.{CallHasCode, ValueHasCode, ValuesHaveCode};
 ghost use Rattle.om_resolved.specs.ResolvedView as view;
 ghost use Rattle.om_emit.specs.Words.{Both, Either, form_of, listed, value, values};
 
@@ -137,8 +138,7 @@ pub fn call(
     arguments: &[ResolvedExpression],
 ) -> Done
     requires { CallHasCode (listed arguments.now) }
-    ensures { Appends result here.now (λ at l. rows.call at l function) (listed arguments.now)
-        draft.old draft.new }
+    ensures { AppendsBy result here.now call function (listed arguments.now) draft.old draft.new }
 {
     let body = here.tables.called_body(function);
     values(draft, here, arguments)?;
@@ -155,8 +155,7 @@ fn binary_end(
     right: &ResolvedExpression,
 ) -> Done
     requires { ValueHasCode (view.expression right.now) }
-    ensures { Appends result here.now (λ at l. rows.binary_rest at l (form_of operator))
-        (view.expression right.now) draft.old draft.new }
+    ensures { AppendsOperand result here.now (form_of operator) right.now draft.old draft.new }
 {
     match form_of(operator) {
         Form::Both => both_end(draft, here, right),
@@ -172,8 +171,7 @@ fn binary_end(
 #[cycle(expression)]
 fn both_end(draft: &mut Draft, here: &Here<'_>, right: &ResolvedExpression) -> Done
     requires { ValueHasCode (view.expression right.now) }
-    ensures { Appends result here.now (λ at l. rows.binary_rest at l Both)
-        (view.expression right.now) draft.old draft.new }
+    ensures { AppendsOperand result here.now Both right.now draft.old draft.new }
 {
     let not_both = draft.fresh()?;
     let end = draft.fresh()?;
@@ -186,8 +184,7 @@ fn both_end(draft: &mut Draft, here: &Here<'_>, right: &ResolvedExpression) -> D
 #[cycle(expression)]
 fn either_end(draft: &mut Draft, here: &Here<'_>, right: &ResolvedExpression) -> Done
     requires { ValueHasCode (view.expression right.now) }
-    ensures { Appends result here.now (λ at l. rows.binary_rest at l Either)
-        (view.expression right.now) draft.old draft.new }
+    ensures { AppendsOperand result here.now Either right.now draft.old draft.new }
 {
     let next = draft.fresh()?;
     let neither = draft.fresh()?;
@@ -202,9 +199,7 @@ fn either_end(draft: &mut Draft, here: &Here<'_>, right: &ResolvedExpression) ->
 #[cycle(expression)]
 pub fn assign(draft: &mut Draft, here: &Here<'_>, target: Target, e: &ResolvedExpression) -> Done
     requires { ValueHasCode (view.expression e.now) }
-    ensures { Appends result here.now
-        (λ at l. rows.assignment at l target.keeps target.variable target.operator)
-        (view.expression e.now) draft.old draft.new }
+    ensures { AppendsAssignment result here.now target e.now draft.old draft.new }
 {
     match compound_of(target.operator) {
         None => {
@@ -229,9 +224,7 @@ pub fn assign_element(
     e: &ResolvedExpression,
 ) -> Done
     requires { ValueHasCode (view.expression e.now) }
-    ensures { Appends result here.now
-        (λ at l. rows.assignment_rest at l target.keeps target.variable target.operator)
-        (view.expression e.now) draft.old draft.new }
+    ensures { AppendsElement result here.now target e.now draft.old draft.new }
 {
     let line = here.at.line;
     let place = here.tables.place(target.variable);

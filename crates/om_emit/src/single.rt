@@ -3,7 +3,7 @@
 ghost use Rattle.std.specs.Prelude.{◌≡◌, ◌<◌, ◌∷◌, [], OnOk, pos, slice_get};
 ghost use Rattle.om_code.specs.declared.instruction.Instr.TheVariants as i;
 ghost use Rattle.om_emit.specs.Rests as rows;
-ghost use Rattle.om_emit.specs.Words.{Adds, Appends, Goes, Numbered, PutsAll};
+ghost use Rattle.om_emit.specs.Words.{Adds, Appends, AppendsBy, Goes, Numbered, PutsAll};
 ghost use Rattle.om_emit.specs.Words.{inverse_step_of, place_at, site, stepped_back, value};
 ghost use Rattle.om_resolved.specs.ResolvedTree as trees;
 
@@ -149,8 +149,7 @@ pub(crate) fn postfix_element(
     array: Variable,
     operator: PostfixOperator,
 ) -> Done
-    ensures { Appends result here.now (λ at l. rows.postfix_rest at l array) operator draft.old
-        draft.new }
+    ensures { AppendsBy result here.now rows.postfix_rest array operator draft.old draft.new }
 {
     step_element(draft, here, array, operator, true)?;
     step_back(draft, here, operator)

@@ -5,10 +5,20 @@ use Rattle.om_lower.specs.declared.body.Emitted.{Emitted}
 use Rattle.om_emit.specs.Drafts.{Written}
 use Rattle.om_emit.specs.Emits.{site}
 use Rattle.om_emit.specs.Settled.{ListsStand, number_of}
+use Rattle.om_resolved.specs.declared.resolved.ResolvedFunction.{ResolvedFunction}
 use Rattle.om_resolved.specs.ResolvedTree.{ResolvedFunctionTree}
-use Rattle.om_rows.specs.Bodies.{BodyTree, Numbers}
+use Rattle.om_resolved.specs.ResolvedView as view
+use Rattle.om_rows.specs.Bodies.{BodyTree, FunctionBody, Numbers}
+use Rattle.om_rows.specs.BodyTables.{numbered_by}
 use Rattle.om_rows.specs.Code.{body_row}
+use Rattle.om_rows.specs.Numbering.{numbers_of}
 use Rattle.om_rows.specs.Scopes.{body_scopes}
+use Rattle.om_rows.specs.declared.body.BodyTables.{BodyTables}
+use Rattle.om_rows.specs.declared.copies.Region.{Region}
+use Rattle.om_rows.specs.declared.numbers.Numbers as tables
+use Rattle.om_sights.specs.Regions.{parallel_tree, task_tree}
+use Rattle.om_sights.specs.Sites.{body_in}
+use Rattle.om_sights.specs.declared.sites.Site.{Site}
 use Rattle.om_statements.specs.declared.writing.Writing.{Writing}
 use Rattle.om_statements.specs.Emits.{EmitsWith}
 use Rattle.om_statements.specs.Scoped.{AreInside, EmitsScopes}
@@ -50,3 +60,41 @@ EmitsRegion names n tree old new = (f : ResolvedFunctionTree) → EmitsBody name
 
 abbrev pub EmitsRegionScopes : Numbered → BodyTree → Writing → Writing → Type 0
 EmitsRegionScopes names tree old new = (f : ResolvedFunctionTree) → EmitsScopes names (λ at. body_scopes at f tree) old new
+
+-- ---- a body is written, by the tables that its instructions name, and so are its scopes
+
+-- the body at a site
+abbrev pub WritesSite : BodyTables → Site → Writing → Writing → Type 0
+WritesSite tables site old new =
+    let b = body_in [] site in
+    EmitsBody (numbered_by tables) b.numbers b.function b.tree old.draft new.draft
+
+abbrev pub ScopesSite : BodyTables → Site → Writing → Writing → Type 0
+ScopesSite tables site old new =
+    let b = body_in [] site in
+    EmitsScopes (numbered_by tables) (λ at. body_scopes at b.function b.tree) old new
+
+-- the own body of a function
+abbrev pub WritesOwn : BodyTables → tables.Numbers → ResolvedFunction → Writing → Writing → Type 0
+WritesOwn tables numbers f old new =
+    EmitsBody (numbered_by tables) (numbers_of numbers) (view.function f) FunctionBody old.draft new.draft
+
+abbrev pub ScopesOwn : BodyTables → ResolvedFunction → Writing → Writing → Type 0
+ScopesOwn tables f old new =
+    EmitsScopes (numbered_by tables) (λ at. body_scopes at (view.function f) FunctionBody) old new
+
+-- the body of a `parallel`, which each thread of a team runs
+abbrev pub WritesTeam : BodyTables → tables.Numbers → Region → Writing → Writing → Type 0
+WritesTeam tables numbers region old new =
+    EmitsRegion (numbered_by tables) (numbers_of numbers) (parallel_tree region) old.draft new.draft
+
+abbrev pub ScopesTeam : BodyTables → Region → Writing → Writing → Type 0
+ScopesTeam tables region old new = EmitsRegionScopes (numbered_by tables) (parallel_tree region) old new
+
+-- the body of a `task`
+abbrev pub WritesTask : BodyTables → tables.Numbers → Region → Writing → Writing → Type 0
+WritesTask tables numbers region old new =
+    EmitsRegion (numbered_by tables) (numbers_of numbers) (task_tree region) old.draft new.draft
+
+abbrev pub ScopesTask : BodyTables → Region → Writing → Writing → Type 0
+ScopesTask tables region old new = EmitsRegionScopes (numbered_by tables) (task_tree region) old new

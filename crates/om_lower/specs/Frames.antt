@@ -2,9 +2,15 @@
 use Rattle.std.specs.Prelude.{◌≡◌, ◌<◌, ◌≤◌, ◌⊎◌, ℕ, List, Option, None, Some, length}
 use Rattle.om_code.specs.declared.raw.Slot.{Slot}
 use Rattle.om_lower.specs.Limits.{frame_cells}
+use Rattle.om_rows.specs.Bodies.{BodySite, variables_of}
+use Rattle.om_rows.specs.Code.{slots_of}
 
 -- these slots, at most 256 of them with at most 4,096 cells, or none where a limit is passed
 abbrev pub FitsFrame : (variables : List ℕ) → (slots : List Slot) → Option (List Slot) → Type 0
 FitsFrame variables slots None = (256 < length variables) ⊎ (4096 < frame_cells slots)
 FitsFrame variables slots (Some frame) = (frame ≡ slots) × (length variables ≤ 256)
     × (frame_cells slots ≤ 4096)
+
+-- the slots of a body
+abbrev pub FitsBody : BodySite → Option (List Slot) → Type 0
+FitsBody b frame = FitsFrame (variables_of b) (slots_of b) frame

@@ -31,6 +31,14 @@ pub record IsInput (input : Input) : Type 0 where
 abbrev pub known_bodies : Known → KnownBodies
 known_bodies known = known_of known.input.now.tables.now known.slots.now
 
+-- the tree whose bodies these are
+abbrev pub known_tree : Known → ResolvedTree
+known_tree known = tree_of known.input.now
+
+-- a body can be lowered with what is known
+abbrev pub IsReadyIn : Known → BodySite → Type 0
+IsReadyIn known b = IsReady (known_bodies known) known.extents.now b
+
 -- a body, once its variables are known and those of the body round it
 abbrev pub seen_body : SeenBody → BodySite
 seen_body seen = body_in seen.outer.now seen.site.now

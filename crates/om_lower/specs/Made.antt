@@ -12,6 +12,7 @@ use Rattle.om_emit.specs.Settled.{ListsStand, number_of}
 use Rattle.om_lower.specs.declared.bodies.Bodies.{Bodies}
 use Rattle.om_lower.specs.declared.functions.Lowered.{Lowered}
 use Rattle.om_lower.specs.declared.functions.Next.{Next}
+use Rattle.om_lower.specs.declared.functions.Placed.{Placed}
 use Rattle.om_lower.specs.Heights.{AreLow, IsFirst}
 use Rattle.om_lower.specs.Limits.{AreScopesAt, HasRoom, IsCodeAt, IsOver}
 use Rattle.om_lower.specs.Once.{site_picks}
@@ -112,6 +113,14 @@ next_function next = view.function next.function.now
 abbrev pub next_numbers : Next → Numbers
 next_numbers next = numbers_of next.numbers
 
+-- the bodies of a function that is lowered next
+abbrev pub next_bodies : Next → List BodySite
+next_bodies next = function_bodies (next_numbers next) (next_function next)
+
+-- they are put behind others, unless one passes a limit
+abbrev pub AddsNext : ResolvedTree → Next → Lowered → Lowered → (fits : Bool) → Type 0
+AddsNext tree next old new fits = AddsFunction tree (next_numbers next) (next_function next) old new fits
+
 -- a function can be lowered next: its bodies have code, its cells and the numbers behind its bodies are known, and
 -- so are the variables of all bodies before them; and numbers of 32 bits are enough for it
 pub record IsNext (tables : Tables) (slots : List (List ℕ)) (next : Next) : Type 0 where
@@ -147,6 +156,10 @@ pub record IsGathered (tree : ResolvedTree) (lists : List PickList) (count : ℕ
   pub listed : AreListsOf (bodies_from first_numbers (functions_in tree functions)) lists
   pub counted : count ≡ (behind_functions first_numbers (functions_in tree functions)).picks
 
+-- what is lowered has them
+abbrev pub AreGathered : ResolvedTree → Lowered → Type 0
+AreGathered tree made = IsGathered tree made.lists made.count made.functions made.is_whole
+
 -- the bodies of functions, in a program with these lists of PICK
 pub record IsLowered (tree : ResolvedTree) (picks : List (List ℕ)) (functions : List (List Body))
     (is_whole : Bool) : Type 0 where
@@ -156,9 +169,17 @@ pub record IsLowered (tree : ResolvedTree) (picks : List (List ℕ)) (functions 
   pub stops : StopsUnless is_whole tree functions
   pub long : length picks ≡ (behind_functions first_numbers (functions_in tree functions)).picks
 
+-- what is placed has them, with its lists
+abbrev pub ArePlaced : ResolvedTree → Placed → Type 0
+ArePlaced tree placed = IsLowered tree placed.picks placed.functions placed.is_whole
+
 -- which function passes a limit, if one does
 abbrev pub IsOverAt : (picks : List (List ℕ)) → (functions : List (List Body)) → (is_whole : Bool) → Option ℕ → Type 0
 IsOverAt picks functions is_whole None = (is_whole ≡ true) × All (λ bodies. AreLow picks bodies) functions
 IsOverAt picks functions is_whole (Some index) =
     IsFirst picks functions index ⊎
     ((is_whole ≡ false) × (index ≡ length functions) × All (λ bodies. AreLow picks bodies) functions)
+
+-- which of those that are placed does
+abbrev pub IsOverIn : Placed → Option ℕ → Type 0
+IsOverIn placed index = IsOverAt placed.picks placed.functions placed.is_whole index

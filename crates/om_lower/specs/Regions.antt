@@ -9,11 +9,13 @@ use Rattle.om_rows.specs.Ends.{IsKnown}
 use Rattle.om_rows.specs.Numbering.{numbers_of}
 use Rattle.om_rows.specs.ProgramTables.{known_in}
 use Rattle.om_rows.specs.Slots.{FirstCopy}
-use Rattle.om_rows.specs.Statements.{given_copies}
+use Rattle.om_rows.specs.Rows.{each}
+use Rattle.om_rows.specs.Statements.{given_copies, load_original}
 use Rattle.om_rows.specs.declared.body.BodyTables.{BodyTables}
 use Rattle.om_rows.specs.declared.numbers.Numbers.{Numbers}
 use Rattle.om_rows.specs.declared.copies.Region.{Region}
 use Rattle.om_emit.specs.Drafts.{Written}
+use Rattle.om_emit.specs.Emits.{EmitsRow}
 use Rattle.om_statements.specs.Emits.{EmitsStatement}
 use Rattle.om_statements.specs.declared.spot.JumpLabels.{JumpLabels}
 
@@ -53,3 +55,15 @@ abbrev pub EmitsRegion : {T E : Type 0} → Result T E → BodyTables → Number
     → Written → Type 0
 EmitsRegion result tables numbers tree old new = OnOk result ((jumps : JumpLabels)
     → EmitsStatement (numbered_by tables) (numbers_of numbers) tree jumps old new)
+
+-- that of a `parallel`, and that of a `task`
+abbrev pub EmitsParallel : {T E : Type 0} → Result T E → BodyTables → Numbers → Region → Written → Written → Type 0
+EmitsParallel result tables numbers region old new = EmitsRegion result tables numbers (parallel_of region) old new
+
+abbrev pub EmitsTask : {T E : Type 0} → Result T E → BodyTables → Numbers → Region → Written → Written → Type 0
+EmitsTask result tables numbers region old new = EmitsRegion result tables numbers (task_of region) old new
+
+-- the originals of its firstprivate copies are loaded
+abbrev pub LoadsGiven : BodyTables → Region → Written → Written → Type 0
+LoadsGiven tables region old new =
+    EmitsRow (numbered_by tables) (λ at. each (load_original at region.at.line) (given_to region)) old new

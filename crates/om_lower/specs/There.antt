@@ -1,8 +1,9 @@
 -- What is promised of a statement that is written where a spot says.
-use Rattle.std.specs.Prelude.{◌≡◌, List, IfOk, OnOk, Result, is_some, map}
+use Rattle.std.specs.Prelude.{◌≡◌, List, IfOk, OnOk, Result, is_some}
+use Rattle.om_lower.specs.Parts.{EmitsParts}
+use Rattle.om_lower.specs.declared.worksharing.PartsSpot.{PartsSpot}
+use Rattle.om_resolved.specs.declared.resolved.ResolvedPart.{ResolvedPart}
 use Rattle.om_resolved.specs.declared.resolved.ResolvedStatement.{ResolvedStatement}
-use Rattle.om_resolved.specs.ResolvedTree.{ResolvedStatementsTree}
-use Rattle.om_resolved.specs.ResolvedTree as trees
 use Rattle.om_resolved.specs.ResolvedView as view
 use Rattle.om_rows.specs.Bodies as rows
 use Rattle.om_rows.specs.BodyTables.{numbered_by}
@@ -14,6 +15,7 @@ use Rattle.om_rows.specs.Rows.{Site}
 use Rattle.om_rows.specs.Scopes.{Scoping}
 use Rattle.om_rows.specs.declared.body.BodyTables.{BodyTables}
 use Rattle.om_rows.specs.declared.numbers.Numbers.{Numbers}
+use Rattle.om_sights.specs.Trees.{part_trees, statement_trees}
 use Rattle.om_statements.specs.Emits.{EmitsStatement, EmitsStatements}
 use Rattle.om_statements.specs.Scoped.{EmitsScopes}
 use Rattle.om_statements.specs.declared.spot.Spot.{Spot}
@@ -42,9 +44,6 @@ ScopesThere result tables row old new = OnOk result (EmitsScopes (numbered_by ta
 
 -- ---- statements
 
-abbrev pub statement_trees : List ResolvedStatement → ResolvedStatementsTree
-statement_trees items = trees.statements (map view.statement items)
-
 abbrev pub HaveCodeThere : Spot → List ResolvedStatement → Type 0
 HaveCodeThere spot items =
     StatementsHaveCode (is_some spot.jumps.over) (is_some spot.jumps.next) (statement_trees items)
@@ -60,3 +59,16 @@ abbrev pub EmitsAllThere : {T E : Type 0} → Result T E → BodyTables → Spot
     → Writing → Type 0
 EmitsAllThere result tables spot items old new = OnOk result (EmitsStatements (numbered_by tables)
     (numbers_of spot.numbers) (statement_trees items) spot.jumps old.draft new.draft)
+
+-- ---- the parts of a `sections`
+
+-- a function gives the numbers behind them, unless memory runs out
+abbrev pub GivesPartsBehind : {E : Type 0} → Result Numbers E → PartsSpot → List ResolvedPart → Type 0
+GivesPartsBehind result spot parts =
+    IfOk result (λ after. numbers_of after ≡ rows.behind_parts (numbers_of spot.numbers) (part_trees parts))
+
+-- and writes their code
+abbrev pub EmitsPartsThere : {T E : Type 0} → Result T E → BodyTables → PartsSpot → List ResolvedPart → Writing
+    → Writing → Type 0
+EmitsPartsThere result tables spot parts old new = OnOk result (EmitsParts (numbered_by tables)
+    (numbers_of spot.numbers) (part_trees parts) spot old.draft new.draft)

@@ -1,48 +1,49 @@
 -- The words of the clauses of this crate, so that a file takes them from one place.
 pub use Rattle.om_lexer.specs.Faults.{no_memory}
-pub use Rattle.om_lower.specs.Emitted.{EmitsBody, EmitsRegion, EmitsRegionScopes, FitsRow}
-pub use Rattle.om_lower.specs.Frames.{FitsFrame}
+pub use Rattle.om_lower.specs.Emitted.{FitsRow, ScopesOwn, ScopesTeam, ScopesSite, ScopesTask}
+pub use Rattle.om_lower.specs.Emitted.{WritesOwn, WritesTeam, WritesSite, WritesTask}
+pub use Rattle.om_lower.specs.Frames.{FitsBody, FitsFrame}
 pub use Rattle.om_lower.specs.Heights.{AreLow}
-pub use Rattle.om_lower.specs.Inputs.{IsInput, IsSeen, known_bodies, seen_body, seen_tree, tree_of}
+pub use Rattle.om_lower.specs.Inputs.{IsInput, IsReadyIn, IsSeen, known_bodies, known_tree, seen_body, seen_tree}
+pub use Rattle.om_lower.specs.Inputs.{tree_of}
 pub use Rattle.om_lower.specs.Limits.{AreWithin, HasFewSlots, HasManySlots, HasSlots, IsTooMany, frame_cells, own_cells}
-pub use Rattle.om_lower.specs.Made.{AddsBody, AddsFunction, AddsSlots, AreAdded, FitsCode, IsGathered, IsLowered}
-pub use Rattle.om_lower.specs.Made.{IsNext, IsOverAt, IsPut, next_function, next_numbers}
+pub use Rattle.om_lower.specs.Made.{AddsBody, AddsNext, AddsSlots, AreAdded, AreGathered, ArePlaced, FitsCode}
+pub use Rattle.om_lower.specs.Made.{IsLowered, IsNext, IsOverIn, IsPut, next_bodies, next_function, next_numbers}
 pub use Rattle.om_lower.specs.Once.{IsEachOnce}
-pub use Rattle.om_lower.specs.Parts.{AreFree, EmitsParts, OpensParts, part_head}
+pub use Rattle.om_lower.specs.Parts.{AreFree}
 pub use Rattle.om_lower.specs.Ready.{IsListed, IsReady}
 pub use Rattle.om_lower.specs.Refusals.{IsRefusal, too_many}
 pub use Rattle.om_lower.specs.Regions.{GivesBehind}
 pub use Rattle.om_lower.specs.There.{EmitsAllThere, EmitsThere, GivesAllBehind, HasCodeThere, HasEndsThere}
-pub use Rattle.om_lower.specs.There.{HaveCodeThere, HaveEndsThere, ScopesThere, statement_trees}
+pub use Rattle.om_lower.specs.There.{EmitsPartsThere, GivesPartsBehind, HaveCodeThere, HaveEndsThere, ScopesThere}
+pub use Rattle.om_lower.specs.Turns.{BeginsElse, BeginsFor, BeginsIf, BeginsLoop, BeginsParts, EndsDo, EndsFor}
+pub use Rattle.om_lower.specs.Turns.{EndsLoop, EndsWorksharing, ScopesFor, ScopesLoop, ScopesParts}
 pub use Rattle.om_emit.specs.Drafts.{settled_code}
-pub use Rattle.om_emit.specs.Emits.{Appends, EmitsRow, names_at}
+pub use Rattle.om_emit.specs.Emits.{Appends}
 pub use Rattle.om_emit.specs.Settled.{ListsStand, number_of, settled_lists}
 pub use Rattle.om_resolved.specs.Beside.{TreeAtomicsAssign, TreeCopiesBehind}
 pub use Rattle.om_resolved.specs.Formats.{pieces_of}
 pub use Rattle.om_resolved.specs.Uses.{is_main_function}
 pub use Rattle.om_resolved.specs.Weights.{HasSmallWeight}
 pub use Rattle.om_resolved.specs.Whole.{IsWholeTree}
-pub use Rattle.om_rows.specs.Bodies.{FunctionBody, called_body, function_bodies, region_variables, variables_of}
+pub use Rattle.om_rows.specs.Bodies.{FunctionBody, called_body, region_variables, variables_of}
 pub use Rattle.om_rows.specs.BodyTables.{numbered_by}
-pub use Rattle.om_rows.specs.Code.{IsCodeOf, captures_of, given_of, global_of, slots_of}
+pub use Rattle.om_rows.specs.Code.{IsCodeOf, captures_of, given_of, global_of}
 pub use Rattle.om_rows.specs.Coded.{BodyHasCode, PartsHaveCode, StatementHasCode}
 pub use Rattle.om_rows.specs.Coded.{EffectHasCode, LoopHasCode, StartHasCode, ValueHasCode}
 pub use Rattle.om_rows.specs.Copies.{first_copies_of}
 pub use Rattle.om_rows.specs.Ends.{HasBodyEnds, HasEnds, HasPartsEnds}
 pub use Rattle.om_rows.specs.MeaningLaws.{KeepsMeaning}
 pub use Rattle.om_rows.specs.Mentions.{IsTextOf}
-pub use Rattle.om_rows.specs.Numbered.{Numbered}
 pub use Rattle.om_rows.specs.Numbering.{numbers_of}
 pub use Rattle.om_rows.specs.Operators.{comparison_of, form_with, schedule_in}
 pub use Rattle.om_rows.specs.ProgramTables.{ends_in, known_in}
 pub use Rattle.om_rows.specs.Rows.{each, perhaps}
-pub use Rattle.om_rows.specs.Scopes.{all_scopes, block, body_scopes, names_with, part_scopes, scope_in, scopes}
-pub use Rattle.om_rows.specs.Scopes.{for_head, loop_head, sections_head, slot_among}
+pub use Rattle.om_rows.specs.Scopes.{all_scopes, block, names_with, part_scopes, scope_in, scopes, slot_among}
 pub use Rattle.om_rows.specs.Slots.{slot_of, slot_with}
-pub use Rattle.om_rows.specs.Statements.{closes, given_copies}
-pub use Rattle.om_sights.specs.Regions.{parallel_tree, statement_of, task_tree}
+pub use Rattle.om_rows.specs.Statements.{given_copies}
+pub use Rattle.om_sights.specs.Regions.{statement_of}
 pub use Rattle.om_sights.specs.Sites.{bodies_in, body_in, body_round, innermost, part_tree, round_with, variables_at}
-pub use Rattle.om_statements.specs.Scoped.{AppendsScopes, AreInside, EmitsScopes, IsInside}
-pub use Rattle.om_statements.specs.Stretches.{AppendsEnd, AppendsHead, Begins, BeginsTurn, Ends, FreshTurn, Opens}
-pub use Rattle.om_statements.specs.Stretches.{do_begin, do_end, else_begin, for_begin, for_end, loop_end, test_at}
-pub use Rattle.om_statements.specs.Stretches.{while_begin, worksharing_begin}
+pub use Rattle.om_sights.specs.Trees.{part_trees, statement_trees}
+pub use Rattle.om_statements.specs.Scoped.{AreInside, IsInside}
+pub use Rattle.om_statements.specs.Stretches.{AppendsHead, BeginsTurn, FreshTurn, do_begin, while_begin}

@@ -1,11 +1,12 @@
 //! The bodies of a function, each within its limits.
 
 ghost use Rattle.std.specs.Prelude.{◌≡◌, ◌≤◌, ◌∷◌, ◌++◌, [], All, Any, IfOk, OnOk, false, length, map, true};
-ghost use Rattle.om_lower.specs.Words.{AddsBody, AreAdded, FitsCode, FitsFrame, HasFewSlots, HasManySlots};
-ghost use Rattle.om_lower.specs.Words.{HasSlots, IsInput, IsListed, IsReady, IsSeen, bodies_in, body_in};
-ghost use Rattle.om_lower.specs.Words.{body_round, captures_of, given_copies, given_of, innermost, known_bodies};
-ghost use Rattle.om_lower.specs.Words.{part_tree, region_variables, round_with, seen_body, seen_tree, slot_of};
-ghost use Rattle.om_lower.specs.Words.{slots_of, statement_of, tree_of, variables_at, variables_of};
+ghost use Rattle.om_lower.specs.Words.{AddsBody, AreAdded, FitsBody, FitsCode, HasFewSlots, HasManySlots};
+ghost use Rattle.om_lower.specs.Words.{HasSlots, IsInput, IsListed, IsReady, IsReadyIn, IsSeen, bodies_in};
+ghost use Rattle.om_lower.specs.Words.{body_in, body_round, captures_of, given_copies, given_of, innermost};
+ghost use Rattle.om_lower.specs.Words.{known_bodies, known_tree, part_tree, region_variables, round_with};
+ghost use Rattle.om_lower.specs.Words.{seen_body, seen_tree, slot_of, statement_of, tree_of, variables_at};
+ghost use Rattle.om_lower.specs.Words.{variables_of};
 ghost use Rattle.om_resolved.specs.ResolvedView as view;
 
 use crate::body::{Emitted, emitted_in};
@@ -78,11 +79,10 @@ pub(crate) fn add_sites<'a>(
     sites: &'a [Site<'a>],
 ) -> Made<bool>
     requires given { IsInput known.now.input.now }
-    requires ready { All (IsReady (known_bodies known.now) known.now.extents.now) (bodies_in [] sites.now) }
+    requires ready { All (IsReadyIn known.now) (bodies_in [] sites.now) }
     requires bodies { made.old.bodies ≡ [] }
     requires lists { made.old.lists ≡ [] }
-    ensures { let tree = tree_of known.now.input.now in
-        IfOk result (λ fits. AreAdded tree (bodies_in [] sites.now) made.new fits) }
+    ensures { IfOk result (AreAdded (known_tree known.now) (bodies_in [] sites.now) made.new) }
 {
     let mut round = Vec::new(known.input.alloc);
     for site in sites {
@@ -150,8 +150,7 @@ fn own_variables<'a>(known: &Known<'a>, site: &Site<'_>) -> &'a Variables
 // Adds a body; false where it passes a limit on cells or instructions.
 fn add_body(made: &mut Bodies, seen: &SeenBody<'_>) -> Made<bool>
     requires seen { IsSeen seen.now }
-    ensures { let b = seen_body seen.now in
-        IfOk result (λ fits. AddsBody (seen_tree seen.now) b made.old made.new fits) }
+    ensures { IfOk result (AddsBody (seen_tree seen.now) (seen_body seen.now) made.old made.new) }
 {
     let Some(slots) = frame_in(seen)? else {
         return Ok(false);
@@ -162,8 +161,7 @@ fn add_body(made: &mut Bodies, seen: &SeenBody<'_>) -> Made<bool>
 // The slots of a body; `None` where it passes a limit.
 fn frame_in(seen: &SeenBody<'_>) -> Made<Option<Seq<Slot>>>
     requires seen { IsSeen seen.now }
-    ensures { let b = seen_body seen.now in
-        IfOk result (λ frame. FitsFrame (variables_of b) (slots_of b) frame) }
+    ensures { IfOk result (FitsBody (seen_body seen.now)) }
 {
     let alloc = seen.known.input.alloc;
     let extents = seen.known.extents;
@@ -184,10 +182,8 @@ fn captures_in<'a>(part: &BodyPart<'a>) -> &'a [Capture]
 // Adds a body that has these slots; false where it has too many instructions.
 fn add_with(made: &mut Bodies, seen: &SeenBody<'_>, slots: Seq<Slot>) -> Made<bool>
     requires seen { IsSeen seen.now }
-    requires slots { FitsFrame (variables_of (seen_body seen.now)) (slots_of (seen_body seen.now))
-        (Some slots) }
-    ensures { let b = seen_body seen.now in
-        IfOk result (λ fits. AddsBody (seen_tree seen.now) b made.old made.new fits) }
+    requires slots { FitsBody (seen_body seen.now) (Some slots) }
+    ensures { IfOk result (AddsBody (seen_tree seen.now) (seen_body seen.now) made.old made.new) }
 {
     let Some(emitted) = code_in(seen)? else {
         return Ok(false);

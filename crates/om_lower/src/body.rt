@@ -1,10 +1,11 @@
 //! The code of a body, within the limit on instructions.
 
 ghost use Rattle.std.specs.Prelude.{◌≡◌, ◌≤◌, [], IfOk, OnOk, false, length};
-ghost use Rattle.om_lower.specs.Words.{BodyHasCode, EmitsBody, EmitsRegion, EmitsRegionScopes, EmitsScopes};
-ghost use Rattle.om_lower.specs.Words.{FitsRow, FunctionBody, HasBodyEnds, HasEnds, StatementHasCode};
-ghost use Rattle.om_lower.specs.Words.{body_in, body_scopes, known_in, numbered_by, numbers_of, parallel_tree};
-ghost use Rattle.om_lower.specs.Words.{settled_code, settled_lists, statement_of, task_tree};
+ghost use Rattle.om_lower.specs.Words.{BodyHasCode, FitsRow, FunctionBody, HasBodyEnds, HasEnds};
+ghost use Rattle.om_lower.specs.Words.{ScopesOwn, ScopesTeam, ScopesSite, ScopesTask};
+ghost use Rattle.om_lower.specs.Words.{StatementHasCode, WritesOwn, WritesTeam, WritesSite};
+ghost use Rattle.om_lower.specs.Words.{WritesTask, body_in, known_in, numbered_by, numbers_of, settled_code};
+ghost use Rattle.om_lower.specs.Words.{settled_lists, statement_of};
 ghost use Rattle.om_resolved.specs.ResolvedView as view;
 
 use crate::functions::INSTRUCTION_LIMIT;
@@ -59,12 +60,8 @@ fn write(alloc: Global, writing: &mut Writing, tables: &BodyTables<'_>, site: &S
     requires code { BodyHasCode (body_in [] site.now).function (body_in [] site.now).tree }
     requires regions { let b = body_in [] site.now in
         HasBodyEnds (known_in tables.now) b.numbers b.function b.tree }
-    ensures code { let b = body_in [] site.now in
-        OnOk result (EmitsBody (numbered_by tables.now) b.numbers b.function b.tree writing.old.draft
-        writing.new.draft) }
-    ensures scopes { let b = body_in [] site.now in
-        OnOk result (EmitsScopes (numbered_by tables.now) (λ at. body_scopes at b.function b.tree)
-        writing.old writing.new) }
+    ensures code { OnOk result (WritesSite tables.now site.now writing.old writing.new) }
+    ensures scopes { OnOk result (ScopesSite tables.now site.now writing.old writing.new) }
 {
     match &site.part {
         BodyPart::Function => write_function(alloc, writing, tables, site.numbers, site.function),
@@ -84,13 +81,8 @@ fn write_function(
     requires code { BodyHasCode (view.function function.now) FunctionBody }
     requires ends { HasBodyEnds (known_in tables.now) (numbers_of numbers)
         (view.function function.now) FunctionBody }
-    ensures code { let seen = view.function function.now in
-        let names = numbered_by tables.now in
-        OnOk result (EmitsBody names (numbers_of numbers) seen FunctionBody writing.old.draft
-        writing.new.draft) }
-    ensures scopes { let seen = view.function function.now in
-        OnOk result (EmitsScopes (numbered_by tables.now) (λ at. body_scopes at seen FunctionBody)
-        writing.old writing.new) }
+    ensures code { OnOk result (WritesOwn tables.now numbers function.now writing.old writing.new) }
+    ensures scopes { OnOk result (ScopesOwn tables.now function.now writing.old writing.new) }
 {
     let height = writing.scopes.height();
     parameters(&mut writing.scopes, function.parameters.as_slice())?;
@@ -114,12 +106,8 @@ fn write_parallel(
     requires code { StatementHasCode false false (statement_of region.now) }
     requires ends { HasEnds (known_in tables.now) (numbers_of numbers)
         (statement_of region.now) }
-    ensures code { let tree = parallel_tree region.now in
-        let names = numbered_by tables.now in
-        OnOk result
-        (EmitsRegion names (numbers_of numbers) tree writing.old.draft writing.new.draft) }
-    ensures scopes { let tree = parallel_tree region.now in
-        OnOk result (EmitsRegionScopes (numbered_by tables.now) tree writing.old writing.new) }
+    ensures code { OnOk result (WritesTeam tables.now numbers region.now writing.old writing.new) }
+    ensures scopes { OnOk result (ScopesTeam tables.now region.now writing.old writing.new) }
 {
     let at = region.at;
     let here = Here { tables, at };
@@ -147,12 +135,8 @@ fn write_task(
     requires code { StatementHasCode false false (statement_of region.now) }
     requires ends { HasEnds (known_in tables.now) (numbers_of numbers)
         (statement_of region.now) }
-    ensures code { let tree = task_tree region.now in
-        let names = numbered_by tables.now in
-        OnOk result
-        (EmitsRegion names (numbers_of numbers) tree writing.old.draft writing.new.draft) }
-    ensures scopes { let tree = task_tree region.now in
-        OnOk result (EmitsRegionScopes (numbered_by tables.now) tree writing.old writing.new) }
+    ensures code { OnOk result (WritesTask tables.now numbers region.now writing.old writing.new) }
+    ensures scopes { OnOk result (ScopesTask tables.now region.now writing.old writing.new) }
 {
     let height = writing.scopes.height();
     task_copies(&mut writing.scopes, region.clauses)?;

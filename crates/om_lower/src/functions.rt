@@ -1,8 +1,8 @@
 //! The bodies of functions, each within its limits.
 
 ghost use Rattle.std.specs.Prelude.{◌≡◌, ◌<◌, ◌∷◌, [], All, IfOk, Ok, OnOk, Some, length, slice_get, true};
-ghost use Rattle.om_lower.specs.Words.{AddsFunction, AddsSlots, IsGathered, IsInput, IsNext, IsPut, IsReady};
-ghost use Rattle.om_lower.specs.Words.{bodies_in, ends_in, function_bodies, is_main_function, known_bodies};
+ghost use Rattle.om_lower.specs.Words.{AddsNext, AddsSlots, AreGathered, IsInput, IsNext, IsPut, IsReadyIn};
+ghost use Rattle.om_lower.specs.Words.{bodies_in, ends_in, is_main_function, known_tree, next_bodies};
 ghost use Rattle.om_lower.specs.Words.{next_function, next_numbers, numbers_of, tree_of};
 ghost use Rattle.om_resolved.specs.ResolvedView as view;
 
@@ -46,8 +46,7 @@ pub(crate) struct Placed {
 /// instructions.
 pub(crate) fn lower_functions(input: &Input<'_>) -> Made<Lowered>
     requires given { IsInput input.now }
-    ensures { let tree = tree_of input.now in
-        IfOk result (λ made. IsGathered tree made.lists made.count made.functions made.is_whole) }
+    ensures { IfOk result (AreGathered (tree_of input.now)) }
 {
     let mut lowered = Lowered {
         functions: Seq::new(input.alloc),
@@ -75,9 +74,7 @@ fn add_functions(lowered: &mut Lowered, slots: &mut Vec<Variables>, input: &Inpu
     requires functions { lowered.old.functions ≡ [] }
     requires lists { lowered.old.lists ≡ [] }
     requires slots { slots.old.items ≡ [] }
-    ensures { let made = lowered.new in
-        OnOk result
-        (IsGathered (tree_of input.now) made.lists made.count made.functions made.is_whole) }
+    ensures { OnOk result (AreGathered (tree_of input.now) lowered.new) }
 {
     let mut numbers = Numbers::first();
     for (index, function) in input.resolved.functions.as_slice().iter().enumerate() {
@@ -123,9 +120,7 @@ fn add_function(
 ) -> Made<bool>
     requires given { IsInput input.now }
     requires next { IsNext input.now.tables.now slots.old.items next.now }
-    ensures adds { let tree = tree_of input.now in
-        IfOk result (λ fits. AddsFunction tree (next_numbers next.now) (next_function next.now)
-        lowered.old lowered.new fits) }
+    ensures adds { IfOk result (AddsNext (tree_of input.now) next.now lowered.old lowered.new) }
     ensures slots { IfOk result (λ fits. fits ≡ true →
         AddsSlots (next_numbers next.now) (next_function next.now) slots.old.items slots.new.items) }
 {
@@ -150,13 +145,9 @@ fn add_bodies<'a>(
     sites: &'a [Site<'a>],
 ) -> Made<bool>
     requires given { IsInput known.now.input.now }
-    requires sites { bodies_in [] sites.now
-        ≡ function_bodies (next_numbers next.now) (next_function next.now) }
-    requires ready { All (IsReady (known_bodies known.now) known.now.extents.now)
-        (function_bodies (next_numbers next.now) (next_function next.now)) }
-    ensures { let tree = tree_of known.now.input.now in
-        IfOk result (λ fits. AddsFunction tree (next_numbers next.now) (next_function next.now)
-        lowered.old lowered.new fits) }
+    requires sites { bodies_in [] sites.now ≡ next_bodies next.now }
+    requires ready { All (IsReadyIn known.now) (next_bodies next.now) }
+    ensures { IfOk result (AddsNext (known_tree known.now) next.now lowered.old lowered.new) }
 {
     let alloc = known.input.alloc;
     let mut bodies = Bodies {

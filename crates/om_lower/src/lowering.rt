@@ -1,8 +1,8 @@
 //! From a resolved tree to its code.
 
 ghost use Rattle.std.specs.Prelude.{◌≡◌, ◌≢◌, ◌<◌, IfErr, IfOk, IfSome, OnOk, length, map, slice_set};
-ghost use Rattle.om_lower.specs.Words.{AreWithin, HasSmallWeight, IsCodeOf, IsEachOnce, IsInput, IsLowered};
-ghost use Rattle.om_lower.specs.Words.{IsOverAt, IsRefusal, IsTooMany, IsWholeTree, KeepsMeaning, ListsStand};
+ghost use Rattle.om_lower.specs.Words.{ArePlaced, AreWithin, HasSmallWeight, IsCodeOf, IsEachOnce, IsInput};
+ghost use Rattle.om_lower.specs.Words.{IsOverIn, IsRefusal, IsTooMany, IsWholeTree, KeepsMeaning, ListsStand};
 ghost use Rattle.om_lower.specs.Words.{TreeAtomicsAssign, TreeCopiesBehind, no_memory, number_of, too_many};
 ghost use Rattle.om_lower.specs.Words.{tree_of};
 ghost use Rattle.om_resolved.specs.ResolvedView as view;
@@ -73,8 +73,7 @@ fn lower_input(input: &Input<'_>) -> Result<Program, SourceFault>
 // The bodies of functions, with the lists of all PICKs in them at their numbers.
 fn placed_functions(input: &Input<'_>) -> Made<Placed>
     requires given { IsInput input.now }
-    ensures { let tree = tree_of input.now in
-        IfOk result (λ placed. IsLowered tree placed.picks placed.functions placed.is_whole) }
+    ensures { IfOk result (ArePlaced (tree_of input.now)) }
 {
     each_once();
     let Lowered {
@@ -93,10 +92,8 @@ fn placed_functions(input: &Input<'_>) -> Made<Placed>
 
 // S11 at the name of the first function that passes a limit, if one does.
 fn within_limits(input: &Input<'_>, placed: &Placed) -> Result<(), SourceFault>
-    requires lowered { let made = placed.now in
-        IsLowered (tree_of input.now) made.picks made.functions made.is_whole }
-    ensures low { OnOk result
-        (IsOverAt placed.now.picks placed.now.functions placed.now.is_whole None) }
+    requires lowered { ArePlaced (tree_of input.now) placed.now }
+    ensures low { OnOk result (IsOverIn placed.now None) }
     ensures refused { IfErr result (IsRefusal (tree_of input.now)) }
 {
     let Some(index) = over_at(input, placed)? else {
@@ -107,10 +104,8 @@ fn within_limits(input: &Input<'_>, placed: &Placed) -> Result<(), SourceFault>
 
 // The first function that passes a limit, if one does.
 fn over_at(input: &Input<'_>, placed: &Placed) -> Made<Option<usize>>
-    requires { let made = placed.now in
-        IsLowered (tree_of input.now) made.picks made.functions made.is_whole }
-    ensures over { IfOk result
-        (λ index. IsOverAt placed.now.picks placed.now.functions placed.now.is_whole index) }
+    requires { ArePlaced (tree_of input.now) placed.now }
+    ensures over { IfOk result (IsOverIn placed.now) }
     ensures within { let count = length input.now.resolved.now.functions.items in
         IfOk result (λ index. IfSome index (λ index. index < count)) }
 {

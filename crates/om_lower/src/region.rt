@@ -1,10 +1,9 @@
 //! A `parallel` and a `task`, in the body that meets them. Their own bodies stand by themselves.
 
 ghost use Rattle.std.specs.Prelude.{◌≡◌, ◌≤◌, IfOk, IfSome, OnOk, is_some, length, map};
-ghost use Rattle.om_lower.specs.Regions.{EmitsRegion, IsKnownThere, clauses_of, given_to, parallel_of, slots_of};
-ghost use Rattle.om_lower.specs.Regions.{task_of};
-ghost use Rattle.om_lower.specs.Words.{Appends, EmitsRow, GivesBehind, ValueHasCode, each, first_copies_of};
-ghost use Rattle.om_lower.specs.Words.{numbered_by, perhaps};
+ghost use Rattle.om_lower.specs.Regions.{EmitsParallel, EmitsTask, IsKnownThere, LoadsGiven, clauses_of};
+ghost use Rattle.om_lower.specs.Regions.{given_to, parallel_of, slots_of, task_of};
+ghost use Rattle.om_lower.specs.Words.{Appends, GivesBehind, ValueHasCode, each, first_copies_of, perhaps};
 ghost use Rattle.om_resolved.specs.ResolvedView as view;
 ghost use Rattle.om_rows.specs.Expressions as expressions;
 ghost use Rattle.om_rows.specs.Statements as rows;
@@ -29,8 +28,7 @@ pub(crate) fn parallel(
     requires code { IfSome (rows.clause_value (clauses_of region.now)) ValueHasCode }
     requires known { IsKnownThere tables.now numbers region.now }
     ensures behind { GivesBehind result numbers (parallel_of region.now) }
-    ensures emitted { EmitsRegion result tables.now numbers (parallel_of region.now) draft.old
-        draft.new }
+    ensures emitted { EmitsParallel result tables.now numbers region.now draft.old draft.new }
 {
     let at = region.at;
     let sized = team_size(draft, &Here { tables, at }, region.clauses)?;
@@ -61,7 +59,7 @@ pub(crate) fn task(
 ) -> Made<Numbers>
     requires known { IsKnownThere tables.now numbers region.now }
     ensures behind { GivesBehind result numbers (task_of region.now) }
-    ensures emitted { EmitsRegion result tables.now numbers (task_of region.now) draft.old draft.new }
+    ensures emitted { EmitsTask result tables.now numbers region.now draft.old draft.new }
 {
     let variables = tables.region_variables(numbers.bodies);
     let count = load_given(alloc, draft, tables, region, variables)?;
@@ -85,10 +83,7 @@ fn load_given(
     requires few { length variables.now ≤ 256 }
     ensures few { IfOk result (λ count. count ≤ 256) }
     ensures count { IfOk result (λ count. count ≡ length (given_to region.now)) }
-    ensures emitted { let given = given_to region.now in
-        OnOk result
-        (EmitsRow (numbered_by tables.now)
-        (λ at. each (rows.load_original at region.now.at.line) given) draft.old draft.new) }
+    ensures emitted { OnOk result (LoadsGiven tables.now region.now draft.old draft.new) }
 {
     let copies = given_copies(alloc, region.clauses, region.captures, variables)?;
     let at = region.at;

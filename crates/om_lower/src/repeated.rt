@@ -1,12 +1,10 @@
 //! The heads and the ends of `if`, `while`, `do` and `for`.
 
 ghost use Rattle.std.specs.Prelude.{◌≡◌, ◌<◌, IfOk, IfSome, None, OnOk, Some, option_map, slice_get};
-ghost use Rattle.om_lower.specs.Words.{AppendsEnd, AppendsHead, AppendsScopes, Begins, BeginsTurn};
-ghost use Rattle.om_lower.specs.Words.{EffectHasCode, Ends, FreshTurn, Numbered, Opens, StartHasCode};
-ghost use Rattle.om_lower.specs.Words.{ValueHasCode, do_begin, do_end, else_begin, for_begin, for_end};
-ghost use Rattle.om_lower.specs.Words.{for_head, loop_end, names_at, test_at};
+ghost use Rattle.om_lower.specs.Words.{AppendsHead, BeginsElse, BeginsFor, BeginsIf, BeginsTurn, EffectHasCode};
+ghost use Rattle.om_lower.specs.Words.{EndsDo, EndsFor, EndsLoop, FreshTurn, ScopesFor, StartHasCode};
+ghost use Rattle.om_lower.specs.Words.{ValueHasCode, do_begin, while_begin};
 ghost use Rattle.om_resolved.specs.ResolvedView as view;
-ghost use Rattle.om_lower.specs.Words.{while_begin};
 
 use om_emit::draft::{Draft, Jump};
 use om_emit::{Done, Here};
@@ -35,8 +33,7 @@ pub(crate) fn begin_while(
 /// Writes the end of a loop: it begins again.
 pub(crate) fn end_loop(draft: &mut Draft, line: u32, labels: LoopLabels) -> Done
     requires { slice_get draft.old.places labels.over ≡ Some None }
-    ensures { OnOk result
-        ((names : Numbered) → Ends labels.over (loop_end names line labels) draft.old draft.new) }
+    ensures { OnOk result (EndsLoop line labels draft.old draft.new) }
 {
     draft.put_jump(line, Jump::Always, labels.again)?;
     draft.define(labels.over);
@@ -73,8 +70,7 @@ pub(crate) fn end_do(
     requires next { slice_get draft.old.places labels.next ≡ Some None }
     requires over { slice_get draft.old.places labels.over ≡ Some None }
     requires apart { labels.next < labels.over }
-    ensures { AppendsEnd result here.now labels.next (λ names l. do_end names l labels)
-        (view.expression condition.now) draft.old draft.new }
+    ensures { EndsDo result here.now labels condition.now draft.old draft.new }
 {
     let TurnLabels { again, next, over } = labels;
     draft.define(next);
@@ -92,13 +88,8 @@ pub(crate) fn begin_for(
 ) -> Made<TurnLabels>
     requires start { StartHasCode (view.start begin.now) }
     requires condition { IfSome (option_map view.expression condition.now) ValueHasCode }
-    ensures code { let stretch = for_begin (names_at here.now) here.now.at.line
-        (view.start begin.now) (option_map view.expression condition.now) in
-        IfOk result
-        (λ labels. BeginsTurn labels (stretch labels) writing.old.draft writing.new.draft) }
-    ensures scopes { AppendsScopes result here.now
-        (λ at l. for_head at l (view.start begin.now))
-        (option_map view.expression condition.now) writing.old writing.new }
+    ensures code { BeginsFor result here.now begin.now condition.now writing.old writing.new }
+    ensures scopes { ScopesFor result here.now begin.now condition.now writing.old writing.new }
 {
     let labels = turn_labels(&mut writing.draft)?;
     start(writing, here, begin)?;
@@ -118,8 +109,7 @@ pub(crate) fn end_for(
     requires next { slice_get draft.old.places labels.next ≡ Some None }
     requires over { slice_get draft.old.places labels.over ≡ Some None }
     requires apart { labels.next < labels.over }
-    ensures { AppendsEnd result here.now labels.next (λ names l. for_end names l labels)
-        (option_map view.expression step.now) draft.old draft.new }
+    ensures { EndsFor result here.now labels step.now draft.old draft.new }
 {
     let TurnLabels { again, next, over } = labels;
     draft.define(next);
@@ -135,9 +125,7 @@ pub(crate) fn begin_if(
     condition: &ResolvedExpression,
 ) -> Made<usize>
     requires { ValueHasCode (view.expression condition.now) }
-    ensures { let tree = view.expression condition.now in
-        IfOk result (λ label. Begins label (test_at (names_at here.now) here.now.at.line label tree)
-        draft.old draft.new) }
+    ensures { BeginsIf result here.now condition.now draft.old draft.new }
 {
     let label = draft.fresh()?;
     test(draft, here, condition, label)?;
@@ -148,8 +136,7 @@ pub(crate) fn begin_if(
 /// second, which begins at the head's label. The new label is to be placed behind the second.
 pub(crate) fn begin_else(draft: &mut Draft, line: u32, head: usize) -> Made<usize>
     requires { slice_get draft.old.places head ≡ Some None }
-    ensures { IfOk result (λ label. (names : Numbered) →
-        Opens head label (else_begin names line head label) draft.old draft.new) }
+    ensures { BeginsElse result line head draft.old draft.new }
 {
     let label = draft.fresh()?;
     draft.put_jump(line, Jump::Always, label)?;

@@ -1,14 +1,12 @@
 //! The code of statements.
 
-ghost use Rattle.std.specs.Prelude.{◌≡◌, ◌≤◌, ◌+◌, ◌^◌, IfOk, OnOk, length, map};
-ghost use Rattle.om_lower.specs.Words.{AreFree, EmitsAllThere, EmitsParts, EmitsThere, GivesAllBehind};
-ghost use Rattle.om_lower.specs.Words.{GivesBehind, HasCodeThere, HasEndsThere, HasPartsEnds, HaveCodeThere};
-ghost use Rattle.om_lower.specs.Words.{HaveEndsThere, PartsHaveCode, ScopesThere, all_scopes, block};
-ghost use Rattle.om_lower.specs.Words.{known_in, numbered_by, numbers_of, part_scopes, scopes};
+ghost use Rattle.std.specs.Prelude.{◌≤◌, ◌+◌, ◌^◌, length};
+ghost use Rattle.om_lower.specs.Words.{AreFree, EmitsAllThere, EmitsPartsThere, EmitsThere, GivesAllBehind};
+ghost use Rattle.om_lower.specs.Words.{GivesBehind, GivesPartsBehind, HasCodeThere, HasEndsThere, HasPartsEnds};
+ghost use Rattle.om_lower.specs.Words.{HaveCodeThere, HaveEndsThere, PartsHaveCode, ScopesThere, all_scopes};
+ghost use Rattle.om_lower.specs.Words.{block, known_in, numbers_of, part_scopes, part_trees, scopes};
 ghost use Rattle.om_lower.specs.Words.{statement_trees};
 ghost use Rattle.om_resolved.specs.ResolvedView as view;
-ghost use Rattle.om_resolved.specs.ResolvedTree as trees;
-ghost use Rattle.om_rows.specs.Bodies as rows;
 
 use crate::region::{parallel, task};
 use crate::repeated::{
@@ -310,18 +308,14 @@ pub(crate) fn parts(
     spot: PartsSpot,
     sections: &[ResolvedPart],
 ) -> Made<Numbers>
-    requires code { PartsHaveCode (trees.parts (map view.part sections.now)) }
+    requires code { PartsHaveCode (part_trees sections.now) }
     requires ends { HasPartsEnds (known_in tables.now) (numbers_of spot.numbers)
-        (trees.parts (map view.part sections.now)) }
+        (part_trees sections.now) }
     requires free { AreFree spot.first (length sections.now) writing.old.draft }
     requires fit { spot.first + length sections.now ≤ 2 ^ 64 }
-    ensures behind { let all = trees.parts (map view.part sections.now) in
-        IfOk result (λ after. numbers_of after ≡ rows.behind_parts (numbers_of spot.numbers) all) }
-    ensures emitted { let all = trees.parts (map view.part sections.now) in
-        OnOk result
-        (EmitsParts (numbered_by tables.now) (numbers_of spot.numbers) all spot writing.old.draft
-        writing.new.draft) }
-    ensures scopes { let all = trees.parts (map view.part sections.now) in
+    ensures behind { GivesPartsBehind result spot sections.now }
+    ensures emitted { EmitsPartsThere result tables.now spot sections.now writing.old writing.new }
+    ensures scopes { let all = part_trees sections.now in
         ScopesThere result tables.now (λ at. part_scopes at all) writing.old writing.new }
 {
     let mut numbers = spot.numbers;

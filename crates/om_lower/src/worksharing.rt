@@ -1,10 +1,9 @@
 //! The begins and the ends of worksharing loops and of `sections`.
 
-ghost use Rattle.std.specs.Prelude.{◌<◌, ◌≤◌, IfOk, length, map};
-ghost use Rattle.om_lower.specs.Words.{Appends, AppendsHead, AppendsScopes, LoopHasCode, OpensParts, closes};
-ghost use Rattle.om_lower.specs.Words.{loop_head, names_at, part_head, sections_head};
+ghost use Rattle.std.specs.Prelude.{◌<◌, ◌≤◌, length};
+ghost use Rattle.om_lower.specs.Words.{BeginsLoop, BeginsParts, EndsWorksharing, LoopHasCode, ScopesLoop};
+ghost use Rattle.om_lower.specs.Words.{ScopesParts};
 ghost use Rattle.om_resolved.specs.ResolvedView as view;
-ghost use Rattle.om_lower.specs.Words.{worksharing_begin};
 
 use crate::loop_form::{comparison_of, form_with};
 use om_code::Instr;
@@ -49,12 +48,8 @@ pub(crate) fn begin_worksharing(
     repeated: &ResolvedLoop,
 ) -> Made<LoopLabels>
     requires { LoopHasCode (view.loop repeated.now) }
-    ensures code { AppendsHead result here.now
-        (λ names l. worksharing_begin names l (map view.clause clauses.now))
-        (view.loop repeated.now) writing.old.draft writing.new.draft }
-    ensures scopes { AppendsScopes result here.now
-        (λ at l. loop_head at l (map view.clause clauses.now))
-        (view.loop repeated.now) writing.old writing.new }
+    ensures code { BeginsLoop result here.now clauses.now repeated.now writing.old writing.new }
+    ensures scopes { ScopesLoop result here.now clauses.now repeated.now writing.old writing.new }
 {
     let Some(comparison) = comparison_of(repeated.comparison) else {
         unreachable!();
@@ -90,8 +85,7 @@ pub(crate) fn end_worksharing(
     clauses: &[ResolvedClause],
     nowait: bool,
 ) -> Done
-    ensures { Appends result here.now (λ at l clauses. closes at l clauses nowait)
-        (map view.clause clauses.now) draft.old draft.new }
+    ensures { EndsWorksharing result here.now clauses.now nowait draft.old draft.new }
 {
     reductions(draft, here, clauses)?;
     worksharing_end(draft, here.at.line, nowait)?;
@@ -109,12 +103,8 @@ pub(crate) fn begin_parts(
 ) -> Made<PartsSpot>
     requires few { length parts.now ≤ 256 }
     requires numbered { head.now.numbers.picks < 4294967295 }
-    ensures code { let begin = part_head here.now.at.line head.now.numbers
-        (map view.clause head.now.clauses.now) (length parts.now) in
-        IfOk result (λ spot. OpensParts (names_at here.now) begin spot writing.old.draft
-        writing.new.draft) }
-    ensures scopes { AppendsScopes result here.now sections_head
-        (map view.clause head.now.clauses.now) writing.old writing.new }
+    ensures code { BeginsParts result here.now head.now (length parts.now) writing.old writing.new }
+    ensures scopes { ScopesParts result here.now head.now writing.old writing.new }
 {
     let line = here.at.line;
     let number = head.numbers.picks;

@@ -1,5 +1,9 @@
 -- The firstprivate copies of a region.
-use Rattle.std.specs.Prelude.{List, map}
+use Rattle.std.specs.Prelude.{◌≡◌, ◌++◌, ℕ, IfOk, List, OnOk, Result, Vec, map}
+use Rattle.std.specs.List.{flat_map}
+use Rattle.std.specs.declared.alloc.Global.{Global}
+use Rattle.om_resolved.specs.declared.resolved.ResolvedClause.{ResolvedClause}
+use Rattle.om_resolved.specs.ResolvedView as view
 use Rattle.om_rows.specs.Slots as rows
 use Rattle.om_rows.specs.declared.copies.FirstCopy.{FirstCopy}
 
@@ -8,3 +12,19 @@ first_copy copy = record { variable = copy.variable; original = copy.original }
 
 abbrev pub first_copies_of : List FirstCopy → List rows.FirstCopy
 first_copies_of copies = map first_copy copies
+
+-- the variables of copies
+abbrev pub copied_variables : List rows.FirstCopy → List ℕ
+copied_variables copies = map (λ copy. copy.variable) copies
+
+-- those of clauses that begin with their originals' values
+abbrev pub clauses_first : List ResolvedClause → List rows.FirstCopy
+clauses_first clauses = flat_map rows.clause_first (map view.clause clauses)
+
+-- a function adds these copies behind those that are there, unless memory runs out
+abbrev pub AddsCopies : {T E : Type 0} → Result T E → List rows.FirstCopy → (old new : Vec FirstCopy Global) → Type 0
+AddsCopies result added old new = OnOk result (first_copies_of new.items ≡ first_copies_of old.items ++ added)
+
+-- a function gives the slots that these variables have in a body, unless memory runs out
+abbrev pub GivesSlots : {E : Type 0} → Result (List ℕ) E → (slots : List ℕ) → (variables : List ℕ) → Type 0
+GivesSlots result slots variables = IfOk result (λ numbers. numbers ≡ map (rows.slot_of slots) variables)

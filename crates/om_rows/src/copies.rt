@@ -1,10 +1,10 @@
 //! A `parallel` or a `task`, and its firstprivate copies.
 
-ghost use Rattle.std.specs.Prelude.{◌≡◌, ◌++◌, ◌∷◌, [], OnOk, IfOk, map};
+ghost use Rattle.std.specs.Prelude.{◌≡◌, ◌++◌, ◌∷◌, [], IfOk, OnOk, map};
 ghost use Rattle.std.specs.List.{flat_map};
 ghost use Rattle.om_resolved.specs.ResolvedView as view;
 ghost use Rattle.om_rows.specs.Slots.{by_slots, capture_first, clause_first, first_copies, first_copy_at};
-ghost use Rattle.om_rows.specs.Copies.{first_copies_of};
+ghost use Rattle.om_rows.specs.Copies.{AddsCopies, clauses_first, first_copies_of};
 
 use crate::variables::Variables;
 use om_lexer::Span;
@@ -46,8 +46,7 @@ pub fn given_copies(
 
 // Adds the copies of clauses.
 fn add_clauses(copies: &mut Vec<FirstCopy>, clauses: &[ResolvedClause]) -> Made<()>
-    ensures { let added = flat_map clause_first (map view.clause clauses.now) in
-        OnOk result (first_copies_of copies.new.items ≡ first_copies_of copies.old.items ++ added) }
+    ensures { AddsCopies result (clauses_first clauses.now) copies.old copies.new }
 {
     for clause in clauses {
         add_clause(copies, clause)?;
@@ -57,8 +56,7 @@ fn add_clauses(copies: &mut Vec<FirstCopy>, clauses: &[ResolvedClause]) -> Made<
 
 // Adds the copy of a clause, where that begins with its original's value.
 fn add_clause(copies: &mut Vec<FirstCopy>, clause: &ResolvedClause) -> Made<()>
-    ensures { let added = clause_first (view.clause clause.now) in
-        OnOk result (first_copies_of copies.new.items ≡ first_copies_of copies.old.items ++ added) }
+    ensures { AddsCopies result (clause_first (view.clause clause.now)) copies.old copies.new }
 {
     let ResolvedClause::Copied {
         kind: CopyKind::Firstprivate,
@@ -85,8 +83,7 @@ fn add(copies: &mut Vec<FirstCopy>, copy: FirstCopy) -> Made<()>
 
 // Adds the copies that a region takes.
 fn add_captures(copies: &mut Vec<FirstCopy>, captures: &[Capture]) -> Made<()>
-    ensures { let added = flat_map capture_first captures.now in
-        OnOk result (first_copies_of copies.new.items ≡ first_copies_of copies.old.items ++ added) }
+    ensures { AddsCopies result (flat_map capture_first captures.now) copies.old copies.new }
 {
     for capture in captures {
         add_capture(copies, *capture)?;
@@ -96,8 +93,7 @@ fn add_captures(copies: &mut Vec<FirstCopy>, captures: &[Capture]) -> Made<()>
 
 // Adds the copy that a region takes, unless it shares.
 fn add_capture(copies: &mut Vec<FirstCopy>, capture: Capture) -> Made<()>
-    ensures { let added = capture_first capture in
-        OnOk result (first_copies_of copies.new.items ≡ first_copies_of copies.old.items ++ added) }
+    ensures { AddsCopies result (capture_first capture) copies.old copies.new }
 {
     let Taking::Firstprivate = capture.taking else {
         return Ok(());
@@ -124,7 +120,7 @@ fn by_slots(alloc: Global, variables: &[u32], copies: &[FirstCopy]) -> Made<Vec<
 // Adds the copy whose variable this is, if there is one.
 fn add_first(given: &mut Vec<FirstCopy>, copies: &[FirstCopy], variable: u32) -> Made<()>
     ensures { let added = first_copy_at (first_copies_of copies.now) variable in
-        OnOk result (first_copies_of given.new.items ≡ first_copies_of given.old.items ++ added) }
+        AddsCopies result added given.old given.new }
 {
     for copy in copies {
         if copy.variable == variable {

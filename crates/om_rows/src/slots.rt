@@ -2,8 +2,8 @@
 
 ghost use Rattle.std.specs.Prelude.{◌≡◌, ◌≤◌, IfOk, length, map};
 ghost use Rattle.std.specs.List.{list_any};
-ghost use Rattle.om_rows.specs.Slots.{is_shared, parameter_sight, shares, slot_of, slot_with, source_of};
-ghost use Rattle.om_rows.specs.Copies.{first_copies_of};
+ghost use Rattle.om_rows.specs.Slots.{is_shared, parameter_sight, shares, slot_with, source_of};
+ghost use Rattle.om_rows.specs.Copies.{GivesSlots, copied_variables, first_copies_of};
 
 use crate::copies::FirstCopy;
 use crate::extents::Extents;
@@ -68,8 +68,7 @@ pub fn parameter_slots(
     parameters: &[LocalVariable],
 ) -> Made<Seq<u32>>
     requires { length variables.now ≤ 256 }
-    ensures { IfOk result
-        (λ slots. slots ≡ map (slot_of variables.now) (map parameter_sight parameters.now)) }
+    ensures { GivesSlots result variables.now (map parameter_sight parameters.now) }
 {
     let mut slots = Vec::new(alloc);
     for parameter in parameters {
@@ -81,9 +80,7 @@ pub fn parameter_slots(
 /// The slots of copies.
 pub fn copy_slots(alloc: Global, variables: &Variables, copies: &[FirstCopy]) -> Made<Seq<u32>>
     requires { length variables.now ≤ 256 }
-    ensures { IfOk result
-        (λ slots. slots ≡ map (slot_of variables.now)
-        (map (λ copy. copy.variable) (first_copies_of copies.now))) }
+    ensures { GivesSlots result variables.now (copied_variables (first_copies_of copies.now)) }
 {
     let mut slots = Vec::new(alloc);
     for copy in copies {

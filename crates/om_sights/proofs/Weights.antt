@@ -5,7 +5,6 @@ use Rattle.std.specs.Prelude.{get_or, sum}
 use denote.Param.Weighed.{at_most, most}
 use Rattle.om_lexer.specs.declared.token.Span.{Span}
 use Rattle.std.proofs.lemmas.List.Sums.{sum_by-cons}
-use Rattle.om_resolved.specs.declared.resolved.ResolvedHead.{ResolvedHead}
 use Rattle.om_resolved.specs.declared.resolved.ResolvedPart.{ResolvedPart, fold_out-ResolvedPart, out-ResolvedPart}
 use Rattle.om_resolved.specs.declared.resolved.ResolvedExpression.{ResolvedExpression, fold-roll-ResolvedExpression}
 use Rattle.om_resolved.specs.declared.resolved.ResolvedExpression.TheOpen.{ResolvedExpression-F}
@@ -98,12 +97,6 @@ smaller_inner t e (inr (inr (inr is))) = omega (arith, ap size-ResolvedExpressio
 
 abbrev pub all_weight_of : ResolvedStatement → ℕ
 all_weight_of t = statement_weight (view.statement t)
-
--- of the head of a `for`
-abbrev pub head_weight : ResolvedHead → ℕ
-head_weight h = start_weight (view.start h.start)
-    + (perhaps_weight (option_map view.expression h.condition)
-    + perhaps_weight (option_map view.expression h.step))
 
 pub weight_declaration : (t : ResolvedStatement) (at : _) (ds : _) → t ≡ v.Declaration at ds
     → all_weight_of t ≡ sum (map declarator_weight (map view.declarator ds.items))

@@ -1,13 +1,20 @@
 -- The bodies of a function, as they are found.
-use Rattle.std.specs.Prelude.{◌≡◌, ◌+◌, ◌-◌, ℕ, List, [], ◌∷◌, ◌++◌, Some, length, slice_get, take, unwrap_or}
+use Rattle.std.specs.Prelude.{◌≡◌, ◌+◌, ◌-◌, ℕ, List, [], ◌∷◌, ◌++◌, Some, Vec, length}
+use Rattle.std.specs.Prelude.{slice_get, take, unwrap_or}
+use Rattle.std.specs.declared.alloc.Global.{Global}
 use Rattle.om_sights.specs.Regions.{parallel_tree, task_tree}
 use Rattle.om_sights.specs.declared.sites.BodyPart.{BodyPart}
 use Rattle.om_sights.specs.declared.sites.BodyPart.TheVariants as parts
 use Rattle.om_sights.specs.declared.sites.Site.{Site}
+use Rattle.om_resolved.specs.declared.resolved.ResolvedPart.{ResolvedPart}
+use Rattle.om_resolved.specs.declared.resolved.ResolvedStatement.{ResolvedStatement}
 use Rattle.om_resolved.specs.ResolvedTree.{ResolvedFunctionTree, ResolvedStatementTree}
 use Rattle.om_resolved.specs.ResolvedView as view
-use Rattle.om_rows.specs.Bodies.{BodySite, BodyTree, FunctionBody, Numbers, regions, variables_in}
+use Rattle.om_rows.specs.Bodies.{BodySite, BodyTree, FunctionBody, Numbers, all_regions, next_body, parts_regions}
+use Rattle.om_rows.specs.Bodies.{regions, variables_in}
 use Rattle.om_rows.specs.Numbering.{numbers_of}
+use Rattle.om_rows.specs.declared.numbers.Numbers as tables
+use Rattle.om_sights.specs.Trees.{part_trees, statement_trees}
 
 abbrev pub part_tree : BodyPart → BodyTree
 part_tree parts.Function = FunctionBody
@@ -81,3 +88,27 @@ region_bodies round part n s =
     let f = function_of round in
     record { function = f; tree = part_tree part; outer = site_variables round; numbers = n }
     ∷ regions f (variables_at f part) n s
+
+-- ---- a part that stands in an open body, from these numbers on
+
+-- the body of a region has been added, and those in it
+abbrev pub AddsBody : Site → BodyPart → tables.Numbers → ResolvedStatement → (old new : Vec Site Global) → Type 0
+AddsBody round part numbers body old new =
+    let added = region_bodies round part (next_body (numbers_of numbers)) (view.statement body) in
+    AddsBodies round added old.items new.items
+
+-- those of the regions in a statement have been, in statements, and in the parts of a `sections`
+abbrev pub AddsRegions : Site → tables.Numbers → ResolvedStatement → (old new : Vec Site Global) → Type 0
+AddsRegions round numbers statement old new =
+    let added = regions (function_of round) (site_variables round) (numbers_of numbers) (view.statement statement) in
+    AddsBodies round added old.items new.items
+
+abbrev pub AddsAllRegions : Site → tables.Numbers → List ResolvedStatement → (old new : Vec Site Global) → Type 0
+AddsAllRegions round numbers items old new =
+    let added = all_regions (function_of round) (site_variables round) (numbers_of numbers) (statement_trees items) in
+    AddsBodies round added old.items new.items
+
+abbrev pub AddsPartsRegions : Site → tables.Numbers → List ResolvedPart → (old new : Vec Site Global) → Type 0
+AddsPartsRegions round numbers parts old new =
+    let added = parts_regions (function_of round) (site_variables round) (numbers_of numbers) (part_trees parts) in
+    AddsBodies round added old.items new.items

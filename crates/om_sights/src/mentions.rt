@@ -1,18 +1,17 @@
 //! What a program mentions, its regions too: formats, names of critical regions, declared variables. The same walk
 //! numbers the regions.
 
-ghost use Rattle.std.specs.Prelude.{◌≡◌, ◌<◌, ◌+◌, ◌++◌, OnOk, length, map, option_map, set, sum};
-ghost use Rattle.std.specs.List.{flat_map};
-ghost use Rattle.om_resolved.specs.ResolvedTree as trees;
+ghost use Rattle.std.specs.Prelude.{◌≡◌, ◌<◌, ◌+◌, OnOk, length, map, set, sum};
 ghost use Rattle.om_resolved.specs.ResolvedView as view;
 ghost use Rattle.om_resolved.specs.Weights.{clause_weight, declarator_weight, expression_weight, loop_weight, parts_weight, perhaps_weight, start_weight, statement_weight, statements_weight, update_weight, values_weight};
-ghost use Rattle.om_rows.specs.Mentions.{all_mentioned, clause_mentioned, declarator_mentioned, expression_formats, loop_mentioned, mentioned, parts_mentioned, perhaps_mentioned, start_mentioned, update_mentioned, values_formats};
+ghost use Rattle.om_rows.specs.Mentions.{expression_formats, values_formats};
 ghost use Rattle.om_rows.specs.Slots.{cells_of_length};
-ghost use Rattle.om_rows.specs.Bodies as bodies;
+ghost use Rattle.om_rows.specs.Bodies.{behind, behind_all, behind_parts};
 ghost use Rattle.om_rows.specs.Ends.{all_region_ends, body_ends, parts_region_ends, region_ends};
-ghost use Rattle.om_rows.specs.Numbering.{numbers_of};
 ghost use Rattle.om_sights.specs.Noted.{AreNoted, noted};
 ghost use Rattle.om_sights.specs.Room.{HasRoom, HasTextRoom, IsRoomFor};
+ghost use Rattle.om_sights.specs.Trees.{listed, part_trees, perhaps_tree, statement_trees};
+ghost use Rattle.om_sights.specs.Walks.{Adds, Finds, Passes, behind_body, by_clause, by_clauses, by_declarators, by_head, by_loop, by_parts, by_perhaps, by_start, by_statement, by_statements, by_update, by_value, head_weight};
 
 use om_resolved::{
     ConstructKind, Made, ResolvedClause, ResolvedDeclarator, ResolvedExpression, ResolvedHead,
@@ -90,10 +89,8 @@ fn note_expression(formats: &mut Texts, alloc: Global, expression: &ResolvedExpr
 // Notes the formats of the values of a call.
 #[cycle(expression)]
 fn note_values(formats: &mut Texts, alloc: Global, values: &[ResolvedExpression]) -> Made<()>
-    requires room { let tree = trees.values (map view.expression values.now) in
-        IsRoomFor (values_weight tree) (length formats.old) }
-    ensures { let tree = trees.values (map view.expression values.now) in
-        OnOk result (formats.new ≡ noted formats.old (values_formats tree)) }
+    requires room { IsRoomFor (values_weight (listed values.now)) (length formats.old) }
+    ensures { OnOk result (formats.new ≡ noted formats.old (values_formats (listed values.now))) }
 {
     for value in values {
         note_expression(formats, alloc, value)?;
@@ -104,18 +101,15 @@ fn note_values(formats: &mut Texts, alloc: Global, values: &[ResolvedExpression]
 // Notes what an expression mentions.
 fn note_value(found: &mut Mentions, value: &ResolvedExpression) -> Made<()>
     requires room { HasTextRoom (expression_weight (view.expression value.now)) found.old }
-    ensures { let tree = view.expression value.now in
-        OnOk result (AreNoted (λ A m. m.in_expression tree) found.old found.new) }
+    ensures { OnOk result (AreNoted (by_value value.now) found.old found.new) }
 {
     note_expression(&mut found.formats, found.alloc, value)
 }
 
 // Notes the formats of an expression that may be left out.
 fn note_perhaps(found: &mut Mentions, expression: &Option<ResolvedExpression>) -> Made<()>
-    requires room { let tree = option_map view.expression expression.now in
-        HasTextRoom (perhaps_weight tree) found.old }
-    ensures { let tree = option_map view.expression expression.now in
-        OnOk result (AreNoted (λ A m. perhaps_mentioned m tree) found.old found.new) }
+    requires room { HasTextRoom (perhaps_weight (perhaps_tree expression.now)) found.old }
+    ensures { OnOk result (AreNoted (by_perhaps expression.now) found.old found.new) }
 {
     let Some(expression) = expression else {
         return Ok(());
@@ -134,8 +128,7 @@ fn cells_of(length: Option<u32>) -> u32
 fn note_declarators(found: &mut Mentions, declarators: &[ResolvedDeclarator]) -> Made<()>
     requires room { let tree = map view.declarator declarators.now in
         HasTextRoom (sum (map declarator_weight tree)) found.old }
-    ensures { let tree = map view.declarator declarators.now in
-        OnOk result (AreNoted (λ A m. flat_map (declarator_mentioned m) tree) found.old found.new) }
+    ensures { OnOk result (AreNoted (by_declarators declarators.now) found.old found.new) }
 {
     for declarator in declarators {
         let cells = cells_of(declarator.length);
@@ -148,8 +141,7 @@ fn note_declarators(found: &mut Mentions, declarators: &[ResolvedDeclarator]) ->
 // Notes the beginning of a `for`.
 fn note_start(found: &mut Mentions, start: &ResolvedStart) -> Made<()>
     requires room { HasTextRoom (start_weight (view.start start.now)) found.old }
-    ensures { let tree = view.start start.now in
-        OnOk result (AreNoted (λ A m. start_mentioned m tree) found.old found.new) }
+    ensures { OnOk result (AreNoted (by_start start.now) found.old found.new) }
 {
     match start {
         ResolvedStart::Nothing => Ok(()),
@@ -161,8 +153,7 @@ fn note_start(found: &mut Mentions, start: &ResolvedStart) -> Made<()>
 // Notes a clause.
 fn note_clause(found: &mut Mentions, clause: &ResolvedClause) -> Made<()>
     requires room { HasTextRoom (clause_weight (view.clause clause.now)) found.old }
-    ensures { let tree = view.clause clause.now in
-        OnOk result (AreNoted (λ A m. clause_mentioned m tree) found.old found.new) }
+    ensures { OnOk result (AreNoted (by_clause clause.now) found.old found.new) }
 {
     let ResolvedClause::Value { value, .. } = clause else {
         return Ok(());
@@ -172,10 +163,8 @@ fn note_clause(found: &mut Mentions, clause: &ResolvedClause) -> Made<()>
 
 // Notes clauses.
 fn note_clauses(found: &mut Mentions, clauses: &[ResolvedClause]) -> Made<()>
-    requires room { let tree = map view.clause clauses.now in
-        HasTextRoom (sum (map clause_weight tree)) found.old }
-    ensures { let tree = map view.clause clauses.now in
-        OnOk result (AreNoted (λ A m. flat_map (clause_mentioned m) tree) found.old found.new) }
+    requires room { HasTextRoom (sum (map clause_weight (map view.clause clauses.now))) found.old }
+    ensures { OnOk result (AreNoted (by_clauses clauses.now) found.old found.new) }
 {
     for clause in clauses {
         note_clause(found, clause)?;
@@ -186,8 +175,7 @@ fn note_clauses(found: &mut Mentions, clauses: &[ResolvedClause]) -> Made<()>
 // Notes the bounds of a canonical loop.
 fn note_loop(found: &mut Mentions, repeated: &ResolvedLoop) -> Made<()>
     requires room { HasTextRoom (loop_weight (view.loop repeated.now)) found.old }
-    ensures { let tree = view.loop repeated.now in
-        OnOk result (AreNoted (λ A m. loop_mentioned m tree) found.old found.new) }
+    ensures { OnOk result (AreNoted (by_loop repeated.now) found.old found.new) }
 {
     note_value(found, &repeated.from)?;
     note_value(found, &repeated.to)
@@ -196,8 +184,7 @@ fn note_loop(found: &mut Mentions, repeated: &ResolvedLoop) -> Made<()>
 // Notes an atomic update.
 fn note_update(found: &mut Mentions, update: &ResolvedUpdate) -> Made<()>
     requires room { HasTextRoom (update_weight (view.update update.now)) found.old }
-    ensures { let tree = view.update update.now in
-        OnOk result (AreNoted (λ A m. update_mentioned m tree) found.old found.new) }
+    ensures { OnOk result (AreNoted (by_update update.now) found.old found.new) }
 {
     note_perhaps(found, &update.index)?;
     note_value(found, &update.operand)
@@ -219,16 +206,8 @@ fn note_construct(found: &mut Mentions, kind: &ConstructKind) -> Made<()>
 
 // Notes the head of a `for`.
 fn note_head(found: &mut Mentions, head: &ResolvedHead) -> Made<()>
-    requires room { let first = view.start head.now.start in
-        let test = option_map view.expression head.now.condition in
-        let after = option_map view.expression head.now.step in
-        HasTextRoom (start_weight first + (perhaps_weight test + perhaps_weight after)) found.old }
-    ensures { let first = view.start head.now.start in
-        let test = option_map view.expression head.now.condition in
-        let after = option_map view.expression head.now.step in
-        OnOk result (AreNoted
-        (λ A m. start_mentioned m first ++ (perhaps_mentioned m test ++ perhaps_mentioned m after))
-        found.old found.new) }
+    requires room { HasTextRoom (head_weight head.now) found.old }
+    ensures { OnOk result (AreNoted (by_head head.now) found.old found.new) }
 {
     note_start(found, &head.start)?;
     note_perhaps(found, &head.condition)?;
@@ -247,13 +226,9 @@ pub(crate) fn put_end(ends: &mut Vec<Numbers>, index: usize, behind: Numbers)
 #[cycle(statement)]
 fn note_region(walk: &mut Walk, body: &ResolvedStatement) -> Made<()>
     requires room { HasRoom (1 + statement_weight (view.statement body.now)) walk.old }
-    ensures behind { let tree = view.statement body.now in
-        OnOk result (numbers_of walk.new.numbers ≡ bodies.behind (bodies.next_body (numbers_of walk.old.numbers)) tree) }
-    ensures ends { let tree = view.statement body.now in
-        OnOk result (map numbers_of walk.new.ends.items
-        ≡ map numbers_of walk.old.ends.items ++ body_ends (numbers_of walk.old.numbers) tree) }
-    ensures noted { let tree = view.statement body.now in
-        OnOk result (AreNoted (λ A m. mentioned m tree) walk.old.found walk.new.found) }
+    ensures behind { OnOk result (Passes behind_body (view.statement body.now) walk.old walk.new) }
+    ensures ends { OnOk result (Adds body_ends (view.statement body.now) walk.old walk.new) }
+    ensures noted { OnOk result (Finds (by_statement body.now) walk.old walk.new) }
 {
     let inner = walk.numbers.next_body();
     let index = walk.ends.len();
@@ -268,13 +243,9 @@ fn note_region(walk: &mut Walk, body: &ResolvedStatement) -> Made<()>
 #[cycle(statement)]
 fn note_statement(walk: &mut Walk, statement: &ResolvedStatement) -> Made<()>
     requires room { HasRoom (statement_weight (view.statement statement.now)) walk.old }
-    ensures behind { let tree = view.statement statement.now in
-        OnOk result (numbers_of walk.new.numbers ≡ bodies.behind (numbers_of walk.old.numbers) tree) }
-    ensures ends { let tree = view.statement statement.now in
-        OnOk result (map numbers_of walk.new.ends.items
-        ≡ map numbers_of walk.old.ends.items ++ region_ends (numbers_of walk.old.numbers) tree) }
-    ensures noted { let tree = view.statement statement.now in
-        OnOk result (AreNoted (λ A m. mentioned m tree) walk.old.found walk.new.found) }
+    ensures behind { OnOk result (Passes behind (view.statement statement.now) walk.old walk.new) }
+    ensures ends { OnOk result (Adds region_ends (view.statement statement.now) walk.old walk.new) }
+    ensures noted { OnOk result (Finds (by_statement statement.now) walk.old walk.new) }
 {
     match statement {
         ResolvedStatement::Declaration { declarators, .. } => {
@@ -359,15 +330,11 @@ fn note_statement(walk: &mut Walk, statement: &ResolvedStatement) -> Made<()>
 /// Walks over statements.
 #[cycle(statement)]
 pub(crate) fn note_statements(walk: &mut Walk, items: &[ResolvedStatement]) -> Made<()>
-    requires room { let tree = trees.statements (map view.statement items.now) in
-        HasRoom (statements_weight tree) walk.old }
-    ensures behind { let tree = trees.statements (map view.statement items.now) in
-        OnOk result (numbers_of walk.new.numbers ≡ bodies.behind_all (numbers_of walk.old.numbers) tree) }
-    ensures ends { let tree = trees.statements (map view.statement items.now) in
-        OnOk result (map numbers_of walk.new.ends.items
-        ≡ map numbers_of walk.old.ends.items ++ all_region_ends (numbers_of walk.old.numbers) tree) }
-    ensures noted { let tree = trees.statements (map view.statement items.now) in
-        OnOk result (AreNoted (λ A m. all_mentioned m tree) walk.old.found walk.new.found) }
+    requires room { HasRoom (statements_weight (statement_trees items.now)) walk.old }
+    ensures behind { OnOk result (Passes behind_all (statement_trees items.now) walk.old walk.new) }
+    ensures ends { OnOk result (Adds all_region_ends (statement_trees items.now) walk.old
+        walk.new) }
+    ensures noted { OnOk result (Finds (by_statements items.now) walk.old walk.new) }
 {
     for item in items {
         note_statement(walk, item)?;
@@ -378,15 +345,10 @@ pub(crate) fn note_statements(walk: &mut Walk, items: &[ResolvedStatement]) -> M
 // Walks over the parts of `sections`.
 #[cycle(statement)]
 fn note_parts(walk: &mut Walk, parts: &[ResolvedPart]) -> Made<()>
-    requires room { let tree = trees.parts (map view.part parts.now) in
-        HasRoom (parts_weight tree) walk.old }
-    ensures behind { let tree = trees.parts (map view.part parts.now) in
-        OnOk result (numbers_of walk.new.numbers ≡ bodies.behind_parts (numbers_of walk.old.numbers) tree) }
-    ensures ends { let tree = trees.parts (map view.part parts.now) in
-        OnOk result (map numbers_of walk.new.ends.items
-        ≡ map numbers_of walk.old.ends.items ++ parts_region_ends (numbers_of walk.old.numbers) tree) }
-    ensures noted { let tree = trees.parts (map view.part parts.now) in
-        OnOk result (AreNoted (λ A m. parts_mentioned m tree) walk.old.found walk.new.found) }
+    requires room { HasRoom (parts_weight (part_trees parts.now)) walk.old }
+    ensures behind { OnOk result (Passes behind_parts (part_trees parts.now) walk.old walk.new) }
+    ensures ends { OnOk result (Adds parts_region_ends (part_trees parts.now) walk.old walk.new) }
+    ensures noted { OnOk result (Finds (by_parts parts.now) walk.old walk.new) }
 {
     for part in parts {
         note_statements(walk, part.items.as_slice())?;

@@ -1,13 +1,11 @@
 //! The slots of a body: its variables are numbered as its text is read.
 
-ghost use Rattle.std.specs.Prelude.{◌≡◌, ◌++◌, OnOk, IfOk, map, option_map};
-ghost use Rattle.std.specs.List.{flat_map};
-ghost use Rattle.om_resolved.specs.Captures.{perhaps_uses};
-ghost use Rattle.om_resolved.specs.ResolvedTree as trees;
+ghost use Rattle.std.specs.Prelude.{◌≡◌, OnOk, IfOk, map};
 ghost use Rattle.om_resolved.specs.ResolvedView as view;
 ghost use Rattle.om_rows.specs.Bodies as bodies;
 ghost use Rattle.om_rows.specs.Slots.{clause_sights, declarator_sights, loop_sights, parameter_sight, parts_sights, region_clause_sights, start_sights, statement_sights, statements_sights};
-ghost use Rattle.om_sights.specs.Sighted.{Sees};
+ghost use Rattle.om_sights.specs.Sighted.{Sees, SeesAll, head_sights};
+ghost use Rattle.om_sights.specs.Trees.{part_trees, statement_trees};
 
 use om_resolved::uses::{
     take, take_combined, take_expression, take_original, take_perhaps, take_region,
@@ -59,8 +57,8 @@ fn see_parameters(seen: &mut Variables, parameters: &[LocalVariable]) -> Made<()
 
 // Sees declared names, and after each what it begins as.
 fn see_declarators(seen: &mut Variables, declarators: &[ResolvedDeclarator]) -> Made<()>
-    ensures { let trees = map view.declarator declarators.now in
-        OnOk result (Sees (flat_map declarator_sights trees) seen.old seen.new) }
+    ensures { OnOk result (SeesAll declarator_sights (map view.declarator declarators.now) seen.old
+        seen.new) }
 {
     for declarator in declarators {
         seen.add(declarator.variable.at)?;
@@ -100,8 +98,7 @@ fn see_clause(seen: &mut Variables, clause: &ResolvedClause) -> Made<()>
 
 // Sees clauses of a construct in whose body they stand.
 fn see_clauses(seen: &mut Variables, clauses: &[ResolvedClause]) -> Made<()>
-    ensures { let trees = map view.clause clauses.now in
-        OnOk result (Sees (flat_map clause_sights trees) seen.old seen.new) }
+    ensures { OnOk result (SeesAll clause_sights (map view.clause clauses.now) seen.old seen.new) }
 {
     for clause in clauses {
         see_clause(seen, clause)?;
@@ -111,8 +108,7 @@ fn see_clauses(seen: &mut Variables, clauses: &[ResolvedClause]) -> Made<()>
 
 // Sees a clause of a `parallel` or a `task`, in its body.
 fn see_region_clause(seen: &mut Variables, clause: &ResolvedClause) -> Made<()>
-    ensures { let sights = region_clause_sights (view.clause clause.now) in
-        OnOk result (Sees sights seen.old seen.new) }
+    ensures { OnOk result (Sees (region_clause_sights (view.clause clause.now)) seen.old seen.new) }
 {
     match clause {
         ResolvedClause::Value { .. } => Ok(()),
@@ -130,8 +126,8 @@ fn see_region_clause(seen: &mut Variables, clause: &ResolvedClause) -> Made<()>
 
 // Sees the clauses of a `parallel` or a `task`, in its body.
 fn see_region_clauses(seen: &mut Variables, clauses: &[ResolvedClause]) -> Made<()>
-    ensures { let trees = map view.clause clauses.now in
-        OnOk result (Sees (flat_map region_clause_sights trees) seen.old seen.new) }
+    ensures { OnOk result (SeesAll region_clause_sights (map view.clause clauses.now) seen.old
+        seen.new) }
 {
     for clause in clauses {
         see_region_clause(seen, clause)?;
@@ -150,11 +146,7 @@ fn see_loop(seen: &mut Variables, repeated: &ResolvedLoop) -> Made<()>
 
 // Sees the head of a `for`.
 fn see_head(seen: &mut Variables, head: &ResolvedHead) -> Made<()>
-    ensures { let test = option_map view.expression head.now.condition in
-        let step_tree = option_map view.expression head.now.step in
-        let sights = start_sights (view.start head.now.start)
-        ++ (perhaps_uses test ++ perhaps_uses step_tree) in
-        OnOk result (Sees sights seen.old seen.new) }
+    ensures { OnOk result (Sees (head_sights head.now) seen.old seen.new) }
 {
     see_start(seen, &head.start)?;
     take_perhaps(seen, &head.condition)?;
@@ -164,8 +156,7 @@ fn see_head(seen: &mut Variables, head: &ResolvedHead) -> Made<()>
 // Sees a statement. The bodies of regions in it have slots of their own.
 #[cycle(statement)]
 fn see_statement(seen: &mut Variables, statement: &ResolvedStatement) -> Made<()>
-    ensures { let sights = statement_sights (view.statement statement.now) in
-        OnOk result (Sees sights seen.old seen.new) }
+    ensures { OnOk result (Sees (statement_sights (view.statement statement.now)) seen.old seen.new) }
 {
     match statement {
         ResolvedStatement::Declaration { declarators, .. } => {
@@ -251,8 +242,7 @@ fn see_statement(seen: &mut Variables, statement: &ResolvedStatement) -> Made<()
 // Sees statements.
 #[cycle(statement)]
 fn see_statements(seen: &mut Variables, items: &[ResolvedStatement]) -> Made<()>
-    ensures { let tree = trees.statements (map view.statement items.now) in
-        OnOk result (Sees (statements_sights tree) seen.old seen.new) }
+    ensures { OnOk result (Sees (statements_sights (statement_trees items.now)) seen.old seen.new) }
 {
     for item in items {
         see_statement(seen, item)?;
@@ -263,8 +253,7 @@ fn see_statements(seen: &mut Variables, items: &[ResolvedStatement]) -> Made<()>
 // Sees the parts of `sections`.
 #[cycle(statement)]
 fn see_parts(seen: &mut Variables, parts: &[ResolvedPart]) -> Made<()>
-    ensures { let tree = trees.parts (map view.part parts.now) in
-        OnOk result (Sees (parts_sights tree) seen.old seen.new) }
+    ensures { OnOk result (Sees (parts_sights (part_trees parts.now)) seen.old seen.new) }
 {
     for part in parts {
         see_statements(seen, part.items.as_slice())?;

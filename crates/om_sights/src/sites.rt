@@ -1,9 +1,10 @@
 //! The bodies of a function: its own, and those of the regions in it.
 
-ghost use Rattle.std.specs.Prelude.{◌≡◌, ◌<◌, ◌+◌, [], OnOk, IfOk, length, map};
-ghost use Rattle.om_sights.specs.Sites.{AddsBodies, IsOpen, bodies_in, function_of, region_bodies, site_variables};
+ghost use Rattle.std.specs.Prelude.{◌≡◌, ◌<◌, ◌+◌, [], OnOk, IfOk, length};
+ghost use Rattle.om_sights.specs.Sites.{AddsAllRegions, AddsBody, AddsPartsRegions, AddsRegions, IsOpen, bodies_in};
 ghost use Rattle.om_sights.specs.Room.{HasNumbers};
-ghost use Rattle.om_resolved.specs.ResolvedTree as trees;
+ghost use Rattle.om_sights.specs.Trees.{part_trees, statement_trees};
+ghost use Rattle.om_sights.specs.Walks.{behind_body};
 ghost use Rattle.om_resolved.specs.ResolvedView as view;
 ghost use Rattle.om_resolved.specs.Weights.{function_weight, parts_weight, statement_weight, statements_weight};
 ghost use Rattle.om_rows.specs.Bodies as bodies;
@@ -75,12 +76,9 @@ fn see_region<'a>(
 ) -> Made<Numbers>
     requires round { IsOpen round.now sites.old.items }
     requires room { HasNumbers (1 + statement_weight (view.statement body.now)) numbers }
-    ensures behind { let n = bodies.next_body (numbers_of numbers) in
-        let tree = view.statement body.now in
-        IfOk result (λ behind. numbers_of behind ≡ bodies.behind n tree) }
-    ensures sites { let n = bodies.next_body (numbers_of numbers) in
-        let added = region_bodies round.now part.now n (view.statement body.now) in
-        OnOk result (AddsBodies round.now added sites.old.items sites.new.items) }
+    ensures behind { IfOk result (λ behind. numbers_of behind
+        ≡ behind_body (numbers_of numbers) (view.statement body.now)) }
+    ensures sites { OnOk result (AddsBody round.now part.now numbers body.now sites.old sites.new) }
 {
     let inner = numbers.next_body();
     let depth = depth_in(sites.as_slice(), round.depth);
@@ -104,11 +102,9 @@ fn see_statement<'a>(
 ) -> Made<Numbers>
     requires round { IsOpen round.now sites.old.items }
     requires room { HasNumbers (statement_weight (view.statement statement.now)) numbers }
-    ensures behind { let tree = view.statement statement.now in
-        IfOk result (λ behind. numbers_of behind ≡ bodies.behind (numbers_of numbers) tree) }
-    ensures sites { let regions = bodies.regions (function_of round.now) (site_variables round.now) in
-        let added = regions (numbers_of numbers) (view.statement statement.now) in
-        OnOk result (AddsBodies round.now added sites.old.items sites.new.items) }
+    ensures behind { IfOk result (λ behind. numbers_of behind
+        ≡ bodies.behind (numbers_of numbers) (view.statement statement.now)) }
+    ensures sites { OnOk result (AddsRegions round.now numbers statement.now sites.old sites.new) }
 {
     match statement {
         ResolvedStatement::Block { items, .. } => {
@@ -175,14 +171,10 @@ fn see_statements<'a>(
     items: &'a [ResolvedStatement],
 ) -> Made<Numbers>
     requires round { IsOpen round.now sites.old.items }
-    requires room { let tree = trees.statements (map view.statement items.now) in
-        HasNumbers (statements_weight tree) numbers }
-    ensures behind { let tree = trees.statements (map view.statement items.now) in
-        IfOk result (λ behind. numbers_of behind ≡ bodies.behind_all (numbers_of numbers) tree) }
-    ensures sites { let tree = trees.statements (map view.statement items.now) in
-        let regions = bodies.all_regions (function_of round.now) (site_variables round.now) in
-        let added = regions (numbers_of numbers) tree in
-        OnOk result (AddsBodies round.now added sites.old.items sites.new.items) }
+    requires room { HasNumbers (statements_weight (statement_trees items.now)) numbers }
+    ensures behind { IfOk result (λ behind. numbers_of behind
+        ≡ bodies.behind_all (numbers_of numbers) (statement_trees items.now)) }
+    ensures sites { OnOk result (AddsAllRegions round.now numbers items.now sites.old sites.new) }
 {
     let mut behind = numbers;
     for item in items {
@@ -200,14 +192,10 @@ fn see_parts<'a>(
     parts: &'a [ResolvedPart],
 ) -> Made<Numbers>
     requires round { IsOpen round.now sites.old.items }
-    requires room { let tree = trees.parts (map view.part parts.now) in
-        HasNumbers (parts_weight tree) numbers }
-    ensures behind { let tree = trees.parts (map view.part parts.now) in
-        IfOk result (λ behind. numbers_of behind ≡ bodies.behind_parts (numbers_of numbers) tree) }
-    ensures sites { let tree = trees.parts (map view.part parts.now) in
-        let regions = bodies.parts_regions (function_of round.now) (site_variables round.now) in
-        let added = regions (numbers_of numbers) tree in
-        OnOk result (AddsBodies round.now added sites.old.items sites.new.items) }
+    requires room { HasNumbers (parts_weight (part_trees parts.now)) numbers }
+    ensures behind { IfOk result (λ behind. numbers_of behind
+        ≡ bodies.behind_parts (numbers_of numbers) (part_trees parts.now)) }
+    ensures sites { OnOk result (AddsPartsRegions round.now numbers parts.now sites.old sites.new) }
 {
     let mut behind = numbers;
     for part in parts {

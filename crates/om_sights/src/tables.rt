@@ -1,14 +1,14 @@
 //! The tables of a program, found by one walk over its tree.
 
 ghost use Rattle.std.specs.Prelude.{◌≡◌, ◌++◌, ◌∷◌, [], OnOk, IfOk, map, sum};
-ghost use Rattle.std.specs.List.{AllZip, flat_map};
+ghost use Rattle.std.specs.List.{AllZip};
 ghost use Rattle.om_resolved.specs.ResolvedView as view;
 ghost use Rattle.om_resolved.specs.Weights.{HasSmallWeight, function_weight};
 ghost use Rattle.om_rows.specs.Bodies as bodies;
-ghost use Rattle.om_rows.specs.Mentions.{format_mention, function_mentioned, lock_mention};
-ghost use Rattle.om_rows.specs.Ends.{ends_from, function_ends};
-ghost use Rattle.om_sights.specs.Noted.{AddsCells, AreNoted, noted};
+ghost use Rattle.om_rows.specs.Ends.{function_ends};
+ghost use Rattle.om_sights.specs.Noted.{AddsCells};
 ghost use Rattle.om_sights.specs.Room.{HasRoom};
+ghost use Rattle.om_sights.specs.Walks.{Adds, Finds, HasFormats, HasLocks, HaveEnds, HaveFormats, HaveLocks, Passes, by_function, last_numbers};
 ghost use Rattle.om_rows.specs.Numbering.{function_numbers, numbers_of};
 ghost use Rattle.om_rows.specs.ProgramTables.{AreCellsOf, IsTablesOf};
 
@@ -75,19 +75,12 @@ fn note_functions(made: &mut Functions, functions: &[ResolvedFunction]) -> Made<
     requires none { made.old.extents.items ≡ [] }
     requires room { let trees = map view.function functions.now in
         HasRoom (sum (map function_weight trees)) made.old.walk }
-    ensures behind { OnOk result (numbers_of made.new.walk.numbers
-        ≡ bodies.behind_functions bodies.first_numbers (map view.function functions.now)) }
-    ensures formats { let trees = map view.function functions.now in
-        let sights = flat_map (function_mentioned format_mention) trees in
-        OnOk result (made.new.walk.found.formats ≡ noted made.old.walk.found.formats sights) }
-    ensures locks { let trees = map view.function functions.now in
-        let sights = flat_map (function_mentioned lock_mention) trees in
-        OnOk result (made.new.walk.found.locks ≡ noted made.old.walk.found.locks sights) }
+    ensures behind { OnOk result (numbers_of made.new.walk.numbers ≡ last_numbers functions.now) }
+    ensures formats { OnOk result (HaveFormats functions.now made.old.walk made.new.walk) }
+    ensures locks { OnOk result (HaveLocks functions.now made.old.walk made.new.walk) }
     ensures bodies { OnOk result (made.new.bodies.items ≡ made.old.bodies.items
         ++ function_numbers bodies.first_numbers (map view.function functions.now)) }
-    ensures ends { OnOk result (map numbers_of made.new.walk.ends.items
-        ≡ map numbers_of made.old.walk.ends.items
-        ++ ends_from bodies.first_numbers (map view.function functions.now)) }
+    ensures ends { OnOk result (HaveEnds functions.now made.old.walk made.new.walk) }
     ensures cells { OnOk result
         (AllZip AreCellsOf (map view.function functions.now) made.new.extents.items) }
 {
@@ -101,21 +94,15 @@ fn note_functions(made: &mut Functions, functions: &[ResolvedFunction]) -> Made<
 fn note_function(made: &mut Functions, function: &ResolvedFunction) -> Made<()>
     requires empty { made.old.walk.found.extents ≡ [] }
     requires room { HasRoom (function_weight (view.function function.now)) made.old.walk }
-    ensures behind { let tree = view.function function.now in
-        let behind = bodies.behind_function (numbers_of made.old.walk.numbers) tree in
-        OnOk result (numbers_of made.new.walk.numbers ≡ behind) }
-    ensures formats { let tree = view.function function.now in
-        let sights = function_mentioned format_mention tree in
-        OnOk result (made.new.walk.found.formats ≡ noted made.old.walk.found.formats sights) }
-    ensures locks { let tree = view.function function.now in
-        let sights = function_mentioned lock_mention tree in
-        OnOk result (made.new.walk.found.locks ≡ noted made.old.walk.found.locks sights) }
+    ensures behind { OnOk result (Passes bodies.behind_function (view.function function.now)
+        made.old.walk made.new.walk) }
+    ensures formats { OnOk result (HasFormats function.now made.old.walk made.new.walk) }
+    ensures locks { OnOk result (HasLocks function.now made.old.walk made.new.walk) }
     ensures empty { OnOk result (made.new.walk.found.extents ≡ []) }
     ensures bodies { OnOk result (made.new.bodies.items
         ≡ made.old.bodies.items ++ made.old.walk.numbers.bodies ∷ []) }
-    ensures ends { let ends = function_ends (numbers_of made.old.walk.numbers) in
-        OnOk result (map numbers_of made.new.walk.ends.items
-        ≡ map numbers_of made.old.walk.ends.items ++ ends (view.function function.now)) }
+    ensures ends { OnOk result (Adds function_ends (view.function function.now) made.old.walk
+        made.new.walk) }
     ensures cells { let tree = view.function function.now in
         OnOk result (AddsCells tree made.old.extents.items made.new.extents.items) }
 {
@@ -130,13 +117,10 @@ fn note_function(made: &mut Functions, function: &ResolvedFunction) -> Made<()>
 // Walks over the body of a function.
 fn note_body(walk: &mut Walk, function: &ResolvedFunction) -> Made<()>
     requires room { HasRoom (function_weight (view.function function.now)) walk.old }
-    ensures behind { let tree = view.function function.now in
-        OnOk result (numbers_of walk.new.numbers ≡ bodies.behind_function (numbers_of walk.old.numbers) tree) }
-    ensures ends { let tree = view.function function.now in
-        OnOk result (map numbers_of walk.new.ends.items
-        ≡ map numbers_of walk.old.ends.items ++ function_ends (numbers_of walk.old.numbers) tree) }
-    ensures noted { let tree = view.function function.now in
-        OnOk result (AreNoted (λ A m. function_mentioned m tree) walk.old.found walk.new.found) }
+    ensures behind { OnOk result (Passes bodies.behind_function (view.function function.now)
+        walk.old walk.new) }
+    ensures ends { OnOk result (Adds function_ends (view.function function.now) walk.old walk.new) }
+    ensures noted { OnOk result (Finds (by_function function.now) walk.old walk.new) }
 {
     let inner = walk.numbers.next_body();
     let index = walk.ends.len();

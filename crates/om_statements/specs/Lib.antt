@@ -4,5 +4,6 @@ pub mod Going
 pub mod Each
 pub mod Scoped
 pub mod Scoping
+pub mod Spots
 pub mod Effects
 pub mod Words

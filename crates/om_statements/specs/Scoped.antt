@@ -2,13 +2,15 @@
 use Rattle.std.specs.Prelude.{◌≡◌, ◌≤◌, ℕ, All, List, [], ◌∷◌, ◌++◌, OnOk, Option, None, Result, drop, length, map, reverse, take}
 use Rattle.om_emit.specs.Drafts.{Labels, Written}
 use Rattle.om_emit.specs.declared.here.Here.{Here}
-use Rattle.om_emit.specs.Emits.{Finished, Fits, Grows, names_at, site}
+use Rattle.om_emit.specs.Emits.{Appends, Finished, Fits, Grows, names_at, site}
 use Rattle.om_resolved.specs.declared.resolved.CopyKind.TheVariants as copies
 use Rattle.om_resolved.specs.declared.resolved.LocalVariable.{LocalVariable}
+use Rattle.om_resolved.specs.declared.resolved.ResolvedClause.{ResolvedClause}
 use Rattle.om_resolved.specs.ResolvedTree.{ResolvedClauseTree, Copied}
+use Rattle.om_resolved.specs.ResolvedView as view
 use Rattle.om_rows.specs.declared.scope.VariableScope.{VariableScope}
-use Rattle.om_rows.specs.Rows.{Site}
-use Rattle.om_rows.specs.Scopes.{Found, Scoping, closed_at, opened_with}
+use Rattle.om_rows.specs.Rows.{Row, Site}
+use Rattle.om_rows.specs.Scopes.{Found, Scoping, closed_at, each_scope, opened_with}
 use Rattle.om_statements.specs.declared.writing.ScopeStack.{ScopeStack}
 use Rattle.om_statements.specs.declared.writing.Writing.{Writing}
 use Rattle.om_rows.specs.Numbered.{Numbered}
@@ -69,3 +71,31 @@ abbrev pub AppendsScopes : {T E X : Type 0} → Result T E → Here → (row : S
     → Writing → Writing → Type 0
 AppendsScopes result here row x old new =
     OnOk result (EmitsScopes (names_at here) (λ at. row at here.at.line x) old new)
+
+-- the scopes of the items of a list begin where nothing is written, unless memory runs out
+abbrev pub BeginsScopes : {T E X : Type 0} → Result T E → (row : X → Scoping) → List X → ScopeStack → ScopeStack
+    → Type 0
+BeginsScopes result row xs old new =
+    OnOk result ((names : Numbered) (d : Written) → ScopesStand names (λ at. each_scope row xs) d old d new)
+
+-- ---- what a function writes of clauses, unless memory runs out
+
+-- the row of a clause, and those of clauses
+abbrev pub AppendsClause : {T E : Type 0} → Result T E → Here → (row : Site → ℕ → ResolvedClauseTree → Row)
+    → ResolvedClause → Writing → Writing → Type 0
+AppendsClause result here row clause old new = Appends result here row (view.clause clause) old.draft new.draft
+
+abbrev pub AppendsClauses : {T E : Type 0} → Result T E → Here → (row : Site → ℕ → List ResolvedClauseTree → Row)
+    → List ResolvedClause → Writing → Writing → Type 0
+AppendsClauses result here row clauses old new =
+    Appends result here row (map view.clause clauses) old.draft new.draft
+
+-- the scope of a clause's copy, and those of the copies of clauses
+abbrev pub ScopesClause : {T E : Type 0} → Result T E → Here → (row : Site → ℕ → ResolvedClauseTree → Scoping)
+    → ResolvedClause → Writing → Writing → Type 0
+ScopesClause result here row clause old new = AppendsScopes result here row (view.clause clause) old new
+
+abbrev pub ScopesEach : {T E : Type 0} → Result T E → Here → (row : Site → ℕ → ResolvedClauseTree → Scoping)
+    → List ResolvedClause → Writing → Writing → Type 0
+ScopesEach result here row clauses old new =
+    AppendsScopes result here (λ at l. each_scope (row at l)) (map view.clause clauses) old new

@@ -1,10 +1,11 @@
 -- Stretches of rows: what stands before the statement of a form, and what stands behind it.
 use Rattle.std.specs.Prelude.{◌≡◌, ◌≤◌, ◌<◌, ℕ, List, Option, Some, None, Bool, false, IfOk, IfSome, length}
-use Rattle.std.specs.Prelude.{OnOk, Result, option_map, slice_get}
+use Rattle.std.specs.Prelude.{OnOk, Result, map, option_map, slice_get}
 use Rattle.om_code.specs.declared.instruction.Instr.TheVariants as i
 use Rattle.om_code.specs.declared.instruction.Comparison.{Comparison}
 use Rattle.om_statements.specs.declared.spot.LoopLabels.{LoopLabels}
 use Rattle.om_statements.specs.declared.spot.TurnLabels.{TurnLabels}
+use Rattle.om_statements.specs.declared.writing.Writing.{Writing}
 use Rattle.om_emit.specs.Drafts.{Written, Fresh}
 use Rattle.om_emit.specs.declared.here.Here.{Here}
 use Rattle.om_emit.specs.Emits.{Part, names_at, site, Goes, Emits, EmitsRow}
@@ -12,10 +13,13 @@ use Rattle.om_pragma.specs.declared.clause.ReductionOperator.{ReductionOperator}
 use Rattle.om_resolved.specs.declared.resolved.ConstructKind.{ConstructKind}
 use Rattle.om_resolved.specs.declared.resolved.ConstructKind.TheVariants as constructs
 use Rattle.om_resolved.specs.declared.resolved.LocalVariable.{LocalVariable}
+use Rattle.om_resolved.specs.declared.resolved.ResolvedClause.{ResolvedClause}
+use Rattle.om_resolved.specs.declared.resolved.ResolvedExpression.{ResolvedExpression}
 use Rattle.om_resolved.specs.declared.resolved.Variable as variables
 use Rattle.om_resolved.specs.declared.resolved.Variable.TheVariants as named
 use Rattle.om_resolved.specs.ResolvedTree.{ResolvedExpressionTree, ResolvedClauseTree, ResolvedLoopTree}
 use Rattle.om_resolved.specs.ResolvedTree.{ResolvedStartTree}
+use Rattle.om_resolved.specs.ResolvedView as view
 use Rattle.om_rows.specs.Coded.{ValueHasCode}
 use Rattle.om_rows.specs.Expressions.{value, effect}
 use Rattle.om_rows.specs.Operators.{comparison_of, form_with, identity_of}
@@ -30,6 +34,10 @@ use Rattle.om_rows.specs.Numbered.{Numbered}
 -- a row is written that is the same in every body
 abbrev pub EmitsAnywhere : (Site → Row) → Written → Written → Type 0
 EmitsAnywhere row old new = (names : Numbered) → EmitsRow names row old new
+
+-- a function writes it, unless memory runs out
+abbrev pub AppendsAnywhere : {T E : Type 0} → Result T E → (Site → Row) → Written → Written → Type 0
+AppendsAnywhere result row old new = OnOk result (EmitsAnywhere row old new)
 
 -- a copy of a reduction begins with the operator's identity, and a firstprivate one with its original's value
 abbrev pub identity_start : Site → ℕ → ReductionOperator → LocalVariable → Row
@@ -104,6 +112,17 @@ EmitsTest names l otherwise c = Emits (test_at names l otherwise c)
 abbrev pub EmitsPerhapsTest : Numbered → ℕ → (otherwise : ℕ) → Option ResolvedExpressionTree → Written → Written
     → Type 0
 EmitsPerhapsTest names l otherwise c = Emits (λ done at. perhaps (test (site names done) l (at otherwise)) c)
+
+-- a function writes a test there, and one that may be left out, unless memory runs out
+abbrev pub AppendsTest : {T E : Type 0} → Result T E → Here → (otherwise : ℕ) → ResolvedExpression → Written → Written
+    → Type 0
+AppendsTest result here otherwise c old new =
+    OnOk result (EmitsTest (names_at here) here.at.line otherwise (view.expression c) old new)
+
+abbrev pub AppendsPerhapsTest : {T E : Type 0} → Result T E → Here → (otherwise : ℕ) → Option ResolvedExpression
+    → Written → Written → Type 0
+AppendsPerhapsTest result here otherwise c old new =
+    OnOk result (EmitsPerhapsTest (names_at here) here.at.line otherwise (option_map view.expression c) old new)
 
 -- `break` and `continue`: JMP to a label that is there
 abbrev pub EmitsJump : ℕ → Option ℕ → Written → Written → Type 0
@@ -184,6 +203,13 @@ construct_begin names l (constructs.Critical name) clauses label done at =
     ▸ ins (site names done) l (i.EnterCritical (lock_number (site names done) name)) ▸ end
 construct_begin names l constructs.Atomic clauses label done at = never
 construct_begin names l constructs.Taskgroup clauses label done at = ins (site names done) l i.GroupBegin ▸ end
+
+-- a function writes it there, unless memory runs out, and gives the label that is still to be placed
+abbrev pub BeginsConstruct : {E : Type 0} → Result ℕ E → Here → ConstructKind → List ResolvedClause → Writing → Writing
+    → Type 0
+BeginsConstruct result here kind clauses old new =
+    let begin = construct_begin (names_at here) here.at.line kind (map view.clause clauses) in
+    IfOk result (λ label. Begins label (begin label) old.draft new.draft)
 
 -- what stands behind it
 abbrev pub construct_end : Numbered → ℕ → ConstructKind → (label : ℕ) → Part

@@ -1,7 +1,7 @@
 //! Barriers, directives that stand alone, `atomic`, and jumps out of a loop's body.
 
 ghost use Rattle.std.specs.Prelude.{◌≡◌, OnOk, is_some, true};
-ghost use Rattle.om_statements.specs.Words.{Appends, AssignmentHasCode, EmitsAnywhere, EmitsJump, UpdateHasCode};
+ghost use Rattle.om_statements.specs.Words.{Appends, AppendsAnywhere, AssignmentHasCode, EmitsJump, UpdateHasCode};
 ghost use Rattle.om_statements.specs.Words.{alone_row, assignment_row, barrier, update_row};
 ghost use Rattle.om_statements.specs.Words.{worksharing_end};
 ghost use Rattle.om_resolved.specs.ResolvedView as view;
@@ -16,8 +16,7 @@ use om_resolved::{ResolvedStatement, ResolvedUpdate, StandAlone};
 
 /// Writes a directive that stands alone.
 pub fn stand_alone(draft: &mut Draft, line: u32, directive: &StandAlone) -> Done
-    ensures { OnOk result
-        (EmitsAnywhere (λ at. alone_row at line directive.now) draft.old draft.new) }
+    ensures { AppendsAnywhere result (λ at. alone_row at line directive.now) draft.old draft.new }
 {
     match directive {
         StandAlone::Barrier => {
@@ -108,7 +107,7 @@ pub fn jump(draft: &mut Draft, line: u32, label: Option<usize>) -> Done
 
 /// Writes a barrier (OpenMP API 5.2, section 15.3): it is reached, and all go on from it.
 pub fn barrier(draft: &mut Draft, line: u32, kind: Barrier) -> Done
-    ensures { OnOk result (EmitsAnywhere (λ at. barrier at line kind) draft.old draft.new) }
+    ensures { AppendsAnywhere result (λ at. barrier at line kind) draft.old draft.new }
 {
     draft.put(line, Instr::Arrive(kind))?;
     draft.put(line, Instr::Depart(kind))?;
@@ -118,8 +117,7 @@ pub fn barrier(draft: &mut Draft, line: u32, kind: Barrier) -> Done
 /// Writes the end of a worksharing construct: all threads wait for each other, unless it is `nowait`
 /// (OpenMP API 5.2, sections 15.3.2 and 15.6).
 pub fn worksharing_end(draft: &mut Draft, line: u32, nowait: bool) -> Done
-    ensures { OnOk result
-        (EmitsAnywhere (λ at. worksharing_end at line nowait) draft.old draft.new) }
+    ensures { AppendsAnywhere result (λ at. worksharing_end at line nowait) draft.old draft.new }
 {
     draft.put(line, Instr::EndWorksharing)?;
     if !nowait {

@@ -1,9 +1,10 @@
 //! What clauses make of their copies.
 
 ghost use Rattle.std.specs.Prelude.{◌≡◌, OnOk, map, option_map};
-ghost use Rattle.om_statements.specs.Words.{Appends, AppendsScopes, BeginsCopy, Numbered, ScopesStand, Written};
-ghost use Rattle.om_statements.specs.Words.{clause_scope, each_scope, identity_start, original_start};
-ghost use Rattle.om_statements.specs.Words.{parameter_scope, task_scope, team_from, team_scope};
+ghost use Rattle.om_statements.specs.Words.{Appends, AppendsBy, AppendsClause, AppendsClauses, BeginsCopy};
+ghost use Rattle.om_statements.specs.Words.{BeginsScopes, ScopesClause, ScopesEach, clause_scope, clause_start};
+ghost use Rattle.om_statements.specs.Words.{combine_clause, identity_start, original_start, parameter_scope};
+ghost use Rattle.om_statements.specs.Words.{reductions, starts, task_scope, team_from, team_scope};
 ghost use Rattle.om_resolved.specs.ResolvedView as view;
 ghost use Rattle.om_rows.specs.Statements as rows;
 
@@ -35,8 +36,7 @@ fn set_identity(
     operator: ReductionOperator,
     copy: &LocalVariable,
 ) -> Done
-    ensures { Appends result here.now (λ at l. identity_start at l operator) copy.now draft.old
-        draft.new }
+    ensures { AppendsBy result here.now identity_start operator copy.now draft.old draft.new }
 {
     let identity = identity_of(operator);
     draft.put(here.at.line, Instr::Constant(identity))?;
@@ -51,8 +51,7 @@ fn set_original(
     original: Variable,
     copy: &LocalVariable,
 ) -> Done
-    ensures { Appends result here.now (λ at l. original_start at l original) copy.now draft.old
-        draft.new }
+    ensures { AppendsBy result here.now original_start original copy.now draft.old draft.new }
 {
     load(draft, here, original)?;
     store(draft, here, Variable::Local(copy.at), false)?;
@@ -62,8 +61,7 @@ fn set_original(
 // Writes what the copy of a clause of a worksharing construct begins with (OpenMP API 5.2, sections 5.4.3,
 // 5.4.4 and 5.5.3).
 fn begin_copy(draft: &mut Draft, here: &Here<'_>, clause: &ResolvedClause) -> Done
-    ensures { Appends result here.now rows.clause_start (view.clause clause.now) draft.old
-        draft.new }
+    ensures { Appends result here.now clause_start (view.clause clause.now) draft.old draft.new }
 {
     let ResolvedClause::Copied {
         kind,
@@ -104,10 +102,8 @@ fn begin_scope(scopes: &mut ScopeStack, from: usize, clause: &ResolvedClause) ->
 // Writes what the copy of a clause of a worksharing construct begins with, from which on it is in
 // scope.
 fn clause_start(writing: &mut Writing, here: &Here<'_>, clause: &ResolvedClause) -> Done
-    ensures code { Appends result here.now rows.clause_start (view.clause clause.now)
-        writing.old.draft writing.new.draft }
-    ensures scopes { AppendsScopes result here.now clause_scope (view.clause clause.now)
-        writing.old writing.new }
+    ensures code { AppendsClause result here.now clause_start clause.now writing.old writing.new }
+    ensures scopes { ScopesClause result here.now clause_scope clause.now writing.old writing.new }
 {
     let from = writing.draft.place();
     begin_scope(&mut writing.scopes, from, clause)?;
@@ -117,10 +113,8 @@ fn clause_start(writing: &mut Writing, here: &Here<'_>, clause: &ResolvedClause)
 
 /// Writes what the copies of a worksharing construct begin with, in clause order.
 pub fn starts(writing: &mut Writing, here: &Here<'_>, clauses: &[ResolvedClause]) -> Done
-    ensures code { Appends result here.now rows.starts (map view.clause clauses.now)
-        writing.old.draft writing.new.draft }
-    ensures scopes { AppendsScopes result here.now (λ at l. each_scope (clause_scope at l))
-        (map view.clause clauses.now) writing.old writing.new }
+    ensures code { AppendsClauses result here.now starts clauses.now writing.old writing.new }
+    ensures scopes { ScopesEach result here.now clause_scope clauses.now writing.old writing.new }
 {
     for clause in clauses {
         clause_start(writing, here, clause)?;
@@ -160,10 +154,9 @@ fn team_from(place: usize, clause: &ResolvedClause) -> usize
 
 // Writes what the copy of a clause of a `parallel` begins with in its body, where it is in scope.
 fn clause_reduction_start(writing: &mut Writing, here: &Here<'_>, clause: &ResolvedClause) -> Done
-    ensures code { Appends result here.now rows.clause_reduction_start
-        (view.clause clause.now) writing.old.draft writing.new.draft }
-    ensures scopes { AppendsScopes result here.now team_scope (view.clause clause.now)
-        writing.old writing.new }
+    ensures code { AppendsClause result here.now rows.clause_reduction_start clause.now writing.old
+        writing.new }
+    ensures scopes { ScopesClause result here.now team_scope clause.now writing.old writing.new }
 {
     let from = team_from(writing.draft.place(), clause);
     begin_scope(&mut writing.scopes, from, clause)?;
@@ -173,10 +166,9 @@ fn clause_reduction_start(writing: &mut Writing, here: &Here<'_>, clause: &Resol
 
 /// Writes what the copies of a `parallel` begin with in its body, in clause order.
 pub fn reduction_starts(writing: &mut Writing, here: &Here<'_>, clauses: &[ResolvedClause]) -> Done
-    ensures code { Appends result here.now rows.reduction_starts
-        (map view.clause clauses.now) writing.old.draft writing.new.draft }
-    ensures scopes { AppendsScopes result here.now (λ at l. each_scope (team_scope at l))
-        (map view.clause clauses.now) writing.old writing.new }
+    ensures code { AppendsClauses result here.now rows.reduction_starts clauses.now writing.old
+        writing.new }
+    ensures scopes { ScopesEach result here.now team_scope clauses.now writing.old writing.new }
 {
     for clause in clauses {
         clause_reduction_start(writing, here, clause)?;
@@ -186,9 +178,7 @@ pub fn reduction_starts(writing: &mut Writing, here: &Here<'_>, clauses: &[Resol
 
 /// Begins the scopes of the copies of a `task`, in its body.
 pub fn task_copies(scopes: &mut ScopeStack, clauses: &[ResolvedClause]) -> Done
-    ensures { let trees = map view.clause clauses.now in
-        OnOk result ((names : Numbered) (d : Written)
-        → ScopesStand names (λ at. each_scope task_scope trees) d scopes.old d scopes.new) }
+    ensures { BeginsScopes result task_scope (map view.clause clauses.now) scopes.old scopes.new }
 {
     for clause in clauses {
         begin_scope(scopes, 0, clause)?;
@@ -198,9 +188,7 @@ pub fn task_copies(scopes: &mut ScopeStack, clauses: &[ResolvedClause]) -> Done
 
 /// Begins the scopes of parameters, in the body of their function.
 pub fn parameters(scopes: &mut ScopeStack, variables: &[LocalVariable]) -> Done
-    ensures { OnOk result ((names : Numbered) (d : Written)
-        → ScopesStand names (λ at. each_scope parameter_scope variables.now) d scopes.old d
-        scopes.new) }
+    ensures { BeginsScopes result parameter_scope variables.now scopes.old scopes.new }
 {
     for variable in variables {
         scopes.begin(0, None, variable)?;
@@ -210,8 +198,7 @@ pub fn parameters(scopes: &mut ScopeStack, variables: &[LocalVariable]) -> Done
 
 // Combines the copy of a clause with its original, if the clause is a reduction.
 fn combine_clause(draft: &mut Draft, here: &Here<'_>, clause: &ResolvedClause) -> Done
-    ensures { Appends result here.now rows.combine_clause (view.clause clause.now)
-        draft.old draft.new }
+    ensures { Appends result here.now combine_clause (view.clause clause.now) draft.old draft.new }
 {
     let ResolvedClause::Copied {
         kind,
@@ -241,8 +228,7 @@ fn combine_clause(draft: &mut Draft, here: &Here<'_>, clause: &ResolvedClause) -
 /// Combines the copies of reductions with their originals, in clause order (OpenMP API 5.2, section
 /// 5.5.8).
 pub fn reductions(draft: &mut Draft, here: &Here<'_>, clauses: &[ResolvedClause]) -> Done
-    ensures { Appends result here.now rows.reductions (map view.clause clauses.now)
-        draft.old draft.new }
+    ensures { Appends result here.now reductions (map view.clause clauses.now) draft.old draft.new }
 {
     for clause in clauses {
         combine_clause(draft, here, clause)?;

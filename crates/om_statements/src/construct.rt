@@ -1,9 +1,8 @@
 //! The begins and the ends of constructs round a statement.
 
-ghost use Rattle.std.specs.Prelude.{◌≡◌, IfOk, IfSome, None, Some, map, slice_get};
-ghost use Rattle.om_statements.specs.Words.{Appends, AppendsEnd, AppendsScopes, BeginHasCode, Begins, IsNoAtomic};
-ghost use Rattle.om_statements.specs.Words.{ValueHasCode, construct_begin, construct_end, construct_head};
-ghost use Rattle.om_statements.specs.Words.{names_at};
+ghost use Rattle.std.specs.Prelude.{◌≡◌, IfSome, None, Some, map, slice_get};
+ghost use Rattle.om_statements.specs.Words.{Appends, AppendsEnd, AppendsScopes, BeginHasCode, BeginsConstruct};
+ghost use Rattle.om_statements.specs.Words.{IsNoAtomic, ValueHasCode, construct_end, construct_head};
 ghost use Rattle.om_resolved.specs.ResolvedView as view;
 ghost use Rattle.om_rows.specs.Statements as rows;
 
@@ -40,10 +39,7 @@ pub fn begin_construct(
     clauses: &[ResolvedClause],
 ) -> Made<usize>
     requires { BeginHasCode kind.now (map view.clause clauses.now) }
-    ensures code { let begin = construct_begin (names_at here.now) here.now.at.line kind.now
-        (map view.clause clauses.now) in
-        IfOk result
-        (λ label. Begins label (begin label) writing.old.draft writing.new.draft) }
+    ensures code { BeginsConstruct result here.now kind.now clauses.now writing.old writing.new }
     ensures scopes { AppendsScopes result here.now (λ at l. construct_head at l kind.now)
         (map view.clause clauses.now) writing.old writing.new }
 {

@@ -1,9 +1,9 @@
 //! Declarations, tests, and what leaves a function.
 
-ghost use Rattle.std.specs.Prelude.{◌≡◌, All, IfSome, OnOk, map, option_map};
-ghost use Rattle.om_statements.specs.Words.{Appends, AppendsScopes, DeclaratorHasCode, EffectHasCode};
-ghost use Rattle.om_statements.specs.Words.{EmitsPerhapsTest, EmitsTest, HasNoTarget, StartHasCode, ValueHasCode};
-ghost use Rattle.om_statements.specs.Words.{declarator_scope, each, each_scope, effect, names_at, perhaps};
+ghost use Rattle.std.specs.Prelude.{◌≡◌, All, IfSome, map, option_map};
+ghost use Rattle.om_statements.specs.Words.{Appends, AppendsPerhapsTest, AppendsScopes, AppendsTest};
+ghost use Rattle.om_statements.specs.Words.{DeclaratorHasCode, EffectHasCode, HasNoTarget, StartHasCode};
+ghost use Rattle.om_statements.specs.Words.{ValueHasCode, declarator_scope, each, each_scope, effect, perhaps};
 ghost use Rattle.om_statements.specs.Words.{start_scopes};
 ghost use Rattle.om_resolved.specs.ResolvedView as view;
 ghost use Rattle.om_rows.specs.Statements as rows;
@@ -93,8 +93,7 @@ pub fn test(
     otherwise: usize,
 ) -> Done
     requires { ValueHasCode (view.expression condition.now) }
-    ensures { OnOk result (EmitsTest (names_at here.now) here.now.at.line otherwise
-        (view.expression condition.now) draft.old draft.new) }
+    ensures { AppendsTest result here.now otherwise condition.now draft.old draft.new }
 {
     value(draft, here, condition)?;
     draft.put_jump(here.at.line, Jump::IfZero, otherwise)?;
@@ -109,8 +108,7 @@ pub fn perhaps_test(
     otherwise: usize,
 ) -> Done
     requires { IfSome (option_map view.expression condition.now) ValueHasCode }
-    ensures { OnOk result (EmitsPerhapsTest (names_at here.now) here.now.at.line otherwise
-        (option_map view.expression condition.now) draft.old draft.new) }
+    ensures { AppendsPerhapsTest result here.now otherwise condition.now draft.old draft.new }
 {
     let Some(condition) = condition else {
         return Ok(());

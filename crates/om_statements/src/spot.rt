@@ -1,6 +1,7 @@
 //! Where a statement stands, and where jumps go.
 
 ghost use Rattle.std.specs.Prelude.{◌≡◌, None, Some};
+ghost use Rattle.om_statements.specs.Words.{spot_with};
 
 use om_rows::Numbers;
 
@@ -15,7 +16,7 @@ pub struct Spot {
 impl Spot {
     // With these labels for `break` and `continue`.
     fn with(numbers: Numbers, over: Option<usize>, next: Option<usize>) -> Spot
-        ensures { result ≡ record { numbers = numbers; jumps = record { over = over; next = next } } }
+        ensures { result ≡ spot_with numbers over next }
     {
         let jumps = JumpLabels { over, next };
         Spot { numbers, jumps }
@@ -23,24 +24,21 @@ impl Spot {
 
     /// Outside of loops.
     pub fn outside(numbers: Numbers) -> Spot
-        ensures { result
-            ≡ record { numbers = numbers; jumps = record { over = None; next = None } } }
+        ensures { result ≡ spot_with numbers None None }
     {
         Spot::with(numbers, None, None)
     }
 
     /// In a loop.
     pub fn in_loop(numbers: Numbers, over: usize, next: usize) -> Spot
-        ensures { result
-            ≡ record { numbers = numbers; jumps = record { over = Some over; next = Some next } } }
+        ensures { result ≡ spot_with numbers (Some over) (Some next) }
     {
         Spot::with(numbers, Some(over), Some(next))
     }
 
     /// In the body of a worksharing loop, which no `break` leaves.
     pub fn in_iteration(numbers: Numbers, next: usize) -> Spot
-        ensures { result
-            ≡ record { numbers = numbers; jumps = record { over = None; next = Some next } } }
+        ensures { result ≡ spot_with numbers None (Some next) }
     {
         Spot::with(numbers, None, Some(next))
     }

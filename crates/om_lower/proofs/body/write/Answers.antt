@@ -8,6 +8,13 @@ use Rattle.om_statements.specs.Scoped.{EmitsScopes}
 use Rattle.om_rows.specs.BodyTables.{numbered_by}
 use Rattle.om_lower.proofs.body.write.Goals as goal
 
+pub returns-in-Function-clause-code : goal.returns-in-Function-clause-code
+returns-in-Function-clause-code c =
+    let b = body_in [] c.args.site.now in
+    subst (λ part. OnOk c.write_function.result (EmitsBody (numbered_by c.args.tables.now) b.numbers b.function
+    (part_tree part) c.args.writing.now.draft c.write_function.new.writing.draft))
+    (sym c.in-Function.is) c.write_function.ensures.code
+
 pub returns-in-Function-clause-scopes : goal.returns-in-Function-clause-scopes
 returns-in-Function-clause-scopes c =
     let b = body_in [] c.args.site.now in

@@ -12,13 +12,14 @@ use Rattle.om_resolved.specs.Weights.{clause_weight, declarator_weight, loop_wei
 use Rattle.om_rows.specs.Mentions.{all_mentioned}
 use Rattle.om_rows.specs.Numbering.{numbers_of}
 use Rattle.om_sights.specs.Room.{IsRoomFor}
+use Rattle.om_sights.specs.Walks.{head_weight}
 use Rattle.om_sights.proofs.Rooms.{clauses_behind, construct_behind, given, head_behind, loop_behind, statement_behind}
 use Rattle.om_sights.proofs.Rooms.{statements_behind}
 use Rattle.om_sights.proofs.Rooms.{value_behind}
 use Rattle.om_sights.proofs.Weights.{all_weight_of, weight_block, weight_construct, weight_do, weight_for}
 use Rattle.om_sights.proofs.Noting.{parts_next}
 use Rattle.om_sights.proofs.Weights.{next_part, smaller_region, smaller_tested}
-use Rattle.om_sights.proofs.Weights.{head_weight, item_left, part_left, weight_declaration, weight_expression}
+use Rattle.om_sights.proofs.Weights.{item_left, part_left, weight_declaration, weight_expression}
 use Rattle.om_sights.proofs.Weights.{weight_return, weight_update, weight_tested, weight_region, with_depth}
 use Rattle.om_sights.proofs.Weights.{weight_if_else, weight_loop, weight_sections}
 use Rattle.om_sights.proofs.mentions.+statement.Goals as goal
