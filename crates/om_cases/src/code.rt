@@ -1,9 +1,9 @@
 //! What code knows of its source.
 
 use om_code::Program;
+use om_front::program_of;
 use om_lexer::FaultCode;
 use om_lower::{Var, global_named, line_of, variable_at};
-use om_front::program_of;
 use std::alloc::{AllocError, Global};
 
 // Line 5 becomes `CONST 1` and `STORE x`, and line 6 `FIN 0`.

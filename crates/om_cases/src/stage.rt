@@ -5,11 +5,11 @@ ghost use Rattle.om_tree.specs.Formed.{IsUnit};
 ghost use Rattle.om_tree.specs.Sizes.{AtomicsHaveForms};
 ghost use Rattle.om_tree.specs.View.{view_unit};
 
+use om_front::program_of;
 use om_lexer::{SourceFault, Token, lex};
 use om_parser::{Unit, parse};
 use om_pragma::directive;
 use om_scope::resolve;
-use om_front::program_of;
 use std::alloc::Global;
 
 /// How far a source is taken.

@@ -2,8 +2,8 @@
 
 use crate::function::{Function, functions_of};
 use om_code::Program;
-use om_lexer::{FaultCode, lex};
 use om_front::program_of;
+use om_lexer::{FaultCode, lex};
 use std::alloc::{AllocError, Global};
 
 /// An accepted source: its program and its functions.

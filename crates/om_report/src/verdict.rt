@@ -6,9 +6,9 @@ ghost use Rattle.om_report.specs.Reports.{Reports};
 
 use crate::excerpt::explanation;
 use crate::team::{Checked, team_notes};
+use om_front::program_of;
 use om_lexer::{FaultCode, SourceFault};
 use om_lines::{Report, accepted_report, refused_report};
-use om_front::program_of;
 use std::alloc::{AllocError, Global};
 
 // The report on an accepted source.

@@ -1,11 +1,11 @@
--- What resolving a part of a tree answers: a refusal, or what is found.
+-- What resolving a part of a tree answers: a refusal, or what is found. The lemma at the end is matter of proofs.
 use Rattle.std.specs.Prelude.{◌≡◌, ◌++◌, List, OnOk, Option, Some, Result, Err, Vec, map, option_map}
 use Rattle.std.specs.declared.alloc.Global.{Global}
 use Rattle.om_lexer.specs.declared.fault.SourceFault.{SourceFault}
 use Rattle.om_rules.specs.Checks.{Checks}
 use Rattle.om_rules.specs.Outcomes.{Finds, Refuses}
 
--- the first breach is refused, unless memory ran out; what breaks no rule is found, and seen as this resolution
+-- unless memory ran out, the first breach is refused, or there is none, and what is found is seen as this resolution
 pub record Resolves {X Y : Type 0} (view : X → Y) (result : Result X SourceFault) (breaches : List SourceFault)
     (resolution : Option Y) : Type 0 where
   pub checked : Checks result breaches

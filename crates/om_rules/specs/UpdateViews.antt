@@ -10,9 +10,9 @@ abbrev pub view_operation : operations.Operation → Operation
 view_operation o = record { operator = o.operator; side = o.side; operand = view.expression o.operand }
 
 -- the same, where something is done to it
-abbrev pub view_found : Option operations.Operation → Option Operation
-view_found found = option_map view_operation found
+abbrev pub view_perhaps_operation : Option operations.Operation → Option Operation
+view_perhaps_operation found = option_map view_operation found
 
 -- the update that is made of it, if one is
-abbrev pub view_made : Option ResolvedUpdate → Option ResolvedUpdateTree
-view_made made = option_map view.update made
+abbrev pub view_perhaps_update : Option ResolvedUpdate → Option ResolvedUpdateTree
+view_perhaps_update made = option_map view.update made

@@ -3,7 +3,7 @@
 ghost use Rattle.std.specs.Prelude.{◌≡◌, option_map};
 ghost use Rattle.om_resolved.specs.ResolvedView as view;
 ghost use Rattle.om_rules.specs.Updates.{binary_operator, expression_side, expression_update, operation, other_operand, statement_side, step_operation, step_operator, update_of, updated, value_operation, value_side};
-ghost use Rattle.om_rules.specs.UpdateViews.{view_found, view_made, view_operation};
+ghost use Rattle.om_rules.specs.UpdateViews.{view_perhaps_operation, view_perhaps_update, view_operation};
 ghost use Rattle.om_tree.specs.View.{view_expression, view_statement};
 
 use om_lexer::Span;
@@ -101,7 +101,7 @@ fn other_operand(
 
 // What an assigned value does to a target on that side.
 fn value_operation(side: Side, value: &mut ResolvedExpression) -> Option<Operation>
-    ensures { view_found result ≡ value_operation side (view.expression value.old) }
+    ensures { view_perhaps_operation result ≡ value_operation side (view.expression value.old) }
 {
     let ResolvedExpression::Binary {
         left,
@@ -139,7 +139,7 @@ fn assignment(
     operator: AssignOperator,
     value: &mut ResolvedExpression,
 ) -> Option<Operation>
-    ensures { view_found result ≡ operation side operator (view.expression value.old) }
+    ensures { view_perhaps_operation result ≡ operation side operator (view.expression value.old) }
 {
     let operator = match operator {
         AssignOperator::Set => return value_operation(side, value),
@@ -194,7 +194,7 @@ fn expression_update(
     side: Side,
     expression: &mut ResolvedExpression,
 ) -> Option<ResolvedUpdate>
-    ensures { view_made result ≡ expression_update at side (view.expression expression.old) }
+    ensures { view_perhaps_update result ≡ expression_update at side (view.expression expression.old) }
 {
     let (variable, index, found) = match expression {
         ResolvedExpression::Assign {
@@ -230,7 +230,7 @@ fn expression_update(
 /// The update that a statement is, whose target stands on that side of its operator (OpenMP API 5.2,
 /// section 4.3.1.3); nothing where it is another statement. It takes the operands out of the statement.
 pub fn update_of(side: Side, statement: &mut ResolvedStatement) -> Option<ResolvedUpdate>
-    ensures { view_made result ≡ update_of side (view.statement statement.old) }
+    ensures { view_perhaps_update result ≡ update_of side (view.statement statement.old) }
 {
     let ResolvedStatement::Expression {
         at,

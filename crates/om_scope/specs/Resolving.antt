@@ -58,12 +58,12 @@ abbrev pub part_trees : List Part → PartsTree
 part_trees sections = trees.parts (map view_part sections)
 
 -- the parameters that a function lists
-abbrev pub listed : {N : Type 0} → Parameters N → List (Parameter N)
-listed ps = parameters_of (view_parameters ps)
+abbrev pub parameters_in : {N : Type 0} → Parameters N → List (Parameter N)
+parameters_in ps = parameters_of (view_parameters ps)
 
 -- those behind the first
-abbrev pub further : {N : Type 0} → List (Span × Parameter N) → List (Parameter N)
-further rest = map (λ further. further.1) rest
+abbrev pub further_parameters : {N : Type 0} → List (Span × Parameter N) → List (Parameter N)
+further_parameters rest = map (λ further. further.1) rest
 
 -- ---- resolved trees
 
@@ -79,6 +79,7 @@ view_items items = resolved.statements (map view.statement items.items)
 abbrev pub view_parts : Vec ResolvedPart Global → ResolvedPartsTree
 view_parts parts = resolved.parts (map view.part parts.items)
 
+-- the clauses of a construct
 abbrev pub view_clauses : Vec ResolvedClause Global → List ResolvedClauseTree
 view_clauses clauses = map view.clause clauses.items
 
@@ -87,7 +88,7 @@ view_clauses clauses = map view.clause clauses.items
 -- a statement is refused, or resolved and seen so
 abbrev pub ResolvesStatement : {X : Type 0} → (X → ResolvedStatementTree) → Result X SourceFault → Scopes → Flow
     → Statement → Type 0
-ResolvesStatement view result scopes flow s = Resolves view result (statement_breaches scopes flow (view_statement s))
+ResolvesStatement seen result scopes flow s = Resolves seen result (statement_breaches scopes flow (view_statement s))
     (resolved_statement scopes flow.parallel (view_statement s))
 
 -- one of the items of a block is refused, or all are resolved
@@ -137,18 +138,18 @@ pub record ResolvesTurn
   pub step : Finds (λ found. option_map view_boxed found.1) result (resolved_perhaps scopes head.step)
 
 -- the parameters are in scope, unless one is refused
-abbrev pub HasParameters : {T : Type 0} → Result T SourceFault → Scopes → Scopes → List (Parameter names.Name) → Type 0
-HasParameters result old new ps = OnOk result (new ≡ after_parameters old ps)
+abbrev pub DeclaresParameters : {T : Type 0} → Result T SourceFault → Scopes → Scopes → List (Parameter names.Name) → Type 0
+DeclaresParameters result old new ps = OnOk result (new ≡ after_parameters old ps)
 
 -- their variables stand behind those that were there, unless one is refused
-abbrev pub AddsParameters : {T : Type 0} → Result T SourceFault → Vec LocalVariable Global → Vec LocalVariable Global
+abbrev pub AppendsParameters : {T : Type 0} → Result T SourceFault → Vec LocalVariable Global → Vec LocalVariable Global
     → List (Parameter names.Name) → Type 0
-AddsParameters result old new ps = Appends result old new (map parameter_variable ps)
+AppendsParameters result old new ps = Appends result old new (map parameter_variable ps)
 
 -- the parameters of a prototype that have names are in scope, unless one is refused
-abbrev pub HasOptionals : {T : Type 0} → Result T SourceFault → Scopes → Scopes → List (Parameter (Option names.Name))
+abbrev pub DeclaresOptionals : {T : Type 0} → Result T SourceFault → Scopes → Scopes → List (Parameter (Option names.Name))
     → Type 0
-HasOptionals result old new ps = OnOk result (new ≡ after_optionals old ps)
+DeclaresOptionals result old new ps = OnOk result (new ≡ after_optionals old ps)
 
 -- the function is declared, unless it is refused
 abbrev pub DeclaresHead : {T E N : Type 0} → Result T E → Scopes → Scopes → FunctionHead N → Type 0

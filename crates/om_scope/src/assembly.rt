@@ -13,7 +13,7 @@ ghost use Rattle.om_resolved.specs.ResolvedView as view;
 ghost use Rattle.om_rules.specs.Resolves.{Resolves};
 ghost use Rattle.om_rules.specs.StatementResolution.{atomic_of, clause_schedule, critical_name, has_default, has_nowait, loop_construct_of, parallel_of, schedule_in, schedule_of, sections_construct_of, task_of, with_update};
 ghost use Rattle.om_rules.specs.Updates.{update_of};
-ghost use Rattle.om_scope.specs.Resolving.{view_body, view_clauses};
+ghost use Rattle.om_scope.specs.Resolving.{view_body, view_clauses, view_parts};
 
 use om_lexer::{SourceFault, Span};
 use om_names::{is_parallel, traits_of};
@@ -61,7 +61,7 @@ fn parallel_of(
     ensures checked { Checks result [] }
     ensures made { IfOk result
         (λ found. view.statement found
-        ≡ parallel_of (view_directive directive.now) (map view.clause clauses.items)
+        ≡ parallel_of (view_directive directive.now) (view_clauses clauses)
         (view.statement inner)) }
 {
     let at = directive.hash;
@@ -245,9 +245,9 @@ fn with_update(
     side: Side,
     body: Box<ResolvedStatement>,
 ) -> Result<ResolvedStatement, AllocError>
-    requires is_update { IsSome (update_of side (view.statement body.value)) }
+    requires is_update { IsSome (update_of side (view_body body)) }
     ensures { IfOk result
-        (λ found. with_update at (update_of side (view.statement body.value))
+        (λ found. with_update at (update_of side (view_body body))
         ≡ Some (view.statement found)) }
 {
     let mut body = body;
@@ -286,8 +286,8 @@ pub(crate) fn loop_construct_of(
     ensures checked { Checks result [] }
     ensures made { IfOk result
         (λ found. view.statement found
-        ≡ loop_construct_of (view_directive directive.now) (map view.clause clauses.items)
-        (view.loop repeated.value) (view.statement body.value)) }
+        ≡ loop_construct_of (view_directive directive.now) (view_clauses clauses)
+        (view.loop repeated.value) (view_body body)) }
 {
     let at = directive.hash;
     if is_parallel(traits_of(&directive.name).region) {
@@ -307,8 +307,8 @@ fn shared_loop(
     body: Box<ResolvedStatement>,
 ) -> ResolvedStatement
     ensures { view.statement result
-        ≡ resolved.Loop at (map view.clause clauses.items) nowait
-        (view.loop repeated.value) (view.statement body.value) }
+        ≡ resolved.Loop at (view_clauses clauses) nowait
+        (view.loop repeated.value) (view_body body) }
 {
     ResolvedStatement::Loop {
         at,
@@ -337,8 +337,8 @@ pub(crate) fn sections_construct_of(
     ensures made { IfOk result
         (λ found. view.statement found
         ≡ sections_construct_of (view_directive directive.now)
-        (map view.clause clauses.items)
-        (resolved.parts (map view.part parts.items))) }
+        (view_clauses clauses)
+        (view_parts parts)) }
 {
     let at = directive.hash;
     if is_parallel(traits_of(&directive.name).region) {
@@ -357,8 +357,8 @@ fn shared_parts(
     parts: Vec<ResolvedPart>,
 ) -> ResolvedStatement
     ensures { view.statement result
-        ≡ resolved.Sections at (map view.clause clauses.items) nowait
-        (resolved.parts (map view.part parts.items)) }
+        ≡ resolved.Sections at (view_clauses clauses) nowait
+        (view_parts parts) }
 {
     ResolvedStatement::Sections {
         at,

@@ -13,8 +13,8 @@ ghost use Rattle.om_rules.specs.UnitResolution.{resolved_function, resolved_insi
 ghost use Rattle.om_rules.specs.UnitRules.{body_breaches, definition_breaches, flow_of, function_breaches, head_breaches, is_other_main, is_redeclared, next_optional, next_parameter, optional_breaches, optionals_breaches, parameter_breaches, parameters_breaches, prototype_breaches};
 ghost use Rattle.om_rules.specs.StatementRules.{redeclared_breaches};
 ghost use Rattle.om_resolved.specs.declared.resolved.Shape.TheVariants.{Scalar};
-ghost use Rattle.om_scope.specs.Resolving.{AddsParameters, DeclaresHead, DefinesHead, HasOptionals, HasParameters};
-ghost use Rattle.om_scope.specs.Resolving.{further, listed, view_items};
+ghost use Rattle.om_scope.specs.Resolving.{AppendsParameters, DeclaresHead, DefinesHead, DeclaresOptionals, DeclaresParameters};
+ghost use Rattle.om_scope.specs.Resolving.{further_parameters, parameters_in, view_items};
 
 use crate::statement::resolve_statements;
 use om_lexer::{FaultCode, SourceFault, Span};
@@ -35,7 +35,7 @@ fn returns_value(kind: &ResultType) -> bool
 
 // How many parameters there are.
 fn parameter_count<N>(parameters: &Parameters<N>) -> usize
-    ensures { result ≡ length (listed parameters.now) }
+    ensures { result ≡ length (parameters_in parameters.now) }
 {
     match parameters {
         Parameters::Nothing => 0,
@@ -137,7 +137,7 @@ fn declare_parameter(
 ) -> Result<(), SourceFault>
     ensures checked { Checks result (parameter_breaches (before, symbols.old) parameter.now) }
     ensures in_scope { OnOk result (symbols.new ≡ after_parameter symbols.old parameter.now) }
-    ensures resolved { AddsParameters result parameters.old parameters.new (parameter.now ∷ []) }
+    ensures resolved { AppendsParameters result parameters.old parameters.new (parameter.now ∷ []) }
     ensures few { OnOk result (before < PARAMETER_LIMIT) }
 {
     refuse_if(
@@ -159,9 +159,9 @@ fn declare_further_parameters(
 ) -> Result<(), SourceFault>
     ensures checked { Checks result
         (breaches_along parameter_breaches next_parameter (1, symbols.old)
-        (further rest.now)) }
-    ensures in_scope { HasParameters result symbols.old symbols.new (further rest.now) }
-    ensures resolved { AddsParameters result parameters.old parameters.new (further rest.now) }
+        (further_parameters rest.now)) }
+    ensures in_scope { DeclaresParameters result symbols.old symbols.new (further_parameters rest.now) }
+    ensures resolved { AppendsParameters result parameters.old parameters.new (further_parameters rest.now) }
 {
     let mut before = 1;
     for further in rest {
@@ -178,9 +178,9 @@ fn declare_parameters(
     found: &mut Vec<LocalVariable>,
     parameters: &Parameters<Name>,
 ) -> Result<(), SourceFault>
-    ensures checked { Checks result (parameters_breaches symbols.old (listed parameters.now)) }
-    ensures in_scope { HasParameters result symbols.old symbols.new (listed parameters.now) }
-    ensures resolved { AddsParameters result found.old found.new (listed parameters.now) }
+    ensures checked { Checks result (parameters_breaches symbols.old (parameters_in parameters.now)) }
+    ensures in_scope { DeclaresParameters result symbols.old symbols.new (parameters_in parameters.now) }
+    ensures resolved { AppendsParameters result found.old found.new (parameters_in parameters.now) }
 {
     let Parameters::Listed { first, rest } = parameters else {
         return Ok(());
@@ -219,8 +219,8 @@ fn declare_further_optionals(
 ) -> Result<(), SourceFault>
     ensures checked { Checks result
         (breaches_along optional_breaches next_optional (1, symbols.old)
-        (further rest.now)) }
-    ensures in_scope { HasOptionals result symbols.old symbols.new (further rest.now) }
+        (further_parameters rest.now)) }
+    ensures in_scope { DeclaresOptionals result symbols.old symbols.new (further_parameters rest.now) }
 {
     let mut before = 1;
     for further in rest {
@@ -236,8 +236,8 @@ fn declare_optionals(
     symbols: &mut Symbols,
     parameters: &Parameters<Option<Name>>,
 ) -> Result<(), SourceFault>
-    ensures checked { Checks result (optionals_breaches symbols.old (listed parameters.now)) }
-    ensures in_scope { HasOptionals result symbols.old symbols.new (listed parameters.now) }
+    ensures checked { Checks result (optionals_breaches symbols.old (parameters_in parameters.now)) }
+    ensures in_scope { DeclaresOptionals result symbols.old symbols.new (parameters_in parameters.now) }
 {
     let Parameters::Listed { first, rest } = parameters else {
         return Ok(());
@@ -316,8 +316,8 @@ fn resolve_inside(
         Resolves view_items result (body_breaches symbols.old tree)
         (resolved_inside symbols.old tree) }
     ensures in_scope { OnOk result (symbols.new ≡ symbols.old) }
-    ensures parameters { let own = listed function.now.head.parameters in
-        AddsParameters result parameters.old parameters.new own }
+    ensures parameters { let own = parameters_in function.now.head.parameters in
+        AppendsParameters result parameters.old parameters.new own }
 {
     symbols.enter(alloc)?;
     declare_parameters(alloc, symbols, parameters, &function.head.parameters)?;

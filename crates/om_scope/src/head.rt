@@ -8,7 +8,7 @@ ghost use Rattle.om_rules.specs.Checks.{Checks};
 ghost use Rattle.om_rules.specs.Resolves.{Resolves};
 ghost use Rattle.om_rules.specs.StatementResolution.{resolved_perhaps, resolved_start};
 ghost use Rattle.om_rules.specs.StatementRules.{continuing, for_start_breaches, looping, perhaps_breaches};
-ghost use Rattle.om_scope.specs.Resolving.{GoesBehindStart, ResolvesHead, ResolvesTurn};
+ghost use Rattle.om_scope.specs.Resolving.{GoesBehindStart, ResolvesHead, ResolvesTurn, view_body};
 ghost use Rattle.om_uses.specs.Views.{view_boxed};
 
 use om_lexer::{SourceFault, Span};
@@ -125,7 +125,7 @@ pub fn for_of(at: Span, head: Box<ResolvedHead>, body: Box<ResolvedStatement>) -
         ≡ resolved.For at (view.start head.value.start)
         (option_map view.expression head.value.condition)
         (option_map view.expression head.value.step)
-        (view.statement body.value) }
+        (view_body body) }
 {
     ResolvedStatement::For { at, head, body }
 }

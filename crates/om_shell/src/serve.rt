@@ -12,13 +12,13 @@ ghost use Rattle.om_shell.specs.Serving.{DoneWith, Serves, BreaksOffServing, Ser
 use crate::conversation::converse;
 use crate::ended::Ended;
 use crate::fault::ShellFault;
-use om_front::program_of;
 use crate::host::Host;
 use crate::input::Input;
 use crate::output::send;
 use crate::refusal::push_refusal;
 use crate::session::Session;
 use om_code::Program;
+use om_front::program_of;
 use om_lexer::{FaultCode, SourceFault};
 use om_view::Debugger;
 use std::alloc::Global;

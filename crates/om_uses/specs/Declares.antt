@@ -37,8 +37,8 @@ DeclaresLocals result old new ds = OnOk result (new ≡ after_locals old ds)
 -- ---- at file scope
 
 -- the declarator of a global
-abbrev pub view_one : Declarator SignedNumber → DeclaratorTree SignedNumber
-view_one = view_declarator view_number
+abbrev pub global_tree : Declarator SignedNumber → DeclaratorTree SignedNumber
+global_tree = view_declarator view_number
 
 -- the declarators behind the first of a declaration
 abbrev pub further_globals : List (Span × Declarator SignedNumber) → List (DeclaratorTree SignedNumber)
@@ -50,7 +50,7 @@ globals_in d = declarators_of (view_global d)
 
 -- the global is in scope, unless it is refused
 abbrev pub DeclaresGlobal : {T : Type 0} → Result T SourceFault → Scopes → Scopes → Declarator SignedNumber → Type 0
-DeclaresGlobal result old new d = OnOk result (new ≡ after_global old (view_one d))
+DeclaresGlobal result old new d = OnOk result (new ≡ after_global old (global_tree d))
 
 -- the globals are in scope, unless one is refused
 abbrev pub DeclaresGlobals : {T : Type 0} → Result T SourceFault → Scopes → Scopes
@@ -60,7 +60,7 @@ DeclaresGlobals result old new ds = OnOk result (new ≡ after_globals old ds)
 -- the global stands behind those before it, unless it is refused
 abbrev pub AppendsGlobal : {T : Type 0} → Result T SourceFault → Vec GlobalVariable Global → Vec GlobalVariable Global
     → Declarator SignedNumber → Type 0
-AppendsGlobal result old new d = Appends result old new (global_of (view_one d) ∷ [])
+AppendsGlobal result old new d = Appends result old new (global_of (global_tree d) ∷ [])
 
 -- the globals stand behind those before them, unless one is refused
 abbrev pub AppendsGlobals : {T : Type 0} → Result T SourceFault → Vec GlobalVariable Global → Vec GlobalVariable Global

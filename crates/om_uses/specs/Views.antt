@@ -1,4 +1,4 @@
--- Parts of a tree that have no view of their own, and what is promised of expressions by it.
+-- Views of parts of a tree that have none of their own, and what is promised of expressions by them.
 use Rattle.std.specs.Global.{Box}
 use Rattle.std.specs.Prelude.{Bool, List, Option, Result, Vec, map}
 use Rattle.std.specs.declared.alloc.Global.{Global}
@@ -38,7 +38,7 @@ view_values values = trees.values (map view.expression values.items)
 -- an expression is refused, or resolved and seen so; `for_value` says whether its value is used
 abbrev pub ResolvesExpression : {X : Type 0} → (X → ResolvedExpressionTree) → Result X SourceFault → Scopes → Bool
     → Expression → Type 0
-ResolvesExpression view result scopes for_value e = Resolves view result
+ResolvesExpression seen result scopes for_value e = Resolves seen result
     (expression_breaches scopes for_value (view_expression e)) (resolved_expression scopes (view_expression e))
 
 -- a loop with these breaches is refused; where it has none, its variable's first value and its bound are resolved

@@ -9,7 +9,7 @@ ghost use Rattle.om_rules.specs.Scopes.{cells_of, is_declared};
 ghost use Rattle.om_rules.specs.UnitResolution.{initial_of};
 ghost use Rattle.om_rules.specs.UnitRules.{global_breaches, global_name_breaches, globals_breaches, initial_breaches};
 ghost use Rattle.om_uses.specs.Declares.{AppendsGlobal, AppendsGlobals, DeclaresGlobal, DeclaresGlobals, further_globals};
-ghost use Rattle.om_uses.specs.Declares.{globals_in, view_one};
+ghost use Rattle.om_uses.specs.Declares.{globals_in, global_tree};
 
 use crate::declaration::{cells_of, check_new, check_size, copy_of, length_of, shape_of};
 use crate::expression::constant_of;
@@ -51,7 +51,7 @@ fn check_global_name(
     declarator: &Declarator<SignedNumber>,
 ) -> Result<(), SourceFault>
     ensures checked { ChecksExactly result
-        (global_name_breaches symbols.now (view_one declarator.now)) }
+        (global_name_breaches symbols.now (global_tree declarator.now)) }
     ensures has_room { OnOk result
         (symbols.now.cells + cells_of declarator.now.array ≤ GLOBAL_CELL_LIMIT) }
     ensures has_cells { OnOk result (0 < cells_of declarator.now.array) }
@@ -73,7 +73,7 @@ fn declare_global_name(
     declarator: &Declarator<SignedNumber>,
 ) -> Result<(), SourceFault>
     ensures checked { Checks result
-        (global_name_breaches symbols.old (view_one declarator.now)) }
+        (global_name_breaches symbols.old (global_tree declarator.now)) }
     ensures in_scope { DeclaresGlobal result symbols.old symbols.new declarator.now }
 {
     check_global_name(symbols, declarator)?;
@@ -89,7 +89,7 @@ fn add_global(
     globals: &mut Vec<GlobalVariable>,
     declarator: &Declarator<SignedNumber>,
 ) -> Result<(), SourceFault>
-    ensures checked { Checks result (initial_breaches (view_one declarator.now).initializer) }
+    ensures checked { Checks result (initial_breaches (global_tree declarator.now).initializer) }
     ensures declared { AppendsGlobal result globals.old globals.new declarator.now }
 {
     let initial = initial_of(&declarator.initializer)?;
@@ -109,7 +109,7 @@ fn declare_global(
     globals: &mut Vec<GlobalVariable>,
     declarator: &Declarator<SignedNumber>,
 ) -> Result<(), SourceFault>
-    ensures checked { Checks result (global_breaches symbols.old (view_one declarator.now)) }
+    ensures checked { Checks result (global_breaches symbols.old (global_tree declarator.now)) }
     ensures in_scope { DeclaresGlobal result symbols.old symbols.new declarator.now }
     ensures declared { AppendsGlobal result globals.old globals.new declarator.now }
 {
