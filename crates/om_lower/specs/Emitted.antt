@@ -61,40 +61,40 @@ EmitsRegion names n tree old new = (f : ResolvedFunctionTree) → EmitsBody name
 abbrev pub EmitsRegionScopes : Numbered → BodyTree → Writing → Writing → Type 0
 EmitsRegionScopes names tree old new = (f : ResolvedFunctionTree) → EmitsScopes names (λ at. body_scopes at f tree) old new
 
--- ---- a body is written, by the tables that its instructions name, and so are its scopes
+-- ---- a body is written, and so are its scopes, by the tables of what its instructions name
 
 -- the body at a site
-abbrev pub WritesSite : BodyTables → Site → Writing → Writing → Type 0
-WritesSite tables site old new =
+abbrev pub WritesSiteBody : BodyTables → Site → Writing → Writing → Type 0
+WritesSiteBody tables site old new =
     let b = body_in [] site in
     EmitsBody (numbered_by tables) b.numbers b.function b.tree old.draft new.draft
 
-abbrev pub ScopesSite : BodyTables → Site → Writing → Writing → Type 0
-ScopesSite tables site old new =
+abbrev pub ScopesSiteBody : BodyTables → Site → Writing → Writing → Type 0
+ScopesSiteBody tables site old new =
     let b = body_in [] site in
     EmitsScopes (numbered_by tables) (λ at. body_scopes at b.function b.tree) old new
 
 -- the own body of a function
-abbrev pub WritesOwn : BodyTables → tables.Numbers → ResolvedFunction → Writing → Writing → Type 0
-WritesOwn tables numbers f old new =
+abbrev pub WritesOwnBody : BodyTables → tables.Numbers → ResolvedFunction → Writing → Writing → Type 0
+WritesOwnBody tables numbers f old new =
     EmitsBody (numbered_by tables) (numbers_of numbers) (view.function f) FunctionBody old.draft new.draft
 
-abbrev pub ScopesOwn : BodyTables → ResolvedFunction → Writing → Writing → Type 0
-ScopesOwn tables f old new =
+abbrev pub ScopesOwnBody : BodyTables → ResolvedFunction → Writing → Writing → Type 0
+ScopesOwnBody tables f old new =
     EmitsScopes (numbered_by tables) (λ at. body_scopes at (view.function f) FunctionBody) old new
 
 -- the body of a `parallel`, which each thread of a team runs
-abbrev pub WritesTeam : BodyTables → tables.Numbers → Region → Writing → Writing → Type 0
-WritesTeam tables numbers region old new =
+abbrev pub WritesParallelBody : BodyTables → tables.Numbers → Region → Writing → Writing → Type 0
+WritesParallelBody tables numbers region old new =
     EmitsRegion (numbered_by tables) (numbers_of numbers) (parallel_tree region) old.draft new.draft
 
-abbrev pub ScopesTeam : BodyTables → Region → Writing → Writing → Type 0
-ScopesTeam tables region old new = EmitsRegionScopes (numbered_by tables) (parallel_tree region) old new
+abbrev pub ScopesParallelBody : BodyTables → Region → Writing → Writing → Type 0
+ScopesParallelBody tables region old new = EmitsRegionScopes (numbered_by tables) (parallel_tree region) old new
 
 -- the body of a `task`
-abbrev pub WritesTask : BodyTables → tables.Numbers → Region → Writing → Writing → Type 0
-WritesTask tables numbers region old new =
+abbrev pub WritesTaskBody : BodyTables → tables.Numbers → Region → Writing → Writing → Type 0
+WritesTaskBody tables numbers region old new =
     EmitsRegion (numbered_by tables) (numbers_of numbers) (task_tree region) old.draft new.draft
 
-abbrev pub ScopesTask : BodyTables → Region → Writing → Writing → Type 0
-ScopesTask tables region old new = EmitsRegionScopes (numbered_by tables) (task_tree region) old new
+abbrev pub ScopesTaskBody : BodyTables → Region → Writing → Writing → Type 0
+ScopesTaskBody tables region old new = EmitsRegionScopes (numbered_by tables) (task_tree region) old new

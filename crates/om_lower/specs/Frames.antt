@@ -11,6 +11,6 @@ FitsFrame variables slots None = (256 < length variables) ⊎ (4096 < frame_cell
 FitsFrame variables slots (Some frame) = (frame ≡ slots) × (length variables ≤ 256)
     × (frame_cells slots ≤ 4096)
 
--- the slots of a body
-abbrev pub FitsBody : BodySite → Option (List Slot) → Type 0
-FitsBody b frame = FitsFrame (variables_of b) (slots_of b) frame
+-- the slots of a body, or none where a limit is passed
+abbrev pub FitsSlots : BodySite → Option (List Slot) → Type 0
+FitsSlots b frame = FitsFrame (variables_of b) (slots_of b) frame

@@ -21,7 +21,7 @@ use Rattle.om_statements.specs.declared.spot.LoopLabels.{LoopLabels}
 use Rattle.om_statements.specs.declared.spot.TurnLabels.{TurnLabels}
 use Rattle.om_statements.specs.declared.writing.Writing.{Writing}
 
--- ---- each is written where `here` says, unless memory runs out
+-- ---- each is written where `here` or a line says, unless memory runs out
 
 -- the head of an `if`, whose label is still to be placed
 abbrev pub BeginsIf : {E : Type 0} → Result ℕ E → Here → ResolvedExpression → Written → Written → Type 0
@@ -29,7 +29,7 @@ BeginsIf result here condition old new =
     let line = here.at.line in
     IfOk result (λ label. Begins label (test_at (names_at here) line label (view.expression condition)) old new)
 
--- what stands between the two statements of an `if` with `else`; the label of the head is placed, and a new one is not
+-- what stands between the two statements of an `if` with `else`; the label of the head is placed, and another one is free
 abbrev pub BeginsElse : {E : Type 0} → Result ℕ E → (line head : ℕ) → Written → Written → Type 0
 BeginsElse result line head old new =
     IfOk result (λ label. (names : Numbered) → Opens head label (else_begin names line head label) old new)
@@ -63,15 +63,15 @@ EndsFor result here labels step old new =
     AppendsEnd result here labels.next (λ names l. for_end names l labels) (option_map view.expression step) old new
 
 -- the begin of a worksharing loop, and its scopes
-abbrev pub BeginsLoop : {E : Type 0} → Result LoopLabels E → Here → List ResolvedClause → ResolvedLoop → Writing
+abbrev pub BeginsWorksharing : {E : Type 0} → Result LoopLabels E → Here → List ResolvedClause → ResolvedLoop → Writing
     → Writing → Type 0
-BeginsLoop result here clauses repeated old new =
+BeginsWorksharing result here clauses repeated old new =
     let trees = map view.clause clauses in
     AppendsHead result here (λ names l. worksharing_begin names l trees) (view.loop repeated) old.draft new.draft
 
-abbrev pub ScopesLoop : {T E : Type 0} → Result T E → Here → List ResolvedClause → ResolvedLoop → Writing → Writing
+abbrev pub ScopesWorksharing : {T E : Type 0} → Result T E → Here → List ResolvedClause → ResolvedLoop → Writing → Writing
     → Type 0
-ScopesLoop result here clauses repeated old new =
+ScopesWorksharing result here clauses repeated old new =
     let trees = map view.clause clauses in
     AppendsScopes result here (λ at l. loop_head at l trees) (view.loop repeated) old new
 

@@ -1,8 +1,8 @@
 -- The words of the clauses of this crate, so that a file takes them from one place.
 pub use Rattle.om_lexer.specs.Faults.{no_memory}
-pub use Rattle.om_lower.specs.Emitted.{FitsRow, ScopesOwn, ScopesTeam, ScopesSite, ScopesTask}
-pub use Rattle.om_lower.specs.Emitted.{WritesOwn, WritesTeam, WritesSite, WritesTask}
-pub use Rattle.om_lower.specs.Frames.{FitsBody, FitsFrame}
+pub use Rattle.om_lower.specs.Emitted.{FitsRow, ScopesOwnBody, ScopesParallelBody, ScopesSiteBody, ScopesTaskBody}
+pub use Rattle.om_lower.specs.Emitted.{WritesOwnBody, WritesParallelBody, WritesSiteBody, WritesTaskBody}
+pub use Rattle.om_lower.specs.Frames.{FitsSlots, FitsFrame}
 pub use Rattle.om_lower.specs.Heights.{AreLow}
 pub use Rattle.om_lower.specs.Inputs.{IsInput, IsReadyIn, IsSeen, known_bodies, known_tree, seen_body, seen_tree}
 pub use Rattle.om_lower.specs.Inputs.{tree_of}
@@ -16,8 +16,8 @@ pub use Rattle.om_lower.specs.Refusals.{IsRefusal, too_many}
 pub use Rattle.om_lower.specs.Regions.{GivesBehind}
 pub use Rattle.om_lower.specs.There.{EmitsAllThere, EmitsThere, GivesAllBehind, HasCodeThere, HasEndsThere}
 pub use Rattle.om_lower.specs.There.{EmitsPartsThere, GivesPartsBehind, HaveCodeThere, HaveEndsThere, ScopesThere}
-pub use Rattle.om_lower.specs.Turns.{BeginsElse, BeginsFor, BeginsIf, BeginsLoop, BeginsParts, EndsDo, EndsFor}
-pub use Rattle.om_lower.specs.Turns.{EndsLoop, EndsWorksharing, ScopesFor, ScopesLoop, ScopesParts}
+pub use Rattle.om_lower.specs.Turns.{BeginsElse, BeginsFor, BeginsIf, BeginsWorksharing, BeginsParts, EndsDo, EndsFor}
+pub use Rattle.om_lower.specs.Turns.{EndsLoop, EndsWorksharing, ScopesFor, ScopesWorksharing, ScopesParts}
 pub use Rattle.om_emit.specs.Drafts.{settled_code}
 pub use Rattle.om_emit.specs.Emits.{Appends}
 pub use Rattle.om_emit.specs.Settled.{ListsStand, number_of, settled_lists}

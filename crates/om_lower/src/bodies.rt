@@ -1,7 +1,7 @@
 //! The bodies of a function, each within its limits.
 
 ghost use Rattle.std.specs.Prelude.{◌≡◌, ◌≤◌, ◌∷◌, ◌++◌, [], All, Any, IfOk, OnOk, false, length, map, true};
-ghost use Rattle.om_lower.specs.Words.{AddsBody, AreAdded, FitsBody, FitsCode, HasFewSlots, HasManySlots};
+ghost use Rattle.om_lower.specs.Words.{AddsBody, AreAdded, FitsSlots, FitsCode, HasFewSlots, HasManySlots};
 ghost use Rattle.om_lower.specs.Words.{HasSlots, IsInput, IsListed, IsReady, IsReadyIn, IsSeen, bodies_in};
 ghost use Rattle.om_lower.specs.Words.{body_in, body_round, captures_of, given_copies, given_of, innermost};
 ghost use Rattle.om_lower.specs.Words.{known_bodies, known_tree, part_tree, region_variables, round_with};
@@ -161,7 +161,7 @@ fn add_body(made: &mut Bodies, seen: &SeenBody<'_>) -> Made<bool>
 // The slots of a body; `None` where it passes a limit.
 fn frame_in(seen: &SeenBody<'_>) -> Made<Option<Seq<Slot>>>
     requires seen { IsSeen seen.now }
-    ensures { IfOk result (FitsBody (seen_body seen.now)) }
+    ensures { IfOk result (FitsSlots (seen_body seen.now)) }
 {
     let alloc = seen.known.input.alloc;
     let extents = seen.known.extents;
@@ -182,7 +182,7 @@ fn captures_in<'a>(part: &BodyPart<'a>) -> &'a [Capture]
 // Adds a body that has these slots; false where it has too many instructions.
 fn add_with(made: &mut Bodies, seen: &SeenBody<'_>, slots: Seq<Slot>) -> Made<bool>
     requires seen { IsSeen seen.now }
-    requires slots { FitsBody (seen_body seen.now) (Some slots) }
+    requires slots { FitsSlots (seen_body seen.now) (Some slots) }
     ensures { IfOk result (AddsBody (seen_tree seen.now) (seen_body seen.now) made.old made.new) }
 {
     let Some(emitted) = code_in(seen)? else {

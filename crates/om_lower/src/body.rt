@@ -2,9 +2,9 @@
 
 ghost use Rattle.std.specs.Prelude.{◌≡◌, ◌≤◌, [], IfOk, OnOk, false, length};
 ghost use Rattle.om_lower.specs.Words.{BodyHasCode, FitsRow, FunctionBody, HasBodyEnds, HasEnds};
-ghost use Rattle.om_lower.specs.Words.{ScopesOwn, ScopesTeam, ScopesSite, ScopesTask};
-ghost use Rattle.om_lower.specs.Words.{StatementHasCode, WritesOwn, WritesTeam, WritesSite};
-ghost use Rattle.om_lower.specs.Words.{WritesTask, body_in, known_in, numbered_by, numbers_of, settled_code};
+ghost use Rattle.om_lower.specs.Words.{ScopesOwnBody, ScopesParallelBody, ScopesSiteBody, ScopesTaskBody};
+ghost use Rattle.om_lower.specs.Words.{StatementHasCode, WritesOwnBody, WritesParallelBody, WritesSiteBody};
+ghost use Rattle.om_lower.specs.Words.{WritesTaskBody, body_in, known_in, numbered_by, numbers_of, settled_code};
 ghost use Rattle.om_lower.specs.Words.{settled_lists, statement_of};
 ghost use Rattle.om_resolved.specs.ResolvedView as view;
 
@@ -60,8 +60,8 @@ fn write(alloc: Global, writing: &mut Writing, tables: &BodyTables<'_>, site: &S
     requires code { BodyHasCode (body_in [] site.now).function (body_in [] site.now).tree }
     requires regions { let b = body_in [] site.now in
         HasBodyEnds (known_in tables.now) b.numbers b.function b.tree }
-    ensures code { OnOk result (WritesSite tables.now site.now writing.old writing.new) }
-    ensures scopes { OnOk result (ScopesSite tables.now site.now writing.old writing.new) }
+    ensures code { OnOk result (WritesSiteBody tables.now site.now writing.old writing.new) }
+    ensures scopes { OnOk result (ScopesSiteBody tables.now site.now writing.old writing.new) }
 {
     match &site.part {
         BodyPart::Function => write_function(alloc, writing, tables, site.numbers, site.function),
@@ -81,8 +81,8 @@ fn write_function(
     requires code { BodyHasCode (view.function function.now) FunctionBody }
     requires ends { HasBodyEnds (known_in tables.now) (numbers_of numbers)
         (view.function function.now) FunctionBody }
-    ensures code { OnOk result (WritesOwn tables.now numbers function.now writing.old writing.new) }
-    ensures scopes { OnOk result (ScopesOwn tables.now function.now writing.old writing.new) }
+    ensures code { OnOk result (WritesOwnBody tables.now numbers function.now writing.old writing.new) }
+    ensures scopes { OnOk result (ScopesOwnBody tables.now function.now writing.old writing.new) }
 {
     let height = writing.scopes.height();
     parameters(&mut writing.scopes, function.parameters.as_slice())?;
@@ -106,8 +106,8 @@ fn write_parallel(
     requires code { StatementHasCode false false (statement_of region.now) }
     requires ends { HasEnds (known_in tables.now) (numbers_of numbers)
         (statement_of region.now) }
-    ensures code { OnOk result (WritesTeam tables.now numbers region.now writing.old writing.new) }
-    ensures scopes { OnOk result (ScopesTeam tables.now region.now writing.old writing.new) }
+    ensures code { OnOk result (WritesParallelBody tables.now numbers region.now writing.old writing.new) }
+    ensures scopes { OnOk result (ScopesParallelBody tables.now region.now writing.old writing.new) }
 {
     let at = region.at;
     let here = Here { tables, at };
@@ -135,8 +135,8 @@ fn write_task(
     requires code { StatementHasCode false false (statement_of region.now) }
     requires ends { HasEnds (known_in tables.now) (numbers_of numbers)
         (statement_of region.now) }
-    ensures code { OnOk result (WritesTask tables.now numbers region.now writing.old writing.new) }
-    ensures scopes { OnOk result (ScopesTask tables.now region.now writing.old writing.new) }
+    ensures code { OnOk result (WritesTaskBody tables.now numbers region.now writing.old writing.new) }
+    ensures scopes { OnOk result (ScopesTaskBody tables.now region.now writing.old writing.new) }
 {
     let height = writing.scopes.height();
     task_copies(&mut writing.scopes, region.clauses)?;
