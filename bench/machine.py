@@ -2,11 +2,11 @@
 """machine.py PROGRAM [RUNS]: how fast PROGRAM steps and undoes with one worker and with four, and below many frames.
 
 Each program counts for ever. It runs in three ways, on one core: without a step, with every step, and with every step and then
-every undo. The differences give steps and undos a second. Each way counts by the best of that many runs (3 if not given): on a
-host that others share, more runs come nearer to an idle core. For the frames it is what a step costs once `f` has called itself
-so often. Nothing here is a test: nothing fails.
+every undo. The differences give steps and undos a second, by processor time. Each way counts by the best of that many runs (3 if
+not given): on a host that others share, more runs come nearer to an idle core. For the frames it is what a step costs once `f`
+has called itself so often. Nothing here is a test: nothing fails.
 """
-from timing import seconds, words
+from timing import processor_seconds, words
 
 STEPS = 20000
 STEPS_BELOW = 1000
@@ -40,7 +40,7 @@ def rounds(command, workers):
 def rates(program, text, count, runs):
     """The steps and the undos a second of so many workers."""
     def taken(commands):
-        return seconds(program, (text + commands).encode(), times=runs, arguments=["--threads", str(count)])
+        return processor_seconds(program, (text + commands).encode(), times=runs, arguments=["--threads", str(count)])
 
     forwards = rounds("step", range(count))
     backwards = rounds("undo", range(count - 1, -1, -1))
@@ -51,8 +51,9 @@ def rates(program, text, count, runs):
 def below(program, frames, runs):
     """The microseconds of a step below so many frames."""
     text = DEEP % (frames - 1, STEPS_OF_CALL * frames)
-    idle = seconds(program, text.encode(), times=runs)
-    return (seconds(program, (text + "step 0\n" * STEPS_BELOW).encode(), times=runs) - idle) / STEPS_BELOW * 1e6
+    idle = processor_seconds(program, text.encode(), times=runs)
+    there = processor_seconds(program, (text + "step 0\n" * STEPS_BELOW).encode(), times=runs)
+    return (there - idle) / STEPS_BELOW * 1e6
 
 
 def main():
