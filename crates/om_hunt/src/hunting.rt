@@ -5,11 +5,12 @@ ghost use Rattle.std.specs.Option.{option_copied};
 ghost use Rattle.om_hunt.specs.Finds.{IsFound, IsHunted};
 ghost use Rattle.om_schedules.specs.Texts.{text_in};
 
+use om_front::program_of;
 use om_schedules::{
     Aims, Alone, Chances, Found, Ground, Hunted, Progress, Schedule, alone_of, end_of, script,
 };
 use om_script::{Ran, run_over};
-use om_shell::{ShellFault, program_of};
+use om_shell::ShellFault;
 use std::alloc::Global;
 use std::sync::Wait;
 use std::thread::Threads;
