@@ -2,11 +2,13 @@
 """machine.py PROGRAM [RUNS]: how fast PROGRAM steps and undoes with one worker and with four, and below many frames.
 
 Each program counts for ever. It runs in three ways, on one core: without a step, with every step, and with every step and then
-every undo. The differences give steps and undos a second, by processor time. Each way counts by the best of that many runs (3 if
-not given): on a host that others share, more runs come nearer to an idle core. For the frames it is what a step costs once `f`
-has called itself so often. Nothing here is a test: nothing fails.
+every undo. The differences give steps and undos a second, by the clock and by processor time. Each way counts by the best of that
+many runs (3 if not given): on a host that others share, more runs come nearer to an idle core. For the frames it is what a step
+costs by the clock once `f` has called itself so often. Nothing here is a test: nothing fails.
 """
-from timing import processor_seconds, words
+from timing import both_seconds, seconds, words
+
+MEASURES = ("by the clock", "by processor time")
 
 STEPS = 20000
 STEPS_BELOW = 1000
@@ -38,29 +40,29 @@ def rounds(command, workers):
 
 
 def rates(program, text, count, runs):
-    """The steps and the undos a second of so many workers."""
+    """For each measure the steps and the undos a second of so many workers."""
     def taken(commands):
-        return processor_seconds(program, (text + commands).encode(), times=runs, arguments=["--threads", str(count)])
+        return both_seconds(program, (text + commands).encode(), times=runs, arguments=["--threads", str(count)])
 
     forwards = rounds("step", range(count))
     backwards = rounds("undo", range(count - 1, -1, -1))
-    idle, there, both = taken(""), taken(forwards), taken(forwards + backwards)
-    return STEPS / max(there - idle, 1e-9), STEPS / max(both - there, 1e-9)
+    ways = zip(taken(""), taken(forwards), taken(forwards + backwards))
+    return [(STEPS / max(there - idle, 1e-9), STEPS / max(both - there, 1e-9)) for idle, there, both in ways]
 
 
 def below(program, frames, runs):
     """The microseconds of a step below so many frames."""
     text = DEEP % (frames - 1, STEPS_OF_CALL * frames)
-    idle = processor_seconds(program, text.encode(), times=runs)
-    there = processor_seconds(program, (text + "step 0\n" * STEPS_BELOW).encode(), times=runs)
+    idle = seconds(program, text.encode(), times=runs)
+    there = seconds(program, (text + "step 0\n" * STEPS_BELOW).encode(), times=runs)
     return (there - idle) / STEPS_BELOW * 1e6
 
 
 def main():
     program, runs = words(__doc__, 3)
     for name, text, count in (("one worker", ONE, 1), ("four workers", FOUR, 4)):
-        steps, undos = rates(program, text, count, runs)
-        print(f"{name}: {steps:,.0f} steps a second, {undos:,.0f} undos a second")
+        for measure, (steps, undos) in zip(MEASURES, rates(program, text, count, runs)):
+            print(f"{name}, {measure}: {steps:,.0f} steps a second, {undos:,.0f} undos a second")
     for name, frames in (("one frame", 1), ("900 frames", 900)):
         print(f"below {name}: {below(program, frames, runs):.2f} us a step")
 

@@ -32,20 +32,21 @@ def seconds(program, text, wanted=None, times=3, arguments=()):
     return best
 
 
-def processor_seconds(program, text, times=3, arguments=()):
-    """The best processor time of some runs on a text, the system's included: what else runs on the machine costs it less."""
-    best = None
+def both_seconds(program, text, times=3, arguments=()):
+    """The best time of some runs on a text by the clock, and the best processor time of them, the system's included."""
+    clocks, used_times = [], []
     for _ in range(times):
+        begin = time.monotonic()
         run = subprocess.Popen([program, *arguments], stdin=subprocess.PIPE, stdout=subprocess.DEVNULL)
         run.stdin.write(text)
         run.stdin.close()
         _, status, used = os.wait4(run.pid, 0)
+        clocks.append(time.monotonic() - begin)
+        used_times.append(used.ru_utime + used.ru_stime)
         run.returncode = os.waitstatus_to_exitcode(status)
         if run.returncode != 0:
             sys.exit(f"{program} ended with status {run.returncode}")
-        taken = used.ru_utime + used.ru_stime
-        best = taken if best is None else min(best, taken)
-    return best
+    return min(clocks), min(used_times)
 
 
 def seconds_to_end(program, text, code):
