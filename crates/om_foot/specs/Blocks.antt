@@ -1,5 +1,5 @@
 -- Which serials are in a set by blocks.
-use Rattle.std.specs.Prelude.{◌≡◌, Bool, false, true, cond, ◌&&◌, nat_eq, nat_lt, ℕ, ◌/◌, ◌%◌, ◌^◌, List, Option, None, Some}
+use Rattle.std.specs.Prelude.{◌≡◌, Bool, false, true, cond, ◌&&◌, nat_eq, nat_lt, ℕ, suc, ◌≤◌, ◌/◌, ◌%◌, ◌^◌, List, [], ◌∷◌, Option, None, Some}
 use Rattle.std.specs.Ordering.{nat_cmp}
 use Rattle.std.specs.Map.{lookup}
 use Rattle.std.specs.BTreeMap.{is_at}
@@ -25,6 +25,11 @@ in_older older s = nat_lt (s / 64) (2 ^ 58) && is_offset (block_of older (s / 64
 -- whether it is in the block of a number
 abbrev pub in_newest : ℕ → Option ℕ → ℕ → Bool
 in_newest number newest s = nat_lt (s / 64) (2 ^ 58) && (nat_eq number (s / 64) && is_offset newest (s % 64))
+
+-- the numbers of blocks rise, from a number on
+abbrev pub AreRising : ℕ → Numbered → Type 0
+AreRising low [] = Unit {0}
+AreRising low (b ∷ bs) = (low ≤ b.0) × AreRising (suc b.0) bs
 
 -- the newest block, and those before it
 pub record BlocksView : Type 0 where

@@ -34,13 +34,15 @@ impl Offsets {
         Offsets { bits: 1 << offset }
     }
 
-    /// Adds an offset.
-    pub(crate) fn add(&mut self, offset: u64)
+    /// These and one more.
+    pub(crate) fn with(&self, offset: u64) -> Offsets
         requires { offset < 64 }
         ensures { (k : ℕ) → k < 64
-            → has_offset self.new k ≡ cond (nat_eq offset k) true (has_offset self.old k) }
+            → has_offset result k ≡ cond (nat_eq offset k) true (has_offset self.now k) }
     {
-        self.bits |= 1 << offset;
+        Offsets {
+            bits: self.bits | 1 << offset,
+        }
     }
 
     /// The others, where there are any.

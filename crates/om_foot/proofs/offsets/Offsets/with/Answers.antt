@@ -3,10 +3,10 @@ use Rattle.std.proofs.Common.{arith}
 use Rattle.std.proofs.lemmas.Nat.{or_lt, one_shl}
 use Rattle.om_foot.specs.Offsets.{has_offset}
 use Rattle.om_foot.proofs.OffsetLemmas.{added, still_some}
-use Rattle.om_foot.proofs.offsets.Offsets.add.Goals as goal
+use Rattle.om_foot.proofs.offsets.Offsets.with.Goals as goal
 
-pub invariant_of-self : goal.invariant_of-self
-invariant_of-self c = (
+pub invariant_of-result : goal.invariant_of-result
+invariant_of-result c = (
   still_some c.self.inside.bits c.args.offset c.requires,
   or_lt 64 c.self.inside.bits _ c.self.invariant.1 (omega (arith, one_shl c.args.offset 64 c.requires)),
 )
