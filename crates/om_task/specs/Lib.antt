@@ -6,3 +6,6 @@ pub mod Steps
 pub mod Plans
 pub mod Laws
 pub mod Shapes
+pub mod Answers
+pub mod Contexts
+pub mod Planned

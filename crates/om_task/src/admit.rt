@@ -1,9 +1,9 @@
 //! Where a worker may start a task (OpenMP 5.2, 12.9).
 
-ghost use Rattle.std.specs.Prelude.{◌≡◌, ◌∷◌, map, option_map, slice_get};
+ghost use Rattle.std.specs.Prelude.{◌≡◌, map, option_map};
 ghost use Rattle.om_foot.specs.Names.{is_below};
-ghost use Rattle.om_code.specs.Places.{instruction_at};
 ghost use Rattle.om_live.specs.Plain.{plain_context, plain_held, plain_stack};
+ghost use Rattle.om_task.specs.Contexts.{instruction_on, admits_stack, held_at};
 ghost use Rattle.om_task.specs.Rules.{leaving, departs, admits_on, admits_all};
 
 use om_code::{Instr, Program};
@@ -13,9 +13,7 @@ use om_live::{Context, Stack, Tape};
 
 /// The instruction at which a context stands.
 pub(crate) fn instruction(program: &Program, context: &Context) -> Option<Instr>
-    ensures { result
-        ≡ instruction_at program.now (plain_context context.now).frame.body
-        (plain_context context.now).frame.next }
+    ensures { result ≡ instruction_on program.now (plain_context context.now) }
 {
     program.instruction(context.frame.body, context.frame.next)
 }
@@ -63,8 +61,7 @@ fn admits_on(program: &Program, name: &Name, context: &Context) -> bool
 // The context at this depth, the next one below the top at 0; `None` exactly where there is none.
 #[tactic(auto, using(crate::proofs::Admits::held_at))]
 fn context_at(contexts: &Tape<Box<Context>>, depth: usize) -> Option<&Context>
-    ensures { option_map (λ c. plain_context c.now) result
-        ≡ slice_get (map plain_held contexts.now.items) depth }
+    ensures { option_map (λ c. plain_context c.now) result ≡ held_at contexts.now.items depth }
 {
     let context = contexts.get(depth)?;
     Some(context)
@@ -87,9 +84,7 @@ fn admits_below(program: &Program, name: &Name, contexts: &Tape<Box<Context>>) -
 
 /// Whether the task scheduling constraints admit a task on a stack.
 pub(crate) fn admits(program: &Program, name: &Name, stack: &Stack) -> bool
-    ensures { result
-        ≡ admits_all program.now name.now
-        ((plain_stack stack.now).top ∷ (plain_stack stack.now).below) }
+    ensures { result ≡ admits_stack program.now name.now (plain_stack stack.now) }
 {
     if admits_on(program, name, &stack.top) {
         admits_below(program, name, &stack.below)

@@ -1,20 +1,18 @@
 //! What the choice of a worker names, what comes of it, and the plan of its step. No program calls `names` and
 //! `effect`: `plan` gives both.
 
-ghost use Rattle.std.specs.Prelude.{◌≡◌, ◌∷◌, ◌≤◌, ◌^◌, IfOk};
-ghost use Rattle.om_foot.specs.declared.footprint.Mode.TheVariants as mode;
+ghost use Rattle.std.specs.Prelude.{◌≡◌, ◌≤◌, ◌^◌, IfOk};
 ghost use Rattle.om_foot.specs.declared.object.Obj.TheVariants as obj;
-ghost use Rattle.om_code.specs.Places.{instruction_at};
-ghost use Rattle.om_values.specs.declared.control.Control as plain_controls;
+ghost use Rattle.om_values.specs.declared.control.Control as controls;
 ghost use Rattle.om_values.specs.Rules.{step_at};
 ghost use Rattle.om_values.specs.Values.{control_in};
 ghost use Rattle.om_live.specs.Plain.{plain_control, plain_stack};
 ghost use Rattle.om_live.specs.Stores.{state_of};
-ghost use Rattle.om_steps.specs.Rows.{answered};
 ghost use Rattle.om_team.specs.Counters.{IsWithin, ControlWithin, StateWithin};
-ghost use Rattle.om_team.specs.Sites.{site};
-ghost use Rattle.om_task.specs.Plans.{label_at, answer_in, step_by, RowHasRoom, names_of, effect_at, StandsFor, PlanHasRoom};
-ghost use Rattle.om_task.specs.Rules.{asked, next_row, is_at_scheduling_point, outcome_after, line_in, rules_of};
+ghost use Rattle.om_task.specs.Answers.{Gives, AnswersAt};
+ghost use Rattle.om_task.specs.Planned.{next_asked, choice_asked, answer_by, row_step, Plans, PlansBy};
+ghost use Rattle.om_task.specs.Plans.{label_at, RowHasRoom, names_of, effect_at, StandsFor, PlanHasRoom};
+ghost use Rattle.om_task.specs.Rules.{is_at_scheduling_point, line_in, rules_of};
 
 use crate::admit::{admits, instruction, leaving};
 use crate::planned::Plan;
@@ -52,13 +50,8 @@ fn next_answer(
     planning: &Planning<'_>,
 ) -> Result<Answer, AllocError>
     requires { IsWithin (2 ^ 63) (plain_stack stack.now).top }
-    ensures { IfOk result
-        (λ answer. answer ≡ answered
-        (next_row (site program.now planning.now.workers planning.now.worker
-        (plain_stack stack.now))
-        (instruction_at program.now (plain_stack stack.now).top.frame.body
-        (plain_stack stack.now).top.frame.next))
-        (state_of store.now)) }
+    ensures { AnswersAt result
+        (next_asked program.now planning.now.workers planning.now.worker stack.now) store.now }
 {
     let Some(instruction) = instruction_of(program, stack) else {
         return Ok(Answer::decided(alloc, Row::Lacks));
@@ -80,11 +73,9 @@ fn choice_answer(
     planning: &Planning<'_>,
 ) -> Result<Answer, AllocError>
     requires { IsWithin (2 ^ 63) (plain_stack stack.now).top }
-    ensures { IfOk result
-        (λ answer. answer ≡ answered
-        (asked (site program.now planning.now.workers planning.now.worker
-        (plain_stack stack.now))
-        planning.now.choice.now) (state_of store.now)) }
+    ensures { AnswersAt result
+        (choice_asked program.now planning.now.workers
+        (label_at planning.now.worker planning.now.choice.now) stack.now) store.now }
 {
     match planning.choice {
         Choice::Next => next_answer(alloc, program, store, stack, planning),
@@ -108,9 +99,9 @@ fn control_answer(
     planning: &Planning<'_>,
 ) -> Result<Answer, AllocError>
     requires { ControlWithin (2 ^ 63) (plain_control control.now) }
-    ensures { IfOk result
-        (λ answer. answer ≡ answer_in program.now planning.now.workers (state_of store.now)
-        (label_at planning.now.worker planning.now.choice.now) (plain_control control.now)) }
+    ensures { Gives result
+        (answer_by program.now planning.now.workers
+        (label_at planning.now.worker planning.now.choice.now) store.now control.now) }
 {
     match control {
         Control::Running(stack) => choice_answer(alloc, program, store, stack, planning),
@@ -123,14 +114,8 @@ fn control_answer(
 // The plan of a step, by what it names and by its row. A fault is an edit of the control.
 #[tactic(auto, using(crate::proofs::Plans::fault_room))]
 fn planned(alloc: Global, worker: u8, line: u32, names: Names, row: Row) -> Result<Plan, AllocError>
-    ensures plan { (c : plain_controls.Control) →
-        IfOk result (λ plan. StandsFor plan c (record {
-          footprint = record { object = obj.Control worker; mode = mode.Write } ∷ names;
-          outcome = outcome_after c row;
-          line = line;
-        })) }
-    ensures room { (c : plain_controls.Control) → RowHasRoom c row →
-        IfOk result (λ plan. PlanHasRoom c plan) }
+    ensures plan { (c : controls.Control) → Plans result c (row_step worker names c row line) }
+    ensures room { (c : controls.Control) → RowHasRoom c row → IfOk result (PlanHasRoom c) }
 {
     let (edits, updates) = match row {
         Row::Goes { edits, updates } => (edits, updates),
@@ -179,12 +164,8 @@ fn control_plan(
 ) -> Result<Plan, AllocError>
     requires control { ControlWithin (2 ^ 63) (plain_control control.now) }
     requires state { StateWithin (2 ^ 63) (state_of store.now) }
-    ensures plan { IfOk result (λ plan. StandsFor plan (plain_control control.now)
-        (step_by program.now (label_at planning.now.worker planning.now.choice.now)
-        (plain_control control.now)
-        (answer_in program.now planning.now.workers (state_of store.now)
-        (label_at planning.now.worker planning.now.choice.now)
-        (plain_control control.now)))) }
+    ensures plan { PlansBy result program.now planning.now.workers
+        (label_at planning.now.worker planning.now.choice.now) store.now control.now }
     ensures room { IfOk result (λ plan. PlanHasRoom (plain_control control.now) plan) }
 {
     let Answer { names, row } = control_answer(alloc, program, store, control, planning)?;
@@ -205,8 +186,7 @@ pub fn names(
 ) -> Result<Seq<Access>, AllocError>
     requires counters { ControlWithin (2 ^ 63) (plain_control control.now) }
     requires some { 1 ≤ workers }
-    ensures { IfOk result
-        (λ names. names ≡ names_of program.now workers label.now (plain_control control.now)) }
+    ensures { Gives result (names_of program.now workers label.now (plain_control control.now)) }
 {
     let planning = &Planning {
         worker: label.worker,
@@ -228,9 +208,9 @@ fn control_row(
     planning: &Planning<'_>,
 ) -> Result<Row, AllocError>
     requires { ControlWithin (2 ^ 63) (plain_control control.now) }
-    ensures { IfOk result
-        (λ row. row ≡ (answer_in program.now planning.now.workers (state_of store.now)
-        (label_at planning.now.worker planning.now.choice.now) (plain_control control.now)).row) }
+    ensures { Gives result
+        (answer_by program.now planning.now.workers
+        (label_at planning.now.worker planning.now.choice.now) store.now control.now).row }
 {
     let Answer { names, row } = control_answer(alloc, program, store, control, planning)?;
     drop(names);
@@ -252,8 +232,7 @@ pub fn effect(
 ) -> Result<Row, AllocError>
     requires counters { StateWithin (2 ^ 63) (state_of store.now) }
     requires some { 1 ≤ workers }
-    ensures { IfOk result
-        (λ row. row ≡ effect_at program.now workers label.now (state_of store.now)) }
+    ensures { Gives result (effect_at program.now workers label.now (state_of store.now)) }
 {
     let planning = &Planning {
         worker: label.worker,

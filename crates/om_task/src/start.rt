@@ -1,15 +1,14 @@
 //! The store in which a program starts.
 
-ghost use Rattle.std.specs.Prelude.{◌≡◌, ◌≤◌, IfOk, OnOk, [], ◌∷◌, None};
+ghost use Rattle.std.specs.Prelude.{◌≡◌, ◌≤◌, IfOk, OnOk, [], ◌∷◌};
 ghost use Rattle.om_code.specs.declared.frame.Cell.TheVariants as cells;
 ghost use Rattle.om_events.specs.declared.kind.Thread.TheVariants as thread;
 ghost use Rattle.om_events.specs.declared.event.Record.TheVariants as event_record;
-ghost use Rattle.om_foot.specs.declared.object.Obj.TheVariants as obj;
 ghost use Rattle.om_values.specs.declared.value.Val.TheVariants as value;
-ghost use Rattle.om_values.specs.State.{with_value};
 ghost use Rattle.om_live.specs.Stores.{state_of};
-ghost use Rattle.om_steps.specs.Begins.{new_context};
 ghost use Rattle.om_team.specs.Sites.{body_of};
+ghost use Rattle.om_task.specs.Answers.{Gives};
+ghost use Rattle.om_task.specs.Contexts.{initial_context, initial_begun};
 ghost use Rattle.om_task.specs.Rules.{first_context, first_control, first_records, initial_in, start_of};
 
 use om_code::frame::Cell;
@@ -47,7 +46,7 @@ fn first_task() -> Name
 
 // The frame of the initial task, at the first instruction of `main`.
 fn main_frame(alloc: Global, program: &Program) -> Result<Frame, AllocError>
-    ensures { IfOk result (λ frame. frame ≡ (first_context program.now).frame) }
+    ensures { Gives result (first_context program.now).frame }
 {
     let slots = main_body(program).slots.as_slice();
     let task = Shared::of(alloc, first_task())?;
@@ -58,9 +57,7 @@ fn main_frame(alloc: Global, program: &Program) -> Result<Frame, AllocError>
 
 // The context of the initial task, with its frame: it is alone in a team, and in no group.
 fn first_context(alloc: Global, frame: Frame) -> Result<Context, AllocError>
-    ensures { IfOk result
-        (λ context. context ≡ new_context Kind.Initial 0 (0 ∷ [])
-        (record { name = []; number = 0; size = 1; level = 0 }) None frame) }
+    ensures { Gives result (initial_context frame) }
 {
     let team = &Team {
         name: Shared::of(alloc, Name::empty())?,
@@ -74,7 +71,7 @@ fn first_context(alloc: Global, frame: Frame) -> Result<Context, AllocError>
 
 // The control of the worker that runs the initial task.
 fn first_control(alloc: Global, program: &Program) -> Result<Control, AllocError>
-    ensures { IfOk result (λ control. control ≡ first_control program.now 0) }
+    ensures { Gives result (first_control program.now 0) }
 {
     let frame = main_frame(alloc, program)?;
     let top = first_context(alloc, frame)?;
@@ -125,9 +122,7 @@ fn initial_value(global: &GlobalVariable) -> Val
 
 // Puts the control of the worker that runs the initial task. Its only error is out of memory.
 fn begin_initial(alloc: Global, store: &mut Store, program: &Program) -> Result<(), AllocError>
-    ensures { OnOk result (state_of store.new
-        ≡ with_value (obj.Control 0) (value.Control (first_control program.now 0))
-        (state_of store.old)) }
+    ensures { OnOk result (state_of store.new ≡ initial_begun program.now (state_of store.old)) }
 {
     let control = first_control(alloc, program)?;
     let begun = store.begin(alloc, 0, &control);

@@ -1,12 +1,9 @@
 //! The whole table: the rows of tasks beside all others.
 
-ghost use Rattle.std.specs.Prelude.{◌≡◌, IfOk};
 ghost use Rattle.om_live.specs.Plain.{plain_stack};
-ghost use Rattle.om_live.specs.Stores.{state_of};
-ghost use Rattle.om_steps.specs.Rows.{answered};
 ghost use Rattle.om_team.specs.Ready.{IsReady};
-ghost use Rattle.om_team.specs.Sites.{site};
-ghost use Rattle.om_task.specs.Table.{task_row, row_of};
+ghost use Rattle.om_task.specs.Answers.{AnswersAt};
+ghost use Rattle.om_task.specs.Planned.{task_asked, row_asked};
 
 use crate::task::{Making, spawn, task_end, task_yield};
 use crate::wait::{group_begin, group_end, wait_begin, wait_end};
@@ -25,11 +22,7 @@ fn task_answer(
     doing: Doing,
 ) -> Result<Answer, AllocError>
     requires { IsReady program.now (plain_stack stack.now) doing.instruction }
-    ensures { IfOk result
-        (λ answer. answer ≡ answered
-        (task_row (site program.now doing.workers doing.worker (plain_stack stack.now))
-        doing.instruction)
-        (state_of store.now)) }
+    ensures { AnswersAt result (task_asked program.now stack.now doing) store.now }
 {
     let context: &Context = &stack.top;
     let worker = doing.worker;
@@ -64,11 +57,7 @@ pub(crate) fn answer(
     doing: Doing,
 ) -> Result<Answer, AllocError>
     requires { IsReady program.now (plain_stack stack.now) doing.instruction }
-    ensures { IfOk result
-        (λ answer. answer ≡ answered
-        (row_of (site program.now doing.workers doing.worker (plain_stack stack.now))
-        doing.instruction)
-        (state_of store.now)) }
+    ensures { AnswersAt result (row_asked program.now stack.now doing) store.now }
 {
     if is_of_tasks(doing.instruction) {
         task_answer(alloc, store, program, stack, doing)

@@ -1,14 +1,12 @@
 //! The rows that make and end explicit tasks.
 
-ghost use Rattle.std.specs.Prelude.{◌≡◌, ◌∷◌, [], ◌+◌, ◌<◌, ◌≤◌, ◌^◌, ◌++◌, IfOk, OnOk, length, map, option_map, slice_get};
+ghost use Rattle.std.specs.Prelude.{◌≡◌, ◌+◌, ◌<◌, ◌≤◌, ◌^◌, ◌++◌, OnOk, length, option_map};
 ghost use Rattle.om_foot.specs.Names.{above};
-ghost use Rattle.om_values.specs.State.{State};
-ghost use Rattle.om_values.specs.declared.value.Task.TheVariants as task;
-ghost use Rattle.om_values.specs.declared.value.Val.TheVariants as value;
-ghost use Rattle.om_live.specs.Plain.{plain_context, plain_held, plain_stack};
-ghost use Rattle.om_steps.specs.Rows.{answered};
-ghost use Rattle.om_task.specs.Tasks.{born, group_of, ready_of};
-ghost use Rattle.om_task.specs.Rows.{made_names, values_given, made_row, spawn_row, ended_names, ended_updates, task_end_row, task_yield_row};
+ghost use Rattle.om_live.specs.Plain.{plain_context, plain_stack};
+ghost use Rattle.om_task.specs.Answers.{Gives, Answers};
+ghost use Rattle.om_task.specs.Contexts.{born_row, held_at, ending, ready_put};
+ghost use Rattle.om_task.specs.Tasks.{group_of, ready_of};
+ghost use Rattle.om_task.specs.Rows.{made_names, values_given, spawn_row, ended_names, ended_updates, task_end_row, task_yield_row};
 
 use crate::count::{add_to_counts, name_counts};
 use om_code::Body;
@@ -54,8 +52,7 @@ fn made_names(
     context: &Context,
     new: &Name,
 ) -> Result<Names, AllocError>
-    ensures { IfOk result
-        (λ names. names ≡ made_names worker body.now (plain_context context.now) new.now) }
+    ensures { Gives result (made_names worker body.now (plain_context context.now) new.now) }
 {
     let mut names = name_one(alloc, &Obj::Task(*new), Mode::Write)?;
     name_given(&mut names, new, 0, body.given.as_slice())?;
@@ -72,8 +69,7 @@ fn ready_of(
     body: &Body,
     context: &Context,
 ) -> Result<Ready, AllocError>
-    ensures { IfOk result
-        (λ ready. ready ≡ ready_of making.now body.now (plain_context context.now)) }
+    ensures { Gives result (ready_of making.now body.now (plain_context context.now)) }
 {
     let homes = homes_in(alloc, context, body.slots.as_slice())?;
     let homes = Shared::of(alloc, homes)?;
@@ -116,9 +112,7 @@ fn put_ready(
     body: &Body,
     context: &Context,
 ) -> Result<Puts, AllocError>
-    ensures { IfOk result
-        (λ updates. updates ≡ Update.Put
-        (value.Task (task.Ready (ready_of making.now body.now (plain_context context.now)))) ∷ []) }
+    ensures { Gives result (ready_put making.now body.now (plain_context context.now)) }
 {
     let ready = ready_of(alloc, making, body, context)?;
     let ready = Shared::of(alloc, ready)?;
@@ -134,10 +128,7 @@ fn made(
     values: &[i32],
 ) -> Result<Answer, AllocError>
     requires { context.now.births + 1 < 2 ^ 64 }
-    ensures { IfOk result
-        (λ answer. (s : State) → answer
-        ≡ answered (made_row making.now body.now (plain_context context.now) values.now
-        (born (plain_context context.now))) s) }
+    ensures { Answers result (born_row making.now body.now (plain_context context.now) values.now) }
 {
     let Some(new) = &context.task.get().child(context.births + 1) else {
         return Ok(Answer::decided(alloc, Row::Faults(Fault::Name)));
@@ -165,9 +156,7 @@ pub fn spawn(
     context: &Context,
 ) -> Result<Answer, AllocError>
     requires { context.now.births + 1 < 2 ^ 64 }
-    ensures { IfOk result
-        (λ answer. (s : State) → answer ≡ answered
-        (spawn_row making.now body.now (plain_context context.now)) s) }
+    ensures { Answers result (spawn_row making.now body.now (plain_context context.now)) }
 {
     let operands = &operands_of(context);
     match ints_on(alloc, making.launch.takes as usize, operands)? {
@@ -184,8 +173,7 @@ fn ended_names(
     own: &Names,
     parent: &Name,
 ) -> Result<Names, AllocError>
-    ensures { IfOk result
-        (λ names. names ≡ ended_names worker (plain_context context.now) own.now parent.now) }
+    ensures { Gives result (ended_names worker (plain_context context.now) own.now parent.now) }
 {
     let mut names = name_one(alloc, &Obj::Task(*context.task.get()), Mode::Write)?;
     names.push_all(own)?;
@@ -201,8 +189,7 @@ fn ended_updates(
     own: &Names,
     next: &Shared<Name>,
 ) -> Result<Puts, AllocError>
-    ensures { IfOk result
-        (λ updates. updates ≡ ended_updates (plain_context context.now) own.now next.now) }
+    ensures { Gives result (ended_updates (plain_context context.now) own.now next.now) }
 {
     let mut updates = one_put(alloc, Update::Put(Val::Task(Task::Done)))?;
     put_deaths(&mut updates, own)?;
@@ -225,8 +212,7 @@ fn above(context: &Context) -> Name
 
 // The context next to the top, the first of those below; `None` exactly where there is none.
 fn next_below(below: &Tape<Box<Context>>) -> Option<&Context>
-    ensures { option_map (λ c. plain_context c.now) result
-        ≡ slice_get (map plain_held below.now.items) 0 }
+    ensures { option_map (λ c. plain_context c.now) result ≡ held_at below.now.items 0 }
 {
     let context = below.get(0)?;
     Some(context)
@@ -234,9 +220,7 @@ fn next_below(below: &Tape<Box<Context>>) -> Option<&Context>
 
 // The row of the end of a task, above a context that goes on.
 fn ended(alloc: Global, context: &Context, own: &Names, next: &Context) -> Result<Row, AllocError>
-    ensures { IfOk result
-        (λ row. row ≡ Row.Goes (Edit.EndContext ∷ [])
-        (ended_updates (plain_context context.now) own.now next.now.task)) }
+    ensures { Gives result (ending (plain_context context.now) own.now next.now.task) }
 {
     let updates = ended_updates(alloc, context, own, &next.task)?;
     let edits = Seq::one(alloc, Edit::EndContext)?;
@@ -253,9 +237,7 @@ pub fn task_end(
     slots: &[Slot],
 ) -> Result<Answer, AllocError>
     requires { length slots.now ≤ 2 ^ 32 }
-    ensures { IfOk result
-        (λ answer. (s : State) → answer ≡ answered
-        (task_end_row worker (plain_stack stack.now) slots.now) s) }
+    ensures { Answers result (task_end_row worker (plain_stack stack.now) slots.now) }
 {
     let context: &Context = &stack.top;
     let (Kind::Explicit, Some(next)) = (context.kind, next_below(&stack.below)) else {
@@ -271,7 +253,7 @@ pub fn task_end(
 ///
 /// The only error is out of memory.
 pub fn task_yield(alloc: Global, to: u32) -> Result<Answer, AllocError>
-    ensures { IfOk result (λ answer. (s : State) → answer ≡ answered (task_yield_row to) s) }
+    ensures { Answers result (task_yield_row to) }
 {
     let row = Row::goes(alloc, to, 0, None, Puts::new(alloc))?;
     Ok(Answer::decided(alloc, row))

@@ -1,11 +1,9 @@
 //! The row of the choice to start a task.
 
-ghost use Rattle.std.specs.Prelude.{◌≡◌, ◌∷◌, [], IfOk, option_map};
-ghost use Rattle.om_foot.specs.declared.object.Obj.TheVariants as obj;
+ghost use Rattle.std.specs.Prelude.{◌≡◌, IfOk, option_map};
 ghost use Rattle.om_live.specs.Plain.{plain_context};
-ghost use Rattle.om_live.specs.Stores.{state_of};
-ghost use Rattle.om_values.specs.Values.{task_in};
-ghost use Rattle.om_steps.specs.Rows.{answered};
+ghost use Rattle.om_task.specs.Answers.{Gives, AnswersAt};
+ghost use Rattle.om_task.specs.Contexts.{beginning, task_at};
 ghost use Rattle.om_task.specs.Tasks.{task_context};
 ghost use Rattle.om_task.specs.Rows.{begun_updates, ready_for, start_row};
 
@@ -59,8 +57,7 @@ fn task_context(
     on: &Context,
     ready: &Ready,
 ) -> Result<PlainContext, AllocError>
-    ensures { IfOk result
-        (λ context. context ≡ task_context name.now (plain_context on.now) ready.now) }
+    ensures { Gives result (task_context name.now (plain_context on.now) ready.now) }
 {
     let homes = ready.homes.copy()?;
     let standing = task_standing(alloc, name, on, ready)?;
@@ -76,7 +73,7 @@ fn begun_updates(
     status: TaskStatus,
     next: &Shared<Name>,
 ) -> Result<Puts, AllocError>
-    ensures { IfOk result (λ updates. updates ≡ begun_updates worker prior.now status next.now) }
+    ensures { Gives result (begun_updates worker prior.now status next.now) }
 {
     let entry = Record::TaskSchedule {
         prior: prior.copy()?,
@@ -93,9 +90,7 @@ fn beginning(
     on: &Context,
     ready: &Ready,
 ) -> Result<Seq<Edit>, AllocError>
-    ensures { IfOk result
-        (λ edits. edits ≡ Edit.BeginContext (task_context name.now (plain_context on.now) ready.now)
-        ∷ []) }
+    ensures { Gives result (beginning name.now (plain_context on.now) ready.now) }
 {
     let context = Shared::of(alloc, task_context(alloc, name, on, ready)?)?;
     Seq::one(alloc, Edit::BeginContext(context))
@@ -103,8 +98,7 @@ fn beginning(
 
 // What a task waits with, where it is ready and of this team.
 fn ready_for<'a>(store: &'a Store, name: &Name, team: &Name) -> Option<&'a Ready>
-    ensures { option_map (λ ready. ready.now) result
-        ≡ ready_for team.now (task_in (state_of store.now (obj.Task name.now))) }
+    ensures { option_map (λ r. r.now) result ≡ ready_for team.now (task_at store.now name.now) }
 {
     let Task::Ready(ready) = store.task(name)? else {
         return None;
@@ -127,9 +121,7 @@ pub fn start(
     name: &Name,
     on: &Context,
 ) -> Result<Answer, AllocError>
-    ensures { IfOk result
-        (λ answer. answer ≡ answered (start_row starting.now name.now (plain_context on.now))
-        (state_of store.now)) }
+    ensures { AnswersAt result (start_row starting.now name.now (plain_context on.now)) store.now }
 {
     let Some(status) = starting.status else {
         return Ok(Answer::decided(alloc, Row::Blocked(Blocked::Place)));

@@ -1,14 +1,11 @@
 //! The rows that wait for tasks.
 
-ghost use Rattle.std.specs.Prelude.{◌≡◌, ◌∷◌, [], ◌+◌, ◌<◌, ◌^◌, IfOk};
-ghost use Rattle.om_events.specs.declared.kind.Endpoint.TheVariants as endpoint;
-ghost use Rattle.om_events.specs.declared.kind.Sync.TheVariants as sync;
-ghost use Rattle.om_values.specs.State.{State};
+ghost use Rattle.std.specs.Prelude.{◌≡◌, ◌+◌, ◌<◌, ◌^◌};
 ghost use Rattle.om_live.specs.Plain.{plain_context};
-ghost use Rattle.om_live.specs.Stores.{state_of};
-ghost use Rattle.om_steps.specs.Rows.{answered};
 ghost use Rattle.om_steps.specs.Objects.{innermost};
-ghost use Rattle.om_task.specs.Tasks.{born, innermost_group};
+ghost use Rattle.om_task.specs.Answers.{Gives, Answers, AnswersAt};
+ghost use Rattle.om_task.specs.Contexts.{opening};
+ghost use Rattle.om_task.specs.Tasks.{innermost_group};
 ghost use Rattle.om_task.specs.Rows.{sync_event, wait_begin_row, waited, wait_end_row, group_begin_row, closed, group_end_row};
 
 use om_code::frame::Fault;
@@ -25,7 +22,7 @@ use std::alloc::{AllocError, Global};
 
 // What a context's task records where it begins and ends to wait.
 fn sync_event(sync: Sync, endpoint: Endpoint, context: &Context) -> Result<Record, AllocError>
-    ensures { IfOk result (λ entry. entry ≡ sync_event sync endpoint (plain_context context.now)) }
+    ensures { Gives result (sync_event sync endpoint (plain_context context.now)) }
 {
     Ok(Record::SyncRegion {
         sync,
@@ -44,9 +41,7 @@ pub fn wait_begin(
     to: u32,
     context: &Context,
 ) -> Result<Answer, AllocError>
-    ensures { IfOk result
-        (λ answer. (s : State) → answer ≡ answered
-        (wait_begin_row worker to (plain_context context.now)) s) }
+    ensures { Answers result (wait_begin_row worker to (plain_context context.now)) }
 {
     let edits = go_on(alloc, to)?;
     let entry = sync_event(Sync::TaskWait, Endpoint::Begin, context)?;
@@ -55,7 +50,7 @@ pub fn wait_begin(
 
 // What comes of a task that waits for its children.
 fn waited(alloc: Global, to: u32, context: &Context, is_over: bool) -> Result<Row, AllocError>
-    ensures { IfOk result (λ row. row ≡ waited to (plain_context context.now) is_over) }
+    ensures { Gives result (waited to (plain_context context.now) is_over) }
 {
     if !is_over {
         return Ok(Row::Blocked(Blocked::Children));
@@ -75,9 +70,7 @@ pub fn wait_end(
     to: u32,
     context: &Context,
 ) -> Result<Answer, AllocError>
-    ensures { IfOk result
-        (λ answer. answer ≡ answered (wait_end_row worker to (plain_context context.now))
-        (state_of store.now)) }
+    ensures { AnswersAt result (wait_end_row worker to (plain_context context.now)) store.now }
 {
     let kids = &Obj::Kids(*context.task.get());
     let names = name_with_events(alloc, kids, Mode::Read, worker)?;
@@ -87,9 +80,7 @@ pub fn wait_end(
 
 // The edits by which a task group opens.
 fn opening(alloc: Global, to: u32, group: &Name) -> Result<Seq<Edit>, AllocError>
-    ensures { IfOk result
-        (λ edits. edits ≡ Edit.Go to 0 None ∷ Edit.CountBirth
-        ∷ Edit.Open (Construct.Group group.now) ∷ []) }
+    ensures { Gives result (opening to group.now) }
 {
     let region = Shared::of(alloc, Construct::Group(*group))?;
     go_and_then(alloc, to, 0, Edit::CountBirth, Edit::Open(region))
@@ -105,9 +96,7 @@ pub fn group_begin(
     context: &Context,
 ) -> Result<Answer, AllocError>
     requires { context.now.births + 1 < 2 ^ 64 }
-    ensures { IfOk result
-        (λ answer. (s : State) → answer ≡ answered
-        (group_begin_row worker to (plain_context context.now)) s) }
+    ensures { Answers result (group_begin_row worker to (plain_context context.now)) }
 {
     let Some(group) = &context.task.get().child(context.births + 1) else {
         return Ok(Answer::decided(alloc, Row::Faults(Fault::Name)));
@@ -119,7 +108,7 @@ pub fn group_begin(
 
 // What comes of a task that waits for the tasks of a group.
 fn closed(alloc: Global, to: u32, context: &Context, is_over: bool) -> Result<Row, AllocError>
-    ensures { IfOk result (λ row. row ≡ closed to (plain_context context.now) is_over) }
+    ensures { Gives result (closed to (plain_context context.now) is_over) }
 {
     if !is_over {
         return Ok(Row::Blocked(Blocked::Group));
@@ -152,9 +141,7 @@ pub fn group_end(
     to: u32,
     context: &Context,
 ) -> Result<Answer, AllocError>
-    ensures { IfOk result
-        (λ answer. answer ≡ answered (group_end_row worker to (plain_context context.now))
-        (state_of store.now)) }
+    ensures { AnswersAt result (group_end_row worker to (plain_context context.now)) store.now }
 {
     let Some(group) = &innermost_group(context) else {
         return Ok(Answer::decided(alloc, Row::Lacks));
