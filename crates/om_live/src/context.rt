@@ -1,10 +1,10 @@
 //! Edits of a context, each with what takes it back.
 
-ghost use Rattle.std.specs.Prelude.{◌≡◌, ◌<◌, ◌+◌, ◌^◌, [], ◌∷◌, None, IfOk, OnOk, OnErr, drop, List};
-ghost use Rattle.om_values.specs.declared.control.Context as PlainContexts;
-ghost use Rattle.om_values.specs.declared.control.Control.TheVariants as plain;
-ghost use Rattle.om_values.specs.Edits.{context_at, frame_begun, value_given, edited, Counts};
-ghost use Rattle.om_live.specs.Plain.{plain_context, plain_frame, stack_of};
+ghost use Rattle.std.specs.Prelude.{◌≡◌, ◌<◌, ◌+◌, ◌^◌, [], IfOk, OnOk, OnErr};
+ghost use Rattle.om_values.specs.Edits.{context_at, Counts};
+ghost use Rattle.om_live.specs.Plain.{stack_of};
+ghost use Rattle.om_live.specs.Changed.{HasTurned, IsNext, IsEdited, begun_from, frame_ended};
+ghost use Rattle.om_live.specs.Changed.{region_opened, region_closed, region_replaced};
 ghost use Rattle.om_live.specs.Inverses.{turned_back, CanTurnBack, TurnsContext};
 
 use crate::control::{Context, Frame, Inverse};
@@ -23,8 +23,7 @@ impl Context {
         takes: u32,
         pushed: Option<Operand>,
     ) -> Result<Inverse, AllocError>
-        ensures changed { OnOk result (plain_context self.new
-            ≡ context_at to takes pushed (plain_context self.old)) }
+        ensures changed { OnOk result (HasTurned (context_at to takes pushed) self.old self.new) }
         ensures can { IfOk result (λ i. CanTurnBack i self.new) }
         ensures back { IfOk result (λ i. turned_back i self.new ≡ self.old) }
         ensures unchanged_on_error { OnErr result (self.new ≡ self.old) }
@@ -44,17 +43,8 @@ impl Context {
         frame: Box<Frame>,
     ) -> Result<Inverse, AllocError>
         requires counts { self.old.frames + 1 < 2 ^ 64 }
-        requires next { plain_frame frame.value
-            ≡ record {
-              body = frame.value.body;
-              next = 0;
-              ordinal = self.old.frames;
-              operands = [];
-              homes = frame.value.homes;
-            } }
-        ensures changed { OnOk result (plain_context self.new
-            ≡ frame_begun frame.value.body frame.value.homes
-            (context_at to takes None (plain_context self.old))) }
+        requires next { IsNext self.old frame.value }
+        ensures changed { OnOk result (HasTurned (begun_from to takes frame.value) self.old self.new) }
         ensures can { IfOk result (λ i. CanTurnBack i self.new) }
         ensures back { IfOk result (λ i. turned_back i self.new ≡ self.old) }
         ensures unchanged_on_error { OnErr result (self.new ≡ self.old) }
@@ -75,8 +65,7 @@ impl Context {
     /// The running frame ends, with a value for the one that waits for it; where none waits, nothing
     /// changes. When out of memory, nothing changes.
     pub fn end_frame(&mut self, value: Operand) -> Result<Inverse, AllocError>
-        ensures changed { OnOk result (plain_context self.new
-            ≡ value_given value (plain_context self.old).callers (plain_context self.old)) }
+        ensures changed { OnOk result (HasTurned (frame_ended value) self.old self.new) }
         ensures can { IfOk result (λ i. CanTurnBack i self.new) }
         ensures back { IfOk result (λ i. turned_back i self.new ≡ self.old) }
         ensures unchanged_on_error { OnErr result (self.new ≡ self.old) }
@@ -96,9 +85,7 @@ impl Context {
 
     /// Enters a region. When out of memory, nothing changes.
     pub fn open(&mut self, construct: Shared<Construct>) -> Result<Inverse, AllocError>
-        ensures changed { OnOk result (plain_context self.new
-            ≡ record (plain_context self.old)
-            { constructs = construct ∷ (plain_context self.old).constructs }) }
+        ensures changed { OnOk result (HasTurned (region_opened construct) self.old self.new) }
         ensures can { IfOk result (λ i. CanTurnBack i self.new) }
         ensures back { IfOk result (λ i. turned_back i self.new ≡ self.old) }
         ensures unchanged_on_error { OnErr result (self.new ≡ self.old) }
@@ -111,9 +98,7 @@ impl Context {
 
     /// Leaves the innermost region, if it is in one. It takes no memory.
     pub fn close(&mut self) -> Inverse
-        ensures changed { plain_context self.new
-            ≡ record (plain_context self.old)
-            { constructs = drop 1 (plain_context self.old).constructs } }
+        ensures changed { HasTurned region_closed self.old self.new }
         ensures can { CanTurnBack result self.new }
         ensures back { turned_back result self.new ≡ self.old }
     {
@@ -127,9 +112,7 @@ impl Context {
     /// Has another region in the place of the innermost one, or enters it where it is in none. When
     /// out of memory, nothing changes.
     pub fn replace(&mut self, mut construct: Shared<Construct>) -> Result<Inverse, AllocError>
-        ensures changed { OnOk result (plain_context self.new
-            ≡ record (plain_context self.old)
-            { constructs = construct ∷ drop 1 (plain_context self.old).constructs }) }
+        ensures changed { OnOk result (HasTurned (region_replaced construct) self.old self.new) }
         ensures can { IfOk result (λ i. CanTurnBack i self.new) }
         ensures back { IfOk result (λ i. turned_back i self.new ≡ self.old) }
         ensures unchanged_on_error { OnErr result (self.new ≡ self.old) }
@@ -145,8 +128,7 @@ impl Context {
     pub(crate) fn apply(&mut self, alloc: Global, edit: Edit) -> Result<Inverse, AllocError>
         requires turns { TurnsContext edit }
         requires counts { Counts edit (stack_of self.old []) }
-        ensures changed { OnOk result ((below : List PlainContexts.Context)
-            → plain.Running (stack_of self.new below) ≡ edited edit (stack_of self.old below)) }
+        ensures changed { OnOk result (IsEdited edit self.old self.new) }
         ensures can { IfOk result (λ i. CanTurnBack i self.new) }
         ensures back { IfOk result (λ i. turned_back i self.new ≡ self.old) }
         ensures unchanged_on_error { OnErr result (self.new ≡ self.old) }

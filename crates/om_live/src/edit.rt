@@ -1,8 +1,9 @@
 //! Edits of a control in place, each with what takes it back.
 
 ghost use Rattle.std.specs.Prelude.{◌≡◌, IfOk, OnOk, OnErr};
-ghost use Rattle.om_values.specs.Edits.{changed_by, HasRoom};
+ghost use Rattle.om_values.specs.Edits.{HasRoom};
 ghost use Rattle.om_live.specs.Plain.{plain_control};
+ghost use Rattle.om_live.specs.Changed.{HasChanged};
 ghost use Rattle.om_live.specs.Inverses.{reverted, CanRevert};
 
 use crate::control::{Control, Inverse};
@@ -35,8 +36,7 @@ pub fn become_control(
 // The running context ends, if the worker runs. It takes memory only where none is below it: then
 // the worker is idle. When out of memory, nothing changes.
 fn end_context(alloc: Global, control: &mut Control) -> Result<Inverse, AllocError>
-    ensures changed { OnOk result (plain_control control.new
-        ≡ changed_by Edit.EndContext (plain_control control.old)) }
+    ensures changed { OnOk result (HasChanged Edit.EndContext control.old control.new) }
     ensures can { IfOk result (λ i. CanRevert i control.new) }
     ensures back { IfOk result (λ i. reverted i control.new ≡ control.old) }
     ensures unchanged_on_error { OnErr result (control.new ≡ control.old) }
@@ -52,8 +52,7 @@ fn end_context(alloc: Global, control: &mut Control) -> Result<Inverse, AllocErr
 
 // The worker meets a fault, if it runs. It takes no memory.
 fn fail(control: &mut Control, fault: Fault) -> Inverse
-    ensures changed { plain_control control.new
-        ≡ changed_by (Edit.Fail fault) (plain_control control.old) }
+    ensures changed { HasChanged (Edit.Fail fault) control.old control.new }
     ensures can { CanRevert result control.new }
     ensures back { reverted result control.new ≡ control.old }
 {
@@ -73,8 +72,7 @@ fn fail(control: &mut Control, fault: Fault) -> Inverse
 /// memory, nothing changes.
 pub fn apply(alloc: Global, control: &mut Control, edit: Edit) -> Result<Inverse, AllocError>
     requires { HasRoom edit (plain_control control.old) }
-    ensures changed { OnOk result (plain_control control.new
-        ≡ changed_by edit (plain_control control.old)) }
+    ensures changed { OnOk result (HasChanged edit control.old control.new) }
     ensures can { IfOk result (λ i. CanRevert i control.new) }
     ensures back { IfOk result (λ i. reverted i control.new ≡ control.old) }
     ensures unchanged_on_error { OnErr result (control.new ≡ control.old) }

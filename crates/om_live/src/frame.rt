@@ -1,8 +1,8 @@
 //! Edits of a frame, each with what takes it back.
 
-ghost use Rattle.std.specs.Prelude.{◌≡◌, [], None, IfOk, OnOk, OnErr};
-ghost use Rattle.om_values.specs.Edits.{frame_at};
+ghost use Rattle.std.specs.Prelude.{◌≡◌, None, IfOk, OnOk, OnErr};
 ghost use Rattle.om_live.specs.Plain.{plain_frame};
+ghost use Rattle.om_live.specs.Changed.{first_frame, HasGone};
 ghost use Rattle.om_live.specs.Inverses.{passed_back, went_back, CanPassBack, CanGoBack};
 
 use crate::control::{Frame, Laid, Passed, Went};
@@ -21,9 +21,7 @@ pub(crate) fn new_frame(
     ordinal: u64,
     homes: Shared<Seq<Home>>,
 ) -> Result<Box<Frame>, AllocError>
-    ensures { IfOk result
-        (λ b. plain_frame b.value
-        ≡ record { body = body; next = 0; ordinal = ordinal; operands = []; homes = homes }) }
+    ensures { IfOk result (λ b. plain_frame b.value ≡ first_frame body ordinal homes) }
 {
     let frame = Frame {
         body,
@@ -38,7 +36,7 @@ pub(crate) fn new_frame(
 impl Frame {
     /// Goes to a place, with so many operands taken, or all where there are fewer. It takes no memory.
     pub fn pass(&mut self, to: u32, takes: u32) -> Passed
-        ensures changed { plain_frame self.new ≡ frame_at to takes None (plain_frame self.old) }
+        ensures changed { HasGone to takes None self.old self.new }
         ensures can { CanPassBack result self.new }
         ensures back { passed_back result self.new ≡ self.old }
     {
@@ -63,8 +61,7 @@ impl Frame {
     /// Goes to a place, with so many operands taken and then one pushed. When out of memory, nothing
     /// changes.
     pub fn go(&mut self, to: u32, takes: u32, pushed: Option<Operand>) -> Result<Went, AllocError>
-        ensures changed { OnOk result (plain_frame self.new
-            ≡ frame_at to takes pushed (plain_frame self.old)) }
+        ensures changed { OnOk result (HasGone to takes pushed self.old self.new) }
         ensures can { IfOk result (λ w. CanGoBack w self.new) }
         ensures back { IfOk result (λ w. went_back w self.new ≡ self.old) }
         ensures unchanged_on_error { OnErr result (self.new ≡ self.old) }

@@ -1,10 +1,10 @@
 //! Edits of a stack, each with what takes it back: a context begins or ends, or the one that runs is
 //! edited.
 
-ghost use Rattle.std.specs.Prelude.{◌≡◌, ◌<◌, IfOk, OnOk, OnErr, length, map};
-ghost use Rattle.om_values.specs.declared.control.Control.TheVariants as plain;
-ghost use Rattle.om_values.specs.Edits.{context_ended, edited, Counts};
-ghost use Rattle.om_live.specs.Plain.{plain_stack, plain_held};
+ghost use Rattle.std.specs.Prelude.{◌≡◌, ◌<◌, IfOk, OnOk, OnErr, length};
+ghost use Rattle.om_values.specs.Edits.{Counts};
+ghost use Rattle.om_live.specs.Plain.{plain_stack};
+ghost use Rattle.om_live.specs.Changed.{IsEnded, RunsOn};
 ghost use Rattle.om_live.specs.Inverses.{stack_back, CanStackBack, StaysRunning};
 
 use crate::control::{Inverse, Stack};
@@ -17,8 +17,7 @@ impl Stack {
     /// memory.
     pub(crate) fn end_context(&mut self) -> Inverse
         requires { 0 < length self.old.below.items }
-        ensures changed { plain.Running (plain_stack self.new)
-            ≡ context_ended (map plain_held self.old.below.items) }
+        ensures changed { IsEnded self.old self.new }
         ensures can { CanStackBack result self.new }
         ensures back { stack_back result self.new ≡ self.old }
     {
@@ -31,8 +30,7 @@ impl Stack {
     pub(crate) fn apply(&mut self, alloc: Global, edit: Edit) -> Result<Inverse, AllocError>
         requires stays { StaysRunning edit }
         requires counts { Counts edit (plain_stack self.old) }
-        ensures changed { OnOk result (plain.Running (plain_stack self.new)
-            ≡ edited edit (plain_stack self.old)) }
+        ensures changed { OnOk result (RunsOn edit self.old self.new) }
         ensures can { IfOk result (λ i. CanStackBack i self.new) }
         ensures back { IfOk result (λ i. stack_back i self.new ≡ self.old) }
         ensures unchanged_on_error { OnErr result (self.new ≡ self.old) }

@@ -1,10 +1,11 @@
 //! A worker's control with the trail of its changes, which leads back to its start.
 
-ghost use Rattle.std.specs.Prelude.{◌≡◌, ◌<◌, ◌∷◌, [], OnOk, OnErr, length};
-ghost use Rattle.om_values.specs.Edits.{changed_by, changed, HasRoom, HaveRoom};
+ghost use Rattle.std.specs.Prelude.{◌≡◌, ◌<◌, ◌∷◌, [], true, OnOk, OnErr, length};
+ghost use Rattle.om_values.specs.Edits.{HasRoom, HaveRoom};
 ghost use Rattle.om_live.specs.Plain.{plain_control};
 ghost use Rattle.om_live.specs.Inverses.{reverted, CanRevert};
-ghost use Rattle.om_live.specs.Trails.{CanRewind, past_of, begun, stepped, became, undone};
+ghost use Rattle.om_live.specs.Trails.{CanRewind, past_of, stepped, became, undone};
+ghost use Rattle.om_live.specs.Changed.{HasChanged, HasMade, logged, IsNoted};
 
 use crate::control::{Control, Inverse, Logged};
 use crate::edit::{apply, become_control, revert};
@@ -45,8 +46,7 @@ fn log(
     begins: bool,
 ) -> Result<(), AllocError>
     requires { CanRevert inverse control.old }
-    ensures logged { OnOk result
-        (inverses.new ≡ record { inverse = inverse; begins = begins } ∷ inverses.old) }
+    ensures logged { OnOk result (inverses.new ≡ logged inverse begins inverses.old) }
     ensures same { OnOk result (control.new ≡ control.old) }
     ensures unlogged_on_error { OnErr result (inverses.new ≡ inverses.old) }
     ensures reverted_on_error { OnErr result (control.new ≡ reverted inverse control.old) }
@@ -68,10 +68,9 @@ fn edit_logged(
 ) -> Result<(), AllocError>
     requires room { HasRoom edit (plain_control control.old) }
     requires can_rewind { CanRewind inverses.old control.old }
-    ensures changed { OnOk result (plain_control control.new
-        ≡ changed_by edit (plain_control control.old)) }
-    ensures past { OnOk result (past_of inverses.new control.new
-        ≡ begun begins control.old (past_of inverses.old control.old)) }
+    ensures changed { OnOk result (HasChanged edit control.old control.new) }
+    ensures past { OnOk result
+        (IsNoted begins inverses.old control.old inverses.new control.new) }
     ensures can_rewind { OnOk result (CanRewind inverses.new control.new) }
     ensures same_control_on_error { OnErr result (control.new ≡ control.old) }
     ensures same_log_on_error { OnErr result (inverses.new ≡ inverses.old) }
@@ -89,12 +88,10 @@ fn edit_all(
 ) -> Result<(), AllocError>
     requires room { HaveRoom edits.items (plain_control control.old) }
     requires can_rewind { CanRewind inverses.old control.old }
-    ensures changed { OnOk result (plain_control control.new
-        ≡ changed edits.items (plain_control control.old)) }
-    ensures past { OnOk result (past_of inverses.new control.new
-        ≡ plain_control control.old ∷ past_of inverses.old control.old) }
-    ensures unchanged_on_error { OnErr result (plain_control control.new
-        ≡ plain_control control.old) }
+    ensures changed { OnOk result (HasMade edits.items control.old control.new) }
+    ensures past { OnOk result
+        (IsNoted true inverses.old control.old inverses.new control.new) }
+    ensures unchanged_on_error { OnErr result (HasMade [] control.old control.new) }
     ensures same_past_on_error { OnErr result (past_of inverses.new control.new
         ≡ past_of inverses.old control.old) }
     ensures can_rewind { CanRewind inverses.new control.new }
