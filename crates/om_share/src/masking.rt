@@ -6,7 +6,8 @@ ghost use Rattle.om_values.specs.State.{State};
 ghost use Rattle.om_live.specs.Plain.{plain_context};
 ghost use Rattle.om_steps.specs.Objects.{innermost};
 ghost use Rattle.om_steps.specs.Rows.{answered};
-ghost use Rattle.om_share.specs.Rows.{filtered_row, masked_row, is_masked, end_masked_row};
+ghost use Rattle.om_share.specs.Answers.{Gives, Answers, filtered_by};
+ghost use Rattle.om_share.specs.Rows.{masked_row, is_masked, end_masked_row};
 
 use crate::parts::{Branch, jump, opened};
 use om_events::{Endpoint, Record};
@@ -19,8 +20,7 @@ use std::alloc::{AllocError, Global};
 
 // The record that a masked region begins or ends.
 fn masked_record(context: &Context, endpoint: Endpoint) -> Result<Record, AllocError>
-    ensures { IfOk result
-        (λ entry. entry ≡ Record.Masked endpoint context.now.team.name context.now.task) }
+    ensures { Gives result (Record.Masked endpoint context.now.team.name context.now.task) }
 {
     Ok(Record::Masked {
         endpoint,
@@ -37,9 +37,7 @@ fn filter(
     branch: Branch,
     runs: bool,
 ) -> Result<Answer, AllocError>
-    ensures { (s : State) → IfOk result
-        (λ answer. answer ≡ answered
-        (filtered_row worker branch.to branch.otherwise (plain_context context.now) runs) s) }
+    ensures { Answers result (filtered_by worker branch (plain_context context.now) runs) }
 {
     if runs {
         let edits = opened(alloc, branch.to, 1, &Construct::Masked)?;

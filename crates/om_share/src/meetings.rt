@@ -1,15 +1,15 @@
 //! ARRIVE, DEPART and LEAVE: a member at a barrier, and at the end of its region.
 
-ghost use Rattle.std.specs.Prelude.{◌≡◌, ◌++◌, ◌∷◌, [], ◌≤◌, ◌<◌, ◌+◌, ◌^◌, IfOk, OnOk, length, map, None, option_map, slice_get};
+ghost use Rattle.std.specs.Prelude.{◌≡◌, ◌++◌, ◌≤◌, ◌<◌, ◌+◌, ◌^◌, IfOk, OnOk, length, map, option_map, slice_get};
 ghost use Rattle.om_values.specs.State.{State};
 ghost use Rattle.om_live.specs.Plain.{plain_context, plain_held, plain_stack};
 ghost use Rattle.om_live.specs.Stores.{state_of};
-ghost use Rattle.om_steps.specs.Rows.{answered, goes};
-ghost use Rattle.om_steps.specs.Objects.{deaths, event, events, own_cells, write};
-ghost use Rattle.om_foot.specs.declared.object.Obj.TheVariants as obj;
-ghost use Rattle.om_values.specs.declared.value.Val.TheVariants as value;
+ghost use Rattle.om_steps.specs.Rows.{answered};
+ghost use Rattle.om_steps.specs.Objects.{own_cells};
+ghost use Rattle.om_share.specs.Answers.{Gives, Answers, AnswersAt, reached_names, reached_turn, departed_updates, held};
+ghost use Rattle.om_share.specs.Answers.{barrier_names, left_puts, left_on};
 ghost use Rattle.om_share.specs.Barriers.{barrier};
-ghost use Rattle.om_share.specs.Rows.{sync_of, team_at_end, reached_row, is_misplaced_barrier, arrive_row, kept, departed, depart_row, region_end, left_records, left, left_row, leave_row};
+ghost use Rattle.om_share.specs.Rows.{sync_of, team_at_end, reached_row, is_misplaced_barrier, arrive_row, departed, depart_row, region_end, left_records, left, leave_row};
 
 use crate::barrier::{is_open, name_barrier, put_kept};
 use om_code::frame::Fault;
@@ -65,8 +65,7 @@ fn is_misplaced_barrier(barrier: Barrier, context: &Context) -> bool
 
 // The names of a member that reaches a barrier.
 fn reached_names(alloc: Global, worker: u8, team: &Team) -> Result<Names, AllocError>
-    ensures { IfOk result
-        (λ names. names ≡ write (obj.Arrived team.now.name team.now.number) ∷ events worker ∷ []) }
+    ensures { Gives result (reached_names worker team.now) }
 {
     let reached = Obj::Arrived {
         team: *team.name.get(),
@@ -86,12 +85,7 @@ fn reached_turn(
     context: &Context,
 ) -> Result<Row, AllocError>
     requires { context.now.phase + 1 < 2 ^ 64 }
-    ensures { IfOk result
-        (λ row. row ≡ goes to 0 None
-        (Update.Put (value.Number (context.now.phase + 1))
-        ∷ event
-        (Record.SyncRegion (sync_of barrier) Endpoint.Begin context.now.team.name context.now.task)
-        ∷ [])) }
+    ensures { Gives result (reached_turn to barrier (plain_context context.now)) }
 {
     let mut updates = one_put(alloc, Update::Put(Val::Number(context.phase + 1)))?;
     let begun = Record::SyncRegion {
@@ -107,9 +101,7 @@ fn reached_turn(
 // The answer of a member that reaches a barrier.
 fn reached(alloc: Global, at: At, barrier: Barrier, context: &Context) -> Result<Answer, AllocError>
     requires { context.now.phase + 1 < 2 ^ 64 }
-    ensures { (s : State) → IfOk result
-        (λ answer. answer ≡ answered
-        (reached_row at.worker at.to barrier (plain_context context.now)) s) }
+    ensures { Answers result (reached_row at.worker at.to barrier (plain_context context.now)) }
 {
     let names = reached_names(alloc, at.worker, context.team.get())?;
     let row = reached_turn(alloc, at.to, barrier, context)?;
@@ -143,9 +135,7 @@ fn barrier_names(
     context: &Context,
     own: &Names,
 ) -> Result<Names, AllocError>
-    ensures { IfOk result
-        (λ names. names ≡ barrier context.now.team context.now.phase
-        ++ (own.now ++ events worker ∷ [])) }
+    ensures { Gives result (barrier_names worker (plain_context context.now) own.now) }
 {
     let mut names = Names::new(alloc);
     name_barrier(&mut names, context.team.get(), context.phase)?;
@@ -156,11 +146,7 @@ fn barrier_names(
 
 // The updates of a member that goes on from a barrier.
 fn departed_updates(alloc: Global, barrier: Barrier, context: &Context) -> Result<Puts, AllocError>
-    ensures { IfOk result
-        (λ updates. updates ≡ kept context.now.team.size
-        ++ event
-        (Record.SyncRegion (sync_of barrier) Endpoint.End
-        (team_at_end barrier context.now.team.name) context.now.task) ∷ []) }
+    ensures { Gives result (departed_updates barrier (plain_context context.now)) }
 {
     let mut updates = Puts::new(alloc);
     put_kept(&mut updates, context.team.get().size)?;
@@ -214,8 +200,7 @@ pub fn depart(
 
 // The context next to the top, the first of those below; `None` exactly where there is none.
 fn next_below(below: &Tape<Box<Context>>) -> Option<&Context>
-    ensures { option_map (λ c. plain_context c.now) result
-        ≡ slice_get (map plain_held below.now.items) 0 }
+    ensures { option_map (λ c. plain_context c.now) result ≡ slice_get (held below.now.items) 0 }
 {
     let context = below.get(0)?;
     Some(context)
@@ -249,9 +234,7 @@ fn left_records(
     context: &Context,
     below: &Tape<Box<Context>>,
 ) -> Result<Seq<Record>, AllocError>
-    ensures { IfOk result
-        (λ records. records
-        ≡ left_records (plain_context context.now) (map plain_held below.now.items)) }
+    ensures { Gives result (left_records (plain_context context.now) (held below.now.items)) }
 {
     let no_team = Shared::of(alloc, Name::empty())?;
     let barrier_end = Record::SyncRegion {
@@ -280,11 +263,7 @@ fn left_updates(
     below: &Tape<Box<Context>>,
     own: &Names,
 ) -> Result<Puts, AllocError>
-    ensures { IfOk result
-        (λ updates. updates ≡ kept context.now.team.size
-        ++ (deaths own.now
-        ++ Update.Append (Tail.Events
-        (left_records (plain_context context.now) (map plain_held below.now.items))) ∷ [])) }
+    ensures { Gives result (left_puts (plain_context context.now) (held below.now.items) own.now) }
 {
     let mut updates = Puts::new(alloc);
     put_kept(&mut updates, context.team.get().size)?;
@@ -302,9 +281,8 @@ fn left(
     own: &Names,
     opens: bool,
 ) -> Result<Row, AllocError>
-    ensures { IfOk result
-        (λ row. row
-        ≡ left (plain_context context.now) (map plain_held below.now.items) own.now opens) }
+    ensures { Gives result
+        (left (plain_context context.now) (held below.now.items) own.now opens) }
 {
     if !opens {
         return Ok(Row::Blocked(Blocked::Barrier));
@@ -323,10 +301,7 @@ fn left_answer(
     stack: &Stack,
     own: &Names,
 ) -> Result<Answer, AllocError>
-    ensures { IfOk result
-        (λ answer. answer ≡ answered
-        (left_row worker (plain_stack stack.now).top (plain_stack stack.now).below own.now)
-        (state_of store.now)) }
+    ensures { AnswersAt result (left_on worker (plain_stack stack.now) own.now) store.now }
 {
     let context = &stack.top;
     let names = barrier_names(alloc, worker, context, own)?;

@@ -4,6 +4,7 @@ ghost use Rattle.std.specs.Prelude.{◌≡◌, [], IfOk, IfSome};
 ghost use Rattle.om_values.specs.OpenShares.{ShareHasInts};
 ghost use Rattle.om_live.specs.Plain.{plain_context};
 ghost use Rattle.om_steps.specs.Rows.{goes};
+ghost use Rattle.om_share.specs.Answers.{Gives, work_record};
 ghost use Rattle.om_share.specs.Rows.{edits, begun, share_of, share_in};
 
 use om_events::{Endpoint, Record, Work};
@@ -65,9 +66,7 @@ pub(crate) fn work_record(
     endpoint: Endpoint,
     count: u64,
 ) -> Result<Record, AllocError>
-    ensures { IfOk result
-        (λ entry. entry
-        ≡ Record.Work work endpoint context.now.team.name context.now.task count) }
+    ensures { Gives result (work_record work endpoint (plain_context context.now) count) }
 {
     Ok(Record::Work {
         work,

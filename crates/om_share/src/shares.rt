@@ -6,11 +6,10 @@ ghost use Rattle.om_values.specs.State.{State};
 ghost use Rattle.om_live.specs.Plain.{plain_context};
 ghost use Rattle.om_live.specs.Stores.{state_of};
 ghost use Rattle.om_foot.specs.declared.object.Obj.TheVariants as obj;
-ghost use Rattle.om_code.specs.declared.frame.Cell.TheVariants as cell;
-ghost use Rattle.om_values.specs.declared.value.Val.TheVariants as values;
 ghost use Rattle.om_steps.specs.Objects.{write};
 ghost use Rattle.om_steps.specs.Rows.{answered};
-ghost use Rattle.om_share.specs.Rows.{edits, is_right_schedule, is_right_form, loop_of, work_of, open_row, loop_row, sections_row, share_in, in_chunk, taken_row, given_row, static_row, grab_row, iteration_row, iterate_row, is_section, section_row, pick_row};
+ghost use Rattle.om_share.specs.Answers.{Gives, Answers, iterated, static_by, iteration_by};
+ghost use Rattle.om_share.specs.Rows.{edits, is_right_schedule, is_right_form, loop_of, work_of, open_row, loop_row, sections_row, share_in, in_chunk, taken_row, given_row, grab_row, iterate_row, is_section, section_row, pick_row};
 
 use crate::chunk::{Chunk, chunk_within, count_of, static_chunk, step_size};
 use crate::parts::{Branch, begun, jump, share_in, work_record};
@@ -89,9 +88,7 @@ fn open_share(
     share: Share,
 ) -> Result<Answer, AllocError>
     requires { ShareHasInts share }
-    ensures { (s : State) → IfOk result
-        (λ answer. answer ≡ answered
-        (open_row at.worker at.to takes (plain_context context.now) share) s) }
+    ensures { Answers result (open_row at.worker at.to takes (plain_context context.now) share) }
 {
     if is_misplaced(context) {
         return Ok(Answer::decided(alloc, Row::Faults(Fault::Nesting)));
@@ -231,9 +228,7 @@ fn grab_static(
     size: Option<u32>,
 ) -> Result<Answer, AllocError>
     requires { ShareHasInts share }
-    ensures { (s : State) → IfOk result
-        (λ answer. answer ≡ answered
-        (static_row branch.to branch.otherwise (plain_context context.now) share size) s) }
+    ensures { Answers result (static_by branch (plain_context context.now) share size) }
 {
     let chunk = static_chunk(size, share.count, context.team.get(), share.taken);
     let row = take(alloc, branch, share, chunk)?;
@@ -328,10 +323,7 @@ fn is_loop(sharing: Sharing) -> bool
 fn iterated(alloc: Global, to: u32, share: Share, value: i32) -> Result<Row, AllocError>
     requires few { share.next + 1 < 2 ^ 64 }
     requires ints { ShareHasInts share }
-    ensures { IfOk result
-        (λ row. row ≡ Row.Goes
-        (edits to 0 (Edit.Replace (Construct.Share (record share { next = share.next + 1 }))))
-        (Update.Put (values.Cell (cell.Int value)) ∷ [])) }
+    ensures { Gives result (iterated to share value) }
 {
     let next = share.next + 1;
     let region = &Construct::Share(OpenShare::of(Share { next, ..share }));
@@ -350,9 +342,7 @@ fn next_iteration(
 ) -> Result<Answer, AllocError>
     requires kind { is_loop share.sharing ≡ true }
     requires ints { ShareHasInts share }
-    ensures { (s : State) → IfOk result
-        (λ answer. answer ≡ answered
-        (iteration_row branch.to branch.otherwise (plain_context context.now) slot share) s) }
+    ensures { Answers result (iteration_by branch (plain_context context.now) slot share) }
 {
     if share.next >= share.end {
         let row = jump(alloc, branch.otherwise, 0)?;

@@ -6,6 +6,7 @@ ghost use Rattle.om_live.specs.Plain.{plain_context};
 ghost use Rattle.om_live.specs.Stores.{state_of};
 ghost use Rattle.om_steps.specs.Objects.{innermost};
 ghost use Rattle.om_steps.specs.Rows.{answered};
+ghost use Rattle.om_share.specs.Answers.{Gives, Answers, chosen_by};
 ghost use Rattle.om_share.specs.Rows.{single_work, chosen_row, single_row, closed_row, end_worksharing_row};
 
 use crate::parts::{Branch, begun, work_record};
@@ -44,8 +45,7 @@ fn run(alloc: Global, context: &Context, to: u32) -> Result<Row, AllocError>
 
 // The row of any other thread.
 fn pass(alloc: Global, context: &Context, otherwise: u32) -> Result<Row, AllocError>
-    ensures { IfOk result
-        (λ row. row ≡ chosen_row otherwise otherwise (plain_context context.now) false) }
+    ensures { Gives result (chosen_row otherwise otherwise (plain_context context.now) false) }
 {
     let region = &Construct::Single { runs: false };
     let edits = begun(alloc, otherwise, 0, region)?;
@@ -61,8 +61,7 @@ fn choose(
     branch: Branch,
     is_first: bool,
 ) -> Result<Row, AllocError>
-    ensures { IfOk result
-        (λ row. row ≡ chosen_row branch.to branch.otherwise (plain_context context.now) is_first) }
+    ensures { Gives result (chosen_by branch (plain_context context.now) is_first) }
 {
     if is_first {
         run(alloc, context, branch.to)
@@ -105,9 +104,7 @@ fn close(
     work: Work,
     count: u64,
 ) -> Result<Answer, AllocError>
-    ensures { (s : State) → IfOk result
-        (λ answer. answer ≡ answered
-        (closed_row at.worker at.to (plain_context context.now) work count) s) }
+    ensures { Answers result (closed_row at.worker at.to (plain_context context.now) work count) }
 {
     let edits = go_and(alloc, at.to, 0, Edit::Close)?;
     let entry = work_record(context, work, Endpoint::End, count)?;
