@@ -9,6 +9,7 @@ pub mod Choices
 pub mod Replayed
 pub mod Backs
 pub mod Takes
+pub mod Effects
 pub mod Undos
 pub mod Bounds
 pub mod Pasts

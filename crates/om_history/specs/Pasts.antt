@@ -5,6 +5,7 @@ use Rattle.om_values.specs.declared.step.Change.{Change}
 use Rattle.om_values.specs.declared.step.Label.{Label}
 use Rattle.om_values.specs.declared.step.Step.{Step}
 use Rattle.om_values.specs.Changes.{step_of}
+use Rattle.om_values.specs.Edits.{HaveRoom}
 use Rattle.om_values.specs.State.{State}
 use Rattle.om_values.specs.Values.{control_in}
 use Rattle.om_values.specs.Rules.{Rules, step_at, replay}
@@ -13,11 +14,13 @@ use Rattle.om_live.specs.Stores.{state_of, pasts_of}
 use Rattle.om_history.specs.declared.records.UndoRecord.{UndoRecord}
 use Rattle.om_history.specs.declared.history.History.{History}
 use Rattle.om_history.specs.declared.reply.StepReply.{StepReply}
+use Rattle.om_history.specs.declared.reply.RollReply.{RollReply}
+use Rattle.om_history.specs.declared.reply.RollReply.TheVariants.{NoEntry}
 use Rattle.om_history.specs.declared.reply.Taken.{Taken}
 use Rattle.om_history.specs.Runs.{History as Entries, label_of, reply_to_step, after_step}
 use Rattle.om_history.specs.Cones.{taken_by_roll, after_roll}
 use Rattle.om_history.specs.Records.{entries_of, ReplaysTo, HasRoom}
-use Rattle.om_history.specs.Commands.{IsRun, Rise, TakesCone}
+use Rattle.om_history.specs.Commands.{IsRun, Rise, TakesCone, IsGone}
 use Rattle.om_history.specs.Bounds.{IsSteady}
 use Rattle.om_history.specs.Shapes.{IsShaped}
 use Rattle.om_history.specs.Fills.{full_all, marked_back, AreMarked}
@@ -67,6 +70,10 @@ history_in h = entries_in (past_in h)
 abbrev pub IsHeld : Rules → History → Type 0
 IsHeld r h = IsKept r h.store h.records h.made
 
+-- it is held under all steady rules, with controls where controls stand, that start at this state
+abbrev pub IsHeldFrom : State → History → Type 0
+IsHeldFrom s h = (r : Rules) → IsSteady r → IsShaped r → r.start ≡ s → IsHeld r h
+
 -- whatever rules a history is held under, this state is the replay of its entries
 abbrev pub IsReplay : History → State → Type 0
 IsReplay h s = (r : Rules) → IsHeld r h → replay r (map label_of (history_in h).entries) ≡ Some s
@@ -104,10 +111,41 @@ abbrev pub TakesStep : Label → Step → History → History → Type 0
 TakesStep label step old new = (r : Rules) → IsPlanned r old label step
     → (history_in new ≡ after_step r (history_in old) label) × IsHeld r new
 
+-- the step of a change is planned, under rules under which a history is held
+abbrev pub IsPlannedChange : Label → Change → History → Type 0
+IsPlannedChange label change h = (r : Rules) × IsPlanned r h label (step_for label change h)
+
+-- a worker's control has room for the edits of a change
+abbrev pub HasRoomFor : ℕ → Change → History → Type 0
+HasRoomFor worker change h = HaveRoom change.edits (control_in ((past_in h).state (obj.Control worker)))
+
+-- what a planned change replies, and what it leaves
+abbrev pub RepliesToChange : Label → Change → History → StepReply → Type 0
+RepliesToChange label change h reply = RepliesToStep label (step_for label change h) h reply
+
+-- what it replies, whatever the choice of its worker's step is
+abbrev pub RepliesToWorker : ℕ → Change → History → StepReply → Type 0
+RepliesToWorker worker change h reply = (label : Label) → label.worker ≡ worker → RepliesToChange label change h reply
+
+abbrev pub TakesChange : Label → Change → History → History → Type 0
+TakesChange label change old new = TakesStep label (step_for label change old) old new
+
+-- no entry of a history has this serial
+abbrev pub HasNoEntry : ℕ → History → Type 0
+HasNoEntry serial h = IsGone serial (history_in h)
+
+-- these are what a roll would take out
+abbrev pub AreRolled : ℕ → History → List Taken → Type 0
+AreRolled serial h taken = Replies (λ r x. taken_by_roll r x serial) h taken
+
 -- where these are what a roll takes out, they are taken out
 abbrev pub TakesOut : List Taken → History → History → Type 0
 TakesOut taken old new = (serial : ℕ) (r : Rules) → IsHeld r old → taken ≡ taken_by_roll r (history_in old) serial
     → (history_in new ≡ after_roll r (history_in old) serial) × IsHeld r new
+
+-- a roll of no entry changes nothing that contracts see
+abbrev pub StaysIfNone : History → History → RollReply → Type 0
+StaysIfNone old new reply = reply ≡ NoEntry → Stays old new
 
 -- a roll takes the cone out and nothing else
 abbrev pub TakesItsCone : ℕ → History → History → Type 0

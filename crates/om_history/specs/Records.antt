@@ -1,6 +1,6 @@
 -- Undo records against the replay of their entries.
-use Rattle.std.specs.Prelude.{◌≡◌, ◌≢◌, Bool, true, false, Option, None, Some, List, [], ◌∷◌, map, All, ℕ, ◌+◌, ◌<◌, drop}
-use Rattle.std.specs.Prelude.{slice_get}
+use Rattle.std.specs.Prelude.{◌≡◌, ◌≢◌, Bool, true, false, Option, None, Some, List, [], ◌∷◌, map, All, ℕ, ◌+◌, ◌<◌, drop, reverse}
+use Rattle.std.specs.Prelude.{slice_get, remove}
 use Rattle.std.specs.List.{AllByRecursion}
 use Rattle.om_foot.specs.declared.footprint.Access.{Access}
 use Rattle.om_foot.specs.Footprint.{conflict_of}
@@ -12,11 +12,12 @@ use Rattle.om_values.specs.Rules.{Rules, step_at, next_state}
 use Rattle.om_live.specs.declared.store.Store.{Store}
 use Rattle.om_live.specs.Stores.{is_kept}
 use Rattle.om_history.specs.declared.records.UndoRecord.{UndoRecord}
+use Rattle.om_history.specs.declared.reply.Taken.{Taken}
 use Rattle.om_history.specs.declared.reply.UndoReply.{UndoReply}
 use Rattle.om_history.specs.declared.reply.UndoReply.TheVariants.{Undone, Conflict, Nothing}
 use Rattle.om_history.specs.Laws.{updates_of}
 use Rattle.om_history.specs.Runs.{label_of, conflict_or}
-use Rattle.om_history.specs.Cones.{Transition}
+use Rattle.om_history.specs.Cones.{Transition, cone, taken_of}
 
 abbrev pub entries_of : List UndoRecord → List Entry
 entries_of ks = map (λ (k : UndoRecord). k.entry) ks
@@ -43,9 +44,21 @@ ReplaysTo r s [] now = s ≡ now
 ReplaysTo r s (k ∷ ks) now = (t : State) × (next_state r s (label_of k.entry) ≡ Some t) × IsRight
     (step_at r s (label_of k.entry)) s k × ReplaysTo r t ks now
 
--- a store keeps the objects of a footprint
+-- what names the cone of the entry with a serial, in order
+abbrev pub cone_in : ℕ → List UndoRecord → List Taken
+cone_in serial ks = map taken_of (cone serial (transitions_of ks))
+
+-- and what a roll takes out, the latest first
+abbrev pub roll_in : ℕ → List UndoRecord → List Taken
+roll_in serial ks = map taken_of (reverse (cone serial (transitions_of ks)))
+
+-- a store keeps the objects of these accesses
+abbrev pub Keeps : Store → List Access → Type 0
+Keeps store footprint = All (λ a. is_kept store a.object ≡ true) footprint
+
+-- and those of a record
 abbrev pub HasRoom : Store → UndoRecord → Type 0
-HasRoom store k = All (λ a. is_kept store a.object ≡ true) k.footprint
+HasRoom store k = Keeps store k.footprint
 
 -- the reply that names the first record that conflicts with a footprint, else the other reply
 abbrev pub first_kept_conflict : List Access → List UndoRecord → UndoReply → UndoReply
@@ -60,6 +73,11 @@ reply_before (Some k) later = first_kept_conflict k.footprint later (Undone k.en
 -- what an undo of the entry at an index replies
 abbrev pub kept_reply : List UndoRecord → ℕ → UndoReply
 kept_reply ks i = reply_before (slice_get ks i) (drop (i + 1) ks)
+
+-- what an undo replies of a record that meets at most this one: that they conflict, or that it is undone
+abbrev pub RepliesAgainst : UndoRecord → ℕ → UndoReply → UndoRecord → Type 0
+RepliesAgainst undone serial reply made = reply ≡ conflict_or made.entry (conflict_of undone.footprint made.footprint)
+    (Undone serial undone.entry.line)
 
 abbrev pub is_undone : UndoReply → Bool
 is_undone (Undone serial line) = true
@@ -82,6 +100,26 @@ pub record LastHasSerial (w : ℕ) (ks : List UndoRecord) (serial : ℕ) : Type 
 -- one of the records has this serial
 abbrev pub HasSerial : ℕ → List UndoRecord → Type 0
 HasSerial serial ks = (i : ℕ) × (k : UndoRecord) × (slice_get ks i ≡ Some k) × (k.entry.serial ≡ serial)
+
+-- something is so of the record with a serial, and of its index
+abbrev pub OfSerial : ℕ → List UndoRecord → (ℕ → UndoRecord → Type 0) → Type 0
+OfSerial serial ks P = (i : ℕ) (k : UndoRecord) → slice_get ks i ≡ Some k → k.entry.serial ≡ serial → P i k
+
+-- this is the record with a serial
+abbrev pub IsOfSerial : ℕ → List UndoRecord → UndoRecord → Type 0
+IsOfSerial serial ks x = OfSerial serial ks (λ i k. x ≡ k)
+
+-- the record with a serial is gone, and no other one
+abbrev pub LosesSerial : ℕ → List UndoRecord → List UndoRecord → Type 0
+LosesSerial serial old new = OfSerial serial old (λ i k. new ≡ remove old i)
+
+-- what an undo of the record with a serial replies
+abbrev pub RepliesToUndo : ℕ → List UndoRecord → UndoReply → Type 0
+RepliesToUndo serial ks reply = OfSerial serial ks (λ i k. reply ≡ kept_reply ks i)
+
+-- an undo of the record with a serial is done, and has this line
+abbrev pub CanUndo : ℕ → List UndoRecord → ℕ → Type 0
+CanUndo serial ks line = OfSerial serial ks (λ i k. kept_reply ks i ≡ Undone serial line)
 
 -- all serials are below one, or above
 abbrev pub AreBelow : ℕ → List UndoRecord → Type 0

@@ -1,6 +1,7 @@
 -- For proofs: records by serial, in a list of rows. A row whose record is taken out stays empty. Empty rows at
 -- the end go when a record comes. All empty rows go when room is short.
-use Rattle.std.specs.Prelude.{ℕ, ◌<◌, List, [], ◌∷◌, Option, None, Some, IsSome}
+use Rattle.std.specs.Prelude.{◌≡◌, ℕ, ◌<◌, List, [], ◌∷◌, Option, None, Some, IsSome}
+use Rattle.std.specs.Prelude.{slice_get}
 use Rattle.om_history.specs.declared.by_serial.Row.{Row}
 use Rattle.om_history.specs.declared.records.UndoRecord.{UndoRecord}
 
@@ -13,6 +14,10 @@ with_entry serial (Some k) es = (serial, k) ∷ es
 abbrev pub entries_in : List Row → List (ℕ × UndoRecord)
 entries_in [] = []
 entries_in (r ∷ rs) = with_entry r.serial r.kept (entries_in rs)
+
+-- an index is that of the row of a serial
+abbrev pub IsPlaceOf : ℕ → List Row → ℕ → Type 0
+IsPlaceOf serial rows i = (r : Row) × (slice_get rows i ≡ Some r) × (r.serial ≡ serial)
 
 -- the serials rise, from above a number
 abbrev pub AreRising : ℕ → List Row → Type 0

@@ -1,23 +1,26 @@
 //! Kept records by serial.
 
-ghost use Rattle.std.specs.Prelude.{◌≡◌, ℕ, true, ◌<◌, ◌∷◌, ◌++◌, [], Some, None, IfSome, IfNone, OnOk, OnErr, IfErr, slice_get, vec_len, vec_capacity};
+ghost use Rattle.std.specs.Prelude.{◌≡◌, ℕ, true, ◌<◌, ◌∷◌, ◌++◌, [], Some, None, IfSome, IfNone, OnOk, OnErr, IfErr, vec_len, vec_capacity};
 ghost use Rattle.std.specs.Ordering.{nat_cmp};
 ghost use Rattle.std.specs.BTreeMap.{is_at};
 ghost use Rattle.std.specs.Map.{lookup, remove_entry};
-ghost use Rattle.om_history.specs.Rows.{entries_in, AreRising, LastStands, IsAboveAll};
-ghost use Rattle.om_history.specs.declared.by_serial.Row.{Row};
+ghost use Rattle.om_history.specs.Rows.{entries_in, AreRising, LastStands, IsAboveAll, IsPlaceOf};
 
 use crate::kept::Kept;
 use std::alloc::{AllocError, Global};
 use std::marker::Model;
+use std::mem::size_of;
 
-/// The place of a serial. Where its record is taken out it stays as long as a record is behind it, so that
-/// no other one moves.
+/// The place of a serial. Where its record is taken out it stays while a record is behind it, so that no
+/// other one moves, until room is short: `close_gaps` then lets it go.
 #[derive(Drop)]
 pub(crate) struct Row {
     serial: u64,
     pub kept: Option<Kept>,
 }
+
+// Each record has one.
+const _: () = prove!(size_of::<Row>() <= 88);
 
 /// Kept records by serial. Each that comes stands behind all others; one is found from the end, or by a
 /// binary search.
@@ -45,8 +48,7 @@ impl Model for BySerial {
 // The place of a serial among rows, as far as counting from the end finds it: it does where no
 // serial is left out behind it.
 fn place_from_end(rows: &[Row], serial: u64) -> Option<usize>
-    ensures { IfSome result
-        (λ i. (r : Row) × (slice_get rows.now i ≡ Some r) × (r.serial ≡ serial)) }
+    ensures { IfSome result (IsPlaceOf serial rows.now) }
 {
     let (last, earlier) = rows.split_last()?;
     let behind = last.serial.saturating_sub(serial);
@@ -58,8 +60,7 @@ fn place_from_end(rows: &[Row], serial: u64) -> Option<usize>
 // The place of a serial among rows, found by a binary search, if it has one.
 fn place_by_search(rows: &[Row], serial: u64) -> Option<usize>
     requires { AreRising 0 rows.now }
-    ensures found { IfSome result
-        (λ i. (r : Row) × (slice_get rows.now i ≡ Some r) × (r.serial ≡ serial)) }
+    ensures found { IfSome result (IsPlaceOf serial rows.now) }
     ensures none { IfNone result (lookup (is_at (nat_cmp serial)) (entries_in rows.now) ≡ None) }
 {
     let place = rows.partition_point(|row| row.serial < serial);
@@ -70,8 +71,7 @@ fn place_by_search(rows: &[Row], serial: u64) -> Option<usize>
 // The place of a serial among rows, if it has one. Few serials are left out, so most are found at once.
 fn place(rows: &[Row], serial: u64) -> Option<usize>
     requires { AreRising 0 rows.now }
-    ensures found { IfSome result
-        (λ i. (r : Row) × (slice_get rows.now i ≡ Some r) × (r.serial ≡ serial)) }
+    ensures found { IfSome result (IsPlaceOf serial rows.now) }
     ensures none { IfNone result (lookup (is_at (nat_cmp serial)) (entries_in rows.now) ≡ None) }
 {
     match place_from_end(rows, serial) {
@@ -156,8 +156,7 @@ impl BySerial {
 
     /// Whether the last place is that of a serial, or before it: then no record is behind it.
     pub(crate) fn ends_at(&self, serial: u64) -> bool
-        ensures { result ≡ true
-            → (t : ℕ) → serial < t → lookup (is_at (nat_cmp t)) self.now ≡ None }
+        ensures { result ≡ true → (t : ℕ) → serial < t → lookup (is_at (nat_cmp t)) self.now ≡ None }
     {
         let Some(row) = self.rows.last() else {
             return false;

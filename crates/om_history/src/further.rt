@@ -1,16 +1,13 @@
 //! Updates of a store in parts: at single accesses, at the cells of slots, and at single accesses again.
 
-ghost use Rattle.std.specs.Prelude.{◌≡◌, true, ◌++◌, drop, length, All, OnOk, OnErr, IfOk};
+ghost use Rattle.std.specs.Prelude.{◌≡◌, true, length, OnOk, OnErr, IfOk};
 ghost use Rattle.om_foot.specs.declared.object.Obj.{Obj};
 ghost use Rattle.om_foot.specs.Cells.{cells_listed};
-ghost use Rattle.om_values.specs.Runs.{runs_listed};
-ghost use Rattle.om_values.specs.State.{updated, undo_record, taken_back};
 ghost use Rattle.om_live.specs.Stores.{state_of, is_kept, pasts_of};
-ghost use Rattle.om_touches.specs.Accesses.{accesses_of};
-ghost use Rattle.om_history.specs.Backs.{backs_listed, back_in, wanted, are_along, WereAlong, GoAlong, CanGoAlong};
-ghost use Rattle.om_history.specs.Bounds.{FitsAll};
+ghost use Rattle.om_history.specs.Backs.{back_in, wanted, parts_back, parts_wanted, further_of, are_along, WereAlong, GoAlong, CanGoAlong};
+ghost use Rattle.om_history.specs.Records.{Keeps};
 ghost use Rattle.om_history.specs.Shapes.{AreShaped};
-ghost use Rattle.om_history.specs.Fills.{small_record, noted_all, filled, popped_all, CanTakeBack};
+ghost use Rattle.om_history.specs.Effects.{PutsCells, WereCells, PutsCellsBack, FitsFurther, MakesFurther, NotesFurther, SavesFurther, MakesParts, NotesParts, SavesParts, CanTakeFurtherBack, TakesFurtherBack, PopsFurther};
 
 use crate::backs::{BackParts, Backs};
 use crate::updates::{make_all, take_back_all, take_cell_back};
@@ -24,10 +21,9 @@ use std::mem;
 
 // Takes what is put at the cells of slots back, the last slot first. It takes no memory.
 fn take_back_cells(store: &mut Store, all: &[SharedCells], were: &mut Vec<Seq<Was>>)
-    requires kept { All (λ a. is_kept store.old a.object ≡ true) (cells_listed all.now) }
+    requires kept { Keeps store.old (cells_listed all.now) }
     requires along { WereAlong all.now were.old.items }
-    ensures state { state_of store.new
-        ≡ taken_back (cells_listed all.now) (backs_listed were.old.items) (state_of store.old) }
+    ensures state { PutsCellsBack all.now were.old.items store.old store.new }
     ensures pasts { pasts_of store.new ≡ pasts_of store.old }
     ensures kept { (q : Obj) → is_kept store.new q ≡ is_kept store.old q }
 {
@@ -49,13 +45,11 @@ fn make_cells(
     all: &[SharedCells],
     runs: &[Run],
 ) -> Result<Vec<Seq<Was>>, AllocError>
-    requires kept { All (λ a. is_kept store.old a.object ≡ true) (cells_listed all.now) }
+    requires kept { Keeps store.old (cells_listed all.now) }
     requires along { are_along all.now runs.now ≡ true }
     ensures along { IfOk result (λ were. WereAlong all.now were.items) }
-    ensures were { IfOk result (λ were. backs_listed were.items
-        ≡ undo_record (cells_listed all.now) (runs_listed runs.now) (state_of store.old)) }
-    ensures state { OnOk result (state_of store.new
-        ≡ updated (cells_listed all.now) (runs_listed runs.now) (state_of store.old)) }
+    ensures were { IfOk result (λ were. WereCells all.now runs.now store.old were.items) }
+    ensures state { OnOk result (PutsCells all.now runs.now store.old store.new) }
     ensures pasts { pasts_of store.new ≡ pasts_of store.old }
     ensures same_state_on_error { OnErr result (state_of store.new ≡ state_of store.old) }
     ensures kept { (q : Obj) → is_kept store.new q ≡ is_kept store.old q }
@@ -86,25 +80,14 @@ fn make_parts(
     runs: &[Run],
     back: &mut BackParts,
 ) -> Result<(), AllocError>
-    requires kept { All (λ a. is_kept store.old a.object ≡ true)
-        (drop 1 (accesses_of footprint.now)) }
+    requires kept { Keeps store.old (further_of footprint.now) }
     requires first { length footprint.now.first ≡ length back.old.first.items }
     requires along { are_along footprint.now.cells runs.now ≡ true }
-    requires fits { FitsAll (drop 1 (accesses_of footprint.now))
-        (back.old.first.items ++ (runs_listed runs.now ++ back.old.last.items)) (state_of store.old) }
-    requires shaped { AreShaped (drop 1 (accesses_of footprint.now))
-        (back.old.first.items ++ (runs_listed runs.now ++ back.old.last.items)) }
-    ensures state { OnOk result (state_of store.new ≡ updated (drop 1 (accesses_of footprint.now))
-        (back.old.first.items ++ (runs_listed runs.now ++ back.old.last.items))
-        (state_of store.old)) }
-    ensures small { OnOk result
-        (back.new.first.items ++ (backs_listed back.new.cells.items ++ back.new.last.items)
-        ≡ small_record (drop 1 (accesses_of footprint.now))
-        (back.old.first.items ++ (runs_listed runs.now ++ back.old.last.items))
-        (state_of store.old)) }
-    ensures pasts { OnOk result (pasts_of store.new ≡ noted_all (drop 1 (accesses_of footprint.now))
-        (back.old.first.items ++ (runs_listed runs.now ++ back.old.last.items))
-        (state_of store.old) (pasts_of store.old)) }
+    requires fits { FitsFurther footprint.now (parts_wanted back.old runs.now) store.old }
+    requires shaped { AreShaped (further_of footprint.now) (parts_wanted back.old runs.now) }
+    ensures state { OnOk result (MakesParts footprint.now back.old runs.now store.old store.new) }
+    ensures small { OnOk result (SavesParts footprint.now back.old runs.now store.old back.new) }
+    ensures pasts { OnOk result (NotesParts footprint.now back.old runs.now store.old store.new) }
     ensures first { OnOk result (length footprint.now.first ≡ length back.new.first.items) }
     ensures along { OnOk result (WereAlong footprint.now.cells back.new.cells.items) }
     ensures same_state_on_error { OnErr result (state_of store.new ≡ state_of store.old) }
@@ -139,18 +122,13 @@ pub(crate) fn make_further(
     runs: &[Run],
     back: &mut Backs,
 ) -> Result<(), AllocError>
-    requires kept { All (λ a. is_kept store.old a.object ≡ true)
-        (drop 1 (accesses_of footprint.now)) }
+    requires kept { Keeps store.old (further_of footprint.now) }
     requires along { CanGoAlong footprint.now back.old runs.now }
-    requires fits { FitsAll (drop 1 (accesses_of footprint.now)) (wanted back.old runs.now)
-        (state_of store.old) }
-    requires shaped { AreShaped (drop 1 (accesses_of footprint.now)) (wanted back.old runs.now) }
-    ensures state { OnOk result (state_of store.new ≡ updated (drop 1 (accesses_of footprint.now))
-        (wanted back.old runs.now) (state_of store.old)) }
-    ensures small { OnOk result (back_in back.new ≡ small_record
-        (drop 1 (accesses_of footprint.now)) (wanted back.old runs.now) (state_of store.old)) }
-    ensures pasts { OnOk result (pasts_of store.new ≡ noted_all (drop 1 (accesses_of footprint.now))
-        (wanted back.old runs.now) (state_of store.old) (pasts_of store.old)) }
+    requires fits { FitsFurther footprint.now (wanted back.old runs.now) store.old }
+    requires shaped { AreShaped (further_of footprint.now) (wanted back.old runs.now) }
+    ensures state { OnOk result (MakesFurther footprint.now back.old runs.now store.old store.new) }
+    ensures small { OnOk result (SavesFurther footprint.now back.old runs.now store.old back.new) }
+    ensures pasts { OnOk result (NotesFurther footprint.now back.old runs.now store.old store.new) }
     ensures along { OnOk result (GoAlong footprint.now back.new) }
     ensures same_state_on_error { OnErr result (state_of store.new ≡ state_of store.old) }
     ensures same_pasts_on_error { OnErr result (pasts_of store.new ≡ pasts_of store.old) }
@@ -169,20 +147,12 @@ pub(crate) fn make_further(
 // Takes updates in parts back, behind the first access, by what a small record holds of them. It takes
 // no memory.
 fn take_back_parts(store: &mut Store, footprint: &Accesses, back: &mut BackParts)
-    requires kept { All (λ a. is_kept store.old a.object ≡ true)
-        (drop 1 (accesses_of footprint.now)) }
+    requires kept { Keeps store.old (further_of footprint.now) }
     requires first { length footprint.now.first ≡ length back.old.first.items }
     requires along { WereAlong footprint.now.cells back.old.cells.items }
-    requires can { CanTakeBack (drop 1 (accesses_of footprint.now))
-        (back.old.first.items ++ (backs_listed back.old.cells.items ++ back.old.last.items))
-        (state_of store.old) (pasts_of store.old) }
-    ensures state { state_of store.new ≡ taken_back (drop 1 (accesses_of footprint.now))
-        (filled (drop 1 (accesses_of footprint.now))
-        (back.old.first.items ++ (backs_listed back.old.cells.items ++ back.old.last.items))
-        (pasts_of store.old)) (state_of store.old) }
-    ensures pasts { pasts_of store.new ≡ popped_all (drop 1 (accesses_of footprint.now))
-        (back.old.first.items ++ (backs_listed back.old.cells.items ++ back.old.last.items))
-        (pasts_of store.old) }
+    requires can { CanTakeFurtherBack footprint.now (parts_back back.old) store.old }
+    ensures state { TakesFurtherBack footprint.now (parts_back back.old) store.old store.new }
+    ensures pasts { PopsFurther footprint.now (parts_back back.old) store.old store.new }
     ensures kept { (q : Obj) → is_kept store.new q ≡ is_kept store.old q }
 {
     let (first, cells, last) = footprint.parts();
@@ -194,16 +164,11 @@ fn take_back_parts(store: &mut Store, footprint: &Accesses, back: &mut BackParts
 /// Takes the updates behind the first access back, the last one first, by what a small record holds of
 /// them. It takes no memory.
 pub(crate) fn take_further_back(store: &mut Store, footprint: &Accesses, back: &mut Backs)
-    requires kept { All (λ a. is_kept store.old a.object ≡ true)
-        (drop 1 (accesses_of footprint.now)) }
+    requires kept { Keeps store.old (further_of footprint.now) }
     requires along { GoAlong footprint.now back.old }
-    requires can { CanTakeBack (drop 1 (accesses_of footprint.now)) (back_in back.old)
-        (state_of store.old) (pasts_of store.old) }
-    ensures state { state_of store.new ≡ taken_back (drop 1 (accesses_of footprint.now))
-        (filled (drop 1 (accesses_of footprint.now)) (back_in back.old) (pasts_of store.old))
-        (state_of store.old) }
-    ensures pasts { pasts_of store.new
-        ≡ popped_all (drop 1 (accesses_of footprint.now)) (back_in back.old) (pasts_of store.old) }
+    requires can { CanTakeFurtherBack footprint.now (back_in back.old) store.old }
+    ensures state { TakesFurtherBack footprint.now (back_in back.old) store.old store.new }
+    ensures pasts { PopsFurther footprint.now (back_in back.old) store.old store.new }
     ensures kept { (q : Obj) → is_kept store.new q ≡ is_kept store.old q }
 {
     match back {

@@ -1,20 +1,17 @@
 //! The history of a run, with the store that its entries lead to.
 
 ghost use Rattle.std.specs.Prelude.{◌≡◌, ◌<◌, ◌^◌, [], IfOk, OnOk, OnErr, IsNone, IfSome, ◌↔◌};
-ghost use Rattle.om_foot.specs.declared.object.Obj.TheVariants as obj;
-ghost use Rattle.om_values.specs.Edits.{changed, HaveRoom};
-ghost use Rattle.om_values.specs.Values.{control_in};
+ghost use Rattle.om_values.specs.Edits.{changed};
 ghost use Rattle.om_values.specs.Rules.{Rules};
 ghost use Rattle.om_live.specs.Faults.{fault_in};
 ghost use Rattle.om_live.specs.Stores.{state_of};
-ghost use Rattle.om_history.specs.Bounds.{IsSteady};
-ghost use Rattle.om_history.specs.Shapes.{IsShaped};
 ghost use Rattle.om_history.specs.Runs.{reply_to_undo, after_undo};
-ghost use Rattle.om_history.specs.Cones.{taken_by_roll, reply_to_roll, after_roll};
-ghost use Rattle.om_history.specs.Commands.{IsGone, undone_by};
+ghost use Rattle.om_history.specs.Cones.{reply_to_roll, after_roll};
+ghost use Rattle.om_history.specs.Commands.{undone_by};
 ghost use Rattle.om_history.specs.Choices.{label_by};
+ghost use Rattle.om_history.specs.Effects.{control_of};
 ghost use Rattle.om_history.specs.Records.{LastHasSerial};
-ghost use Rattle.om_history.specs.Pasts.{past_in, history_in, IsHeld, IsPlanned, step_for, IsReplay, AreNumbered, Replies, RepliesToStep, Becomes, TakesStep, TakesOut, TakesItsCone, Stays};
+ghost use Rattle.om_history.specs.Pasts.{past_in, history_in, IsHeld, IsHeldFrom, IsReplay, AreNumbered, Replies, IsPlannedChange, HasRoomFor, RepliesToChange, RepliesToWorker, Becomes, TakesChange, TakesOut, TakesItsCone, Stays, StaysIfNone, HasNoEntry, AreRolled};
 
 use crate::choice::start_of;
 use crate::kept::SmallEntry;
@@ -55,8 +52,7 @@ impl Drop for History {
 
 // The fault that a worker comes to by edits of its control, or met before them.
 fn fault_by(store: &Store, worker: u8, edits: &[Edit]) -> Option<Fault>
-    ensures { result ≡ fault_in
-        (changed edits.now (control_in (state_of store.now (obj.Control worker)))) }
+    ensures { result ≡ fault_in (changed edits.now (control_of worker store.now)) }
 {
     match store.control(worker) {
         Some(control) => fault_after(control, edits),
@@ -69,8 +65,7 @@ impl History {
     /// memory.
     pub fn new(alloc: Global, store: Store) -> History
         ensures past { past_in result ≡ record { state = state_of store; records = []; made = 0 } }
-        ensures held { (r : Rules) → IsSteady r → IsShaped r → r.start ≡ state_of store
-            → IsHeld r result }
+        ensures held { IsHeldFrom (state_of store) result }
     {
         History {
             store,
@@ -139,8 +134,7 @@ impl History {
     /// change is the plan of that worker's step. Nothing changes, and it takes no memory.
     pub fn reply(&self, worker: u8, change: &Change) -> StepReply
         requires { (r : Rules) × IsHeld r self.now }
-        ensures { (label : Label) → label.worker ≡ worker
-            → RepliesToStep label (step_for label change.now self.now) self.now result }
+        ensures { RepliesToWorker worker change.now self.now result }
     {
         StepReply::Done {
             serial: self.made + 1,
@@ -161,14 +155,10 @@ impl History {
         change: Change,
     ) -> Result<StepReply, AllocError>
         requires few_made { (past_in self.old).made < 2 ^ 63 }
-        requires room { HaveRoom change.edits
-            (control_in ((past_in self.old).state (obj.Control label.now.worker))) }
-        requires planned { (r : Rules)
-            × IsPlanned r self.old label.now (step_for label.now change self.old) }
-        ensures reply { IfOk result
-            (RepliesToStep label.now (step_for label.now change self.old) self.old) }
-        ensures after { OnOk result
-            (TakesStep label.now (step_for label.now change self.old) self.old self.new) }
+        requires room { HasRoomFor label.now.worker change self.old }
+        requires planned { IsPlannedChange label.now change self.old }
+        ensures reply { IfOk result (RepliesToChange label.now change self.old) }
+        ensures after { OnOk result (TakesChange label.now change self.old self.new) }
         ensures unchanged_on_error { OnErr result (Stays self.old self.new) }
     {
         match start_of(alloc, &label.choice) {
@@ -190,14 +180,10 @@ impl History {
         change: Change,
     ) -> Result<StepReply, AllocError>
         requires few_made { (past_in self.old).made < 2 ^ 63 }
-        requires room { HaveRoom change.edits
-            (control_in ((past_in self.old).state (obj.Control worker))) }
-        requires planned { (r : Rules) × IsPlanned r self.old (label_by worker start)
-            (step_for (label_by worker start) change self.old) }
-        ensures reply { IfOk result (RepliesToStep (label_by worker start)
-            (step_for (label_by worker start) change self.old) self.old) }
-        ensures after { OnOk result (TakesStep (label_by worker start)
-            (step_for (label_by worker start) change self.old) self.old self.new) }
+        requires room { HasRoomFor worker change self.old }
+        requires planned { IsPlannedChange (label_by worker start) change self.old }
+        ensures reply { IfOk result (RepliesToChange (label_by worker start) change self.old) }
+        ensures after { OnOk result (TakesChange (label_by worker start) change self.old self.new) }
         ensures unchanged_on_error { OnErr result (Stays self.old self.new) }
     {
         let reply = self.reply(worker, &change);
@@ -217,9 +203,8 @@ impl History {
     /// `None` where no entry has that serial. Nothing changes; the only error is out of memory.
     pub fn cone(&self, alloc: Global, serial: u64) -> Result<Option<Vec<Taken>>, AllocError>
         requires { (r : Rules) × IsHeld r self.now }
-        ensures none { IfOk result (λ o. IsNone o ↔ IsGone serial (history_in self.now)) }
-        ensures members { IfOk result
-            (λ o. IfSome o (λ v. Replies (λ r h. taken_by_roll r h serial) self.now v.items)) }
+        ensures none { IfOk result (λ o. IsNone o ↔ HasNoEntry serial self.now) }
+        ensures members { IfOk result (λ o. IfSome o (λ v. AreRolled serial self.now v.items)) }
     {
         let taken = self.records.cone(alloc, serial)?;
         if taken.is_empty() {
@@ -252,10 +237,8 @@ impl History {
         ensures reply { IfOk result (Replies (λ r h. reply_to_roll r h serial) self.old) }
         ensures after { OnOk result (Becomes (λ r h. after_roll r h serial) self.old self.new) }
         ensures takes_cone { OnOk result (TakesItsCone serial self.old self.new) }
-        ensures no_entry { IfOk result
-            (λ x. (x ≡ RollReply.NoEntry) ↔ IsGone serial (history_in self.old)) }
-        ensures unchanged_without_entry { IfOk result
-            (λ x. x ≡ RollReply.NoEntry → Stays self.old self.new) }
+        ensures no_entry { IfOk result (λ x. (x ≡ RollReply.NoEntry) ↔ HasNoEntry serial self.old) }
+        ensures unchanged_without_entry { IfOk result (StaysIfNone self.old self.new) }
         ensures unchanged_on_error { OnErr result (Stays self.old self.new) }
     {
         let taken = self.records.cone(alloc, serial)?;

@@ -2,7 +2,7 @@
 
 ghost use Rattle.std.specs.Prelude.{◌≡◌};
 ghost use Rattle.om_touches.specs.Accesses.{accesses_of};
-ghost use Rattle.om_history.specs.Choices.{choice_of};
+ghost use Rattle.om_history.specs.Entries.{entry_by};
 
 use crate::backs::Backs;
 use om_foot::Name;
@@ -49,8 +49,7 @@ impl SmallEntry {
     /// The entry of a worker's step at a line. `start` is the name of the task that its choice starts, if it
     /// does.
     pub(crate) fn of(worker: u8, line: u32, serial: u64, start: Option<Box<Name>>) -> SmallEntry
-        ensures { let choice = choice_of start in
-            result ≡ record { serial = serial; worker = worker; choice = choice; line = line } }
+        ensures { result ≡ entry_by worker line serial start }
     {
         let forms = match start {
             None => EntryForms::Next {
@@ -79,7 +78,7 @@ impl SmallEntry {
     }
 }
 
-// There is one for each entry of a record.
+// Each record has one.
 const _: () = prove!(size_of::<SmallEntry>() <= 24);
 
 /// An undo record. It shares the accesses of its footprint with other records, so that each access takes 8
@@ -106,13 +105,12 @@ impl Model for Kept {
 }
 
 impl Kept {
-    ghost use Rattle.om_history.specs.Backs.{back_in, GoAlong};
+    ghost use Rattle.om_history.specs.Backs.{back_in, record_of, GoAlong};
 
     /// The record of an entry with this footprint, and what takes its updates back.
     pub(crate) fn of(entry: SmallEntry, footprint: Accesses, back: Backs) -> Kept
         requires { GoAlong footprint back }
-        ensures { result
-            ≡ record { entry = entry; footprint = accesses_of footprint; back = back_in back } }
+        ensures { result ≡ record_of entry footprint back }
     {
         Kept {
             entry,

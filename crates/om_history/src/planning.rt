@@ -1,12 +1,12 @@
 //! A step that is about to be made: its objects are kept, and its updates go along with them.
 
-ghost use Rattle.std.specs.Prelude.{◌≡◌, true, ◌∷◌, [], ◌++◌, OnOk, IfOk, All};
+ghost use Rattle.std.specs.Prelude.{◌≡◌, true, [], OnOk, IfOk};
 ghost use Rattle.om_foot.specs.declared.object.Obj.{Obj};
 ghost use Rattle.om_foot.specs.declared.object.Obj.TheVariants as obj;
-ghost use Rattle.om_values.specs.Runs.{runs_listed};
 ghost use Rattle.om_live.specs.Stores.{state_of, is_kept, pasts_of};
-ghost use Rattle.om_touches.specs.Accesses.{control_write, accesses_of};
-ghost use Rattle.om_history.specs.Backs.{wanted, are_along, CanGoAlong};
+ghost use Rattle.om_touches.specs.Accesses.{accesses_of};
+ghost use Rattle.om_history.specs.Backs.{own_first, puts_in, wanted, are_along, CanGoAlong};
+ghost use Rattle.om_history.specs.Records.{Keeps};
 
 use crate::backs::{BackParts, Backs};
 use crate::updates::{keep_cells, keep_each};
@@ -30,8 +30,7 @@ pub(crate) struct Making {
 
 // Each update by itself. Its only error is out of memory.
 fn rejoined(alloc: Global, parts: PutParts) -> Result<Vec<Update>, AllocError>
-    ensures { IfOk result (λ all. all.items
-        ≡ parts.first.items ++ (runs_listed parts.runs ++ parts.last.items)) }
+    ensures { IfOk result (λ all. all.items ≡ puts_in parts) }
 {
     let PutParts { first, runs, last } = parts;
     let mut puts = Puts::of(alloc, Seq::of(first));
@@ -64,11 +63,11 @@ fn singles(
     worker: u8,
     others: &[Access],
 ) -> Result<Accesses, AllocError>
-    ensures footprint { IfOk result (λ f. accesses_of f ≡ control_write worker ∷ others.now) }
+    ensures footprint { IfOk result (λ f. accesses_of f ≡ own_first worker others.now) }
     ensures single { IfOk result (λ f. (f.cells ≡ []) × (f.last ≡ [])) }
     ensures same { state_of store.new ≡ state_of store.old }
     ensures same_pasts { pasts_of store.new ≡ pasts_of store.old }
-    ensures kept { OnOk result (All (λ a. is_kept store.new a.object ≡ true) others.now) }
+    ensures kept { OnOk result (Keeps store.new others.now) }
     ensures others_kept { (q : Obj) → is_kept store.old q ≡ true → is_kept store.new q ≡ true }
 {
     let Some((access, further)) = others.split_first() else {
@@ -92,13 +91,12 @@ fn plain(
     updates: Vec<Update>,
 ) -> Result<Making, AllocError>
     requires { is_kept store.old (obj.Control worker) ≡ true }
-    ensures footprint { IfOk result (λ m. accesses_of m.footprint ≡ control_write worker ∷ others.now) }
+    ensures footprint { IfOk result (λ m. accesses_of m.footprint ≡ own_first worker others.now) }
     ensures updates { IfOk result (λ m. wanted m.back m.runs ≡ updates.items) }
     ensures along { IfOk result (λ m. CanGoAlong m.footprint m.back m.runs) }
     ensures same { state_of store.new ≡ state_of store.old }
     ensures same_pasts { pasts_of store.new ≡ pasts_of store.old }
-    ensures kept { OnOk result
-        (All (λ a. is_kept store.new a.object ≡ true) (control_write worker ∷ others.now)) }
+    ensures kept { OnOk result (Keeps store.new (own_first worker others.now)) }
     ensures others_kept { (q : Obj) → is_kept store.old q ≡ true → is_kept store.new q ≡ true }
 {
     match singles(store, alloc, worker, others) {
@@ -127,14 +125,12 @@ fn in_parts(
     puts: PutParts,
 ) -> Result<Making, AllocError>
     requires { is_kept store.old (obj.Control worker) ≡ true }
-    ensures footprint { IfOk result (λ m. accesses_of m.footprint ≡ control_write worker ∷ names.now) }
-    ensures updates { IfOk result (λ m. wanted m.back m.runs
-        ≡ puts.first.items ++ (runs_listed puts.runs ++ puts.last.items)) }
+    ensures footprint { IfOk result (λ m. accesses_of m.footprint ≡ own_first worker names.now) }
+    ensures updates { IfOk result (λ m. wanted m.back m.runs ≡ puts_in puts) }
     ensures along { IfOk result (λ m. CanGoAlong m.footprint m.back m.runs) }
     ensures same { state_of store.new ≡ state_of store.old }
     ensures same_pasts { pasts_of store.new ≡ pasts_of store.old }
-    ensures kept { OnOk result
-        (All (λ a. is_kept store.new a.object ≡ true) (control_write worker ∷ names.now)) }
+    ensures kept { OnOk result (Keeps store.new (own_first worker names.now)) }
     ensures others_kept { (q : Obj) → is_kept store.old q ≡ true → is_kept store.new q ≡ true }
 {
     let (first, cells, last) = names.parts();
@@ -177,7 +173,7 @@ pub(crate) fn planned(
     ensures along { IfOk result (λ m. CanGoAlong m.footprint m.back m.runs) }
     ensures same { state_of store.new ≡ state_of store.old }
     ensures same_pasts { pasts_of store.new ≡ pasts_of store.old }
-    ensures kept { OnOk result (All (λ a. is_kept store.new a.object ≡ true) footprint.now) }
+    ensures kept { OnOk result (Keeps store.new footprint.now) }
     ensures others_kept { (q : Obj) → is_kept store.old q ≡ true → is_kept store.new q ≡ true }
 {
     let (worker, names) = footprint.parts();

@@ -1,19 +1,13 @@
 //! Undo records: the history's entries, each with its footprint and what takes it back.
 
-ghost use Rattle.std.specs.Prelude.{◌≡◌, ◌≢◌, ℕ, List, ◌<◌, ◌∷◌, ◌++◌, [], Some, IfOk, OnOk, OnErr, IfErr, IsSome, IfSome, IfNone, All, map, reverse, slice_get, remove, false};
-ghost use Rattle.std.specs.Map.{lookup, values_of};
-ghost use Rattle.std.specs.Ordering.{nat_cmp};
-ghost use Rattle.std.specs.BTreeMap.{is_at};
+ghost use Rattle.std.specs.Prelude.{◌≡◌, ◌≢◌, ◌<◌, ◌∷◌, ◌++◌, [], IfOk, OnOk, OnErr, IfErr, IsSome, IfSome, IfNone, All, false};
+ghost use Rattle.std.specs.Map.{values_of};
 ghost use Rattle.om_foot.specs.declared.object.Obj.{Obj};
 ghost use Rattle.om_foot.specs.declared.footprint.Mode.{Mode};
-ghost use Rattle.om_foot.specs.Footprint.{conflict_of};
-ghost use Rattle.om_touches.specs.Touches.{has_touch, meets, AreOnly, AreSame, AreWith, AreWithout, SameOwn, WithOwn, WithoutOwn};
+ghost use Rattle.om_touches.specs.Touches.{has_touch, meets, AreOnly, AreSame, AreWithout, SameOwn, WithoutOwn};
 ghost use Rattle.om_foot.specs.Firsts.{IsFirst};
-ghost use Rattle.om_history.specs.Cones.{meets_one, is_member as is_member_of, cone, taken_of};
-ghost use Rattle.om_history.specs.Runs.{conflict_or};
-ghost use Rattle.om_history.specs.Records.{entries_of, transition_of, transitions_of, kept_reply, LastHasSerial, HasSerial, AreBelow, AreAbove};
-ghost use Rattle.om_history.specs.declared.records.UndoRecord.{UndoRecord};
-ghost use Rattle.om_history.specs.Touches.{AreBySerial, AreListsOf, IsIndexed};
+ghost use Rattle.om_history.specs.Records.{entries_of, cone_in, roll_in, LastHasSerial, HasSerial, AreBelow, IsOfSerial, LosesSerial, RepliesToUndo, CanUndo, RepliesAgainst};
+ghost use Rattle.om_history.specs.Touches.{AreBySerial, AreListsOf, IsIndexed, NotesTouches, NotesOwn, TellsMeets, TellsMember, record_at};
 
 use crate::by_serial::BySerial;
 use crate::kept::Kept;
@@ -72,10 +66,8 @@ fn note(
     made: &Kept,
 ) -> Result<(), AllocError>
     requires { (o : Obj) (m : Mode) → has_touch lists.old o m made.now.entry.serial ≡ false }
-    ensures lists { OnOk result
-        (AreWith made.now.footprint made.now.entry.serial lists.old lists.new) }
-    ensures own { OnOk result
-        (WithOwn made.now.entry.worker made.now.entry.serial own.old own.new) }
+    ensures lists { OnOk result (NotesTouches made.now lists.old lists.new) }
+    ensures own { OnOk result (NotesOwn made.now own.old own.new) }
     ensures same_lists_on_error { OnErr result (AreSame lists.old lists.new) }
     ensures same_own_on_error { OnErr result (SameOwn own.old own.new) }
 {
@@ -110,8 +102,7 @@ fn enter(
     requires some { 0 < made.entry.serial }
     requires latest { AreBelow made.entry.serial (values_of kept.old) }
     ensures indexed { IsIndexed kept.new lists.new own.new }
-    ensures entered { OnOk result
-        (values_of kept.new ≡ values_of kept.old ++ made ∷ []) }
+    ensures entered { OnOk result (values_of kept.new ≡ values_of kept.old ++ made ∷ []) }
     ensures unchanged_on_error { OnErr result (kept.new ≡ kept.old) }
     ensures returned { IfErr result (λ k. k ≡ made) }
 {
@@ -132,11 +123,8 @@ fn leave(kept: &mut BySerial, lists: &mut TouchLists, own: &mut OwnEntries, seri
     requires indexed { IsIndexed kept.old lists.old own.old }
     requires there { HasSerial serial (values_of kept.old) }
     ensures indexed { IsIndexed kept.new lists.new own.new }
-    ensures left { (i : ℕ) (k : UndoRecord) → slice_get (values_of kept.old) i ≡ Some k
-        → k.entry.serial ≡ serial
-        → values_of kept.new ≡ remove (values_of kept.old) i }
-    ensures returned { (i : ℕ) (k : UndoRecord) → slice_get (values_of kept.old) i ≡ Some k
-        → k.entry.serial ≡ serial → result ≡ k }
+    ensures left { LosesSerial serial (values_of kept.old) (values_of kept.new) }
+    ensures returned { IsOfSerial serial (values_of kept.old) result }
 {
     match kept.take(serial) {
         Some(made) => {
@@ -150,11 +138,8 @@ fn leave(kept: &mut BySerial, lists: &mut TouchLists, own: &mut OwnEntries, seri
 // The reply that names the record with the serial `first` where it conflicts with the one of another
 // serial, else that this one is undone.
 fn refusal_by(kept: &BySerial, undone: &Kept, serial: u64, first: u64) -> UndoReply
-    requires { IsSome (lookup (is_at (nat_cmp first)) kept.now) }
-    ensures { IfSome (lookup (is_at (nat_cmp first)) kept.now)
-        (λ made. result ≡ conflict_or made.entry
-        (conflict_of undone.now.footprint made.footprint)
-        (UndoReply.Undone serial undone.now.entry.line)) }
+    requires { IsSome (record_at first kept.now) }
+    ensures { IfSome (record_at first kept.now) (RepliesAgainst undone.now serial result) }
 {
     let Some(made) = kept.get(first) else {
         unreachable!()
@@ -190,8 +175,7 @@ fn reply_at(kept: &BySerial, lists: &TouchLists, serial: u64) -> UndoReply
     requires by_serial { AreBySerial 0 kept.now }
     requires lists { AreListsOf (λ k. k.footprint) (values_of kept.now) lists.now }
     requires there { HasSerial serial (values_of kept.now) }
-    ensures { (i : ℕ) (k : UndoRecord) → slice_get (values_of kept.now) i ≡ Some k
-        → k.entry.serial ≡ serial → result ≡ kept_reply (values_of kept.now) i }
+    ensures { RepliesToUndo serial (values_of kept.now) result }
 {
     match kept.get(serial) {
         Some(undone) => match first_conflict(kept, lists, undone, serial) {
@@ -207,8 +191,7 @@ fn reply_at(kept: &BySerial, lists: &TouchLists, serial: u64) -> UndoReply
 
 // Whether a record conflicts with one of those whose touches these are.
 fn meets(members: &TouchLists, made: &Kept) -> bool
-    ensures { (ms : List UndoRecord) → AreListsOf (λ k. k.footprint) ms members.now → AreAbove 0 ms
-        → result ≡ meets_one (transitions_of ms) (transition_of made.now) }
+    ensures { TellsMeets members.now made.now result }
 {
     members.first_conflict(made.footprint(), 0).is_some()
 }
@@ -216,8 +199,7 @@ fn meets(members: &TouchLists, made: &Kept) -> bool
 // Whether a record is of the cone of the entry with a serial, by the touches of the members before
 // it.
 fn is_member(members: &TouchLists, made: &Kept, serial: u64) -> bool
-    ensures { (ms : List UndoRecord) → AreListsOf (λ k. k.footprint) ms members.now → AreAbove 0 ms
-        → result ≡ is_member_of serial (transitions_of ms) (transition_of made.now) }
+    ensures { TellsMember serial members.now made.now result }
 {
     made.serial() == serial || meets(members, made)
 }
@@ -227,8 +209,7 @@ fn is_member(members: &TouchLists, made: &Kept, serial: u64) -> bool
 // that serial.
 fn members(alloc: Global, kept: &BySerial, serial: u64) -> Result<Vec<Taken>, AllocError>
     requires { AreBySerial 0 kept.now }
-    ensures { IfOk result
-        (λ v. v.items ≡ map taken_of (cone serial (transitions_of (values_of kept.now)))) }
+    ensures { IfOk result (λ v. v.items ≡ cone_in serial (values_of kept.now)) }
 {
     let mut members = TouchLists::new(alloc);
     let mut names = Vec::new(alloc);
@@ -237,10 +218,10 @@ fn members(alloc: Global, kept: &BySerial, serial: u64) -> Result<Vec<Taken>, Al
             continue;
         };
         if is_member(&members, candidate, serial) {
-            let serial = candidate.serial();
-            members.add_each(alloc, candidate.footprint(), serial)?;
+            let own = candidate.serial();
+            members.add_each(alloc, candidate.footprint(), own)?;
             names.push(Taken {
-                serial,
+                serial: own,
                 worker: candidate.worker(),
                 line: candidate.line(),
             })?;
@@ -273,9 +254,7 @@ impl Records {
     /// nothing is said; the whole reply decides (`reply_to`).
     pub(crate) fn free_line(&self, serial: u64) -> Option<u32>
         requires { HasSerial serial self.now }
-        ensures { IfSome result (λ line. (i : ℕ) (k : UndoRecord)
-            → slice_get self.now i ≡ Some k → k.entry.serial ≡ serial
-            → kept_reply self.now i ≡ UndoReply.Undone serial line) }
+        ensures { IfSome result (CanUndo serial self.now) }
     {
         let Some(undone) = self.kept.get(serial) else {
             unreachable!()
@@ -289,8 +268,7 @@ impl Records {
     /// What an undo of the entry with a serial answers.
     pub fn reply_to(&self, serial: u64) -> UndoReply
         requires { HasSerial serial self.now }
-        ensures { (i : ℕ) (k : UndoRecord) → slice_get self.now i ≡ Some k
-            → k.entry.serial ≡ serial → result ≡ kept_reply self.now i }
+        ensures { RepliesToUndo serial self.now result }
     {
         reply_at(&self.kept, &self.lists, serial)
     }
@@ -310,10 +288,8 @@ impl Records {
     /// Takes the record with a serial out. It takes no memory, and moves no other record.
     pub(crate) fn leave(&mut self, serial: u64) -> Kept
         requires { HasSerial serial self.old }
-        ensures left { (i : ℕ) (k : UndoRecord) → slice_get self.old i ≡ Some k
-            → k.entry.serial ≡ serial → self.new ≡ remove self.old i }
-        ensures returned { (i : ℕ) (k : UndoRecord) → slice_get self.old i ≡ Some k
-            → k.entry.serial ≡ serial → result ≡ k }
+        ensures left { LosesSerial serial self.old self.new }
+        ensures returned { IsOfSerial serial self.old result }
     {
         leave(&mut self.kept, &mut self.lists, &mut self.own, serial)
     }
@@ -321,8 +297,7 @@ impl Records {
     /// What a roll of the entry with a serial takes out, the latest first; nothing where no entry
     /// has it. Its only error is out of memory.
     pub fn cone(&self, alloc: Global, serial: u64) -> Result<Vec<Taken>, AllocError>
-        ensures { IfOk result
-            (λ v. v.items ≡ map taken_of (reverse (cone serial (transitions_of self.now)))) }
+        ensures { IfOk result (λ v. v.items ≡ roll_in serial self.now) }
     {
         let mut names = members(alloc, &self.kept, serial)?;
         names.reverse();

@@ -1,15 +1,13 @@
 //! Steps over a store, each with the undo record of it, and the way back.
 
-ghost use Rattle.std.specs.Prelude.{◌≡◌, ℕ, ◌<◌, ◌∷◌, ◌++◌, [], Some, IfOk, OnOk, OnErr, All, slice_get, remove, drop, true};
+ghost use Rattle.std.specs.Prelude.{◌≡◌, ◌<◌, IfOk, OnOk, OnErr, true};
 ghost use Rattle.om_foot.specs.declared.object.Obj.{Obj};
-ghost use Rattle.om_values.specs.State.{updated, taken_back};
 ghost use Rattle.om_live.specs.Stores.{state_of, is_kept, pasts_of};
 ghost use Rattle.om_touches.specs.Accesses.{accesses_of};
-ghost use Rattle.om_history.specs.Backs.{wanted, back_in, GoAlong, CanGoAlong};
-ghost use Rattle.om_history.specs.Fills.{small_record, noted_all, full, before};
-ghost use Rattle.om_history.specs.Records.{HasRoom, AreBelow, HasSerial};
-ghost use Rattle.om_history.specs.Takes.{updates_by, small_for, CanMake, CanLeave};
-ghost use Rattle.om_history.specs.declared.records.UndoRecord.{UndoRecord};
+ghost use Rattle.om_history.specs.Backs.{GoAlong, CanGoAlong};
+ghost use Rattle.om_history.specs.Records.{Keeps, AreBelow, HasSerial, OfSerial, LosesSerial};
+ghost use Rattle.om_history.specs.Takes.{small_for, CanLeave};
+ghost use Rattle.om_history.specs.Effects.{CanMakePlanned, MakesPlanned, NotesPlanned, SavesPlanned, CanMakeChange, MakesChange, NotesChange, AddsRecord, TakesBack, PopsBack};
 
 use crate::further::{make_further, take_further_back};
 use crate::kept::{Kept, SmallEntry};
@@ -23,9 +21,8 @@ use std::alloc::{AllocError, Global};
 // Takes the changes of a record back. It takes no memory.
 fn take_back(store: &mut Store, made: Kept)
     requires { CanLeave store.old made }
-    ensures state { state_of store.new
-        ≡ taken_back made.footprint (full (pasts_of store.old) made).back (state_of store.old) }
-    ensures pasts { pasts_of store.new ≡ before (pasts_of store.old) made }
+    ensures state { TakesBack made store.old store.new }
+    ensures pasts { PopsBack made store.old store.new }
     ensures kept { (q : Obj) → is_kept store.new q ≡ is_kept store.old q }
 {
     let worker = made.worker();
@@ -44,21 +41,12 @@ fn make_changes(
     edits: Seq<Edit>,
     making: &mut Making,
 ) -> Result<(), AllocError>
-    requires room { All (λ a. is_kept store.old a.object ≡ true)
-        (accesses_of making.old.footprint) }
+    requires room { Keeps store.old (accesses_of making.old.footprint) }
     requires along { CanGoAlong making.old.footprint making.old.back making.old.runs }
-    requires can { CanMake owner (accesses_of making.old.footprint) edits
-        (wanted making.old.back making.old.runs) (state_of store.old) }
-    ensures state { OnOk result (state_of store.new ≡ updated (accesses_of making.old.footprint)
-        (updates_by owner edits (wanted making.old.back making.old.runs) (state_of store.old))
-        (state_of store.old)) }
-    ensures pasts { OnOk result (pasts_of store.new ≡ noted_all (accesses_of making.old.footprint)
-        (updates_by owner edits (wanted making.old.back making.old.runs) (state_of store.old))
-        (state_of store.old) (pasts_of store.old)) }
-    ensures small { OnOk result (back_in making.new.back
-        ≡ drop 1 (small_record (accesses_of making.old.footprint)
-        (updates_by owner edits (wanted making.old.back making.old.runs) (state_of store.old))
-        (state_of store.old))) }
+    requires can { CanMakePlanned owner edits making.old store.old }
+    ensures state { OnOk result (MakesPlanned owner edits making.old store.old store.new) }
+    ensures pasts { OnOk result (NotesPlanned owner edits making.old store.old store.new) }
+    ensures small { OnOk result (SavesPlanned owner edits making.old store.old making.new.back) }
     ensures along { OnOk result (GoAlong making.old.footprint making.new.back) }
     ensures same_footprint { making.new.footprint ≡ making.old.footprint }
     ensures kept { (q : Obj) → is_kept store.new q ≡ is_kept store.old q }
@@ -86,16 +74,11 @@ fn make(
     entry: SmallEntry,
     change: Change,
 ) -> Result<Kept, AllocError>
-    requires { CanMake entry.worker change.footprint change.edits change.updates
-        (state_of store.old) }
-    ensures state { OnOk result (state_of store.new ≡ updated change.footprint
-        (updates_by entry.worker change.edits change.updates (state_of store.old))
-        (state_of store.old)) }
-    ensures pasts { OnOk result (pasts_of store.new ≡ noted_all change.footprint
-        (updates_by entry.worker change.edits change.updates (state_of store.old))
-        (state_of store.old) (pasts_of store.old)) }
+    requires { CanMakeChange entry.worker change store.old }
+    ensures state { OnOk result (MakesChange entry.worker change store.old store.new) }
+    ensures pasts { OnOk result (NotesChange entry.worker change store.old store.new) }
     ensures made { IfOk result (λ k. k ≡ small_for entry change (state_of store.old)) }
-    ensures room { OnOk result (All (λ a. is_kept store.new a.object ≡ true) change.footprint) }
+    ensures room { OnOk result (Keeps store.new change.footprint) }
     ensures others_kept { (q : Obj) → is_kept store.old q ≡ true → is_kept store.new q ≡ true }
     ensures same_state_on_error { OnErr result (state_of store.new ≡ state_of store.old) }
     ensures same_pasts_on_error { OnErr result (pasts_of store.new ≡ pasts_of store.old) }
@@ -125,19 +108,13 @@ pub(crate) fn append(
     entry: SmallEntry,
     change: Change,
 ) -> Result<(), AllocError>
-    requires can { CanMake entry.worker change.footprint change.edits change.updates
-        (state_of store.old) }
+    requires can { CanMakeChange entry.worker change store.old }
     requires some { 0 < entry.serial }
     requires latest { AreBelow entry.serial records.old }
-    ensures state { OnOk result (state_of store.new ≡ updated change.footprint
-        (updates_by entry.worker change.edits change.updates (state_of store.old))
-        (state_of store.old)) }
-    ensures pasts { OnOk result (pasts_of store.new ≡ noted_all change.footprint
-        (updates_by entry.worker change.edits change.updates (state_of store.old))
-        (state_of store.old) (pasts_of store.old)) }
-    ensures records { OnOk result
-        (records.new ≡ records.old ++ small_for entry change (state_of store.old) ∷ []) }
-    ensures room { OnOk result (All (λ a. is_kept store.new a.object ≡ true) change.footprint) }
+    ensures state { OnOk result (MakesChange entry.worker change store.old store.new) }
+    ensures pasts { OnOk result (NotesChange entry.worker change store.old store.new) }
+    ensures records { OnOk result (AddsRecord entry change store.old records.old records.new) }
+    ensures room { OnOk result (Keeps store.new change.footprint) }
     ensures others_kept { (q : Obj) → is_kept store.old q ≡ true → is_kept store.new q ≡ true }
     ensures same_state_on_error { OnErr result (state_of store.new ≡ state_of store.old) }
     ensures same_pasts_on_error { OnErr result (pasts_of store.new ≡ pasts_of store.old) }
@@ -153,16 +130,11 @@ pub(crate) fn append(
 
 /// Takes the record with a serial out, and takes its changes back. It takes no memory.
 pub(crate) fn take_out(store: &mut Store, records: &mut Records, serial: u64)
-    requires can { (i : ℕ) (k : UndoRecord) → slice_get records.old i ≡ Some k
-        → k.entry.serial ≡ serial → CanLeave store.old k }
+    requires can { OfSerial serial records.old (λ i k. CanLeave store.old k) }
     requires there { HasSerial serial records.old }
-    ensures state { (i : ℕ) (k : UndoRecord) → slice_get records.old i ≡ Some k
-        → k.entry.serial ≡ serial → state_of store.new
-        ≡ taken_back k.footprint (full (pasts_of store.old) k).back (state_of store.old) }
-    ensures pasts { (i : ℕ) (k : UndoRecord) → slice_get records.old i ≡ Some k
-        → k.entry.serial ≡ serial → pasts_of store.new ≡ before (pasts_of store.old) k }
-    ensures records { (i : ℕ) (k : UndoRecord) → slice_get records.old i ≡ Some k
-        → k.entry.serial ≡ serial → records.new ≡ remove records.old i }
+    ensures state { OfSerial serial records.old (λ i k. TakesBack k store.old store.new) }
+    ensures pasts { OfSerial serial records.old (λ i k. PopsBack k store.old store.new) }
+    ensures records { LosesSerial serial records.old records.new }
     ensures kept { (q : Obj) → is_kept store.new q ≡ is_kept store.old q }
 {
     let made = records.leave(serial);

@@ -1,14 +1,16 @@
 //! Updates of a store, each exchanged for what a small record holds of it.
 
-ghost use Rattle.std.specs.Prelude.{◌≡◌, ◌<◌, ◌≤◌, ◌++◌, ◌∷◌, [], true, false, All, OnOk, OnErr, IfOk, length, take, drop};
+ghost use Rattle.std.specs.Prelude.{◌≡◌, ◌<◌, ◌≤◌, ◌++◌, true, false, OnOk, OnErr, IfOk, length};
 ghost use Rattle.om_foot.specs.declared.object.Obj.{Obj};
 ghost use Rattle.om_foot.specs.declared.object.Obj.TheVariants as obj;
 ghost use Rattle.om_foot.specs.Cells.{cells_listed};
-ghost use Rattle.om_values.specs.State.{undo_of, state_after, state_before, updated, taken_back};
 ghost use Rattle.om_live.specs.Stores.{state_of, is_kept, pasts_of, is_trailed};
+ghost use Rattle.om_touches.specs.Accesses.{control_write};
 ghost use Rattle.om_history.specs.Bounds.{FitsAt, FitsAtBack, FitsAll};
 ghost use Rattle.om_history.specs.Shapes.{IsShapedAt, AreShaped};
-ghost use Rattle.om_history.specs.Fills.{small_at, noted, small_record, noted_all, filled_at, popped, filled, popped_all, IfControl, CanTakeBack, control_at};
+ghost use Rattle.om_history.specs.Fills.{popped, IfControl};
+ghost use Rattle.om_history.specs.Records.{Keeps};
+ghost use Rattle.om_history.specs.Effects.{write_at, add_at, MakesAt, NotesAt, small_in, undo_in, TakesBackAt, TakesSmallBack, FitsBackIn, MakesAll, NotesAll, SavesAll, CanTakeAllBack, TakesAllBack, PopsAll, CanTakeFirstBack, TakesFirstBack, PopsFirst, put_of};
 
 use om_code::frame::Cell;
 use om_foot::{Access, Cells, Mode, Obj, SharedAccess, SharedCells};
@@ -28,12 +30,9 @@ fn make_control(
 ) -> Result<Update, AllocError>
     requires kept { is_kept store.old (obj.Control worker) ≡ true }
     requires shaped { IsShapedAt Mode.Write update true }
-    ensures small { IfOk result
-        (λ small. small ≡ small_at (control_at worker Mode.Write) update (state_of store.old)) }
-    ensures state { OnOk result (state_of store.new
-        ≡ state_after (control_at worker Mode.Write) update (state_of store.old)) }
-    ensures pasts { OnOk result (pasts_of store.new
-        ≡ noted (control_at worker Mode.Write) update (state_of store.old) (pasts_of store.old)) }
+    ensures small { IfOk result (λ u. u ≡ small_in (control_write worker) update store.old) }
+    ensures state { OnOk result (MakesAt (control_write worker) update store.old store.new) }
+    ensures pasts { OnOk result (NotesAt (control_write worker) update store.old store.new) }
     ensures same_state_on_error { OnErr result (state_of store.new ≡ state_of store.old) }
     ensures same_pasts_on_error { OnErr result (pasts_of store.new ≡ pasts_of store.old) }
     ensures kept { (q : Obj) → is_kept store.new q ≡ is_kept store.old q }
@@ -53,11 +52,8 @@ fn make_control(
 fn make_write(store: &mut Store, object: &Obj, update: Update) -> Result<Update, AllocError>
     requires no_control { is_trailed object.now ≡ false }
     requires kept { is_kept store.old object.now ≡ true }
-    ensures undo { IfOk result
-        (λ undo. undo ≡ undo_of Mode.Write update (state_of store.old object.now)) }
-    ensures state { OnOk result
-        (state_of store.new ≡ state_after (record { object = object.now; mode = Mode.Write }) update
-        (state_of store.old)) }
+    ensures undo { IfOk result (λ u. u ≡ undo_in (write_at object.now) update store.old) }
+    ensures state { OnOk result (MakesAt (write_at object.now) update store.old store.new) }
     ensures pasts { pasts_of store.new ≡ pasts_of store.old }
     ensures unchanged_on_error { OnErr result (state_of store.new ≡ state_of store.old) }
     ensures kept { (q : Obj) → is_kept store.new q ≡ is_kept store.old q }
@@ -85,11 +81,9 @@ fn make(
     requires kept { is_kept store.old access.now.object ≡ true }
     requires fits { FitsAt access.now.mode update (state_of store.old access.now.object) }
     requires shaped { IsShapedAt access.now.mode update (is_trailed access.now.object) }
-    ensures small { IfOk result (λ small. small ≡ small_at access.now update (state_of store.old)) }
-    ensures state { OnOk result
-        (state_of store.new ≡ state_after access.now update (state_of store.old)) }
-    ensures pasts { OnOk result (pasts_of store.new
-        ≡ noted access.now update (state_of store.old) (pasts_of store.old)) }
+    ensures small { IfOk result (λ u. u ≡ small_in access.now update store.old) }
+    ensures state { OnOk result (MakesAt access.now update store.old store.new) }
+    ensures pasts { OnOk result (NotesAt access.now update store.old store.new) }
     ensures same_state_on_error { OnErr result (state_of store.new ≡ state_of store.old) }
     ensures same_pasts_on_error { OnErr result (pasts_of store.new ≡ pasts_of store.old) }
     ensures kept { (q : Obj) → is_kept store.new q ≡ is_kept store.old q }
@@ -110,9 +104,7 @@ fn make_addition(store: &mut Store, object: &Obj, update: Update) -> Update
     requires kept { is_kept store.old object.now ≡ true }
     requires fits { FitsAt Mode.Add update (state_of store.old object.now) }
     ensures same { result ≡ update }
-    ensures state { state_of store.new
-        ≡ state_after (record { object = object.now; mode = Mode.Add }) update
-        (state_of store.old) }
+    ensures state { MakesAt (add_at object.now) update store.old store.new }
     ensures pasts { pasts_of store.new ≡ pasts_of store.old }
     ensures kept { (q : Obj) → is_kept store.new q ≡ is_kept store.old q }
 {
@@ -129,9 +121,7 @@ fn make_addition(store: &mut Store, object: &Obj, update: Update) -> Update
 fn take_addition_back(store: &mut Store, object: &Obj, update: Update)
     requires kept { is_kept store.old object.now ≡ true }
     requires fits { FitsAtBack Mode.Add update (state_of store.old object.now) }
-    ensures state { state_of store.new
-        ≡ state_before (record { object = object.now; mode = Mode.Add }) update
-        (state_of store.old) }
+    ensures state { TakesBackAt (add_at object.now) update store.old store.new }
     ensures pasts { pasts_of store.new ≡ pasts_of store.old }
     ensures kept { (q : Obj) → is_kept store.new q ≡ is_kept store.old q }
 {
@@ -145,9 +135,7 @@ fn take_addition_back(store: &mut Store, object: &Obj, update: Update)
 fn take_write_back(store: &mut Store, object: &Obj, update: Update)
     requires no_control { is_trailed object.now ≡ false }
     requires kept { is_kept store.old object.now ≡ true }
-    ensures state { state_of store.new
-        ≡ state_before (record { object = object.now; mode = Mode.Write }) update
-        (state_of store.old) }
+    ensures state { TakesBackAt (write_at object.now) update store.old store.new }
     ensures pasts { pasts_of store.new ≡ pasts_of store.old }
     ensures kept { (q : Obj) → is_kept store.new q ≡ is_kept store.old q }
 {
@@ -163,11 +151,8 @@ fn take_back(store: &mut Store, access: &SharedAccess, small: Update)
     requires kept { is_kept store.old access.now.object ≡ true }
     requires marked { IfControl access.now (small ≡ Update.Keep) }
     requires past { IfControl access.now (0 < length (pasts_of store.old access.now.object)) }
-    requires fits { FitsAtBack access.now.mode (filled_at access.now small (pasts_of store.old))
-        (state_of store.old access.now.object) }
-    ensures state { state_of store.new
-        ≡ state_before access.now (filled_at access.now small (pasts_of store.old))
-        (state_of store.old) }
+    requires fits { FitsBackIn access.now small store.old }
+    ensures state { TakesSmallBack access.now small store.old store.new }
     ensures pasts { pasts_of store.new ≡ popped access.now small (pasts_of store.old) }
     ensures kept { (q : Obj) → is_kept store.new q ≡ is_kept store.old q }
 {
@@ -196,12 +181,9 @@ fn exchange(
     requires kept { is_kept store.old access.now.object ≡ true }
     requires fits { FitsAt access.now.mode update.old (state_of store.old access.now.object) }
     requires shaped { IsShapedAt access.now.mode update.old (is_trailed access.now.object) }
-    ensures small { OnOk result
-        (update.new ≡ small_at access.now update.old (state_of store.old)) }
-    ensures state { OnOk result
-        (state_of store.new ≡ state_after access.now update.old (state_of store.old)) }
-    ensures pasts { OnOk result (pasts_of store.new
-        ≡ noted access.now update.old (state_of store.old) (pasts_of store.old)) }
+    ensures small { OnOk result (update.new ≡ small_in access.now update.old store.old) }
+    ensures state { OnOk result (MakesAt access.now update.old store.old store.new) }
+    ensures pasts { OnOk result (NotesAt access.now update.old store.old store.new) }
     ensures same_state_on_error { OnErr result (state_of store.new ≡ state_of store.old) }
     ensures same_pasts_on_error { OnErr result (pasts_of store.new ≡ pasts_of store.old) }
     ensures kept { (q : Obj) → is_kept store.new q ≡ is_kept store.old q }
@@ -223,7 +205,7 @@ pub(crate) fn keep_each(
     ensures shared { OnOk result (shared.new.items ≡ shared.old.items ++ others.now) }
     ensures same { state_of store.new ≡ state_of store.old }
     ensures same_pasts { pasts_of store.new ≡ pasts_of store.old }
-    ensures kept { OnOk result (All (λ a. is_kept store.new a.object ≡ true) others.now) }
+    ensures kept { OnOk result (Keeps store.new others.now) }
     ensures others_kept { (q : Obj) → is_kept store.old q ≡ true → is_kept store.new q ≡ true }
 {
     for access in others {
@@ -243,8 +225,7 @@ pub(crate) fn keep_cells(
     ensures shared { IfOk result (λ shared. shared ≡ all.now) }
     ensures same { state_of store.new ≡ state_of store.old }
     ensures same_pasts { pasts_of store.new ≡ pasts_of store.old }
-    ensures kept { OnOk result
-        (All (λ a. is_kept store.new a.object ≡ true) (cells_listed all.now)) }
+    ensures kept { OnOk result (Keeps store.new (cells_listed all.now)) }
     ensures others_kept { (q : Obj) → is_kept store.old q ≡ true → is_kept store.new q ≡ true }
 {
     let mut shared = Seq::new(alloc);
@@ -262,15 +243,12 @@ pub(crate) fn make_all(
     footprint: &[SharedAccess],
     updates: &mut Vec<Update>,
 ) -> Result<(), AllocError>
-    requires kept { All (λ a. is_kept store.old a.object ≡ true) footprint.now }
+    requires kept { Keeps store.old footprint.now }
     requires fits { FitsAll footprint.now updates.old.items (state_of store.old) }
     requires shaped { AreShaped footprint.now updates.old.items }
-    ensures state { OnOk result
-        (state_of store.new ≡ updated footprint.now updates.old.items (state_of store.old)) }
-    ensures small { OnOk result
-        (updates.new.items ≡ small_record footprint.now updates.old.items (state_of store.old)) }
-    ensures pasts { OnOk result (pasts_of store.new
-        ≡ noted_all footprint.now updates.old.items (state_of store.old) (pasts_of store.old)) }
+    ensures state { OnOk result (MakesAll footprint.now updates.old.items store.old store.new) }
+    ensures small { OnOk result (SavesAll footprint.now updates.old.items store.old updates.new.items) }
+    ensures pasts { OnOk result (NotesAll footprint.now updates.old.items store.old store.new) }
     ensures same_state_on_error { OnErr result (state_of store.new ≡ state_of store.old) }
     ensures same_pasts_on_error { OnErr result (pasts_of store.new ≡ pasts_of store.old) }
     ensures kept { (q : Obj) → is_kept store.new q ≡ is_kept store.old q }
@@ -298,15 +276,10 @@ fn take_back_first(
 )
     requires accesses { count ≤ length footprint.now }
     requires updates { count ≤ length small.old.items }
-    requires kept { All (λ a. is_kept store.old a.object ≡ true) footprint.now }
-    requires can { CanTakeBack (take count footprint.now) (take count small.old.items)
-        (state_of store.old) (pasts_of store.old) }
-    ensures state { state_of store.new
-        ≡ taken_back (take count footprint.now)
-        (filled (take count footprint.now) (take count small.old.items) (pasts_of store.old))
-        (state_of store.old) }
-    ensures pasts { pasts_of store.new
-        ≡ popped_all (take count footprint.now) (take count small.old.items) (pasts_of store.old) }
+    requires kept { Keeps store.old footprint.now }
+    requires can { CanTakeFirstBack count footprint.now small.old.items store.old }
+    ensures state { TakesFirstBack count footprint.now small.old.items store.old store.new }
+    ensures pasts { PopsFirst count footprint.now small.old.items store.old store.new }
     ensures kept { (q : Obj) → is_kept store.new q ≡ is_kept store.old q }
 {
     for i in (0..count).rev() {
@@ -318,14 +291,10 @@ fn take_back_first(
 /// Takes the updates of a footprint back, the last one first, by what a small record holds of them.
 /// It takes no memory.
 pub(crate) fn take_back_all(store: &mut Store, footprint: &[SharedAccess], small: &mut Vec<Update>)
-    requires kept { All (λ a. is_kept store.old a.object ≡ true) footprint.now }
-    requires can { CanTakeBack footprint.now small.old.items (state_of store.old)
-        (pasts_of store.old) }
-    ensures state { state_of store.new
-        ≡ taken_back footprint.now (filled footprint.now small.old.items (pasts_of store.old))
-        (state_of store.old) }
-    ensures pasts { pasts_of store.new
-        ≡ popped_all footprint.now small.old.items (pasts_of store.old) }
+    requires kept { Keeps store.old footprint.now }
+    requires can { CanTakeAllBack footprint.now small.old.items store.old }
+    ensures state { TakesAllBack footprint.now small.old.items store.old store.new }
+    ensures pasts { PopsAll footprint.now small.old.items store.old store.new }
     ensures kept { (q : Obj) → is_kept store.new q ≡ is_kept store.old q }
 {
     let count = footprint.len().min(small.len());
@@ -335,14 +304,10 @@ pub(crate) fn take_back_all(store: &mut Store, footprint: &[SharedAccess], small
 /// Takes the put of one cell back at the first access of a footprint, by what the cell held. It takes no
 /// memory.
 pub(crate) fn take_cell_back(store: &mut Store, footprint: &[SharedAccess], cell: Cell)
-    requires kept { All (λ a. is_kept store.old a.object ≡ true) footprint.now }
-    requires can { CanTakeBack footprint.now (Update.Put (Val.Cell cell) ∷ []) (state_of store.old)
-        (pasts_of store.old) }
-    ensures state { state_of store.new ≡ taken_back footprint.now
-        (filled footprint.now (Update.Put (Val.Cell cell) ∷ []) (pasts_of store.old))
-        (state_of store.old) }
-    ensures pasts { pasts_of store.new
-        ≡ popped_all footprint.now (Update.Put (Val.Cell cell) ∷ []) (pasts_of store.old) }
+    requires kept { Keeps store.old footprint.now }
+    requires can { CanTakeAllBack footprint.now (put_of cell) store.old }
+    ensures state { TakesAllBack footprint.now (put_of cell) store.old store.new }
+    ensures pasts { PopsAll footprint.now (put_of cell) store.old store.new }
     ensures kept { (q : Obj) → is_kept store.new q ≡ is_kept store.old q }
 {
     let Some((access, _)) = footprint.split_first() else {

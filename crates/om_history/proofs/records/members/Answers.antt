@@ -34,13 +34,13 @@ loop-row-preserved c =
     elim c.if-is_member.branch [
       | then-is_member+in_ok-add_each+in_ok-push w ↦
           let added : AreWith k.footprint k.entry.serial c.loop-row.members w.add_each.new.self =
-          subst (λ n. AreWith k.footprint n c.loop-row.members w.add_each.new.self) w.serial-serial.ensures
-          (subst (λ xs. AreWith xs w.serial-serial.result c.loop-row.members w.add_each.new.self) w.footprint.ensures
+          subst (λ n. AreWith k.footprint n c.loop-row.members w.add_each.new.self) w.serial-own.ensures
+          (subst (λ xs. AreWith xs w.serial-own.result c.loop-row.members w.add_each.new.self) w.footprint.ensures
           w.in_ok-add_each.ensures.added) in
           subst (λ v. MembersTo c.args.serial all rest v.items c.if-is_member.members) (sym w.names-is)
           (subst (λ ns. MembersTo c.args.serial all rest ns c.if-is_member.members)
           (sym (w.in_ok-push.ensures.items ∙ ap (λ n. c.loop-row.names.items ++ n ∷ []) (λ j. record {
-            serial = w.serial-serial.ensures j;
+            serial = w.serial-own.ensures j;
             worker = w.worker.ensures j;
             line = w.line.ensures j;
           })))

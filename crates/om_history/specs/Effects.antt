@@ -1,0 +1,220 @@
+-- What contracts promise of a store before and after: which updates are made or taken back, and what the trails and the
+-- small records hold then. `Makes..` and `Takes..Back` speak of the state, `Notes..` and `Pops..` of the trails,
+-- `Saves..` of small records.
+use Rattle.std.specs.Prelude.{◌≡◌, ℕ, List, [], ◌∷◌, ◌++◌, take, drop}
+use Rattle.om_foot.specs.declared.object.Obj.{Obj}
+use Rattle.om_foot.specs.declared.object.Obj.TheVariants as obj
+use Rattle.om_foot.specs.declared.cells.Cells.{Cells}
+use Rattle.om_foot.specs.declared.footprint.Mode.TheVariants.{Write, Add}
+use Rattle.om_foot.specs.declared.footprint.Access.{Access}
+use Rattle.om_foot.specs.Cells.{cells_listed}
+use Rattle.om_code.specs.declared.frame.Cell as cells
+use Rattle.om_values.specs.declared.control.Control.{Control}
+use Rattle.om_values.specs.declared.edit.Edit.{Edit}
+use Rattle.om_values.specs.declared.runs.Run.{Run}
+use Rattle.om_values.specs.declared.runs.Was.{Was}
+use Rattle.om_values.specs.declared.step.Change.{Change}
+use Rattle.om_values.specs.declared.step.Entry.{Entry}
+use Rattle.om_values.specs.declared.step.Update.{Update}
+use Rattle.om_values.specs.declared.step.Update.TheVariants.{Put}
+use Rattle.om_values.specs.declared.value.Val.TheVariants as value
+use Rattle.om_values.specs.Runs.{runs_listed}
+use Rattle.om_values.specs.State.{undo_of, state_after, state_before, updated, undo_record, taken_back}
+use Rattle.om_values.specs.Values.{control_in}
+use Rattle.om_live.specs.declared.store.Store.{Store}
+use Rattle.om_live.specs.Stores.{state_of, pasts_of}
+use Rattle.om_touches.specs.Accesses.{Parts, accesses_of}
+use Rattle.om_history.specs.declared.backs.BackParts.{BackParts}
+use Rattle.om_history.specs.declared.backs.Backs.{Backs}
+use Rattle.om_history.specs.declared.planning.Making.{Making}
+use Rattle.om_history.specs.declared.records.UndoRecord.{UndoRecord}
+use Rattle.om_history.specs.Backs.{backs_listed, back_in, wanted, parts_wanted, parts_back, further_of}
+use Rattle.om_history.specs.Bounds.{FitsAll, FitsAtBack}
+use Rattle.om_history.specs.Fills.{small_at, noted, small_record, noted_all, filled_at, filled, popped_all, full, before}
+use Rattle.om_history.specs.Fills.{CanTakeBack}
+use Rattle.om_history.specs.Takes.{updates_by, small_for, CanMake}
+
+-- a worker's control in a store
+abbrev pub control_of : ℕ → Store → Control
+control_of w store = control_in (state_of store (obj.Control w))
+
+-- one update
+
+-- an object is written, or added to
+abbrev pub write_at : Obj → Access
+write_at o = record { object = o; mode = Write }
+
+abbrev pub add_at : Obj → Access
+add_at o = record { object = o; mode = Add }
+
+-- an update is made
+abbrev pub MakesAt : Access → Update → Store → Store → Type 0
+MakesAt a u old new = state_of new ≡ state_after a u (state_of old)
+
+-- the trails note the control before it, where it puts one
+abbrev pub NotesAt : Access → Update → Store → Store → Type 0
+NotesAt a u old new = pasts_of new ≡ noted a u (state_of old) (pasts_of old)
+
+-- what a small record holds of an update that is made in a store
+abbrev pub small_in : Access → Update → Store → Update
+small_in a u store = small_at a u (state_of store)
+
+-- what takes an update back that is made in a store
+abbrev pub undo_in : Access → Update → Store → Update
+undo_in a u store = undo_of a.mode u (state_of store a.object)
+
+-- an update is taken back
+abbrev pub TakesBackAt : Access → Update → Store → Store → Type 0
+TakesBackAt a u old new = state_of new ≡ state_before a u (state_of old)
+
+-- what a small record's update stands for in a store
+abbrev pub filled_in : Access → Update → Store → Update
+filled_in a small store = filled_at a small (pasts_of store)
+
+-- that is taken back
+abbrev pub TakesSmallBack : Access → Update → Store → Store → Type 0
+TakesSmallBack a small old new = TakesBackAt a (filled_in a small old) old new
+
+-- then the count fits
+abbrev pub FitsBackIn : Access → Update → Store → Type 0
+FitsBackIn a small store = FitsAtBack a.mode (filled_in a small store) (state_of store a.object)
+
+-- the updates of a footprint
+
+-- all are made
+abbrev pub MakesAll : List Access → List Update → Store → Store → Type 0
+MakesAll footprint us old new = state_of new ≡ updated footprint us (state_of old)
+
+-- the trails note the controls before them
+abbrev pub NotesAll : List Access → List Update → Store → Store → Type 0
+NotesAll footprint us old new = pasts_of new ≡ noted_all footprint us (state_of old) (pasts_of old)
+
+-- these are what a small record holds of them, where they are made in a store
+abbrev pub SavesAll : List Access → List Update → Store → List Update → Type 0
+SavesAll footprint us store small = small ≡ small_record footprint us (state_of store)
+
+-- all can be taken back, by what a small record holds of them
+abbrev pub CanTakeAllBack : List Access → List Update → Store → Type 0
+CanTakeAllBack footprint small store = CanTakeBack footprint small (state_of store) (pasts_of store)
+
+-- and they are
+abbrev pub TakesAllBack : List Access → List Update → Store → Store → Type 0
+TakesAllBack footprint small old new =
+    state_of new ≡ taken_back footprint (filled footprint small (pasts_of old)) (state_of old)
+
+-- the trails have lost what the marks took
+abbrev pub PopsAll : List Access → List Update → Store → Store → Type 0
+PopsAll footprint small old new = pasts_of new ≡ popped_all footprint small (pasts_of old)
+
+-- the same of so many first ones
+
+abbrev pub CanTakeFirstBack : ℕ → List Access → List Update → Store → Type 0
+CanTakeFirstBack n footprint small store = CanTakeAllBack (take n footprint) (take n small) store
+
+abbrev pub TakesFirstBack : ℕ → List Access → List Update → Store → Store → Type 0
+TakesFirstBack n footprint small old new = TakesAllBack (take n footprint) (take n small) old new
+
+abbrev pub PopsFirst : ℕ → List Access → List Update → Store → Store → Type 0
+PopsFirst n footprint small old new = PopsAll (take n footprint) (take n small) old new
+
+-- what takes the put of one cell back
+abbrev pub put_of : cells.Cell → List Update
+put_of cell = Put (value.Cell cell) ∷ []
+
+-- the cells of slots
+
+-- a run is put into the cells of each slot
+abbrev pub PutsCells : List Cells → List Run → Store → Store → Type 0
+PutsCells all runs old new = MakesAll (cells_listed all) (runs_listed runs) old new
+
+-- these are what the cells were
+abbrev pub WereCells : List Cells → List Run → Store → List (List Was) → Type 0
+WereCells all runs store were =
+    backs_listed were ≡ undo_record (cells_listed all) (runs_listed runs) (state_of store)
+
+-- the cells are put back to what they were
+abbrev pub PutsCellsBack : List Cells → List (List Was) → Store → Store → Type 0
+PutsCellsBack all were old new = state_of new ≡ taken_back (cells_listed all) (backs_listed were) (state_of old)
+
+-- the updates behind a step's first access
+
+-- the counts fit
+abbrev pub FitsFurther : Parts → List Update → Store → Type 0
+FitsFurther footprint us store = FitsAll (further_of footprint) us (state_of store)
+
+-- they can be taken back, and are, and the trails have lost what the marks took
+abbrev pub CanTakeFurtherBack : Parts → List Update → Store → Type 0
+CanTakeFurtherBack footprint small store = CanTakeAllBack (further_of footprint) small store
+
+abbrev pub TakesFurtherBack : Parts → List Update → Store → Store → Type 0
+TakesFurtherBack footprint small old new = TakesAllBack (further_of footprint) small old new
+
+abbrev pub PopsFurther : Parts → List Update → Store → Store → Type 0
+PopsFurther footprint small old new = PopsAll (further_of footprint) small old new
+
+-- those that are wanted are made, noted and saved
+abbrev pub MakesFurther : Parts → Backs → List Run → Store → Store → Type 0
+MakesFurther footprint back runs old new = MakesAll (further_of footprint) (wanted back runs) old new
+
+abbrev pub NotesFurther : Parts → Backs → List Run → Store → Store → Type 0
+NotesFurther footprint back runs old new = NotesAll (further_of footprint) (wanted back runs) old new
+
+abbrev pub SavesFurther : Parts → Backs → List Run → Store → Backs → Type 0
+SavesFurther footprint back runs store small =
+    SavesAll (further_of footprint) (wanted back runs) store (back_in small)
+
+-- and so are those in parts
+abbrev pub MakesParts : Parts → BackParts → List Run → Store → Store → Type 0
+MakesParts footprint back runs old new = MakesAll (further_of footprint) (parts_wanted back runs) old new
+
+abbrev pub NotesParts : Parts → BackParts → List Run → Store → Store → Type 0
+NotesParts footprint back runs old new = NotesAll (further_of footprint) (parts_wanted back runs) old new
+
+abbrev pub SavesParts : Parts → BackParts → List Run → Store → BackParts → Type 0
+SavesParts footprint back runs store small =
+    SavesAll (further_of footprint) (parts_wanted back runs) store (parts_back small)
+
+-- a step of a worker, whose objects are kept
+
+-- its updates in a store, the put of its control first
+abbrev pub planned_updates : ℕ → List Edit → Making → Store → List Update
+planned_updates w es m store = updates_by w es (wanted m.back m.runs) (state_of store)
+
+-- it can be made
+abbrev pub CanMakePlanned : ℕ → List Edit → Making → Store → Type 0
+CanMakePlanned w es m store = CanMake w (accesses_of m.footprint) es (wanted m.back m.runs) (state_of store)
+
+-- it is made, noted, and saved but for the mark of its worker's control
+abbrev pub MakesPlanned : ℕ → List Edit → Making → Store → Store → Type 0
+MakesPlanned w es m old new = MakesAll (accesses_of m.footprint) (planned_updates w es m old) old new
+
+abbrev pub NotesPlanned : ℕ → List Edit → Making → Store → Store → Type 0
+NotesPlanned w es m old new = NotesAll (accesses_of m.footprint) (planned_updates w es m old) old new
+
+abbrev pub SavesPlanned : ℕ → List Edit → Making → Store → Backs → Type 0
+SavesPlanned w es m store small =
+    back_in small ≡ drop 1 (small_record (accesses_of m.footprint) (planned_updates w es m store) (state_of store))
+
+-- a change of a worker
+
+-- it can be made
+abbrev pub CanMakeChange : ℕ → Change → Store → Type 0
+CanMakeChange w c store = CanMake w c.footprint c.edits c.updates (state_of store)
+
+-- it is made, and noted
+abbrev pub MakesChange : ℕ → Change → Store → Store → Type 0
+MakesChange w c old new = MakesAll c.footprint (updates_by w c.edits c.updates (state_of old)) old new
+
+abbrev pub NotesChange : ℕ → Change → Store → Store → Type 0
+NotesChange w c old new = NotesAll c.footprint (updates_by w c.edits c.updates (state_of old)) old new
+
+-- its small record stands behind the others
+abbrev pub AddsRecord : Entry → Change → Store → List UndoRecord → List UndoRecord → Type 0
+AddsRecord e c store old new = new ≡ old ++ small_for e c (state_of store) ∷ []
+
+-- the step of a small record is taken back, and the trails have lost what its marks took
+abbrev pub TakesBack : UndoRecord → Store → Store → Type 0
+TakesBack k old new = state_of new ≡ taken_back k.footprint (full (pasts_of old) k).back (state_of old)
+
+abbrev pub PopsBack : UndoRecord → Store → Store → Type 0
+PopsBack k old new = pasts_of new ≡ before (pasts_of old) k
