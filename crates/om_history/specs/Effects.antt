@@ -30,8 +30,8 @@ use Rattle.om_history.specs.declared.planning.Making.{Making}
 use Rattle.om_history.specs.declared.records.UndoRecord.{UndoRecord}
 use Rattle.om_history.specs.Backs.{backs_listed, back_in, wanted, parts_wanted, parts_back, further_of}
 use Rattle.om_history.specs.Bounds.{FitsAll, FitsAtBack}
-use Rattle.om_history.specs.Fills.{small_at, noted, small_record, noted_all, filled_at, filled, popped_all, full, before}
-use Rattle.om_history.specs.Fills.{CanTakeBack}
+use Rattle.om_history.specs.Fills.{small_at, noted, small_record, noted_all, filled_at, filled, popped_all}
+use Rattle.om_history.specs.Fills.{full, before, CanTakeBack}
 use Rattle.om_history.specs.Takes.{updates_by, small_for, CanMake}
 
 -- a worker's control in a store
@@ -40,10 +40,11 @@ control_of w store = control_in (state_of store (obj.Control w))
 
 -- one update
 
--- an object is written, or added to
+-- an access that writes an object
 abbrev pub write_at : Obj → Access
 write_at o = record { object = o; mode = Write }
 
+-- one that adds to it
 abbrev pub add_at : Obj → Access
 add_at o = record { object = o; mode = Add }
 
@@ -108,12 +109,15 @@ PopsAll footprint small old new = pasts_of new ≡ popped_all footprint small (p
 
 -- the same of so many first ones
 
+-- they can be taken back
 abbrev pub CanTakeFirstBack : ℕ → List Access → List Update → Store → Type 0
 CanTakeFirstBack n footprint small store = CanTakeAllBack (take n footprint) (take n small) store
 
+-- and they are
 abbrev pub TakesFirstBack : ℕ → List Access → List Update → Store → Store → Type 0
 TakesFirstBack n footprint small old new = TakesAllBack (take n footprint) (take n small) old new
 
+-- the trails have lost what their marks took
 abbrev pub PopsFirst : ℕ → List Access → List Update → Store → Store → Type 0
 PopsFirst n footprint small old new = PopsAll (take n footprint) (take n small) old new
 
@@ -142,34 +146,40 @@ PutsCellsBack all were old new = state_of new ≡ taken_back (cells_listed all) 
 abbrev pub FitsFurther : Parts → List Update → Store → Type 0
 FitsFurther footprint us store = FitsAll (further_of footprint) us (state_of store)
 
--- they can be taken back, and are, and the trails have lost what the marks took
+-- they can be taken back, by what a small record holds of them
 abbrev pub CanTakeFurtherBack : Parts → List Update → Store → Type 0
 CanTakeFurtherBack footprint small store = CanTakeAllBack (further_of footprint) small store
 
+-- and they are
 abbrev pub TakesFurtherBack : Parts → List Update → Store → Store → Type 0
 TakesFurtherBack footprint small old new = TakesAllBack (further_of footprint) small old new
 
+-- the trails have lost what their marks took
 abbrev pub PopsFurther : Parts → List Update → Store → Store → Type 0
 PopsFurther footprint small old new = PopsAll (further_of footprint) small old new
 
--- those that are wanted are made, noted and saved
+-- those that are wanted are made
 abbrev pub MakesFurther : Parts → Backs → List Run → Store → Store → Type 0
 MakesFurther footprint back runs old new = MakesAll (further_of footprint) (wanted back runs) old new
 
+-- the trails note the controls before them
 abbrev pub NotesFurther : Parts → Backs → List Run → Store → Store → Type 0
 NotesFurther footprint back runs old new = NotesAll (further_of footprint) (wanted back runs) old new
 
+-- and what a small record holds of them is left
 abbrev pub SavesFurther : Parts → Backs → List Run → Store → Backs → Type 0
 SavesFurther footprint back runs store small =
     SavesAll (further_of footprint) (wanted back runs) store (back_in small)
 
--- and so are those in parts
+-- those in parts are made
 abbrev pub MakesParts : Parts → BackParts → List Run → Store → Store → Type 0
 MakesParts footprint back runs old new = MakesAll (further_of footprint) (parts_wanted back runs) old new
 
+-- the trails note the controls before them
 abbrev pub NotesParts : Parts → BackParts → List Run → Store → Store → Type 0
 NotesParts footprint back runs old new = NotesAll (further_of footprint) (parts_wanted back runs) old new
 
+-- and what a small record holds of them is left
 abbrev pub SavesParts : Parts → BackParts → List Run → Store → BackParts → Type 0
 SavesParts footprint back runs store small =
     SavesAll (further_of footprint) (parts_wanted back runs) store (parts_back small)
@@ -184,13 +194,15 @@ planned_updates w es m store = updates_by w es (wanted m.back m.runs) (state_of 
 abbrev pub CanMakePlanned : ℕ → List Edit → Making → Store → Type 0
 CanMakePlanned w es m store = CanMake w (accesses_of m.footprint) es (wanted m.back m.runs) (state_of store)
 
--- it is made, noted, and saved but for the mark of its worker's control
+-- it is made
 abbrev pub MakesPlanned : ℕ → List Edit → Making → Store → Store → Type 0
 MakesPlanned w es m old new = MakesAll (accesses_of m.footprint) (planned_updates w es m old) old new
 
+-- the trails note the controls before it
 abbrev pub NotesPlanned : ℕ → List Edit → Making → Store → Store → Type 0
 NotesPlanned w es m old new = NotesAll (accesses_of m.footprint) (planned_updates w es m old) old new
 
+-- and what a small record holds of it is left, but for the mark of its worker's control
 abbrev pub SavesPlanned : ℕ → List Edit → Making → Store → Backs → Type 0
 SavesPlanned w es m store small =
     back_in small ≡ drop 1 (small_record (accesses_of m.footprint) (planned_updates w es m store) (state_of store))
@@ -201,10 +213,11 @@ SavesPlanned w es m store small =
 abbrev pub CanMakeChange : ℕ → Change → Store → Type 0
 CanMakeChange w c store = CanMake w c.footprint c.edits c.updates (state_of store)
 
--- it is made, and noted
+-- it is made
 abbrev pub MakesChange : ℕ → Change → Store → Store → Type 0
 MakesChange w c old new = MakesAll c.footprint (updates_by w c.edits c.updates (state_of old)) old new
 
+-- the trails note the controls before it
 abbrev pub NotesChange : ℕ → Change → Store → Store → Type 0
 NotesChange w c old new = NotesAll c.footprint (updates_by w c.edits c.updates (state_of old)) old new
 
@@ -212,9 +225,10 @@ NotesChange w c old new = NotesAll c.footprint (updates_by w c.edits c.updates (
 abbrev pub AddsRecord : Entry → Change → Store → List UndoRecord → List UndoRecord → Type 0
 AddsRecord e c store old new = new ≡ old ++ small_for e c (state_of store) ∷ []
 
--- the step of a small record is taken back, and the trails have lost what its marks took
+-- the step of a small record is taken back
 abbrev pub TakesBack : UndoRecord → Store → Store → Type 0
 TakesBack k old new = state_of new ≡ taken_back k.footprint (full (pasts_of old) k).back (state_of old)
 
+-- the trails have lost what its marks took
 abbrev pub PopsBack : UndoRecord → Store → Store → Type 0
 PopsBack k old new = pasts_of new ≡ before (pasts_of old) k

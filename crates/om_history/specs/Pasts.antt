@@ -70,7 +70,7 @@ history_in h = entries_in (past_in h)
 abbrev pub IsHeld : Rules → History → Type 0
 IsHeld r h = IsKept r h.store h.records h.made
 
--- it is held under all steady rules, with controls where controls stand, that start at this state
+-- it is held under all rules that start at this state, are steady and put controls where controls stand
 abbrev pub IsHeldFrom : State → History → Type 0
 IsHeldFrom s h = (r : Rules) → IsSteady r → IsShaped r → r.start ≡ s → IsHeld r h
 
@@ -119,7 +119,7 @@ IsPlannedChange label change h = (r : Rules) × IsPlanned r h label (step_for la
 abbrev pub HasRoomFor : ℕ → Change → History → Type 0
 HasRoomFor worker change h = HaveRoom change.edits (control_in ((past_in h).state (obj.Control worker)))
 
--- what a planned change replies, and what it leaves
+-- what a planned change replies
 abbrev pub RepliesToChange : Label → Change → History → StepReply → Type 0
 RepliesToChange label change h reply = RepliesToStep label (step_for label change h) h reply
 
@@ -127,6 +127,7 @@ RepliesToChange label change h reply = RepliesToStep label (step_for label chang
 abbrev pub RepliesToWorker : ℕ → Change → History → StepReply → Type 0
 RepliesToWorker worker change h reply = (label : Label) → label.worker ≡ worker → RepliesToChange label change h reply
 
+-- and what it leaves
 abbrev pub TakesChange : Label → Change → History → History → Type 0
 TakesChange label change old new = TakesStep label (step_for label change old) old new
 

@@ -1,6 +1,6 @@
 -- Undo records against the replay of their entries.
-use Rattle.std.specs.Prelude.{◌≡◌, ◌≢◌, Bool, true, false, Option, None, Some, List, [], ◌∷◌, map, All, ℕ, ◌+◌, ◌<◌, drop, reverse}
-use Rattle.std.specs.Prelude.{slice_get, remove}
+use Rattle.std.specs.Prelude.{◌≡◌, ◌≢◌, Bool, true, false, Option, None, Some, List, [], ◌∷◌, map, All, ℕ, ◌+◌, ◌<◌}
+use Rattle.std.specs.Prelude.{drop, reverse, slice_get, remove}
 use Rattle.std.specs.List.{AllByRecursion}
 use Rattle.om_foot.specs.declared.footprint.Access.{Access}
 use Rattle.om_foot.specs.Footprint.{conflict_of}

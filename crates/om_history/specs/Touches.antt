@@ -33,10 +33,11 @@ own_footprint k = record { object = obj.Control k.entry.worker; mode = Write } �
 abbrev pub AreOwnOf : List UndoRecord → OwnEntries → Type 0
 AreOwnOf ks own = (w s : ℕ) → is_own own w s ≡ touched own_footprint ks (obj.Control w) Write s
 
--- lists have an entry's touches, and its worker's own entries have it
+-- the touches of an entry are added to the lists
 abbrev pub NotesTouches : UndoRecord → TouchLists → TouchLists → Type 0
 NotesTouches k old new = AreWith k.footprint k.entry.serial old new
 
+-- it is added to its worker's own entries
 abbrev pub NotesOwn : UndoRecord → OwnEntries → OwnEntries → Type 0
 NotesOwn k old new = WithOwn k.entry.worker k.entry.serial old new
 
