@@ -1,21 +1,19 @@
 //! The machine: a program's run, which goes forwards by steps and backwards by undos and rolls.
 
-ghost use Rattle.std.specs.Prelude.{◌≡◌, ◌<◌, ◌≤◌, ◌^◌, ℕ, IfOk, OnOk, OnErr, IsNone, IfSome, ◌↔◌, Some, map};
+ghost use Rattle.std.specs.Prelude.{◌≡◌, ◌<◌, ◌≤◌, ◌^◌, ℕ, IfOk, OnOk, OnErr, IsNone, IfSome, ◌↔◌, Some};
 ghost use Rattle.std.specs.Option.{option_copied};
-ghost use Rattle.om_foot.specs.declared.object.Obj.TheVariants as obj;
 ghost use Rattle.om_values.specs.Ready.{first_behind, AreReady};
 ghost use Rattle.om_values.specs.Rules.{Rules, replay};
-ghost use Rattle.om_values.specs.Values.{control_in};
 ghost use Rattle.om_live.specs.Stores.{plain_or_idle};
 ghost use Rattle.om_task.specs.Plans.{label_at};
 ghost use Rattle.om_task.specs.Rules.{rules_of, line_in, is_at_scheduling_point};
 ghost use Rattle.om_history.specs.Choices.{choice_of, label_by};
-ghost use Rattle.om_history.specs.Runs.{no_history, label_of, reply_to_step, after_step, reply_to_undo, after_undo};
-ghost use Rattle.om_history.specs.Cones.{taken_by_roll, reply_to_roll, after_roll};
+ghost use Rattle.om_history.specs.Runs.{reply_to_step, reply_to_undo};
+ghost use Rattle.om_history.specs.Cones.{reply_to_roll};
 ghost use Rattle.om_history.specs.Commands.{IsRun, IsGone, Rise, TakesCone};
 ghost use Rattle.om_history.specs.Pasts.{past_in, IsHeld, Stays};
 ghost use Rattle.om_undo.specs.Headline.{Headline};
-ghost use Rattle.om_undo.specs.Machines.{rules_for, state_in, IsPlan, RepliesToPlan, TakesPlan};
+ghost use Rattle.om_undo.specs.Machines.{rules_for, state_in, control_at, label_with, at_start, step_reply, with_step, with_undo, rolled_from, with_roll, StateIsReplay, IsPlan, RepliesToPlan, RepliesToWorker, TakesPlan};
 ghost use Rattle.om_undo.specs.PlannedSteps.{is_made, planned_at};
 ghost use Rattle.om_undo.specs.ReadyNames.{ready_names};
 
@@ -122,8 +120,7 @@ impl PlannedStep {
 
     /// Whether it can be made: it is neither blocked, nor has its worker ended.
     pub fn is_possible(&self) -> bool
-        ensures { result ≡ is_made (reply_to_step (rules_for self.now.machine)
-            self.now.machine.history self.now.label) }
+        ensures { result ≡ is_made (step_reply self.now.machine self.now.label) }
     {
         match &self.plan {
             Plan::Updates(_) => true,
@@ -135,7 +132,7 @@ impl PlannedStep {
 
 // The step that a worker would take by its choice.
 fn label(worker: u8, choice: &Choice) -> Label
-    ensures { result ≡ record { worker = worker; choice = choice.now } }
+    ensures { result ≡ label_with worker choice.now }
 {
     Label {
         worker,
@@ -151,9 +148,7 @@ fn planned_by(
     planning: &Planning<'_>,
 ) -> Result<Plan, AllocError>
     requires { IsHeld (rules_of program.now planning.now.workers) history.now }
-    ensures { IfOk result
-        (λ plan. IsPlan (rules_of program.now planning.now.workers) history.now
-        (label_at planning.now.worker planning.now.choice.now) plan) }
+    ensures { IfOk result (λ plan. IsPlan (rules_of program.now planning.now.workers) history.now (label_at planning.now.worker planning.now.choice.now) plan) }
 {
     low_counters();
     plan_by(alloc, program, history.store(), planning)
@@ -169,8 +164,7 @@ fn planned(
 ) -> Result<Plan, AllocError>
     requires held { IsHeld (rules_of program.now workers) history.now }
     requires some { 1 ≤ workers }
-    ensures { IfOk result
-        (λ plan. IsPlan (rules_of program.now workers) history.now label.now plan) }
+    ensures { IfOk result (IsPlan (rules_of program.now workers) history.now label.now) }
 {
     let planning = &Planning {
         worker: label.worker,
@@ -184,8 +178,7 @@ fn planned(
 // gives (`reply_to_step`). Nothing changes.
 fn replied(history: &History, worker: u8, plan: &Plan) -> StepReply
     requires { (r : Rules) × IsHeld r history.now }
-    ensures { (label : Label) → label.worker ≡ worker
-        → RepliesToPlan label plan.now history.now result }
+    ensures { RepliesToWorker worker plan.now history.now result }
 {
     match plan {
         Plan::Updates(change) => history.reply(worker, change),
@@ -206,8 +199,7 @@ fn taken(
     requires few_made { (past_in history.old).made < 2 ^ 63 }
     requires planned { (r : Rules) × IsPlan r history.old (label_by worker start) plan }
     ensures reply { IfOk result (RepliesToPlan (label_by worker start) plan history.old) }
-    ensures after { OnOk result
-        (TakesPlan (label_by worker start) plan history.old history.new) }
+    ensures after { OnOk result (TakesPlan (label_by worker start) plan history.old history.new) }
     ensures unchanged_on_error { OnErr result (Stays history.old history.new) }
 {
     match plan {
@@ -222,8 +214,7 @@ impl Machine {
     pub fn new(alloc: Global, program: Program, workers: u8) -> Result<Machine, AllocError>
         requires at_least_one { 1 ≤ workers }
         requires at_most_32 { workers ≤ 32 }
-        ensures { IfOk result
-            (λ m. m ≡ record { program = program; workers = workers; history = no_history }) }
+        ensures { IfOk result (λ m. m ≡ at_start program workers) }
     {
         steady_rules();
         shaped_rules();
@@ -248,14 +239,8 @@ impl Machine {
     ) -> Result<StepReply, AllocError>
         requires in_range { worker < self.old.workers }
         requires few_made { self.old.history.made < 2 ^ 63 }
-        ensures reply { IfOk result
-            (λ x. x ≡ reply_to_step (rules_for self.old) self.old.history
-            (record { worker = worker; choice = choice })) }
-        ensures after { OnOk result
-            (self.new ≡ record self.old {
-              history = after_step (rules_for self.old) self.old.history
-                  (record { worker = worker; choice = choice });
-            }) }
+        ensures reply { IfOk result (λ x. x ≡ step_reply self.old (label_with worker choice)) }
+        ensures after { OnOk result (self.new ≡ with_step self.old (label_with worker choice)) }
         ensures unchanged_on_error { OnErr result (self.new ≡ self.old) }
     {
         let label = label(worker, &choice);
@@ -267,9 +252,7 @@ impl Machine {
     /// What `step` would answer now. Nothing changes; the only error is out of memory.
     pub fn peek(&self, alloc: Global, worker: u8, choice: Choice) -> Result<StepReply, AllocError>
         requires { worker < self.now.workers }
-        ensures { IfOk result
-            (λ x. x ≡ reply_to_step (rules_for self.now) self.now.history
-            (record { worker = worker; choice = choice })) }
+        ensures { IfOk result (λ x. x ≡ step_reply self.now (label_with worker choice)) }
     {
         let label = label(worker, &choice);
         let plan = planned(alloc, &self.program, self.workers, &self.history, &label)?;
@@ -287,8 +270,7 @@ impl Machine {
         choice: &Choice,
     ) -> Result<PlannedStep, AllocError>
         requires { worker < self.now.workers }
-        ensures { IfOk result
-            (λ p. p ≡ planned_at self.now (record { worker = worker; choice = choice.now })) }
+        ensures { IfOk result (λ p. p ≡ planned_at self.now (label_with worker choice.now)) }
     {
         let start = start_of(alloc, choice)?;
         let planning = &Planning {
@@ -312,11 +294,8 @@ impl Machine {
     pub fn take(&mut self, alloc: Global, step: PlannedStep) -> Result<StepReply, AllocError>
         requires planned { step.machine ≡ self.old }
         requires few_made { self.old.history.made < 2 ^ 63 }
-        ensures reply { IfOk result
-            (λ x. x ≡ reply_to_step (rules_for self.old) self.old.history step.label) }
-        ensures after { OnOk result
-            (self.new ≡ record self.old
-            { history = after_step (rules_for self.old) self.old.history step.label }) }
+        ensures reply { IfOk result (λ x. x ≡ step_reply self.old step.label) }
+        ensures after { OnOk result (self.new ≡ with_step self.old step.label) }
         ensures unchanged_on_error { OnErr result (self.new ≡ self.old) }
     {
         let PlannedStep {
@@ -336,8 +315,7 @@ impl Machine {
     pub fn undo(&mut self, worker: u8) -> UndoReply
         requires { worker < self.old.workers }
         ensures reply { result ≡ reply_to_undo (rules_for self.old) self.old.history worker }
-        ensures after { self.new ≡ record self.old
-            { history = after_undo (rules_for self.old) self.old.history worker } }
+        ensures after { self.new ≡ with_undo self.old worker }
     {
         self.history.undo(worker)
     }
@@ -347,9 +325,7 @@ impl Machine {
     /// `None` where no entry has that serial. Nothing changes; the only error is out of memory.
     pub fn cone(&self, alloc: Global, serial: u64) -> Result<Option<Vec<Taken>>, AllocError>
         ensures none { IfOk result (λ o. IsNone o ↔ IsGone serial self.now.history) }
-        ensures members { IfOk result
-            (λ o.
-            IfSome o (λ v. v.items ≡ taken_by_roll (rules_for self.now) self.now.history serial)) }
+        ensures members { IfOk result (λ o. IfSome o (λ v. v.items ≡ rolled_from self.now serial)) }
     {
         self.history.cone(alloc, serial)
     }
@@ -358,13 +334,8 @@ impl Machine {
     /// ever made stays. It takes no memory. No program calls it: `roll` does both at once, and this is for
     /// a debugger that shows the cone first.
     pub fn take_out(&mut self, taken: &[Taken])
-        requires { (serial : ℕ)
-            × (taken.now ≡ taken_by_roll (rules_for self.old) self.old.history serial) }
-        ensures { (serial : ℕ) → taken.now
-            ≡ taken_by_roll (rules_for self.old) self.old.history serial →
-            self.new
-            ≡ record self.old
-            { history = after_roll (rules_for self.old) self.old.history serial } }
+        requires { (serial : ℕ) × (taken.now ≡ rolled_from self.old serial) }
+        ensures { (serial : ℕ) → taken.now ≡ rolled_from self.old serial → self.new ≡ with_roll self.old serial }
     {
         self.history.take_out(taken)
     }
@@ -375,17 +346,11 @@ impl Machine {
     /// Only `Rolled` changes anything, and the number of steps ever made stays even then. Where no
     /// entry has that serial the answer is `NoEntry`. When out of memory, nothing changes.
     pub fn roll(&mut self, alloc: Global, serial: u64) -> Result<RollReply, AllocError>
-        ensures reply { IfOk result
-            (λ x. x ≡ reply_to_roll (rules_for self.old) self.old.history serial) }
-        ensures after { OnOk result
-            (self.new ≡ record self.old
-            { history = after_roll (rules_for self.old) self.old.history serial }) }
-        ensures takes_cone { OnOk result
-            (TakesCone (rules_for self.old) self.old.history serial self.new.history) }
-        ensures no_entry { IfOk result
-            (λ x. (x ≡ RollReply.NoEntry) ↔ IsGone serial self.old.history) }
-        ensures unchanged_without_entry { IfOk result
-            (λ x. x ≡ RollReply.NoEntry → self.new ≡ self.old) }
+        ensures reply { IfOk result (λ x. x ≡ reply_to_roll (rules_for self.old) self.old.history serial) }
+        ensures after { OnOk result (self.new ≡ with_roll self.old serial) }
+        ensures takes_cone { OnOk result (TakesCone (rules_for self.old) self.old.history serial self.new.history) }
+        ensures no_entry { IfOk result (λ x. (x ≡ RollReply.NoEntry) ↔ IsGone serial self.old.history) }
+        ensures unchanged_without_entry { IfOk result (λ x. x ≡ RollReply.NoEntry → self.new ≡ self.old) }
         ensures unchanged_on_error { OnErr result (self.new ≡ self.old) }
     {
         self.history.roll(alloc, serial)
@@ -424,8 +389,7 @@ impl Machine {
         ensures entries { IfOk result (λ v. v.items ≡ self.now.history.entries) }
         ensures numbered { Rise 0 self.now.history.entries self.now.history.made }
         ensures reached { IsRun (rules_for self.now) self.now.history }
-        ensures replayed { replay (rules_for self.now) (map label_of self.now.history.entries)
-            ≡ Some (state_in self.now) }
+        ensures replayed { StateIsReplay self.now }
         ensures headline { Headline self.now.program self.now.workers }
     {
         headline();
@@ -435,8 +399,7 @@ impl Machine {
     /// The control of a worker at the replay of the entries; `None` stands for an idle one. It takes
     /// no memory.
     pub fn control(&self, worker: u8) -> Option<&Control>
-        ensures { plain_or_idle (option_copied result)
-            ≡ control_in (state_in self.now (obj.Control worker)) }
+        ensures { plain_or_idle (option_copied result) ≡ control_at self.now worker }
     {
         self.history.store().control(worker)
     }
@@ -445,8 +408,7 @@ impl Machine {
     /// ended. At a fault it is the line of the instruction that met it.
     pub fn line(&self, worker: u8) -> u32
         requires { worker < self.now.workers }
-        ensures { result ≡ line_in self.now.program
-            (control_in (state_in self.now (obj.Control worker))) }
+        ensures { result ≡ line_in self.now.program (control_at self.now worker) }
     {
         match self.history.store().control(worker) {
             Some(control) => line(&self.program, control),
@@ -457,8 +419,7 @@ impl Machine {
     /// Whether a worker is at a scheduling point, where it may start a task (OpenMP 5.2, 12.9).
     pub fn is_at_scheduling_point(&self, worker: u8) -> bool
         requires { worker < self.now.workers }
-        ensures { result ≡ is_at_scheduling_point self.now.program
-            (control_in (state_in self.now (obj.Control worker))) }
+        ensures { result ≡ is_at_scheduling_point self.now.program (control_at self.now worker) }
     {
         match self.history.store().control(worker) {
             Some(control) => is_at_scheduling_point(&self.program, control),
