@@ -247,7 +247,8 @@ pub(crate) fn make_all(
     requires fits { FitsAll footprint.now updates.old.items (state_of store.old) }
     requires shaped { AreShaped footprint.now updates.old.items }
     ensures state { OnOk result (MakesAll footprint.now updates.old.items store.old store.new) }
-    ensures small { OnOk result (SavesAll footprint.now updates.old.items store.old updates.new.items) }
+    ensures small { OnOk result
+        (SavesAll footprint.now updates.old.items store.old updates.new.items) }
     ensures pasts { OnOk result (NotesAll footprint.now updates.old.items store.old store.new) }
     ensures same_state_on_error { OnErr result (state_of store.new ≡ state_of store.old) }
     ensures same_pasts_on_error { OnErr result (pasts_of store.new ≡ pasts_of store.old) }

@@ -13,9 +13,12 @@ use Rattle.om_task.specs.Plans.{StandsFor, PlanHasRoom}
 use Rattle.om_task.specs.Rules.{rules_of}
 use Rattle.om_history.specs.declared.history.History as kept
 use Rattle.om_history.specs.declared.reply.StepReply.{StepReply}
+use Rattle.om_history.specs.declared.reply.RollReply.{RollReply}
 use Rattle.om_history.specs.declared.reply.Taken.{Taken}
-use Rattle.om_history.specs.Runs.{History, no_history, label_of, state_of_entries, reply_to_step, after_step, after_undo}
-use Rattle.om_history.specs.Cones.{taken_by_roll, after_roll}
+use Rattle.om_history.specs.Runs.{History, no_history, label_of, state_of_entries}
+use Rattle.om_history.specs.Runs.{reply_to_step, after_step, after_undo}
+use Rattle.om_history.specs.Cones.{taken_by_roll, reply_to_roll, after_roll}
+use Rattle.om_history.specs.Commands.{TakesCone}
 use Rattle.om_history.specs.Pasts.{past_in, history_in, IsHeld}
 
 -- a machine's program, its number of workers, and its history
@@ -64,9 +67,21 @@ with_undo m w = record m { history = after_undo (rules_for m) m.history w }
 abbrev pub rolled_from : MachineView → ℕ → List Taken
 rolled_from m serial = taken_by_roll (rules_for m) m.history serial
 
+-- what it replies
+abbrev pub roll_reply : MachineView → ℕ → RollReply
+roll_reply m serial = reply_to_roll (rules_for m) m.history serial
+
 -- the machine after it
 abbrev pub with_roll : MachineView → ℕ → MachineView
 with_roll m serial = record m { history = after_roll (rules_for m) m.history serial }
+
+-- where these are what a roll takes out, they are taken out
+abbrev pub TakesOut : List Taken → MachineView → MachineView → Type 0
+TakesOut taken old new = (serial : ℕ) → taken ≡ rolled_from old serial → new ≡ with_roll old serial
+
+-- the cone of the entry with a serial is taken out, and nothing else
+abbrev pub LosesCone : ℕ → MachineView → MachineView → Type 0
+LosesCone serial old new = TakesCone (rules_for old) old.history serial new.history
 
 -- there are 1 to 32 workers, and the history is held under the rules of the program
 pub record IsSound (program : Raw) (workers : ℕ) (history : kept.History) : Type 0 where

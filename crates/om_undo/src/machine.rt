@@ -9,11 +9,10 @@ ghost use Rattle.om_task.specs.Plans.{label_at};
 ghost use Rattle.om_task.specs.Rules.{rules_of, line_in, is_at_scheduling_point};
 ghost use Rattle.om_history.specs.Choices.{choice_of, label_by};
 ghost use Rattle.om_history.specs.Runs.{reply_to_step, reply_to_undo};
-ghost use Rattle.om_history.specs.Cones.{reply_to_roll};
-ghost use Rattle.om_history.specs.Commands.{IsRun, IsGone, Rise, TakesCone};
+ghost use Rattle.om_history.specs.Commands.{IsRun, IsGone, Rise};
 ghost use Rattle.om_history.specs.Pasts.{past_in, IsHeld, Stays};
 ghost use Rattle.om_undo.specs.Headline.{Headline};
-ghost use Rattle.om_undo.specs.Machines.{rules_for, state_in, control_at, label_with, at_start, step_reply, with_step, with_undo, rolled_from, with_roll, StateIsReplay, IsPlan, RepliesToPlan, RepliesToWorker, TakesPlan};
+ghost use Rattle.om_undo.specs.Machines.{rules_for, state_in, control_at, label_with, at_start, step_reply, with_step, with_undo, rolled_from, roll_reply, with_roll, TakesOut, LosesCone, StateIsReplay, IsPlan, RepliesToPlan, RepliesToWorker, TakesPlan};
 ghost use Rattle.om_undo.specs.PlannedSteps.{is_made, planned_at};
 ghost use Rattle.om_undo.specs.ReadyNames.{ready_names};
 
@@ -148,7 +147,9 @@ fn planned_by(
     planning: &Planning<'_>,
 ) -> Result<Plan, AllocError>
     requires { IsHeld (rules_of program.now planning.now.workers) history.now }
-    ensures { IfOk result (λ plan. IsPlan (rules_of program.now planning.now.workers) history.now (label_at planning.now.worker planning.now.choice.now) plan) }
+    ensures { IfOk result
+        (λ plan. IsPlan (rules_of program.now planning.now.workers) history.now
+        (label_at planning.now.worker planning.now.choice.now) plan) }
 {
     low_counters();
     plan_by(alloc, program, history.store(), planning)
@@ -335,7 +336,7 @@ impl Machine {
     /// a debugger that shows the cone first.
     pub fn take_out(&mut self, taken: &[Taken])
         requires { (serial : ℕ) × (taken.now ≡ rolled_from self.old serial) }
-        ensures { (serial : ℕ) → taken.now ≡ rolled_from self.old serial → self.new ≡ with_roll self.old serial }
+        ensures { TakesOut taken.now self.old self.new }
     {
         self.history.take_out(taken)
     }
@@ -346,11 +347,12 @@ impl Machine {
     /// Only `Rolled` changes anything, and the number of steps ever made stays even then. Where no
     /// entry has that serial the answer is `NoEntry`. When out of memory, nothing changes.
     pub fn roll(&mut self, alloc: Global, serial: u64) -> Result<RollReply, AllocError>
-        ensures reply { IfOk result (λ x. x ≡ reply_to_roll (rules_for self.old) self.old.history serial) }
+        ensures reply { IfOk result (λ x. x ≡ roll_reply self.old serial) }
         ensures after { OnOk result (self.new ≡ with_roll self.old serial) }
-        ensures takes_cone { OnOk result (TakesCone (rules_for self.old) self.old.history serial self.new.history) }
+        ensures takes_cone { OnOk result (LosesCone serial self.old self.new) }
         ensures no_entry { IfOk result (λ x. (x ≡ RollReply.NoEntry) ↔ IsGone serial self.old.history) }
-        ensures unchanged_without_entry { IfOk result (λ x. x ≡ RollReply.NoEntry → self.new ≡ self.old) }
+        ensures unchanged_without_entry { IfOk result
+            (λ x. x ≡ RollReply.NoEntry → self.new ≡ self.old) }
         ensures unchanged_on_error { OnErr result (self.new ≡ self.old) }
     {
         self.history.roll(alloc, serial)
