@@ -4,7 +4,7 @@ use Rattle.std.proofs.Common.{sym, ◌∙◌, ap, subst, inl, inr, arith, add-on
 use Rattle.std.proofs.lemmas.Grind.{common_steps}
 use Rattle.om_book.specs.Seats.{seats_below}
 use Rattle.om_book.specs.Standing.{Stands, Counts}
-use Rattle.om_journal.specs.declared.journal.JournalRecord.{JournalRecord}
+use Rattle.om_journal.specs.Records.{JournalRecord}
 use Rattle.om_book.specs.declared.receipt.Receipt.{Receipt}
 
 pub seats_below_next : (n : ℕ) → seats_below (n + 1) ≡ seats_below n ++ record { number = n; receipts = [] } ∷ []

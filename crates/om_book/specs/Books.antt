@@ -6,7 +6,7 @@ use Rattle.om_journal.specs.Runs.{fresh}
 use Rattle.om_journal.specs.Journals.{left_by}
 use Rattle.om_journal.specs.declared.command.Command.{Command}
 use Rattle.om_journal.specs.declared.reply.Reply.{Reply}
-use Rattle.om_journal.specs.declared.journal.JournalRecord.{JournalRecord}
+use Rattle.om_journal.specs.Records.{JournalRecord}
 
 -- the machine at the opening, and the calls since
 pub record BookView : Type 0 where

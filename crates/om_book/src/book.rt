@@ -4,6 +4,7 @@ ghost use Rattle.std.specs.Prelude.{◌≡◌, ◌<◌, ◌≤◌, ◌^◌, ◌+
 ghost use Rattle.om_journal.specs.Runs.{IsInRange, IsReply, after, fresh, reply_to, step_command};
 ghost use Rattle.om_journal.specs.Journals.{IsLegal, IsSound, done_in};
 ghost use Rattle.om_journal.specs.Histories.{told_in};
+ghost use Rattle.om_journal.specs.Records.{reply_in};
 ghost use Rattle.om_book.specs.Books.{is_full, last_reply, machine_of, records_of, with_record};
 ghost use Rattle.om_history.specs.Commands.{run};
 ghost use Rattle.om_history.specs.Runs.{reply_to_step};
@@ -11,7 +12,7 @@ ghost use Rattle.om_undo.specs.Machines.{rules_for};
 
 use om_code::Program;
 use om_journal::replies::{done, done_thrice, let_go, undo};
-use om_journal::{Command, JournalRecord, KeptCommand, Reply, done_in};
+use om_journal::{Asked, Command, JournalRecord, Reply, ReplyIn, done_in};
 use om_undo::{Machine, PlannedStep, StepReply};
 use std::alloc::{AllocError, Global};
 use std::marker::Model;
@@ -127,12 +128,12 @@ impl Book {
     }
 
     /// The reply to the last call; there has to be one.
-    pub fn last_reply(&self) -> &Reply
+    pub fn last_reply(&self) -> ReplyIn<'_>
         requires { 0 < records_of self.now }
-        ensures { Some result.now ≡ last_reply self.now }
+        ensures { Some (reply_in result) ≡ last_reply self.now }
     {
         match self.journal.as_slice().last() {
-            Some(answered) => &answered.reply,
+            Some(answered) => answered.reply(),
             None => unreachable!(),
         }
     }
@@ -276,13 +277,9 @@ fn append_call(
     ensures unchanged_journal { OnErr result (journal.new.items ≡ journal.old.items) }
 {
     journal.reserve(1)?;
-    let asked = KeptCommand::of(alloc, command)?;
+    let asked = Asked::of(alloc, command)?;
     let reply = done(alloc, machine, command)?;
-    journal.push_reserved(JournalRecord {
-        seat,
-        command: asked,
-        reply,
-    });
+    journal.push_reserved(JournalRecord::of(seat, asked, reply));
     Ok(())
 }
 
@@ -291,13 +288,13 @@ fn prepared(
     alloc: Global,
     journal: &mut Vec<JournalRecord>,
     step: &PlannedStep,
-) -> Result<KeptCommand, AllocError>
+) -> Result<Asked, AllocError>
     ensures command { IfOk result (λ asked. asked ≡ step_command step.now.label) }
     ensures room { OnOk result (length journal.new.items < vec_capacity journal.new) }
     ensures unchanged { journal.new.items ≡ journal.old.items }
 {
     journal.reserve(1)?;
-    KeptCommand::of_step(alloc, step.worker(), &step.choice())
+    Asked::of_step(alloc, step.worker(), &step.choice())
 }
 
 // Takes a planned step, and adds its record. When out of memory, nothing changes.
@@ -327,11 +324,7 @@ fn append_step(
         return Err(AllocError);
     };
     let reply = machine.take(alloc, step)?;
-    journal.push_reserved(JournalRecord {
-        seat,
-        command: asked,
-        reply: Reply::Step(reply),
-    });
+    journal.push_reserved(JournalRecord::of_step(seat, asked, reply));
     Ok(reply)
 }
 
@@ -356,11 +349,7 @@ fn append_undo(
 {
     journal.reserve(1)?;
     let reply = undo(alloc, machine, worker)?;
-    journal.push_reserved(JournalRecord {
-        seat,
-        command: KeptCommand::of_undo(worker),
-        reply,
-    });
+    journal.push_reserved(JournalRecord::of_undo(seat, worker, reply));
     Ok(())
 }
 
@@ -384,12 +373,8 @@ fn append_thrice(
     ensures unchanged_journal { OnErr result (journal.new.items ≡ journal.old.items) }
 {
     journal.reserve(1)?;
-    let asked = KeptCommand::of(alloc, command)?;
+    let asked = Asked::of(alloc, command)?;
     let replies = done_thrice(alloc, machine, command)?;
-    journal.push_reserved(JournalRecord {
-        seat,
-        command: asked,
-        reply: replies.kept,
-    });
+    journal.push_reserved(JournalRecord::of(seat, asked, replies.kept));
     Ok((replies.answer, replies.receipt))
 }

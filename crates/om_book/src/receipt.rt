@@ -40,9 +40,9 @@ fn stands(journal: &[JournalRecord], seat: u8, opened: usize, low: u128, receipt
     let Some(made) = journal.get(receipt.place as usize) else {
         return false;
     };
-    made.seat == seat
-        && made.command.is_same(&receipt.command)
-        && made.reply.is_same(&receipt.reply)
+    made.seat() == seat
+        && made.command().is_same(&receipt.command.get())
+        && made.has_reply(&receipt.reply)
 }
 
 /// How many receipts of a seat stand from `opened` on, each above the one before.

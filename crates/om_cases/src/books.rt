@@ -46,7 +46,7 @@ pub(crate) fn book_has_a_free_run<R: Threads + Wait + Sync>(
     let seconds = book
         .journal()
         .iter()
-        .filter(|answered| answered.seat == 1)
+        .filter(|answered| answered.seat() == 1)
         .count();
     Ok(entries.len() == 8 && book.journal().len() == 18 && seconds == 8)
 }

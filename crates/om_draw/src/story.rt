@@ -2,7 +2,7 @@
 
 use om_foot::Obj;
 use om_history::{RollReply, StepReply, Taken, UndoReply};
-use om_journal::{Command, JournalRecord, Reply};
+use om_journal::{Command, JournalRecord, Reply, ReplyIn};
 use om_picture::{Arrow, End, StepBox, Traced};
 use om_seq::Seq;
 use std::alloc::{AllocError, Global};
@@ -54,14 +54,16 @@ fn worker_of(command: &Command) -> Option<u8> {
 impl Story<'_> {
     // Takes one more call in.
     fn follow(&mut self, alloc: Global, record: &JournalRecord) -> Result<(), AllocError> {
-        match &record.reply {
-            Reply::Step(StepReply::Done { serial, .. }) => {
-                self.stand(alloc, *serial, worker_of(&record.command.get()))
+        let worker = worker_of(&record.command());
+        match record.reply() {
+            ReplyIn::Step(StepReply::Done { serial, .. }) => self.stand(alloc, serial, worker),
+            ReplyIn::Other(Reply::Step(StepReply::Done { serial, .. })) => {
+                self.stand(alloc, *serial, worker)
             }
-            Reply::Undo(reply) => {
-                self.undo(alloc, worker_of(&record.command.get()), &reply.get())
+            ReplyIn::Undo(reply) => self.undo(alloc, worker, &reply.get()),
+            ReplyIn::Other(Reply::Roll(RollReply::Rolled(members))) => {
+                self.roll(alloc, members.as_slice())
             }
-            Reply::Roll(RollReply::Rolled(members)) => self.roll(alloc, members.as_slice()),
             _ => Ok(()),
         }
     }

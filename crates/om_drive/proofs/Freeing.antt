@@ -5,7 +5,7 @@ use Rattle.std.proofs.lemmas.List.{drop_all}
 use Rattle.om_journal.specs.Runs.{after}
 use Rattle.om_journal.specs.Journals.{IsLegal, left_by}
 use Rattle.om_book.specs.Books.{BookView, IsGrown, machine_of}
-use Rattle.om_journal.specs.declared.journal.JournalRecord.{JournalRecord}
+use Rattle.om_journal.specs.Records.{JournalRecord}
 use Rattle.om_undo.specs.Machines.{MachineView}
 use Rattle.om_drive.specs.FreeRuns.{GoesOn, gained, with_records}
 

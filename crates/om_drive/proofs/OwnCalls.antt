@@ -7,7 +7,7 @@ use Rattle.std.proofs.lemmas.Bool.Decides.{nat_tests}
 use Rattle.std.proofs.lemmas.List.{length-map, map-append}
 use Rattle.std.proofs.lemmas.List.Elements.{filter-append, recursion_from_All}
 use Rattle.om_values.specs.declared.step.Choice.{Choice}
-use Rattle.om_journal.specs.declared.journal.JournalRecord.{JournalRecord}
+use Rattle.om_journal.specs.Records.{JournalRecord}
 use Rattle.om_journal.specs.declared.command.Command.TheVariants as command
 use Rattle.om_journal.specs.declared.command.Query.TheVariants as query
 use Rattle.om_journal.specs.declared.reply.Reply.{Reply}

@@ -1,6 +1,6 @@
 -- What a free run adds to a book.
 use Rattle.std.specs.Prelude.{◌≡◌, List, ◌++◌, drop, length}
-use Rattle.om_journal.specs.declared.journal.JournalRecord.{JournalRecord}
+use Rattle.om_journal.specs.Records.{JournalRecord}
 use Rattle.om_book.specs.Books.{BookView, machine_of}
 use Rattle.om_journal.specs.Journals.{IsLegal}
 

@@ -15,7 +15,7 @@ use Rattle.om_undo.specs.Machines.{MachineView, rules_for}
 use Rattle.om_journal.specs.declared.command.Command.{Command}
 use Rattle.om_journal.specs.declared.command.Command.TheVariants as command
 use Rattle.om_journal.specs.declared.reply.Reply.{Reply}
-use Rattle.om_journal.specs.declared.journal.JournalRecord.{JournalRecord}
+use Rattle.om_journal.specs.Records.{JournalRecord}
 use Rattle.om_journal.specs.Runs.{IsReply, after, history_behind}
 use Rattle.om_journal.specs.Journals.{IsLegal, IsSound, left_by}
 

@@ -2,7 +2,7 @@
 use Rattle.std.specs.Prelude.{List, [], ◌∷◌, ◌++◌}
 use Rattle.om_history.specs.Commands as told
 use Rattle.om_history.specs.Commands.{ToStep, ToUndo, ToRoll}
-use Rattle.om_journal.specs.declared.journal.JournalRecord.{JournalRecord}
+use Rattle.om_journal.specs.Records.{JournalRecord}
 use Rattle.om_journal.specs.declared.command.Command.{Command}
 use Rattle.om_journal.specs.declared.command.Command.TheVariants as command
 

@@ -2,7 +2,7 @@
 use Rattle.std.specs.Prelude.{◌≡◌, ◌≤◌, ℕ, suc, cond, List, [], ◌∷◌, length}
 use Rattle.om_undo.specs.Machines.{MachineView}
 use Rattle.om_journal.specs.Runs.{IsReply, after, is_step_made}
-use Rattle.om_journal.specs.declared.journal.JournalRecord.{JournalRecord}
+use Rattle.om_journal.specs.Records.{JournalRecord}
 
 -- each reply is the one that a machine of one thread gives there
 abbrev pub IsLegal : MachineView → List JournalRecord → Type 0

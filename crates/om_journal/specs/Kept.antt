@@ -37,8 +37,9 @@ command_in parts.Entries = command.Look query.Entries
 
 -- the reply of these parts
 abbrev pub undo_reply_in : UndoParts → UndoReply
-undo_reply_in (undo_parts.Undone serial line) = undo_reply.Undone serial line
-undo_reply_in (undo_parts.Conflict serial worker q) = undo_reply.Conflict serial worker (object_in q)
+undo_reply_in (undo_parts.Undone line serial) = undo_reply.Undone serial line
+undo_reply_in (undo_parts.Conflict c) =
+    undo_reply.Conflict c.value.serial c.value.worker (object_in c.value.object)
 undo_reply_in undo_parts.Nothing = undo_reply.Nothing
 
 -- the step that an undo took out, where it took one out

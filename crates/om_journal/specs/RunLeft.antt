@@ -4,7 +4,7 @@ use Rattle.std.proofs.Common.{◌∙◌, ap}
 use Rattle.om_history.specs.Commands as told
 use Rattle.om_history.specs.Commands.{run}
 use Rattle.om_undo.specs.Machines.{MachineView, rules_for}
-use Rattle.om_journal.specs.declared.journal.JournalRecord.{JournalRecord}
+use Rattle.om_journal.specs.Records.{JournalRecord}
 use Rattle.om_journal.specs.declared.command.Command.{Command}
 use Rattle.om_journal.specs.declared.command.Command.TheVariants as command
 use Rattle.om_journal.specs.Runs.{after, history_behind}

@@ -188,18 +188,20 @@ pub struct UndoneStep {
     pub line: u32,
 }
 
-// The parts of what an undo is answered.
+// The conflict that refuses an undo.
+#[derive(Drop)]
+struct ConflictParts {
+    serial: u64,
+    worker: u8,
+    object: ObjectParts,
+}
+
+// The parts of what an undo is answered. Small numbers stand first, and a conflict lies apart: so they take
+// 16 bytes.
 #[derive(Drop)]
 enum UndoParts {
-    Undone {
-        serial: u64,
-        line: u32,
-    },
-    Conflict {
-        serial: u64,
-        worker: u8,
-        object: ObjectParts,
-    },
+    Undone { line: u32, serial: u64 },
+    Conflict(Box<ConflictParts>),
     Nothing,
 }
 
@@ -227,18 +229,21 @@ fn undo_parts_of(alloc: Global, reply: &UndoReply) -> Result<UndoParts, AllocErr
 {
     match reply {
         UndoReply::Undone { serial, line } => Ok(UndoParts::Undone {
-            serial: *serial,
             line: *line,
+            serial: *serial,
         }),
         UndoReply::Conflict {
             serial,
             worker,
             object,
-        } => Ok(UndoParts::Conflict {
-            serial: *serial,
-            worker: *worker,
-            object: object_parts_of(alloc, object)?,
-        }),
+        } => {
+            let conflict = ConflictParts {
+                serial: *serial,
+                worker: *worker,
+                object: object_parts_of(alloc, object)?,
+            };
+            Ok(UndoParts::Conflict(Box::new(alloc, conflict)?))
+        }
         UndoReply::Nothing => Ok(UndoParts::Nothing),
     }
 }
@@ -260,7 +265,7 @@ impl KeptUndoReply {
     pub fn undone(&self) -> Option<UndoneStep>
         ensures { result ≡ undone_in self.now }
     {
-        if let UndoParts::Undone { serial, line } = &self.parts {
+        if let UndoParts::Undone { line, serial } = &self.parts {
             return Some(UndoneStep {
                 serial: *serial,
                 line: *line,
@@ -274,18 +279,14 @@ impl KeptUndoReply {
         ensures { result ≡ self.now }
     {
         match &self.parts {
-            UndoParts::Undone { serial, line } => UndoReply::Undone {
+            UndoParts::Undone { line, serial } => UndoReply::Undone {
                 serial: *serial,
                 line: *line,
             },
-            UndoParts::Conflict {
-                serial,
-                worker,
-                object,
-            } => UndoReply::Conflict {
-                serial: *serial,
-                worker: *worker,
-                object: object.get(),
+            UndoParts::Conflict(conflict) => UndoReply::Conflict {
+                serial: conflict.serial,
+                worker: conflict.worker,
+                object: conflict.object.get(),
             },
             UndoParts::Nothing => UndoReply::Nothing,
         }

@@ -17,7 +17,7 @@ mod step;
 mod value;
 
 pub use command::{Command, Query};
-pub use journal::{JournalRecord, done_in};
+pub use journal::{Asked, JournalRecord, ReplyIn, done_in};
 pub use kept::{KeptCommand, KeptUndoReply, UndoneStep};
 pub use reply::Reply;
 pub use same::{Same, same_items};

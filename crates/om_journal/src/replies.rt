@@ -36,7 +36,10 @@ pub fn done(alloc: Global, machine: &mut Machine, command: &Command) -> Result<R
         Command::Step { worker, choice } => {
             Ok(Reply::Step(machine.step(alloc, *worker, *choice)?))
         }
-        Command::Undo(worker) => undo(alloc, machine, *worker),
+        Command::Undo(worker) => match undo(alloc, machine, *worker) {
+            Ok(reply) => Ok(Reply::Undo(reply)),
+            Err(error) => Err(error),
+        },
         Command::Roll(serial) => Ok(Reply::Roll(machine.roll(alloc, *serial)?)),
         Command::Look(query) => looked(alloc, machine, query),
     }
@@ -83,15 +86,15 @@ fn stepped(reply: &StepReply) -> Replies
 
 /// Takes a worker's last step back. Only an undo that is refused, and so changes nothing, asks for memory.
 #[tactic(auto, using(crate::proofs::Undos::refused_same))]
-pub fn undo(alloc: Global, machine: &mut Machine, worker: u8) -> Result<Reply, AllocError>
+pub fn undo(alloc: Global, machine: &mut Machine, worker: u8) -> Result<KeptUndoReply, AllocError>
     requires { worker < machine.old.workers }
-    ensures reply { IfOk result (λ x. IsReply machine.old (Command.Undo worker) x) }
+    ensures reply { IfOk result (λ x. IsReply machine.old (Command.Undo worker) (Reply.Undo x)) }
     ensures after { OnOk result (machine.new ≡ after machine.old (Command.Undo worker)) }
     ensures unchanged_on_error { OnErr result (machine.new ≡ machine.old) }
 {
     let reply = machine.undo(worker);
     match KeptUndoReply::of(alloc, &reply) {
-        Ok(kept) => Ok(Reply::Undo(kept)),
+        Ok(kept) => Ok(kept),
         Err(error) => Err(error),
     }
 }

@@ -1,6 +1,8 @@
 //! What the machine answers to a call.
 
 ghost use Rattle.std.specs.Prelude.{◌≡◌, IfOk};
+ghost use Rattle.om_history.specs.declared.reply.StepReply.{StepReply as StepReplyView};
+ghost use Rattle.om_history.specs.declared.reply.UndoReply.{UndoReply};
 ghost use Rattle.om_journal.specs.Runs.{is_step_made};
 
 use crate::kept::KeptUndoReply;
@@ -47,6 +49,28 @@ impl Reply {
         ensures { result ≡ is_step_made self.now }
     {
         matches!(self, Reply::Step(StepReply::Done { .. }))
+    }
+
+    /// The step's reply that it is.
+    pub(crate) fn into_step(self) -> StepReply
+        requires { (x : StepReplyView) × (self ≡ Reply.Step x) }
+        ensures { self ≡ Reply.Step result }
+    {
+        match self {
+            Reply::Step(reply) => reply,
+            _ => unreachable!(),
+        }
+    }
+
+    /// The undo's reply that it is.
+    pub(crate) fn into_undo(self) -> KeptUndoReply
+        requires { (x : UndoReply) × (self ≡ Reply.Undo x) }
+        ensures { self ≡ Reply.Undo result }
+    {
+        match self {
+            Reply::Undo(reply) => reply,
+            _ => unreachable!(),
+        }
     }
 
     /// A copy; its only error is out of memory.

@@ -11,7 +11,7 @@ use std::io::{ErrorKind, Read};
 const MOST_READS: u64 = 1 << 32;
 
 // How many bytes a read asks for.
-const CHUNK: usize = 4096;
+const CHUNK: usize = 16_384;
 
 /// The bytes that were read and not yet answered, and how many more reads there may be.
 pub struct Input {

@@ -21,7 +21,7 @@ use std::sync::Wait;
 use std::thread::Threads;
 
 // So many bytes of answers are written before more lines are answered.
-const ENOUGH: usize = 4096;
+const ENOUGH: usize = 16_384;
 
 /// A debugger, what it runs on, and the answers that are not written yet.
 ///
@@ -107,7 +107,7 @@ impl<'a, R: Threads + Wait + Sync> Session<'a, R> {
 
     /// Whether the answers are written before more lines are answered.
     pub(crate) fn has_enough(&self) -> bool
-        ensures { result ≡ nat_le 4096 (length self.now.text.items) }
+        ensures { result ≡ nat_le 16384 (length self.now.text.items) }
     {
         self.text.len() >= ENOUGH
     }
@@ -126,10 +126,10 @@ impl<'a, R: Threads + Wait + Sync> Session<'a, R> {
             (λ r. AnswersBatch (Some []) (Some self.new.text.items) bytes.now r.0
             self.old.debugger r.1 self.new.debugger) }
         ensures left { IfOk result
-            (λ r. r.1 ≡ false → nat_le 4096 (length self.new.text.items) ≡ false
+            (λ r. r.1 ≡ false → nat_le 16384 (length self.new.text.items) ≡ false
             → HasNoLineEnd (drop r.0 bytes.now)) }
         ensures some { IfOk result
-            (λ r. nat_le 4096 (length self.new.text.items) ≡ true → 0 < r.0) }
+            (λ r. nat_le 16384 (length self.new.text.items) ≡ true → 0 < r.0) }
         ensures begun { (runs : List FreeRun)
             × AnswersPart (Some []) (Some self.new.text.items) bytes.now
             (due self.old.debugger runs) ShellFault.Memory }

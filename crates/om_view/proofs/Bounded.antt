@@ -29,7 +29,7 @@ use Rattle.om_view.specs.Moves.{goes_on, steps_within, undoes_within, next_withi
 use Rattle.om_book.specs.Books.{BookView, is_full, machine_of}
 use Rattle.om_journal.specs.Journals.{IsLegal}
 use Rattle.om_journal.specs.Runs.{after, is_step_made, reply_to}
-use Rattle.om_journal.specs.declared.journal.JournalRecord.{JournalRecord}
+use Rattle.om_journal.specs.Records.{JournalRecord}
 use Rattle.om_journal.specs.Growing.{left_by-snoc}
 use Rattle.om_journal.specs.declared.command.Command.TheVariants as call
 use Rattle.om_journal.specs.declared.command.Query.{Query}

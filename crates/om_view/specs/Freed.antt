@@ -6,7 +6,7 @@ use Rattle.om_drive.specs.OwnCalls.{is_own_call}
 use Rattle.om_book.specs.Books.{BookView, is_full, machine_of}
 use Rattle.om_journal.specs.Journals.{done_in}
 use Rattle.om_journal.specs.Runs.{after, reply_to}
-use Rattle.om_journal.specs.declared.journal.JournalRecord.{JournalRecord}
+use Rattle.om_journal.specs.Records.{JournalRecord}
 use Rattle.om_journal.specs.declared.command.Command.{Command}
 use Rattle.om_command.specs.Steps.{full_text}
 use Rattle.om_command.specs.Stops.{freed_text}

@@ -4,6 +4,7 @@ ghost use Rattle.std.specs.Prelude.{◌≡◌, ◌<◌, ℕ, IfOk, OnOk};
 ghost use Rattle.om_foot.specs.declared.object.Obj.{Obj};
 ghost use Rattle.om_history.specs.Cones.{reply_to_roll};
 ghost use Rattle.om_book.specs.Books.{BookView, machine_of, records_of};
+ghost use Rattle.om_journal.specs.Records.{reply_in};
 ghost use Rattle.om_journal.specs.Runs.{IsInRange, reply_to};
 ghost use Rattle.om_journal.specs.declared.command.Command.{Command as Asked};
 ghost use Rattle.om_journal.specs.declared.command.Query.TheVariants as query;
@@ -13,7 +14,7 @@ ghost use Rattle.om_view.specs.Calls.{label_of, step_reply_of, undo_reply_of, wi
 
 use om_book::{Book, CallError};
 use om_foot::Name;
-use om_journal::{Command, KeptUndoReply, Reply};
+use om_journal::{Command, KeptUndoReply, Reply, ReplyIn};
 use om_seq::Seq;
 use om_task::Choice;
 use om_undo::{Entry, PlannedStep, RollReply, StepReply};
@@ -90,10 +91,10 @@ pub(crate) fn step(
 }
 
 // What the last call was answered.
-fn told(book: &Book) -> &Reply
+fn told(book: &Book) -> ReplyIn<'_>
     requires { (b : BookView) × (c : Asked) × (book.now ≡ with_call b c) }
     ensures { (b : BookView) (c : Asked) → book.now ≡ with_call b c
-        → result.now ≡ reply_to (machine_of b) c }
+        → reply_in result ≡ reply_to (machine_of b) c }
 {
     book.last_reply()
 }
@@ -104,10 +105,11 @@ pub(crate) fn undo_told(book: &Book) -> &KeptUndoReply
     ensures { (b : BookView) (worker : ℕ) → book.now ≡ with_call b (Command.Undo worker)
         → result.now ≡ undo_reply_of (machine_of b) worker }
 {
-    let Reply::Undo(reply) = told(book) else {
-        unreachable!()
-    };
-    reply
+    match told(book) {
+        ReplyIn::Undo(reply) => reply,
+        ReplyIn::Other(Reply::Undo(reply)) => reply,
+        _ => unreachable!(),
+    }
 }
 
 /// What the last call was answered, which was a roll.
@@ -116,7 +118,7 @@ pub(crate) fn roll_told(book: &Book) -> &RollReply
     ensures { (b : BookView) (serial : ℕ) → book.now ≡ with_call b (Command.Roll serial)
         → result.now ≡ reply_to_roll (rules_for (machine_of b)) (machine_of b).history serial }
 {
-    let Reply::Roll(reply) = told(book) else {
+    let ReplyIn::Other(Reply::Roll(reply)) = told(book) else {
         unreachable!()
     };
     reply
@@ -130,7 +132,7 @@ pub(crate) fn value_told(book: &Book) -> &Val
         → book.now ≡ with_call b (Command.Look (query.Value object))
         → result.now ≡ state_in (machine_of b) object }
 {
-    let Reply::Value(value) = told(book) else {
+    let ReplyIn::Other(Reply::Value(value)) = told(book) else {
         unreachable!()
     };
     value
@@ -142,7 +144,7 @@ pub(crate) fn entries_told(book: &Book) -> &Seq<Entry>
     ensures { (b : BookView) → book.now ≡ with_call b (Command.Look query.Entries)
         → result.now ≡ (machine_of b).history.entries }
 {
-    let Reply::Entries(entries) = told(book) else {
+    let ReplyIn::Other(Reply::Entries(entries)) = told(book) else {
         unreachable!()
     };
     entries
@@ -154,7 +156,7 @@ pub(crate) fn names_told(book: &Book) -> &Seq<Name>
     ensures { (b : BookView) → book.now ≡ with_call b (Command.Look query.Ready)
         → result.now ≡ ready_names (machine_of b) }
 {
-    let Reply::Ready(names) = told(book) else {
+    let ReplyIn::Other(Reply::Ready(names)) = told(book) else {
         unreachable!()
     };
     names

@@ -1,7 +1,7 @@
 use Rattle.std.proofs.Common.{◌≡◌, ◌∙◌, ap, rules, refl, subst, sym, ◌<◌, length, List}
 use Rattle.om_history.specs.Runs.{reply_to_step}
 use Rattle.om_undo.specs.Machines.{MachineView, rules_for}
-use Rattle.om_journal.specs.declared.journal.JournalRecord.{JournalRecord}
+use Rattle.om_journal.specs.Records.{JournalRecord}
 use Rattle.om_book.specs.Books.{BookView, machine_of, with_record}
 use Rattle.om_journal.specs.Runs.{reply_to, step_command}
 use Rattle.om_journal.specs.Growing.{sound_next, sound_same}

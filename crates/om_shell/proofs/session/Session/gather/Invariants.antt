@@ -10,7 +10,7 @@ invariant-lines g l = record {
   at_most : l.at ≤ length l.bytes;
   within : l.searched ≤ length (drop l.at l.bytes);
   known : HasNoLineEnd (take l.searched (drop l.at l.bytes));
-  few : nat_le 4096 (length l.self.text.items) ≡ false;
+  few : nat_le 16384 (length l.self.text.items) ≡ false;
 }
 
 abbrev pub decreases-lines : goal.decreases-lines
