@@ -2,9 +2,9 @@
 use Rattle.std.proofs.Common.{◌≡◌, ◌<◌, ◌≤◌, ◌+◌, ◌-◌, ℕ, zero, suc, List, [], ◌∷◌, ◌++◌, Some, length, map, refl, sym}
 use Rattle.std.proofs.Common.{ap, subst, ◌∙◌, arith, length-append}
 use Rattle.std.specs.Prelude.{slice_get}
-use Rattle.om_emit.specs.declared.draft.PickList.{PickList}
-use Rattle.om_emit.specs.Settled.{ListsStand, number_of}
-use Rattle.om_emit.specs.Writing.{get_left, get_seam}
+use Rattle.om_statements.specs.declared.draft.PickList.{PickList}
+use Rattle.om_statements.specs.Settled.{ListsStand, number_of}
+use Rattle.om_statements.specs.Writing.{get_left, get_seam}
 use Rattle.om_resolved.specs.ResolvedTree.{ResolvedStatementTree, Declaration, Block, Empty, Expression, If, IfElse}
 use Rattle.om_resolved.specs.ResolvedTree.{While, Do, For, Return, Break, Continue, Parallel, Task, Loop, Sections}
 use Rattle.om_resolved.specs.ResolvedTree.{Construct, Update, StandAlone, ResolvedStatementsTree, NoStatements}

@@ -7,8 +7,8 @@ use Rattle.std.specs.Prelude.{OnOk, Result, Ok, Err}
 use Rattle.om_code.specs.declared.raw.Body.{Body}
 use Rattle.om_code.specs.declared.raw.Raw.{Raw}
 use Rattle.om_code.specs.Validity.{IsLow, IsValid}
-use Rattle.om_emit.specs.declared.draft.PickList.{PickList}
-use Rattle.om_emit.specs.Settled.{ListsStand}
+use Rattle.om_statements.specs.declared.draft.PickList.{PickList}
+use Rattle.om_statements.specs.Settled.{ListsStand}
 use Rattle.om_lower.specs.Heights.{AreLevel, AreLow, IsLevelBody}
 use Rattle.om_lower.specs.Limits.{AreWithin, IsWithin}
 use Rattle.om_lower.specs.Made.{AreFunctions, AreMade, IsLowered}

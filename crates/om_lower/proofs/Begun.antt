@@ -1,8 +1,8 @@
 -- The scopes of what is written before the statement of a loop, and before the parts of a `sections`.
 use Rattle.std.proofs.Common.{◌≡◌, ℕ, List, Option, Some, None, length, refl, sym, ap}
 use Rattle.om_code.specs.declared.instruction.Instr.{Instr}
-use Rattle.om_emit.specs.Drafts.{Written, Defines, Fresh, FreshList, Puts}
-use Rattle.om_emit.specs.Emits.{Writes, Emits, site}
+use Rattle.om_statements.specs.Drafts.{Written, Defines, Fresh, FreshList, Puts}
+use Rattle.om_statements.specs.Emits.{Writes, Emits, site}
 use Rattle.om_resolved.specs.ResolvedTree.{ResolvedClauseTree, ResolvedExpressionTree, ResolvedLoopTree, ResolvedStartTree}
 use Rattle.om_rows.specs.Expressions.{value}
 use Rattle.om_rows.specs.Rows.{Site, end, perhaps}

@@ -5,9 +5,9 @@ use Rattle.std.specs.Prelude.{Err, IfOk, Ok, Result}
 use Rattle.std.proofs.lemmas.List.{append_assoc, append-nil, map-append}
 use Rattle.std.specs.List.{flat_map}
 use Rattle.om_lower.specs.declared.body.Emitted.{Emitted}
-use Rattle.om_emit.specs.declared.draft.PickList.{PickList}
+use Rattle.om_statements.specs.declared.draft.PickList.{PickList}
 use Rattle.om_lower.specs.Emitted.{FitsRow}
-use Rattle.om_emit.specs.Settled.{number_of}
+use Rattle.om_statements.specs.Settled.{number_of}
 use Rattle.om_code.specs.declared.raw.Body.{Body}
 use Rattle.om_code.specs.declared.raw.Names as raws
 use Rattle.om_code.specs.declared.raw.Slot.{Slot}

@@ -6,8 +6,8 @@ use Rattle.om_statements.specs.declared.spot.TurnLabels.{TurnLabels}
 use Rattle.om_statements.specs.Stretches.{Opens, Begins, BeginsTurn, construct_begin, construct_end}
 use Rattle.om_statements.specs.Stretches.{do_begin, do_end, else_begin, for_begin, for_end, loop_end, test_at}
 use Rattle.om_statements.specs.Stretches.{while_begin, worksharing_begin, worksharing_rest}
-use Rattle.om_emit.specs.Drafts.{Labels, Written, Defines}
-use Rattle.om_emit.specs.Emits.{Finished, Part, site, Goes, Emits}
+use Rattle.om_statements.specs.Drafts.{Labels, Written, Defines}
+use Rattle.om_statements.specs.Emits.{Finished, Part, site, Goes, Emits}
 use Rattle.om_lexer.specs.declared.token.Span.{Span}
 use Rattle.om_resolved.specs.declared.resolved.ConstructKind.{ConstructKind}
 use Rattle.om_resolved.specs.declared.resolved.ConstructKind.TheVariants as constructs
@@ -21,7 +21,7 @@ use Rattle.om_rows.specs.Operators.{comparison_of}
 use Rattle.om_rows.specs.Rows.{Row, end, part, here, given}
 use Rattle.om_rows.specs.Statements.{closes, statement, construct_row, loop_rest, in_iteration}
 use Rattle.om_statements.specs.declared.spot.JumpLabels.{JumpLabels}
-use Rattle.om_statements.specs.Emits.{jumps_at, EmitsStatement}
+use Rattle.om_statements.specs.Statements.{jumps_at, EmitsStatement}
 use Rattle.om_statements.specs.Going.{before_with, goes_place, goes_then, then_with, with_as, with_behind}
 use Rattle.om_rows.specs.Numbered.{Numbered}
 use Rattle.om_rows.specs.Picks.{own_picks}

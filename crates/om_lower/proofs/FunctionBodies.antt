@@ -6,8 +6,8 @@ use Rattle.std.proofs.lemmas.List.Elements.{Contains-append_right}
 use Rattle.std.specs.List.{AllZip, flat_map}
 use Rattle.om_code.specs.declared.raw.Body.{Body}
 use Rattle.om_code.specs.Validity.{IsLow}
-use Rattle.om_emit.specs.declared.draft.PickList.{PickList}
-use Rattle.om_emit.specs.Settled.{ListsStand}
+use Rattle.om_statements.specs.declared.draft.PickList.{PickList}
+use Rattle.om_statements.specs.Settled.{ListsStand}
 use Rattle.om_lower.specs.Heights.{AreLow, IsHigh}
 use Rattle.om_lower.specs.Limits.{IsOver, IsWithin, high}
 use Rattle.om_lower.specs.Made.{AreFunctions, AreMade, IsMade}

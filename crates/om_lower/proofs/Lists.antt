@@ -2,9 +2,9 @@
 use Rattle.std.proofs.Common.{◌≡◌, refl, Bool, ℕ, suc, ◌+◌, ◌<◌, ◌≤◌, List, ◌∷◌, map, get_or, drop, drop-cons, add-one}
 use Rattle.std.proofs.Common.{length, sym, ap, ◌∙◌, subst, arith}
 use Rattle.std.specs.Prelude.{Err, IfOk, Result}
-use Rattle.om_emit.specs.Drafts.{Written}
-use Rattle.om_emit.specs.Emits.{site}
-use Rattle.om_emit.specs.Writing.{goes_end}
+use Rattle.om_statements.specs.Drafts.{Written}
+use Rattle.om_statements.specs.Emits.{site}
+use Rattle.om_statements.specs.Writing.{goes_end}
 use Rattle.om_resolved.specs.declared.resolved.ResolvedStatement.{ResolvedStatement}
 use Rattle.om_resolved.specs.ResolvedTree as trees
 use Rattle.om_resolved.specs.ResolvedTree.{ResolvedStatementTree, ResolvedStatementsTree, NoStatements, Statement}
@@ -19,7 +19,7 @@ use Rattle.om_rows.specs.Numbering.{numbers_of}
 use Rattle.om_rows.specs.Rows.{end}
 use Rattle.om_rows.specs.Statements.{statement, statements}
 use Rattle.om_statements.specs.declared.spot.JumpLabels.{JumpLabels}
-use Rattle.om_statements.specs.Emits.{jumps_at, EmitsStatement, GoesWith}
+use Rattle.om_statements.specs.Statements.{jumps_at, EmitsStatement, GoesWith}
 use Rattle.om_statements.specs.Going.{then_with, with_none}
 use Rattle.om_rows.specs.Numbered.{Numbered}
 use Rattle.om_rows.specs.Picks.{own_picks, all_own_picks}

@@ -8,10 +8,10 @@ use Rattle.om_statements.specs.declared.spot.TurnLabels.{TurnLabels}
 use Rattle.om_statements.specs.Going.{free_emits, free_within}
 use Rattle.om_statements.specs.Stretches.{Parts, Opens, Begins, BeginsTurn, FreshTurn, bounds_row, do_begin, else_begin}
 use Rattle.om_statements.specs.Stretches.{loop_end, sections_begin, worksharing_begin}
-use Rattle.om_emit.specs.Drafts.{Labels, Written, Puts, Fresh, Defines}
-use Rattle.om_emit.specs.Emits.{Finished, Part, site, Goes, Emits}
-use Rattle.om_emit.specs.Writing.{define_length, free_define, free_fresh, free_new, free_put, fresh_length, goes_as}
-use Rattle.om_emit.specs.Writing.{goes_end, goes_fresh, goes_here, goes_less, goes_part, goes_put}
+use Rattle.om_statements.specs.Drafts.{Labels, Written, Puts, Fresh, Defines}
+use Rattle.om_statements.specs.Emits.{Finished, Part, site, Goes, Emits}
+use Rattle.om_statements.specs.Writing.{define_length, free_define, free_fresh, free_new, free_put, fresh_length, goes_as}
+use Rattle.om_statements.specs.Writing.{goes_end, goes_fresh, goes_here, goes_less, goes_part, goes_put}
 use Rattle.om_resolved.specs.ResolvedTree.{ResolvedClauseTree, ResolvedLoopTree}
 use Rattle.om_rows.specs.Operators.{comparison_of, form_with}
 use Rattle.om_rows.specs.Rows.{end, ins, part, here, ◌▸◌}

@@ -3,9 +3,9 @@ use Rattle.std.proofs.Common.{◌≡◌, refl, ℕ, suc, ◌+◌, ◌<◌, ◌�
 use Rattle.std.proofs.Common.{add-one, length, sym, ap, ◌∙◌, subst, arith}
 use Rattle.std.specs.Prelude.{slice_get}
 use Rattle.om_code.specs.declared.instruction.Instr.TheVariants as i
-use Rattle.om_emit.specs.Drafts.{Labels, Written, Defines, Puts}
-use Rattle.om_emit.specs.Emits.{Finished, Goes, site}
-use Rattle.om_emit.specs.Writing.{free_define, goes_end, goes_put}
+use Rattle.om_statements.specs.Drafts.{Labels, Written, Defines, Puts}
+use Rattle.om_statements.specs.Emits.{Finished, Goes, site}
+use Rattle.om_statements.specs.Writing.{free_define, goes_end, goes_put}
 use Rattle.om_resolved.specs.declared.resolved.ResolvedClause.{ResolvedClause}
 use Rattle.om_resolved.specs.declared.resolved.ResolvedStatement.{ResolvedStatement}
 use Rattle.om_resolved.specs.declared.resolved.ResolvedPart.{ResolvedPart, out-ResolvedPart, fold_out-ResolvedPart}
@@ -21,7 +21,7 @@ use Rattle.om_rows.specs.Statements.{nowhere, parts, statements}
 use Rattle.om_lower.specs.declared.worksharing.PartsSpot.{PartsSpot}
 use Rattle.om_statements.specs.declared.spot.JumpLabels.{JumpLabels}
 use Rattle.om_statements.specs.declared.spot.Spot.{Spot}
-use Rattle.om_statements.specs.Emits.{EmitsStatements}
+use Rattle.om_statements.specs.Statements.{EmitsStatements}
 use Rattle.om_lower.specs.Parts.{AreFree, EmitsParts, GoesParts, OpensParts, part_head, part_labels}
 use Rattle.om_statements.specs.Going.{before_with, free_with, free_within, goes_place, then_with, with_as, with_none}
 use Rattle.om_rows.specs.declared.numbers.Numbers as tables

@@ -2,8 +2,8 @@
 use Rattle.std.proofs.Common.{◌≡◌, ◌<◌, ◌≤◌, inl, inr, ℕ, zero, suc, Bool, true, false, List, [], ◌∷◌, ◌++◌, Some, All}
 use Rattle.std.proofs.Common.{Any, length, take, drop, slice_get, refl, sym, ap, subst, ◌∙◌, arith}
 use Rattle.om_code.specs.declared.raw.Body.{Body}
-use Rattle.om_emit.specs.declared.draft.PickList.{PickList}
-use Rattle.om_emit.specs.Settled.{ListsStand}
+use Rattle.om_statements.specs.declared.draft.PickList.{PickList}
+use Rattle.om_statements.specs.Settled.{ListsStand}
 use Rattle.om_lower.specs.Heights.{AreLow, IsFirst}
 use Rattle.om_lower.specs.Limits.{IsOver, IsTooMany, IsWithin}
 use Rattle.om_lower.specs.Made.{AreFunctions, IsLowered, IsOverAt, StopsUnless}

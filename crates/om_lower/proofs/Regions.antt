@@ -4,8 +4,8 @@ use Rattle.std.proofs.Common.{if◌then◌else◌}
 use Rattle.std.specs.Prelude.{is_some}
 use Rattle.std.proofs.lemmas.List.{length-append, length-map}
 use Rattle.om_statements.specs.Stretches.{fork_row, spawn_row}
-use Rattle.om_emit.specs.Drafts.{Written}
-use Rattle.om_emit.specs.Emits.{EmitsRow, site}
+use Rattle.om_statements.specs.Drafts.{Written}
+use Rattle.om_statements.specs.Emits.{EmitsRow, site}
 use Rattle.om_lexer.specs.declared.token.Span.{Span}
 use Rattle.om_resolved.specs.declared.resolved.Capture.{Capture}
 use Rattle.om_resolved.specs.ResolvedTree.{ResolvedClauseTree, ResolvedStatementTree, Parallel, Task}
@@ -16,7 +16,7 @@ use Rattle.om_rows.specs.Slots as rows
 use Rattle.om_rows.specs.Slots.{by_slots, first_copy_at}
 use Rattle.om_rows.specs.Statements.{clause_value, given_copies, load_original}
 use Rattle.om_statements.specs.declared.spot.JumpLabels.{JumpLabels}
-use Rattle.om_statements.specs.Emits.{EmitsStatement}
+use Rattle.om_statements.specs.Statements.{EmitsStatement}
 use Rattle.om_statements.specs.Going.{goes_then, with_none}
 use Rattle.om_rows.specs.declared.copies.FirstCopy.{FirstCopy}
 use Rattle.om_rows.specs.Copies.{first_copies_of, first_copy}

@@ -1,8 +1,8 @@
 -- The scopes of each statement: of what is written before the statement in it, of that, and of what comes behind.
 use Rattle.std.proofs.Common.{◌≡◌, ℕ, ◌≤◌, List, Option, Bool, length, map, sym, subst}
 use Rattle.om_code.specs.declared.instruction.Instr.{Instr}
-use Rattle.om_emit.specs.Drafts.{Labels, Written, Defines, Puts}
-use Rattle.om_emit.specs.Emits.{Finished, Writes, Goes, Emits, site}
+use Rattle.om_statements.specs.Drafts.{Labels, Written, Defines, Puts}
+use Rattle.om_statements.specs.Emits.{Finished, Writes, Goes, Emits, site}
 use Rattle.om_lexer.specs.declared.token.Span.{Span}
 use Rattle.om_resolved.specs.declared.resolved.ConstructKind.{ConstructKind}
 use Rattle.om_resolved.specs.declared.resolved.ConstructKind.TheVariants as constructs
@@ -27,7 +27,7 @@ use Rattle.om_statements.specs.declared.spot.JumpLabels.{JumpLabels}
 use Rattle.om_statements.specs.declared.spot.LoopLabels.{LoopLabels}
 use Rattle.om_statements.specs.declared.spot.TurnLabels.{TurnLabels}
 use Rattle.om_statements.specs.declared.writing.ScopeStack.{ScopeStack}
-use Rattle.om_statements.specs.Emits.{jumps_at}
+use Rattle.om_statements.specs.Statements.{jumps_at}
 use Rattle.om_statements.specs.Going.{writes_then}
 use Rattle.om_statements.specs.Scoped.{EndsScopes, ScopesStand}
 use Rattle.om_statements.specs.Scoping.{stand_after, stand_ahead, stand_before, stand_behind, stand_block}

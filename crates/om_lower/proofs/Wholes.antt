@@ -4,9 +4,9 @@ use Rattle.om_lower.specs.Emitted.{EmitsBody, EmitsRegion}
 use Rattle.om_code.specs.declared.instruction.Barrier.TheVariants as barriers
 use Rattle.om_code.specs.declared.instruction.Instr.{Instr}
 use Rattle.om_code.specs.declared.instruction.Instr.TheVariants as i
-use Rattle.om_emit.specs.Drafts.{Labels, Puts, Written}
-use Rattle.om_emit.specs.Emits.{Emits, EmitsRow, Finished, Goes, Part, site}
-use Rattle.om_emit.specs.Writing.{goes_end, goes_put}
+use Rattle.om_statements.specs.Drafts.{Labels, Puts, Written}
+use Rattle.om_statements.specs.Emits.{Emits, EmitsRow, Finished, Goes, Part, site}
+use Rattle.om_statements.specs.Writing.{goes_end, goes_put}
 use Rattle.om_lexer.specs.declared.token.Span.{Span}
 use Rattle.om_resolved.specs.declared.resolved.Capture.{Capture}
 use Rattle.om_resolved.specs.ResolvedTree.{ResolvedClauseTree, ResolvedFunctionTree, ResolvedStatementTree}
@@ -16,7 +16,7 @@ use Rattle.om_rows.specs.Rows.{end, ins, part}
 use Rattle.om_rows.specs.Statements.{last_instruction, nowhere, reduction_starts, reductions, statement, statements}
 use Rattle.om_statements.specs.declared.spot.JumpLabels.{JumpLabels}
 use Rattle.om_statements.specs.declared.spot.Spot.{Spot}
-use Rattle.om_statements.specs.Emits.{EmitsStatement, EmitsStatements, EmitsWith}
+use Rattle.om_statements.specs.Statements.{EmitsStatement, EmitsStatements, EmitsWith}
 use Rattle.om_resolved.specs.declared.resolved.LocalVariable.{LocalVariable}
 use Rattle.om_rows.specs.Scopes.{after, all_scopes, before, block, body_scopes, both, each_scope, instructions}
 use Rattle.om_rows.specs.Scopes.{parameter_scope, scopes, task_scope, team_scope}

@@ -2,9 +2,9 @@
 use Rattle.std.specs.Prelude.{◌≡◌, ◌<◌, ◌≤◌, ℕ, List, [], Option, None, Some, length, map}
 use Rattle.om_code.specs.declared.raw.Line.{Line}
 use Rattle.om_lower.specs.declared.body.Emitted.{Emitted}
-use Rattle.om_emit.specs.Drafts.{Written}
-use Rattle.om_emit.specs.Emits.{site}
-use Rattle.om_emit.specs.Settled.{ListsStand, number_of}
+use Rattle.om_statements.specs.Drafts.{Written}
+use Rattle.om_statements.specs.Emits.{site}
+use Rattle.om_statements.specs.Settled.{ListsStand, number_of}
 use Rattle.om_resolved.specs.declared.resolved.ResolvedFunction.{ResolvedFunction}
 use Rattle.om_resolved.specs.ResolvedTree.{ResolvedFunctionTree}
 use Rattle.om_resolved.specs.ResolvedView as view
@@ -20,7 +20,7 @@ use Rattle.om_sights.specs.Regions.{parallel_tree, task_tree}
 use Rattle.om_sights.specs.Sites.{body_in}
 use Rattle.om_sights.specs.declared.sites.Site.{Site}
 use Rattle.om_statements.specs.declared.writing.Writing.{Writing}
-use Rattle.om_statements.specs.Emits.{EmitsWith}
+use Rattle.om_statements.specs.Statements.{EmitsWith}
 use Rattle.om_statements.specs.Scoped.{AreInside, EmitsScopes}
 use Rattle.om_rows.specs.Numbered.{Numbered, site_with}
 use Rattle.om_rows.specs.Picks.{body_picks}

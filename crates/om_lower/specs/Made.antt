@@ -7,8 +7,8 @@ use Rattle.om_lower.specs.Emitted.{FitsRow}
 use Rattle.om_code.specs.declared.raw.Body.{Body}
 use Rattle.om_code.specs.declared.raw.Line.{Line}
 use Rattle.om_code.specs.declared.raw.Names.{Names}
-use Rattle.om_emit.specs.declared.draft.PickList.{PickList}
-use Rattle.om_emit.specs.Settled.{ListsStand, number_of}
+use Rattle.om_statements.specs.declared.draft.PickList.{PickList}
+use Rattle.om_statements.specs.Settled.{ListsStand, number_of}
 use Rattle.om_lower.specs.declared.bodies.Bodies.{Bodies}
 use Rattle.om_lower.specs.declared.functions.Lowered.{Lowered}
 use Rattle.om_lower.specs.declared.functions.Next.{Next}

@@ -14,9 +14,9 @@ use Rattle.om_rows.specs.Statements.{given_copies, load_original}
 use Rattle.om_rows.specs.declared.body.BodyTables.{BodyTables}
 use Rattle.om_rows.specs.declared.numbers.Numbers.{Numbers}
 use Rattle.om_rows.specs.declared.copies.Region.{Region}
-use Rattle.om_emit.specs.Drafts.{Written}
-use Rattle.om_emit.specs.Emits.{EmitsRow}
-use Rattle.om_statements.specs.Emits.{EmitsStatement}
+use Rattle.om_statements.specs.Drafts.{Written}
+use Rattle.om_statements.specs.Emits.{EmitsRow}
+use Rattle.om_statements.specs.Statements.{EmitsStatement}
 use Rattle.om_statements.specs.declared.spot.JumpLabels.{JumpLabels}
 
 abbrev pub clauses_of : Region → List ResolvedClauseTree

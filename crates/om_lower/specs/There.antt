@@ -16,7 +16,7 @@ use Rattle.om_rows.specs.Scopes.{Scoping}
 use Rattle.om_rows.specs.declared.body.BodyTables.{BodyTables}
 use Rattle.om_rows.specs.declared.numbers.Numbers.{Numbers}
 use Rattle.om_sights.specs.Trees.{part_trees, statement_trees}
-use Rattle.om_statements.specs.Emits.{EmitsStatement, EmitsStatements}
+use Rattle.om_statements.specs.Statements.{EmitsStatement, EmitsStatements}
 use Rattle.om_statements.specs.Scoped.{EmitsScopes}
 use Rattle.om_statements.specs.declared.spot.Spot.{Spot}
 use Rattle.om_statements.specs.declared.writing.Writing.{Writing}

@@ -1,8 +1,8 @@
 -- What is promised of the heads and the ends of `if`, of loops and of worksharing constructs.
 use Rattle.std.specs.Prelude.{ℕ, Bool, IfOk, List, Option, Result, map, option_map}
-use Rattle.om_emit.specs.declared.here.Here.{Here}
-use Rattle.om_emit.specs.Drafts.{Written}
-use Rattle.om_emit.specs.Emits.{Appends, names_at}
+use Rattle.om_statements.specs.declared.here.Here.{Here}
+use Rattle.om_statements.specs.Drafts.{Written}
+use Rattle.om_statements.specs.Emits.{Appends, names_at}
 use Rattle.om_lower.specs.Parts.{OpensParts, part_head}
 use Rattle.om_lower.specs.declared.worksharing.PartsSpot.{PartsSpot}
 use Rattle.om_lower.specs.declared.worksharing.SectionsHead.{SectionsHead}

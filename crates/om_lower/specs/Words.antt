@@ -18,9 +18,9 @@ pub use Rattle.om_lower.specs.There.{EmitsAllThere, EmitsThere, GivesAllBehind, 
 pub use Rattle.om_lower.specs.There.{EmitsPartsThere, GivesPartsBehind, HaveCodeThere, HaveEndsThere, ScopesThere}
 pub use Rattle.om_lower.specs.Turns.{BeginsElse, BeginsFor, BeginsIf, BeginsWorksharing, BeginsParts, EndsDo, EndsFor}
 pub use Rattle.om_lower.specs.Turns.{EndsLoop, EndsWorksharing, ScopesFor, ScopesWorksharing, ScopesParts}
-pub use Rattle.om_emit.specs.Drafts.{settled_code}
-pub use Rattle.om_emit.specs.Emits.{Appends}
-pub use Rattle.om_emit.specs.Settled.{ListsStand, number_of, settled_lists}
+pub use Rattle.om_statements.specs.Drafts.{settled_code}
+pub use Rattle.om_statements.specs.Emits.{Appends}
+pub use Rattle.om_statements.specs.Settled.{ListsStand, number_of, settled_lists}
 pub use Rattle.om_resolved.specs.Beside.{TreeAtomicsAssign, TreeCopiesBehind}
 pub use Rattle.om_resolved.specs.Formats.{pieces_of}
 pub use Rattle.om_resolved.specs.Uses.{is_main_function}

@@ -13,16 +13,16 @@ use crate::statement::{inner, statements};
 use om_code::Instr;
 use om_code::instruction::Barrier;
 use om_code::raw::Line;
-use om_emit::draft::PickList;
-use om_emit::{Done, Here};
 use om_resolved::{Made, ResolvedFunction};
 use om_rows::{BodyTables, Numbers, Region, VariableScope};
 use om_seq::Seq;
 use om_sights::{BodyPart, Site};
 use om_statements::clause::{parameters, reduction_starts, reductions, task_copies};
 use om_statements::declaration::last_instruction;
+use om_statements::draft::PickList;
 use om_statements::spot::Spot;
 use om_statements::writing::Writing;
+use om_statements::{Done, Here};
 use std::alloc::Global;
 
 /// The code of a body, the lists of the PICKs in it, and the scopes of names, the innermost first.

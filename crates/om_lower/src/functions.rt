@@ -9,12 +9,12 @@ ghost use Rattle.om_resolved.specs.ResolvedView as view;
 use crate::bodies::{Bodies, add_sites, add_slots, put_both};
 use crate::input::{Input, Known};
 use om_code::Body;
-use om_emit::Done;
-use om_emit::draft::PickList;
 use om_resolved::{Made, ResolvedFunction};
 use om_rows::{Extents, Numbers, Tables, Variables};
 use om_seq::Seq;
 use om_sights::{Site, sites_of};
+use om_statements::Done;
+use om_statements::draft::PickList;
 
 /// How many instructions a body may have.
 pub const INSTRUCTION_LIMIT: usize = 65_536;

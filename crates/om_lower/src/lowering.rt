@@ -13,13 +13,13 @@ use crate::input::Input;
 use crate::laws::each_once;
 use crate::program::program_of;
 use om_code::Program;
-use om_emit::draft::PickList;
 use om_lexer::{FaultCode, SourceFault};
 use om_resolved::{Made, Resolved, ResolvedFunction};
 use om_rows::laws::{body_is_level, whole_has_code};
 use om_rows::meaning::serial_meaning;
 use om_seq::Seq;
 use om_sights::tables_of;
+use om_statements::draft::PickList;
 use std::alloc::Global;
 
 /// The program whose bodies are the code of the tree's functions.

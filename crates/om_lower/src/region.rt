@@ -9,11 +9,11 @@ ghost use Rattle.om_rows.specs.Expressions as expressions;
 ghost use Rattle.om_rows.specs.Statements as rows;
 
 use om_code::Instr;
-use om_emit::draft::Draft;
-use om_emit::{Done, Here, value};
 use om_resolved::{Made, ResolvedClause};
 use om_rows::{BodyTables, FirstCopy, Numbers, Region, Variables, given_copies};
 use om_statements::clause::clause_value;
+use om_statements::draft::Draft;
+use om_statements::{Done, Here, value};
 use std::alloc::Global;
 
 /// Writes what stands in the place of a `parallel`, and gives the numbers behind it. Its body gets

@@ -6,12 +6,12 @@ ghost use Rattle.om_lower.specs.Words.{EndsDo, EndsFor, EndsLoop, FreshTurn, Sco
 ghost use Rattle.om_lower.specs.Words.{ValueHasCode, do_begin, while_begin};
 ghost use Rattle.om_resolved.specs.ResolvedView as view;
 
-use om_emit::draft::{Draft, Jump};
-use om_emit::{Done, Here};
 use om_resolved::{Made, ResolvedExpression, ResolvedStart};
 use om_statements::declaration::{perhaps_effect, perhaps_test, start, test};
+use om_statements::draft::{Draft, Jump};
 use om_statements::spot::{LoopLabels, TurnLabels};
 use om_statements::writing::Writing;
+use om_statements::{Done, Here};
 
 /// Writes the head of a `while` (C17 6.8.5.1).
 pub(crate) fn begin_while(

@@ -15,13 +15,13 @@ use crate::repeated::{
 use crate::worksharing::{
     PartsSpot, SectionsHead, begin_parts, begin_worksharing, end_worksharing,
 };
-use om_emit::Here;
-use om_emit::draft::Jump;
 use om_resolved::{ConstructKind, Made, ResolvedHead, ResolvedPart, ResolvedStatement};
 use om_rows::{BodyTables, Numbers, Region};
+use om_statements::Here;
 use om_statements::alone::{assignment, jump, stand_alone, update};
 use om_statements::construct::{begin_construct, end_construct};
 use om_statements::declaration::{declarators, returned};
+use om_statements::draft::Jump;
 use om_statements::spot::Spot;
 use om_statements::unused::effect;
 use om_statements::writing::Writing;

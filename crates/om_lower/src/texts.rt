@@ -5,9 +5,9 @@ ghost use Rattle.om_lower.specs.Texts.{behind_cut, cut_behind, cut_on, cut_piece
 ghost use Rattle.om_resolved.specs.Formats as formats;
 
 use om_code::raw::Piece;
-use om_emit::Done;
 use om_resolved::Made;
 use om_seq::Seq;
+use om_statements::Done;
 use std::alloc::Global;
 
 // The pieces that were cut, and the bytes behind them that no piece has yet.

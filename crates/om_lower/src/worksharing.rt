@@ -7,14 +7,14 @@ ghost use Rattle.om_resolved.specs.ResolvedView as view;
 
 use crate::loop_form::{comparison_of, form_with};
 use om_code::Instr;
-use om_emit::draft::{Draft, Jump};
-use om_emit::{Done, Here, value};
 use om_resolved::{Made, ResolvedClause, ResolvedLoop, ResolvedPart};
 use om_rows::Numbers;
 use om_statements::alone::worksharing_end;
 use om_statements::clause::{reductions, starts};
+use om_statements::draft::{Draft, Jump};
 use om_statements::spot::LoopLabels;
 use om_statements::writing::Writing;
+use om_statements::{Done, Here, value};
 use std::alloc::Global;
 
 /// A `sections`, where it stands: the numbers of the next body and of its own list of PICK.

@@ -1,10 +1,10 @@
 -- The code of expressions whose values nothing uses, row by row.
 use Rattle.std.proofs.Common.{◌≡◌, ℕ, List, subst}
 use Rattle.om_code.specs.declared.instruction.Instr.TheVariants as i
-use Rattle.om_emit.specs.Drafts.{Written, Puts}
-use Rattle.om_emit.specs.Emits.{site, Emits, EmitsRow, EmitsValue, EmitsValues}
-use Rattle.om_emit.specs.Rests.{call}
-use Rattle.om_emit.specs.Writing.{emits_put}
+use Rattle.om_statements.specs.Drafts.{Written, Puts}
+use Rattle.om_statements.specs.Emits.{site, Emits, EmitsRow, EmitsValue, EmitsValues}
+use Rattle.om_statements.specs.Rests.{call}
+use Rattle.om_statements.specs.Writing.{emits_put}
 use Rattle.om_resolved.specs.ResolvedTree.{ResolvedExpressionTree, Call, ValuesTree}
 use Rattle.om_rows.specs.Expressions.{effect, value, values, value_count}
 use Rattle.om_rows.specs.Rows.{end, ins, part, ◌▸◌}

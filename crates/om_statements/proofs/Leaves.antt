@@ -8,9 +8,9 @@ use Rattle.om_code.specs.declared.instruction.Instr.TheVariants as i
 use Rattle.om_resolved.specs.ResolvedTree.{ResolvedExpressionTree}
 use Rattle.om_rows.specs.Expressions.{value}
 use Rattle.om_rows.specs.Statements.{last_instruction, returned}
-use Rattle.om_emit.specs.Drafts.{Written, moved, Puts}
-use Rattle.om_emit.specs.Emits.{Part, site, Emits}
-use Rattle.om_emit.specs.Writing.{goes_end, goes_less, goes_put, goes_part}
+use Rattle.om_statements.specs.Drafts.{Written, moved, Puts}
+use Rattle.om_statements.specs.Emits.{Part, site, Emits}
+use Rattle.om_statements.specs.Writing.{goes_end, goes_less, goes_put, goes_part}
 use Rattle.om_rows.specs.Rows.{end, ins, part}
 use Rattle.om_rows.specs.Numbered.{Numbered}
 

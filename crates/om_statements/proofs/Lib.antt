@@ -1,3 +1,7 @@
+pub mod Singles
+pub mod Expressions
+pub mod Jumping
+pub mod Labels
 pub mod Leaves
 pub mod Effects
 pub mod Opened

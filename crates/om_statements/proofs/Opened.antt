@@ -2,9 +2,9 @@
 use Rattle.std.proofs.Common.{◌≡◌, ℕ, ◌<◌, Some, None, arith}
 use Rattle.std.specs.Prelude.{slice_get}
 use Rattle.om_code.specs.declared.instruction.Instr.{Instr}
-use Rattle.om_emit.specs.Drafts.{Written, moved, Puts, Defines}
-use Rattle.om_emit.specs.Emits.{Part, site, Goes, Emits}
-use Rattle.om_emit.specs.Writing.{define_length, goes_end, goes_here, goes_less, goes_put}
+use Rattle.om_statements.specs.Drafts.{Written, moved, Puts, Defines}
+use Rattle.om_statements.specs.Emits.{Part, site, Goes, Emits}
+use Rattle.om_statements.specs.Writing.{define_length, goes_end, goes_here, goes_less, goes_put}
 use Rattle.om_rows.specs.Rows.{end, ins, here, ◌▸◌}
 use Rattle.om_rows.specs.Numbered.{Numbered}
 use Rattle.om_statements.specs.Going.{free_within}

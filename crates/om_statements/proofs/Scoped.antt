@@ -1,9 +1,9 @@
 -- The scopes of copies, and of what is written before the statement of a construct.
 use Rattle.std.proofs.Common.{◌≡◌, ℕ, List, Option, None, Bool, length, refl, sym, subst, arith}
 use Rattle.om_code.specs.declared.instruction.Instr.{Instr}
-use Rattle.om_emit.specs.Drafts.{Written, Fresh, Puts}
-use Rattle.om_emit.specs.Emits.{Writes, Emits, site}
-use Rattle.om_emit.specs.Writing.{goes_end}
+use Rattle.om_statements.specs.Drafts.{Written, Fresh, Puts}
+use Rattle.om_statements.specs.Emits.{Writes, Emits, site}
+use Rattle.om_statements.specs.Writing.{goes_end}
 use Rattle.om_resolved.specs.declared.resolved.ConstructKind.TheVariants as constructs
 use Rattle.om_resolved.specs.declared.resolved.CopyKind.TheVariants as copies
 use Rattle.om_resolved.specs.ResolvedTree.{ResolvedClauseTree, ClauseValue, Shared, Copied}

@@ -4,9 +4,9 @@ use Rattle.std.specs.List.{All}
 use Rattle.std.proofs.lemmas.List.{length-map}
 use Rattle.std.proofs.Common.{◌≡◌, ℕ, zero, suc, ◌+◌, ◌<◌, ◌≤◌, List, [], ◌∷◌, map, get_or, refl, drop, drop-cons, add-one}
 use Rattle.std.proofs.Common.{length, sym, ap, ◌∙◌, subst, arith}
-use Rattle.om_emit.specs.Drafts.{Written}
-use Rattle.om_emit.specs.Emits.{Emits, Goes, site}
-use Rattle.om_emit.specs.Writing.{goes_end, goes_part}
+use Rattle.om_statements.specs.Drafts.{Written}
+use Rattle.om_statements.specs.Emits.{Emits, Goes, site}
+use Rattle.om_statements.specs.Writing.{goes_end, goes_part}
 use Rattle.om_rows.specs.Rows.{Site, Row, each}
 use Rattle.om_rows.specs.Numbered.{Numbered}
 

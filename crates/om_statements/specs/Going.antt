@@ -4,12 +4,12 @@ use Rattle.std.specs.Prelude.{slice_get}
 use Rattle.std.proofs.lemmas.List.{append_assoc, append-nil}
 use Rattle.std.proofs.lemmas.Option.{slice_get_within}
 use Rattle.om_code.specs.declared.instruction.Instr.{Instr}
-use Rattle.om_emit.specs.Drafts.{Labels, Written, Defines, Fresh, Puts}
-use Rattle.om_emit.specs.Emits.{Finished, Part, Writes, Goes, Emits}
-use Rattle.om_emit.specs.Writing.{fits_back, fits_from, free_new, fresh_length, goes_end, goes_fresh, goes_here, goes_less}
-use Rattle.om_emit.specs.Writing.{grows_on}
+use Rattle.om_statements.specs.Drafts.{Labels, Written, Defines, Fresh, Puts}
+use Rattle.om_statements.specs.Emits.{Finished, Part, Writes, Goes, Emits}
+use Rattle.om_statements.specs.Writing.{fits_back, fits_from, free_new, fresh_length, goes_end, goes_fresh, goes_here, goes_less}
+use Rattle.om_statements.specs.Writing.{grows_on}
 use Rattle.om_rows.specs.Rows.{end, part, here}
-use Rattle.om_statements.specs.Emits.{EmitsWith, GoesWith, pick_number}
+use Rattle.om_statements.specs.Statements.{EmitsWith, GoesWith, pick_number}
 use Rattle.om_statements.specs.Stretches.{Begins}
 
 -- the same instruction

@@ -1,5 +1,14 @@
-pub mod Stretches
+pub mod Drafts
+pub mod Settled
 pub mod Emits
+pub mod Forms
+pub mod Rests
+pub mod Writing
+pub mod Elements
+pub mod Arguments
+pub mod Views
+pub mod Stretches
+pub mod Statements
 pub mod Going
 pub mod Each
 pub mod Scoped

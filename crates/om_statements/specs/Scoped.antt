@@ -1,8 +1,8 @@
 -- What is promised of the scopes of names in code that is written.
 use Rattle.std.specs.Prelude.{◌≡◌, ◌≤◌, ℕ, All, List, [], ◌∷◌, ◌++◌, OnOk, Option, None, Result, drop, length, map, reverse, take}
-use Rattle.om_emit.specs.Drafts.{Labels, Written}
-use Rattle.om_emit.specs.declared.here.Here.{Here}
-use Rattle.om_emit.specs.Emits.{Appends, Finished, Fits, Grows, names_at, site}
+use Rattle.om_statements.specs.Drafts.{Labels, Written}
+use Rattle.om_statements.specs.declared.here.Here.{Here}
+use Rattle.om_statements.specs.Emits.{Appends, Finished, Fits, Grows, names_at, site}
 use Rattle.om_resolved.specs.declared.resolved.CopyKind.TheVariants as copies
 use Rattle.om_resolved.specs.declared.resolved.LocalVariable.{LocalVariable}
 use Rattle.om_resolved.specs.declared.resolved.ResolvedClause.{ResolvedClause}

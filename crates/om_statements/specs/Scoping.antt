@@ -6,9 +6,9 @@ use Rattle.std.proofs.lemmas.List.{append_assoc, append-nil, reverse-append}
 use Rattle.std.proofs.lemmas.List.Elements.{All-append, All-cons, All-map, All-nil, All-weaker}
 use Rattle.std.proofs.Math.Seq.{drop-append_seam, take-append_seam}
 use Rattle.om_code.specs.declared.instruction.Instr.{Instr}
-use Rattle.om_emit.specs.Drafts.{Labels, Written, Defines, Fresh, Puts, moved}
-use Rattle.om_emit.specs.Emits.{Finished, Part, Writes, site}
-use Rattle.om_emit.specs.Writing.{fits_back, fits_from, goes_end, goes_fresh, goes_here, goes_put, grows_on}
+use Rattle.om_statements.specs.Drafts.{Labels, Written, Defines, Fresh, Puts, moved}
+use Rattle.om_statements.specs.Emits.{Finished, Part, Writes, site}
+use Rattle.om_statements.specs.Writing.{fits_back, fits_from, goes_end, goes_fresh, goes_here, goes_put, grows_on}
 use Rattle.om_resolved.specs.declared.resolved.LocalVariable.{LocalVariable}
 use Rattle.om_rows.specs.Rows.{Site, Row, end, ins, part, here}
 use Rattle.om_rows.specs.declared.scope.VariableScope.{VariableScope}

@@ -6,9 +6,9 @@ use Rattle.om_code.specs.declared.instruction.Comparison.{Comparison}
 use Rattle.om_statements.specs.declared.spot.LoopLabels.{LoopLabels}
 use Rattle.om_statements.specs.declared.spot.TurnLabels.{TurnLabels}
 use Rattle.om_statements.specs.declared.writing.Writing.{Writing}
-use Rattle.om_emit.specs.Drafts.{Written, Fresh}
-use Rattle.om_emit.specs.declared.here.Here.{Here}
-use Rattle.om_emit.specs.Emits.{Part, names_at, site, Goes, Emits, EmitsRow}
+use Rattle.om_statements.specs.Drafts.{Written, Fresh}
+use Rattle.om_statements.specs.declared.here.Here.{Here}
+use Rattle.om_statements.specs.Emits.{Part, names_at, site, Goes, Emits, EmitsRow}
 use Rattle.om_pragma.specs.declared.clause.ReductionOperator.{ReductionOperator}
 use Rattle.om_resolved.specs.declared.resolved.ConstructKind.{ConstructKind}
 use Rattle.om_resolved.specs.declared.resolved.ConstructKind.TheVariants as constructs

@@ -6,12 +6,13 @@ ghost use Rattle.om_statements.specs.Words.{alone_row, assignment_row, barrier, 
 ghost use Rattle.om_statements.specs.Words.{worksharing_end};
 ghost use Rattle.om_resolved.specs.ResolvedView as view;
 
+use crate::draft::{Draft, Jump};
+use crate::expression::value;
+use crate::here::{Done, Here};
 use crate::operator::{side_of, update_of};
 use crate::unused::effect;
 use om_code::Instr;
 use om_code::instruction::Barrier;
-use om_emit::draft::{Draft, Jump};
-use om_emit::{Done, Here, value};
 use om_resolved::{ResolvedStatement, ResolvedUpdate, StandAlone};
 
 /// Writes a directive that stands alone.

@@ -8,11 +8,12 @@ ghost use Rattle.om_statements.specs.Words.{reductions, starts, task_scope, team
 ghost use Rattle.om_resolved.specs.ResolvedView as view;
 ghost use Rattle.om_rows.specs.Statements as rows;
 
+use crate::draft::Draft;
+use crate::here::{Done, Here};
 use crate::operator::{identity_of, reduction_of};
+use crate::single::{load, store};
 use crate::writing::{ScopeStack, Writing};
 use om_code::Instr;
-use om_emit::draft::Draft;
-use om_emit::{Done, Here, load, store};
 use om_pragma::ReductionOperator;
 use om_resolved::{CopyKind, LocalVariable, ResolvedClause, ResolvedExpression, Variable};
 

@@ -8,10 +8,11 @@ ghost use Rattle.om_rows.specs.Statements as rows;
 
 use crate::alone::worksharing_end;
 use crate::clause::{clause_value, starts};
+use crate::draft::{Draft, Jump};
+use crate::expression::value;
+use crate::here::{Done, Here};
 use crate::writing::Writing;
 use om_code::Instr;
-use om_emit::draft::{Draft, Jump};
-use om_emit::{Done, Here, value};
 use om_resolved::{ConstructKind, Made, ResolvedClause};
 
 // Writes the thread number that a `masked` asks for: 0 where no clause says another (OpenMP API 5.2,

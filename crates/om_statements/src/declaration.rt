@@ -8,11 +8,13 @@ ghost use Rattle.om_statements.specs.Words.{start_scopes};
 ghost use Rattle.om_resolved.specs.ResolvedView as view;
 ghost use Rattle.om_rows.specs.Statements as rows;
 
+use crate::draft::{Draft, Jump};
+use crate::expression::value;
+use crate::here::{Done, Here};
+use crate::single::store;
 use crate::unused::effect;
 use crate::writing::Writing;
 use om_code::Instr;
-use om_emit::draft::{Draft, Jump};
-use om_emit::{Done, Here, store, value};
 use om_resolved::{ResolvedDeclarator, ResolvedExpression, ResolvedStart, Variable};
 
 // Writes the code of a declared name: it is made unset, or gets its initializer (C17 6.7.9).

@@ -1,11 +1,80 @@
 //! The operators of the language as those of instructions.
 
 ghost use Rattle.std.specs.Prelude.{◌≡◌};
+ghost use Rattle.om_rows.specs.Operators as rows;
+ghost use Rattle.om_statements.specs.Forms.{form};
 ghost use Rattle.om_statements.specs.Words.{identity_of, reduction_of, side_of, update_of};
 
-use om_code::instruction::{AtomicOperator, Reduction};
+use om_code::instruction::{AtomicOperator, BinaryOperator, Reduction};
 use om_pragma::ReductionOperator;
 use om_resolved::{Side, UpdateOperator};
+use om_tree::{AssignOperator, PostfixOperator};
+
+/// What an operator between two operands is.
+#[derive(Clone, Copy)]
+pub(crate) enum Form {
+    /// `&&`, which may jump over its right operand (C17 6.5.13p4).
+    Both,
+    /// `||`, which may too (C17 6.5.14p4).
+    Either,
+    /// An instruction.
+    Plain(BinaryOperator),
+}
+
+/// What an operator between two operands is (C17 6.5.5 to 6.5.14).
+pub(crate) fn form_of(operator: om_tree::BinaryOperator) -> Form
+    ensures { form result ≡ rows.form_of operator }
+{
+    match operator {
+        om_tree::BinaryOperator::And => Form::Both,
+        om_tree::BinaryOperator::Or => Form::Either,
+        om_tree::BinaryOperator::Equal => Form::Plain(BinaryOperator::Equal),
+        om_tree::BinaryOperator::NotEqual => Form::Plain(BinaryOperator::NotEqual),
+        om_tree::BinaryOperator::Less => Form::Plain(BinaryOperator::Less),
+        om_tree::BinaryOperator::Greater => Form::Plain(BinaryOperator::Greater),
+        om_tree::BinaryOperator::LessEqual => Form::Plain(BinaryOperator::LessOrEqual),
+        om_tree::BinaryOperator::GreaterEqual => Form::Plain(BinaryOperator::GreaterOrEqual),
+        om_tree::BinaryOperator::Add => Form::Plain(BinaryOperator::Add),
+        om_tree::BinaryOperator::Subtract => Form::Plain(BinaryOperator::Subtract),
+        om_tree::BinaryOperator::Multiply => Form::Plain(BinaryOperator::Multiply),
+        om_tree::BinaryOperator::Divide => Form::Plain(BinaryOperator::Divide),
+        om_tree::BinaryOperator::Remainder => Form::Plain(BinaryOperator::Remainder),
+    }
+}
+
+/// The operator of a compound assignment; `=` has none (C17 6.5.16.2).
+pub(crate) fn compound_of(operator: AssignOperator) -> Option<BinaryOperator>
+    ensures { result ≡ rows.compound_of operator }
+{
+    Some(match operator {
+        AssignOperator::Set => return None,
+        AssignOperator::Add => BinaryOperator::Add,
+        AssignOperator::Subtract => BinaryOperator::Subtract,
+        AssignOperator::Multiply => BinaryOperator::Multiply,
+        AssignOperator::Divide => BinaryOperator::Divide,
+        AssignOperator::Remainder => BinaryOperator::Remainder,
+    })
+}
+
+/// What `x++` or `x--` does with x and 1 (C17 6.5.2.4).
+pub(crate) fn step_of(operator: PostfixOperator) -> BinaryOperator
+    ensures { result ≡ rows.step_of operator }
+{
+    match operator {
+        PostfixOperator::Increment => BinaryOperator::Add,
+        PostfixOperator::Decrement => BinaryOperator::Subtract,
+    }
+}
+
+/// The inverse of that step: what makes the old value of the new one and 1.
+pub(crate) fn inverse_step_of(operator: PostfixOperator) -> BinaryOperator
+    ensures { result ≡ rows.inverse_step_of operator }
+{
+    match operator {
+        PostfixOperator::Increment => BinaryOperator::Subtract,
+        PostfixOperator::Decrement => BinaryOperator::Add,
+    }
+}
 
 /// How a reduction combines (OpenMP API 5.2, section 5.5.3).
 pub(crate) fn reduction_of(operator: ReductionOperator) -> Reduction

@@ -5,11 +5,11 @@ ghost use Rattle.om_statements.specs.Words.{Appends, CallHasCode, EffectHasCode,
 ghost use Rattle.om_statements.specs.Words.{effect, listed};
 ghost use Rattle.om_resolved.specs.ResolvedView as view;
 
+use crate::draft::Draft;
+use crate::expression::{assign, assign_element, assigned, call, value, values};
+use crate::here::{Done, Here};
+use crate::single::{step, step_element};
 use om_code::Instr;
-use om_emit::draft::Draft;
-use om_emit::{
-    Done, Here, assign, assign_element, assigned, call, step, step_element, value, values,
-};
 use om_resolved::ResolvedExpression;
 
 /// Writes an expression, which leaves nothing.

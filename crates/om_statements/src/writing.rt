@@ -3,8 +3,8 @@
 ghost use Rattle.std.specs.Prelude.{◌≡◌, ◌≤◌, ◌<◌, [], OnOk, length};
 ghost use Rattle.om_statements.specs.Words.{BeginsScope, EndsLast, EndsScopes, closed_at, nothing};
 
-use om_emit::Done;
-use om_emit::draft::Draft;
+use crate::draft::Draft;
+use crate::here::Done;
 use om_resolved::LocalVariable;
 use om_rows::VariableScope;
 use om_seq::Seq;

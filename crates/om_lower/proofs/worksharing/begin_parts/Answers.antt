@@ -4,7 +4,7 @@ use Rattle.om_lower.proofs.Opened.{begins_sections}
 use Rattle.om_lower.proofs.PartsOpened.{opens_parts}
 use Rattle.om_statements.specs.declared.spot.LoopLabels.{LoopLabels}
 use Rattle.om_lower.specs.Parts.{part_head}
-use Rattle.om_emit.specs.Emits.{names_at}
+use Rattle.om_statements.specs.Emits.{names_at}
 use Rattle.om_rows.specs.Scopes.{sections_head}
 use Rattle.om_lower.proofs.Begun.{sections_begin, writes_list}
 use Rattle.om_statements.specs.Scoping.{stand_ahead}

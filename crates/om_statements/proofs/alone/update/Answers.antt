@@ -1,4 +1,4 @@
-use Rattle.om_emit.specs.Emits.{names_at}
+use Rattle.om_statements.specs.Emits.{names_at}
 use Rattle.om_statements.proofs.Leaves.{atomic_element_is, atomic_is, emits_then, emits_then_one}
 use Rattle.om_statements.proofs.alone.update.Goals as goal
 

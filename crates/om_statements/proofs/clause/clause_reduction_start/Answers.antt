@@ -2,7 +2,7 @@ use Rattle.std.proofs.Common.{ap, ◌∙◌}
 use Rattle.om_resolved.specs.ResolvedView as view
 use Rattle.om_statements.proofs.Scoped.{team_stands}
 use Rattle.om_statements.specs.Scoped.{team_from}
-use Rattle.om_emit.specs.Emits.{names_at}
+use Rattle.om_statements.specs.Emits.{names_at}
 use Rattle.om_statements.proofs.clause.clause_reduction_start.Goals as goal
 
 pub returns-clause-scopes : goal.returns-clause-scopes

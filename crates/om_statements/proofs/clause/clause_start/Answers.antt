@@ -1,6 +1,6 @@
 use Rattle.om_resolved.specs.ResolvedView as view
 use Rattle.om_statements.proofs.Scoped.{copy_stands}
-use Rattle.om_emit.specs.Emits.{names_at}
+use Rattle.om_statements.specs.Emits.{names_at}
 use Rattle.om_statements.proofs.clause.clause_start.Goals as goal
 
 pub returns-clause-scopes : goal.returns-clause-scopes

@@ -1,6 +1,6 @@
 use Rattle.std.proofs.Common.{◌+◌, None, arith, drop}
 use Rattle.std.proofs.lemmas.List.{drop_all}
-use Rattle.om_emit.specs.Writing.{goes_end}
+use Rattle.om_statements.specs.Writing.{goes_end}
 use Rattle.om_rows.specs.Rows.{end}
 use Rattle.om_rows.specs.Scopes.{parameter_scope}
 use Rattle.om_statements.proofs.ScopeStacks.{left_one}

@@ -1,5 +1,5 @@
 use Rattle.std.proofs.Common.{drop}
-use Rattle.om_emit.specs.Drafts.{Written}
+use Rattle.om_statements.specs.Drafts.{Written}
 use Rattle.om_rows.specs.Scopes.{each_scope, parameter_scope}
 use Rattle.om_statements.specs.Scoping.{ScopesOn}
 use Rattle.om_rows.specs.Numbered.{Numbered}

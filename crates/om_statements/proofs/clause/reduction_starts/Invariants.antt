@@ -2,7 +2,7 @@ use Rattle.std.proofs.Common.{drop, length, map}
 use Rattle.om_resolved.specs.ResolvedView as view
 use Rattle.om_rows.specs.Scopes.{each_scope, team_scope}
 use Rattle.om_rows.specs.Statements.{clause_reduction_start}
-use Rattle.om_emit.specs.Emits.{names_at}
+use Rattle.om_statements.specs.Emits.{names_at}
 use Rattle.om_statements.specs.Each.{GoesOn}
 use Rattle.om_statements.specs.Scoping.{ScopesOn}
 use Rattle.om_statements.proofs.clause.reduction_starts.Given as goal

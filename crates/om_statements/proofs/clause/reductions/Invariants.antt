@@ -1,7 +1,7 @@
 use Rattle.std.proofs.Common.{drop, length}
 use Rattle.om_resolved.specs.ResolvedView as view
 use Rattle.om_rows.specs.Statements.{combine_clause}
-use Rattle.om_emit.specs.Emits.{names_at}
+use Rattle.om_statements.specs.Emits.{names_at}
 use Rattle.om_statements.specs.Each.{GoesOn}
 use Rattle.om_statements.proofs.clause.reductions.Given as goal
 

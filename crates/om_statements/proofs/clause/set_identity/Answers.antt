@@ -1,7 +1,7 @@
 use Rattle.std.proofs.Common.{rules, ◌≡◌, ℕ, ℤ, subst, ◌∙◌}
 use Rattle.om_code.specs.declared.instruction.Instr.TheVariants as i
-use Rattle.om_emit.specs.Drafts.{Puts, Written}
-use Rattle.om_emit.specs.Emits.{names_at}
+use Rattle.om_statements.specs.Drafts.{Puts, Written}
+use Rattle.om_statements.specs.Emits.{names_at}
 use Rattle.om_statements.proofs.Leaves.{emits_two}
 use Rattle.om_statements.proofs.clause.set_identity.Goals as goal
 

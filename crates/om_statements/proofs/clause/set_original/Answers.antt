@@ -1,4 +1,4 @@
-use Rattle.om_emit.specs.Emits.{names_at}
+use Rattle.om_statements.specs.Emits.{names_at}
 use Rattle.om_statements.proofs.Leaves.{emits_two}
 use Rattle.om_statements.proofs.clause.set_original.Goals as goal
 

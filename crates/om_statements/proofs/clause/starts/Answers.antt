@@ -5,7 +5,7 @@ use Rattle.om_rows.specs.Scopes.{clause_scope}
 use Rattle.om_statements.specs.Each.{begin_each, end_each, next_each}
 use Rattle.om_statements.proofs.ScopeStacks.{left_one}
 use Rattle.om_statements.specs.Scoping.{each_end, each_next, scopes_begin}
-use Rattle.om_emit.specs.Emits.{names_at}
+use Rattle.om_statements.specs.Emits.{names_at}
 use Rattle.om_statements.proofs.clause.starts.Goals as goal
 
 pub loop-clause-init : goal.loop-clause-init

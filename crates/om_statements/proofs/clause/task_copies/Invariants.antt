@@ -1,5 +1,5 @@
 use Rattle.std.proofs.Common.{drop, map}
-use Rattle.om_emit.specs.Drafts.{Written}
+use Rattle.om_statements.specs.Drafts.{Written}
 use Rattle.om_resolved.specs.ResolvedView as view
 use Rattle.om_rows.specs.Scopes.{each_scope, task_scope}
 use Rattle.om_statements.specs.Scoping.{ScopesOn}

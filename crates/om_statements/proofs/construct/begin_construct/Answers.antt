@@ -1,6 +1,6 @@
 use Rattle.std.proofs.Common.{ap, map}
 use Rattle.om_code.specs.declared.instruction.Instr.TheVariants as i
-use Rattle.om_emit.specs.Emits.{names_at}
+use Rattle.om_statements.specs.Emits.{names_at}
 use Rattle.om_statements.proofs.Leaves.{emits_one, emits_put_then, emits_then_one, emits_two}
 use Rattle.om_statements.specs.Going.{begins, puts_is}
 use Rattle.om_resolved.specs.ResolvedView as view

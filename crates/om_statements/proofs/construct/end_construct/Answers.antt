@@ -1,6 +1,6 @@
 use Rattle.std.proofs.Common.{ap}
 use Rattle.om_code.specs.declared.instruction.Instr.TheVariants as i
-use Rattle.om_emit.specs.Emits.{names_at}
+use Rattle.om_statements.specs.Emits.{names_at}
 use Rattle.om_statements.specs.Going.{puts_is}
 use Rattle.om_statements.proofs.Opened.{ends_here, ends_put, ends_put_here}
 use Rattle.om_statements.proofs.construct.end_construct.Goals as goal

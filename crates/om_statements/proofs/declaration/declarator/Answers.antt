@@ -1,7 +1,7 @@
 use Rattle.om_resolved.specs.ResolvedView as view
 use Rattle.om_rows.specs.Statements.{declarator}
 use Rattle.om_statements.specs.Scoping.{stand_opens}
-use Rattle.om_emit.specs.Emits.{names_at}
+use Rattle.om_statements.specs.Emits.{names_at}
 use Rattle.om_statements.proofs.declaration.declarator.Goals as goal
 
 pub returns-clause-scopes : goal.returns-clause-scopes

@@ -6,7 +6,7 @@ use Rattle.om_rows.specs.Scopes.{declarator_scope}
 use Rattle.om_statements.specs.Each.{all_item, begin_each, end_each, next_each}
 use Rattle.om_statements.proofs.ScopeStacks.{left_one}
 use Rattle.om_statements.specs.Scoping.{each_end, each_next, scopes_begin}
-use Rattle.om_emit.specs.Emits.{names_at}
+use Rattle.om_statements.specs.Emits.{names_at}
 use Rattle.om_statements.proofs.declaration.declarators.Goals as goal
 
 pub loop-one-init : goal.loop-one-init

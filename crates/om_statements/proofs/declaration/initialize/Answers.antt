@@ -1,4 +1,4 @@
-use Rattle.om_emit.specs.Emits.{names_at}
+use Rattle.om_statements.specs.Emits.{names_at}
 use Rattle.om_statements.proofs.Leaves.{emits_then_one}
 use Rattle.om_statements.proofs.declaration.initialize.Goals as goal
 

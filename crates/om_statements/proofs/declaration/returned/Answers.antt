@@ -1,6 +1,6 @@
 use Rattle.std.proofs.Common.{◌∙◌, ap, true, false}
 use Rattle.om_resolved.specs.ResolvedView as view
-use Rattle.om_emit.specs.Emits.{names_at}
+use Rattle.om_statements.specs.Emits.{names_at}
 use Rattle.om_rows.specs.Statements.{last_instruction}
 use Rattle.om_statements.proofs.Leaves.{returned_none, returned_some}
 use Rattle.om_statements.proofs.declaration.returned.Goals as goal

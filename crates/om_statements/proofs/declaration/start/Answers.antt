@@ -1,9 +1,9 @@
-use Rattle.om_emit.specs.Writing.{goes_end}
+use Rattle.om_statements.specs.Writing.{goes_end}
 use Rattle.om_resolved.specs.ResolvedView as view
 use Rattle.om_rows.specs.Expressions.{effect}
 use Rattle.om_rows.specs.Rows.{end}
 use Rattle.om_statements.specs.Scoping.{stand_plain}
-use Rattle.om_emit.specs.Emits.{names_at}
+use Rattle.om_statements.specs.Emits.{names_at}
 use Rattle.om_statements.proofs.declaration.start.Goals as goal
 
 pub returns-in-Nothing-clause-scopes : goal.returns-in-Nothing-clause-scopes

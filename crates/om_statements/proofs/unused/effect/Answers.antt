@@ -1,8 +1,8 @@
 use Rattle.std.proofs.Common.{pos, Some, false, ap, sym, ◌∙◌}
 use Rattle.std.proofs.lemmas.Result.{on_ok_weaker}
-use Rattle.om_emit.specs.Elements.{emits_element_assigned, target_is}
-use Rattle.om_emit.specs.Emits.{listed, names_at}
-use Rattle.om_emit.specs.Views.{view_assign_element, view_call, view_postfix_element, view_print}
+use Rattle.om_statements.specs.Elements.{emits_element_assigned, target_is}
+use Rattle.om_statements.specs.Emits.{listed, names_at}
+use Rattle.om_statements.specs.Views.{view_assign_element, view_call, view_postfix_element, view_print}
 use Rattle.om_resolved.specs.ResolvedTree as trees
 use Rattle.om_resolved.specs.ResolvedView as view
 use Rattle.om_rows.specs.Expressions.{constant, value}

@@ -1,5 +1,5 @@
 use Rattle.std.proofs.lemmas.Result.{on_ok_weaker}
-use Rattle.om_emit.specs.Emits.{names_at}
+use Rattle.om_statements.specs.Emits.{names_at}
 use Rattle.om_resolved.specs.ResolvedView as view
 use Rattle.om_statements.proofs.Effects.{emits_popped}
 use Rattle.om_statements.proofs.unused.popped.Goals as goal

@@ -1,7 +1,7 @@
 use Rattle.std.proofs.Common.{arith}
 use Rattle.std.proofs.lemmas.Result.{on_ok_weaker}
-use Rattle.om_emit.specs.Emits.{listed, names_at}
-use Rattle.om_emit.specs.Arguments.{counted, few}
+use Rattle.om_statements.specs.Emits.{listed, names_at}
+use Rattle.om_statements.specs.Arguments.{counted, few}
 use Rattle.om_statements.proofs.Effects.{emits_print}
 use Rattle.om_statements.proofs.unused.print.Goals as goal
 

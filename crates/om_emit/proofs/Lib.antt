@@ -1,4 +1,0 @@
-pub mod Singles
-pub mod Expressions
-pub mod Jumping
-pub mod Labels

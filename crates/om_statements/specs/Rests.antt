@@ -1,0 +1,95 @@
+-- Rows of parts of expressions: an assignment, and what stands behind an operand or an index.
+use Rattle.std.specs.Prelude.{ℕ, pos, Option, None, Result, Some, Bool, true}
+use Rattle.om_code.specs.declared.instruction.BinaryOperator as machine
+use Rattle.om_code.specs.declared.instruction.Instr.TheVariants as i
+use Rattle.om_code.specs.declared.instruction.UnaryOperator.TheVariants as unary
+use Rattle.om_statements.specs.declared.expression.Target.{Target}
+use Rattle.om_statements.specs.declared.here.Here.{Here}
+use Rattle.om_statements.specs.Drafts.{Written}
+use Rattle.om_statements.specs.Emits.{Appends, AppendsBy}
+use Rattle.om_resolved.specs.declared.resolved.ResolvedExpression.{ResolvedExpression}
+use Rattle.om_resolved.specs.declared.resolved.UnaryOperator.{UnaryOperator}
+use Rattle.om_resolved.specs.declared.resolved.UnaryOperator.TheVariants as unaries
+use Rattle.om_resolved.specs.declared.resolved.Variable as variables
+use Rattle.om_resolved.specs.ResolvedTree.{ResolvedExpressionTree, ValuesTree}
+use Rattle.om_resolved.specs.ResolvedView as view
+use Rattle.om_rows.specs.Expressions.{assigned, called, constant, stepped_back, value, values}
+use Rattle.om_rows.specs.Operators.{BinaryForm, Both, Either, Plain, compound_of, step_of, inverse_step_of}
+use Rattle.om_rows.specs.Rows.{Site, Row, end, ins, part, here, fresh_two, fresh_three, ◌▸◌}
+use Rattle.om_rows.specs.Slots.{place}
+use Rattle.om_tree.specs.declared.tree.AssignOperator.{AssignOperator}
+use Rattle.om_tree.specs.declared.tree.PostfixOperator.{PostfixOperator}
+
+-- `x = e` and `x op= e`
+abbrev pub assignment : Site → ℕ → Bool → variables.Variable → AssignOperator → ResolvedExpressionTree → Row
+assignment at l keeps x operator e = assigned at l keeps x (compound_of operator) (value at l e)
+
+-- `x++` and `x--`, which do with x and 1 what `x += 1` and `x -= 1` do
+abbrev pub stepped : Site → ℕ → Bool → variables.Variable → PostfixOperator → Row
+stepped at l keeps x operator = assigned at l keeps x (Some (step_of operator)) (constant at l (pos 1))
+
+-- a call, with its values
+abbrev pub call : Site → ℕ → ℕ → ValuesTree → Row
+call at l function es = called at l function es (values at l es)
+
+-- behind the operand of a unary operator
+abbrev pub unary_rest : Site → ℕ → UnaryOperator → Row
+unary_rest at l unaries.Plus = end
+unary_rest at l unaries.Negate = ins at l (i.Unary unary.Negate) ▸ end
+unary_rest at l unaries.Not = ins at l (i.Unary unary.Not) ▸ end
+
+-- 1 where the value on top is not 0, and 0 where it is; what jumped to the label f gets the 0, and what jumped to
+-- the label e goes on behind it
+abbrev pub truth_row : Site → ℕ → (f e : ℕ) → Row
+truth_row at l f e =
+    ins at l (i.JumpIfZero f) ▸ ins at l (i.Constant (pos 1)) ▸ ins at l (i.Jump e)
+    ▸ here f ▸ ins at l (i.Constant (pos 0)) ▸ here e ▸ end
+
+-- behind the left operand of an operator between two
+abbrev pub binary_rest : Site → ℕ → BinaryForm → ResolvedExpressionTree → Row
+binary_rest at l Both b = fresh_two (λ f e.
+    ins at l (i.JumpIfZero f) ▸ part (value at l b) ▸ truth_row at l f e)
+binary_rest at l Either b = fresh_three (λ n f e.
+    ins at l (i.JumpIfZero n) ▸ ins at l (i.Constant (pos 1)) ▸ ins at l (i.Jump e)
+    ▸ here n ▸ part (value at l b) ▸ truth_row at l f e)
+binary_rest at l (Plain operator) b = part (value at l b) ▸ ins at l (i.Binary operator) ▸ end
+
+-- behind the index of an assignment to an element
+abbrev pub element_rest : Site → ℕ → Bool → variables.Variable → Option machine.BinaryOperator → Row → Row
+element_rest at l keeps a None e = part e ▸ ins at l (i.StoreElement (place at a) keeps) ▸ end
+element_rest at l keeps a (Some operator) e =
+    ins at l i.Duplicate ▸ ins at l (i.LoadElement (place at a)) ▸ part e
+    ▸ ins at l (i.Binary operator) ▸ ins at l (i.StoreElement (place at a) keeps) ▸ end
+
+-- behind the index of `a[j] = e` and `a[j] op= e`
+abbrev pub assignment_rest : Site → ℕ → Bool → variables.Variable → AssignOperator
+    → ResolvedExpressionTree → Row
+assignment_rest at l keeps a operator e = element_rest at l keeps a (compound_of operator) (value at l e)
+
+-- behind the index of `a[j]++` and `a[j]--`, without and with their value
+abbrev pub stepped_rest : Site → ℕ → Bool → variables.Variable → PostfixOperator → Row
+stepped_rest at l keeps a operator =
+    element_rest at l keeps a (Some (step_of operator)) (constant at l (pos 1))
+
+abbrev pub postfix_rest : Site → ℕ → variables.Variable → PostfixOperator → Row
+postfix_rest at l a operator = part (stepped_rest at l true a operator) ▸ stepped_back at l (inverse_step_of operator)
+
+-- ---- what a function writes of an expression, unless memory runs out
+
+-- it is the right operand, and what an operator of this form does with both
+abbrev pub AppendsOperand : {T E : Type 0} → Result T E → Here → BinaryForm → ResolvedExpression → Written → Written
+    → Type 0
+AppendsOperand result here form right old new =
+    AppendsBy result here binary_rest form (view.expression right) old new
+
+-- it is assigned to a variable
+abbrev pub AppendsAssignment : {T E : Type 0} → Result T E → Here → Target → ResolvedExpression → Written → Written
+    → Type 0
+AppendsAssignment result here to e old new =
+    Appends result here (λ at l. assignment at l to.keeps to.variable to.operator) (view.expression e) old new
+
+-- it is assigned to an element, whose index stands before it
+abbrev pub AppendsElement : {T E : Type 0} → Result T E → Here → Target → ResolvedExpression → Written → Written
+    → Type 0
+AppendsElement result here to e old new =
+    Appends result here (λ at l. assignment_rest at l to.keeps to.variable to.operator) (view.expression e) old new
