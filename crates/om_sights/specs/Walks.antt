@@ -82,8 +82,8 @@ abbrev pub Passes : {X : Type 0} → (behind : Numbers → X → Numbers) → (x
 Passes behind x old new = numbers_of new.numbers ≡ behind (numbers_of old.numbers) x
 
 -- it adds the numbers behind each body in x
-abbrev pub Adds : {X : Type 0} → (ends : Numbers → X → List Numbers) → (x : X) → Walk → Walk → Type 0
-Adds ends x old new =
+abbrev pub AddsEnds : {X : Type 0} → (ends : Numbers → X → List Numbers) → (x : X) → Walk → Walk → Type 0
+AddsEnds ends x old new =
     map numbers_of new.ends.items ≡ map numbers_of old.ends.items ++ ends (numbers_of old.numbers) x
 
 -- the numbers behind the body of a region, which is the next one

@@ -11,7 +11,7 @@ ghost use Rattle.om_rows.specs.Ends.{all_region_ends, body_ends, parts_region_en
 ghost use Rattle.om_sights.specs.Noted.{AreNoted, noted};
 ghost use Rattle.om_sights.specs.Room.{HasRoom, HasTextRoom, IsRoomFor};
 ghost use Rattle.om_sights.specs.Trees.{listed, part_trees, perhaps_tree, statement_trees};
-ghost use Rattle.om_sights.specs.Walks.{Adds, Finds, Passes, behind_body, by_clause, by_clauses, by_declarators, by_head, by_loop, by_parts, by_perhaps, by_start, by_statement, by_statements, by_update, by_value, head_weight};
+ghost use Rattle.om_sights.specs.Walks.{AddsEnds, Finds, Passes, behind_body, by_clause, by_clauses, by_declarators, by_head, by_loop, by_parts, by_perhaps, by_start, by_statement, by_statements, by_update, by_value, head_weight};
 
 use om_resolved::{
     ConstructKind, Made, ResolvedClause, ResolvedDeclarator, ResolvedExpression, ResolvedHead,
@@ -227,7 +227,7 @@ pub(crate) fn put_end(ends: &mut Vec<Numbers>, index: usize, behind: Numbers)
 fn note_region(walk: &mut Walk, body: &ResolvedStatement) -> Made<()>
     requires room { HasRoom (1 + statement_weight (view.statement body.now)) walk.old }
     ensures behind { OnOk result (Passes behind_body (view.statement body.now) walk.old walk.new) }
-    ensures ends { OnOk result (Adds body_ends (view.statement body.now) walk.old walk.new) }
+    ensures ends { OnOk result (AddsEnds body_ends (view.statement body.now) walk.old walk.new) }
     ensures noted { OnOk result (Finds (by_statement body.now) walk.old walk.new) }
 {
     let inner = walk.numbers.next_body();
@@ -244,7 +244,7 @@ fn note_region(walk: &mut Walk, body: &ResolvedStatement) -> Made<()>
 fn note_statement(walk: &mut Walk, statement: &ResolvedStatement) -> Made<()>
     requires room { HasRoom (statement_weight (view.statement statement.now)) walk.old }
     ensures behind { OnOk result (Passes behind (view.statement statement.now) walk.old walk.new) }
-    ensures ends { OnOk result (Adds region_ends (view.statement statement.now) walk.old walk.new) }
+    ensures ends { OnOk result (AddsEnds region_ends (view.statement statement.now) walk.old walk.new) }
     ensures noted { OnOk result (Finds (by_statement statement.now) walk.old walk.new) }
 {
     match statement {
@@ -332,7 +332,7 @@ fn note_statement(walk: &mut Walk, statement: &ResolvedStatement) -> Made<()>
 pub(crate) fn note_statements(walk: &mut Walk, items: &[ResolvedStatement]) -> Made<()>
     requires room { HasRoom (statements_weight (statement_trees items.now)) walk.old }
     ensures behind { OnOk result (Passes behind_all (statement_trees items.now) walk.old walk.new) }
-    ensures ends { OnOk result (Adds all_region_ends (statement_trees items.now) walk.old
+    ensures ends { OnOk result (AddsEnds all_region_ends (statement_trees items.now) walk.old
         walk.new) }
     ensures noted { OnOk result (Finds (by_statements items.now) walk.old walk.new) }
 {
@@ -347,7 +347,7 @@ pub(crate) fn note_statements(walk: &mut Walk, items: &[ResolvedStatement]) -> M
 fn note_parts(walk: &mut Walk, parts: &[ResolvedPart]) -> Made<()>
     requires room { HasRoom (parts_weight (part_trees parts.now)) walk.old }
     ensures behind { OnOk result (Passes behind_parts (part_trees parts.now) walk.old walk.new) }
-    ensures ends { OnOk result (Adds parts_region_ends (part_trees parts.now) walk.old walk.new) }
+    ensures ends { OnOk result (AddsEnds parts_region_ends (part_trees parts.now) walk.old walk.new) }
     ensures noted { OnOk result (Finds (by_parts parts.now) walk.old walk.new) }
 {
     for part in parts {

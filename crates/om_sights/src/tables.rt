@@ -8,7 +8,7 @@ ghost use Rattle.om_rows.specs.Bodies as bodies;
 ghost use Rattle.om_rows.specs.Ends.{function_ends};
 ghost use Rattle.om_sights.specs.Noted.{AddsCells};
 ghost use Rattle.om_sights.specs.Room.{HasRoom};
-ghost use Rattle.om_sights.specs.Walks.{Adds, Finds, HasFormats, HasLocks, HaveEnds, HaveFormats, HaveLocks, Passes, by_function, last_numbers};
+ghost use Rattle.om_sights.specs.Walks.{AddsEnds, Finds, HasFormats, HasLocks, HaveEnds, HaveFormats, HaveLocks, Passes, by_function, last_numbers};
 ghost use Rattle.om_rows.specs.Numbering.{function_numbers, numbers_of};
 ghost use Rattle.om_rows.specs.ProgramTables.{AreCellsOf, IsTablesOf};
 
@@ -101,7 +101,7 @@ fn note_function(made: &mut Functions, function: &ResolvedFunction) -> Made<()>
     ensures empty { OnOk result (made.new.walk.found.extents ≡ []) }
     ensures bodies { OnOk result (made.new.bodies.items
         ≡ made.old.bodies.items ++ made.old.walk.numbers.bodies ∷ []) }
-    ensures ends { OnOk result (Adds function_ends (view.function function.now) made.old.walk
+    ensures ends { OnOk result (AddsEnds function_ends (view.function function.now) made.old.walk
         made.new.walk) }
     ensures cells { let tree = view.function function.now in
         OnOk result (AddsCells tree made.old.extents.items made.new.extents.items) }
@@ -119,7 +119,7 @@ fn note_body(walk: &mut Walk, function: &ResolvedFunction) -> Made<()>
     requires room { HasRoom (function_weight (view.function function.now)) walk.old }
     ensures behind { OnOk result (Passes bodies.behind_function (view.function function.now)
         walk.old walk.new) }
-    ensures ends { OnOk result (Adds function_ends (view.function function.now) walk.old walk.new) }
+    ensures ends { OnOk result (AddsEnds function_ends (view.function function.now) walk.old walk.new) }
     ensures noted { OnOk result (Finds (by_function function.now) walk.old walk.new) }
 {
     let inner = walk.numbers.next_body();
