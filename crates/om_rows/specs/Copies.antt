@@ -17,7 +17,7 @@ first_copies_of copies = map first_copy copies
 abbrev pub copied_variables : List rows.FirstCopy → List ℕ
 copied_variables copies = map (λ copy. copy.variable) copies
 
--- those of clauses that begin with their originals' values
+-- the copies of clauses that begin with their originals' values
 abbrev pub clauses_first : List ResolvedClause → List rows.FirstCopy
 clauses_first clauses = flat_map rows.clause_first (map view.clause clauses)
 
