@@ -11,7 +11,7 @@ use Rattle.om_rows.specs.Scopes.{loop_head, opens, sections_head, start_scopes, 
 use Rattle.om_rows.specs.Statements.{test}
 use Rattle.om_statements.specs.declared.spot.TurnLabels.{TurnLabels}
 use Rattle.om_statements.specs.declared.writing.ScopeStack.{ScopeStack}
-use Rattle.om_statements.specs.Scoped.{BeginsScope, ScopesStand}
+use Rattle.om_statements.specs.Scoped.{BeginsOneScope, ScopesStand}
 use Rattle.om_statements.specs.Scoping.{counted, stand_after, stand_before, stand_behind, stand_both, stand_opens}
 use Rattle.om_statements.specs.Scoping.{writes_as, writes_behind, writes_fresh, writes_here, writes_put}
 use Rattle.om_statements.specs.Stretches.{FreshTurn}
@@ -70,7 +70,7 @@ module _ (names : Numbered) where
   pub loop_begins : (l : ℕ) (clauses : List ResolvedClauseTree) (loop : ResolvedLoopTree) (chunk again over from : ℕ)
       (v w u : Instr) (a b c d e f g h i j : Written) (x y z : ScopeStack)
       → Fresh chunk a b → Fresh again b c → Fresh over c d → Stand (λ at. bounds_scopes at l clauses loop) d x e y
-      → from ≡ length e.code → BeginsScope from None loop.variable y z → Puts l v e f → Defines chunk f g → Puts l w g h
+      → from ≡ length e.code → BeginsOneScope from None loop.variable y z → Puts l v e f → Defines chunk f g → Puts l w g h
       → Defines again h i → Puts l u i j → Stand (λ at. loop_head at l clauses loop) a x j z
   loop_begins l clauses loop chunk again over from v w u a b c d e f g h i j x y z m n o bounds here begun p q r s t =
       stand_behind names (λ at. loop_head at l clauses loop) a d x j z

@@ -69,8 +69,8 @@ WritesSiteBody tables site old new =
     let b = body_in [] site in
     EmitsBody (numbered_by tables) b.numbers b.function b.tree old.draft new.draft
 
-abbrev pub ScopesSiteBody : BodyTables → Site → Writing → Writing → Type 0
-ScopesSiteBody tables site old new =
+abbrev pub WritesSiteScopes : BodyTables → Site → Writing → Writing → Type 0
+WritesSiteScopes tables site old new =
     let b = body_in [] site in
     EmitsScopes (numbered_by tables) (λ at. body_scopes at b.function b.tree) old new
 
@@ -79,8 +79,8 @@ abbrev pub WritesOwnBody : BodyTables → tables.Numbers → ResolvedFunction �
 WritesOwnBody tables numbers f old new =
     EmitsBody (numbered_by tables) (numbers_of numbers) (view.function f) FunctionBody old.draft new.draft
 
-abbrev pub ScopesOwnBody : BodyTables → ResolvedFunction → Writing → Writing → Type 0
-ScopesOwnBody tables f old new =
+abbrev pub WritesOwnScopes : BodyTables → ResolvedFunction → Writing → Writing → Type 0
+WritesOwnScopes tables f old new =
     EmitsScopes (numbered_by tables) (λ at. body_scopes at (view.function f) FunctionBody) old new
 
 -- the body of a `parallel`, which each thread of a team runs
@@ -88,13 +88,13 @@ abbrev pub WritesParallelBody : BodyTables → tables.Numbers → Region → Wri
 WritesParallelBody tables numbers region old new =
     EmitsRegion (numbered_by tables) (numbers_of numbers) (parallel_tree region) old.draft new.draft
 
-abbrev pub ScopesParallelBody : BodyTables → Region → Writing → Writing → Type 0
-ScopesParallelBody tables region old new = EmitsRegionScopes (numbered_by tables) (parallel_tree region) old new
+abbrev pub WritesParallelScopes : BodyTables → Region → Writing → Writing → Type 0
+WritesParallelScopes tables region old new = EmitsRegionScopes (numbered_by tables) (parallel_tree region) old new
 
 -- the body of a `task`
 abbrev pub WritesTaskBody : BodyTables → tables.Numbers → Region → Writing → Writing → Type 0
 WritesTaskBody tables numbers region old new =
     EmitsRegion (numbered_by tables) (numbers_of numbers) (task_tree region) old.draft new.draft
 
-abbrev pub ScopesTaskBody : BodyTables → Region → Writing → Writing → Type 0
-ScopesTaskBody tables region old new = EmitsRegionScopes (numbered_by tables) (task_tree region) old new
+abbrev pub WritesTaskScopes : BodyTables → Region → Writing → Writing → Type 0
+WritesTaskScopes tables region old new = EmitsRegionScopes (numbered_by tables) (task_tree region) old new

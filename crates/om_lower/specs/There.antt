@@ -1,4 +1,4 @@
--- What is promised of a statement that is written where a spot says.
+-- What contracts of `statement` name: what is promised of statements and parts where a spot says, `There` in a name.
 use Rattle.std.specs.Prelude.{◌≡◌, List, IfOk, OnOk, Result, is_some}
 use Rattle.om_lower.specs.Parts.{EmitsParts}
 use Rattle.om_lower.specs.declared.worksharing.PartsSpot.{PartsSpot}

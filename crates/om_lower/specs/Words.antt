@@ -1,6 +1,6 @@
 -- The words of the clauses of this crate, so that a file takes them from one place.
 pub use Rattle.om_lexer.specs.Faults.{no_memory}
-pub use Rattle.om_lower.specs.Emitted.{FitsRow, ScopesOwnBody, ScopesParallelBody, ScopesSiteBody, ScopesTaskBody}
+pub use Rattle.om_lower.specs.Emitted.{FitsRow, WritesOwnScopes, WritesParallelScopes, WritesSiteScopes, WritesTaskScopes}
 pub use Rattle.om_lower.specs.Emitted.{WritesOwnBody, WritesParallelBody, WritesSiteBody, WritesTaskBody}
 pub use Rattle.om_lower.specs.Frames.{FitsSlots, FitsFrame}
 pub use Rattle.om_lower.specs.Heights.{AreLow}
@@ -16,8 +16,8 @@ pub use Rattle.om_lower.specs.Refusals.{IsRefusal, too_many}
 pub use Rattle.om_lower.specs.Regions.{GivesBehind}
 pub use Rattle.om_lower.specs.There.{EmitsAllThere, EmitsThere, GivesAllBehind, HasCodeThere, HasEndsThere}
 pub use Rattle.om_lower.specs.There.{EmitsPartsThere, GivesPartsBehind, HaveCodeThere, HaveEndsThere, ScopesThere}
-pub use Rattle.om_lower.specs.Turns.{BeginsElse, BeginsFor, BeginsIf, BeginsWorksharing, BeginsParts, EndsDo, EndsFor}
-pub use Rattle.om_lower.specs.Turns.{EndsLoop, EndsWorksharing, ScopesFor, ScopesWorksharing, ScopesParts}
+pub use Rattle.om_lower.specs.BeginsAndEnds.{BeginsElse, BeginsFor, BeginsIf, BeginsWorksharing, BeginsParts, EndsDo, EndsFor}
+pub use Rattle.om_lower.specs.BeginsAndEnds.{EndsLoop, EndsWorksharing, ScopesFor, ScopesWorksharing, ScopesParts}
 pub use Rattle.om_statements.specs.Drafts.{settled_code}
 pub use Rattle.om_statements.specs.Emits.{Appends}
 pub use Rattle.om_statements.specs.Settled.{ListsStand, number_of, settled_lists}
@@ -26,12 +26,12 @@ pub use Rattle.om_resolved.specs.Formats.{pieces_of}
 pub use Rattle.om_resolved.specs.Uses.{is_main_function}
 pub use Rattle.om_resolved.specs.Weights.{HasSmallWeight}
 pub use Rattle.om_resolved.specs.Whole.{IsWholeTree}
-pub use Rattle.om_rows.specs.Bodies.{FunctionBody, called_body, region_variables, variables_of}
+pub use Rattle.om_rows.specs.Bodies.{FunctionBody, called_body, variables_of}
 pub use Rattle.om_rows.specs.BodyTables.{numbered_by}
 pub use Rattle.om_rows.specs.Code.{IsCodeOf, captures_of, given_of, global_of}
 pub use Rattle.om_rows.specs.Coded.{BodyHasCode, PartsHaveCode, StatementHasCode}
 pub use Rattle.om_rows.specs.Coded.{EffectHasCode, LoopHasCode, StartHasCode, ValueHasCode}
-pub use Rattle.om_rows.specs.Copies.{first_copies_of}
+pub use Rattle.om_rows.specs.Copies.{GivesSlots, copied_variables, first_copies_of}
 pub use Rattle.om_rows.specs.Ends.{HasBodyEnds, HasEnds, HasPartsEnds}
 pub use Rattle.om_rows.specs.MeaningLaws.{KeepsMeaning}
 pub use Rattle.om_rows.specs.Mentions.{IsTextOf}
@@ -40,8 +40,7 @@ pub use Rattle.om_rows.specs.Operators.{comparison_of, form_with, schedule_in}
 pub use Rattle.om_rows.specs.ProgramTables.{ends_in, known_in}
 pub use Rattle.om_rows.specs.Rows.{each, perhaps}
 pub use Rattle.om_rows.specs.Scopes.{all_scopes, block, names_with, part_scopes, scope_in, scopes, slot_among}
-pub use Rattle.om_rows.specs.Slots.{slot_of, slot_with}
-pub use Rattle.om_rows.specs.Statements.{given_copies}
+pub use Rattle.om_rows.specs.Slots.{slot_with}
 pub use Rattle.om_sights.specs.Regions.{statement_of}
 pub use Rattle.om_sights.specs.Sites.{bodies_in, body_in, body_round, innermost, part_tree, round_with, variables_at}
 pub use Rattle.om_sights.specs.Trees.{part_trees, statement_trees}

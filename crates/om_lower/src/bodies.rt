@@ -1,12 +1,12 @@
 //! The bodies of a function, each within its limits.
 
 ghost use Rattle.std.specs.Prelude.{◌≡◌, ◌≤◌, ◌∷◌, ◌++◌, [], All, Any, IfOk, OnOk, false, length, map, true};
-ghost use Rattle.om_lower.specs.Words.{AddsBody, AreAdded, FitsSlots, FitsCode, HasFewSlots, HasManySlots};
-ghost use Rattle.om_lower.specs.Words.{HasSlots, IsInput, IsListed, IsReady, IsReadyIn, IsSeen, bodies_in};
-ghost use Rattle.om_lower.specs.Words.{body_in, body_round, captures_of, given_copies, given_of, innermost};
-ghost use Rattle.om_lower.specs.Words.{known_bodies, known_tree, part_tree, region_variables, round_with};
-ghost use Rattle.om_lower.specs.Words.{seen_body, seen_tree, slot_of, statement_of, tree_of, variables_at};
-ghost use Rattle.om_lower.specs.Words.{variables_of};
+ghost use Rattle.om_lower.specs.Regions.{given_to, slots_of};
+ghost use Rattle.om_lower.specs.Words.{AddsBody, AreAdded, FitsSlots, FitsCode, GivesSlots, HasFewSlots};
+ghost use Rattle.om_lower.specs.Words.{HasManySlots, HasSlots, IsInput, IsListed, IsReady, IsReadyIn, IsSeen};
+ghost use Rattle.om_lower.specs.Words.{bodies_in, body_in, body_round, captures_of, copied_variables, given_of};
+ghost use Rattle.om_lower.specs.Words.{innermost, known_bodies, known_tree, part_tree, round_with, seen_body};
+ghost use Rattle.om_lower.specs.Words.{seen_tree, tree_of, variables_at, variables_of};
 ghost use Rattle.om_resolved.specs.ResolvedView as view;
 
 use crate::body::{Emitted, emitted_in};
@@ -257,12 +257,8 @@ fn given_in(seen: &SeenBody<'_>) -> Made<Seq<u32>>
 // The slots of the firstprivate copies of a region.
 fn copies_given(alloc: Global, region: &Region<'_>, variables: &Variables) -> Made<Seq<u32>>
     requires few { length variables.now ≤ 256 }
-    requires variables { let clauses = map view.clause region.now.clauses.now in
-        variables.now ≡ region_variables clauses (statement_of region.now) }
-    ensures { let clauses = map view.clause region.now.clauses.now in
-        let copies = given_copies clauses region.now.captures.now (statement_of region.now) in
-        IfOk result (λ slots. slots
-        ≡ map (slot_of variables.now) (map (λ copy. copy.variable) copies)) }
+    requires variables { variables.now ≡ slots_of region.now }
+    ensures { GivesSlots result variables.now (copied_variables (given_to region.now)) }
 {
     let copies = given_copies(alloc, region.clauses, region.captures, variables)?;
     copy_slots(alloc, variables, copies.as_slice())

@@ -2,7 +2,7 @@
 
 ghost use Rattle.std.specs.Prelude.{◌≡◌, ◌≤◌, [], IfOk, OnOk, false, length};
 ghost use Rattle.om_lower.specs.Words.{BodyHasCode, FitsRow, FunctionBody, HasBodyEnds, HasEnds};
-ghost use Rattle.om_lower.specs.Words.{ScopesOwnBody, ScopesParallelBody, ScopesSiteBody, ScopesTaskBody};
+ghost use Rattle.om_lower.specs.Words.{WritesOwnScopes, WritesParallelScopes, WritesSiteScopes, WritesTaskScopes};
 ghost use Rattle.om_lower.specs.Words.{StatementHasCode, WritesOwnBody, WritesParallelBody, WritesSiteBody};
 ghost use Rattle.om_lower.specs.Words.{WritesTaskBody, body_in, known_in, numbered_by, numbers_of, settled_code};
 ghost use Rattle.om_lower.specs.Words.{settled_lists, statement_of};
@@ -61,7 +61,7 @@ fn write(alloc: Global, writing: &mut Writing, tables: &BodyTables<'_>, site: &S
     requires regions { let b = body_in [] site.now in
         HasBodyEnds (known_in tables.now) b.numbers b.function b.tree }
     ensures code { OnOk result (WritesSiteBody tables.now site.now writing.old writing.new) }
-    ensures scopes { OnOk result (ScopesSiteBody tables.now site.now writing.old writing.new) }
+    ensures scopes { OnOk result (WritesSiteScopes tables.now site.now writing.old writing.new) }
 {
     match &site.part {
         BodyPart::Function => write_function(alloc, writing, tables, site.numbers, site.function),
@@ -82,7 +82,7 @@ fn write_function(
     requires ends { HasBodyEnds (known_in tables.now) (numbers_of numbers)
         (view.function function.now) FunctionBody }
     ensures code { OnOk result (WritesOwnBody tables.now numbers function.now writing.old writing.new) }
-    ensures scopes { OnOk result (ScopesOwnBody tables.now function.now writing.old writing.new) }
+    ensures scopes { OnOk result (WritesOwnScopes tables.now function.now writing.old writing.new) }
 {
     let height = writing.scopes.height();
     parameters(&mut writing.scopes, function.parameters.as_slice())?;
@@ -107,7 +107,7 @@ fn write_parallel(
     requires ends { HasEnds (known_in tables.now) (numbers_of numbers)
         (statement_of region.now) }
     ensures code { OnOk result (WritesParallelBody tables.now numbers region.now writing.old writing.new) }
-    ensures scopes { OnOk result (ScopesParallelBody tables.now region.now writing.old writing.new) }
+    ensures scopes { OnOk result (WritesParallelScopes tables.now region.now writing.old writing.new) }
 {
     let at = region.at;
     let here = Here { tables, at };
@@ -136,7 +136,7 @@ fn write_task(
     requires ends { HasEnds (known_in tables.now) (numbers_of numbers)
         (statement_of region.now) }
     ensures code { OnOk result (WritesTaskBody tables.now numbers region.now writing.old writing.new) }
-    ensures scopes { OnOk result (ScopesTaskBody tables.now region.now writing.old writing.new) }
+    ensures scopes { OnOk result (WritesTaskScopes tables.now region.now writing.old writing.new) }
 {
     let height = writing.scopes.height();
     task_copies(&mut writing.scopes, region.clauses)?;

@@ -13,7 +13,7 @@ use Rattle.om_rows.specs.Scopes.{clause_scope, team_scope, task_scope, construct
 use Rattle.om_rows.specs.Statements.{clause_start, clause_reduction_start, clause_value, filter_row}
 use Rattle.om_statements.specs.declared.writing.ScopeStack.{ScopeStack}
 use Rattle.om_statements.specs.Going.{writes_then}
-use Rattle.om_statements.specs.Scoped.{BeginsCopy, BeginsScope, ScopesStand, team_from}
+use Rattle.om_statements.specs.Scoped.{BeginsCopy, BeginsOneScope, ScopesStand, team_from}
 use Rattle.om_statements.specs.Scoping.{counted, stand_after, stand_behind, stand_opens, stand_opens_at, stand_plain}
 use Rattle.om_statements.specs.Scoping.{writes_behind, writes_fresh, writes_put}
 use Rattle.om_rows.specs.Numbered.{Numbered}
@@ -48,9 +48,9 @@ module _ (names : Numbered) where
   team_stands l (Shared v) from a b x y here same w =
       subst (λ z. Stand (λ at. plain end) a x b z) (sym same) (stand_plain names (λ at. end) a b x w)
   team_stands l (Copied copies.Private v copy) from a b x y here begun w =
-      stand_opens_at names 0 None copy (λ at. end) a b x y (omega arith) (subst (λ p. BeginsScope p None copy x y) here begun) w
+      stand_opens_at names 0 None copy (λ at. end) a b x y (omega arith) (subst (λ p. BeginsOneScope p None copy x y) here begun) w
   team_stands l (Copied copies.Firstprivate v copy) from a b x y here begun w =
-      stand_opens_at names 0 None copy (λ at. end) a b x y (omega arith) (subst (λ p. BeginsScope p None copy x y) here begun) w
+      stand_opens_at names 0 None copy (λ at. end) a b x y (omega arith) (subst (λ p. BeginsOneScope p None copy x y) here begun) w
   team_stands l (Copied (copies.Reduction o) v copy) from a b x y here begun w =
       stand_opens names from None copy (λ at. clause_reduction_start at l (Copied (copies.Reduction o) v copy)) a b x y
       here begun w

@@ -1,4 +1,4 @@
--- Rows of parts of expressions: an assignment, and what stands behind an operand or an index.
+-- What contracts of `expression` and `single` name: rows of assignments, and of what is left behind an operand or an index.
 use Rattle.std.specs.Prelude.{ℕ, pos, Option, None, Result, Some, Bool, true}
 use Rattle.om_code.specs.declared.instruction.BinaryOperator as machine
 use Rattle.om_code.specs.declared.instruction.Instr.TheVariants as i

@@ -2,21 +2,21 @@
 use Rattle.std.specs.Prelude.{◌≡◌, ◌≤◌, ℕ, All, List, [], ◌∷◌, ◌++◌, OnOk, Option, None, Result, drop, length, map, reverse, take}
 use Rattle.om_statements.specs.Drafts.{Labels, Written}
 use Rattle.om_statements.specs.declared.here.Here.{Here}
-use Rattle.om_statements.specs.Emits.{Appends, Finished, Fits, Grows, names_at, site}
+use Rattle.om_statements.specs.Emits.{Finished, Fits, Grows, names_at, site}
 use Rattle.om_resolved.specs.declared.resolved.CopyKind.TheVariants as copies
 use Rattle.om_resolved.specs.declared.resolved.LocalVariable.{LocalVariable}
 use Rattle.om_resolved.specs.declared.resolved.ResolvedClause.{ResolvedClause}
 use Rattle.om_resolved.specs.ResolvedTree.{ResolvedClauseTree, Copied}
 use Rattle.om_resolved.specs.ResolvedView as view
 use Rattle.om_rows.specs.declared.scope.VariableScope.{VariableScope}
-use Rattle.om_rows.specs.Rows.{Row, Site}
+use Rattle.om_rows.specs.Rows.{Site}
 use Rattle.om_rows.specs.Scopes.{Found, Scoping, closed_at, each_scope, opened_with}
 use Rattle.om_statements.specs.declared.writing.ScopeStack.{ScopeStack}
 use Rattle.om_statements.specs.declared.writing.Writing.{Writing}
 use Rattle.om_rows.specs.Numbered.{Numbered}
 
--- a scope begins at this place
-pub record BeginsScope (from : ℕ) (length : Option ℕ) (variable : LocalVariable) (old new : ScopeStack)
+-- the scope of one variable begins at this place
+pub record BeginsOneScope (from : ℕ) (length : Option ℕ) (variable : LocalVariable) (old new : ScopeStack)
     : Type 0 where
   pub opened : new.opened.items ≡ old.opened.items ++ opened_with length from variable ∷ []
   pub closed : new.closed.items ≡ old.closed.items
@@ -28,7 +28,7 @@ pub record EndsScopes (height to : ℕ) (old new : ScopeStack) : Type 0 where
 
 -- the copy of a clause does, if it makes one
 abbrev pub BeginsCopy : (from : ℕ) → ResolvedClauseTree → ScopeStack → ScopeStack → Type 0
-BeginsCopy from (Copied kind x copy) old new = BeginsScope from None copy old new
+BeginsCopy from (Copied kind x copy) old new = BeginsOneScope from None copy old new
 BeginsCopy from clause old new = new ≡ old
 
 -- where it does in the body of a `parallel`
@@ -72,30 +72,20 @@ abbrev pub AppendsScopes : {T E X : Type 0} → Result T E → Here → (row : S
 AppendsScopes result here row x old new =
     OnOk result (EmitsScopes (names_at here) (λ at. row at here.at.line x) old new)
 
--- the scopes of the items of a list begin where nothing is written, unless memory runs out
-abbrev pub BeginsScopes : {T E X : Type 0} → Result T E → (row : X → Scoping) → List X → ScopeStack → ScopeStack
+-- the scopes of all items of a list begin where nothing is written, unless memory runs out
+abbrev pub BeginsEach : {T E X : Type 0} → Result T E → (row : X → Scoping) → List X → ScopeStack → ScopeStack
     → Type 0
-BeginsScopes result row xs old new =
+BeginsEach result row xs old new =
     OnOk result ((names : Numbered) (d : Written) → ScopesStand names (λ at. each_scope row xs) d old d new)
 
--- ---- what a function writes of clauses, unless memory runs out
-
--- the row of a clause, and those of clauses
-abbrev pub AppendsClause : {T E : Type 0} → Result T E → Here → (row : Site → ℕ → ResolvedClauseTree → Row)
-    → ResolvedClause → Writing → Writing → Type 0
-AppendsClause result here row clause old new = Appends result here row (view.clause clause) old.draft new.draft
-
-abbrev pub AppendsClauses : {T E : Type 0} → Result T E → Here → (row : Site → ℕ → List ResolvedClauseTree → Row)
-    → List ResolvedClause → Writing → Writing → Type 0
-AppendsClauses result here row clauses old new =
-    Appends result here row (map view.clause clauses) old.draft new.draft
+-- ---- the scopes of clauses, unless memory runs out
 
 -- the scope of a clause's copy, and those of the copies of clauses
 abbrev pub ScopesClause : {T E : Type 0} → Result T E → Here → (row : Site → ℕ → ResolvedClauseTree → Scoping)
     → ResolvedClause → Writing → Writing → Type 0
 ScopesClause result here row clause old new = AppendsScopes result here row (view.clause clause) old new
 
-abbrev pub ScopesEach : {T E : Type 0} → Result T E → Here → (row : Site → ℕ → ResolvedClauseTree → Scoping)
+abbrev pub ScopesClauses : {T E : Type 0} → Result T E → Here → (row : Site → ℕ → ResolvedClauseTree → Scoping)
     → List ResolvedClause → Writing → Writing → Type 0
-ScopesEach result here row clauses old new =
+ScopesClauses result here row clauses old new =
     AppendsScopes result here (λ at l. each_scope (row at l)) (map view.clause clauses) old new

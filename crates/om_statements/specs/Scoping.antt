@@ -16,7 +16,7 @@ use Rattle.om_rows.specs.Scopes.{Found, nothing, opening, ◌then◌, ending, cl
 use Rattle.om_rows.specs.Scopes.{before, both, each_scope, opens_at, opens, block, instructions}
 use Rattle.om_statements.specs.declared.writing.ScopeStack.{ScopeStack}
 use Rattle.om_statements.specs.Going.{writes_then}
-use Rattle.om_statements.specs.Scoped.{AreInside, BeginsScope, EndsScopes, IsInside, ScopesStand}
+use Rattle.om_statements.specs.Scoped.{AreInside, BeginsOneScope, EndsScopes, IsInside, ScopesStand}
 use Rattle.om_rows.specs.Numbered.{Numbered}
 
 -- ---- code
@@ -189,7 +189,7 @@ module _ (names : Numbered) where
 
   -- a scope begins
   pub stand_opens_at : (from : ℕ) (length' : Option ℕ) (variable : LocalVariable) (row : Site → Row) (a b : Written)
-      (x y : ScopeStack) → from ≤ length a.code → BeginsScope from length' variable x y → Codes row a b
+      (x y : ScopeStack) → from ≤ length a.code → BeginsOneScope from length' variable x y → Codes row a b
       → Stand (λ at. opens_at from length' variable (row at)) a x b y
   stand_opens_at from length' variable row a b x y early h w = record {
     found = opening (opened_with length' from variable ∷ []);
@@ -205,11 +205,11 @@ module _ (names : Numbered) where
   }
 
   pub stand_opens : (from : ℕ) (length' : Option ℕ) (variable : LocalVariable) (row : Site → Row) (a b : Written)
-      (x y : ScopeStack) → from ≡ length a.code → BeginsScope from length' variable x y → Codes row a b
+      (x y : ScopeStack) → from ≡ length a.code → BeginsOneScope from length' variable x y → Codes row a b
       → Stand (λ at. opens length' variable (row at)) a x b y
   stand_opens from length' variable row a b x y here h w =
       let moved = stand_opens_at (length a.code) length' variable row a b x y (omega arith)
-      (subst (λ p. BeginsScope p length' variable x y) here h) w in
+      (subst (λ p. BeginsOneScope p length' variable x y) here h) w in
       record {
         found = moved.found;
         opened = moved.opened;

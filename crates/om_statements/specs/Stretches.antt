@@ -8,7 +8,7 @@ use Rattle.om_statements.specs.declared.spot.TurnLabels.{TurnLabels}
 use Rattle.om_statements.specs.declared.writing.Writing.{Writing}
 use Rattle.om_statements.specs.Drafts.{Written, Fresh}
 use Rattle.om_statements.specs.declared.here.Here.{Here}
-use Rattle.om_statements.specs.Emits.{Part, names_at, site, Goes, Emits, EmitsRow}
+use Rattle.om_statements.specs.Emits.{Appends, Part, names_at, site, Goes, Emits, EmitsRow}
 use Rattle.om_pragma.specs.declared.clause.ReductionOperator.{ReductionOperator}
 use Rattle.om_resolved.specs.declared.resolved.ConstructKind.{ConstructKind}
 use Rattle.om_resolved.specs.declared.resolved.ConstructKind.TheVariants as constructs
@@ -38,6 +38,16 @@ EmitsAnywhere row old new = (names : Numbered) → EmitsRow names row old new
 -- a function writes it, unless memory runs out
 abbrev pub AppendsAnywhere : {T E : Type 0} → Result T E → (Site → Row) → Written → Written → Type 0
 AppendsAnywhere result row old new = OnOk result (EmitsAnywhere row old new)
+
+-- a function writes the row of a clause there, and those of clauses, unless memory runs out
+abbrev pub AppendsClause : {T E : Type 0} → Result T E → Here → (row : Site → ℕ → ResolvedClauseTree → Row)
+    → ResolvedClause → Writing → Writing → Type 0
+AppendsClause result here row clause old new = Appends result here row (view.clause clause) old.draft new.draft
+
+abbrev pub AppendsClauses : {T E : Type 0} → Result T E → Here → (row : Site → ℕ → List ResolvedClauseTree → Row)
+    → List ResolvedClause → Writing → Writing → Type 0
+AppendsClauses result here row clauses old new =
+    Appends result here row (map view.clause clauses) old.draft new.draft
 
 -- a copy of a reduction begins with the operator's identity, and a firstprivate one with its original's value
 abbrev pub identity_start : Site → ℕ → ReductionOperator → LocalVariable → Row

@@ -14,10 +14,11 @@ pub use Rattle.om_rows.specs.Statements.{reductions, starts, update_row, worksha
 pub use Rattle.om_statements.specs.Drafts.{HasNoTarget, PutsAll, nothing}
 pub use Rattle.om_statements.specs.Emits.{Adds, Appends, AppendsBy, Goes, listed, place_at, site}
 pub use Rattle.om_statements.specs.Rests.{AppendsAssignment, AppendsElement, AppendsOperand}
-pub use Rattle.om_statements.specs.Scoped.{AppendsClause, AppendsClauses, AppendsScopes, BeginsCopy, BeginsScope}
-pub use Rattle.om_statements.specs.Scoped.{BeginsScopes, EndsLast, EndsScopes, ScopesClause, ScopesEach, team_from}
+pub use Rattle.om_statements.specs.Scoped.{AppendsScopes, BeginsCopy, BeginsEach, BeginsOneScope}
+pub use Rattle.om_statements.specs.Scoped.{EndsLast, EndsScopes, ScopesClause, ScopesClauses, team_from}
 pub use Rattle.om_statements.specs.Spots.{spot_with}
-pub use Rattle.om_statements.specs.Stretches.{AppendsAnywhere, AppendsEnd, AppendsPerhapsTest, AppendsTest}
+pub use Rattle.om_statements.specs.Stretches.{AppendsAnywhere, AppendsClause, AppendsClauses, AppendsEnd}
+pub use Rattle.om_statements.specs.Stretches.{AppendsPerhapsTest, AppendsTest}
 pub use Rattle.om_statements.specs.Stretches.{BeginHasCode, BeginsConstruct, EmitsJump, IsNoAtomic, construct_end}
 pub use Rattle.om_statements.specs.Stretches.{identity_start}
 pub use Rattle.om_statements.specs.Stretches.{original_start}

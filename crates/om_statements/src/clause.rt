@@ -2,7 +2,7 @@
 
 ghost use Rattle.std.specs.Prelude.{◌≡◌, OnOk, map, option_map};
 ghost use Rattle.om_statements.specs.Words.{Appends, AppendsBy, AppendsClause, AppendsClauses, BeginsCopy};
-ghost use Rattle.om_statements.specs.Words.{BeginsScopes, ScopesClause, ScopesEach, clause_scope, clause_start};
+ghost use Rattle.om_statements.specs.Words.{BeginsEach, ScopesClause, ScopesClauses, clause_scope, clause_start};
 ghost use Rattle.om_statements.specs.Words.{combine_clause, identity_start, original_start, parameter_scope};
 ghost use Rattle.om_statements.specs.Words.{reductions, starts, task_scope, team_from, team_scope};
 ghost use Rattle.om_resolved.specs.ResolvedView as view;
@@ -115,7 +115,7 @@ fn clause_start(writing: &mut Writing, here: &Here<'_>, clause: &ResolvedClause)
 /// Writes what the copies of a worksharing construct begin with, in clause order.
 pub fn starts(writing: &mut Writing, here: &Here<'_>, clauses: &[ResolvedClause]) -> Done
     ensures code { AppendsClauses result here.now starts clauses.now writing.old writing.new }
-    ensures scopes { ScopesEach result here.now clause_scope clauses.now writing.old writing.new }
+    ensures scopes { ScopesClauses result here.now clause_scope clauses.now writing.old writing.new }
 {
     for clause in clauses {
         clause_start(writing, here, clause)?;
@@ -169,7 +169,7 @@ fn clause_reduction_start(writing: &mut Writing, here: &Here<'_>, clause: &Resol
 pub fn reduction_starts(writing: &mut Writing, here: &Here<'_>, clauses: &[ResolvedClause]) -> Done
     ensures code { AppendsClauses result here.now rows.reduction_starts clauses.now writing.old
         writing.new }
-    ensures scopes { ScopesEach result here.now team_scope clauses.now writing.old writing.new }
+    ensures scopes { ScopesClauses result here.now team_scope clauses.now writing.old writing.new }
 {
     for clause in clauses {
         clause_reduction_start(writing, here, clause)?;
@@ -179,7 +179,7 @@ pub fn reduction_starts(writing: &mut Writing, here: &Here<'_>, clauses: &[Resol
 
 /// Begins the scopes of the copies of a `task`, in its body.
 pub fn task_copies(scopes: &mut ScopeStack, clauses: &[ResolvedClause]) -> Done
-    ensures { BeginsScopes result task_scope (map view.clause clauses.now) scopes.old scopes.new }
+    ensures { BeginsEach result task_scope (map view.clause clauses.now) scopes.old scopes.new }
 {
     for clause in clauses {
         begin_scope(scopes, 0, clause)?;
@@ -189,7 +189,7 @@ pub fn task_copies(scopes: &mut ScopeStack, clauses: &[ResolvedClause]) -> Done
 
 /// Begins the scopes of parameters, in the body of their function.
 pub fn parameters(scopes: &mut ScopeStack, variables: &[LocalVariable]) -> Done
-    ensures { BeginsScopes result parameter_scope variables.now scopes.old scopes.new }
+    ensures { BeginsEach result parameter_scope variables.now scopes.old scopes.new }
 {
     for variable in variables {
         scopes.begin(0, None, variable)?;

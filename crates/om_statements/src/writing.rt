@@ -1,7 +1,7 @@
 //! A body that is being written: its code, and the scopes of names in it.
 
 ghost use Rattle.std.specs.Prelude.{◌≡◌, ◌≤◌, ◌<◌, [], OnOk, length};
-ghost use Rattle.om_statements.specs.Words.{BeginsScope, EndsLast, EndsScopes, closed_at, nothing};
+ghost use Rattle.om_statements.specs.Words.{BeginsOneScope, EndsLast, EndsScopes, closed_at, nothing};
 
 use crate::draft::Draft;
 use crate::here::Done;
@@ -55,7 +55,7 @@ impl ScopeStack {
 
     /// Begins the scope of a variable at this place. Its only error is out of memory.
     pub fn begin(&mut self, from: usize, length: Option<u32>, variable: &LocalVariable) -> Done
-        ensures { OnOk result (BeginsScope from length variable.now self.old self.new) }
+        ensures { OnOk result (BeginsOneScope from length variable.now self.old self.new) }
     {
         let name = Seq::of(Vec::from_slice(self.alloc, variable.name.as_slice())?);
         self.opened.push(VariableScope {
