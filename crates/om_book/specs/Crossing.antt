@@ -27,7 +27,7 @@ reply_send =
     search (step_send, undo_send, roll_send, value_send, names_send, entries_send, sendable) depth 40
 
 record_send : IsSend kept.the_row
-record_send = search (command_send, reply_send, sendable) depth 40
+record_send = search (step_send, undo_send, command_send, reply_send, crosses, sendable) depth 40
 
 receipt_send : IsSend receipt.the_row
 receipt_send = search (command_send, reply_send, sendable) depth 40
