@@ -1,2 +1,3 @@
 mod Bounded
 mod Undone
+mod Told

@@ -28,3 +28,10 @@ step_reply_of m label = reply_to_step (rules_for m) m.history label
 
 abbrev pub undo_reply_of : MachineView → ℕ → UndoReply
 undo_reply_of m worker = reply_to_undo (rules_for m) m.history worker
+
+-- a command that is neither a step nor an undo
+abbrev pub IsOther : Command → Type 0
+IsOther (call.Step worker choice) = ⊥
+IsOther (call.Undo worker) = ⊥
+IsOther (call.Roll serial) = Unit {0}
+IsOther (call.Look question) = Unit {0}

@@ -10,7 +10,7 @@ ghost use Rattle.om_journal.specs.declared.command.Command.{Command as Asked};
 ghost use Rattle.om_journal.specs.declared.command.Query.TheVariants as query;
 ghost use Rattle.om_undo.specs.Machines.{rules_for, state_in};
 ghost use Rattle.om_undo.specs.ReadyNames.{ready_names};
-ghost use Rattle.om_view.specs.Calls.{label_of, step_reply_of, undo_reply_of, with_call, with_step};
+ghost use Rattle.om_view.specs.Calls.{IsOther, label_of, step_reply_of, undo_reply_of, with_call, with_step};
 
 use om_book::{Book, CallError};
 use om_foot::Name;
@@ -99,17 +99,34 @@ fn told(book: &Book) -> ReplyIn<'_>
     book.last_reply()
 }
 
+// What the last call was answered, which was neither a step nor an undo.
+fn other_told(book: &Book) -> &Reply
+    requires { (b : BookView) × (c : Asked) × (book.now ≡ with_call b c) × IsOther c }
+    ensures { (b : BookView) (c : Asked) → book.now ≡ with_call b c
+        → result.now ≡ reply_to (machine_of b) c }
+{
+    match told(book) {
+        ReplyIn::Step(_) => unreachable!(),
+        ReplyIn::Undo(_) => unreachable!(),
+        ReplyIn::Other(reply) => reply,
+    }
+}
+
 /// What the last call was answered, which was a worker's undo.
 pub(crate) fn undo_told(book: &Book) -> &KeptUndoReply
     requires { (b : BookView) × (worker : ℕ) × (book.now ≡ with_call b (Command.Undo worker)) }
     ensures { (b : BookView) (worker : ℕ) → book.now ≡ with_call b (Command.Undo worker)
         → result.now ≡ undo_reply_of (machine_of b) worker }
 {
-    match told(book) {
-        ReplyIn::Undo(reply) => reply,
-        ReplyIn::Other(Reply::Undo(reply)) => reply,
-        _ => unreachable!(),
-    }
+    let reply = match told(book) {
+        ReplyIn::Step(_) => unreachable!(),
+        ReplyIn::Undo(reply) => return reply,
+        ReplyIn::Other(reply) => reply,
+    };
+    let Reply::Undo(reply) = reply else {
+        unreachable!()
+    };
+    reply
 }
 
 /// What the last call was answered, which was a roll.
@@ -118,7 +135,7 @@ pub(crate) fn roll_told(book: &Book) -> &RollReply
     ensures { (b : BookView) (serial : ℕ) → book.now ≡ with_call b (Command.Roll serial)
         → result.now ≡ reply_to_roll (rules_for (machine_of b)) (machine_of b).history serial }
 {
-    let ReplyIn::Other(Reply::Roll(reply)) = told(book) else {
+    let Reply::Roll(reply) = other_told(book) else {
         unreachable!()
     };
     reply
@@ -132,7 +149,7 @@ pub(crate) fn value_told(book: &Book) -> &Val
         → book.now ≡ with_call b (Command.Look (query.Value object))
         → result.now ≡ state_in (machine_of b) object }
 {
-    let ReplyIn::Other(Reply::Value(value)) = told(book) else {
+    let Reply::Value(value) = other_told(book) else {
         unreachable!()
     };
     value
@@ -144,7 +161,7 @@ pub(crate) fn entries_told(book: &Book) -> &Seq<Entry>
     ensures { (b : BookView) → book.now ≡ with_call b (Command.Look query.Entries)
         → result.now ≡ (machine_of b).history.entries }
 {
-    let ReplyIn::Other(Reply::Entries(entries)) = told(book) else {
+    let Reply::Entries(entries) = other_told(book) else {
         unreachable!()
     };
     entries
@@ -156,7 +173,7 @@ pub(crate) fn names_told(book: &Book) -> &Seq<Name>
     ensures { (b : BookView) → book.now ≡ with_call b (Command.Look query.Ready)
         → result.now ≡ ready_names (machine_of b) }
 {
-    let ReplyIn::Other(Reply::Ready(names)) = told(book) else {
+    let Reply::Ready(names) = other_told(book) else {
         unreachable!()
     };
     names

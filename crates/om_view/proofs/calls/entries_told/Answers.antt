@@ -4,9 +4,12 @@ use Rattle.om_journal.specs.declared.command.Query.TheVariants as query
 use Rattle.om_view.proofs.Bounded.{same_entries}
 use Rattle.om_view.proofs.calls.entries_told.Goals as goal
 
+pub other_told-requires : goal.other_told-requires
+other_told-requires c = (c.requires.0, (call.Look query.Entries), c.requires.1, tt)
+
 pub unreachable-requires : goal.unreachable-requires
 unreachable-requires c = c.in_default.not-Entries _
-    (c.told.ensures c.requires.0 (call.Look query.Entries) c.requires.1)
+    (c.other_told.ensures c.requires.0 (call.Look query.Entries) c.requires.1)
 
 pub returns : goal.returns
-returns c = λ b is. same_entries _ _ (sym c.in-Entries.is ∙ c.told.ensures b (call.Look query.Entries) is)
+returns c = λ b is. same_entries _ _ (sym c.in-Entries.is ∙ c.other_told.ensures b (call.Look query.Entries) is)

@@ -3,9 +3,12 @@ use Rattle.om_journal.specs.declared.command.Command.TheVariants as call
 use Rattle.om_view.proofs.Bounded.{same_roll}
 use Rattle.om_view.proofs.calls.roll_told.Goals as goal
 
+pub other_told-requires : goal.other_told-requires
+other_told-requires c = (c.requires.0, (call.Roll c.requires.1), c.requires.2, tt)
+
 pub unreachable-requires : goal.unreachable-requires
 unreachable-requires c = c.in_default.not-Roll _
-    (c.told.ensures c.requires.0 (call.Roll c.requires.1) c.requires.2)
+    (c.other_told.ensures c.requires.0 (call.Roll c.requires.1) c.requires.2)
 
 pub returns : goal.returns
-returns c = λ b serial is. same_roll _ _ (sym c.in-Roll.is ∙ c.told.ensures b (call.Roll serial) is)
+returns c = λ b serial is. same_roll _ _ (sym c.in-Roll.is ∙ c.other_told.ensures b (call.Roll serial) is)
