@@ -1,6 +1,6 @@
--- What contracts promise of a store before and after: which updates are made or taken back, and what the trails and the
--- small records hold then. `Makes..` and `Takes..Back` speak of the state, `Notes..` and `Pops..` of the trails,
--- `Saves..` of small records.
+-- For proofs: what contracts promise of a store before and after. That is which updates are made or taken back, and
+-- what the trails and the small records hold then. `Makes..` and `Takes..Back` speak of the state, `Notes..` and
+-- `Pops..` of the trails, `Saves..` of small records.
 use Rattle.std.specs.Prelude.{◌≡◌, ℕ, List, [], ◌∷◌, ◌++◌, take, drop}
 use Rattle.om_foot.specs.declared.object.Obj.{Obj}
 use Rattle.om_foot.specs.declared.object.Obj.TheVariants as obj
@@ -72,17 +72,15 @@ TakesBackAt a u old new = state_of new ≡ state_before a u (state_of old)
 abbrev pub filled_in : Access → Update → Store → Update
 filled_in a small store = filled_at a small (pasts_of store)
 
--- that is taken back
+-- what a small record's update stands for is taken back
 abbrev pub TakesSmallBack : Access → Update → Store → Store → Type 0
 TakesSmallBack a small old new = TakesBackAt a (filled_in a small old) old new
 
--- then the count fits
+-- the count that an update of a small record adds to fits in its type when the update is taken back
 abbrev pub FitsBackIn : Access → Update → Store → Type 0
 FitsBackIn a small store = FitsAtBack a.mode (filled_in a small store) (state_of store a.object)
 
--- the updates of a footprint
-
--- all are made
+-- all updates of a footprint are made
 abbrev pub MakesAll : List Access → List Update → Store → Store → Type 0
 MakesAll footprint us old new = state_of new ≡ updated footprint us (state_of old)
 
@@ -98,7 +96,7 @@ SavesAll footprint us store small = small ≡ small_record footprint us (state_o
 abbrev pub CanTakeAllBack : List Access → List Update → Store → Type 0
 CanTakeAllBack footprint small store = CanTakeBack footprint small (state_of store) (pasts_of store)
 
--- and they are
+-- all are taken back, by what a small record holds of them
 abbrev pub TakesAllBack : List Access → List Update → Store → Store → Type 0
 TakesAllBack footprint small old new =
     state_of new ≡ taken_back footprint (filled footprint small (pasts_of old)) (state_of old)
@@ -107,17 +105,15 @@ TakesAllBack footprint small old new =
 abbrev pub PopsAll : List Access → List Update → Store → Store → Type 0
 PopsAll footprint small old new = pasts_of new ≡ popped_all footprint small (pasts_of old)
 
--- the same of so many first ones
-
--- they can be taken back
+-- so many first updates can be taken back
 abbrev pub CanTakeFirstBack : ℕ → List Access → List Update → Store → Type 0
 CanTakeFirstBack n footprint small store = CanTakeAllBack (take n footprint) (take n small) store
 
--- and they are
+-- so many first updates are taken back
 abbrev pub TakesFirstBack : ℕ → List Access → List Update → Store → Store → Type 0
 TakesFirstBack n footprint small old new = TakesAllBack (take n footprint) (take n small) old new
 
--- the trails have lost what their marks took
+-- the trails have lost what the marks of so many first updates took
 abbrev pub PopsFirst : ℕ → List Access → List Update → Store → Store → Type 0
 PopsFirst n footprint small old new = PopsAll (take n footprint) (take n small) old new
 
@@ -140,25 +136,23 @@ WereCells all runs store were =
 abbrev pub PutsCellsBack : List Cells → List (List Was) → Store → Store → Type 0
 PutsCellsBack all were old new = state_of new ≡ taken_back (cells_listed all) (backs_listed were) (state_of old)
 
--- the updates behind a step's first access
-
--- the counts fit
+-- the counts fit that the updates behind a step's first access add to
 abbrev pub FitsFurther : Parts → List Update → Store → Type 0
 FitsFurther footprint us store = FitsAll (further_of footprint) us (state_of store)
 
--- they can be taken back, by what a small record holds of them
+-- the updates behind the first access can be taken back, by what a small record holds of them
 abbrev pub CanTakeFurtherBack : Parts → List Update → Store → Type 0
 CanTakeFurtherBack footprint small store = CanTakeAllBack (further_of footprint) small store
 
--- and they are
+-- the updates behind the first access are taken back, by what a small record holds of them
 abbrev pub TakesFurtherBack : Parts → List Update → Store → Store → Type 0
 TakesFurtherBack footprint small old new = TakesAllBack (further_of footprint) small old new
 
--- the trails have lost what their marks took
+-- the trails have lost what the marks behind the first access took
 abbrev pub PopsFurther : Parts → List Update → Store → Store → Type 0
 PopsFurther footprint small old new = PopsAll (further_of footprint) small old new
 
--- those that are wanted are made
+-- the updates behind the first access are made
 abbrev pub MakesFurther : Parts → Backs → List Run → Store → Store → Type 0
 MakesFurther footprint back runs old new = MakesAll (further_of footprint) (wanted back runs) old new
 
@@ -166,7 +160,7 @@ MakesFurther footprint back runs old new = MakesAll (further_of footprint) (want
 abbrev pub NotesFurther : Parts → Backs → List Run → Store → Store → Type 0
 NotesFurther footprint back runs old new = NotesAll (further_of footprint) (wanted back runs) old new
 
--- and what a small record holds of them is left
+-- this is what a small record holds of the updates behind the first access
 abbrev pub SavesFurther : Parts → Backs → List Run → Store → Backs → Type 0
 SavesFurther footprint back runs store small =
     SavesAll (further_of footprint) (wanted back runs) store (back_in small)

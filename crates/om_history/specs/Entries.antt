@@ -1,4 +1,4 @@
--- Entries as records keep them.
+-- For proofs: entries as records keep them.
 use Rattle.std.specs.Prelude.{ℕ, List, Option}
 use Rattle.std.specs.Global.{Box}
 use Rattle.om_values.specs.declared.step.Entry.{Entry}

@@ -74,7 +74,8 @@ reply_before (Some k) later = first_kept_conflict k.footprint later (Undone k.en
 abbrev pub kept_reply : List UndoRecord → ℕ → UndoReply
 kept_reply ks i = reply_before (slice_get ks i) (drop (i + 1) ks)
 
--- what an undo replies of a record that meets at most this one: that they conflict, or that it is undone
+-- what an undo replies where one record alone was made after the undone one: the conflict of the two, if there is
+-- one, or else that the step is undone
 abbrev pub RepliesAgainst : UndoRecord → ℕ → UndoReply → UndoRecord → Type 0
 RepliesAgainst undone serial reply made = reply ≡ conflict_or made.entry (conflict_of undone.footprint made.footprint)
     (Undone serial undone.entry.line)

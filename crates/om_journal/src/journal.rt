@@ -31,8 +31,8 @@ enum AskedForms {
     Other(Box<OtherCall>),
 }
 
-/// A command of which a record is to come, with all the memory that the record takes. So a call asks for
-/// memory before it changes anything.
+/// A command of which a record is to come, with all the memory that the record takes but for what its reply
+/// holds. So a call asks for this memory before it changes anything.
 ///
 /// Contracts see the command alone.
 #[derive(Drop)]
@@ -84,18 +84,10 @@ impl Asked {
         };
         Ok(Asked { forms })
     }
-
-    /// The undo of a worker's last step. It takes no memory.
-    pub fn of_undo(worker: u8) -> Asked
-        ensures { result ≡ Command.Undo worker }
-    {
-        Asked {
-            forms: AskedForms::Undo(worker),
-        }
-    }
 }
 
-// What is kept of a record. Steps and undos, which are nearly all, take no memory besides.
+// What is kept of a record. Steps and undos, which are nearly all, lie in the record itself. Only the conflict of
+// an undo that is refused lies apart.
 #[derive(Drop)]
 enum RecordForms {
     Step {

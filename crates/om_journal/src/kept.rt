@@ -142,15 +142,6 @@ impl KeptCommand {
         })
     }
 
-    /// The undo of a worker's last step, to be kept. It takes no memory.
-    pub fn of_undo(worker: u8) -> KeptCommand
-        ensures { result ≡ Command.Undo worker }
-    {
-        KeptCommand {
-            parts: CommandParts::Undo(worker),
-        }
-    }
-
     /// The command.
     pub fn get(&self) -> Command
         ensures { result ≡ self.now }
@@ -170,12 +161,6 @@ impl KeptCommand {
             CommandParts::Ready => Command::Look(Query::Ready),
             CommandParts::Entries => Command::Look(Query::Entries),
         }
-    }
-}
-
-impl Same for KeptCommand {
-    fn is_same(&self, other: &KeptCommand) -> bool {
-        self.get().is_same(&other.get())
     }
 }
 

@@ -22,7 +22,7 @@ use Rattle.om_live.specs.Trails.{begun, past_of}
 abbrev pub first_frame : ℕ → ℕ → List Home → plain_frames.Frame
 first_frame body ordinal homes = record { body = body; next = 0; ordinal = ordinal; operands = []; homes = homes }
 
--- a frame has gone to a place, with so many operands taken and then one pushed
+-- A frame has gone to a place. So many operands were taken from it, and then the given one was pushed, if any.
 abbrev pub HasGone : ℕ → ℕ → Option Operand → Frame → Frame → Type 0
 HasGone to takes pushed old new = plain_frame new ≡ frame_at to takes pushed (plain_frame old)
 
@@ -38,7 +38,7 @@ HasTurned turn old new = plain_context new ≡ turn (plain_context old)
 abbrev pub begun_from : ℕ → ℕ → Frame → plain_contexts.Context → plain_contexts.Context
 begun_from to takes f c = frame_begun f.body f.homes (context_at to takes None c)
 
--- a context whose running frame has ended with a value
+-- a context whose running frame has ended: its caller runs again, if it has one, with this value pushed
 abbrev pub frame_ended : Operand → plain_contexts.Context → plain_contexts.Context
 frame_ended value c = value_given value c.callers c
 
@@ -50,7 +50,7 @@ region_opened construct c = record c { constructs = construct ∷ c.constructs }
 abbrev pub region_closed : plain_contexts.Context → plain_contexts.Context
 region_closed c = record c { constructs = drop 1 c.constructs }
 
--- a context with another region in the place of its innermost one
+-- a context with this region in the place of its innermost one, or as its only one where it had none
 abbrev pub region_replaced : Construct → plain_contexts.Context → plain_contexts.Context
 region_replaced construct c = record c { constructs = construct ∷ drop 1 c.constructs }
 

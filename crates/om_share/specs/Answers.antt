@@ -1,5 +1,5 @@
--- What a function gives, and what it answers, unless memory runs out; and the parts of rows that functions give.
-use Rattle.std.specs.Prelude.{◌≡◌, ℕ, ◌+◌, ℤ, Bool, Option, Result, IfOk, None, List, [], ◌∷◌, ◌++◌, map}
+-- For proofs: the parts of rows that functions give.
+use Rattle.std.specs.Prelude.{ℕ, ◌+◌, ℤ, Bool, Option, None, List, [], ◌∷◌, ◌++◌, map}
 use Rattle.std.specs.declared.boxed.Box.{Box}
 use Rattle.std.specs.declared.alloc.Global.{Global}
 use Rattle.om_foot.specs.declared.footprint.Access.{Access}
@@ -21,32 +21,16 @@ use Rattle.om_values.specs.declared.step.Tail.TheVariants.{Events}
 use Rattle.om_values.specs.declared.step.Update.{Update}
 use Rattle.om_values.specs.declared.step.Update.TheVariants.{Put, Append}
 use Rattle.om_values.specs.declared.value.Val.TheVariants as value
-use Rattle.om_values.specs.State.{State}
 use Rattle.om_live.specs.declared.control.Context as live
-use Rattle.om_live.specs.declared.store.Store.{Store}
 use Rattle.om_live.specs.Plain.{plain_held}
-use Rattle.om_live.specs.Stores.{state_of}
-use Rattle.om_steps.specs.declared.row.Answer.{Answer}
 use Rattle.om_steps.specs.declared.row.Row.{Row}
 use Rattle.om_steps.specs.declared.row.Row.TheVariants.{Goes}
 use Rattle.om_steps.specs.Objects.{write, events, event, deaths}
-use Rattle.om_steps.specs.Rows.{Asked, answered, goes}
+use Rattle.om_steps.specs.Rows.{Asked, goes}
 use Rattle.om_share.specs.declared.parts.Branch.{Branch}
 use Rattle.om_share.specs.Barriers.{barrier}
 use Rattle.om_share.specs.Rows.{edits, sync_of, team_at_end, kept, left_records, left_row, filtered_row, static_row}
 use Rattle.om_share.specs.Rows.{iteration_row, chosen_row}
-
--- a function gives this
-abbrev pub Gives : {A E : Type 0} → Result A E → A → Type 0
-Gives result given = IfOk result (λ x. x ≡ given)
-
--- a function answers what is asked, whatever the state
-abbrev pub Answers : {E : Type 0} → Result Answer E → Asked → Type 0
-Answers result asked = (s : State) → IfOk result (λ answer. answer ≡ answered asked s)
-
--- a function answers what is asked, at the state of a store
-abbrev pub AnswersAt : {E : Type 0} → Result Answer E → Asked → Store → Type 0
-AnswersAt result asked store = IfOk result (λ answer. answer ≡ answered asked (state_of store))
 
 -- the contexts below another one, which are held in boxes
 abbrev pub held : List (Box live.Context Global) → List Context
@@ -71,8 +55,8 @@ departed_updates b c = kept c.team.size
     ++ event (event_record.SyncRegion (sync_of b) endpoint.End (team_at_end b c.team.name) c.task) ∷ []
 
 -- what is put where a member's task ends above these contexts, with its own cells
-abbrev pub left_puts : Context → List Context → List Access → List Update
-left_puts c below own = kept c.team.size ++ (deaths own ++ Append (Events (left_records c below)) ∷ [])
+abbrev pub left_updates : Context → List Context → List Access → List Update
+left_updates c below own = kept c.team.size ++ (deaths own ++ Append (Events (left_records c below)) ∷ [])
 
 -- the end of a member's task on a stack
 abbrev pub left_on : ℕ → Stack → List Access → Asked

@@ -1,11 +1,9 @@
 //! Critical regions and their locks.
 
-ghost use Rattle.std.specs.Prelude.{◌≡◌, IfOk};
-ghost use Rattle.om_values.specs.State.{State};
+ghost use Rattle.std.specs.Prelude.{◌≡◌};
 ghost use Rattle.om_live.specs.Plain.{plain_context};
-ghost use Rattle.om_live.specs.Stores.{state_of};
 ghost use Rattle.om_steps.specs.Objects.{innermost};
-ghost use Rattle.om_steps.specs.Rows.{answered};
+ghost use Rattle.om_steps.specs.Answers.{Gives, Answers, AnswersAt};
 ghost use Rattle.om_share.specs.Rows.{ask_critical_row, lock_row, enter_critical_row, is_critical, unlock_row, leave_critical_row};
 
 use crate::parts::opened;
@@ -21,15 +19,14 @@ use std::alloc::{AllocError, Global};
 
 // The name of a lock, for a record.
 fn copied(alloc: Global, name: &[u8]) -> Result<Seq<u8>, AllocError>
-    ensures { IfOk result (λ copy. copy ≡ name.now) }
+    ensures { Gives result name.now }
 {
     Ok(Seq::of(Vec::from_slice(alloc, name)?))
 }
 
 /// CRACQ: asks for a lock.
 pub fn ask_critical(alloc: Global, at: At, name: &[u8]) -> Result<Answer, AllocError>
-    ensures { (s : State) → IfOk result
-        (λ answer. answer ≡ answered (ask_critical_row at.worker at.to name.now) s) }
+    ensures { Answers result (ask_critical_row at.worker at.to name.now) }
 {
     let lock = copied(alloc, name)?;
     let edits = go_on(alloc, at.to)?;
@@ -44,7 +41,7 @@ fn lock(
     name: &[u8],
     holder: Option<u8>,
 ) -> Result<Row, AllocError>
-    ensures { IfOk result (λ row. row ≡ lock_row at.worker at.to number name.now holder) }
+    ensures { Gives result (lock_row at.worker at.to number name.now holder) }
 {
     if let Some(holder) = holder {
         return Ok(Row::Blocked(Blocked::Critical(holder)));
@@ -64,9 +61,7 @@ pub fn enter_critical(
     number: u32,
     name: &[u8],
 ) -> Result<Answer, AllocError>
-    ensures { IfOk result
-        (λ answer. answer ≡ answered (enter_critical_row at.worker at.to number name.now)
-        (state_of store.now)) }
+    ensures { AnswersAt result (enter_critical_row at.worker at.to number name.now) store.now }
 {
     let names = name_with_events(alloc, &Obj::Lock(number), Mode::Write, at.worker)?;
     let row = lock(alloc, at, number, name, store.holder(number))?;
@@ -88,7 +83,7 @@ fn is_critical(context: &Context, number: u32) -> bool
 
 // The row of a thread that gives a lock back.
 fn unlock(alloc: Global, to: u32, name: &[u8]) -> Result<Row, AllocError>
-    ensures { IfOk result (λ row. row ≡ unlock_row to name.now) }
+    ensures { Gives result (unlock_row to name.now) }
 {
     let lock = copied(alloc, name)?;
     let put = Update::Put(Val::Lock(None));
@@ -105,10 +100,8 @@ pub fn leave_critical(
     number: u32,
     name: &[u8],
 ) -> Result<Answer, AllocError>
-    ensures { (s : State) → IfOk result
-        (λ answer. answer ≡ answered
-        (leave_critical_row at.worker at.to number name.now
-        (innermost (plain_context context.now).constructs)) s) }
+    ensures { Answers result (leave_critical_row at.worker at.to number name.now (innermost
+        (plain_context context.now).constructs)) }
 {
     if !is_critical(context, number) {
         return Ok(Answer::decided(alloc, Row::Lacks));

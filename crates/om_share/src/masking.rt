@@ -1,12 +1,11 @@
 //! Masked regions.
 
-ghost use Rattle.std.specs.Prelude.{◌≡◌, pos, IfOk};
+ghost use Rattle.std.specs.Prelude.{◌≡◌, pos};
 ghost use Rattle.std.specs.Ordering.{int_eq};
-ghost use Rattle.om_values.specs.State.{State};
 ghost use Rattle.om_live.specs.Plain.{plain_context};
 ghost use Rattle.om_steps.specs.Objects.{innermost};
-ghost use Rattle.om_steps.specs.Rows.{answered};
-ghost use Rattle.om_share.specs.Answers.{Gives, Answers, filtered_by};
+ghost use Rattle.om_steps.specs.Answers.{Gives, Answers};
+ghost use Rattle.om_share.specs.Answers.{filtered_by};
 ghost use Rattle.om_share.specs.Rows.{masked_row, is_masked, end_masked_row};
 
 use crate::parts::{Branch, jump, opened};
@@ -64,9 +63,8 @@ pub fn masked(
     branch: Branch,
     number: Option<i32>,
 ) -> Result<Answer, AllocError>
-    ensures { (s : State) → IfOk result
-        (λ answer. answer ≡ answered
-        (masked_row worker branch.to branch.otherwise (plain_context context.now) number) s) }
+    ensures { Answers result (masked_row worker branch.to branch.otherwise (plain_context
+        context.now) number) }
 {
     let Some(number) = number else {
         return Ok(Answer::decided(alloc, Row::Lacks));
@@ -87,10 +85,8 @@ fn is_masked(context: &Context) -> bool
 
 /// ENDM: closes a masked region.
 pub fn end_masked(alloc: Global, context: &Context, at: At) -> Result<Answer, AllocError>
-    ensures { (s : State) → IfOk result
-        (λ answer. answer ≡ answered
-        (end_masked_row at.worker at.to (plain_context context.now)
-        (innermost (plain_context context.now).constructs)) s) }
+    ensures { Answers result (end_masked_row at.worker at.to (plain_context context.now)
+        (innermost (plain_context context.now).constructs)) }
 {
     if !is_masked(context) {
         return Ok(Answer::decided(alloc, Row::Lacks));

@@ -1,13 +1,11 @@
 //! ARRIVE, DEPART and LEAVE: a member at a barrier, and at the end of its region.
 
-ghost use Rattle.std.specs.Prelude.{◌≡◌, ◌++◌, ◌≤◌, ◌<◌, ◌+◌, ◌^◌, IfOk, OnOk, length, map, option_map, slice_get};
-ghost use Rattle.om_values.specs.State.{State};
+ghost use Rattle.std.specs.Prelude.{◌≡◌, ◌++◌, ◌≤◌, ◌<◌, ◌+◌, ◌^◌, OnOk, length, map, option_map, slice_get};
 ghost use Rattle.om_live.specs.Plain.{plain_context, plain_held, plain_stack};
-ghost use Rattle.om_live.specs.Stores.{state_of};
-ghost use Rattle.om_steps.specs.Rows.{answered};
 ghost use Rattle.om_steps.specs.Objects.{own_cells};
-ghost use Rattle.om_share.specs.Answers.{Gives, Answers, AnswersAt, reached_names, reached_turn, departed_updates, held};
-ghost use Rattle.om_share.specs.Answers.{barrier_names, left_puts, left_on};
+ghost use Rattle.om_steps.specs.Answers.{Gives, Answers, AnswersAt};
+ghost use Rattle.om_share.specs.Answers.{reached_names, reached_turn, departed_updates, held};
+ghost use Rattle.om_share.specs.Answers.{barrier_names, left_updates, left_on};
 ghost use Rattle.om_share.specs.Barriers.{barrier};
 ghost use Rattle.om_share.specs.Rows.{sync_of, team_at_end, reached_row, is_misplaced_barrier, arrive_row, departed, depart_row, region_end, left_records, left, leave_row};
 
@@ -44,7 +42,7 @@ fn team_at_end(
     barrier: Barrier,
     team: &Shared<Name>,
 ) -> Result<Shared<Name>, AllocError>
-    ensures { IfOk result (λ name. name ≡ team_at_end barrier team.now) }
+    ensures { Gives result (team_at_end barrier team.now) }
 {
     match barrier {
         Barrier::Explicit => team.copy(),
@@ -117,9 +115,7 @@ pub fn arrive(
     context: &Context,
 ) -> Result<Answer, AllocError>
     requires { context.now.phase + 1 < 2 ^ 64 }
-    ensures { (s : State) → IfOk result
-        (λ answer. answer ≡ answered
-        (arrive_row at.worker at.to barrier (plain_context context.now)) s) }
+    ensures { Answers result (arrive_row at.worker at.to barrier (plain_context context.now)) }
 {
     if is_misplaced_barrier(barrier, context) {
         return Ok(Answer::decided(alloc, Row::Faults(Fault::Nesting)));
@@ -168,7 +164,7 @@ fn departed(
     context: &Context,
     opens: bool,
 ) -> Result<Row, AllocError>
-    ensures { IfOk result (λ row. row ≡ departed to barrier (plain_context context.now) opens) }
+    ensures { Gives result (departed to barrier (plain_context context.now) opens) }
 {
     if !opens {
         return Ok(Row::Blocked(Blocked::Barrier));
@@ -188,9 +184,8 @@ pub fn depart(
     barrier: Barrier,
     context: &Context,
 ) -> Result<Answer, AllocError>
-    ensures { IfOk result
-        (λ answer. answer ≡ answered
-        (depart_row at.worker at.to barrier (plain_context context.now)) (state_of store.now)) }
+    ensures { AnswersAt result (depart_row at.worker at.to barrier (plain_context context.now))
+        store.now }
 {
     let names = barrier_names(alloc, at.worker, context, &Names::new(alloc))?;
     let opens = is_open(alloc, store, context.team.get(), context.phase);
@@ -263,7 +258,7 @@ fn left_updates(
     below: &Tape<Box<Context>>,
     own: &Names,
 ) -> Result<Puts, AllocError>
-    ensures { Gives result (left_puts (plain_context context.now) (held below.now.items) own.now) }
+    ensures { Gives result (left_updates (plain_context context.now) (held below.now.items) own.now) }
 {
     let mut updates = Puts::new(alloc);
     put_kept(&mut updates, context.team.get().size)?;
@@ -324,11 +319,9 @@ pub fn leave(
     slots: &[Slot],
 ) -> Result<Answer, AllocError>
     requires { length slots.now ≤ 2 ^ 32 }
-    ensures { IfOk result
-        (λ answer. answer ≡ answered
-        (leave_row worker (plain_stack stack.now).top (plain_stack stack.now).below slots.now
-        (plain_stack stack.now).top.kind (plain_stack stack.now).top.team.number)
-        (state_of store.now)) }
+    ensures { AnswersAt result (leave_row worker (plain_stack stack.now).top (plain_stack
+        stack.now).below slots.now (plain_stack stack.now).top.kind (plain_stack
+        stack.now).top.team.number) store.now }
 {
     match stack.top.kind {
         Kind::Initial | Kind::Explicit => return Ok(Answer::decided(alloc, Row::Lacks)),

@@ -1,10 +1,11 @@
 //! What the rows of worksharing, masked and critical regions are made of.
 
-ghost use Rattle.std.specs.Prelude.{◌≡◌, [], IfOk, IfSome};
+ghost use Rattle.std.specs.Prelude.{◌≡◌, [], IfSome};
 ghost use Rattle.om_values.specs.OpenShares.{ShareHasInts};
 ghost use Rattle.om_live.specs.Plain.{plain_context};
 ghost use Rattle.om_steps.specs.Rows.{goes};
-ghost use Rattle.om_share.specs.Answers.{Gives, work_record};
+ghost use Rattle.om_steps.specs.Answers.{Gives};
+ghost use Rattle.om_share.specs.Answers.{work_record};
 ghost use Rattle.om_share.specs.Rows.{edits, begun, share_of, share_in};
 
 use om_events::{Endpoint, Record, Work};
@@ -33,7 +34,7 @@ pub(crate) fn opened(
     takes: u32,
     region: &Construct,
 ) -> Result<Seq<Edit>, AllocError>
-    ensures { IfOk result (λ es. es ≡ edits to takes (Edit.Open region.now)) }
+    ensures { Gives result (edits to takes (Edit.Open region.now)) }
 {
     let region = Shared::of(alloc, *region)?;
     go_and(alloc, to, takes, Edit::Open(region))
@@ -46,7 +47,7 @@ pub(crate) fn begun(
     takes: u32,
     region: &Construct,
 ) -> Result<Seq<Edit>, AllocError>
-    ensures { IfOk result (λ es. es ≡ begun to takes region.now) }
+    ensures { Gives result (begun to takes region.now) }
 {
     let region = Shared::of(alloc, *region)?;
     go_and_then(alloc, to, takes, Edit::CountRegion, Edit::Open(region))
@@ -54,7 +55,7 @@ pub(crate) fn begun(
 
 /// The row that goes on at a place, and changes nothing else.
 pub(crate) fn jump(alloc: Global, to: u32, takes: u32) -> Result<Row, AllocError>
-    ensures { IfOk result (λ row. row ≡ goes to takes None []) }
+    ensures { Gives result (goes to takes None []) }
 {
     Row::goes(alloc, to, takes, None, Puts::new(alloc))
 }

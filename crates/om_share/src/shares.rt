@@ -1,14 +1,12 @@
 //! Loops and sections: how they are opened, and how their iterations are given out.
 
-ghost use Rattle.std.specs.Prelude.{◌≡◌, ◌<◌, ◌≤◌, ◌+◌, ◌^◌, ◌∷◌, [], true, slice_get, IfOk, IfSome};
+ghost use Rattle.std.specs.Prelude.{◌≡◌, ◌<◌, ◌≤◌, ◌+◌, ◌^◌, ◌∷◌, [], true, slice_get, IfSome};
 ghost use Rattle.om_values.specs.OpenShares.{ShareHasInts, is_loop, value_of};
-ghost use Rattle.om_values.specs.State.{State};
 ghost use Rattle.om_live.specs.Plain.{plain_context};
-ghost use Rattle.om_live.specs.Stores.{state_of};
 ghost use Rattle.om_foot.specs.declared.object.Obj.TheVariants as obj;
 ghost use Rattle.om_steps.specs.Objects.{write};
-ghost use Rattle.om_steps.specs.Rows.{answered};
-ghost use Rattle.om_share.specs.Answers.{Gives, Answers, iterated, static_by, iteration_by};
+ghost use Rattle.om_steps.specs.Answers.{Gives, Answers, AnswersAt};
+ghost use Rattle.om_share.specs.Answers.{iterated, static_by, iteration_by};
 ghost use Rattle.om_share.specs.Rows.{edits, is_right_schedule, is_right_form, loop_of, work_of, open_row, loop_row, sections_row, share_in, in_chunk, taken_row, given_row, grab_row, iterate_row, is_section, section_row, pick_row};
 
 use crate::chunk::{Chunk, chunk_within, count_of, static_chunk, step_size};
@@ -112,9 +110,8 @@ pub fn open_loop(
     form: LoopForm,
     bounds: Bounds,
 ) -> Result<Answer, AllocError>
-    ensures { (s : State) → IfOk result
-        (λ answer. answer ≡ answered
-        (loop_row at.worker at.to (plain_context context.now) form bounds.lower bounds.upper) s) }
+    ensures { Answers result (loop_row at.worker at.to (plain_context context.now) form
+        bounds.lower bounds.upper) }
 {
     let Some(lower) = bounds.lower else {
         return Ok(Answer::decided(alloc, Row::Lacks));
@@ -137,9 +134,7 @@ pub fn open_sections(
     at: At,
     count: u32,
 ) -> Result<Answer, AllocError>
-    ensures { (s : State) → IfOk result
-        (λ answer. answer ≡ answered
-        (sections_row at.worker at.to (plain_context context.now) count) s) }
+    ensures { Answers result (sections_row at.worker at.to (plain_context context.now) count) }
 {
     let share = Share {
         sharing: Sharing::Sections,
@@ -172,7 +167,7 @@ fn in_chunk(share: Share, taken: u64, chunk: Chunk) -> Construct
 
 // The edits that go to a place, and let a share take the place of the innermost region.
 fn replaced(alloc: Global, to: u32, share: &Construct) -> Result<Seq<Edit>, AllocError>
-    ensures { IfOk result (λ es. es ≡ edits to 0 (Edit.Replace share.now)) }
+    ensures { Gives result (edits to 0 (Edit.Replace share.now)) }
 {
     let share = Shared::of(alloc, *share)?;
     go_and(alloc, to, 0, Edit::Replace(share))
@@ -188,7 +183,7 @@ fn take(
     requires few { IfSome chunk (λ c. share.taken < share.count) }
     requires within { IfSome chunk (λ c. c.end ≤ share.count) }
     requires ints { ShareHasInts share }
-    ensures { IfOk result (λ row. row ≡ taken_row branch.to branch.otherwise share chunk) }
+    ensures { Gives result (taken_row branch.to branch.otherwise share chunk) }
 {
     let Some(chunk) = chunk else {
         return jump(alloc, branch.otherwise, 0);
@@ -208,7 +203,7 @@ fn give(
 ) -> Result<Row, AllocError>
     requires within { IfSome chunk (λ c. c.end ≤ share.count) }
     requires ints { ShareHasInts share }
-    ensures { IfOk result (λ row. row ≡ given_row branch.to branch.otherwise share chunk) }
+    ensures { Gives result (given_row branch.to branch.otherwise share chunk) }
 {
     let Some(chunk) = chunk else {
         return jump(alloc, branch.otherwise, 0);
@@ -245,10 +240,11 @@ fn grab_dynamic(
 ) -> Result<Answer, AllocError>
     requires within { IfSome chunk (λ c. c.end ≤ share.count) }
     requires ints { ShareHasInts share }
-    ensures { IfOk result
-        (λ answer. answer
-        ≡ record
-        { names = write work.now ∷ []; row = given_row branch.to branch.otherwise share chunk }) }
+    ensures { Gives result (record {
+      names = write work.now ∷ [];
+      row = given_row branch.to
+          branch.otherwise share chunk;
+    }) }
 {
     let names = name_one(alloc, work, Mode::Write)?;
     let row = give(alloc, branch, share, chunk)?;
@@ -272,11 +268,8 @@ pub fn grab(
     context: &Context,
     branch: Branch,
 ) -> Result<Answer, AllocError>
-    ensures { IfOk result
-        (λ answer. answer ≡ answered
-        (grab_row branch.to branch.otherwise (plain_context context.now)
-        (share_in (plain_context context.now)))
-        (state_of store.now)) }
+    ensures { AnswersAt result (grab_row branch.to branch.otherwise (plain_context context.now)
+        (share_in (plain_context context.now))) store.now }
 {
     let Some(share) = share_in(context) else {
         return Ok(Answer::decided(alloc, Row::Lacks));
@@ -362,10 +355,8 @@ pub fn iterate(
     branch: Branch,
     slot: u32,
 ) -> Result<Answer, AllocError>
-    ensures { (s : State) → IfOk result
-        (λ answer. answer ≡ answered
-        (iterate_row branch.to branch.otherwise (plain_context context.now) slot
-        (share_in (plain_context context.now))) s) }
+    ensures { Answers result (iterate_row branch.to branch.otherwise (plain_context context.now)
+        slot (share_in (plain_context context.now))) }
 {
     let Some(share) = share_in(context) else {
         return Ok(Answer::decided(alloc, Row::Lacks));
@@ -385,7 +376,7 @@ fn is_section(share: Share) -> bool
 
 // The row that goes to the target of a section, where it has one.
 fn go_to_section(alloc: Global, targets: &[u32], section: u64) -> Result<Row, AllocError>
-    ensures { IfOk result (λ row. row ≡ section_row (slice_get targets.now section)) }
+    ensures { Gives result (section_row (slice_get targets.now section)) }
 {
     match targets.get(section as usize) {
         Some(to) => jump(alloc, *to, 0),
@@ -395,9 +386,7 @@ fn go_to_section(alloc: Global, targets: &[u32], section: u64) -> Result<Row, Al
 
 /// PICK: goes to the target of the section that was taken.
 pub fn pick(alloc: Global, context: &Context, targets: &[u32]) -> Result<Answer, AllocError>
-    ensures { (s : State) → IfOk result
-        (λ answer. answer ≡ answered
-        (pick_row targets.now (share_in (plain_context context.now))) s) }
+    ensures { Answers result (pick_row targets.now (share_in (plain_context context.now))) }
 {
     let Some(share) = share_in(context) else {
         return Ok(Answer::decided(alloc, Row::Lacks));

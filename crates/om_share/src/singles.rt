@@ -1,12 +1,10 @@
 //! Single regions, and the end of each worksharing region.
 
-ghost use Rattle.std.specs.Prelude.{◌≡◌, true, false, IfOk};
-ghost use Rattle.om_values.specs.State.{State};
+ghost use Rattle.std.specs.Prelude.{◌≡◌, true, false};
 ghost use Rattle.om_live.specs.Plain.{plain_context};
-ghost use Rattle.om_live.specs.Stores.{state_of};
 ghost use Rattle.om_steps.specs.Objects.{innermost};
-ghost use Rattle.om_steps.specs.Rows.{answered};
-ghost use Rattle.om_share.specs.Answers.{Gives, Answers, chosen_by};
+ghost use Rattle.om_steps.specs.Answers.{Gives, Answers, AnswersAt};
+ghost use Rattle.om_share.specs.Answers.{chosen_by};
 ghost use Rattle.om_share.specs.Rows.{single_work, chosen_row, single_row, closed_row, end_worksharing_row};
 
 use crate::parts::{Branch, begun, work_record};
@@ -34,7 +32,7 @@ fn single_work(runs: bool) -> Work
 
 // The row of the thread that runs a single region.
 fn run(alloc: Global, context: &Context, to: u32) -> Result<Row, AllocError>
-    ensures { IfOk result (λ row. row ≡ chosen_row to to (plain_context context.now) true) }
+    ensures { Gives result (chosen_row to to (plain_context context.now) true) }
 {
     let region = &Construct::Single { runs: true };
     let edits = begun(alloc, to, 0, region)?;
@@ -78,10 +76,8 @@ pub fn single(
     worker: u8,
     branch: Branch,
 ) -> Result<Answer, AllocError>
-    ensures { IfOk result
-        (λ answer. answer ≡ answered
-        (single_row worker branch.to branch.otherwise (plain_context context.now))
-        (state_of store.now)) }
+    ensures { AnswersAt result (single_row worker branch.to branch.otherwise (plain_context
+        context.now)) store.now }
 {
     if is_misplaced(context) {
         return Ok(Answer::decided(alloc, Row::Faults(Fault::Nesting)));
@@ -113,10 +109,8 @@ fn close(
 
 /// ENDW: closes a worksharing region.
 pub fn end_worksharing(alloc: Global, context: &Context, at: At) -> Result<Answer, AllocError>
-    ensures { (s : State) → IfOk result
-        (λ answer. answer ≡ answered
-        (end_worksharing_row at.worker at.to (plain_context context.now)
-        (innermost (plain_context context.now).constructs)) s) }
+    ensures { Answers result (end_worksharing_row at.worker at.to (plain_context context.now)
+        (innermost (plain_context context.now).constructs)) }
 {
     let Some(region) = innermost(context) else {
         return Ok(Answer::decided(alloc, Row::Lacks));

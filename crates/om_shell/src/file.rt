@@ -11,7 +11,7 @@ use std::rt::Files;
 const MOST_READS: u64 = 1 << 32;
 
 // How many bytes a read asks for.
-const CHUNK: usize = 4096;
+const CHUNK: usize = 16_384;
 
 /// All that a reader has.
 ///

@@ -1,16 +1,16 @@
 //! The rows of the frame machine: objects for its variables, updates for what it puts.
 
-ghost use Rattle.std.specs.Prelude.{◌≡◌, ◌++◌, ◌<◌, ◌+◌, ◌^◌, ◌∷◌, [], Some, IfOk, slice_get, unwrap_or, option_map};
+ghost use Rattle.std.specs.Prelude.{◌≡◌, ◌++◌, ◌<◌, ◌+◌, ◌^◌, ◌∷◌, [], Some, slice_get, unwrap_or, option_map};
 ghost use Rattle.om_foot.specs.declared.object.Obj.TheVariants as obj;
 ghost use Rattle.om_code.specs.Frames.{act};
 ghost use Rattle.om_code.specs.Places.{slots_of};
 ghost use Rattle.om_code.specs.Validity.{NamesKnown};
 ghost use Rattle.om_live.specs.Plain.{plain_context};
 ghost use Rattle.om_live.specs.Stores.{state_of};
-ghost use Rattle.om_steps.specs.Rows.{answered};
 ghost use Rattle.om_values.specs.Values.{cell_in};
 ghost use Rattle.om_steps.specs.Objects.{read, write, object_of};
 ghost use Rattle.om_steps.specs.SerialRows.{row_of, put_of, unsets, cleared, serial_row, slots_in};
+ghost use Rattle.om_steps.specs.Answers.{Gives, AnswersAt};
 
 use crate::names::{name_one, name_place, name_slot, operands_of};
 use crate::parts::one_put;
@@ -41,7 +41,7 @@ pub(crate) fn slots_of(raw: &Raw, body: u32) -> &[Slot]
 
 // A put of an int before these updates.
 fn with_put(updates: Puts, value: i32) -> Result<Puts, AllocError>
-    ensures { IfOk result (λ all. all ≡ put_of (Some value) ++ updates) }
+    ensures { Gives result (put_of (Some value) ++ updates) }
 {
     updates.behind(Update::Put(Val::Cell(Cell::Int(value))))
 }
@@ -49,7 +49,7 @@ fn with_put(updates: Puts, value: i32) -> Result<Puts, AllocError>
 // What a turn makes of its worker, with these updates behind what it puts.
 fn row_of(alloc: Global, next: u32, updates: Puts, turn: Turn) -> Result<Row, AllocError>
     requires { next + 1 < 2 ^ 32 }
-    ensures { IfOk result (λ row. row ≡ row_of (next + 1) updates turn) }
+    ensures { Gives result (row_of (next + 1) updates turn) }
 {
     match turn {
         Turn::Goes {
@@ -84,7 +84,7 @@ fn cells_of(slots: &[Slot], slot: u32) -> u32
 // That cells become unset, one for each of these names.
 #[tactic(auto, using(crate::proofs::Same::unsets_same))]
 fn unset(alloc: Global, names: &Names) -> Result<Puts, AllocError>
-    ensures { IfOk result (λ updates. updates ≡ unsets names.now) }
+    ensures { Gives result (unsets names.now) }
 {
     let mut updates = Puts::new(alloc);
     put_each(&mut updates, Cell::Unset, names)?;
@@ -114,13 +114,12 @@ fn at_cell(
 ) -> Result<Answer, AllocError>
     requires names { NamesKnown met.now.raw.now met.now.slots.now met.now.instr }
     requires next { (plain_context met.now.context.now).frame.next + 1 < 2 ^ 32 }
-    ensures { IfOk result (λ answer. answer
-        ≡ record {
-          names = record { object = object_of (plain_context met.now.context.now) place index; mode = mode } ∷ [];
-          row = row_of ((plain_context met.now.context.now).frame.next + 1) []
-              ((act met.now.raw.now met.now.slots.now met.now.instr (plain_context met.now.context.now).frame.operands).turn
-              (cell_in (state_of met.now.store.now (object_of (plain_context met.now.context.now) place index))));
-        }) }
+    ensures { Gives result (record {
+      names = record { object = object_of (plain_context met.now.context.now) place index; mode = mode } ∷ [];
+      row = row_of ((plain_context met.now.context.now).frame.next + 1) []
+          ((act met.now.raw.now met.now.slots.now met.now.instr (plain_context met.now.context.now).frame.operands).turn
+          (cell_in (state_of met.now.store.now (object_of (plain_context met.now.context.now) place index))));
+    }) }
 {
     // An access is large: there is room for no others.
     let mut names = Seq::of(Vec::with_capacity(alloc, 1)?);
@@ -145,8 +144,7 @@ fn clearing(
     turn: Turn,
 ) -> Result<Answer, AllocError>
     requires { (plain_context context.now).frame.next + 1 < 2 ^ 32 }
-    ensures { IfOk result
-        (λ answer. answer ≡ cleared raw.now (plain_context context.now) slot turn) }
+    ensures { Gives result (cleared raw.now (plain_context context.now) slot turn) }
 {
     let cells = cells_of(slots_of(raw, context.frame.body), slot);
     let mut names = Names::new(alloc);
@@ -160,13 +158,10 @@ fn clearing(
 #[inline(never)]
 fn printing(alloc: Global, next: u32, bytes: Seq<u8>, turn: Turn) -> Result<Answer, AllocError>
     requires { next + 1 < 2 ^ 32 }
-    ensures { IfOk result
-        (λ answer. answer
-        ≡ record {
-          names = write obj.Output ∷ [];
-          row = row_of (next + 1)
-              (Update.Append (Tail.Bytes bytes) ∷ []) turn;
-        }) }
+    ensures { Gives result (record {
+      names = write obj.Output ∷ [];
+      row = row_of (next + 1) (Update.Append (Tail.Bytes bytes) ∷ []) turn;
+    }) }
 {
     let updates = one_put(alloc, Update::Append(Tail::Bytes(bytes)))?;
     let names = name_one(alloc, &Obj::Output, Mode::Write)?;
@@ -185,9 +180,7 @@ pub fn serial(
 ) -> Result<Answer, AllocError>
     requires names { NamesKnown raw.now (slots_in raw.now (plain_context context.now)) instr }
     requires next { (plain_context context.now).frame.next + 1 < 2 ^ 32 }
-    ensures { IfOk result
-        (λ answer. answer ≡ answered (serial_row raw.now (plain_context context.now) instr)
-        (state_of store.now)) }
+    ensures { AnswersAt result (serial_row raw.now (plain_context context.now) instr) store.now }
 {
     let slots = slots_of(raw, context.frame.body);
     let operands = &operands_of(context);

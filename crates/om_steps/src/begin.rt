@@ -2,6 +2,7 @@
 
 ghost use Rattle.std.specs.Prelude.{◌≡◌, ◌<◌, [], IfOk, None};
 ghost use Rattle.om_steps.specs.Begins.{first_frame, new_context};
+ghost use Rattle.om_steps.specs.Answers.{Gives};
 
 use om_foot::{Name, Shared};
 use om_seq::{Pile, Seq};
@@ -20,7 +21,7 @@ pub struct Standing {
 /// error is out of memory.
 pub fn in_no_group(alloc: Global, task: &Name, team: &Team) -> Result<Standing, AllocError>
     requires { team.now.number < team.now.size }
-    ensures { IfOk result (λ s. s ≡ record { task = task.now; team = team.now; group = None }) }
+    ensures { Gives result (record { task = task.now; team = team.now; group = None }) }
 {
     Ok(Standing {
         task: Shared::of(alloc, *task)?,
@@ -60,9 +61,8 @@ pub fn new_context(
     standing: Standing,
     frame: Frame,
 ) -> Result<Context, AllocError>
-    ensures { IfOk result
-        (λ context. context
-        ≡ new_context kind phase standing.task standing.team standing.group frame) }
+    ensures { Gives result (new_context kind phase standing.task standing.team standing.group
+        frame) }
 {
     let Standing { task, team, group } = standing;
     let (constructs, callers) = nothing_open(alloc)?;

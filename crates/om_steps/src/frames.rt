@@ -1,11 +1,9 @@
 //! Calls, returns, reductions, and the numbers of threads.
 
-ghost use Rattle.std.specs.Prelude.{◌≡◌, ◌<◌, ◌≤◌, ◌+◌, ◌^◌, IfOk, length, option_map};
-ghost use Rattle.om_values.specs.State.{State};
+ghost use Rattle.std.specs.Prelude.{◌<◌, ◌≤◌, ◌+◌, ◌^◌, length, option_map};
 ghost use Rattle.om_live.specs.Plain.{plain_context};
-ghost use Rattle.om_live.specs.Stores.{state_of};
-ghost use Rattle.om_steps.specs.Rows.{answered};
 ghost use Rattle.om_steps.specs.SerialRows.{number_row, call_row, return_row, reduced, reduce_row};
+ghost use Rattle.om_steps.specs.Answers.{Gives, Answers, AnswersAt};
 
 use crate::acts::{read, write};
 use crate::names::{homes_in, name, name_given, object_of, own_cells};
@@ -29,9 +27,7 @@ const MAX_CALLERS: usize = 999;
 /// TNUM, TSIZE: a number of threads is pushed.
 pub fn number(alloc: Global, context: &Context, number: u8) -> Result<Answer, AllocError>
     requires { (plain_context context.now).frame.next + 1 < 2 ^ 32 }
-    ensures { IfOk result
-        (λ answer. (s : State) → answer
-        ≡ answered (number_row (plain_context context.now) number) s) }
+    ensures { Answers result (number_row (plain_context context.now) number) }
 {
     let to = context.frame.next + 1;
     let pushed = Some(Operand::Int(i32::from(number)));
@@ -47,10 +43,8 @@ pub fn call(
     context: &Context,
     values: Option<Vec<i32>>,
 ) -> Result<Answer, AllocError>
-    ensures { IfOk result
-        (λ answer. (s : State) → answer
-        ≡ answered (call_row launch body.now (plain_context context.now)
-        (option_map (λ v. v.items) values)) s) }
+    ensures { Answers result (call_row launch body.now (plain_context context.now) (option_map (λ
+        v. v.items) values)) }
 {
     let Some(values) = values else {
         return Ok(Answer::decided(alloc, Row::Lacks));
@@ -91,10 +85,8 @@ pub fn give_back(
     value: Option<Operand>,
 ) -> Result<Answer, AllocError>
     requires { length slots.now ≤ 2 ^ 32 }
-    ensures { IfOk result
-        (λ answer. (s : State) → answer
-        ≡ answered (return_row (plain_context context.now) slots.now
-        (plain_context context.now).callers value) s) }
+    ensures { Answers result (return_row (plain_context context.now) slots.now (plain_context
+        context.now).callers value) }
 {
     let (Some(value), false) = (value, context.callers.is_empty()) else {
         return Ok(Answer::decided(alloc, Row::Lacks));
@@ -117,7 +109,7 @@ fn reduced(
     copy: Cell,
     original: Cell,
 ) -> Result<Row, AllocError>
-    ensures { IfOk result (λ row. row ≡ reduced to reduction copy original) }
+    ensures { Gives result (reduced to reduction copy original) }
 {
     let (copy, original) = match (copy, original) {
         (Cell::Dead, _) | (_, Cell::Dead) => return Ok(Row::Faults(Fault::Dead)),
@@ -151,11 +143,8 @@ pub fn reduce(
     combining: Combining,
 ) -> Result<Answer, AllocError>
     requires { (plain_context context.now).frame.next + 1 < 2 ^ 32 }
-    ensures { IfOk result
-        (λ answer. answer ≡ answered
-        (reduce_row (plain_context context.now) combining.reduction combining.copy
-        combining.original)
-        (state_of store.now)) }
+    ensures { AnswersAt result (reduce_row (plain_context context.now) combining.reduction
+        combining.copy combining.original) store.now }
 {
     let copy = &read(object_of(context, Place::Slot(combining.copy), 0));
     let original = &write(object_of(context, combining.original, 0));

@@ -1,9 +1,10 @@
 //! The objects that instructions name.
 
-ghost use Rattle.std.specs.Prelude.{◌≡◌, ◌++◌, ◌∷◌, [], ◌≤◌, ◌^◌, IfOk, OnOk, length, option_map, slice_get};
+ghost use Rattle.std.specs.Prelude.{◌≡◌, ◌++◌, ◌∷◌, [], ◌≤◌, ◌^◌, OnOk, length, option_map, slice_get};
 ghost use Rattle.om_live.specs.Plain.{plain_context};
-ghost use Rattle.om_steps.specs.Objects.{read, write, object_of, slot_in, slot_cells, given_cells, own_slot, own_cells, home_at, home_from, home_for, homes_for, homes_in, innermost, group_name, group_in, is_in_region, is_misplaced_in, is_misplaced};
+ghost use Rattle.om_steps.specs.Objects.{write, object_of, slot_in, slot_cells, given_cells, own_slot, own_cells, home_at, home_from, home_for, homes_for, homes_in, innermost, group_name, group_in, is_in_region, is_misplaced};
 ghost use Rattle.om_foot.specs.declared.object.Obj.TheVariants as obj;
+ghost use Rattle.om_steps.specs.Answers.{Gives};
 
 use om_code::frame::Operands;
 use om_code::instruction::Place;
@@ -23,7 +24,7 @@ fn push(names: &mut Seq<Access>, object: Obj, mode: Mode) -> Result<(), AllocErr
 
 /// An object alone. An access is large: there is room for no others.
 pub fn name_one(alloc: Global, object: &Obj, mode: Mode) -> Result<Names, AllocError>
-    ensures { IfOk result (λ names. names ≡ record { object = object.now; mode = mode } ∷ []) }
+    ensures { Gives result (record { object = object.now; mode = mode } ∷ []) }
 {
     let mut names = Seq::of(Vec::with_capacity(alloc, 1)?);
     push(&mut names, *object, mode)?;
@@ -241,7 +242,7 @@ fn name_own(own: &mut Names, context: &Context, slot: u32, cells: u32) -> Result
 /// The cells of the running frame's own slots, as what is written.
 pub fn own_cells(alloc: Global, context: &Context, slots: &[Slot]) -> Result<Names, AllocError>
     requires { length slots.now ≤ 2 ^ 32 }
-    ensures { IfOk result (λ own. own ≡ own_cells (plain_context context.now) slots.now) }
+    ensures { Gives result (own_cells (plain_context context.now) slots.now) }
 {
     let mut own = Names::new(alloc);
     for (number, slot) in slots.iter().enumerate() {
@@ -252,7 +253,7 @@ pub fn own_cells(alloc: Global, context: &Context, slots: &[Slot]) -> Result<Nam
 
 // Where the cells of a slot lie, for a frame that is begun from another one.
 fn home_from(task: &Shared<Name>, frame: u64, slot: u32, home: &Home) -> Result<Home, AllocError>
-    ensures { IfOk result (λ from. from ≡ home_from task.now frame slot home.now) }
+    ensures { Gives result (home_from task.now frame slot home.now) }
 {
     match home {
         Home::Own => Ok(Home::Elsewhere {
@@ -271,7 +272,7 @@ fn home_for(
     homes: &[Home],
     source: Source,
 ) -> Result<Home, AllocError>
-    ensures { IfOk result (λ home. home ≡ home_for task.now frame homes.now source) }
+    ensures { Gives result (home_for task.now frame homes.now source) }
 {
     match source {
         Source::Own => Ok(Home::Own),
@@ -288,7 +289,7 @@ pub fn homes_for(
     homes: &[Home],
     slots: &[Slot],
 ) -> Result<Seq<Home>, AllocError>
-    ensures { IfOk result (λ all. all ≡ homes_for task.now frame homes.now slots.now) }
+    ensures { Gives result (homes_for task.now frame homes.now slots.now) }
 {
     let mut all = Seq::new(alloc);
     for slot in slots {
@@ -299,7 +300,7 @@ pub fn homes_for(
 
 /// The same from the running frame of a context.
 pub fn homes_in(alloc: Global, context: &Context, slots: &[Slot]) -> Result<Seq<Home>, AllocError>
-    ensures { IfOk result (λ all. all ≡ homes_in (plain_context context.now) slots.now) }
+    ensures { Gives result (homes_in (plain_context context.now) slots.now) }
 {
     let frame = &context.frame;
     homes_for(

@@ -1,7 +1,8 @@
 //! What rows are made of: edits, names and updates that many of them have.
 
-ghost use Rattle.std.specs.Prelude.{◌≡◌, ◌∷◌, [], None, IfOk};
+ghost use Rattle.std.specs.Prelude.{◌∷◌, [], None};
 ghost use Rattle.om_steps.specs.Objects.{events, event};
+ghost use Rattle.om_steps.specs.Answers.{Gives};
 
 use crate::names::{name_events, name_one};
 use crate::row::only;
@@ -22,7 +23,7 @@ pub struct At {
 
 /// The edits that go to a place, and do nothing else.
 pub fn go_on(alloc: Global, to: u32) -> Result<Seq<Edit>, AllocError>
-    ensures { IfOk result (λ edits. edits ≡ Edit.Go to 0 None ∷ []) }
+    ensures { Gives result (Edit.Go to 0 None ∷ []) }
 {
     let go = Edit::Go {
         to,
@@ -34,7 +35,7 @@ pub fn go_on(alloc: Global, to: u32) -> Result<Seq<Edit>, AllocError>
 
 /// The edits that go to a place with so many operands taken, and then make one more.
 pub fn go_and(alloc: Global, to: u32, takes: u32, then: Edit) -> Result<Seq<Edit>, AllocError>
-    ensures { IfOk result (λ edits. edits ≡ Edit.Go to takes None ∷ then ∷ []) }
+    ensures { Gives result (Edit.Go to takes None ∷ then ∷ []) }
 {
     let pushed = None;
     let mut edits = Seq::one(alloc, then)?;
@@ -50,7 +51,7 @@ pub fn go_and_then(
     then: Edit,
     last: Edit,
 ) -> Result<Seq<Edit>, AllocError>
-    ensures { IfOk result (λ edits. edits ≡ Edit.Go to takes None ∷ then ∷ last ∷ []) }
+    ensures { Gives result (Edit.Go to takes None ∷ then ∷ last ∷ []) }
 {
     let mut edits = go_and(alloc, to, takes, then)?;
     edits.push(last)?;
@@ -59,7 +60,7 @@ pub fn go_and_then(
 
 /// An update alone.
 pub fn one_put(alloc: Global, update: Update) -> Result<Puts, AllocError>
-    ensures { IfOk result (λ updates. updates ≡ update ∷ []) }
+    ensures { Gives result (update ∷ []) }
 {
     Ok(Puts::of(alloc, Seq::one(alloc, update)?))
 }
@@ -71,8 +72,7 @@ pub fn name_with_events(
     mode: Mode,
     worker: u8,
 ) -> Result<Names, AllocError>
-    ensures { IfOk result
-        (λ names. names ≡ record { object = object.now; mode = mode } ∷ events worker ∷ []) }
+    ensures { Gives result (record { object = object.now; mode = mode } ∷ events worker ∷ []) }
 {
     let mut names = name_one(alloc, object, mode)?;
     name_events(&mut names, worker)?;
@@ -81,14 +81,14 @@ pub fn name_with_events(
 
 /// The event records of a worker alone, as what is written.
 pub fn own_events(alloc: Global, worker: u8) -> Result<Names, AllocError>
-    ensures { IfOk result (λ names. names ≡ events worker ∷ []) }
+    ensures { Gives result (events worker ∷ []) }
 {
     name_one(alloc, &Obj::Events(worker), Mode::Write)
 }
 
 /// An update, and behind it that an event record is appended.
 pub fn update_with_event(alloc: Global, update: Update, entry: Record) -> Result<Puts, AllocError>
-    ensures { IfOk result (λ updates. updates ≡ update ∷ event entry ∷ []) }
+    ensures { Gives result (update ∷ event entry ∷ []) }
 {
     let mut updates = one_put(alloc, update)?;
     put_event(alloc, &mut updates, entry)?;
@@ -97,7 +97,7 @@ pub fn update_with_event(alloc: Global, update: Update, entry: Record) -> Result
 
 // That an event record is appended, alone.
 fn one_event(alloc: Global, entry: Record) -> Result<Puts, AllocError>
-    ensures { IfOk result (λ updates. updates ≡ event entry ∷ []) }
+    ensures { Gives result (event entry ∷ []) }
 {
     let mut updates = Puts::new(alloc);
     put_event(alloc, &mut updates, entry)?;
@@ -111,9 +111,10 @@ pub fn recorded(
     edits: Seq<Edit>,
     entry: Record,
 ) -> Result<Answer, AllocError>
-    ensures { IfOk result
-        (λ answer. answer
-        ≡ record { names = events worker ∷ []; row = Row.Goes edits (event entry ∷ []) }) }
+    ensures { Gives result (record {
+      names = events worker ∷ [];
+      row = Row.Goes edits (event entry ∷ []);
+    }) }
 {
     let updates = one_event(alloc, entry)?;
     let names = own_events(alloc, worker)?;

@@ -1,7 +1,8 @@
 //! What an instruction asks of the state, and what comes of it.
 
-ghost use Rattle.std.specs.Prelude.{◌≡◌, ◌∷◌, [], IfOk};
+ghost use Rattle.std.specs.Prelude.{◌≡◌, ◌∷◌, []};
 ghost use Rattle.om_steps.specs.Rows.{goes};
+ghost use Rattle.om_steps.specs.Answers.{Gives};
 
 use om_code::frame::{Fault, Operand};
 use om_foot::Names;
@@ -46,7 +47,7 @@ pub struct Launch {
 pub(crate) fn only<T>(alloc: Global, item: T) -> Result<Seq<T>, AllocError>
 where
     T: Drop,
-    ensures { IfOk result (λ only. only ≡ item ∷ []) }
+    ensures { Gives result (item ∷ []) }
 {
     let mut items = Vec::with_capacity(alloc, 1)?;
     items.push_reserved(item);
@@ -74,7 +75,7 @@ impl Row {
         pushed: Option<Operand>,
         updates: Puts,
     ) -> Result<Row, AllocError>
-        ensures { IfOk result (λ row. row ≡ goes to takes pushed updates) }
+        ensures { Gives result (goes to takes pushed updates) }
     {
         let edits = only(alloc, Edit::Go { to, takes, pushed })?;
         Ok(Row::Goes { edits, updates })

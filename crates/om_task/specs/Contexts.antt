@@ -1,4 +1,4 @@
--- The contexts of a stack, and those that begin.
+-- For proofs: the contexts of a stack, those that begin, and what a step does to them.
 use Rattle.std.specs.Prelude.{ℕ, ℤ, Bool, Option, None, List, [], ◌∷◌, map, slice_get}
 use Rattle.std.specs.declared.boxed.Box.{Box}
 use Rattle.std.specs.declared.alloc.Global.{Global}
@@ -73,7 +73,7 @@ ending c own next = Goes (EndContext ∷ []) (ended_updates c own next)
 abbrev pub ready_put : Making → Body → Context → List Update
 ready_put m body c = Put (value.Task (task.Ready (ready_of m body c))) ∷ []
 
--- the row where a task is made with these values, by the name that is born
+-- what a step asks that makes a task with these values, under the next name of its context
 abbrev pub born_row : Making → Body → Context → List ℤ → Asked
 born_row m body c ns = made_row m body c ns (born c)
 

@@ -6,6 +6,5 @@ pub mod Steps
 pub mod Plans
 pub mod Laws
 pub mod Shapes
-pub mod Answers
 pub mod Contexts
 pub mod Planned

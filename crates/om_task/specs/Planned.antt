@@ -1,4 +1,4 @@
--- What a worker asks at a store, and the plan of its step.
+-- For proofs: what a worker asks at a store, and the plan of its step.
 use Rattle.std.specs.Prelude.{ℕ, Result, IfOk, List, ◌∷◌}
 use Rattle.om_foot.specs.declared.footprint.Access.{Access}
 use Rattle.om_foot.specs.declared.footprint.Mode.TheVariants as mode
@@ -16,23 +16,10 @@ use Rattle.om_live.specs.Stores.{state_of}
 use Rattle.om_steps.specs.declared.row.Answer.{Answer}
 use Rattle.om_steps.specs.declared.row.Row.{Row}
 use Rattle.om_steps.specs.Rows.{Asked}
-use Rattle.om_team.specs.declared.table.Doing.{Doing}
-use Rattle.om_team.specs.Sites.{Site, site}
+use Rattle.om_team.specs.Sites.{site}
 use Rattle.om_task.specs.declared.planned.Plan.{Plan}
 use Rattle.om_task.specs.Plans.{answer_in, step_by, StandsFor}
 use Rattle.om_task.specs.Rules.{asked, next_row, outcome_after}
-use Rattle.om_task.specs.Table.{task_row, row_of}
-
--- where a worker stands that carries out an instruction
-abbrev pub site_of_doing : Raw → Stack → Doing → Site
-site_of_doing program stack doing = site program doing.workers doing.worker (plain_stack stack)
-
--- what its instruction asks, if it is one of tasks, and if it is any
-abbrev pub task_asked : Raw → Stack → Doing → Asked
-task_asked program stack doing = task_row (site_of_doing program stack doing) doing.instruction
-
-abbrev pub row_asked : Raw → Stack → Doing → Asked
-row_asked program stack doing = row_of (site_of_doing program stack doing) doing.instruction
 
 -- what the instruction asks at which a worker stands
 abbrev pub next_asked : Raw → ℕ → ℕ → Stack → Asked

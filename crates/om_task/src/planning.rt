@@ -9,7 +9,7 @@ ghost use Rattle.om_values.specs.Values.{control_in};
 ghost use Rattle.om_live.specs.Plain.{plain_control, plain_stack};
 ghost use Rattle.om_live.specs.Stores.{state_of};
 ghost use Rattle.om_team.specs.Counters.{IsWithin, ControlWithin, StateWithin};
-ghost use Rattle.om_task.specs.Answers.{Gives, AnswersAt};
+ghost use Rattle.om_steps.specs.Answers.{Gives, AnswersAt};
 ghost use Rattle.om_task.specs.Planned.{next_asked, choice_asked, answer_by, row_step, Plans, PlansBy};
 ghost use Rattle.om_task.specs.Plans.{label_at, RowHasRoom, names_of, effect_at, StandsFor, PlanHasRoom};
 ghost use Rattle.om_task.specs.Rules.{is_at_scheduling_point, line_in, rules_of};

@@ -7,7 +7,7 @@ ghost use Rattle.om_events.specs.declared.event.Record.TheVariants as event_reco
 ghost use Rattle.om_values.specs.declared.value.Val.TheVariants as value;
 ghost use Rattle.om_live.specs.Stores.{state_of};
 ghost use Rattle.om_team.specs.Sites.{body_of};
-ghost use Rattle.om_task.specs.Answers.{Gives};
+ghost use Rattle.om_steps.specs.Answers.{Gives};
 ghost use Rattle.om_task.specs.Contexts.{initial_context, initial_begun};
 ghost use Rattle.om_task.specs.Rules.{first_context, first_control, first_records, initial_in, start_of};
 

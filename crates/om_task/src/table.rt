@@ -2,8 +2,9 @@
 
 ghost use Rattle.om_live.specs.Plain.{plain_stack};
 ghost use Rattle.om_team.specs.Ready.{IsReady};
-ghost use Rattle.om_task.specs.Answers.{AnswersAt};
-ghost use Rattle.om_task.specs.Planned.{task_asked, row_asked};
+ghost use Rattle.om_steps.specs.Answers.{AnswersAt};
+ghost use Rattle.om_team.specs.Doings.{asked_by};
+ghost use Rattle.om_task.specs.Table.{task_row, row_of};
 
 use crate::task::{Making, spawn, task_end, task_yield};
 use crate::wait::{group_begin, group_end, wait_begin, wait_end};
@@ -22,7 +23,7 @@ fn task_answer(
     doing: Doing,
 ) -> Result<Answer, AllocError>
     requires { IsReady program.now (plain_stack stack.now) doing.instruction }
-    ensures { AnswersAt result (task_asked program.now stack.now doing) store.now }
+    ensures { AnswersAt result (asked_by task_row program.now stack.now doing) store.now }
 {
     let context: &Context = &stack.top;
     let worker = doing.worker;
@@ -57,7 +58,7 @@ pub(crate) fn answer(
     doing: Doing,
 ) -> Result<Answer, AllocError>
     requires { IsReady program.now (plain_stack stack.now) doing.instruction }
-    ensures { AnswersAt result (row_asked program.now stack.now doing) store.now }
+    ensures { AnswersAt result (asked_by row_of program.now stack.now doing) store.now }
 {
     if is_of_tasks(doing.instruction) {
         task_answer(alloc, store, program, stack, doing)

@@ -3,7 +3,7 @@
 ghost use Rattle.std.specs.Prelude.{◌≡◌, ◌+◌, ◌<◌, ◌≤◌, ◌^◌, ◌++◌, OnOk, length, option_map};
 ghost use Rattle.om_foot.specs.Names.{above};
 ghost use Rattle.om_live.specs.Plain.{plain_context, plain_stack};
-ghost use Rattle.om_task.specs.Answers.{Gives, Answers};
+ghost use Rattle.om_steps.specs.Answers.{Gives, Answers};
 ghost use Rattle.om_task.specs.Contexts.{born_row, held_at, ending, ready_put};
 ghost use Rattle.om_task.specs.Tasks.{group_of, ready_of};
 ghost use Rattle.om_task.specs.Rows.{made_names, values_given, spawn_row, ended_names, ended_updates, task_end_row, task_yield_row};
@@ -106,7 +106,7 @@ fn give_values(
 }
 
 // A task that is ready, as what is put.
-fn put_ready(
+fn ready_put(
     alloc: Global,
     making: &Making,
     body: &Body,
@@ -134,7 +134,7 @@ fn made(
         return Ok(Answer::decided(alloc, Row::Faults(Fault::Name)));
     };
     let names = made_names(alloc, making.worker, body, context, new)?;
-    let mut updates = put_ready(alloc, making, body, context)?;
+    let mut updates = ready_put(alloc, making, body, context)?;
     give_values(alloc, &mut updates, context, new, values)?;
     let edits = go_and(
         alloc,

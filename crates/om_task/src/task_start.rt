@@ -2,7 +2,7 @@
 
 ghost use Rattle.std.specs.Prelude.{◌≡◌, IfOk, option_map};
 ghost use Rattle.om_live.specs.Plain.{plain_context};
-ghost use Rattle.om_task.specs.Answers.{Gives, AnswersAt};
+ghost use Rattle.om_steps.specs.Answers.{Gives, AnswersAt};
 ghost use Rattle.om_task.specs.Contexts.{beginning, task_at};
 ghost use Rattle.om_task.specs.Tasks.{task_context};
 ghost use Rattle.om_task.specs.Rows.{begun_updates, ready_for, start_row};

@@ -3,7 +3,7 @@
 ghost use Rattle.std.specs.Prelude.{◌≡◌, ◌+◌, ◌<◌, ◌^◌};
 ghost use Rattle.om_live.specs.Plain.{plain_context};
 ghost use Rattle.om_steps.specs.Objects.{innermost};
-ghost use Rattle.om_task.specs.Answers.{Gives, Answers, AnswersAt};
+ghost use Rattle.om_steps.specs.Answers.{Gives, Answers, AnswersAt};
 ghost use Rattle.om_task.specs.Contexts.{opening};
 ghost use Rattle.om_task.specs.Tasks.{innermost_group};
 ghost use Rattle.om_task.specs.Rows.{sync_event, wait_begin_row, waited, wait_end_row, group_begin_row, closed, group_end_row};

@@ -1,11 +1,11 @@
 //! What the choice of a worker names, and what comes of it, but for the rows of tasks. No program calls `names`
 //! and `effect`: `om_task::plan` gives both.
 
-ghost use Rattle.std.specs.Prelude.{◌≡◌, ◌∷◌, ◌≤◌, ◌^◌, IfOk, Some};
+ghost use Rattle.std.specs.Prelude.{◌∷◌, ◌≤◌, ◌^◌, Some};
 ghost use Rattle.om_code.specs.Places.{instruction_at};
-ghost use Rattle.om_values.specs.Rules.{control_access};
 ghost use Rattle.om_live.specs.Plain.{plain_control, plain_stack};
 ghost use Rattle.om_live.specs.Stores.{state_of};
+ghost use Rattle.om_steps.specs.Answers.{Gives};
 ghost use Rattle.om_team.specs.Asked.{next_asked, choice_asked, asked_in, answer_in, names_in, row_in, effect_at};
 ghost use Rattle.om_team.specs.Counters.{IsWithin, ControlWithin, StateWithin};
 ghost use Rattle.om_team.specs.Sites.{site};
@@ -32,9 +32,7 @@ struct Planning<'a> {
 /// What a worker's step touches that names these objects beside its control. Its only error is out of
 /// memory.
 pub fn footprint(worker: u8, names: Seq<Access>) -> Result<Seq<Access>, AllocError>
-    ensures { IfOk result
-        (λ footprint. footprint ≡ record { object = Obj.Control worker; mode = Mode.Write }
-        ∷ names) }
+    ensures { Gives result (record { object = Obj.Control worker; mode = Mode.Write } ∷ names) }
 {
     let object = Obj::Control(worker);
     let mode = Mode::Write;
@@ -55,12 +53,10 @@ fn next_answer(
     planning: &Planning<'_>,
 ) -> Result<Option<Answer>, AllocError>
     requires { IsWithin (2 ^ 63) (plain_stack stack.now).top }
-    ensures { IfOk result
-        (λ answer. answer ≡ answer_in (state_of store.now)
-        (next_asked (site program.now planning.now.workers planning.now.label.now.worker
-        (plain_stack stack.now))
-        (instruction_at program.now (plain_stack stack.now).top.frame.body
-        (plain_stack stack.now).top.frame.next))) }
+    ensures { Gives result (answer_in (state_of store.now) (next_asked (site program.now
+        planning.now.workers planning.now.label.now.worker (plain_stack stack.now))
+        (instruction_at program.now (plain_stack stack.now).top.frame.body (plain_stack
+        stack.now).top.frame.next))) }
 {
     let Some(instruction) = instruction_of(program, stack) else {
         return Ok(Some(Answer::decided(alloc, Row::Lacks)));
@@ -85,10 +81,8 @@ fn choice_answer(
     planning: &Planning<'_>,
 ) -> Result<Option<Answer>, AllocError>
     requires { IsWithin (2 ^ 63) (plain_stack stack.now).top }
-    ensures { IfOk result
-        (λ answer. answer ≡ answer_in (state_of store.now)
-        (choice_asked (site program.now planning.now.workers planning.now.label.now.worker
-        (plain_stack stack.now))
+    ensures { Gives result (answer_in (state_of store.now) (choice_asked (site program.now
+        planning.now.workers planning.now.label.now.worker (plain_stack stack.now))
         planning.now.label.now.choice)) }
 {
     match &planning.label.choice {
@@ -106,10 +100,8 @@ fn control_answer(
     planning: &Planning<'_>,
 ) -> Result<Option<Answer>, AllocError>
     requires { ControlWithin (2 ^ 63) (plain_control control.now) }
-    ensures { IfOk result
-        (λ answer. answer ≡ answer_in (state_of store.now)
-        (asked_in program.now planning.now.workers planning.now.label.now
-        (plain_control control.now))) }
+    ensures { Gives result (answer_in (state_of store.now) (asked_in program.now
+        planning.now.workers planning.now.label.now (plain_control control.now))) }
 {
     match control {
         Control::Running(stack) => choice_answer(alloc, program, store, stack, planning),
@@ -133,9 +125,8 @@ pub fn names(
 ) -> Result<Option<Seq<Access>>, AllocError>
     requires counters { ControlWithin (2 ^ 63) (plain_control control.now) }
     requires some { 1 ≤ workers }
-    ensures { IfOk result
-        (λ names. names ≡ names_in label.now
-        (asked_in program.now workers label.now (plain_control control.now))) }
+    ensures { Gives result (names_in label.now (asked_in program.now workers label.now
+        (plain_control control.now))) }
 {
     let planning = &Planning { label, workers };
     let store = &Store::new(alloc);
@@ -156,10 +147,8 @@ fn control_row(
     planning: &Planning<'_>,
 ) -> Result<Option<Row>, AllocError>
     requires { ControlWithin (2 ^ 63) (plain_control control.now) }
-    ensures { IfOk result
-        (λ row. row ≡ row_in (state_of store.now)
-        (asked_in program.now planning.now.workers planning.now.label.now
-        (plain_control control.now))) }
+    ensures { Gives result (row_in (state_of store.now) (asked_in program.now planning.now.workers
+        planning.now.label.now (plain_control control.now))) }
 {
     let Some(answer) = control_answer(alloc, program, store, control, planning)? else {
         return Ok(None);
@@ -185,8 +174,7 @@ pub fn effect(
 ) -> Result<Option<Row>, AllocError>
     requires counters { StateWithin (2 ^ 63) (state_of store.now) }
     requires some { 1 ≤ workers }
-    ensures { IfOk result
-        (λ row. row ≡ effect_at program.now workers label.now (state_of store.now)) }
+    ensures { Gives result (effect_at program.now workers label.now (state_of store.now)) }
 {
     let planning = &Planning { label, workers };
     match store.control(label.worker) {

@@ -1,7 +1,8 @@
 //! BEGIN: a member's task begins.
 
-ghost use Rattle.std.specs.Prelude.{◌≡◌, [], IfOk};
+ghost use Rattle.std.specs.Prelude.{[]};
 ghost use Rattle.om_live.specs.Plain.{plain_context};
+ghost use Rattle.om_steps.specs.Answers.{Gives};
 ghost use Rattle.om_team.specs.Rows.{begin_row};
 
 use om_events::Record;
@@ -13,13 +14,10 @@ use std::alloc::{AllocError, Global};
 
 /// BEGIN: the begin of a member's task is recorded. The only error is out of memory.
 pub fn begin(alloc: Global, at: At, context: &Context) -> Result<Answer, AllocError>
-    ensures { IfOk result
-        (λ answer. answer
-        ≡ record {
-          names = (begin_row at.worker at.to (plain_context context.now)).names;
-          row =
-              (begin_row at.worker at.to (plain_context context.now)).row [];
-        }) }
+    ensures { Gives result (record {
+      names = (begin_row at.worker at.to (plain_context context.now)).names;
+      row = (begin_row at.worker at.to (plain_context context.now)).row [];
+    }) }
 {
     let edits = go_on(alloc, at.to)?;
     let begun = Record::ImplicitTask {

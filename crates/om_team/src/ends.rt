@@ -1,9 +1,8 @@
 //! FIN: the end of the program.
 
-ghost use Rattle.std.specs.Prelude.{◌≡◌, IfOk};
+ghost use Rattle.std.specs.Prelude.{◌≡◌};
 ghost use Rattle.om_live.specs.Plain.{plain_context};
-ghost use Rattle.om_live.specs.Stores.{state_of};
-ghost use Rattle.om_steps.specs.Rows.{answered};
+ghost use Rattle.om_steps.specs.Answers.{Gives, AnswersAt};
 ghost use Rattle.om_team.specs.Rows.{value_of, finished, finish_row};
 
 use om_code::serial::int_at;
@@ -20,7 +19,7 @@ use std::alloc::{AllocError, Global};
 
 // What comes of an initial task that is at its end, with this value.
 fn finished(alloc: Global, context: &Context, value: i32, is_over: bool) -> Result<Row, AllocError>
-    ensures { IfOk result (λ row. row ≡ finished (plain_context context.now) value is_over) }
+    ensures { Gives result (finished (plain_context context.now) value is_over) }
 {
     if !is_over {
         return Ok(Row::Blocked(Blocked::Children));
@@ -59,9 +58,7 @@ pub fn finish(
     context: &Context,
     has_value: bool,
 ) -> Result<Answer, AllocError>
-    ensures { IfOk result
-        (λ answer. answer ≡ answered (finish_row worker (plain_context context.now) has_value)
-        (state_of store.now)) }
+    ensures { AnswersAt result (finish_row worker (plain_context context.now) has_value) store.now }
 {
     let (Kind::Initial, Some(value)) = (context.kind, value_of(context, has_value)) else {
         return Ok(Answer::decided(alloc, Row::Lacks));

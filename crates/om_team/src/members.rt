@@ -1,8 +1,9 @@
 //! The members of a team: the workers that they need, and what they begin with.
 
-ghost use Rattle.std.specs.Prelude.{◌≡◌, ◌++◌, ◌∷◌, [], ◌-◌, ◌<◌, ◌≤◌, IfOk, OnOk, length};
+ghost use Rattle.std.specs.Prelude.{◌≡◌, ◌++◌, ◌∷◌, [], ◌-◌, ◌<◌, ◌≤◌, OnOk, length};
 ghost use Rattle.om_live.specs.Stores.{state_of};
 ghost use Rattle.om_values.specs.declared.value.Val.TheVariants as value;
+ghost use Rattle.om_steps.specs.Answers.{Gives};
 ghost use Rattle.om_team.specs.Teams.{member, workers_from, busy_in, member_controls, member_cells, member_puts};
 
 use om_foot::{Mode, Name, Names, Obj};
@@ -72,7 +73,7 @@ pub(crate) fn name_members(
 pub(crate) fn member(alloc: Global, team: &Team, frame: &Frame) -> Result<Context, AllocError>
     requires named { length team.now.name ≤ 63 }
     requires member { team.now.number < team.now.size }
-    ensures { IfOk result (λ context. context ≡ member team.now frame.now) }
+    ensures { Gives result (member team.now frame.now) }
 {
     let frame = frame.copy(alloc)?;
     let standing = in_no_group(alloc, &member_name(team.name.get(), team.number), team)?;

@@ -1,14 +1,13 @@
 //! The table of all instructions but those of tasks: each with its row.
 
-ghost use Rattle.std.specs.Prelude.{◌≡◌, ◌<◌, ◌≤◌, ◌+◌, ◌^◌, IfOk, IfSome};
+ghost use Rattle.std.specs.Prelude.{◌≡◌, ◌<◌, ◌≤◌, ◌+◌, ◌^◌, IfSome};
 ghost use Rattle.om_live.specs.Plain.{plain_stack};
-ghost use Rattle.om_live.specs.Stores.{state_of};
 ghost use Rattle.om_code.specs.Places.{instruction_at, slots_of};
-ghost use Rattle.om_steps.specs.Rows.{answered};
 ghost use Rattle.om_steps.specs.SerialRows.{serial_row};
+ghost use Rattle.om_steps.specs.Answers.{AnswersAt};
 ghost use Rattle.om_team.specs.Counters.{IsWithin};
 ghost use Rattle.om_team.specs.Ready.{IsReady};
-ghost use Rattle.om_team.specs.Sites.{site, lock_of, targets_of};
+ghost use Rattle.om_team.specs.Sites.{lock_of, targets_of};
 ghost use Rattle.om_team.specs.Table.{is_of_tasks, frame_row, team_row, share_row, region_row, row_of};
 
 use crate::begin::begin;
@@ -103,11 +102,7 @@ fn frame_answer(
     doing: Doing,
 ) -> Result<Answer, AllocError>
     requires { IsReady program.now (plain_stack stack.now) doing.instruction }
-    ensures { IfOk result
-        (λ answer. answer ≡ answered
-        (frame_row (site program.now doing.workers doing.worker (plain_stack stack.now))
-        doing.instruction)
-        (state_of store.now)) }
+    ensures { AnswersAt result (asked_by frame_row program.now stack.now doing) store.now }
 {
     let context: &Context = &stack.top;
     let operands = &operands_of(context);
@@ -153,10 +148,8 @@ fn serial_answer(
     doing: Doing,
 ) -> Result<Answer, AllocError>
     requires { IsReady program.now (plain_stack stack.now) doing.instruction }
-    ensures { IfOk result
-        (λ answer. answer ≡ answered
-        (serial_row program.now (plain_stack stack.now).top doing.instruction)
-        (state_of store.now)) }
+    ensures { AnswersAt result (serial_row program.now (plain_stack stack.now).top
+        doing.instruction) store.now }
 {
     let raw = program.raw();
     om_steps::serial(alloc, raw, store, &stack.top, doing.instruction)
@@ -171,11 +164,7 @@ fn team_answer(
     doing: Doing,
 ) -> Result<Answer, AllocError>
     requires { IsReady program.now (plain_stack stack.now) doing.instruction }
-    ensures { IfOk result
-        (λ answer. answer ≡ answered
-        (team_row (site program.now doing.workers doing.worker (plain_stack stack.now))
-        doing.instruction)
-        (state_of store.now)) }
+    ensures { AnswersAt result (asked_by team_row program.now stack.now doing) store.now }
 {
     let context: &Context = &stack.top;
     let worker = doing.worker;
@@ -237,11 +226,7 @@ fn share_answer(
     doing: Doing,
 ) -> Result<Answer, AllocError>
     requires { IsReady program.now (plain_stack stack.now) doing.instruction }
-    ensures { IfOk result
-        (λ answer. answer ≡ answered
-        (share_row (site program.now doing.workers doing.worker (plain_stack stack.now))
-        doing.instruction)
-        (state_of store.now)) }
+    ensures { AnswersAt result (asked_by share_row program.now stack.now doing) store.now }
 {
     let context: &Context = &stack.top;
     let operands = &operands_of(context);
@@ -279,11 +264,7 @@ fn region_answer(
     doing: Doing,
 ) -> Result<Answer, AllocError>
     requires { IsReady program.now (plain_stack stack.now) doing.instruction }
-    ensures { IfOk result
-        (λ answer. answer ≡ answered
-        (region_row (site program.now doing.workers doing.worker (plain_stack stack.now))
-        doing.instruction)
-        (state_of store.now)) }
+    ensures { AnswersAt result (asked_by region_row program.now stack.now doing) store.now }
 {
     let context: &Context = &stack.top;
     let worker = doing.worker;
@@ -318,11 +299,7 @@ pub fn answer(
     doing: Doing,
 ) -> Result<Answer, AllocError>
     requires { IsReady program.now (plain_stack stack.now) doing.instruction }
-    ensures { IfOk result
-        (λ answer. answer ≡ answered
-        (row_of (site program.now doing.workers doing.worker (plain_stack stack.now))
-        doing.instruction)
-        (state_of store.now)) }
+    ensures { AnswersAt result (asked_by row_of program.now stack.now doing) store.now }
 {
     match doing.instruction {
         Instr::ThreadNumber | Instr::TeamSize | Instr::Call { .. } | Instr::Reduce { .. } => {

@@ -2,13 +2,12 @@
 
 ghost use Rattle.std.specs.Prelude.{◌≡◌, ◌++◌, ◌∷◌, [], ◌+◌, ◌-◌, ◌<◌, ◌≤◌, ◌^◌, IfOk, IfSome, length, None};
 ghost use Rattle.om_live.specs.Plain.{plain_context};
-ghost use Rattle.om_live.specs.Stores.{state_of};
 ghost use Rattle.om_code.specs.Frames.{int_at};
 ghost use Rattle.om_code.specs.Printing.{ints_on};
-ghost use Rattle.om_steps.specs.Rows.{answered};
 ghost use Rattle.om_steps.specs.Objects.{events, homes_in};
 ghost use Rattle.om_team.specs.Teams.{member, workers_from, member_cells, size_of, level_of};
 ghost use Rattle.om_steps.specs.Begins.{first_frame};
+ghost use Rattle.om_steps.specs.Answers.{Gives, AnswersAt};
 ghost use Rattle.om_team.specs.Rows.{team_updates, forked, team_row, team_of, named_row, sized_row, fork_row};
 
 use crate::members::{busy, member, name_members, name_workers, put_given, put_members};
@@ -79,8 +78,7 @@ fn team_of(
     requires few { length context.now.task ≤ 62 }
     requires workers { 1 ≤ workers }
     requires asked { IfSome asked (λ threads. 1 ≤ threads) }
-    ensures value { IfOk result
-        (λ team. team ≡ team_of workers (plain_context context.now) asked) }
+    ensures value { Gives result (team_of workers (plain_context context.now) asked) }
     ensures member { IfOk result (λ team. team.number < team.size) }
 {
     let size = size_of(workers, context.team.get().level, asked);
@@ -99,9 +97,8 @@ fn team_of(
 #[tactic(auto, using(crate::proofs::Counting::regrouped))]
 fn team_names(alloc: Global, worker: u8, team: &Team, given: &[u32]) -> Result<Names, AllocError>
     requires { length team.now.name ≤ 63 }
-    ensures { IfOk result
-        (λ names. names ≡ workers_from 1 (team.now.size - 1)
-        ++ (member_cells team.now.name given.now 0 team.now.size ++ events worker ∷ [])) }
+    ensures { Gives result (workers_from 1 (team.now.size - 1) ++ (member_cells team.now.name
+        given.now 0 team.now.size ++ events worker ∷ [])) }
 {
     let mut names = Names::new(alloc);
     name_workers(&mut names, team.size)?;
@@ -120,8 +117,7 @@ fn team_updates(
     values: &[i32],
 ) -> Result<Puts, AllocError>
     requires { length team.now.name ≤ 63 }
-    ensures { IfOk result
-        (λ updates. updates ≡ team_updates task.now team.now frame.now values.now) }
+    ensures { Gives result (team_updates task.now team.now frame.now values.now) }
 {
     let mut updates = Puts::new(alloc);
     put_members(alloc, &mut updates, team, frame)?;
@@ -144,9 +140,8 @@ fn fork_edits(
 ) -> Result<Seq<Edit>, AllocError>
     requires named { length team.now.name ≤ 63 }
     requires member { team.now.number < team.now.size }
-    ensures { IfOk result
-        (λ edits. edits ≡ Edit.Go launch.to launch.takes None ∷ Edit.CountBirth
-        ∷ Edit.BeginContext (member team.now frame.now) ∷ []) }
+    ensures { Gives result (Edit.Go launch.to launch.takes None ∷ Edit.CountBirth ∷
+        Edit.BeginContext (member team.now frame.now) ∷ []) }
 {
     let member = Shared::of(alloc, member(alloc, team, frame)?)?;
     let begin = Edit::BeginContext(member);
@@ -163,9 +158,8 @@ fn made(
 ) -> Result<Row, AllocError>
     requires named { length team.now.name ≤ 63 }
     requires member { team.now.number < team.now.size }
-    ensures { IfOk result
-        (λ row. row ≡ forked forking.now.launch forking.now.context.now.task team.now frame.now
-        values.now None) }
+    ensures { Gives result (forked forking.now.launch forking.now.context.now.task team.now
+        frame.now values.now None) }
 {
     let edits = fork_edits(alloc, forking.launch, team, frame)?;
     let updates = team_updates(alloc, &forking.context.task, team, frame, values)?;
@@ -182,11 +176,9 @@ fn forked(
 ) -> Result<Row, AllocError>
     requires named { length team.now.name ≤ 63 }
     requires member { team.now.number < team.now.size }
-    ensures { IfOk result
-        (λ row. row ≡ forked forking.now.launch forking.now.context.now.task team.now
-        (first_frame forking.now.launch.body
-        (homes_in (plain_context forking.now.context.now) forking.now.body.now.slots)) values.now
-        hindrance) }
+    ensures { Gives result (forked forking.now.launch forking.now.context.now.task team.now
+        (first_frame forking.now.launch.body (homes_in (plain_context forking.now.context.now)
+        forking.now.body.now.slots)) values.now hindrance) }
 {
     if let Some(worker) = hindrance {
         return Ok(Row::Blocked(Blocked::Busy(worker)));
@@ -208,11 +200,9 @@ fn team_answer(
 ) -> Result<Answer, AllocError>
     requires named { length team.now.name ≤ 63 }
     requires member { team.now.number < team.now.size }
-    ensures { IfOk result
-        (λ answer. answer ≡ answered
-        (team_row forking.now.worker forking.now.launch forking.now.body.now
-        (plain_context forking.now.context.now)
-        team.now values.now) (state_of store.now)) }
+    ensures { AnswersAt result (team_row forking.now.worker forking.now.launch
+        forking.now.body.now (plain_context forking.now.context.now) team.now values.now)
+        store.now }
 {
     let given = forking.body.given.as_slice();
     let names = team_names(alloc, forking.worker, team, given)?;
@@ -230,10 +220,9 @@ fn named(
 ) -> Result<Answer, AllocError>
     requires births { forking.now.context.now.births + 1 < 2 ^ 64 }
     requires asked { IfSome asked (λ threads. 1 ≤ threads) }
-    ensures { IfOk result
-        (λ answer. answer ≡ answered
-        (named_row forking.now.worker forking.now.workers forking.now.launch forking.now.body.now
-        (plain_context forking.now.context.now) asked values.now) (state_of store.now)) }
+    ensures { AnswersAt result (named_row forking.now.worker forking.now.workers
+        forking.now.launch forking.now.body.now (plain_context forking.now.context.now) asked
+        values.now) store.now }
 {
     if forking.context.task.get().as_slice().len() > 62 {
         return Ok(Answer::decided(alloc, Row::Faults(Fault::Name)));
@@ -251,10 +240,9 @@ fn sized_answer(
     values: &[i32],
 ) -> Result<Answer, AllocError>
     requires { forking.now.context.now.births + 1 < 2 ^ 64 }
-    ensures { IfOk result
-        (λ answer. answer ≡ answered
-        (sized_row forking.now.worker forking.now.workers forking.now.launch forking.now.body.now
-        (plain_context forking.now.context.now) size values.now) (state_of store.now)) }
+    ensures { AnswersAt result (sized_row forking.now.worker forking.now.workers
+        forking.now.launch forking.now.body.now (plain_context forking.now.context.now) size
+        values.now) store.now }
 {
     let Some(size) = size else {
         return Ok(Answer::decided(alloc, Row::Lacks));
@@ -279,13 +267,10 @@ pub fn fork(
     values: u16,
 ) -> Result<Answer, AllocError>
     requires { forking.now.context.now.births + 1 < 2 ^ 64 }
-    ensures { IfOk result
-        (λ answer. answer ≡ answered
-        (fork_row forking.now.worker forking.now.workers forking.now.launch forking.now.body.now
-        (plain_context forking.now.context.now) sized
-        (int_at values (plain_context forking.now.context.now).frame.operands)
-        (ints_on values (plain_context forking.now.context.now).frame.operands))
-        (state_of store.now)) }
+    ensures { AnswersAt result (fork_row forking.now.worker forking.now.workers forking.now.launch
+        forking.now.body.now (plain_context forking.now.context.now) sized (int_at values
+        (plain_context forking.now.context.now).frame.operands) (ints_on values (plain_context
+        forking.now.context.now).frame.operands)) store.now }
 {
     let operands = &operands_of(forking.context);
     let Some(ints) = ints_on(alloc, values as usize, operands)? else {

@@ -5,7 +5,6 @@ use Rattle.om_foot.specs.declared.object.Obj.TheVariants as obj
 use Rattle.om_values.specs.State.{State}
 use Rattle.om_values.specs.Values.{control_in}
 use Rattle.om_values.specs.declared.control.Control.{Control}
-use Rattle.om_values.specs.declared.step.Choice.{Choice}
 use Rattle.om_values.specs.declared.step.Label.{Label}
 use Rattle.om_values.specs.Rules.{Rules, step_at, replay}
 use Rattle.om_task.specs.declared.planned.Plan.{Plan}
@@ -43,10 +42,6 @@ StateIsReplay m = replay (rules_for m) (map label_of m.history.entries) ≡ Some
 abbrev pub control_at : MachineView → ℕ → Control
 control_at m w = control_in (state_in m (obj.Control w))
 
--- the label of a worker's step by a choice
-abbrev pub label_with : ℕ → Choice → Label
-label_with w c = record { worker = w; choice = c }
-
 -- a machine at the start of a program
 abbrev pub at_start : Raw → ℕ → MachineView
 at_start program workers = record { program = program; workers = workers; history = no_history }
@@ -80,8 +75,8 @@ abbrev pub TakesOut : List Taken → MachineView → MachineView → Type 0
 TakesOut taken old new = (serial : ℕ) → taken ≡ rolled_from old serial → new ≡ with_roll old serial
 
 -- the cone of the entry with a serial is taken out, and nothing else
-abbrev pub LosesCone : ℕ → MachineView → MachineView → Type 0
-LosesCone serial old new = TakesCone (rules_for old) old.history serial new.history
+abbrev pub TakesItsCone : ℕ → MachineView → MachineView → Type 0
+TakesItsCone serial old new = TakesCone (rules_for old) old.history serial new.history
 
 -- there are 1 to 32 workers, and the history is held under the rules of the program
 pub record IsSound (program : Raw) (workers : ℕ) (history : kept.History) : Type 0 where

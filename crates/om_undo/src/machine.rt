@@ -12,7 +12,7 @@ ghost use Rattle.om_history.specs.Runs.{reply_to_step, reply_to_undo};
 ghost use Rattle.om_history.specs.Commands.{IsRun, IsGone, Rise};
 ghost use Rattle.om_history.specs.Pasts.{past_in, IsHeld, Stays};
 ghost use Rattle.om_undo.specs.Headline.{Headline};
-ghost use Rattle.om_undo.specs.Machines.{rules_for, state_in, control_at, label_with, at_start, step_reply, with_step, with_undo, rolled_from, roll_reply, with_roll, TakesOut, LosesCone, StateIsReplay, IsPlan, RepliesToPlan, RepliesToWorker, TakesPlan};
+ghost use Rattle.om_undo.specs.Machines.{rules_for, state_in, control_at, at_start, step_reply, with_step, with_undo, rolled_from, roll_reply, with_roll, TakesOut, TakesItsCone, StateIsReplay, IsPlan, RepliesToPlan, RepliesToWorker, TakesPlan};
 ghost use Rattle.om_undo.specs.PlannedSteps.{is_made, planned_at};
 ghost use Rattle.om_undo.specs.ReadyNames.{ready_names};
 
@@ -131,7 +131,7 @@ impl PlannedStep {
 
 // The step that a worker would take by its choice.
 fn label(worker: u8, choice: &Choice) -> Label
-    ensures { result ≡ label_with worker choice.now }
+    ensures { result ≡ label_at worker choice.now }
 {
     Label {
         worker,
@@ -240,8 +240,8 @@ impl Machine {
     ) -> Result<StepReply, AllocError>
         requires in_range { worker < self.old.workers }
         requires few_made { self.old.history.made < 2 ^ 63 }
-        ensures reply { IfOk result (λ x. x ≡ step_reply self.old (label_with worker choice)) }
-        ensures after { OnOk result (self.new ≡ with_step self.old (label_with worker choice)) }
+        ensures reply { IfOk result (λ x. x ≡ step_reply self.old (label_at worker choice)) }
+        ensures after { OnOk result (self.new ≡ with_step self.old (label_at worker choice)) }
         ensures unchanged_on_error { OnErr result (self.new ≡ self.old) }
     {
         let label = label(worker, &choice);
@@ -253,7 +253,7 @@ impl Machine {
     /// What `step` would answer now. Nothing changes; the only error is out of memory.
     pub fn peek(&self, alloc: Global, worker: u8, choice: Choice) -> Result<StepReply, AllocError>
         requires { worker < self.now.workers }
-        ensures { IfOk result (λ x. x ≡ step_reply self.now (label_with worker choice)) }
+        ensures { IfOk result (λ x. x ≡ step_reply self.now (label_at worker choice)) }
     {
         let label = label(worker, &choice);
         let plan = planned(alloc, &self.program, self.workers, &self.history, &label)?;
@@ -271,7 +271,7 @@ impl Machine {
         choice: &Choice,
     ) -> Result<PlannedStep, AllocError>
         requires { worker < self.now.workers }
-        ensures { IfOk result (λ p. p ≡ planned_at self.now (label_with worker choice.now)) }
+        ensures { IfOk result (λ p. p ≡ planned_at self.now (label_at worker choice.now)) }
     {
         let start = start_of(alloc, choice)?;
         let planning = &Planning {
@@ -349,7 +349,7 @@ impl Machine {
     pub fn roll(&mut self, alloc: Global, serial: u64) -> Result<RollReply, AllocError>
         ensures reply { IfOk result (λ x. x ≡ roll_reply self.old serial) }
         ensures after { OnOk result (self.new ≡ with_roll self.old serial) }
-        ensures takes_cone { OnOk result (LosesCone serial self.old self.new) }
+        ensures takes_cone { OnOk result (TakesItsCone serial self.old self.new) }
         ensures no_entry { IfOk result (λ x. (x ≡ RollReply.NoEntry) ↔ IsGone serial self.old.history) }
         ensures unchanged_without_entry { IfOk result
             (λ x. x ≡ RollReply.NoEntry → self.new ≡ self.old) }

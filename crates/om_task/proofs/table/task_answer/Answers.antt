@@ -6,7 +6,7 @@ use Rattle.om_live.specs.declared.control.Context.{Context}
 use Rattle.om_live.specs.declared.control.Frame.{Frame}
 use Rattle.om_task.specs.Rows.{spawn_row, wait_begin_row, task_yield_row}
 use Rattle.om_team.specs.Sites.{site}
-use Rattle.om_team.specs.AtStates.{at_state, to_same}
+use Rattle.om_team.specs.AtStates.{to_same}
 use Rattle.om_team.specs.Running.{next_is}
 use Rattle.om_task.specs.Table.{task_row}
 use Rattle.om_task.proofs.Answers.{body_is}
@@ -30,9 +30,7 @@ returns-in-Spawn c =
     (plain_context (top i)))
     ∙ ap (task_row (site c.args.program.now c.args.doing.workers
     c.args.doing.worker (plain_stack c.args.stack.now))) (sym c.in-Spawn.is))
-    (at_state c.spawn.result
-    (spawn_row (record { worker = c.args.doing.worker; line = c.line.result; launch = c.launch.result })
-    c.body.result.now (plain_context c.deref-context.result.now)) (state_of c.args.store.now) c.spawn.ensures)
+    (c.spawn.ensures (state_of c.args.store.now))
 
 pub returns-in-WaitBegin : goal.returns-in-WaitBegin
 returns-in-WaitBegin c =
@@ -42,8 +40,7 @@ returns-in-WaitBegin c =
     ((λ i. wait_begin_row c.args.doing.worker (next i + 1) (plain_context (c.deref-context.ensures i)))
     ∙ ap (task_row (site c.args.program.now c.args.doing.workers
     c.args.doing.worker (plain_stack c.args.stack.now))) (sym c.in-WaitBegin.is))
-    (at_state c.wait_begin.result (wait_begin_row c.args.doing.worker (c.deref.result.now.next + 1)
-    (plain_context c.deref-context.result.now)) (state_of c.args.store.now) c.wait_begin.ensures)
+    (c.wait_begin.ensures (state_of c.args.store.now))
 
 pub returns-in-Yield : goal.returns-in-Yield
 returns-in-Yield c =
@@ -53,5 +50,4 @@ returns-in-Yield c =
     ((λ i. task_yield_row (next i + 1))
     ∙ ap (task_row (site c.args.program.now c.args.doing.workers
     c.args.doing.worker (plain_stack c.args.stack.now))) (sym c.in-Yield.is))
-    (at_state c.task_yield.result (task_yield_row (c.deref.result.now.next + 1)) (state_of c.args.store.now)
-    c.task_yield.ensures)
+    (c.task_yield.ensures (state_of c.args.store.now))

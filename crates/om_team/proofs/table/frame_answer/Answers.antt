@@ -6,7 +6,7 @@ use Rattle.om_live.specs.declared.control.Context.{Context}
 use Rattle.om_steps.specs.SerialRows.{number_row}
 use Rattle.om_team.specs.Sites.{site}
 use Rattle.om_team.specs.Table.{frame_row}
-use Rattle.om_team.specs.AtStates.{at_state, to_same}
+use Rattle.om_team.specs.AtStates.{to_same}
 use Rattle.om_team.proofs.table.frame_answer.Goals as goal
 
 pub returns-in-ThreadNumber : goal.returns-in-ThreadNumber
@@ -17,8 +17,7 @@ returns-in-ThreadNumber c =
     ((λ i. number_row (plain_context (c.deref-context.ensures i)) (number i))
     ∙ ap (frame_row (site c.args.program.now c.args.doing.workers
     c.args.doing.worker (plain_stack c.args.stack.now))) (sym c.in-ThreadNumber.is))
-    (at_state c.number.result (number_row (plain_context c.deref-context.result.now) c.get.result.now.number)
-    (state_of c.args.store.now) c.number.ensures)
+    (c.number.ensures (state_of c.args.store.now))
 
 pub returns-in-TeamSize : goal.returns-in-TeamSize
 returns-in-TeamSize c =
@@ -28,6 +27,4 @@ returns-in-TeamSize c =
     ((λ i. number_row (plain_context (c.deref-context.ensures i)) (size i))
     ∙ ap (frame_row (site c.args.program.now c.args.doing.workers
     c.args.doing.worker (plain_stack c.args.stack.now))) (sym c.in-TeamSize.is))
-    (at_state c.number-in-TeamSize.result
-    (number_row (plain_context c.deref-context.result.now) c.get-in-TeamSize.result.now.size)
-    (state_of c.args.store.now) c.number-in-TeamSize.ensures)
+    (c.number-in-TeamSize.ensures (state_of c.args.store.now))

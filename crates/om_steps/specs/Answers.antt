@@ -12,7 +12,7 @@ Gives result given = IfOk result (λ x. x ≡ given)
 
 -- a function answers what is asked, whatever the state
 abbrev pub Answers : {E : Type 0} → Result Answer E → Asked → Type 0
-Answers result asked = IfOk result (λ answer. (s : State) → answer ≡ answered asked s)
+Answers result asked = (s : State) → IfOk result (λ answer. answer ≡ answered asked s)
 
 -- a function answers what is asked, at the state of a store
 abbrev pub AnswersAt : {E : Type 0} → Result Answer E → Asked → Store → Type 0

@@ -1,0 +1,13 @@
+-- What a worker asks that carries out an instruction.
+use Rattle.om_code.specs.declared.instruction.Instr.{Instr}
+use Rattle.om_code.specs.declared.raw.Raw.{Raw}
+use Rattle.om_live.specs.declared.control.Stack.{Stack}
+use Rattle.om_live.specs.Plain.{plain_stack}
+use Rattle.om_steps.specs.Rows.{Asked}
+use Rattle.om_team.specs.declared.table.Doing.{Doing}
+use Rattle.om_team.specs.Sites.{Site, site}
+
+-- what a table of rows asks for the instruction, where a worker carries it out on a stack
+abbrev pub asked_by : (Site → Instr → Asked) → Raw → Stack → Doing → Asked
+asked_by row program stack doing =
+    row (site program doing.workers doing.worker (plain_stack stack)) doing.instruction
