@@ -2,12 +2,9 @@
 
 ghost use Rattle.std.specs.Prelude.{◌≡◌, OnOk};
 ghost use Rattle.om_rules.specs.Checks.{ChecksExactly};
-ghost use Rattle.om_rules.specs.Resolves.{Resolves};
 ghost use Rattle.om_rules.specs.LoopViews.{view_loop};
-ghost use Rattle.om_uses.specs.Views.{ResolvesBounds};
-ghost use Rattle.om_resolved.specs.ResolvedView as view;
-ghost use Rattle.om_rules.specs.StatementResolution.{bounds_scopes, resolved_loop};
-ghost use Rattle.om_rules.specs.StatementRules.{found_breaches, values_breaches, variable_breaches, with_iteration};
+ghost use Rattle.om_rules.specs.StatementRules.{variable_breaches, with_iteration};
+ghost use Rattle.om_uses.specs.Bounds.{ResolvesBoundsOf, ResolvesLoop, ResolvesValuesOf};
 
 use crate::declaration::local_of;
 use crate::expression::boxed_expression;
@@ -33,8 +30,7 @@ fn resolve_values(
     symbols: &Symbols,
     found: &Loop<'_>,
 ) -> Result<(Box<ResolvedExpression>, Box<ResolvedExpression>), SourceFault>
-    ensures { let tree = view_loop found.now in
-        ResolvesBounds result (values_breaches symbols.now tree) symbols.now tree }
+    ensures { ResolvesValuesOf result symbols.now (view_loop found.now) }
 {
     let from = boxed_expression(alloc, symbols, true, found.start.from)?;
     let to = boxed_expression(alloc, symbols, true, found.to)?;
@@ -56,9 +52,7 @@ fn resolve_bounds(
     symbols: &mut Symbols,
     found: &Loop<'_>,
 ) -> Result<(Box<ResolvedExpression>, Box<ResolvedExpression>), SourceFault>
-    ensures found { let tree = view_loop found.now in
-        let scopes = bounds_scopes symbols.old tree in
-        ResolvesBounds result (found_breaches symbols.old tree) scopes tree }
+    ensures found { ResolvesBoundsOf result symbols.old (view_loop found.now) }
     ensures in_scope { OnOk result (symbols.new ≡ symbols.old) }
 {
     if !found.start.is_declared {
@@ -82,9 +76,7 @@ pub fn resolve_loop(
     schedule: ResolvedSchedule,
     found: &Loop<'_>,
 ) -> Result<Box<ResolvedLoop>, SourceFault>
-    ensures found { let tree = view_loop found.now in
-        Resolves (λ made. view.loop made.value) result (found_breaches symbols.old tree)
-        (resolved_loop symbols.old schedule tree) }
+    ensures found { ResolvesLoop result symbols.old schedule (view_loop found.now) }
     ensures in_scope { OnOk result (symbols.new ≡ symbols.old) }
 {
     let variable = local_of(alloc, found.start.variable)?;

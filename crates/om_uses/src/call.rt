@@ -3,9 +3,9 @@
 ghost use Rattle.std.specs.Prelude.{◌≡◌, Some, IfOk, option_map};
 ghost use Rattle.om_tree.specs.View.{view_expression};
 ghost use Rattle.om_resolved.specs.ResolvedView as view;
-ghost use Rattle.om_rules.specs.Checks.{Checks};
-ghost use Rattle.om_rules.specs.ExpressionRules.{argument_count, is_print, misprint_breaches};
+ghost use Rattle.om_rules.specs.ExpressionRules.{argument_count, is_print};
 ghost use Rattle.om_rules.specs.Resolution.{call_of, format_in, text_in};
+ghost use Rattle.om_uses.specs.Expressions.{ChecksFormat};
 ghost use Rattle.om_uses.specs.Views.{view_arguments, view_values};
 
 use om_lexer::{FaultCode, SourceFault};
@@ -30,8 +30,7 @@ pub fn resolve_format(
     name: &Name,
     values: &[Argument],
 ) -> Result<Seq<u8>, SourceFault>
-    ensures checked { Checks result
-        (misprint_breaches for_value name.now (view_arguments values.now)) }
+    ensures checked { ChecksFormat result for_value name.now values.now }
     ensures resolved { IfOk result
         (λ format. format_in (view_arguments values.now) ≡ Some format) }
 {

@@ -1,15 +1,13 @@
 //! Declarations in functions: their rules, and the variables that they declare.
 
-ghost use Rattle.std.specs.Prelude.{◌≡◌, ◌++◌, [], ◌∷◌, OnOk, IfOk, Some, option_map, map};
-ghost use Rattle.om_tree.specs.View.{view_declarator, view_expression, view_initializer};
+ghost use Rattle.std.specs.Prelude.{◌≡◌, OnOk, IfOk};
 ghost use Rattle.om_rules.specs.Checks.{Checks, ChecksExactly};
-ghost use Rattle.om_rules.specs.Resolves.{Adds, Resolves};
 ghost use Rattle.om_rules.specs.Scopes.{cells_of, shape_of};
-ghost use Rattle.om_resolved.specs.ResolvedView as view;
-ghost use Rattle.om_rules.specs.StatementResolution.{length_of, local_of, resolved_declarator, resolved_declarators, resolved_initial};
-ghost use Rattle.om_rules.specs.StatementRules.{array_size_breaches, initializer_breaches, is_empty_array, local_breaches, locals_breaches, redeclared_breaches};
-ghost use Rattle.om_uses.specs.Declares.{DeclaresLocal, DeclaresLocals, further_locals, locals_in};
-ghost use Rattle.om_uses.specs.Views.{view_boxed};
+ghost use Rattle.om_rules.specs.StatementResolution.{length_of, local_of};
+ghost use Rattle.om_rules.specs.StatementRules.{array_size_breaches, is_empty_array, local_breaches, locals_breaches, redeclared_breaches};
+ghost use Rattle.om_uses.specs.Declares.{AddsFurtherLocals, AddsLocalsOf, DeclaresLocal, DeclaresLocals, IsAdded};
+ghost use Rattle.om_uses.specs.Declares.{ResolvesInitial, ResolvesLocal, ResolvesLocals, bare_tree, further_locals};
+ghost use Rattle.om_uses.specs.Declares.{local_name_breaches, local_tree, locals_in};
 
 use crate::expression::{boxed_expression, unboxed};
 use crate::kept::add;
@@ -60,8 +58,7 @@ fn is_empty_array(array: &Option<ArrayLength>) -> bool
 
 /// That an array has cells: S9.
 pub fn check_size<I>(declarator: &Declarator<I>) -> Result<(), SourceFault>
-    ensures { ChecksExactly result
-        (array_size_breaches (view_declarator (λ value. value) declarator.now)) }
+    ensures { ChecksExactly result (array_size_breaches (bare_tree declarator.now)) }
 {
     let broken = is_empty_array(&declarator.array);
     refuse_if(broken, FaultCode::Misuse, declarator.name.span.start)
@@ -99,9 +96,7 @@ fn resolve_initializer(
     symbols: &Symbols,
     initializer: &Option<Initializer<Expression>>,
 ) -> Result<Option<Box<ResolvedExpression>>, SourceFault>
-    ensures { let tree = option_map (view_initializer view_expression) initializer.now in
-        Resolves (option_map view_boxed) result (initializer_breaches symbols.now tree)
-        (resolved_initial symbols.now tree) }
+    ensures { ResolvesInitial result symbols.now initializer.now }
 {
     let Some(initializer) = initializer else {
         return Ok(None);
@@ -116,8 +111,7 @@ fn declare_name(
     symbols: &mut Symbols,
     declarator: &Declarator<Expression>,
 ) -> Result<(), SourceFault>
-    ensures checked { let tree = view_declarator view_expression declarator.now in
-        Checks result (redeclared_breaches symbols.old tree.name ++ array_size_breaches tree) }
+    ensures checked { Checks result (local_name_breaches symbols.old (local_tree declarator.now)) }
     ensures in_scope { DeclaresLocal result symbols.old symbols.new declarator.now }
 {
     check_new(symbols, &declarator.name)?;
@@ -133,9 +127,7 @@ fn resolve_declarator(
     symbols: &mut Symbols,
     declarator: &Declarator<Expression>,
 ) -> Result<ResolvedDeclarator, SourceFault>
-    ensures found { let tree = view_declarator view_expression declarator.now in
-        Resolves view.declarator result (local_breaches symbols.old tree)
-        (resolved_declarator symbols.old tree) }
+    ensures found { ResolvesLocal result symbols.old (local_tree declarator.now) }
     ensures in_scope { DeclaresLocal result symbols.old symbols.new declarator.now }
 {
     declare_name(alloc, symbols, declarator)?;
@@ -155,14 +147,9 @@ fn add_local(
     declared: &mut Vec<ResolvedDeclarator>,
     declarator: &Declarator<Expression>,
 ) -> Result<(), SourceFault>
-    ensures checked { Checks result
-        (local_breaches symbols.old (view_declarator view_expression declarator.now)) }
+    ensures checked { Checks result (local_breaches symbols.old (local_tree declarator.now)) }
     ensures in_scope { DeclaresLocal result symbols.old symbols.new declarator.now }
-    ensures resolved { let before = map view.declarator declared.old.items in
-        let after = map view.declarator declared.new.items in
-        let tree = view_declarator view_expression declarator.now in
-        let own = resolved_declarator symbols.old tree in
-        OnOk result (option_map (λ own. before ++ own ∷ []) own ≡ Some after) }
+    ensures resolved { OnOk result (IsAdded symbols.old declared.old declared.new declarator.now) }
 {
     add(declared, resolve_declarator(alloc, symbols, declarator))
 }
@@ -176,8 +163,7 @@ fn resolve_further_locals(
 ) -> Result<(), SourceFault>
     ensures checked { Checks result (locals_breaches symbols.old (further_locals rest.now)) }
     ensures in_scope { DeclaresLocals result symbols.old symbols.new (further_locals rest.now) }
-    ensures resolved { let own = resolved_declarators symbols.old (further_locals rest.now) in
-        Adds view.declarator result declared.old declared.new own }
+    ensures resolved { AddsFurtherLocals result symbols.old declared.old declared.new rest.now }
 {
     for further in rest {
         add_local(alloc, symbols, declared, &further.1)?;
@@ -194,8 +180,7 @@ fn add_locals(
 ) -> Result<(), SourceFault>
     ensures checked { Checks result (locals_breaches symbols.old (locals_in declaration.now)) }
     ensures in_scope { DeclaresLocals result symbols.old symbols.new (locals_in declaration.now) }
-    ensures resolved { let own = resolved_declarators symbols.old (locals_in declaration.now) in
-        Adds view.declarator result declared.old declared.new own }
+    ensures resolved { AddsLocalsOf result symbols.old declared.old declared.new declaration.now }
 {
     add_local(alloc, symbols, declared, &declaration.first)?;
     resolve_further_locals(alloc, symbols, declared, declaration.rest.as_slice())
@@ -211,9 +196,7 @@ pub fn resolve_locals(
     symbols: &mut Symbols,
     declaration: &Declaration<Expression>,
 ) -> Result<Vec<ResolvedDeclarator>, SourceFault>
-    ensures found { let trees = locals_in declaration.now in
-        Resolves (λ found. map view.declarator found.items) result
-        (locals_breaches symbols.old trees) (resolved_declarators symbols.old trees) }
+    ensures found { ResolvesLocals result symbols.old (locals_in declaration.now) }
     ensures in_scope { DeclaresLocals result symbols.old symbols.new (locals_in declaration.now) }
 {
     let mut declared = Vec::new(alloc);

@@ -1,19 +1,17 @@
 //! Directives and their clauses: their rules, and what they say of variables.
 
-ghost use Rattle.std.specs.Prelude.{◌≡◌, ◌++◌, ◌&&◌, ◌||◌, false, OnOk, IfOk, Some, fold, option_map};
-ghost use Rattle.std.specs.List.{flat_map};
+ghost use Rattle.std.specs.Prelude.{◌≡◌, ◌&&◌, ◌||◌, false, OnOk, IfOk};
 ghost use Rattle.om_tree.specs.View.{view_directive};
-ghost use Rattle.om_rules.specs.Checks.{Checks, ChecksExactly};
-ghost use Rattle.om_rules.specs.DirectiveRules.{after_clause, after_item, after_name, clause_breaches, directive_breaches, flushed_breaches, is_listed, is_mislisted, is_variable, item_breaches, list_breaches, listed_breaches, listed_by, names_in, nesting_breaches, nothing_listed, sharing_of, uses_original};
-ghost use Rattle.om_rules.specs.Faults.{breaches_along};
+ghost use Rattle.om_rules.specs.Checks.{ChecksExactly};
+ghost use Rattle.om_rules.specs.DirectiveRules.{after_clause, flushed_breaches, is_listed, is_mislisted, is_variable, listed_by, names_in, nesting_breaches, sharing_of, uses_original};
 ghost use Rattle.om_rules.specs.Outcomes.{Finds};
-ghost use Rattle.om_rules.specs.Resolves.{Adds, Resolves};
-ghost use Rattle.om_rules.specs.Perhaps.{each};
 ghost use Rattle.om_rules.specs.Resolution.{variable_named, variable_of};
 ghost use Rattle.om_resolved.specs.ResolvedView as view;
-ghost use Rattle.om_rules.specs.StatementResolution.{clause_of, flushed, kind_of, resolved_clause, resolved_clauses, resolved_listed};
-ghost use Rattle.om_uses.specs.Lists.{ChecksNames, ListsNames, further_names, listed_clauses, view_clause};
-ghost use Rattle.om_uses.specs.Lists.{view_items, view_taken};
+ghost use Rattle.om_rules.specs.StatementResolution.{clause_of, kind_of};
+ghost use Rattle.om_uses.specs.Lists.{AddsAll, AddsClause, AddsFlushed, AddsFurther, ChecksClause, ChecksFlushed};
+ghost use Rattle.om_uses.specs.Lists.{ChecksListed, ChecksNames, ListsAll, ListsName, ListsNames, ResolvesClauses};
+ghost use Rattle.om_uses.specs.Lists.{ResolvesDirective, ResolvesFlush, ResolvesFlushed, ResolvesListed, further_names};
+ghost use Rattle.om_uses.specs.Lists.{listed_in, view_clause, view_items};
 
 use crate::declaration::local_of;
 use crate::expression::boxed_expression;
@@ -78,8 +76,7 @@ fn resolve_listed(
     listed: &Listed,
     name: &Name,
 ) -> Result<Variable, SourceFault>
-    ensures checked { ChecksExactly result
-        (listed_breaches symbols.now sharing listed.now name.now) }
+    ensures checked { ChecksListed result symbols.now sharing listed.now name.now }
     ensures is_new { OnOk result (is_listed listed.now name.now.text ≡ false) }
     ensures resolved { Finds (λ found. found) result (variable_named symbols.now name.now) }
 {
@@ -142,12 +139,8 @@ fn list_name(
     listed: &mut Listed,
     name: &Name,
 ) -> Result<ResolvedClause, SourceFault>
-    ensures found { let scopes = listing.now.symbols.now in
-        Resolves view.clause result
-        (listed_breaches scopes (sharing_of listing.now.kind) listed.old name.now)
-        (resolved_listed listing.now.kind scopes name.now) }
-    ensures listed { OnOk result
-        (listed.new ≡ after_name (sharing_of listing.now.kind) listed.old name.now) }
+    ensures found { ResolvesListed result listing.now listed.old name.now }
+    ensures listed { ListsName result listing.now listed.old listed.new name.now }
 {
     let sharing = sharing_of(listing.kind);
     let variable = resolve_listed(listing.symbols, sharing, listed, name)?;
@@ -164,8 +157,7 @@ fn list_further_names(
 ) -> Result<(), SourceFault>
     ensures checked { ChecksNames result listing.now listed.old (further_names rest.now) }
     ensures listed { ListsNames result listing.now listed.old listed.new (further_names rest.now) }
-    ensures resolved { let own = listed_clauses listing.now (further_names rest.now) in
-        Adds view.clause result clauses.old clauses.new own }
+    ensures resolved { AddsFurther result listing.now clauses.old clauses.new rest.now }
 {
     for further in rest {
         let found = list_name(listing, listed, &further.1);
@@ -183,10 +175,8 @@ fn list_names(
     rest: &[FurtherName],
 ) -> Result<(), SourceFault>
     ensures checked { ChecksNames result listing.now listed.old (names_in first.now rest.now) }
-    ensures listed { let names = names_in first.now rest.now in
-        ListsNames result listing.now listed.old listed.new names }
-    ensures resolved { let own = listed_clauses listing.now (names_in first.now rest.now) in
-        Adds view.clause result clauses.old clauses.new own }
+    ensures listed { ListsAll result listing.now listed.old listed.new first.now rest.now }
+    ensures resolved { AddsAll result listing.now clauses.old clauses.new first.now rest.now }
 {
     add(clauses, list_name(listing, listed, first))?;
     list_further_names(listing, listed, clauses, rest)
@@ -212,11 +202,9 @@ fn resolve_clause(
     clauses: &mut Vec<ResolvedClause>,
     clause: &Clause<Expression>,
 ) -> Result<(), SourceFault>
-    ensures checked { Checks result
-        (clause_breaches symbols.now listed.old (view_clause clause.now)) }
+    ensures checked { ChecksClause result symbols.now listed.old clause.now }
     ensures listed { OnOk result (listed.new ≡ after_clause listed.old (view_clause clause.now)) }
-    ensures resolved { let own = resolved_clause symbols.now (view_clause clause.now) in
-        Adds view.clause result clauses.old clauses.new own }
+    ensures resolved { AddsClause result symbols.now clauses.old clauses.new clause.now }
 {
     match clause {
         Clause::Value(kind, _, value) => {
@@ -261,12 +249,8 @@ fn resolve_clauses(
     symbols: &Symbols,
     items: &[ClauseItem<Expression>],
 ) -> Result<(Listed, Vec<ResolvedClause>), SourceFault>
-    ensures found { let trees = view_items items.now in
-        Resolves view_taken result
-        (breaches_along (item_breaches symbols.now) after_item nothing_listed trees)
-        (resolved_clauses symbols.now trees) }
-    ensures listed { IfOk result
-        (λ taken. taken.0 ≡ fold after_item nothing_listed (view_items items.now)) }
+    ensures found { ResolvesClauses result symbols.now (view_items items.now) }
+    ensures listed { IfOk result (λ taken. taken.0 ≡ listed_in (view_items items.now)) }
 {
     let mut listed = Listed::new(alloc);
     let mut clauses = Vec::new(alloc);
@@ -287,9 +271,7 @@ pub fn resolve_directive(
     flow: Flow,
     directive: &Directive<Expression>,
 ) -> Result<(Listed, Vec<ResolvedClause>), SourceFault>
-    ensures found { let tree = view_directive directive.now in
-        Resolves view_taken result (directive_breaches symbols.now flow tree)
-        (resolved_clauses symbols.now tree.clauses) }
+    ensures found { ResolvesDirective result symbols.now flow (view_directive directive.now) }
     ensures listed { IfOk result (λ taken. taken.0 ≡ listed_by (view_directive directive.now)) }
 {
     check_nesting(flow, &directive.name)?;
@@ -311,11 +293,8 @@ fn resolve_further_flushed(
     variables: &mut Vec<Variable>,
     rest: &[FurtherName],
 ) -> Result<(), SourceFault>
-    ensures checked { Checks result
-        (flat_map (flushed_breaches symbols.now) (further_names rest.now)) }
-    ensures resolved { let own = each (variable_named symbols.now) (further_names rest.now) in
-        OnOk result
-        (option_map (λ own. variables.old.items ++ own) own ≡ Some variables.new.items) }
+    ensures checked { ChecksFlushed result symbols.now (further_names rest.now) }
+    ensures resolved { AddsFlushed result symbols.now variables.old variables.new rest.now }
 {
     for further in rest {
         variables.push(resolve_flushed(alloc, symbols, &further.1)?)?;
@@ -330,9 +309,7 @@ fn resolve_names(
     first: &Name,
     rest: &[FurtherName],
 ) -> Result<Seq<Variable>, SourceFault>
-    ensures { let names = names_in first.now rest.now in
-        Resolves (λ found. found) result (flat_map (flushed_breaches symbols.now) names)
-        (each (variable_named symbols.now) names) }
+    ensures { ResolvesFlushed result symbols.now (names_in first.now rest.now) }
 {
     let mut variables = Vec::new(alloc);
     variables.push(resolve_flushed(alloc, symbols, first)?)?;
@@ -348,8 +325,7 @@ pub fn resolve_flush(
     symbols: &Symbols,
     list: &Option<NameList>,
 ) -> Result<Seq<Variable>, SourceFault>
-    ensures { Resolves (λ found. found) result (list_breaches symbols.now list.now)
-        (flushed symbols.now list.now) }
+    ensures { ResolvesFlush result symbols.now list.now }
 {
     match list {
         None => Ok(Seq::of(Vec::new(alloc))),

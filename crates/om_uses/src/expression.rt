@@ -1,16 +1,15 @@
 //! Expressions: their rules, and the variable of each use.
 
-ghost use Rattle.std.specs.Prelude.{◌≡◌, ◌<◌, pos, true, IfOk, option_map};
-ghost use Rattle.om_tree.specs.View.{view_expression};
+ghost use Rattle.std.specs.Prelude.{◌≡◌, ◌<◌, pos, IfOk, option_map};
 ghost use Rattle.om_resolved.specs.ResolvedView as view;
 ghost use Rattle.om_rules.specs.Checks.{ChecksExactly};
-ghost use Rattle.om_rules.specs.ExpressionRules.{argument_breaches, arguments_breaches, called_breaches, constant_breaches, element_breaches, expression_breaches, own_call_breaches, prefix_breaches, print_breaches, printed_breaches, target_breaches};
+ghost use Rattle.om_rules.specs.ExpressionRules.{constant_breaches};
 ghost use Rattle.om_rules.specs.Outcomes.{Finds};
-ghost use Rattle.om_rules.specs.Resolves.{Resolves};
-ghost use Rattle.om_rules.specs.Resolution.{callee_named, format_in, own_call_of, prefixed, print_of, resolved_call, resolved_expression, resolved_printed, resolved_target, resolved_values, variable_named};
-ghost use Rattle.om_uses.specs.Parts.{step_of, unary_of};
-ghost use Rattle.om_uses.specs.TargetViews.{view_target};
-ghost use Rattle.om_uses.specs.Views.{ResolvesExpression, view_arguments, view_boxed, view_values};
+ghost use Rattle.om_rules.specs.Resolution.{variable_named};
+ghost use Rattle.om_uses.specs.Expressions.{ResolvesArgument, ResolvesCall, ResolvesElement, ResolvesOwnCall};
+ghost use Rattle.om_uses.specs.Expressions.{ResolvesPrefix, ResolvesPrint, ResolvesPrinted, ResolvesStep};
+ghost use Rattle.om_uses.specs.Expressions.{ResolvesTarget, ResolvesUnary, ResolvesValues};
+ghost use Rattle.om_uses.specs.Views.{ResolvesExpression, view_boxed};
 
 use crate::call::{argument_count, call_of, resolve_format};
 use crate::fault::refuse_among;
@@ -152,10 +151,7 @@ fn resolve_prefix(
     operator: PrefixOperator,
     operand: &Expression,
 ) -> Result<ResolvedExpression, SourceFault>
-    ensures { let tree = view_expression operand.now in
-        Resolves view.expression result (prefix_breaches symbols.now operator tree)
-        (prefixed operator (resolved_target symbols.now tree)
-        (resolved_expression symbols.now tree)) }
+    ensures { ResolvesPrefix result symbols.now operator operand.now }
 {
     match operator {
         PrefixOperator::Increment => resolve_step(alloc, symbols, AssignOperator::Add, operand),
@@ -176,9 +172,7 @@ fn resolve_step(
     operator: AssignOperator,
     operand: &Expression,
 ) -> Result<ResolvedExpression, SourceFault>
-    ensures { let tree = view_expression operand.now in
-        Resolves view.expression result (target_breaches symbols.now tree)
-        (step_of operator (resolved_target symbols.now tree)) }
+    ensures { ResolvesStep result symbols.now operator operand.now }
 {
     let target = resolve_target(alloc, symbols, operand)?;
     let one = Box::new(alloc, ResolvedExpression::Constant(1))?;
@@ -193,9 +187,7 @@ fn resolve_unary(
     operator: UnaryOperator,
     operand: &Expression,
 ) -> Result<ResolvedExpression, SourceFault>
-    ensures { let tree = view_expression operand.now in
-        Resolves view.expression result (expression_breaches symbols.now true tree)
-        (unary_of operator (resolved_expression symbols.now tree)) }
+    ensures { ResolvesUnary result symbols.now operator operand.now }
 {
     let operand = boxed_expression(alloc, symbols, true, operand)?;
     Ok(ResolvedExpression::Unary { operator, operand })
@@ -209,9 +201,7 @@ fn resolve_target(
     symbols: &Symbols,
     target: &Expression,
 ) -> Result<Target, SourceFault>
-    ensures { let tree = view_expression target.now in
-        Resolves view_target result (target_breaches symbols.now tree)
-        (resolved_target symbols.now tree) }
+    ensures { ResolvesTarget result symbols.now target.now }
 {
     match target {
         Expression::Name(name) => Ok(Target::Variable(resolve_scalar(symbols, name)?)),
@@ -238,9 +228,7 @@ fn resolve_element(
     name: &Name,
     index: &Expression,
 ) -> Result<(Variable, Box<ResolvedExpression>), SourceFault>
-    ensures index { let tree = view_expression index.now in
-        Resolves (λ found. view_boxed found.1) result (element_breaches symbols.now name.now tree)
-        (resolved_expression symbols.now tree) }
+    ensures index { ResolvesElement result symbols.now name.now index.now }
     ensures array { Finds (λ found. found.0) result (variable_named symbols.now name.now) }
 {
     let array = resolve_array(symbols, name)?;
@@ -257,9 +245,7 @@ fn resolve_call(
     name: &Name,
     values: &[Argument],
 ) -> Result<ResolvedExpression, SourceFault>
-    ensures { let given = view_arguments values.now in
-        Resolves view.expression result (called_breaches symbols.now for_value name.now given)
-        (resolved_call symbols.now name.now given) }
+    ensures { ResolvesCall result symbols.now for_value name.now values.now }
 {
     if is_printf(symbols.meaning_of(name.text.as_slice())) {
         return resolve_print(alloc, symbols, for_value, name, values);
@@ -276,9 +262,7 @@ fn resolve_print(
     name: &Name,
     values: &[Argument],
 ) -> Result<ResolvedExpression, SourceFault>
-    ensures { let given = view_arguments values.now in
-        Resolves view.expression result (print_breaches symbols.now for_value name.now given)
-        (print_of (format_in given) (resolved_printed symbols.now given)) }
+    ensures { ResolvesPrint result symbols.now for_value name.now values.now }
 {
     let format = resolve_format(alloc, for_value, name, values)?;
     let printed = resolve_printed(alloc, symbols, values)?;
@@ -296,9 +280,7 @@ fn resolve_printed(
     symbols: &Symbols,
     values: &[Argument],
 ) -> Result<Vec<ResolvedExpression>, SourceFault>
-    ensures { let given = view_arguments values.now in
-        Resolves view_values result (printed_breaches symbols.now 0 given)
-        (resolved_printed symbols.now given) }
+    ensures { ResolvesPrinted result symbols.now values.now }
 {
     let mut resolved = Vec::new(alloc);
     let mut place = 0;
@@ -323,9 +305,7 @@ fn resolve_argument(
     argument: &Expression,
 ) -> Result<ResolvedExpression, SourceFault>
     requires { 0 < place }
-    ensures { let tree = view_expression argument.now in
-        Resolves view.expression result (argument_breaches symbols.now place tree)
-        (resolved_expression symbols.now tree) }
+    ensures { ResolvesArgument result symbols.now place argument.now }
 {
     let resolved = resolve_expression(alloc, symbols, true, argument);
     let at = expression_start(argument);
@@ -341,9 +321,7 @@ fn resolve_own_call(
     name: &Name,
     values: &[Argument],
 ) -> Result<ResolvedExpression, SourceFault>
-    ensures { let given = view_arguments values.now in
-        Resolves view.expression result (own_call_breaches symbols.now for_value name.now given)
-        (own_call_of (callee_named symbols.now name.now) (resolved_values symbols.now given)) }
+    ensures { ResolvesOwnCall result symbols.now for_value name.now values.now }
 {
     let place = resolve_callee(symbols, for_value, name, argument_count(values))?;
     let values = resolve_values(alloc, symbols, values)?;
@@ -358,9 +336,7 @@ fn resolve_values(
     symbols: &Symbols,
     values: &[Argument],
 ) -> Result<Vec<ResolvedExpression>, SourceFault>
-    ensures { let given = view_arguments values.now in
-        Resolves view_values result (arguments_breaches symbols.now given)
-        (resolved_values symbols.now given) }
+    ensures { ResolvesValues result symbols.now values.now }
 {
     let mut resolved = Vec::new(alloc);
     for argument in values {

@@ -1,9 +1,8 @@
 //! Refusals at a place.
 
-ghost use Rattle.std.specs.Prelude.{◌≡◌, List, IfOk, Ok};
-ghost use Rattle.om_rules.specs.Checks.{Checks};
-ghost use Rattle.om_rules.specs.Faults.{answered_among, goes_first, perhaps_with, with_breach};
-ghost use Rattle.om_rules.specs.Outcomes.{Refuses};
+ghost use Rattle.std.specs.Prelude.{◌≡◌, IfOk, Ok};
+ghost use Rattle.om_rules.specs.Faults.{answered_among, goes_first};
+ghost use Rattle.om_uses.specs.Keeps.{IsFaultOfLoop, RefusesAmong};
 
 use om_lexer::{FaultCode, SourceFault};
 use om_resolved::ResolvedExpression;
@@ -41,8 +40,7 @@ pub fn refuse_among(
     code: FaultCode,
     at: u32,
 ) -> Result<ResolvedExpression, SourceFault>
-    ensures checked { (breaches : List SourceFault) → Checks checked breaches →
-        Checks result (perhaps_with broken code at breaches) }
+    ensures checked { RefusesAmong checked broken code at result }
     ensures kept { IfOk result (λ found. checked ≡ Ok found) }
 {
     if !broken {
@@ -54,8 +52,7 @@ pub fn refuse_among(
 /// What is answered of a statement whose check answered `checked`, where a canonical loop had to stand
 /// (OpenMP API 5.2, section 4.4.1): S12 at its first byte, or a refusal that goes before that.
 pub fn loop_fault<T: Drop>(checked: Result<T, SourceFault>, at: u32) -> SourceFault
-    ensures { (breaches : List SourceFault) → Checks checked breaches
-        → Refuses (with_breach (record { code = FaultCode.LoopForm; at = at }) breaches) result }
+    ensures { IsFaultOfLoop checked at result }
 {
     let form = SourceFault {
         code: FaultCode::LoopForm,

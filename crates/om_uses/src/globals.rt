@@ -1,15 +1,14 @@
 //! Globals: their rules, and what they hold at the start.
 
-ghost use Rattle.std.specs.Prelude.{◌≡◌, ◌+◌, ◌≤◌, ◌<◌, false, OnOk, IfOk, option_map};
-ghost use Rattle.om_tree.specs.View.{view_initializer, view_number};
+ghost use Rattle.std.specs.Prelude.{◌≡◌, ◌<◌, false, OnOk, IfOk};
 ghost use Rattle.om_rules.specs.Checks.{Checks, ChecksExactly};
 ghost use Rattle.om_rules.specs.Constants.{signed_value};
 ghost use Rattle.om_rules.specs.ExpressionRules.{constant_breaches};
 ghost use Rattle.om_rules.specs.Scopes.{cells_of, is_declared};
 ghost use Rattle.om_rules.specs.UnitResolution.{initial_of};
-ghost use Rattle.om_rules.specs.UnitRules.{global_breaches, global_name_breaches, globals_breaches, initial_breaches};
-ghost use Rattle.om_uses.specs.Declares.{AppendsGlobal, AppendsGlobals, DeclaresGlobal, DeclaresGlobals, further_globals};
-ghost use Rattle.om_uses.specs.Declares.{globals_in, global_tree};
+ghost use Rattle.om_rules.specs.UnitRules.{global_breaches, globals_breaches, initial_breaches};
+ghost use Rattle.om_uses.specs.Declares.{AppendsGlobal, AppendsGlobals, DeclaresGlobal, DeclaresGlobals, HasCellsFor};
+ghost use Rattle.om_uses.specs.Declares.{further_globals, global_tree, globals_in, initial_tree, name_breaches_of};
 
 use crate::declaration::{cells_of, check_new, check_size, copy_of, length_of, shape_of};
 use crate::expression::constant_of;
@@ -34,10 +33,8 @@ fn value_of(signed: &SignedNumber) -> Result<i32, SourceFault>
 
 // What a global holds at the start.
 fn initial_of(initializer: &Option<Initializer<SignedNumber>>) -> Result<i32, SourceFault>
-    ensures checked { let tree = option_map (view_initializer view_number) initializer.now in
-        ChecksExactly result (initial_breaches tree) }
-    ensures value { let tree = option_map (view_initializer view_number) initializer.now in
-        IfOk result (λ value. value ≡ initial_of tree) }
+    ensures checked { ChecksExactly result (initial_breaches (initial_tree initializer.now)) }
+    ensures value { IfOk result (λ value. value ≡ initial_of (initial_tree initializer.now)) }
 {
     match initializer {
         None => Ok(0),
@@ -50,10 +47,8 @@ fn check_global_name(
     symbols: &Symbols,
     declarator: &Declarator<SignedNumber>,
 ) -> Result<(), SourceFault>
-    ensures checked { ChecksExactly result
-        (global_name_breaches symbols.now (global_tree declarator.now)) }
-    ensures has_room { OnOk result
-        (symbols.now.cells + cells_of declarator.now.array ≤ GLOBAL_CELL_LIMIT) }
+    ensures checked { ChecksExactly result (name_breaches_of symbols.now declarator.now) }
+    ensures has_room { OnOk result (HasCellsFor symbols.now declarator.now) }
     ensures has_cells { OnOk result (0 < cells_of declarator.now.array) }
     ensures is_new { OnOk result (is_declared symbols.now declarator.now.name.text ≡ false) }
 {
@@ -72,8 +67,7 @@ fn declare_global_name(
     symbols: &mut Symbols,
     declarator: &Declarator<SignedNumber>,
 ) -> Result<(), SourceFault>
-    ensures checked { Checks result
-        (global_name_breaches symbols.old (global_tree declarator.now)) }
+    ensures checked { Checks result (name_breaches_of symbols.old declarator.now) }
     ensures in_scope { DeclaresGlobal result symbols.old symbols.new declarator.now }
 {
     check_global_name(symbols, declarator)?;

@@ -1,16 +1,14 @@
 //! What was found, kept in a box or in a list.
 
-ghost use Rattle.std.specs.Prelude.{◌≡◌, ◌++◌, [], ◌∷◌, List, IfOk, OnOk, Ok};
-ghost use Rattle.om_lexer.specs.declared.fault.SourceFault.{SourceFault};
-ghost use Rattle.om_rules.specs.Checks.{Checks};
+ghost use Rattle.std.specs.Prelude.{◌≡◌, IfOk, OnOk, Ok};
+ghost use Rattle.om_uses.specs.Keeps.{IsPushed, KeepsRefusals};
 
 use om_lexer::SourceFault;
 use std::alloc::Global;
 
 /// What was found, in a box. A refusal stays; S0 is out of memory.
 pub fn boxed<T: Drop>(alloc: Global, found: Result<T, SourceFault>) -> Result<Box<T>, SourceFault>
-    ensures checked { (breaches : List SourceFault) → Checks found breaches →
-        Checks result breaches }
+    ensures checked { KeepsRefusals found result }
     ensures kept { IfOk result (λ made. found ≡ Ok made.value) }
 {
     let item = found?;
@@ -19,10 +17,8 @@ pub fn boxed<T: Drop>(alloc: Global, found: Result<T, SourceFault>) -> Result<Bo
 
 /// Adds what was found behind the items of a list. A refusal stays; S0 is out of memory.
 pub fn add<T: Drop>(items: &mut Vec<T>, found: Result<T, SourceFault>) -> Result<(), SourceFault>
-    ensures checked { (breaches : List SourceFault) → Checks found breaches →
-        Checks result breaches }
-    ensures added { OnOk result
-        ((item : T) × (found ≡ Ok item) × (items.new.items ≡ items.old.items ++ item ∷ [])) }
+    ensures checked { KeepsRefusals found result }
+    ensures added { OnOk result (IsPushed found items.old.items items.new.items) }
 {
     let item = found?;
     items.push(item)?;

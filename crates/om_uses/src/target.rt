@@ -4,10 +4,10 @@ ghost use Rattle.std.specs.Prelude.{◌≡◌, Some};
 ghost use Rattle.om_tree.specs.View.{view_expression};
 ghost use Rattle.om_resolved.specs.ResolvedView as view;
 ghost use Rattle.om_rules.specs.Checks.{ChecksExactly};
-ghost use Rattle.om_rules.specs.ExpressionRules.{is_target, leading_breaches, misplaced_breaches};
-ghost use Rattle.om_rules.specs.Faults.{first_of};
+ghost use Rattle.om_rules.specs.ExpressionRules.{is_target, leading_breaches};
 ghost use Rattle.om_rules.specs.Resolution.{assigned, stepped};
-ghost use Rattle.om_uses.specs.TargetViews.{view_target};
+ghost use Rattle.om_uses.specs.TargetViews.{first_misplaced, view_target};
+ghost use Rattle.om_uses.specs.Views.{view_boxed};
 
 use om_lexer::SourceFault;
 use om_names::{Symbols, check_declared, misuse};
@@ -18,8 +18,7 @@ use om_tree::{AssignOperator, Expression, PostfixOperator};
 /// The refusal of an expression that can't stand where it does: S9 at its first token, or S7 of a name
 /// there.
 pub fn misplaced(symbols: &Symbols, expression: &Expression) -> SourceFault
-    ensures { first_of (misplaced_breaches symbols.now (view_expression expression.now))
-        ≡ Some result }
+    ensures { first_misplaced symbols.now expression.now ≡ Some result }
 {
     match check_leading(symbols, expression) {
         Ok(()) => misuse(expression_start(expression)),
@@ -67,8 +66,7 @@ pub fn assigned(
     operator: AssignOperator,
     value: Box<ResolvedExpression>,
 ) -> ResolvedExpression
-    ensures { view.expression result
-        ≡ assigned (view_target target) operator (view.expression value.value) }
+    ensures { view.expression result ≡ assigned (view_target target) operator (view_boxed value) }
 {
     match target {
         Target::Variable(variable) => ResolvedExpression::Assign {
