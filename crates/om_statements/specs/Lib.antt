@@ -12,6 +12,7 @@ pub mod Statements
 pub mod Going
 pub mod Each
 pub mod Scoped
+pub mod Declarations
 pub mod Scoping
 pub mod Spots
 pub mod Effects

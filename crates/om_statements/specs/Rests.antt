@@ -1,12 +1,14 @@
--- What contracts of `expression` and `single` name: rows of assignments, and of what is left behind an operand or an index.
-use Rattle.std.specs.Prelude.{ℕ, pos, Option, None, Result, Some, Bool, true}
+-- The rows of parts of an expression: of an assignment, of a step by one, and of what still comes once the left operand
+-- or the index is written. The last section says that a function writes such a row.
+use Rattle.std.specs.Prelude.{ℕ, pos, List, [], ◌∷◌, OnOk, Option, None, Result, Some, Bool, true}
 use Rattle.om_code.specs.declared.instruction.BinaryOperator as machine
+use Rattle.om_code.specs.declared.instruction.Instr.{Instr}
 use Rattle.om_code.specs.declared.instruction.Instr.TheVariants as i
 use Rattle.om_code.specs.declared.instruction.UnaryOperator.TheVariants as unary
 use Rattle.om_statements.specs.declared.expression.Target.{Target}
 use Rattle.om_statements.specs.declared.here.Here.{Here}
 use Rattle.om_statements.specs.Drafts.{Written}
-use Rattle.om_statements.specs.Emits.{Appends, AppendsBy}
+use Rattle.om_statements.specs.Emits.{Appends, AppendsBy, Goes, site}
 use Rattle.om_resolved.specs.declared.resolved.ResolvedExpression.{ResolvedExpression}
 use Rattle.om_resolved.specs.declared.resolved.UnaryOperator.{UnaryOperator}
 use Rattle.om_resolved.specs.declared.resolved.UnaryOperator.TheVariants as unaries
@@ -14,6 +16,7 @@ use Rattle.om_resolved.specs.declared.resolved.Variable as variables
 use Rattle.om_resolved.specs.ResolvedTree.{ResolvedExpressionTree, ValuesTree}
 use Rattle.om_resolved.specs.ResolvedView as view
 use Rattle.om_rows.specs.Expressions.{assigned, called, constant, stepped_back, value, values}
+use Rattle.om_rows.specs.Numbered.{Numbered}
 use Rattle.om_rows.specs.Operators.{BinaryForm, Both, Either, Plain, compound_of, step_of, inverse_step_of}
 use Rattle.om_rows.specs.Rows.{Site, Row, end, ins, part, here, fresh_two, fresh_three, ◌▸◌}
 use Rattle.om_rows.specs.Slots.{place}
@@ -37,6 +40,10 @@ abbrev pub unary_rest : Site → ℕ → UnaryOperator → Row
 unary_rest at l unaries.Plus = end
 unary_rest at l unaries.Negate = ins at l (i.Unary unary.Negate) ▸ end
 unary_rest at l unaries.Not = ins at l (i.Unary unary.Not) ▸ end
+
+-- what jumps to `otherwise` where the value on top is 0, and pushes 1 and jumps to `over` where it is not
+abbrev pub one_unless_zero : (otherwise over : ℕ) → List Instr
+one_unless_zero otherwise over = i.JumpIfZero otherwise ∷ i.Constant (pos 1) ∷ i.Jump over ∷ []
 
 -- 1 where the value on top is not 0, and 0 where it is; what jumped to the label f gets the 0, and what jumped to
 -- the label e goes on behind it
@@ -93,3 +100,20 @@ abbrev pub AppendsElement : {T E : Type 0} → Result T E → Here → Target �
     → Type 0
 AppendsElement result here to e old new =
     Appends result here (λ at l. assignment_rest at l to.keeps to.variable to.operator) (view.expression e) old new
+
+-- a variable is stepped by one; `keeps` says whether the new value is left
+abbrev pub AppendsStep : {T E : Type 0} → Result T E → Here → (keeps : Bool) → variables.Variable → PostfixOperator
+    → Written → Written → Type 0
+AppendsStep result here keeps x operator old new = Appends result here (λ at l. stepped at l keeps x) operator old new
+
+-- an element is, whose index stands before it
+abbrev pub AppendsElementStep : {T E : Type 0} → Result T E → Here → (keeps : Bool) → variables.Variable
+    → PostfixOperator → Written → Written → Type 0
+AppendsElementStep result here keeps a operator old new =
+    Appends result here (λ at l. stepped_rest at l keeps a) operator old new
+
+-- the truth of the value on top is written in whichever body; both labels get their places, and those below the first
+-- one are kept
+abbrev pub AppendsTruth : {T E : Type 0} → Result T E → (line otherwise over : ℕ) → Written → Written → Type 0
+AppendsTruth result line otherwise over old new = (names : Numbered)
+    → OnOk result (Goes otherwise (λ done at. truth_row (site names done) line (at otherwise) (at over)) old new)

@@ -1,8 +1,10 @@
 -- What is promised of the scopes of names in code that is written.
-use Rattle.std.specs.Prelude.{◌≡◌, ◌≤◌, ℕ, All, List, [], ◌∷◌, ◌++◌, OnOk, Option, None, Result, drop, length, map, reverse, take}
+use Rattle.std.specs.Prelude.{◌≡◌, ◌≤◌, ℕ, All, List, [], ◌∷◌, ◌++◌, OnOk, Option, None, Result, drop, length, map}
+use Rattle.std.specs.Prelude.{reverse, take}
 use Rattle.om_statements.specs.Drafts.{Labels, Written}
 use Rattle.om_statements.specs.declared.here.Here.{Here}
 use Rattle.om_statements.specs.Emits.{Finished, Fits, Grows, names_at, site}
+use Rattle.om_resolved.specs.declared.resolved.ConstructKind.{ConstructKind}
 use Rattle.om_resolved.specs.declared.resolved.CopyKind.TheVariants as copies
 use Rattle.om_resolved.specs.declared.resolved.LocalVariable.{LocalVariable}
 use Rattle.om_resolved.specs.declared.resolved.ResolvedClause.{ResolvedClause}
@@ -10,7 +12,7 @@ use Rattle.om_resolved.specs.ResolvedTree.{ResolvedClauseTree, Copied}
 use Rattle.om_resolved.specs.ResolvedView as view
 use Rattle.om_rows.specs.declared.scope.VariableScope.{VariableScope}
 use Rattle.om_rows.specs.Rows.{Site}
-use Rattle.om_rows.specs.Scopes.{Found, Scoping, closed_at, each_scope, opened_with}
+use Rattle.om_rows.specs.Scopes.{Found, Scoping, closed_at, construct_head, each_scope, opened_with}
 use Rattle.om_statements.specs.declared.writing.ScopeStack.{ScopeStack}
 use Rattle.om_statements.specs.declared.writing.Writing.{Writing}
 use Rattle.om_rows.specs.Numbered.{Numbered}
@@ -26,12 +28,16 @@ pub record EndsScopes (height to : ℕ) (old new : ScopeStack) : Type 0 where
   pub opened : new.opened.items ≡ take height old.opened.items
   pub closed : new.closed.items ≡ old.closed.items ++ map (closed_at to) (reverse (drop height old.opened.items))
 
--- the copy of a clause does, if it makes one
+-- they do, if there are so many of them
+abbrev pub EndsAbove : (height to : ℕ) → ScopeStack → ScopeStack → Type 0
+EndsAbove height to old new = height ≤ length old.opened.items → EndsScopes height to old new
+
+-- the scope of the copy of a clause begins at this place, if the clause makes one
 abbrev pub BeginsCopy : (from : ℕ) → ResolvedClauseTree → ScopeStack → ScopeStack → Type 0
 BeginsCopy from (Copied kind x copy) old new = BeginsOneScope from None copy old new
 BeginsCopy from clause old new = new ≡ old
 
--- where it does in the body of a `parallel`
+-- where it begins in the body of a `parallel`
 abbrev pub team_from : (place : ℕ) → ResolvedClauseTree → ℕ
 team_from place (Copied (copies.Reduction o) x copy) = place
 team_from place clause = 0
@@ -89,3 +95,9 @@ abbrev pub ScopesClauses : {T E : Type 0} → Result T E → Here → (row : Sit
     → List ResolvedClause → Writing → Writing → Type 0
 ScopesClauses result here row clauses old new =
     AppendsScopes result here (λ at l. each_scope (row at l)) (map view.clause clauses) old new
+
+-- the scopes of what stands before the statement of a construct with these clauses
+abbrev pub ScopesConstruct : {T E : Type 0} → Result T E → Here → ConstructKind → List ResolvedClause → Writing
+    → Writing → Type 0
+ScopesConstruct result here kind clauses old new =
+    AppendsScopes result here (λ at l. construct_head at l kind) (map view.clause clauses) old new

@@ -15,10 +15,11 @@ use Rattle.om_resolved.specs.declared.resolved.ConstructKind.TheVariants as cons
 use Rattle.om_resolved.specs.declared.resolved.LocalVariable.{LocalVariable}
 use Rattle.om_resolved.specs.declared.resolved.ResolvedClause.{ResolvedClause}
 use Rattle.om_resolved.specs.declared.resolved.ResolvedExpression.{ResolvedExpression}
+use Rattle.om_resolved.specs.declared.resolved.ResolvedStatement.{ResolvedStatement}
 use Rattle.om_resolved.specs.declared.resolved.Variable as variables
 use Rattle.om_resolved.specs.declared.resolved.Variable.TheVariants as named
 use Rattle.om_resolved.specs.ResolvedTree.{ResolvedExpressionTree, ResolvedClauseTree, ResolvedLoopTree}
-use Rattle.om_resolved.specs.ResolvedTree.{ResolvedStartTree}
+use Rattle.om_resolved.specs.ResolvedTree.{ResolvedStartTree, ResolvedStatementTree}
 use Rattle.om_resolved.specs.ResolvedView as view
 use Rattle.om_rows.specs.Coded.{ValueHasCode}
 use Rattle.om_rows.specs.Expressions.{value, effect}
@@ -26,7 +27,7 @@ use Rattle.om_rows.specs.Operators.{comparison_of, form_with, identity_of}
 use Rattle.om_rows.specs.Rows.{Site, Row, end, never, ins, part, here, fresh, ◌▸◌, given, perhaps}
 use Rattle.om_rows.specs.Slots.{place, slot}
 use Rattle.om_rows.specs.Statements.{test, start, starts, filter_row, lock_number, worksharing_end}
-use Rattle.om_rows.specs.Statements.{clause_value, jump}
+use Rattle.om_rows.specs.Statements.{clause_reduction_start, clause_value, jump, reduction_starts}
 use Rattle.om_rows.specs.Numbered.{Numbered}
 
 -- ---- rows that name no label
@@ -48,6 +49,24 @@ abbrev pub AppendsClauses : {T E : Type 0} → Result T E → Here → (row : Si
     → List ResolvedClause → Writing → Writing → Type 0
 AppendsClauses result here row clauses old new =
     Appends result here row (map view.clause clauses) old.draft new.draft
+
+-- a function writes there what the copy of a clause begins with in the body of a `parallel`, which is nothing unless
+-- the clause is a reduction, and what those of clauses begin with, unless memory runs out
+abbrev pub BeginsReduction : {T E : Type 0} → Result T E → Here → ResolvedClause → Written → Written → Type 0
+BeginsReduction result here clause old new = Appends result here clause_reduction_start (view.clause clause) old new
+
+abbrev pub BeginsReductions : {T E : Type 0} → Result T E → Here → List ResolvedClause → Writing → Writing → Type 0
+BeginsReductions result here clauses old new =
+    Appends result here reduction_starts (map view.clause clauses) old.draft new.draft
+
+-- a function writes the row of a statement there, unless memory runs out
+abbrev pub AppendsStatement : {T E : Type 0} → Result T E → Here → (row : Site → ℕ → ResolvedStatementTree → Row)
+    → ResolvedStatement → Written → Written → Type 0
+AppendsStatement result here row statement old new = Appends result here row (view.statement statement) old new
+
+-- the value of `num_threads` or `filter`, where one of these clauses has one
+abbrev pub value_in : List ResolvedClause → Option ResolvedExpressionTree
+value_in clauses = clause_value (map view.clause clauses)
 
 -- a copy of a reduction begins with the operator's identity, and a firstprivate one with its original's value
 abbrev pub identity_start : Site → ℕ → ReductionOperator → LocalVariable → Row
@@ -230,6 +249,11 @@ construct_end names l (constructs.Critical name) label done at =
     ins (site names done) l (i.LeaveCritical (lock_number (site names done) name)) ▸ end
 construct_end names l constructs.Atomic label done at = never
 construct_end names l constructs.Taskgroup label done at = ins (site names done) l i.GroupEnd ▸ end
+
+-- a function writes it there, unless memory runs out, and places the label, unless the construct has no use for one
+abbrev pub EndsConstruct : {T E : Type 0} → Result T E → Here → ConstructKind → (label : ℕ) → Written → Written → Type 0
+EndsConstruct result here kind label old new =
+    AppendsEnd result here label (λ names l. construct_end names l kind) label old new
 
 abbrev pub IsNoAtomic : ConstructKind → Type 0
 IsNoAtomic constructs.Atomic = ⊥

@@ -1,8 +1,8 @@
 //! Barriers, directives that stand alone, `atomic`, and jumps out of a loop's body.
 
 ghost use Rattle.std.specs.Prelude.{◌≡◌, OnOk, is_some, true};
-ghost use Rattle.om_statements.specs.Words.{Appends, AppendsAnywhere, AssignmentHasCode, EmitsJump, UpdateHasCode};
-ghost use Rattle.om_statements.specs.Words.{alone_row, assignment_row, barrier, update_row};
+ghost use Rattle.om_statements.specs.Words.{Appends, AppendsAnywhere, AppendsStatement, AssignmentHasCode, EmitsJump};
+ghost use Rattle.om_statements.specs.Words.{UpdateHasCode, alone_row, assignment_row, barrier, update_row};
 ghost use Rattle.om_statements.specs.Words.{worksharing_end};
 ghost use Rattle.om_resolved.specs.ResolvedView as view;
 
@@ -81,8 +81,7 @@ pub fn update(draft: &mut Draft, here: &Here<'_>, update: &ResolvedUpdate) -> Do
 /// Writes the assignment of an `atomic` that reads or writes, on the directive's line.
 pub fn assignment(draft: &mut Draft, here: &Here<'_>, statement: &ResolvedStatement) -> Done
     requires { AssignmentHasCode (view.statement statement.now) }
-    ensures { Appends result here.now assignment_row (view.statement statement.now)
-        draft.old draft.new }
+    ensures { AppendsStatement result here.now assignment_row statement.now draft.old draft.new }
 {
     let ResolvedStatement::Expression {
         value: expression,

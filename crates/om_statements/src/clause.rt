@@ -2,11 +2,11 @@
 
 ghost use Rattle.std.specs.Prelude.{◌≡◌, OnOk, map, option_map};
 ghost use Rattle.om_statements.specs.Words.{Appends, AppendsBy, AppendsClause, AppendsClauses, BeginsCopy};
-ghost use Rattle.om_statements.specs.Words.{BeginsEach, ScopesClause, ScopesClauses, clause_scope, clause_start};
-ghost use Rattle.om_statements.specs.Words.{combine_clause, identity_start, original_start, parameter_scope};
-ghost use Rattle.om_statements.specs.Words.{reductions, starts, task_scope, team_from, team_scope};
+ghost use Rattle.om_statements.specs.Words.{BeginsEach, BeginsReduction, BeginsReductions, ScopesClause, ScopesClauses};
+ghost use Rattle.om_statements.specs.Words.{clause_scope, clause_start, combine_clause, identity_start};
+ghost use Rattle.om_statements.specs.Words.{original_start, parameter_scope, reductions, starts, task_scope};
+ghost use Rattle.om_statements.specs.Words.{team_from, team_scope, value_in};
 ghost use Rattle.om_resolved.specs.ResolvedView as view;
-ghost use Rattle.om_rows.specs.Statements as rows;
 
 use crate::draft::Draft;
 use crate::here::{Done, Here};
@@ -19,8 +19,7 @@ use om_resolved::{CopyKind, LocalVariable, ResolvedClause, ResolvedExpression, V
 
 /// The value of `num_threads` or `filter`, where there is one.
 pub fn clause_value(clauses: &[ResolvedClause]) -> Option<&ResolvedExpression>
-    ensures { option_map (λ value. view.expression value.now) result
-        ≡ rows.clause_value (map view.clause clauses.now) }
+    ensures { option_map (λ value. view.expression value.now) result ≡ value_in clauses.now }
 {
     for clause in clauses {
         if let ResolvedClause::Value { value, .. } = clause {
@@ -126,8 +125,7 @@ pub fn starts(writing: &mut Writing, here: &Here<'_>, clauses: &[ResolvedClause]
 // Writes what the copy of a clause of a `parallel` begins with, if it is combined. FORK gives the
 // firstprivate ones their values, and the others are new with their frame.
 fn begin_reduction(draft: &mut Draft, here: &Here<'_>, clause: &ResolvedClause) -> Done
-    ensures { Appends result here.now rows.clause_reduction_start (view.clause clause.now)
-        draft.old draft.new }
+    ensures { BeginsReduction result here.now clause.now draft.old draft.new }
 {
     let ResolvedClause::Copied { kind, copy, .. } = clause else {
         return Ok(());
@@ -155,8 +153,7 @@ fn team_from(place: usize, clause: &ResolvedClause) -> usize
 
 // Writes what the copy of a clause of a `parallel` begins with in its body, where it is in scope.
 fn clause_reduction_start(writing: &mut Writing, here: &Here<'_>, clause: &ResolvedClause) -> Done
-    ensures code { AppendsClause result here.now rows.clause_reduction_start clause.now writing.old
-        writing.new }
+    ensures code { BeginsReduction result here.now clause.now writing.old.draft writing.new.draft }
     ensures scopes { ScopesClause result here.now team_scope clause.now writing.old writing.new }
 {
     let from = team_from(writing.draft.place(), clause);
@@ -167,8 +164,7 @@ fn clause_reduction_start(writing: &mut Writing, here: &Here<'_>, clause: &Resol
 
 /// Writes what the copies of a `parallel` begin with in its body, in clause order.
 pub fn reduction_starts(writing: &mut Writing, here: &Here<'_>, clauses: &[ResolvedClause]) -> Done
-    ensures code { AppendsClauses result here.now rows.reduction_starts clauses.now writing.old
-        writing.new }
+    ensures code { BeginsReductions result here.now clauses.now writing.old writing.new }
     ensures scopes { ScopesClauses result here.now team_scope clauses.now writing.old writing.new }
 {
     for clause in clauses {

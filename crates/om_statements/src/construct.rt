@@ -1,8 +1,8 @@
 //! The begins and the ends of constructs round a statement.
 
 ghost use Rattle.std.specs.Prelude.{◌≡◌, IfSome, None, Some, map, slice_get};
-ghost use Rattle.om_statements.specs.Words.{Appends, AppendsEnd, AppendsScopes, BeginHasCode, BeginsConstruct};
-ghost use Rattle.om_statements.specs.Words.{IsNoAtomic, ValueHasCode, construct_end, construct_head};
+ghost use Rattle.om_statements.specs.Words.{Appends, BeginHasCode, BeginsConstruct, EndsConstruct, IsNoAtomic};
+ghost use Rattle.om_statements.specs.Words.{ScopesConstruct, ValueHasCode, value_in};
 ghost use Rattle.om_resolved.specs.ResolvedView as view;
 ghost use Rattle.om_rows.specs.Statements as rows;
 
@@ -18,9 +18,8 @@ use om_resolved::{ConstructKind, Made, ResolvedClause};
 // Writes the thread number that a `masked` asks for: 0 where no clause says another (OpenMP API 5.2,
 // section 10.5.1).
 fn filter(draft: &mut Draft, here: &Here<'_>, clauses: &[ResolvedClause]) -> Done
-    requires { IfSome (rows.clause_value (map view.clause clauses.now)) ValueHasCode }
-    ensures { Appends result here.now rows.filter_row
-        (rows.clause_value (map view.clause clauses.now)) draft.old draft.new }
+    requires { IfSome (value_in clauses.now) ValueHasCode }
+    ensures { Appends result here.now rows.filter_row (value_in clauses.now) draft.old draft.new }
 {
     match clause_value(clauses) {
         None => {
@@ -41,8 +40,7 @@ pub fn begin_construct(
 ) -> Made<usize>
     requires { BeginHasCode kind.now (map view.clause clauses.now) }
     ensures code { BeginsConstruct result here.now kind.now clauses.now writing.old writing.new }
-    ensures scopes { AppendsScopes result here.now (λ at l. construct_head at l kind.now)
-        (map view.clause clauses.now) writing.old writing.new }
+    ensures scopes { ScopesConstruct result here.now kind.now clauses.now writing.old writing.new }
 {
     let line = here.at.line;
     let label = writing.draft.fresh()?;
@@ -70,8 +68,7 @@ pub fn begin_construct(
 pub fn end_construct(draft: &mut Draft, here: &Here<'_>, kind: &ConstructKind, label: usize) -> Done
     requires free { slice_get draft.old.places label ≡ Some None }
     requires kind { IsNoAtomic kind.now }
-    ensures { AppendsEnd result here.now label (λ names l. construct_end names l kind.now) label
-        draft.old draft.new }
+    ensures { EndsConstruct result here.now kind.now label draft.old draft.new }
 {
     let line = here.at.line;
     match kind {

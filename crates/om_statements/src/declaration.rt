@@ -1,10 +1,10 @@
 //! Declarations, tests, and what leaves a function.
 
 ghost use Rattle.std.specs.Prelude.{◌≡◌, All, IfSome, map, option_map};
-ghost use Rattle.om_statements.specs.Words.{Appends, AppendsPerhapsTest, AppendsScopes, AppendsTest};
-ghost use Rattle.om_statements.specs.Words.{DeclaratorHasCode, EffectHasCode, HasNoTarget, StartHasCode};
-ghost use Rattle.om_statements.specs.Words.{ValueHasCode, declarator_scope, each, each_scope, effect, perhaps};
-ghost use Rattle.om_statements.specs.Words.{start_scopes};
+ghost use Rattle.om_statements.specs.Words.{AppendsPerhapsEffect, AppendsPerhapsTest, AppendsReturn, AppendsStart};
+ghost use Rattle.om_statements.specs.Words.{AppendsTest, DeclaratorHasCode, EffectHasCode, HasNoTarget, Initializes};
+ghost use Rattle.om_statements.specs.Words.{InitializesAll, ScopesDeclarator, ScopesDeclarators, ScopesStart};
+ghost use Rattle.om_statements.specs.Words.{StartHasCode, ValueHasCode};
 ghost use Rattle.om_resolved.specs.ResolvedView as view;
 ghost use Rattle.om_rows.specs.Statements as rows;
 
@@ -20,8 +20,7 @@ use om_resolved::{ResolvedDeclarator, ResolvedExpression, ResolvedStart, Variabl
 // Writes the code of a declared name: it is made unset, or gets its initializer (C17 6.7.9).
 fn initialize(draft: &mut Draft, here: &Here<'_>, declared: &ResolvedDeclarator) -> Done
     requires { DeclaratorHasCode (view.declarator declared.now) }
-    ensures { Appends result here.now rows.declarator (view.declarator declared.now)
-        draft.old draft.new }
+    ensures { Initializes result here.now declared.now draft.old draft.new }
 {
     let variable = &declared.variable;
     match &declared.initial {
@@ -40,10 +39,8 @@ fn initialize(draft: &mut Draft, here: &Here<'_>, declared: &ResolvedDeclarator)
 // Writes the code of a declared name, which is in scope from there on (C17 6.2.1p7).
 fn declarator(writing: &mut Writing, here: &Here<'_>, declared: &ResolvedDeclarator) -> Done
     requires { DeclaratorHasCode (view.declarator declared.now) }
-    ensures code { Appends result here.now rows.declarator (view.declarator declared.now)
-        writing.old.draft writing.new.draft }
-    ensures scopes { AppendsScopes result here.now declarator_scope
-        (view.declarator declared.now) writing.old writing.new }
+    ensures code { Initializes result here.now declared.now writing.old.draft writing.new.draft }
+    ensures scopes { ScopesDeclarator result here.now declared.now writing.old writing.new }
 {
     let from = writing.draft.place();
     let scopes = &mut writing.scopes;
@@ -55,10 +52,8 @@ fn declarator(writing: &mut Writing, here: &Here<'_>, declared: &ResolvedDeclara
 /// Writes the code of the names of a declaration, in their order.
 pub fn declarators(writing: &mut Writing, here: &Here<'_>, declared: &[ResolvedDeclarator]) -> Done
     requires { All DeclaratorHasCode (map view.declarator declared.now) }
-    ensures code { Appends result here.now (λ at l. each (rows.declarator at l))
-        (map view.declarator declared.now) writing.old.draft writing.new.draft }
-    ensures scopes { AppendsScopes result here.now (λ at l. each_scope (declarator_scope at l))
-        (map view.declarator declared.now) writing.old writing.new }
+    ensures code { InitializesAll result here.now declared.now writing.old.draft writing.new.draft }
+    ensures scopes { ScopesDeclarators result here.now declared.now writing.old writing.new }
 {
     for one in declared {
         declarator(writing, here, one)?;
@@ -69,10 +64,8 @@ pub fn declarators(writing: &mut Writing, here: &Here<'_>, declared: &[ResolvedD
 /// Writes what a `for` begins with (C17 6.8.5.3).
 pub fn start(writing: &mut Writing, here: &Here<'_>, start: &ResolvedStart) -> Done
     requires { StartHasCode (view.start start.now) }
-    ensures code { Appends result here.now rows.start (view.start start.now)
-        writing.old.draft writing.new.draft }
-    ensures scopes { AppendsScopes result here.now start_scopes (view.start start.now)
-        writing.old writing.new }
+    ensures code { AppendsStart result here.now start.now writing.old.draft writing.new.draft }
+    ensures scopes { ScopesStart result here.now start.now writing.old writing.new }
 {
     match start {
         ResolvedStart::Nothing => Ok(()),
@@ -125,8 +118,7 @@ pub fn perhaps_effect(
     expression: &Option<ResolvedExpression>,
 ) -> Done
     requires { IfSome (option_map view.expression expression.now) EffectHasCode }
-    ensures { Appends result here.now (λ at l. perhaps (effect at l))
-        (option_map view.expression expression.now) draft.old draft.new }
+    ensures { AppendsPerhapsEffect result here.now expression.now draft.old draft.new }
 {
     let Some(expression) = expression else {
         return Ok(());
@@ -137,8 +129,7 @@ pub fn perhaps_effect(
 /// Writes a `return`, which in `main` ends the program (C17 6.8.6.4, 5.1.2.2.3).
 pub fn returned(draft: &mut Draft, here: &Here<'_>, answer: &Option<ResolvedExpression>) -> Done
     requires { IfSome (option_map view.expression answer.now) ValueHasCode }
-    ensures { Appends result here.now (λ at l. rows.returned at l at.is_main)
-        (option_map view.expression answer.now) draft.old draft.new }
+    ensures { AppendsReturn result here.now answer.now draft.old draft.new }
 {
     let is_main = here.tables.is_main();
     match answer {

@@ -1,10 +1,10 @@
 //! The code of what no expression stands in.
 
-ghost use Rattle.std.specs.Prelude.{◌≡◌, ◌<◌, ◌∷◌, [], OnOk, pos, slice_get};
-ghost use Rattle.om_code.specs.declared.instruction.Instr.TheVariants as i;
+ghost use Rattle.std.specs.Prelude.{◌≡◌, ◌<◌, OnOk, slice_get};
+ghost use Rattle.om_code.specs.declared.instruction.Instr.TheVariants.{Load, LoadElement, Store};
 ghost use Rattle.om_statements.specs.Rests as rows;
-ghost use Rattle.om_statements.specs.Words.{Adds, Appends, AppendsBy, Goes, Numbered, PutsAll};
-ghost use Rattle.om_statements.specs.Words.{inverse_step_of, place_at, site, stepped_back, value};
+ghost use Rattle.om_statements.specs.Words.{Adds, Appends, AppendsBy, AppendsElementStep, AppendsStep, AppendsTruth};
+ghost use Rattle.om_statements.specs.Words.{PutsAll, inverse_step_of, one_unless_zero, place_at, stepped_back, value};
 ghost use Rattle.om_resolved.specs.ResolvedTree as trees;
 
 use crate::draft::{Draft, Jump};
@@ -16,7 +16,7 @@ use om_tree::PostfixOperator;
 
 /// Loads a variable.
 pub(crate) fn load(draft: &mut Draft, here: &Here<'_>, variable: Variable) -> Done
-    ensures { Adds result here.now (i.Load (place_at here.now variable)) draft.old draft.new }
+    ensures { Adds result here.now (Load (place_at here.now variable)) draft.old draft.new }
 {
     let place = here.tables.place(variable);
     draft.put(here.at.line, Instr::Load(place))
@@ -24,7 +24,7 @@ pub(crate) fn load(draft: &mut Draft, here: &Here<'_>, variable: Variable) -> Do
 
 /// Loads the element of an array whose index is on top.
 pub(crate) fn load_element(draft: &mut Draft, here: &Here<'_>, array: Variable) -> Done
-    ensures { Adds result here.now (i.LoadElement (place_at here.now array)) draft.old draft.new }
+    ensures { Adds result here.now (LoadElement (place_at here.now array)) draft.old draft.new }
 {
     let place = here.tables.place(array);
     draft.put(here.at.line, Instr::LoadElement(place))
@@ -32,7 +32,7 @@ pub(crate) fn load_element(draft: &mut Draft, here: &Here<'_>, array: Variable) 
 
 /// Stores the value on top in a variable; `keeps` says whether it is left.
 pub(crate) fn store(draft: &mut Draft, here: &Here<'_>, variable: Variable, keeps: bool) -> Done
-    ensures { Adds result here.now (i.Store (place_at here.now variable) keeps) draft.old draft.new }
+    ensures { Adds result here.now (Store (place_at here.now variable) keeps) draft.old draft.new }
 {
     let place = here.tables.place(variable);
     draft.put(here.at.line, Instr::Store { place, keeps })
@@ -52,8 +52,7 @@ pub(crate) fn unary_end(draft: &mut Draft, here: &Here<'_>, operator: UnaryOpera
 
 /// Jumps to `otherwise` where the value on top is 0, and pushes 1 and jumps to `over` where it is not.
 pub(crate) fn one_unless_zero(draft: &mut Draft, line: u32, otherwise: usize, over: usize) -> Done
-    ensures { OnOk result (PutsAll line
-        (i.JumpIfZero otherwise ∷ i.Constant (pos 1) ∷ i.Jump over ∷ []) draft.old draft.new) }
+    ensures { OnOk result (PutsAll line (one_unless_zero otherwise over) draft.old draft.new) }
 {
     draft.put_jump(line, Jump::IfZero, otherwise)?;
     draft.put(line, Instr::Constant(1))?;
@@ -66,9 +65,7 @@ pub(crate) fn truth(draft: &mut Draft, line: u32, otherwise: usize, over: usize)
     requires otherwise { slice_get draft.old.places otherwise ≡ Some None }
     requires over { slice_get draft.old.places over ≡ Some None }
     requires apart { otherwise < over }
-    ensures { (names : Numbered) → OnOk result
-        (Goes otherwise (λ done at. rows.truth_row (site names done) line (at otherwise) (at over))
-        draft.old draft.new) }
+    ensures { AppendsTruth result line otherwise over draft.old draft.new }
 {
     one_unless_zero(draft, line, otherwise, over)?;
     draft.define(otherwise);
@@ -85,8 +82,7 @@ pub(crate) fn step(
     operator: PostfixOperator,
     keeps: bool,
 ) -> Done
-    ensures { Appends result here.now (λ at l. rows.stepped at l keeps variable) operator draft.old
-        draft.new }
+    ensures { AppendsStep result here.now keeps variable operator draft.old draft.new }
 {
     let place = here.tables.place(variable);
     let stepped = [
@@ -107,8 +103,7 @@ pub(crate) fn step_element(
     operator: PostfixOperator,
     keeps: bool,
 ) -> Done
-    ensures { Appends result here.now (λ at l. rows.stepped_rest at l keeps array) operator
-        draft.old draft.new }
+    ensures { AppendsElementStep result here.now keeps array operator draft.old draft.new }
 {
     let place = here.tables.place(array);
     let stepped = [

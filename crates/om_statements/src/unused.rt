@@ -1,7 +1,7 @@
 //! The code of expressions whose values nothing uses (C17 6.8.3).
 
-ghost use Rattle.om_statements.specs.Effects as rows;
-ghost use Rattle.om_statements.specs.Words.{Appends, CallHasCode, EffectHasCode, ValueHasCode};
+ghost use Rattle.om_statements.specs.Effects.{popped, print};
+ghost use Rattle.om_statements.specs.Words.{Appends, AppendsBy, CallHasCode, EffectHasCode, ValueHasCode};
 ghost use Rattle.om_statements.specs.Words.{effect, listed};
 ghost use Rattle.om_resolved.specs.ResolvedView as view;
 
@@ -66,8 +66,7 @@ pub fn effect(draft: &mut Draft, here: &Here<'_>, e: &ResolvedExpression) -> Don
 // Writes an expression that leaves its value, and takes it off.
 fn popped(draft: &mut Draft, here: &Here<'_>, e: &ResolvedExpression) -> Done
     requires { ValueHasCode (view.expression e.now) }
-    ensures { Appends result here.now rows.popped (view.expression e.now) draft.old
-        draft.new }
+    ensures { Appends result here.now popped (view.expression e.now) draft.old draft.new }
 {
     value(draft, here, e)?;
     draft.put(here.at.line, Instr::Pop)
@@ -81,8 +80,7 @@ fn print(
     arguments: &[ResolvedExpression],
 ) -> Done
     requires { CallHasCode (listed arguments.now) }
-    ensures { Appends result here.now (λ at l. rows.print at l format.now) (listed arguments.now)
-        draft.old draft.new }
+    ensures { AppendsBy result here.now print format.now (listed arguments.now) draft.old draft.new }
 {
     let text = here.tables.format_number(format);
     values(draft, here, arguments)?;

@@ -1,7 +1,7 @@
 //! A body that is being written: its code, and the scopes of names in it.
 
-ghost use Rattle.std.specs.Prelude.{◌≡◌, ◌≤◌, ◌<◌, [], OnOk, length};
-ghost use Rattle.om_statements.specs.Words.{BeginsOneScope, EndsLast, EndsScopes, closed_at, nothing};
+ghost use Rattle.std.specs.Prelude.{◌≡◌, ◌<◌, [], OnOk, length};
+ghost use Rattle.om_statements.specs.Words.{BeginsOneScope, EndsAbove, EndsLast, closed_at, nothing};
 
 use crate::draft::Draft;
 use crate::here::Done;
@@ -71,8 +71,7 @@ impl ScopeStack {
     /// Ends all scopes but the first `height` of those that have begun, the last one first, at this
     /// place. Its only error is out of memory.
     pub fn end(&mut self, height: usize, to: usize) -> Done
-        ensures { OnOk result
-            (height ≤ length self.old.opened.items → EndsScopes height to self.old self.new) }
+        ensures { OnOk result (EndsAbove height to self.old self.new) }
     {
         for _turn in height..self.opened.len() {
             self.end_last(to)?;
