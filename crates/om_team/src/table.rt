@@ -7,6 +7,7 @@ ghost use Rattle.om_steps.specs.SerialRows.{serial_row};
 ghost use Rattle.om_steps.specs.Answers.{AnswersAt};
 ghost use Rattle.om_team.specs.Counters.{IsWithin};
 ghost use Rattle.om_team.specs.Ready.{IsReady};
+ghost use Rattle.om_team.specs.Doings.{asked_by};
 ghost use Rattle.om_team.specs.Sites.{lock_of, targets_of};
 ghost use Rattle.om_team.specs.Table.{is_of_tasks, frame_row, team_row, share_row, region_row, row_of};
 
