@@ -23,8 +23,9 @@ use om_foot::{Access, Names};
 use om_live::{Control, Stack, Store};
 use om_seq::Seq;
 use om_steps::{Answer, Row};
+use om_team::Doing;
 use om_team::answers::footprint;
-use om_team::table::{Doing, instruction_of};
+use om_team::table::instruction_of;
 use om_values::{Blocked, Change, Choice, Edit, Footprint, Label, Puts};
 use std::alloc::{AllocError, Global};
 

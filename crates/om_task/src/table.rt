@@ -11,7 +11,8 @@ use crate::wait::{group_begin, group_end, wait_begin, wait_end};
 use om_code::{Instr, Program};
 use om_live::{Context, Stack, Store};
 use om_steps::{Answer, Row};
-use om_team::table::{Doing, is_of_tasks, launch, slots};
+use om_team::Doing;
+use om_team::table::{is_of_tasks, launch, slots};
 use std::alloc::{AllocError, Global};
 
 // Tasks and task groups.

@@ -4,7 +4,7 @@ use Rattle.om_code.specs.declared.raw.Raw.{Raw}
 use Rattle.om_live.specs.declared.control.Stack.{Stack}
 use Rattle.om_live.specs.Plain.{plain_stack}
 use Rattle.om_steps.specs.Rows.{Asked}
-use Rattle.om_team.specs.declared.table.Doing.{Doing}
+use Rattle.om_team.specs.declared.doing.Doing.{Doing}
 use Rattle.om_team.specs.Sites.{Site, site}
 
 -- what a table of rows asks for the instruction, where a worker carries it out on a stack

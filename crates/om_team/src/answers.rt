@@ -10,7 +10,8 @@ ghost use Rattle.om_team.specs.Asked.{next_asked, choice_asked, asked_in, answer
 ghost use Rattle.om_team.specs.Counters.{IsWithin, ControlWithin, StateWithin};
 ghost use Rattle.om_team.specs.Sites.{site};
 
-use crate::table::{Doing, answer, instruction_of, is_of_tasks};
+use crate::doing::Doing;
+use crate::table::{answer, instruction_of, is_of_tasks};
 use om_code::Program;
 use om_foot::{Access, Mode, Obj};
 use om_live::{Control, Stack, Store};

@@ -1,6 +1,6 @@
 //! The table of all instructions but those of tasks: each with its row.
 
-ghost use Rattle.std.specs.Prelude.{◌≡◌, ◌<◌, ◌≤◌, ◌+◌, ◌^◌, IfSome};
+ghost use Rattle.std.specs.Prelude.{◌≡◌, ◌<◌, ◌+◌, ◌^◌, IfSome};
 ghost use Rattle.om_live.specs.Plain.{plain_stack};
 ghost use Rattle.om_code.specs.Places.{instruction_at, slots_of};
 ghost use Rattle.om_steps.specs.SerialRows.{serial_row};
@@ -12,6 +12,7 @@ ghost use Rattle.om_team.specs.Sites.{lock_of, targets_of};
 ghost use Rattle.om_team.specs.Table.{is_of_tasks, frame_row, team_row, share_row, region_row, row_of};
 
 use crate::begin::begin;
+use crate::doing::Doing;
 use crate::ends::finish;
 use crate::teams::{Forking, fork};
 use om_code::frame::Operand;
@@ -27,18 +28,6 @@ use om_share::{
 use om_steps::names::operands_of;
 use om_steps::{Answer, At, Combining, Launch, Row};
 use std::alloc::{AllocError, Global};
-
-/// A worker of so many that carries out an instruction.
-#[derive(Clone, Copy)]
-pub struct Doing {
-    /// The worker, from 0.
-    pub worker: u8,
-    /// How many workers there are.
-    pub workers: u8,
-    pub instruction: Instr,
-    /// There is at least one.
-    pub ghost some: { 1 ≤ workers },
-}
 
 /// The instruction at which a stack stands, with what its row relies on; `None` where there is none.
 pub fn instruction_of(program: &Program, stack: &Stack) -> Option<Instr>
