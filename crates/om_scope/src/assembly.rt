@@ -1,19 +1,16 @@
 //! Constructs, put together of their clauses and their statement.
 
-ghost use Rattle.std.specs.Prelude.{◌≡◌, [], IfOk, IsSome, List, Some, map};
-ghost use Rattle.om_lexer.specs.declared.token.Span.{Span};
+ghost use Rattle.std.specs.Prelude.{◌≡◌, [], IfOk, IsSome, map};
 ghost use Rattle.om_tree.specs.View.{view_directive, view_expression};
 ghost use Rattle.om_pragma.specs.Expressions.{map_clause, map_item};
 ghost use Rattle.om_pragma.specs.Questions.{atomic_kind};
 ghost use Rattle.om_rules.specs.Checks.{Checks};
-ghost use Rattle.om_scope.specs.Arounds.{constructed, with_around};
-ghost use Rattle.om_resolved.specs.ResolvedTree as resolved;
-ghost use Rattle.om_resolved.specs.ResolvedTree.{ResolvedClauseTree, ResolvedStatementTree};
-ghost use Rattle.om_resolved.specs.ResolvedView as view;
-ghost use Rattle.om_rules.specs.Resolves.{Resolves};
-ghost use Rattle.om_rules.specs.StatementResolution.{atomic_of, clause_schedule, critical_name, has_default, has_nowait, loop_construct_of, parallel_of, schedule_in, schedule_of, sections_construct_of, task_of, with_update};
+ghost use Rattle.om_scope.specs.Arounds.{IsLoop, IsLoopConstruct, IsParallel, IsSections, IsSectionsConstruct, IsTree};
+ghost use Rattle.om_scope.specs.Arounds.{Makes, MakesAtomic, MakesConstruct, MakesParallel, MakesTask};
+ghost use Rattle.om_scope.specs.Arounds.{construct_round, critical_around, with_around};
+ghost use Rattle.om_rules.specs.StatementResolution.{clause_schedule, critical_name, has_default, has_nowait, schedule_in, schedule_of, with_update};
 ghost use Rattle.om_rules.specs.Updates.{update_of};
-ghost use Rattle.om_scope.specs.Resolving.{view_body, view_clauses, view_parts};
+ghost use Rattle.om_scope.specs.Resolving.{view_body, view_clauses};
 
 use om_lexer::{SourceFault, Span};
 use om_names::{is_parallel, traits_of};
@@ -59,10 +56,7 @@ fn parallel_of(
     inner: ResolvedStatement,
 ) -> Result<ResolvedStatement, SourceFault>
     ensures checked { Checks result [] }
-    ensures made { IfOk result
-        (λ found. view.statement found
-        ≡ parallel_of (view_directive directive.now) (view_clauses clauses)
-        (view.statement inner)) }
+    ensures made { IfOk result (IsParallel directive.now clauses inner) }
 {
     let at = directive.hash;
     let body = boxed(alloc, inner)?;
@@ -108,11 +102,7 @@ fn around_task(
     clauses: &[ResolvedClause],
     body: &ResolvedStatement,
 ) -> Result<Around, AllocError>
-    ensures { let cs = map view.clause clauses.now in
-        let tree = view.statement body.now in
-        IfOk result
-        (λ around. with_around around directive.now.hash cs tree
-        ≡ Some (task_of parallel (view_directive directive.now) cs tree)) }
+    ensures { IfOk result (MakesTask parallel directive.now clauses.now body.now) }
 {
     let sharing = TaskSharing {
         has_default: has_default(directive),
@@ -129,11 +119,7 @@ fn around_parallel(
     clauses: &[ResolvedClause],
     body: &ResolvedStatement,
 ) -> Result<Around, AllocError>
-    ensures { let cs = map view.clause clauses.now in
-        let tree = view.statement body.now in
-        IfOk result
-        (λ around. with_around around directive.now.hash cs tree
-        ≡ Some (parallel_of (view_directive directive.now) cs tree)) }
+    ensures { IfOk result (MakesParallel directive.now clauses.now body.now) }
 {
     let captures = captures_of_parallel(alloc, directive.hash.start, clauses, body)?;
     Ok(Around::Parallel(captures))
@@ -141,8 +127,7 @@ fn around_parallel(
 
 // What a `critical` of this name puts round a statement.
 fn around_critical(alloc: Global, name: &Option<(Span, Name, Span)>) -> Result<Around, AllocError>
-    ensures { IfOk result
-        (λ around. around ≡ Around.Construct (ConstructKind.Critical (critical_name name.now))) }
+    ensures { IfOk result (λ around. around ≡ critical_around name.now) }
 {
     let name = critical_name(alloc, name)?;
     Ok(Around::Construct(ConstructKind::Critical { name }))
@@ -150,8 +135,7 @@ fn around_critical(alloc: Global, name: &Option<(Span, Name, Span)>) -> Result<A
 
 // What an `atomic` puts round its statement, which has the target on that side.
 fn around_atomic(kind: AtomicKind, side: Side) -> Around
-    ensures { (at : Span) (cs : List ResolvedClauseTree) (body : ResolvedStatementTree) →
-        with_around result at cs body ≡ atomic_of kind side at cs body }
+    ensures { MakesAtomic kind side result }
 {
     match kind {
         AtomicKind::Update => Around::Update(side),
@@ -177,13 +161,8 @@ fn around_of(
     clauses: &[ResolvedClause],
     body: &ResolvedStatement,
 ) -> Result<Around, AllocError>
-    requires is_there { let cs = map view.clause clauses.now in
-        IsSome (constructed setting directive.now cs (view.statement body.now)) }
-    ensures { let cs = map view.clause clauses.now in
-        let inner = view.statement body.now in
-        IfOk result
-        (λ around. with_around around directive.now.hash cs inner
-        ≡ constructed setting directive.now cs inner) }
+    requires is_there { IsSome (construct_round setting directive.now clauses.now body.now) }
+    ensures { IfOk result (MakesConstruct setting directive.now clauses.now body.now) }
 {
     match &directive.name {
         DirectiveName::Parallel(_) => around_parallel(alloc, directive, clauses, body),
@@ -212,8 +191,7 @@ fn with_around(
     body: Box<ResolvedStatement>,
 ) -> Result<ResolvedStatement, AllocError>
     requires is_there { IsSome (with_around around at (view_clauses clauses) (view_body body)) }
-    ensures { let made = with_around around at (view_clauses clauses) (view_body body) in
-        IfOk result (λ found. made ≡ Some (view.statement found)) }
+    ensures { IfOk result (IsTree (with_around around at (view_clauses clauses) (view_body body))) }
 {
     match around {
         Around::Parallel(captures) => Ok(ResolvedStatement::Parallel {
@@ -246,9 +224,7 @@ fn with_update(
     body: Box<ResolvedStatement>,
 ) -> Result<ResolvedStatement, AllocError>
     requires is_update { IsSome (update_of side (view_body body)) }
-    ensures { IfOk result
-        (λ found. with_update at (update_of side (view_body body))
-        ≡ Some (view.statement found)) }
+    ensures { IfOk result (IsTree (with_update at (update_of side (view_body body)))) }
 {
     let mut body = body;
     let Some(update) = update_of(side, &mut body) else {
@@ -266,10 +242,8 @@ pub(crate) fn construct_of(
     clauses: Vec<ResolvedClause>,
     body: Box<ResolvedStatement>,
 ) -> Result<ResolvedStatement, SourceFault>
-    requires is_there { IsSome
-        (constructed setting directive.now (view_clauses clauses) (view_body body)) }
-    ensures { Resolves view.statement result []
-        (constructed setting directive.now (view_clauses clauses) (view_body body)) }
+    requires is_there { IsSome (construct_round setting directive.now clauses.items body.value) }
+    ensures { Makes result (construct_round setting directive.now clauses.items body.value) }
 {
     let around = around_of(alloc, setting, directive, clauses.as_slice(), &body)?;
     Ok(with_around(alloc, around, directive.hash, clauses, body)?)
@@ -284,10 +258,7 @@ pub(crate) fn loop_construct_of(
     body: Box<ResolvedStatement>,
 ) -> Result<ResolvedStatement, SourceFault>
     ensures checked { Checks result [] }
-    ensures made { IfOk result
-        (λ found. view.statement found
-        ≡ loop_construct_of (view_directive directive.now) (view_clauses clauses)
-        (view.loop repeated.value) (view_body body)) }
+    ensures made { IfOk result (IsLoopConstruct directive.now clauses repeated body) }
 {
     let at = directive.hash;
     if is_parallel(traits_of(&directive.name).region) {
@@ -306,9 +277,7 @@ fn shared_loop(
     repeated: Box<ResolvedLoop>,
     body: Box<ResolvedStatement>,
 ) -> ResolvedStatement
-    ensures { view.statement result
-        ≡ resolved.Loop at (view_clauses clauses) nowait
-        (view.loop repeated.value) (view_body body) }
+    ensures { IsLoop at clauses nowait repeated body result }
 {
     ResolvedStatement::Loop {
         at,
@@ -334,11 +303,7 @@ pub(crate) fn sections_construct_of(
     parts: Vec<ResolvedPart>,
 ) -> Result<ResolvedStatement, SourceFault>
     ensures checked { Checks result [] }
-    ensures made { IfOk result
-        (λ found. view.statement found
-        ≡ sections_construct_of (view_directive directive.now)
-        (view_clauses clauses)
-        (view_parts parts)) }
+    ensures made { IfOk result (IsSectionsConstruct directive.now clauses parts) }
 {
     let at = directive.hash;
     if is_parallel(traits_of(&directive.name).region) {
@@ -356,9 +321,7 @@ fn shared_parts(
     nowait: bool,
     parts: Vec<ResolvedPart>,
 ) -> ResolvedStatement
-    ensures { view.statement result
-        ≡ resolved.Sections at (view_clauses clauses) nowait
-        (view_parts parts) }
+    ensures { IsSections at clauses nowait parts result }
 {
     ResolvedStatement::Sections {
         at,

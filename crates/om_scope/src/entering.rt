@@ -1,17 +1,11 @@
 //! Constructs, as they are entered: behind their clauses, and the bounds of their loop.
 
-ghost use Rattle.std.specs.Prelude.{◌≡◌, ◌++◌, [], OnOk};
-ghost use Rattle.om_tree.specs.View.{view_directive};
-ghost use Rattle.om_resolved.specs.ResolvedView as view;
+ghost use Rattle.std.specs.Prelude.{◌≡◌, OnOk};
 ghost use Rattle.om_rules.specs.LoopViews.{view_loop};
-ghost use Rattle.om_rules.specs.Checks.{Checks};
-ghost use Rattle.om_rules.specs.DirectiveRules.{directive_breaches, in_kind, traits_of};
-ghost use Rattle.om_rules.specs.Outcomes.{Finds};
-ghost use Rattle.om_rules.specs.Resolves.{Resolves};
-ghost use Rattle.om_rules.specs.StatementResolution.{resolved_clauses, resolved_loop, schedule_of};
-ghost use Rattle.om_rules.specs.StatementRules.{found_breaches, round_bounds};
-ghost use Rattle.om_scope.specs.Parts.{round_listed};
-ghost use Rattle.om_scope.specs.Resolving.{EntersConstruct, view_clauses};
+ghost use Rattle.om_rules.specs.DirectiveRules.{in_kind};
+ghost use Rattle.om_scope.specs.Entering.{ChecksEntering, EntersListed, FindsClauses, FindsLoop, IsAllowed, IsBounded};
+ghost use Rattle.om_scope.specs.Entering.{ResolvesClausesOf, ResolvesRound};
+ghost use Rattle.om_scope.specs.Resolving.{EntersConstruct};
 
 use crate::assembly::schedule_of;
 use om_lexer::SourceFault;
@@ -30,9 +24,7 @@ pub fn enter_construct(
     flow: Flow,
     directive: &Directive<Expression>,
 ) -> Result<Vec<ResolvedClause>, SourceFault>
-    ensures found { let tree = view_directive directive.now in
-        Resolves view_clauses result (directive_breaches symbols.old flow tree)
-        (resolved_clauses symbols.old tree.clauses) }
+    ensures found { ResolvesClausesOf result symbols.old flow directive.now }
     ensures in_scope { EntersConstruct result symbols.old symbols.new directive.now }
 {
     let (listed, clauses) = resolve_directive(alloc, symbols, flow, directive)?;
@@ -61,22 +53,12 @@ pub fn enter_loop_construct(
     directive: &Directive<Expression>,
     found: &Loop<'_>,
 ) -> Result<(Vec<ResolvedClause>, Box<ResolvedLoop>), SourceFault>
-    ensures checked { let tree = view_directive directive.now in
-        Checks result
-        (directive_breaches symbols.old flow tree
-        ++ found_breaches (round_bounds tree symbols.old) (view_loop found.now)) }
-    ensures listed { OnOk result
-        (directive_breaches symbols.old flow (view_directive directive.now) ≡ []) }
-    ensures bounded { OnOk result
-        (found_breaches (round_bounds (view_directive directive.now) symbols.old)
-        (view_loop found.now) ≡ []) }
+    ensures checked { ChecksEntering result symbols.old flow directive.now (view_loop found.now) }
+    ensures listed { OnOk result (IsAllowed symbols.old flow directive.now) }
+    ensures bounded { OnOk result (IsBounded symbols.old directive.now (view_loop found.now)) }
     ensures in_scope { EntersConstruct result symbols.old symbols.new directive.now }
-    ensures clauses { Finds (λ made. view_clauses made.0) result
-        (resolved_clauses symbols.old (view_directive directive.now).clauses) }
-    ensures repeated { let tree = view_directive directive.now in
-        Finds (λ made. view.loop made.1.value) result
-        (resolved_loop (round_bounds tree symbols.old) (schedule_of tree.clauses)
-        (view_loop found.now)) }
+    ensures clauses { FindsClauses result symbols.old directive.now }
+    ensures repeated { FindsLoop result symbols.old directive.now (view_loop found.now) }
 {
     let (listed, clauses) = resolve_directive(alloc, symbols, flow, directive)?;
     let repeated = enter_bounds(alloc, symbols, directive, listed, found)?;
@@ -92,13 +74,8 @@ fn enter_bounds(
     listed: Listed,
     found: &Loop<'_>,
 ) -> Result<Box<ResolvedLoop>, SourceFault>
-    ensures found { let tree = view_directive directive.now in
-        let scopes = round_listed (traits_of tree.name).region listed symbols.old in
-        Resolves (λ repeated. view.loop repeated.value) result
-        (found_breaches scopes (view_loop found.now))
-        (resolved_loop scopes (schedule_of tree.clauses) (view_loop found.now)) }
-    ensures in_scope { let kind = (traits_of (view_directive directive.now).name).region in
-        OnOk result (symbols.new ≡ in_kind kind listed symbols.old) }
+    ensures found { ResolvesRound result symbols.old listed directive.now (view_loop found.now) }
+    ensures in_scope { EntersListed result symbols.old symbols.new listed directive.now }
 {
     let kind = traits_of(&directive.name).region;
     let schedule = schedule_of(directive.clauses.as_slice());

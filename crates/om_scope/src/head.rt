@@ -1,14 +1,11 @@
 //! What a `for` has before its body (C17 6.8.5.3).
 
 ghost use Rattle.std.specs.Prelude.{◌≡◌, [], IfOk, option_map};
-ghost use Rattle.om_tree.specs.View.{view_expression, view_for_head, view_for_start};
-ghost use Rattle.om_resolved.specs.ResolvedTree as resolved;
-ghost use Rattle.om_resolved.specs.ResolvedView as view;
+ghost use Rattle.om_tree.specs.View.{view_for_head, view_for_start};
 ghost use Rattle.om_rules.specs.Checks.{Checks};
-ghost use Rattle.om_rules.specs.Resolves.{Resolves};
-ghost use Rattle.om_rules.specs.StatementResolution.{resolved_perhaps, resolved_start};
-ghost use Rattle.om_rules.specs.StatementRules.{continuing, for_start_breaches, looping, perhaps_breaches};
-ghost use Rattle.om_scope.specs.Resolving.{GoesBehindStart, ResolvesHead, ResolvesTurn, view_body};
+ghost use Rattle.om_rules.specs.StatementRules.{continuing, looping};
+ghost use Rattle.om_scope.specs.Resolving.{GoesBehindStart, ResolvesHead, ResolvesTurn};
+ghost use Rattle.om_scope.specs.Simple.{IsFor, ResolvesPerhaps, ResolvesStart, condition_in, step_in};
 ghost use Rattle.om_uses.specs.Views.{view_boxed};
 
 use om_lexer::{SourceFault, Span};
@@ -42,10 +39,8 @@ fn head_of(
 ) -> Result<Box<ResolvedHead>, SourceFault>
     ensures checked { Checks result [] }
     ensures start { IfOk result (λ head. head.value.start ≡ start.value) }
-    ensures condition { let made = option_map view_boxed condition in
-        IfOk result (λ head. option_map view.expression head.value.condition ≡ made) }
-    ensures step { let made = option_map view_boxed step in
-        IfOk result (λ head. option_map view.expression head.value.step ≡ made) }
+    ensures condition { IfOk result (λ head. condition_in head ≡ option_map view_boxed condition) }
+    ensures step { IfOk result (λ head. step_in head ≡ option_map view_boxed step) }
 {
     let head = ResolvedHead {
         start: Box::into_inner(start),
@@ -61,9 +56,7 @@ fn resolve_for_start(
     symbols: &mut Symbols,
     start: &ForStart,
 ) -> Result<ResolvedStart, SourceFault>
-    ensures found { let tree = view_for_start start.now in
-        Resolves view.start result (for_start_breaches symbols.old tree)
-        (resolved_start symbols.old tree) }
+    ensures found { ResolvesStart result symbols.old (view_for_start start.now) }
     ensures in_scope { GoesBehindStart result symbols.old symbols.new start.now }
 {
     match start {
@@ -108,9 +101,7 @@ fn resolve_perhaps(
     for_value: bool,
     expression: &Option<Expression>,
 ) -> Result<Option<Box<ResolvedExpression>>, SourceFault>
-    ensures { let tree = option_map view_expression expression.now in
-        Resolves (option_map view_boxed) result (perhaps_breaches symbols.now for_value tree)
-        (resolved_perhaps symbols.now tree) }
+    ensures { ResolvesPerhaps result symbols.now for_value expression.now }
 {
     let Some(expression) = expression else {
         return Ok(None);
@@ -121,11 +112,7 @@ fn resolve_perhaps(
 
 /// A `for` with its body.
 pub fn for_of(at: Span, head: Box<ResolvedHead>, body: Box<ResolvedStatement>) -> ResolvedStatement
-    ensures { view.statement result
-        ≡ resolved.For at (view.start head.value.start)
-        (option_map view.expression head.value.condition)
-        (option_map view.expression head.value.step)
-        (view_body body) }
+    ensures { IsFor at head body result }
 {
     ResolvedStatement::For { at, head, body }
 }

@@ -1,20 +1,14 @@
 //! Statements that have no statement in them.
 
-ghost use Rattle.std.specs.Prelude.{◌≡◌, ◌++◌, true, false, not, option_map};
+ghost use Rattle.std.specs.Prelude.{◌≡◌, true};
 ghost use Rattle.om_pragma.specs.Questions.{is_stand_alone};
-ghost use Rattle.om_tree.specs.View.{view_directive, view_expression, view_local};
-ghost use Rattle.om_resolved.specs.ResolvedView as view;
+ghost use Rattle.om_tree.specs.View.{view_local};
 ghost use Rattle.om_rules.specs.Checks.{Checks, ChecksExactly};
-ghost use Rattle.om_rules.specs.DirectiveRules.{flush_breaches};
-ghost use Rattle.om_rules.specs.ExpressionRules.{expression_breaches};
-ghost use Rattle.om_rules.specs.Resolves.{Resolves};
-ghost use Rattle.om_rules.specs.Scopes.{declarators_of};
-ghost use Rattle.om_rules.specs.StatementResolution.{resolved_alone, resolved_perhaps};
-ghost use Rattle.om_rules.specs.StatementRules.{jump_breaches, locals_breaches, return_breaches, section_breaches, stand_alone_breaches};
-ghost use Rattle.om_scope.specs.Parts.{resolved_declaration, resolved_effect, resolved_return};
+ghost use Rattle.om_rules.specs.StatementRules.{jump_breaches, section_breaches};
 ghost use Rattle.om_scope.specs.Resolving.{perhaps_tree};
+ghost use Rattle.om_scope.specs.Simple.{ResolvesAlone, ResolvesDeclaration, ResolvesEffect, ResolvesReturn};
+ghost use Rattle.om_scope.specs.Simple.{ResolvesReturned, ResolvesStandAlone, section_tree};
 ghost use Rattle.om_uses.specs.Declares.{DeclaresLocals, locals_in};
-ghost use Rattle.om_uses.specs.Views.{view_boxed};
 
 use om_lexer::{FaultCode, SourceFault, Span};
 use om_names::Symbols;
@@ -34,9 +28,7 @@ pub fn resolve_declaration(
     symbols: &mut Symbols,
     declaration: &Declaration<Expression>,
 ) -> Result<ResolvedStatement, SourceFault>
-    ensures found { let tree = view_local declaration.now in
-        Resolves view.statement result (locals_breaches symbols.old (declarators_of tree))
-        (resolved_declaration symbols.old tree) }
+    ensures found { ResolvesDeclaration result symbols.old (view_local declaration.now) }
     ensures in_scope { DeclaresLocals result symbols.old symbols.new (locals_in declaration.now) }
 {
     let declared = resolve_locals(alloc, symbols, declaration)?;
@@ -52,9 +44,7 @@ pub fn resolve_effect(
     symbols: &Symbols,
     expression: &Expression,
 ) -> Result<ResolvedStatement, SourceFault>
-    ensures { let tree = view_expression expression.now in
-        Resolves view.statement result (expression_breaches symbols.now false tree)
-        (resolved_effect symbols.now tree) }
+    ensures { ResolvesEffect result symbols.now expression.now }
 {
     let at = expression_first(expression);
     let expression = boxed_expression(alloc, symbols, false, expression)?;
@@ -72,10 +62,7 @@ pub fn resolve_return(
     at: Span,
     value: &Option<Box<Expression>>,
 ) -> Result<ResolvedStatement, SourceFault>
-    ensures { let tree = perhaps_tree value.now in
-        Resolves view.statement result
-        (jump_breaches (not flow.in_construct) at.start ++ return_breaches symbols.now flow tree)
-        (resolved_return symbols.now at tree) }
+    ensures { ResolvesReturn result symbols.now flow at (perhaps_tree value.now) }
 {
     check_jump(!flow.in_construct, at.start)?;
     let value = resolve_returned(alloc, symbols, flow, value)?;
@@ -92,9 +79,7 @@ fn resolve_returned(
     flow: Flow,
     value: &Option<Box<Expression>>,
 ) -> Result<Option<Box<ResolvedExpression>>, SourceFault>
-    ensures { let tree = perhaps_tree value.now in
-        Resolves (option_map view_boxed) result (return_breaches symbols.now flow tree)
-        (resolved_perhaps symbols.now tree) }
+    ensures { ResolvesReturned result symbols.now flow (perhaps_tree value.now) }
 {
     let Some(value) = value else {
         return Ok(None);
@@ -121,9 +106,7 @@ pub fn resolve_stand_alone(
     directive: &Directive<Expression>,
 ) -> Result<ResolvedStatement, SourceFault>
     requires stands_alone { is_stand_alone directive.now.name ≡ true }
-    ensures { let tree = view_directive directive.now in
-        Resolves view.statement result (stand_alone_breaches symbols.now flow tree)
-        (resolved_alone symbols.now tree tree.name) }
+    ensures { ResolvesStandAlone result symbols.now flow directive.now }
 {
     resolve_directive(alloc, symbols, flow, directive)?;
     resolve_alone(alloc, symbols, directive)
@@ -136,9 +119,7 @@ fn resolve_alone(
     directive: &Directive<Expression>,
 ) -> Result<ResolvedStatement, SourceFault>
     requires stands_alone { is_stand_alone directive.now.name ≡ true }
-    ensures { let tree = view_directive directive.now in
-        Resolves view.statement result (flush_breaches symbols.now directive.now.name)
-        (resolved_alone symbols.now tree tree.name) }
+    ensures { ResolvesAlone result symbols.now directive.now }
 {
     let at = directive.hash;
     match &directive.name {
@@ -170,8 +151,7 @@ pub(crate) fn check_section(
     before: usize,
     section: &Option<Box<Directive<Expression>>>,
 ) -> Result<(), SourceFault>
-    ensures { Checks result
-        (section_breaches before (option_map (λ d. view_directive d.value) section.now)) }
+    ensures { Checks result (section_breaches before (section_tree section.now)) }
 {
     let Some(directive) = section else {
         return Ok(());
