@@ -1,10 +1,16 @@
 -- What contracts see of a book.
 use Rattle.std.specs.Prelude.{◌≡◌, ◌+◌, ◌-◌, ℕ, Bool, nat_le, List, [], ◌∷◌, ◌++◌, length, take, slice_get}
-use Rattle.std.specs.Prelude.{Option, option_map}
-use Rattle.om_undo.specs.Machines.{MachineView}
-use Rattle.om_journal.specs.Runs.{fresh}
+use Rattle.std.specs.Prelude.{Option, Vec, option_map}
+use Rattle.std.specs.declared.alloc.Global.{Global}
+use Rattle.om_history.specs.Runs.{History}
+use Rattle.om_history.specs.Commands.{run}
+use Rattle.om_values.specs.declared.step.Label.{Label}
+use Rattle.om_undo.specs.Machines.{MachineView, rules_for}
+use Rattle.om_journal.specs.Runs.{fresh, reply_to, step_command}
 use Rattle.om_journal.specs.Journals.{left_by}
+use Rattle.om_journal.specs.Histories.{told_in}
 use Rattle.om_journal.specs.declared.command.Command.{Command}
+use Rattle.om_journal.specs.declared.command.Command.TheVariants as command
 use Rattle.om_journal.specs.declared.reply.Reply.{Reply}
 use Rattle.om_journal.specs.Records.{JournalRecord}
 
@@ -16,6 +22,10 @@ pub record BookView : Type 0 where
 -- the machine that the journal leaves
 abbrev pub machine_of : BookView → MachineView
 machine_of b = left_by b.start b.journal
+
+-- the history that the journal leaves: the run of its steps, undos and rolls, the refused ones among them
+abbrev pub history_left : BookView → History
+history_left b = run (rules_for b.start) b.start.history (told_in b.journal)
 
 -- how many calls were recorded
 abbrev pub records_of : BookView → ℕ
@@ -29,6 +39,27 @@ is_full b = nat_le 200000 (records_of b)
 abbrev pub with_record : BookView → ℕ → Command → Reply → BookView
 with_record b seat command reply =
     record b { journal = b.journal ++ record { seat = seat; command = command; reply = reply } ∷ [] }
+
+-- the book with the record of a seat's call, which its machine answers
+abbrev pub with_call : BookView → ℕ → Command → BookView
+with_call b seat command = with_record b seat command (reply_to (machine_of b) command)
+
+-- a journal has one more record
+abbrev pub AddsRecord : ℕ → Command → Reply → Vec JournalRecord Global → Vec JournalRecord Global → Type 0
+AddsRecord seat command reply old new =
+    new.items ≡ old.items ++ record { seat = seat; command = command; reply = reply } ∷ []
+
+-- that of a seat's call, which a machine answers
+abbrev pub AddsCall : MachineView → ℕ → Command → Vec JournalRecord Global → Vec JournalRecord Global → Type 0
+AddsCall machine seat command old new = AddsRecord seat command (reply_to machine command) old new
+
+-- that of a seat's step
+abbrev pub AddsStep : MachineView → ℕ → Label → Vec JournalRecord Global → Vec JournalRecord Global → Type 0
+AddsStep machine seat label old new = AddsCall machine seat (step_command label) old new
+
+-- that of a seat's undo of a worker
+abbrev pub AddsUndo : MachineView → ℕ → ℕ → Vec JournalRecord Global → Vec JournalRecord Global → Type 0
+AddsUndo machine seat worker old new = AddsCall machine seat (command.Undo worker) old new
 
 -- what the last call was answered, where there is one
 abbrev pub last_reply : BookView → Option Reply

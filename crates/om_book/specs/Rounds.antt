@@ -1,5 +1,7 @@
 -- Rounds: in each, every list that still has an order gives its next.
-use Rattle.std.specs.Prelude.{◌≡◌, ℕ, zero, suc, ◌+◌, max, List, [], ◌∷◌, ◌++◌, length, slice_get, Option, None, Some}
+use Rattle.std.specs.Prelude.{◌≡◌, ◌≢◌, ℕ, zero, suc, ◌+◌, max, List, [], ◌∷◌, ◌++◌, length, slice_get, Option, None, Some, Vec}
+use Rattle.std.specs.List.{AllPairs}
+use Rattle.std.specs.declared.alloc.Global.{Global}
 use Rattle.om_book.specs.declared.order.Answer.{Answer}
 use Rattle.om_book.specs.declared.order.Order.{Order}
 
@@ -28,6 +30,18 @@ longest items (v ∷ vs) = max (length (items v)) (longest items vs)
 -- the numbers of all orders, round by round
 abbrev pub in_rounds : {V : Type 0} → (V → List Order) → List V → List ℕ
 in_rounds items vs = rounds items 0 (longest items vs) vs
+
+-- lists of orders: the numbers of a round of them
+abbrev pub numbers_at : ℕ → List (Vec Order Global) → List ℕ
+numbers_at round orders = round_at (λ o. o.items) round orders
+
+-- and the numbers of all of them, round by round
+abbrev pub numbers_of : List (Vec Order Global) → List ℕ
+numbers_of orders = in_rounds (λ o. o.items) orders
+
+-- no two of the numbers are the same
+abbrev pub NumbersDiffer : List ℕ → Type 0
+NumbersDiffer ns = AllPairs (λ n m. n ≢ m) ns
 
 -- what was added is a beginning of what was due, and this is left
 pub record IsBeginning (old new due rest : List ℕ) : Type 0 where

@@ -4,6 +4,7 @@ use Rattle.std.specs.Prelude.{nat_eq}
 use Rattle.std.specs.List.{AllByRecursion}
 use Rattle.om_journal.specs.Records.{JournalRecord}
 use Rattle.om_book.specs.declared.receipt.Receipt.{Receipt}
+use Rattle.om_book.specs.Books.{BookView, records_of}
 use Rattle.om_book.specs.Seats.{SeatView}
 
 -- the receipt's place is not below the opening nor below `low`, and the seat's call with this reply is recorded there
@@ -23,6 +24,10 @@ abbrev pub CountsAll : List JournalRecord → ℕ → List SeatView → ℕ → 
 CountsAll journal opened [] n = n ≡ 0
 CountsAll journal opened (s ∷ ss) n =
     (m : ℕ) × (k : ℕ) × (n ≡ m + k) × Counts journal s.number opened opened s.receipts m × CountsAll journal opened ss k
+
+-- n receipts of all seats stand in a book, at records that it got since the opening
+abbrev pub CountsSince : BookView → BookView → List SeatView → ℕ → Type 0
+CountsSince opened book seats n = CountsAll book.journal (records_of opened) seats n
 
 -- what a seat called, by the records from a place on
 abbrev pub calls_of : ℕ → ℕ → List JournalRecord → List Receipt
@@ -53,3 +58,7 @@ IsSeat (s ∷ ss) n = (s.number ≡ n) ⊎ IsSeat ss n
 pub record Covers (journal : List JournalRecord) (opened : ℕ) (seats : List SeatView) : Type 0 where
   pub receipts : All (λ (s : SeatView). s.receipts ≡ calls_of s.number opened (drop opened journal)) seats
   pub records : All (λ (r : JournalRecord). IsSeat seats r.seat) (drop opened journal)
+
+-- they are its calls in a book, which was opened with fewer records, and each record since then is of one of the seats
+abbrev pub CoversSince : BookView → BookView → List SeatView → Type 0
+CoversSince opened book seats = Covers book.journal (records_of opened) seats

@@ -1,8 +1,9 @@
 //! The comparison of answers with the receipts of their seats, in one walk. No command needs it: om_checks alone
 //! drives seats.
 
-ghost use Rattle.std.specs.Prelude.{◌≡◌, ◌↔◌, ◌≤◌, IsTrue, IfSome, IfNone, Some, false, length, slice_get, take, drop, vec_len};
-ghost use Rattle.om_book.specs.Backing.{Has, Turn, turn_of, turns_at, in_turns, IsReceipted, IsBacked, Keeps, Passes};
+ghost use Rattle.std.specs.Prelude.{◌≡◌, ◌↔◌, ◌≤◌, IsTrue, IfSome, IfNone, Some, false, length, take, vec_len};
+ghost use Rattle.om_book.specs.Seats.{receipt_of};
+ghost use Rattle.om_book.specs.Backing.{Has, HasAt, turn, turn_of, IsReceipted, IsBacked, KeepsBacked, Leads, LeadsRound, SameUnlessStrange};
 
 use crate::order::{Answer, Order};
 use crate::receipt::Receipt;
@@ -19,10 +20,8 @@ fn found_at(
     command: &Command,
     reply: &Reply,
 ) -> Option<usize>
-    ensures found { IfSome result (λ at. slice_get receipts.now at
-        ≡ Some (record { place = place; command = command.now; reply = reply.now })) }
-    ensures none { IfNone result (¬ Has receipts.now
-        (record { place = place; command = command.now; reply = reply.now })) }
+    ensures found { IfSome result (HasAt receipts.now (receipt_of place command.now reply.now)) }
+    ensures none { IfNone result (¬ Has receipts.now (receipt_of place command.now reply.now)) }
 {
     if mark < receipts.len() && receipts[mark].is_of(place, command, reply) {
         return Some(mark);
@@ -43,8 +42,7 @@ fn is_receipted(
     place: Option<u64>,
     reply: &Reply,
 ) -> bool
-    ensures { IsTrue result ↔ IsReceipted (record { receipts = receipts.now; order = order.now })
-        place reply.now }
+    ensures { IsTrue result ↔ IsReceipted (turn receipts.now order.now) place reply.now }
 {
     let Some(place) = place else {
         return false;
@@ -58,8 +56,7 @@ fn is_receipted(
 
 // Whether an answer is that of an order, and has its receipt where it has a reply.
 fn is_backed(receipts: &[Receipt], mark: &mut usize, order: &Order, answer: &Answer) -> bool
-    ensures { IsTrue result
-        ↔ IsBacked (record { receipts = receipts.now; order = order.now }) answer.now }
+    ensures { IsTrue result ↔ IsBacked (turn receipts.now order.now) answer.now }
 {
     if answer.number != order.number {
         return false;
@@ -102,11 +99,9 @@ impl Walk {
     #[tactic(auto, using(crate::proofs::Backed::passes_kept, crate::proofs::Backed::passes_without, crate::proofs::Backed::passes_end))]
     fn take_turn(&mut self, receipts: &[Receipt], mark: &mut usize, order: &Order)
         requires { self.old.at ≤ vec_len self.old.answers }
-        ensures passes { Passes (turn_of receipts.now (Some order.now))
-            self.old.answers.items self.old.at self.new.answers.items self.new.at }
+        ensures passes { Leads (turn_of receipts.now (Some order.now)) self.old self.new }
         ensures within { self.new.at ≤ vec_len self.new.answers }
-        ensures same { self.new.strange ≡ false → (self.old.strange ≡ false)
-            × (self.new.answers.items ≡ self.old.answers.items) }
+        ensures same { SameUnlessStrange self.old self.new }
     {
         if self.at >= self.answers.len() {
             return;
@@ -123,11 +118,9 @@ impl Walk {
     #[tactic(auto, using(crate::proofs::Backed::passes_none))]
     fn take_turn_if(&mut self, receipts: &[Receipt], mark: &mut usize, order: Option<Order>)
         requires { self.old.at ≤ vec_len self.old.answers }
-        ensures passes { Passes (turn_of receipts.now order)
-            self.old.answers.items self.old.at self.new.answers.items self.new.at }
+        ensures passes { Leads (turn_of receipts.now order) self.old self.new }
         ensures within { self.new.at ≤ vec_len self.new.answers }
-        ensures same { self.new.strange ≡ false → (self.old.strange ≡ false)
-            × (self.new.answers.items ≡ self.old.answers.items) }
+        ensures same { SameUnlessStrange self.old self.new }
     {
         if let Some(order) = order {
             self.take_turn(receipts, mark, &order);
@@ -138,12 +131,9 @@ impl Walk {
     fn take_round<L: Sitting>(&mut self, rows: &Rows<'_, L>, marks: &mut [usize], round: usize)
         requires within { self.old.at ≤ vec_len self.old.answers }
         requires marks { length marks.old ≡ length rows.now.seats.now }
-        ensures passes { Passes
-            (turns_at (λ o. o.items) round rows.now.seats.now rows.now.orders.now)
-            self.old.answers.items self.old.at self.new.answers.items self.new.at }
+        ensures passes { LeadsRound round rows.now.seats.now rows.now.orders.now self.old self.new }
         ensures within { self.new.at ≤ vec_len self.new.answers }
-        ensures same { self.new.strange ≡ false → (self.old.strange ≡ false)
-            × (self.new.answers.items ≡ self.old.answers.items) }
+        ensures same { SameUnlessStrange self.old self.new }
         ensures marks { length marks.new ≡ length marks.old }
     {
         for i in 0..rows.seats.len() {
@@ -159,8 +149,7 @@ impl Walk {
     fn end(&mut self)
         requires { self.old.at ≤ vec_len self.old.answers }
         ensures kept { self.new.answers.items ≡ take self.old.at self.old.answers.items }
-        ensures same { self.new.strange ≡ false → (self.old.strange ≡ false)
-            × (self.new.answers.items ≡ self.old.answers.items) }
+        ensures same { SameUnlessStrange self.old self.new }
     {
         if self.at < self.answers.len() {
             self.answers.truncate(self.at);
@@ -182,8 +171,7 @@ pub fn keep_backed<L: Sitting>(
     answers: Vec<Answer>,
 ) -> KeptAnswers
     requires { length marks.old ≡ length rows.now.seats.now }
-    ensures kept { Keeps (in_turns (λ o. o.items) rows.now.seats.now rows.now.orders.now)
-        answers.items result.answers.items }
+    ensures kept { KeepsBacked rows.now.seats.now rows.now.orders.now answers result.answers }
     ensures all { result.strange ≡ false → result.answers.items ≡ answers.items }
 {
     let mut walk = Walk {

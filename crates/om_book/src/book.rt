@@ -3,12 +3,10 @@
 ghost use Rattle.std.specs.Prelude.{◌≡◌, ◌<◌, ◌≤◌, ◌^◌, ◌++◌, ◌∷◌, [], ◌↔◌, IfOk, IfErr, OnOk, OnErr, drop, length, vec_capacity, Some};
 ghost use Rattle.om_journal.specs.Runs.{IsInRange, IsReply, after, fresh, reply_to, step_command};
 ghost use Rattle.om_journal.specs.Journals.{IsLegal, IsSound, done_in};
-ghost use Rattle.om_journal.specs.Histories.{told_in};
 ghost use Rattle.om_journal.specs.Records.{reply_in};
-ghost use Rattle.om_book.specs.Books.{is_full, last_reply, machine_of, records_of, with_record};
-ghost use Rattle.om_history.specs.Commands.{run};
-ghost use Rattle.om_history.specs.Runs.{reply_to_step};
-ghost use Rattle.om_undo.specs.Machines.{rules_for};
+ghost use Rattle.om_book.specs.Books.{is_full, last_reply, machine_of, history_left, records_of, with_call, with_record};
+ghost use Rattle.om_book.specs.Books.{AddsCall, AddsRecord, AddsStep, AddsUndo};
+ghost use Rattle.om_undo.specs.Machines.{step_reply};
 
 use om_code::Program;
 use om_journal::replies::{done, done_thrice, let_go, undo};
@@ -87,8 +85,7 @@ impl Book {
     /// steps, undos and rolls, the refused ones among them.
     pub fn machine(&self) -> &Machine
         ensures left { result.now ≡ machine_of self.now }
-        ensures run { result.now.history
-            ≡ run (rules_for self.now.start) self.now.start.history (told_in self.now.journal) }
+        ensures run { result.now.history ≡ history_left self.now }
         ensures program { result.now.program ≡ self.now.start.program }
         ensures workers { result.now.workers ≡ self.now.start.workers }
     {
@@ -156,8 +153,7 @@ impl Book {
     /// change nothing.
     pub fn call(&mut self, alloc: Global, seat: u8, command: &Command) -> Result<(), CallError>
         requires { IsInRange self.old.start.workers command.now }
-        ensures recorded { OnOk result (self.new ≡ with_record self.old seat command.now
-            (reply_to (machine_of self.old) command.now)) }
+        ensures recorded { OnOk result (self.new ≡ with_call self.old seat command.now) }
         ensures unchanged_on_error { OnErr result (self.new ≡ self.old) }
         ensures full { IfErr result (λ e. e ≡ CallError.Full ↔ 200000 ≤ records_of self.old) }
         ensures room { OnOk result (records_of self.old < 200000) }
@@ -181,10 +177,9 @@ impl Book {
         step: PlannedStep,
     ) -> Result<StepReply, CallError>
         requires { step.machine ≡ machine_of self.old }
-        ensures reply { IfOk result (λ x. x ≡ reply_to_step (rules_for (machine_of self.old))
-            (machine_of self.old).history step.label) }
-        ensures recorded { OnOk result (self.new ≡ with_record self.old seat (step_command step.label)
-            (reply_to (machine_of self.old) (step_command step.label))) }
+        ensures reply { IfOk result (λ x. x ≡ step_reply (machine_of self.old) step.label) }
+        ensures recorded { OnOk result
+            (self.new ≡ with_call self.old seat (step_command step.label)) }
         ensures unchanged_on_error { OnErr result (self.new ≡ self.old) }
         ensures full { IfErr result (λ e. e ≡ CallError.Full ↔ 200000 ≤ records_of self.old) }
         ensures room { OnOk result (records_of self.old < 200000) }
@@ -206,8 +201,7 @@ impl Book {
     /// change nothing.
     pub fn undo(&mut self, alloc: Global, seat: u8, worker: u8) -> Result<(), CallError>
         requires { worker < self.old.start.workers }
-        ensures recorded { OnOk result (self.new ≡ with_record self.old seat (Command.Undo worker)
-            (reply_to (machine_of self.old) (Command.Undo worker))) }
+        ensures recorded { OnOk result (self.new ≡ with_call self.old seat (Command.Undo worker)) }
         ensures unchanged_on_error { OnErr result (self.new ≡ self.old) }
         ensures full { IfErr result (λ e. e ≡ CallError.Full ↔ 200000 ≤ records_of self.old) }
         ensures room { OnOk result (records_of self.old < 200000) }
@@ -270,9 +264,7 @@ fn append_call(
     requires in_range { IsInRange machine.old.workers command.now }
     requires few_made { machine.old.history.made < 2 ^ 63 }
     ensures machine { OnOk result (machine.new ≡ after machine.old command.now) }
-    ensures journal { OnOk result (journal.new.items ≡ journal.old.items
-        ++ record { seat = seat; command = command.now; reply = reply_to machine.old command.now }
-        ∷ []) }
+    ensures journal { OnOk result (AddsCall machine.old seat command.now journal.old journal.new) }
     ensures unchanged_machine { OnErr result (machine.new ≡ machine.old) }
     ensures unchanged_journal { OnErr result (journal.new.items ≡ journal.old.items) }
 {
@@ -307,15 +299,9 @@ fn append_step(
 ) -> Result<StepReply, AllocError>
     requires planned { step.machine ≡ machine.old }
     requires few_made { machine.old.history.made < 2 ^ 63 }
-    ensures reply { IfOk result
-        (λ x. x ≡ reply_to_step (rules_for machine.old) machine.old.history step.label) }
+    ensures reply { IfOk result (λ x. x ≡ step_reply machine.old step.label) }
     ensures machine { OnOk result (machine.new ≡ after machine.old (step_command step.label)) }
-    ensures journal { OnOk result (journal.new.items ≡ journal.old.items
-        ++ record {
-          seat = seat;
-          command = step_command step.label;
-          reply = reply_to machine.old (step_command step.label);
-        } ∷ []) }
+    ensures journal { OnOk result (AddsStep machine.old seat step.label journal.old journal.new) }
     ensures unchanged_machine { OnErr result (machine.new ≡ machine.old) }
     ensures unchanged_journal { OnErr result (journal.new.items ≡ journal.old.items) }
 {
@@ -338,12 +324,7 @@ fn append_undo(
 ) -> Result<(), AllocError>
     requires in_range { worker < machine.old.workers }
     ensures machine { OnOk result (machine.new ≡ after machine.old (Command.Undo worker)) }
-    ensures journal { OnOk result (journal.new.items ≡ journal.old.items
-        ++ record {
-          seat = seat;
-          command = Command.Undo worker;
-          reply = reply_to machine.old (Command.Undo worker);
-        } ∷ []) }
+    ensures journal { OnOk result (AddsUndo machine.old seat worker journal.old journal.new) }
     ensures unchanged_machine { OnErr result (machine.new ≡ machine.old) }
     ensures unchanged_journal { OnErr result (journal.new.items ≡ journal.old.items) }
 {
@@ -367,8 +348,7 @@ fn append_thrice(
     ensures reply { IfOk result (λ x. IsReply machine.old command.now x.0) }
     ensures copy { IfOk result (λ x. x.1 ≡ x.0) }
     ensures machine { OnOk result (machine.new ≡ after machine.old command.now) }
-    ensures journal { IfOk result (λ x. journal.new.items ≡ journal.old.items
-        ++ record { seat = seat; command = command.now; reply = x.0 } ∷ []) }
+    ensures journal { IfOk result (λ x. AddsRecord seat command.now x.0 journal.old journal.new) }
     ensures unchanged_machine { OnErr result (machine.new ≡ machine.old) }
     ensures unchanged_journal { OnErr result (journal.new.items ≡ journal.old.items) }
 {

@@ -1,10 +1,9 @@
 //! The numbers of orders, round by round. No command needs it: om_checks alone drives seats.
 
-ghost use Rattle.std.specs.Prelude.{◌≡◌, ◌≢◌, ◌↔◌, ◌++◌, IsTrue, IfOk, OnOk};
-ghost use Rattle.std.specs.List.{AllPairs};
+ghost use Rattle.std.specs.Prelude.{◌≡◌, ◌↔◌, ◌++◌, IsTrue, IfOk, OnOk};
 ghost use Rattle.std.specs.Ordering.{nat_cmp};
 ghost use Rattle.std.specs.BTreeSet.{IsFromIterResult};
-ghost use Rattle.om_book.specs.Rounds.{listed, round_at, in_rounds};
+ghost use Rattle.om_book.specs.Rounds.{listed, numbers_at, numbers_of, NumbersDiffer};
 
 use crate::order::Order;
 use crate::rounds::{most_rounds, order_at};
@@ -13,8 +12,7 @@ use std::collections::BTreeSet;
 
 /// Whether no two orders have one number. Its only error is out of memory.
 pub fn numbers_differ(alloc: Global, orders: &[Vec<Order>]) -> Result<bool, AllocError>
-    ensures { IfOk result (λ differ. IsTrue differ
-        ↔ AllPairs (λ n m. n ≢ m) (in_rounds (λ o. o.items) orders.now)) }
+    ensures { IfOk result (λ differ. IsTrue differ ↔ NumbersDiffer (numbers_of orders.now)) }
 {
     let numbers = numbers_in(alloc, orders)?;
     are_distinct(alloc, numbers.as_slice())
@@ -22,7 +20,7 @@ pub fn numbers_differ(alloc: Global, orders: &[Vec<Order>]) -> Result<bool, Allo
 
 // The numbers of all orders, round by round.
 fn numbers_in(alloc: Global, orders: &[Vec<Order>]) -> Result<Vec<u64>, AllocError>
-    ensures { IfOk result (λ numbers. numbers.items ≡ in_rounds (λ o. o.items) orders.now) }
+    ensures { IfOk result (λ numbers. numbers.items ≡ numbers_of orders.now) }
 {
     let mut numbers = Vec::new(alloc);
     let most = most_rounds(orders);
@@ -34,8 +32,7 @@ fn numbers_in(alloc: Global, orders: &[Vec<Order>]) -> Result<Vec<u64>, AllocErr
 
 // Adds the numbers of a round.
 fn add_round(numbers: &mut Vec<u64>, orders: &[Vec<Order>], round: usize) -> Result<(), AllocError>
-    ensures { OnOk result (numbers.new.items
-        ≡ numbers.old.items ++ round_at (λ o. o.items) round orders.now) }
+    ensures { OnOk result (numbers.new.items ≡ numbers.old.items ++ numbers_at round orders.now) }
 {
     for i in 0..orders.len() {
         add_number(numbers, order_at(&orders[i], round))?;
@@ -56,7 +53,7 @@ fn add_number(numbers: &mut Vec<u64>, order: Option<Order>) -> Result<(), AllocE
 // Whether no two of these numbers are the same: then a set of them has as many.
 #[tactic(auto, using(crate::proofs::Distinct::as_many_differ))]
 fn are_distinct(alloc: Global, numbers: &[u64]) -> Result<bool, AllocError>
-    ensures { IfOk result (λ differ. IsTrue differ ↔ AllPairs (λ n m. n ≢ m) numbers.now) }
+    ensures { IfOk result (λ differ. IsTrue differ ↔ NumbersDiffer numbers.now) }
 {
     let different = set_of(alloc, numbers)?;
     Ok(different.len() == numbers.len())

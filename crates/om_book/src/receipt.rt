@@ -1,6 +1,7 @@
 //! Receipts: what a seat remembers of its calls, and which receipts stand in a journal.
 
 ghost use Rattle.std.specs.Prelude.{◌≡◌, ◌≤◌, ◌↔◌, IsTrue, length};
+ghost use Rattle.om_book.specs.Seats.{receipt_of};
 ghost use Rattle.om_book.specs.Standing.{Stands, Counts};
 
 use om_journal::{Command, JournalRecord, KeptCommand, Reply, Same};
@@ -21,8 +22,7 @@ const _: () = prove!(size_of::<Receipt>() <= 100);
 impl Receipt {
     /// Whether it says that this command was answered this reply, with its record at this place.
     pub(crate) fn is_of(&self, place: u64, command: &Command, reply: &Reply) -> bool
-        ensures { IsTrue result
-            ↔ (self.now ≡ record { place = place; command = command.now; reply = reply.now }) }
+        ensures { IsTrue result ↔ (self.now ≡ receipt_of place command.now reply.now) }
     {
         self.place == place && self.command.get().is_same(command) && self.reply.is_same(reply)
     }

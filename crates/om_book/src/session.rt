@@ -3,8 +3,8 @@
 ghost use Rattle.std.specs.Prelude.{◌≡◌, ℕ, ◌<◌, ◌≤◌, ◌+◌, [], ◌↔◌, IfOk, IfErr, OnOk, OnErr, IsOk, length, vec_len, sum_by, ◌^◌};
 ghost use Rattle.om_journal.specs.Runs.{IsInRange};
 ghost use Rattle.om_book.specs.Books.{BookView, records_of, with_record, IsGrown};
-ghost use Rattle.om_book.specs.Seats.{IsAnsweredBy, seats_below, with_receipt};
-ghost use Rattle.om_book.specs.Standing.{CountsAll, Covers, AllDiffer, receipts_in};
+ghost use Rattle.om_book.specs.Seats.{GetsReceipt, IsAnsweredBy, IsAnsweredSince, seats_below};
+ghost use Rattle.om_book.specs.Standing.{CountsAll, CountsSince, CoversSince, AllDiffer, receipts_in};
 
 use crate::book::{Book, CallError};
 use crate::receipt::{Receipt, standing};
@@ -130,8 +130,7 @@ impl<L: Sitting> Desk<L> {
         command: Command,
     ) -> Result<Reply, CallError>
         requires { IsInRange L.workers command }
-        ensures answered { IfOk result
-            (λ x. IsAnsweredBy self.old.book seat.old seat.new command x) }
+        ensures answered { IfOk result (IsAnsweredBy self.old.book seat.old seat.new command) }
         ensures counted { OnOk result (length seat.old.receipts ≤ self.old.calls.total) }
         ensures recorded { IfOk result (λ x. self.new.book
             ≡ with_record self.old.book seat.old.number command x) }
@@ -275,10 +274,8 @@ impl<L: Sitting> Session<L> {
         command: Command,
     ) -> Result<Reply, CallError>
         requires { IsInRange L.workers command }
-        ensures answered { IfOk result (λ x. (b : BookView) × (n : ℕ) × IsGrown L.opened b n
-            × (length seat.old.receipts ≤ n) × IsAnsweredBy b seat.old seat.new command x) }
-        ensures receipt { IfOk result (λ x. (place : ℕ)
-            × (seat.new ≡ with_receipt seat.old place command x)) }
+        ensures answered { IfOk result (IsAnsweredSince L.opened seat.old seat.new command) }
+        ensures receipt { IfOk result (GetsReceipt seat.old seat.new command) }
         ensures unchanged_on_error { OnErr result (seat.new ≡ seat.old) }
     {
         self.desk.lock(rt).call(alloc, seat, command)
@@ -296,10 +293,9 @@ impl<L: Sitting> Session<L> {
         ensures total { IfOk result (λ c. IsGrown L.opened c.book c.calls) }
         ensures counted { IfOk result (λ c. c.calls ≡ sum_by receipts_in seats.items) }
         ensures seats { IfOk result (λ c. c.seats.items ≡ seats.items) }
-        ensures standing { IfOk result
-            (λ c. CountsAll c.book.journal (records_of L.opened) seats.items c.standing) }
+        ensures standing { IfOk result (λ c. CountsSince L.opened c.book seats.items c.standing) }
         ensures covers { IfOk result (λ c. c.standing ≡ c.calls
-            → Covers c.book.journal (records_of L.opened) seats.items) }
+            → CoversSince L.opened c.book seats.items) }
         ensures workers { IfOk result (λ c. c.book.start.workers ≡ L.workers) }
         ensures fewer { IfErr result (λ u. (u.session ≡ self) × (u.seats.items ≡ seats.items)) }
     {
