@@ -64,10 +64,13 @@ abbrev pub request_in : ℕ → List (List ℕ) → Request
 request_in workers [] = request.Nothing
 request_in workers (word ∷ words) = request_by (verb_of word) workers words
 
+-- what the words of a line ask for
+abbrev pub worded : ℕ → List ℕ → Request
+worded workers line = request_in workers (words_of line)
+
 -- a line of more than 1,024 bytes is a bad argument, whatever it holds
 unfoldable pub request_of : ℕ → List ℕ → Request
-request_of workers line = if nat_lt 1024 (length line) then request.Fault BadArgument else request_in workers
-    (words_of line)
+request_of workers line = if nat_lt 1024 (length line) then request.Fault BadArgument else worded workers line
 
 -- the worker of a command, where it has one, is one of those that there are
 abbrev pub HasWorkerBelow : ℕ → Command → Type 0

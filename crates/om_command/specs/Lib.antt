@@ -1,4 +1,5 @@
 pub mod Words
+pub mod Texts
 pub mod Arguments
 pub mod Verbs
 pub mod Commands

@@ -7,7 +7,7 @@ use Rattle.om_events.specs.Records.{record_text}
 use Rattle.om_history.specs.declared.reply.Taken.{Taken}
 use Rattle.om_history.specs.declared.reply.RollReply.{RollReply}
 use Rattle.om_history.specs.declared.reply.RollReply.TheVariants.{Rolled, NoEntry}
-use Rattle.om_command.specs.Steps.{entry_text}
+use Rattle.om_command.specs.Steps.{entry_text, undone_text}
 
 -- the texts of all, one behind the other
 abbrev pub joined : {A : Type 0} → (A → List ℕ) → List A → List ℕ
@@ -40,7 +40,7 @@ abbrev pub no_tasks_text : List ℕ
 no_tasks_text = codes "no tasks\n"
 
 abbrev pub taken_line : Taken → List ℕ
-taken_line taken = codes "undone " ++ entry_text taken.serial taken.worker taken.line ++ codes "\n"
+taken_line taken = undone_text taken.serial taken.worker taken.line
 
 -- what a roll took out, the latest first
 abbrev pub roll_text : ℕ → RollReply → List ℕ

@@ -38,22 +38,38 @@ lock_text (Some (byte ∷ bytes)) = byte ∷ bytes
 abbrev pub place_text : List ℕ → ℕ → List ℕ
 place_text team number = name_text team ++ codes " " ++ decimal number
 
+-- an object that has a number in a team, by its kind: `pending 0.1 2`
+abbrev pub team_text : List ℕ → List ℕ → ℕ → List ℕ
+team_text kind team number = kind ++ place_text team number
+
 -- its task, the ordinal of its frame, its slot and its index: `0.1.0/0/2/0`
 abbrev pub cell_place_text : List ℕ → ℕ → ℕ → ℕ → List ℕ
 cell_place_text task frame slot index = name_text task ++ codes "/" ++ decimal frame ++ codes "/" ++ decimal slot
     ++ codes "/" ++ decimal index
 
+-- a cell of a local variable: `cell 0.1.0/0/2/0`
+abbrev pub slot_text : List ℕ → ℕ → ℕ → ℕ → List ℕ
+slot_text task frame slot index = codes "cell " ++ cell_place_text task frame slot index
+
+-- a cell of a global: `global a[2]`
+abbrev pub global_text : Raw → GlobalCell → List ℕ
+global_text program cell = codes "global " ++ variable_text program cell
+
+-- a critical region: `lock x`
+abbrev pub region_text : Raw → ℕ → List ℕ
+region_text program lock = codes "lock " ++ lock_text (slice_get program.locks lock)
+
 abbrev pub object_text : Raw → Obj → List ℕ
 object_text program (object.Control worker) = codes "control " ++ decimal worker
-object_text program (object.Cell task frame slot index) = codes "cell " ++ cell_place_text task frame slot index
-object_text program (object.Global global index) = codes "global " ++ variable_text program
+object_text program (object.Cell task frame slot index) = slot_text task frame slot index
+object_text program (object.Global global index) = global_text program
     (record { variable = global; index = index })
 object_text program (object.Task task) = codes "task " ++ name_text task
 object_text program (object.Kids task) = codes "children " ++ name_text task
-object_text program (object.Pending team phase) = codes "pending " ++ place_text team phase
-object_text program (object.Arrived team number) = codes "arrived " ++ place_text team number
-object_text program (object.Work team region) = codes "work " ++ place_text team region
-object_text program (object.Lock lock) = codes "lock " ++ lock_text (slice_get program.locks lock)
+object_text program (object.Pending team phase) = team_text (codes "pending ") team phase
+object_text program (object.Arrived team number) = team_text (codes "arrived ") team number
+object_text program (object.Work team region) = team_text (codes "work ") team region
+object_text program (object.Lock lock) = region_text program lock
 object_text program (object.Group group) = codes "group " ++ name_text group
 object_text program object.Output = codes "output"
 object_text program (object.Events worker) = codes "events " ++ decimal worker

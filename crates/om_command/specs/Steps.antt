@@ -30,16 +30,28 @@ blocker_text (blocked.Critical worker) = codes " by " ++ decimal worker
 blocker_text (blocked.Busy worker) = codes " by " ++ decimal worker
 blocker_text _ = []
 
+-- a step that was made, on a line
+abbrev pub done_text : ℕ → ℕ → ℕ → Option Fault → List ℕ
+done_text serial worker line fault = entry_text serial worker line ++ fault_text fault ++ codes "\n"
+
 abbrev pub step_text : ℕ → StepReply → List ℕ
-step_text worker (step_reply.Done serial line fault) = entry_text serial worker line ++ fault_text fault ++ codes "\n"
+step_text worker (step_reply.Done serial line fault) = done_text serial worker line fault
 step_text worker (step_reply.Blocked why) = codes "blocked B" ++ decimal (blocked_number why) ++ blocker_text why
     ++ codes "\n"
 step_text worker step_reply.Ended = codes "ended\n"
 
+-- a step that was taken out, on a line
+abbrev pub undone_text : ℕ → ℕ → ℕ → List ℕ
+undone_text serial worker line = codes "undone " ++ entry_text serial worker line ++ codes "\n"
+
+-- the first later step that an undo conflicts with
+abbrev pub refuser_text : ℕ → ℕ → List ℕ
+refuser_text serial worker = codes "refused by #" ++ decimal serial ++ codes " worker " ++ decimal worker
+
 abbrev pub undo_text : Raw → ℕ → UndoReply → List ℕ
-undo_text program worker (Undone serial line) = codes "undone " ++ entry_text serial worker line ++ codes "\n"
-undo_text program worker (Conflict serial other at) = codes "refused by #" ++ decimal serial ++ codes " worker "
-    ++ decimal other ++ codes " on " ++ object_text program at ++ codes "\n"
+undo_text program worker (Undone serial line) = undone_text serial worker line
+undo_text program worker (Conflict serial other at) = refuser_text serial other ++ codes " on "
+    ++ object_text program at ++ codes "\n"
 undo_text program worker Nothing = codes "nothing to undo\n"
 
 abbrev pub command_fault_text : CommandFault → List ℕ

@@ -1,7 +1,7 @@
 //! The texts of objects, as a reply names them.
-ghost use Rattle.std.specs.Prelude.{◌≡◌, ◌++◌, OnOk, codes};
+ghost use Rattle.std.specs.Prelude.{◌≡◌, ◌++◌, OnOk};
 ghost use Rattle.om_foot.specs.Names.{name_text};
-ghost use Rattle.om_command.specs.Objects.{cell_place_text, index_text, lock_text, object_text, place_text, variable_text};
+ghost use Rattle.om_command.specs.Objects.{global_text, index_text, lock_text, object_text, region_text, slot_text, team_text, variable_text};
 
 use crate::number::push_numbered;
 use crate::value::GlobalCell;
@@ -55,8 +55,7 @@ pub(crate) fn push_named(text: &mut Vec<u8>, kind: &[u8], name: &Name) -> Result
 
 // What has a number in a team.
 fn push_place(text: &mut Vec<u8>, kind: &[u8], team: &Name, number: u64) -> Result<(), AllocError>
-    ensures { OnOk result
-        (text.new.items ≡ text.old.items ++ (kind.now ++ place_text team.now number)) }
+    ensures { OnOk result (text.new.items ≡ text.old.items ++ team_text kind.now team.now number) }
 {
     push_named(text, kind, team)?;
     push_numbered(text, b" ", number)
@@ -70,9 +69,7 @@ fn push_cell_place(
     slot: u32,
     index: u32,
 ) -> Result<(), AllocError>
-    ensures { OnOk result
-        (text.new.items ≡ text.old.items
-        ++ (codes "cell " ++ cell_place_text task.now frame slot index)) }
+    ensures { OnOk result (text.new.items ≡ text.old.items ++ slot_text task.now frame slot index) }
 {
     push_named(text, b"cell ", task)?;
     push_numbered(text, b"/", frame)?;
@@ -98,8 +95,7 @@ pub(crate) fn push_variable(
 
 // A cell of a global.
 fn push_global(text: &mut Vec<u8>, program: &Program, cell: GlobalCell) -> Result<(), AllocError>
-    ensures { OnOk result
-        (text.new.items ≡ text.old.items ++ (codes "global " ++ variable_text program.now cell)) }
+    ensures { OnOk result (text.new.items ≡ text.old.items ++ global_text program.now cell) }
 {
     text.extend_from_slice(b"global ")?;
     push_variable(text, program, cell)
@@ -118,8 +114,7 @@ fn push_index(text: &mut Vec<u8>, length: Option<u32>, index: u32) -> Result<(),
 
 // A critical region, `-` where it is the unnamed one.
 fn push_lock(text: &mut Vec<u8>, program: &Program, lock: u32) -> Result<(), AllocError>
-    ensures { OnOk result
-        (text.new.items ≡ text.old.items ++ object_text program.now (Obj.Lock lock)) }
+    ensures { OnOk result (text.new.items ≡ text.old.items ++ region_text program.now lock) }
 {
     text.extend_from_slice(b"lock ")?;
     let Some(name) = program.raw().locks.as_slice().get(lock as usize) else {

@@ -1,8 +1,8 @@
 //! What a line asks for.
 
-ghost use Rattle.std.specs.Prelude.{◌≡◌, map, IfOk, IfSome};
-ghost use Rattle.om_command.specs.Commands.{command_of, start_of, print_of, alone, taken, request_in, request_of, HasWorkerBelow, AsksWorkerBelow};
-ghost use Rattle.om_command.specs.Words.{words_of};
+ghost use Rattle.std.specs.Prelude.{◌≡◌, IfOk, IfSome};
+ghost use Rattle.om_command.specs.Commands.{command_of, start_of, print_of, alone, taken, request_in, request_of, worded, HasWorkerBelow, AsksWorkerBelow};
+ghost use Rattle.om_command.specs.Words.{spelled, words_of};
 ghost use Rattle.om_command.specs.declared.command.Request.TheVariants as request;
 
 use crate::arguments::{
@@ -18,7 +18,7 @@ const LONGEST_LINE: usize = 1024;
 
 // The words of a line, which spaces part.
 fn words(alloc: Global, line: &[u8]) -> Result<Vec<&[u8]>, AllocError>
-    ensures { IfOk result (λ words. map (λ word. word.now) words.items ≡ words_of line.now) }
+    ensures { IfOk result (λ words. spelled words.items ≡ words_of line.now) }
 {
     line.split(|byte| *byte == b' ')
         .filter(|word| !word.is_empty())
@@ -28,7 +28,7 @@ fn words(alloc: Global, line: &[u8]) -> Result<Vec<&[u8]>, AllocError>
 // `start`, with the words behind it.
 fn start(alloc: Global, workers: u8, words: &[&[u8]]) -> Result<Option<Command>, AllocError>
     ensures asked { IfOk result
-        (λ command. command ≡ start_of workers (map (λ word. word.now) words.now)) }
+        (λ command. command ≡ start_of workers (spelled words.now)) }
     ensures in_range { IfOk result (λ command. IfSome command (HasWorkerBelow workers)) }
 {
     let [first, second] = words else {
@@ -47,7 +47,7 @@ fn start(alloc: Global, workers: u8, words: &[&[u8]]) -> Result<Option<Command>,
 // `print`, with the words behind it.
 fn print(alloc: Global, workers: u8, words: &[&[u8]]) -> Result<Option<Command>, AllocError>
     ensures asked { IfOk result
-        (λ command. command ≡ print_of workers (map (λ word. word.now) words.now)) }
+        (λ command. command ≡ print_of workers (spelled words.now)) }
     ensures in_range { IfOk result (λ command. IfSome command (HasWorkerBelow workers)) }
 {
     match words {
@@ -66,7 +66,7 @@ fn print(alloc: Global, workers: u8, words: &[&[u8]]) -> Result<Option<Command>,
 
 // A command without arguments.
 fn alone(command: Command, words: &[&[u8]]) -> Option<Command>
-    ensures { result ≡ alone command (map (λ word. word.now) words.now) }
+    ensures { result ≡ alone command (spelled words.now) }
 {
     words.is_empty().then_some(command)
 }
@@ -79,7 +79,7 @@ fn command_by(
     words: &[&[u8]],
 ) -> Result<Option<Command>, AllocError>
     ensures asked { IfOk result
-        (λ command. command ≡ command_of verb workers (map (λ word. word.now) words.now)) }
+        (λ command. command ≡ command_of verb workers (spelled words.now)) }
     ensures in_range { IfOk result (λ command. IfSome command (HasWorkerBelow workers)) }
 {
     match verb {
@@ -107,7 +107,7 @@ fn command_by(
 // What words ask for.
 fn request_in(alloc: Global, workers: u8, words: &[&[u8]]) -> Result<Request, AllocError>
     ensures asked { IfOk result
-        (λ request. request ≡ request_in workers (map (λ word. word.now) words.now)) }
+        (λ request. request ≡ request_in workers (spelled words.now)) }
     ensures in_range { IfOk result (AsksWorkerBelow workers) }
 {
     match words {
@@ -125,7 +125,7 @@ fn request_in(alloc: Global, workers: u8, words: &[&[u8]]) -> Result<Request, Al
 // The step or the undo that a line asks for in the plainest way: by the word, one space, and the worker.
 fn plain(workers: u8, line: &[u8]) -> Option<Command>
     ensures asked { IfSome result
-        (λ command. request_in workers (words_of line.now) ≡ request.Command command) }
+        (λ command. worded workers line.now ≡ request.Command command) }
     ensures in_range { IfSome result (HasWorkerBelow workers) }
 {
     let [a, b, c, d, space, digits @ ..] = line else {
@@ -148,7 +148,7 @@ fn plain(workers: u8, line: &[u8]) -> Option<Command>
 
 // What the words of a line ask for. It stands apart, as what it builds is large, and few lines need it.
 fn worded(alloc: Global, workers: u8, line: &[u8]) -> Result<Request, AllocError>
-    ensures asked { IfOk result (λ request. request ≡ request_in workers (words_of line.now)) }
+    ensures asked { IfOk result (λ request. request ≡ worded workers line.now) }
     ensures in_range { IfOk result (AsksWorkerBelow workers) }
 {
     let words = words(alloc, line)?;

@@ -1,15 +1,14 @@
 //! The replies to steps and undos, and to lines that are refused.
-ghost use Rattle.std.specs.Prelude.{◌≡◌, ◌++◌, decimal, OnOk, codes};
-ghost use Rattle.om_command.specs.Objects.{object_text};
-ghost use Rattle.om_command.specs.Steps.{entry_text, fault_text, blocker_text, step_text, undo_text, command_fault_text, full_text};
+ghost use Rattle.std.specs.Prelude.{◌≡◌, ◌++◌, OnOk};
+ghost use Rattle.om_command.specs.Steps.{blocker_text, command_fault_text, done_text, full_text, refuser_text, step_text, undo_text, undone_text};
+ghost use Rattle.om_command.specs.Texts.{Adds};
 
 use crate::command::CommandFault;
 use crate::ending::{ROOM, put, put_entry, put_fault};
-use crate::number::{push_number, push_numbered};
+use crate::number::push_numbered;
 use crate::object::push_object;
 use om_code::Program;
 use om_code::frame::Fault;
-use om_foot::Obj;
 use om_history::{StepReply, UndoReply};
 use om_values::Blocked;
 use std::alloc::AllocError;
@@ -22,9 +21,7 @@ pub(crate) fn push_entry(
     line: u32,
     fault: Option<Fault>,
 ) -> Result<(), AllocError>
-    ensures { OnOk result
-        (text.new.items ≡ text.old.items
-        ++ (entry_text serial worker line ++ fault_text fault ++ codes "\n")) }
+    ensures { OnOk result (text.new.items ≡ text.old.items ++ done_text serial worker line fault) }
 {
     let mut bytes = [0; ROOM];
     let line_end = put(&mut bytes, ROOM, b"\n");
@@ -62,33 +59,17 @@ pub fn push_step(text: &mut Vec<u8>, worker: u8, reply: StepReply) -> Result<(),
     }
 }
 
-// The first later step that an undo conflicts with, and where.
-fn push_conflict(
-    text: &mut Vec<u8>,
-    program: &Program,
-    serial: u64,
-    worker: u8,
-    object: &Obj,
-) -> Result<(), AllocError>
-    ensures { OnOk result
-        (text.new.items ≡ text.old.items
-        ++ (codes "refused by #" ++ decimal serial ++ codes " worker " ++ decimal worker
-        ++ codes " on " ++ object_text program.now object.now ++ codes "\n")) }
+// The first later step that an undo conflicts with.
+fn push_refuser(text: &mut Vec<u8>, serial: u64, worker: u8) -> Result<(), AllocError>
+    ensures { OnOk result (text.new.items ≡ text.old.items ++ refuser_text serial worker) }
 {
-    text.extend_from_slice(b"refused by #")?;
-    push_number(text, serial)?;
-    text.extend_from_slice(b" worker ")?;
-    push_number(text, worker)?;
-    text.extend_from_slice(b" on ")?;
-    push_object(text, program, object)?;
-    text.extend_from_slice(b"\n")
+    push_numbered(text, b"refused by #", serial)?;
+    push_numbered(text, b" worker ", worker)
 }
 
 /// Appends a step of a worker that was taken out, on a line: as `push_undo` of that reply.
 pub fn push_undone(text: &mut Vec<u8>, serial: u64, worker: u8, line: u32) -> Result<(), AllocError>
-    ensures { OnOk result
-        (text.new.items ≡ text.old.items
-        ++ (codes "undone " ++ entry_text serial worker line ++ codes "\n")) }
+    ensures { OnOk result (text.new.items ≡ text.old.items ++ undone_text serial worker line) }
 {
     let mut bytes = [0; ROOM];
     let line_end = put(&mut bytes, ROOM, b"\n");
@@ -104,8 +85,7 @@ pub fn push_undo(
     worker: u8,
     reply: &UndoReply,
 ) -> Result<(), AllocError>
-    ensures { OnOk result
-        (text.new.items ≡ text.old.items ++ undo_text program.now worker reply.now) }
+    ensures { OnOk result (Adds text.old text.new (undo_text program.now worker reply.now)) }
 {
     match reply {
         UndoReply::Undone { serial, line } => push_undone(text, *serial, worker, *line),
@@ -113,7 +93,12 @@ pub fn push_undo(
             serial,
             worker,
             object,
-        } => push_conflict(text, program, *serial, *worker, object),
+        } => {
+            push_refuser(text, *serial, *worker)?;
+            text.extend_from_slice(b" on ")?;
+            push_object(text, program, object)?;
+            text.extend_from_slice(b"\n")
+        }
         UndoReply::Nothing => text.extend_from_slice(b"nothing to undo\n"),
     }
 }
