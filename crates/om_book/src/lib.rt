@@ -16,7 +16,7 @@ mod session;
 pub use backing::{KeptAnswers, Rows, keep_backed};
 pub use book::{Book, CallError, MAX_RECORDS};
 pub use numbers::numbers_differ;
-pub use om_journal::{Command, JournalRecord, KeptCommand, KeptUndoReply, Query, Reply};
+pub use om_journal::{Command, JournalRecord, KeptCommand, KeptUndoReply, Query, Reply, ReplyIn};
 pub use order::{Answer, Fault, Order};
 pub use receipt::Receipt;
 pub use rounds::{most_rounds, order_at};
