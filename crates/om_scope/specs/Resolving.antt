@@ -17,7 +17,6 @@ use Rattle.om_tree.specs.Tree as trees
 use Rattle.om_tree.specs.Tree.{ExpressionTree, ForHeadTree, PartsTree, StatementsTree}
 use Rattle.om_tree.specs.View.{view_directive, view_expression, view_for_start, view_head, view_parameters, view_part}
 use Rattle.om_tree.specs.View.{view_statement}
-use Rattle.om_resolved.specs.declared.resolved.LocalVariable.{LocalVariable}
 use Rattle.om_resolved.specs.declared.resolved.ResolvedClause.{ResolvedClause}
 use Rattle.om_resolved.specs.declared.resolved.ResolvedExpression.{ResolvedExpression}
 use Rattle.om_resolved.specs.declared.resolved.ResolvedHead.{ResolvedHead}
@@ -32,15 +31,13 @@ use Rattle.om_rules.specs.Checks.{Checks}
 use Rattle.om_rules.specs.DirectiveRules.{in_construct}
 use Rattle.om_rules.specs.Outcomes.{Finds}
 use Rattle.om_rules.specs.Proper.{IsProper}
-use Rattle.om_rules.specs.Resolves.{Appends, Resolves}
-use Rattle.om_rules.specs.Scopes.{Scopes, after_function, after_optionals, after_parameters, after_prototype}
-use Rattle.om_rules.specs.Scopes.{parameters_of}
+use Rattle.om_rules.specs.Resolves.{Resolves}
+use Rattle.om_rules.specs.Scopes.{Scopes, after_function, after_prototype, parameters_of}
 use Rattle.om_rules.specs.StatementResolution.{resolved_perhaps, resolved_start, resolved_statement}
 use Rattle.om_rules.specs.StatementResolution.{resolved_statements}
 use Rattle.om_rules.specs.StatementRules.{after_for_start, after_statement, after_statements}
 use Rattle.om_rules.specs.StatementRules.{for_start_breaches, for_turn_breaches, statement_breaches}
 use Rattle.om_rules.specs.StatementRules.{statements_breaches}
-use Rattle.om_rules.specs.UnitResolution.{parameter_variable}
 use Rattle.om_uses.specs.Views.{view_boxed}
 
 -- ---- trees
@@ -116,7 +113,7 @@ EntersConstruct result old new d = OnOk result (new ≡ in_construct (view_direc
 abbrev pub IsProperConstruct : Directive Expression → Statement → Type 0
 IsProperConstruct d s = IsProper (trees.Construct (view_directive d) (view_statement s))
 
--- ---- what is promised of the parts of a `for` and of functions
+-- ---- what is promised of the parts of a `for` and of heads of functions
 
 -- what a `for` has before its body is refused, or each of its three parts is resolved
 pub record ResolvesHead (result : Result (Box ResolvedHead) SourceFault) (scopes : Scopes) (head : ForHeadTree) :
@@ -136,20 +133,6 @@ pub record ResolvesTurn
   pub checked : Checks result (for_turn_breaches scopes head)
   pub condition : Finds (λ found. option_map view_boxed found.0) result (resolved_perhaps scopes head.condition)
   pub step : Finds (λ found. option_map view_boxed found.1) result (resolved_perhaps scopes head.step)
-
--- the parameters are in scope, unless one is refused
-abbrev pub DeclaresParameters : {T : Type 0} → Result T SourceFault → Scopes → Scopes → List (Parameter names.Name) → Type 0
-DeclaresParameters result old new ps = OnOk result (new ≡ after_parameters old ps)
-
--- their variables stand behind those that were there, unless one is refused
-abbrev pub AppendsParameters : {T : Type 0} → Result T SourceFault → Vec LocalVariable Global → Vec LocalVariable Global
-    → List (Parameter names.Name) → Type 0
-AppendsParameters result old new ps = Appends result old new (map parameter_variable ps)
-
--- the parameters of a prototype that have names are in scope, unless one is refused
-abbrev pub DeclaresOptionals : {T : Type 0} → Result T SourceFault → Scopes → Scopes → List (Parameter (Option names.Name))
-    → Type 0
-DeclaresOptionals result old new ps = OnOk result (new ≡ after_optionals old ps)
 
 -- the function is declared, unless it is refused
 abbrev pub DeclaresHead : {T E N : Type 0} → Result T E → Scopes → Scopes → FunctionHead N → Type 0

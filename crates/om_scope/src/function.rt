@@ -1,20 +1,19 @@
 //! Functions: their rules, and their variables.
 
-ghost use Rattle.std.specs.Prelude.{◌≡◌, ◌<◌, [], ◌∷◌, OnOk, length};
+ghost use Rattle.std.specs.Prelude.{◌≡◌, ◌<◌, OnOk, length};
 ghost use Rattle.om_tree.specs.Tree.{statements};
 ghost use Rattle.om_tree.specs.View.{view_function, view_head};
 ghost use Rattle.om_rules.specs.Checks.{Checks, ChecksExactly};
-ghost use Rattle.om_rules.specs.Resolves.{Resolves};
 ghost use Rattle.om_rules.specs.Proper.{AreProper};
 ghost use Rattle.om_rules.specs.Scopes.{after_optional, after_parameter, returns_value, signature_eq, signature_of, with_local};
-ghost use Rattle.om_rules.specs.Faults.{breaches_along};
-ghost use Rattle.om_resolved.specs.ResolvedView as view;
-ghost use Rattle.om_rules.specs.UnitResolution.{resolved_function, resolved_inside};
-ghost use Rattle.om_rules.specs.UnitRules.{body_breaches, definition_breaches, flow_of, function_breaches, head_breaches, is_other_main, is_redeclared, next_optional, next_parameter, optional_breaches, optionals_breaches, parameter_breaches, parameters_breaches, prototype_breaches};
+ghost use Rattle.om_rules.specs.UnitRules.{definition_breaches, flow_of, head_breaches, is_other_main, is_redeclared, optional_breaches, parameter_breaches, prototype_breaches};
 ghost use Rattle.om_rules.specs.StatementRules.{redeclared_breaches};
 ghost use Rattle.om_resolved.specs.declared.resolved.Shape.TheVariants.{Scalar};
-ghost use Rattle.om_scope.specs.Resolving.{AppendsParameters, DeclaresHead, DefinesHead, DeclaresOptionals, DeclaresParameters};
-ghost use Rattle.om_scope.specs.Resolving.{further_parameters, parameters_in, view_items};
+ghost use Rattle.om_scope.specs.Parameters.{AppendsFurtherParameters, AppendsParameter, AppendsParameters};
+ghost use Rattle.om_scope.specs.Parameters.{ChecksFurtherOptionals, ChecksFurtherParameters, ChecksOptionals};
+ghost use Rattle.om_scope.specs.Parameters.{ChecksParameters, DeclaresFurtherOptionals, DeclaresFurtherParameters};
+ghost use Rattle.om_scope.specs.Parameters.{DeclaresOptionals, DeclaresParameters, ResolvesFunction, ResolvesInside};
+ghost use Rattle.om_scope.specs.Resolving.{DeclaresHead, DefinesHead, parameters_in};
 
 use crate::statement::resolve_statements;
 use om_lexer::{FaultCode, SourceFault, Span};
@@ -137,7 +136,7 @@ fn declare_parameter(
 ) -> Result<(), SourceFault>
     ensures checked { Checks result (parameter_breaches (before, symbols.old) parameter.now) }
     ensures in_scope { OnOk result (symbols.new ≡ after_parameter symbols.old parameter.now) }
-    ensures resolved { AppendsParameters result parameters.old parameters.new (parameter.now ∷ []) }
+    ensures resolved { AppendsParameter result parameters.old parameters.new parameter.now }
     ensures few { OnOk result (before < PARAMETER_LIMIT) }
 {
     refuse_if(
@@ -157,11 +156,9 @@ fn declare_further_parameters(
     parameters: &mut Vec<LocalVariable>,
     rest: &[(Span, Parameter<Name>)],
 ) -> Result<(), SourceFault>
-    ensures checked { Checks result
-        (breaches_along parameter_breaches next_parameter (1, symbols.old)
-        (further_parameters rest.now)) }
-    ensures in_scope { DeclaresParameters result symbols.old symbols.new (further_parameters rest.now) }
-    ensures resolved { AppendsParameters result parameters.old parameters.new (further_parameters rest.now) }
+    ensures checked { ChecksFurtherParameters result symbols.old rest.now }
+    ensures in_scope { DeclaresFurtherParameters result symbols.old symbols.new rest.now }
+    ensures resolved { AppendsFurtherParameters result parameters.old parameters.new rest.now }
 {
     let mut before = 1;
     for further in rest {
@@ -178,9 +175,9 @@ fn declare_parameters(
     found: &mut Vec<LocalVariable>,
     parameters: &Parameters<Name>,
 ) -> Result<(), SourceFault>
-    ensures checked { Checks result (parameters_breaches symbols.old (parameters_in parameters.now)) }
-    ensures in_scope { DeclaresParameters result symbols.old symbols.new (parameters_in parameters.now) }
-    ensures resolved { AppendsParameters result found.old found.new (parameters_in parameters.now) }
+    ensures checked { ChecksParameters result symbols.old parameters.now }
+    ensures in_scope { DeclaresParameters result symbols.old symbols.new parameters.now }
+    ensures resolved { AppendsParameters result found.old found.new parameters.now }
 {
     let Parameters::Listed { first, rest } = parameters else {
         return Ok(());
@@ -217,10 +214,8 @@ fn declare_further_optionals(
     symbols: &mut Symbols,
     rest: &[(Span, Parameter<Option<Name>>)],
 ) -> Result<(), SourceFault>
-    ensures checked { Checks result
-        (breaches_along optional_breaches next_optional (1, symbols.old)
-        (further_parameters rest.now)) }
-    ensures in_scope { DeclaresOptionals result symbols.old symbols.new (further_parameters rest.now) }
+    ensures checked { ChecksFurtherOptionals result symbols.old rest.now }
+    ensures in_scope { DeclaresFurtherOptionals result symbols.old symbols.new rest.now }
 {
     let mut before = 1;
     for further in rest {
@@ -236,8 +231,8 @@ fn declare_optionals(
     symbols: &mut Symbols,
     parameters: &Parameters<Option<Name>>,
 ) -> Result<(), SourceFault>
-    ensures checked { Checks result (optionals_breaches symbols.old (parameters_in parameters.now)) }
-    ensures in_scope { DeclaresOptionals result symbols.old symbols.new (parameters_in parameters.now) }
+    ensures checked { ChecksOptionals result symbols.old parameters.now }
+    ensures in_scope { DeclaresOptionals result symbols.old symbols.new parameters.now }
 {
     let Parameters::Listed { first, rest } = parameters else {
         return Ok(());
@@ -312,12 +307,10 @@ fn resolve_inside(
     function: &Function,
 ) -> Result<Vec<ResolvedStatement>, SourceFault>
     requires proper { AreProper (statements (view_function function.now).body.items) }
-    ensures found { let tree = view_function function.now in
-        Resolves view_items result (body_breaches symbols.old tree)
-        (resolved_inside symbols.old tree) }
+    ensures found { ResolvesInside result symbols.old (view_function function.now) }
     ensures in_scope { OnOk result (symbols.new ≡ symbols.old) }
-    ensures parameters { let own = parameters_in function.now.head.parameters in
-        AppendsParameters result parameters.old parameters.new own }
+    ensures parameters { AppendsParameters result parameters.old parameters.new
+        function.now.head.parameters }
 {
     symbols.enter(alloc)?;
     declare_parameters(alloc, symbols, parameters, &function.head.parameters)?;
@@ -334,9 +327,7 @@ pub fn resolve_function(
     function: &Function,
 ) -> Result<ResolvedFunction, SourceFault>
     requires proper { AreProper (statements (view_function function.now).body.items) }
-    ensures found { let tree = view_function function.now in
-        Resolves view.function result (function_breaches symbols.old tree)
-        (resolved_function symbols.old tree) }
+    ensures found { ResolvesFunction result symbols.old (view_function function.now) }
     ensures in_scope { DefinesHead result symbols.old symbols.new function.now.head }
 {
     begin_definition(alloc, symbols, &function.head)?;

@@ -1,25 +1,23 @@
 //! A whole source.
 
-ghost use Rattle.std.specs.Prelude.{◌≡◌, ◌≢◌, [], All, OnOk, IfOk, IfErr, Some, map};
-ghost use Rattle.std.specs.List.{flat_map, list_any};
-ghost use Rattle.om_lexer.specs.Faults.{no_memory};
+ghost use Rattle.std.specs.Prelude.{◌≡◌, [], All, OnOk, IfOk, IfErr, map};
+ghost use Rattle.std.specs.List.{list_any};
 ghost use Rattle.om_tree.specs.Formed.{IsUnit};
 ghost use Rattle.om_tree.specs.Sizes.{AtomicsHaveForms};
 ghost use Rattle.om_tree.specs.View.{view_item, view_unit};
 ghost use Rattle.om_rules.specs.Breaches.{breaches_of, is_main, main_breaches};
 ghost use Rattle.om_rules.specs.Checks.{Checks, ChecksExactly};
-ghost use Rattle.om_rules.specs.Faults.{first_of};
-ghost use Rattle.om_rules.specs.Outcomes.{Finds};
-ghost use Rattle.om_rules.specs.Resolves.{Adds, Appends, Resolves};
-ghost use Rattle.om_rules.specs.Perhaps.{all_along};
+ghost use Rattle.om_rules.specs.Outcomes.{Finds, Refuses};
+ghost use Rattle.om_rules.specs.Resolves.{Appends};
 ghost use Rattle.om_rules.specs.Proper.{IsProperItem};
 ghost use Rattle.om_resolved.specs.ResolvedView as view;
-ghost use Rattle.om_rules.specs.Scopes.{after_definition, after_item, definitions_of, file_scope, nothing_declared};
-ghost use Rattle.om_rules.specs.UnitResolution.{globals_of, item_functions, items_resolution, resolution_of};
+ghost use Rattle.om_rules.specs.Scopes.{after_definition, after_item, definitions_of, nothing_declared};
+ghost use Rattle.om_rules.specs.UnitResolution.{globals_of, resolution_of};
 ghost use Rattle.om_rules.specs.UnitRules.{item_breaches, items_breaches};
 ghost use Rattle.om_resolved.specs.Beside.{TreeAtomicsAssign};
 ghost use Rattle.om_resolved.specs.Uses.{IsResolved};
 ghost use Rattle.om_resolved.specs.Whole.{IsWholeTree};
+ghost use Rattle.om_scope.specs.Units.{AddsFunction, AddsFunctions, AppendsGlobalsOf, ResolvesSource};
 
 use crate::function::{check_prototype, resolve_function};
 use om_lexer::{FaultCode, SourceFault};
@@ -75,8 +73,7 @@ fn resolve_item(
     ensures checked { Checks result (item_breaches symbols.old (view_item item.now)) }
     ensures in_scope { OnOk result (symbols.new ≡ after_item symbols.old (view_item item.now)) }
     ensures declared { Appends result globals.old globals.new (globals_of (view_item item.now)) }
-    ensures defined { let own = item_functions symbols.old (view_item item.now) in
-        Adds view.function result functions.old functions.new own }
+    ensures defined { AddsFunction result symbols.old functions.old functions.new item.now }
 {
     match item {
         Item::Declaration(declaration) => declare_globals(alloc, symbols, globals, declaration),
@@ -95,11 +92,8 @@ fn resolve_each(
 ) -> Result<(), SourceFault>
     requires proper { All IsProperItem (map view_item items.now) }
     ensures checked { Checks result (items_breaches symbols.old (map view_item items.now)) }
-    ensures declared { let own = flat_map globals_of (map view_item items.now) in
-        Appends result globals.old globals.new own }
-    ensures defined { let trees = map view_item items.now in
-        let own = all_along item_functions after_item symbols.old trees in
-        Adds view.function result functions.old functions.new own }
+    ensures declared { AppendsGlobalsOf result globals.old globals.new items.now }
+    ensures defined { AddsFunctions result symbols.old functions.old functions.new items.now }
 {
     for item in items {
         resolve_item(alloc, symbols, globals, functions, item)?;
@@ -115,9 +109,7 @@ fn resolve_from(
 ) -> Result<Resolved, SourceFault>
     requires is_empty { symbols.old ≡ nothing_declared (definitions_of (map view_item items.now)) }
     requires proper { All IsProperItem (map view_item items.now) }
-    ensures { let trees = map view_item items.now in
-        Resolves view.resolved result (items_breaches (file_scope (definitions_of trees)) trees)
-        (items_resolution trees) }
+    ensures { ResolvesSource result (map view_item items.now) }
 {
     symbols.begin_file(alloc)?;
     let mut globals = Vec::new(alloc);
@@ -132,9 +124,7 @@ fn resolve_from(
 // Resolves the items of a source, in their order.
 fn resolve_items(alloc: Global, items: &[Item]) -> Result<Resolved, SourceFault>
     requires proper { All IsProperItem (map view_item items.now) }
-    ensures { let trees = map view_item items.now in
-        Resolves view.resolved result (items_breaches (file_scope (definitions_of trees)) trees)
-        (items_resolution trees) }
+    ensures { ResolvesSource result (map view_item items.now) }
 {
     let definitions = definitions_of(alloc, items)?;
     let mut symbols = Symbols::new(alloc, definitions);
@@ -203,8 +193,7 @@ pub fn resolve(alloc: Global, unit: Unit) -> Result<Resolved, SourceFault>
     ensures is_resolved { IfOk result (λ resolved. IsResolved (view.resolved resolved)) }
     ensures whole { IfOk result (λ resolved. IsWholeTree (view.resolved resolved)) }
     ensures atomics_assign { IfOk result (λ resolved. TreeAtomicsAssign (view.resolved resolved)) }
-    ensures first_breach { IfErr result
-        (λ fault. fault ≢ no_memory → first_of (breaches_of (view_unit unit)) ≡ Some fault) }
+    ensures first_breach { IfErr result (Refuses (breaches_of (view_unit unit))) }
 {
     let resolved = resolve_items(alloc, unit.items.as_slice())?;
     check_main(&unit)?;
