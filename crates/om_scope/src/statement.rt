@@ -1,20 +1,20 @@
 //! Statements: their rules, and the variables of their names.
 
-ghost use Rattle.std.specs.Prelude.{◌≡◌, true, false, OnOk, Some, is_some};
+ghost use Rattle.std.specs.Prelude.{◌≡◌, true, false, OnOk, is_some};
 ghost use Rattle.om_tree.specs.Formed.{AreParts};
 ghost use Rattle.om_tree.specs.Sizes.{PartsHaveForms};
-ghost use Rattle.om_tree.specs.View.{view_directive, view_for_head, view_part, view_statement};
+ghost use Rattle.om_tree.specs.View.{view_part, view_statement};
 ghost use Rattle.om_resolved.specs.ResolvedView as view;
 ghost use Rattle.om_rules.specs.LoopViews.{view_loop};
 ghost use Rattle.om_rules.specs.DirectiveRules.{traits_of};
 ghost use Rattle.om_rules.specs.Loops.{loop_in};
-ghost use Rattle.om_rules.specs.Resolves.{Resolves};
 ghost use Rattle.om_rules.specs.Proper.{AreProper, AreProperParts, IsProper};
 ghost use Rattle.om_rules.specs.Scopes.{inside};
-ghost use Rattle.om_rules.specs.StatementResolution.{resolved_construct, resolved_for, resolved_loop_construct, resolved_parts, resolved_plain_construct, resolved_repeated, resolved_sections, resolved_statements};
-ghost use Rattle.om_rules.specs.StatementRules.{body_breaches, construct_breaches, continuing, for_breaches, in_loop, loop_construct_breaches, part_breaches, parts_breaches, plain_construct_breaches, sections_construct_breaches};
 ghost use Rattle.om_scope.specs.Resolving.{GoesBehind, GoesBehindItems, IsProperConstruct, ResolvesItems, ResolvesStatement};
-ghost use Rattle.om_scope.specs.Resolving.{item_trees, part_trees, view_body, view_parts};
+ghost use Rattle.om_scope.specs.Resolving.{item_trees, part_trees, view_body};
+ghost use Rattle.om_scope.specs.Statements.{ResolvesConstruct, ResolvesFor, ResolvesLoopBody, ResolvesLoopConstruct};
+ghost use Rattle.om_scope.specs.Statements.{ResolvesPart, ResolvesParts, ResolvesPlainConstruct, ResolvesRepeated};
+ghost use Rattle.om_scope.specs.Statements.{ResolvesSections};
 
 use crate::assembly::{Setting, construct_of, loop_construct_of, sections_construct_of};
 use crate::entering::{enter_construct, enter_loop_construct};
@@ -225,10 +225,7 @@ fn resolve_for(
     body: &Statement,
 ) -> Result<ResolvedStatement, SourceFault>
     requires proper { IsProper (view_statement body.now) }
-    ensures found { let tree = view_for_head head.now in
-        let inner = view_statement body.now in
-        Resolves view.statement result (for_breaches symbols.old flow tree inner)
-        (resolved_for symbols.old flow.parallel tree inner) }
+    ensures found { ResolvesFor result symbols.old flow head.now body.now }
     ensures in_scope { OnOk result (symbols.new ≡ symbols.old) }
 {
     symbols.enter(alloc)?;
@@ -248,10 +245,7 @@ fn resolve_construct(
     body: &Statement,
 ) -> Result<ResolvedStatement, SourceFault>
     requires proper { IsProperConstruct directive.now body.now }
-    ensures found { let tree = view_directive directive.now in
-        let inner = view_statement body.now in
-        Resolves view.statement result (construct_breaches symbols.old flow tree inner)
-        (resolved_construct symbols.old flow.parallel tree inner) }
+    ensures found { ResolvesConstruct result symbols.old flow directive.now body.now }
     ensures in_scope { OnOk result (symbols.new ≡ symbols.old) }
 {
     if !traits_of(&directive.name).takes_loop {
@@ -272,10 +266,7 @@ fn resolve_plain_construct(
 ) -> Result<ResolvedStatement, SourceFault>
     requires proper { IsProperConstruct directive.now body.now }
     requires for_any { (traits_of directive.now.name).takes_loop ≡ false }
-    ensures found { let tree = view_directive directive.now in
-        let inner = view_statement body.now in
-        Resolves view.statement result (plain_construct_breaches symbols.old flow tree inner)
-        (resolved_plain_construct symbols.old flow.parallel tree inner) }
+    ensures found { ResolvesPlainConstruct result symbols.old flow directive.now body.now }
     ensures in_scope { OnOk result (symbols.new ≡ symbols.old) }
 {
     let inside = constructing(directive, flow);
@@ -299,11 +290,7 @@ fn resolve_loop_construct(
     body: &Statement,
 ) -> Result<ResolvedStatement, SourceFault>
     requires proper { IsProper (view_statement body.now) }
-    ensures found { let tree = view_directive directive.now in
-        let inner = view_statement body.now in
-        Resolves view.statement result
-        (loop_construct_breaches symbols.old flow tree (loop_in inner) inner)
-        (resolved_loop_construct symbols.old flow.parallel tree (loop_in inner) inner) }
+    ensures found { ResolvesLoopConstruct result symbols.old flow directive.now body.now }
     ensures in_scope { OnOk result (symbols.new ≡ symbols.old) }
 {
     let inside = constructing(directive, flow);
@@ -336,10 +323,7 @@ fn resolve_loop_body(
 ) -> Result<Box<ResolvedStatement>, SourceFault>
     requires proper { IsProper (view_statement body.now) }
     requires is_loop { is_some (loop_in (view_statement body.now)) ≡ true }
-    ensures found { let tree = view_loop found.now in
-        let inner = view_statement body.now in
-        Resolves view_body result (body_breaches symbols.old inside (Some tree) inner)
-        (resolved_repeated symbols.old inside.parallel tree inner) }
+    ensures found { ResolvesLoopBody result symbols.old inside (view_loop found.now) body.now }
     ensures in_scope { OnOk result (symbols.new ≡ symbols.old) }
 {
     match body {
@@ -360,8 +344,7 @@ fn resolve_repeated(
     repeated: &Statement,
 ) -> Result<Box<ResolvedStatement>, SourceFault>
     requires proper { IsProper (view_statement repeated.now) }
-    ensures found { let scopes = in_loop symbols.old (Some (view_loop found.now)) in
-        ResolvesStatement view_body result scopes (continuing inside) repeated.now }
+    ensures found { ResolvesRepeated result symbols.old inside (view_loop found.now) repeated.now }
     ensures in_scope { OnOk result (symbols.new ≡ symbols.old) }
 {
     enter_loop(alloc, symbols, found)?;
@@ -381,10 +364,7 @@ fn resolve_sections(
 ) -> Result<ResolvedStatement, SourceFault>
     requires formed { AreParts (part_trees sections.now) }
     requires forms { PartsHaveForms true (part_trees sections.now) }
-    ensures found { let tree = view_directive directive.now in
-        let inner = part_trees sections.now in
-        Resolves view.statement result (sections_construct_breaches symbols.old flow tree inner)
-        (resolved_sections symbols.old flow.parallel tree inner) }
+    ensures found { ResolvesSections result symbols.old flow directive.now sections.now }
     ensures in_scope { OnOk result (symbols.new ≡ symbols.old) }
 {
     let inside = constructing(directive, flow);
@@ -404,9 +384,7 @@ fn resolve_parts(
     sections: &[Part],
 ) -> Result<Vec<ResolvedPart>, SourceFault>
     requires proper { AreProperParts (part_trees sections.now) }
-    ensures found { let trees = part_trees sections.now in
-        Resolves view_parts result (parts_breaches symbols.old flow 0 trees)
-        (resolved_parts symbols.old flow.parallel trees) }
+    ensures found { ResolvesParts result symbols.old flow sections.now }
     ensures in_scope { OnOk result (symbols.new ≡ symbols.old) }
 {
     let mut resolved = Vec::new(alloc);
@@ -427,9 +405,7 @@ fn resolve_part(
     part: &Part,
 ) -> Result<ResolvedPart, SourceFault>
     requires proper { AreProper (view_part part.now).items }
-    ensures found { let tree = view_part part.now in
-        Resolves view.part result (part_breaches symbols.old flow before tree)
-        (resolved_statements (inside symbols.old) flow.parallel tree.items) }
+    ensures found { ResolvesPart result symbols.old flow before part.now }
     ensures in_scope { OnOk result (symbols.new ≡ symbols.old) }
 {
     check_section(before, &part.section)?;
