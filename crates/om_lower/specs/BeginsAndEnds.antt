@@ -16,7 +16,7 @@ use Rattle.om_rows.specs.Scopes.{for_head, loop_head, sections_head}
 use Rattle.om_rows.specs.Statements.{closes}
 use Rattle.om_statements.specs.Scoped.{AppendsScopes}
 use Rattle.om_statements.specs.Stretches.{AppendsEnd, AppendsHead, Begins, BeginsTurn, Ends, Opens, do_end, else_begin}
-use Rattle.om_statements.specs.Stretches.{for_begin, for_end, loop_end, test_at, worksharing_begin}
+use Rattle.om_statements.specs.Stretches.{for_begin, for_end, loop_end, test_at, while_begin, worksharing_begin}
 use Rattle.om_statements.specs.declared.spot.LoopLabels.{LoopLabels}
 use Rattle.om_statements.specs.declared.spot.TurnLabels.{TurnLabels}
 use Rattle.om_statements.specs.declared.writing.Writing.{Writing}
@@ -29,10 +29,15 @@ BeginsIf result here condition old new =
     let line = here.at.line in
     IfOk result (λ label. Begins label (test_at (names_at here) line label (view.expression condition)) old new)
 
--- what stands between the two statements of an `if` with `else`; the label of the head is placed, and another one is free
+-- what stands between the two statements of an `if` with `else`; the label of the head is placed, and another one is
+-- free
 abbrev pub BeginsElse : {E : Type 0} → Result ℕ E → (line head : ℕ) → Written → Written → Type 0
 BeginsElse result line head old new =
     IfOk result (λ label. (names : Numbered) → Opens head label (else_begin names line head label) old new)
+
+-- the head of a `while`
+abbrev pub BeginsWhile : {E : Type 0} → Result LoopLabels E → Here → ResolvedExpression → Written → Written → Type 0
+BeginsWhile result here condition old new = AppendsHead result here while_begin (view.expression condition) old new
 
 -- the end of a loop in any body
 abbrev pub EndsLoop : (line : ℕ) → LoopLabels → Written → Written → Type 0
@@ -63,15 +68,15 @@ EndsFor result here labels step old new =
     AppendsEnd result here labels.next (λ names l. for_end names l labels) (option_map view.expression step) old new
 
 -- the begin of a worksharing loop, and its scopes
-abbrev pub BeginsWorksharing : {E : Type 0} → Result LoopLabels E → Here → List ResolvedClause → ResolvedLoop → Writing
+abbrev pub BeginsLoop : {E : Type 0} → Result LoopLabels E → Here → List ResolvedClause → ResolvedLoop → Writing
     → Writing → Type 0
-BeginsWorksharing result here clauses repeated old new =
+BeginsLoop result here clauses repeated old new =
     let trees = map view.clause clauses in
     AppendsHead result here (λ names l. worksharing_begin names l trees) (view.loop repeated) old.draft new.draft
 
-abbrev pub ScopesWorksharing : {T E : Type 0} → Result T E → Here → List ResolvedClause → ResolvedLoop → Writing → Writing
+abbrev pub ScopesLoop : {T E : Type 0} → Result T E → Here → List ResolvedClause → ResolvedLoop → Writing → Writing
     → Type 0
-ScopesWorksharing result here clauses repeated old new =
+ScopesLoop result here clauses repeated old new =
     let trees = map view.clause clauses in
     AppendsScopes result here (λ at l. loop_head at l trees) (view.loop repeated) old new
 

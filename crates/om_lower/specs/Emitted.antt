@@ -1,5 +1,5 @@
 -- What is promised of the code of a body.
-use Rattle.std.specs.Prelude.{◌≡◌, ◌<◌, ◌≤◌, ℕ, List, [], Option, None, Some, length, map}
+use Rattle.std.specs.Prelude.{◌≡◌, ◌<◌, ◌≤◌, ℕ, List, [], OnOk, Option, None, Result, Some, length, map}
 use Rattle.om_code.specs.declared.raw.Line.{Line}
 use Rattle.om_lower.specs.declared.body.Emitted.{Emitted}
 use Rattle.om_statements.specs.Drafts.{Written}
@@ -11,7 +11,10 @@ use Rattle.om_resolved.specs.ResolvedView as view
 use Rattle.om_rows.specs.Bodies.{BodyTree, FunctionBody, Numbers}
 use Rattle.om_rows.specs.BodyTables.{numbered_by}
 use Rattle.om_rows.specs.Code.{body_row}
+use Rattle.om_rows.specs.Coded.{BodyHasCode}
+use Rattle.om_rows.specs.Ends.{HasBodyEnds}
 use Rattle.om_rows.specs.Numbering.{numbers_of}
+use Rattle.om_rows.specs.ProgramTables.{known_in}
 use Rattle.om_rows.specs.Scopes.{body_scopes}
 use Rattle.om_rows.specs.declared.body.BodyTables.{BodyTables}
 use Rattle.om_rows.specs.declared.copies.Region.{Region}
@@ -59,42 +62,71 @@ abbrev pub EmitsRegion : Numbered → Numbers → BodyTree → Written → Writt
 EmitsRegion names n tree old new = (f : ResolvedFunctionTree) → EmitsBody names n f tree old new
 
 abbrev pub EmitsRegionScopes : Numbered → BodyTree → Writing → Writing → Type 0
-EmitsRegionScopes names tree old new = (f : ResolvedFunctionTree) → EmitsScopes names (λ at. body_scopes at f tree) old new
+EmitsRegionScopes names tree old new =
+    (f : ResolvedFunctionTree) → EmitsScopes names (λ at. body_scopes at f tree) old new
 
--- ---- a body is written, and so are its scopes, by the tables of what its instructions name
+-- ---- the body at a site, by the tables of what its instructions name
+
+-- it has code
+abbrev pub HasSiteCode : Site → Type 0
+HasSiteCode site =
+    let b = body_in [] site in
+    BodyHasCode b.function b.tree
+
+-- the tables have the regions in it
+abbrev pub HasSiteEnds : BodyTables → Site → Type 0
+HasSiteEnds tables site =
+    let b = body_in [] site in
+    HasBodyEnds (known_in tables) b.numbers b.function b.tree
+
+-- its code, or none where that has too many instructions
+abbrev pub FitsSite : BodyTables → Site → Option Emitted → Type 0
+FitsSite tables site made =
+    let b = body_in [] site in
+    FitsRow (numbered_by tables) b.numbers b.function b.tree made
+
+-- ---- a function writes a body by those tables, unless memory runs out, and its scopes begin and end in it
 
 -- the body at a site
-abbrev pub WritesSiteBody : BodyTables → Site → Writing → Writing → Type 0
-WritesSiteBody tables site old new =
+abbrev pub WritesSiteBody : {T E : Type 0} → Result T E → BodyTables → Site → Writing → Writing → Type 0
+WritesSiteBody result tables site old new =
     let b = body_in [] site in
-    EmitsBody (numbered_by tables) b.numbers b.function b.tree old.draft new.draft
+    OnOk result (EmitsBody (numbered_by tables) b.numbers b.function b.tree old.draft new.draft)
 
-abbrev pub WritesSiteScopes : BodyTables → Site → Writing → Writing → Type 0
-WritesSiteScopes tables site old new =
+abbrev pub WritesSiteScopes : {T E : Type 0} → Result T E → BodyTables → Site → Writing → Writing → Type 0
+WritesSiteScopes result tables site old new =
     let b = body_in [] site in
-    EmitsScopes (numbered_by tables) (λ at. body_scopes at b.function b.tree) old new
+    OnOk result (EmitsScopes (numbered_by tables) (λ at. body_scopes at b.function b.tree) old new)
 
--- the own body of a function
-abbrev pub WritesOwnBody : BodyTables → tables.Numbers → ResolvedFunction → Writing → Writing → Type 0
-WritesOwnBody tables numbers f old new =
-    EmitsBody (numbered_by tables) (numbers_of numbers) (view.function f) FunctionBody old.draft new.draft
+-- the own body of a function, in which the tables have the regions
+abbrev pub HasOwnEnds : BodyTables → tables.Numbers → ResolvedFunction → Type 0
+HasOwnEnds tables numbers f = HasBodyEnds (known_in tables) (numbers_of numbers) (view.function f) FunctionBody
 
-abbrev pub WritesOwnScopes : BodyTables → ResolvedFunction → Writing → Writing → Type 0
-WritesOwnScopes tables f old new =
-    EmitsScopes (numbered_by tables) (λ at. body_scopes at (view.function f) FunctionBody) old new
+abbrev pub WritesOwnBody : {T E : Type 0} → Result T E → BodyTables → tables.Numbers → ResolvedFunction → Writing
+    → Writing → Type 0
+WritesOwnBody result tables numbers f old new = OnOk result
+    (EmitsBody (numbered_by tables) (numbers_of numbers) (view.function f) FunctionBody old.draft new.draft)
+
+abbrev pub WritesOwnScopes : {T E : Type 0} → Result T E → BodyTables → ResolvedFunction → Writing → Writing → Type 0
+WritesOwnScopes result tables f old new =
+    OnOk result (EmitsScopes (numbered_by tables) (λ at. body_scopes at (view.function f) FunctionBody) old new)
 
 -- the body of a `parallel`, which each thread of a team runs
-abbrev pub WritesParallelBody : BodyTables → tables.Numbers → Region → Writing → Writing → Type 0
-WritesParallelBody tables numbers region old new =
-    EmitsRegion (numbered_by tables) (numbers_of numbers) (parallel_tree region) old.draft new.draft
+abbrev pub WritesParallelBody : {T E : Type 0} → Result T E → BodyTables → tables.Numbers → Region → Writing → Writing
+    → Type 0
+WritesParallelBody result tables numbers region old new = OnOk result
+    (EmitsRegion (numbered_by tables) (numbers_of numbers) (parallel_tree region) old.draft new.draft)
 
-abbrev pub WritesParallelScopes : BodyTables → Region → Writing → Writing → Type 0
-WritesParallelScopes tables region old new = EmitsRegionScopes (numbered_by tables) (parallel_tree region) old new
+abbrev pub WritesParallelScopes : {T E : Type 0} → Result T E → BodyTables → Region → Writing → Writing → Type 0
+WritesParallelScopes result tables region old new =
+    OnOk result (EmitsRegionScopes (numbered_by tables) (parallel_tree region) old new)
 
 -- the body of a `task`
-abbrev pub WritesTaskBody : BodyTables → tables.Numbers → Region → Writing → Writing → Type 0
-WritesTaskBody tables numbers region old new =
-    EmitsRegion (numbered_by tables) (numbers_of numbers) (task_tree region) old.draft new.draft
+abbrev pub WritesTaskBody : {T E : Type 0} → Result T E → BodyTables → tables.Numbers → Region → Writing → Writing
+    → Type 0
+WritesTaskBody result tables numbers region old new = OnOk result
+    (EmitsRegion (numbered_by tables) (numbers_of numbers) (task_tree region) old.draft new.draft)
 
-abbrev pub WritesTaskScopes : BodyTables → Region → Writing → Writing → Type 0
-WritesTaskScopes tables region old new = EmitsRegionScopes (numbered_by tables) (task_tree region) old new
+abbrev pub WritesTaskScopes : {T E : Type 0} → Result T E → BodyTables → Region → Writing → Writing → Type 0
+WritesTaskScopes result tables region old new =
+    OnOk result (EmitsRegionScopes (numbered_by tables) (task_tree region) old new)

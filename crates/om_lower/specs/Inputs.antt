@@ -1,8 +1,11 @@
 -- What is lowered, as a tree and the bodies in it, and what is known of it.
-use Rattle.std.specs.Prelude.{◌≡◌}
+use Rattle.std.specs.Prelude.{◌≡◌, ℕ, Bool, List, map}
+use denote.Ref.{Bor}
+use Rattle.om_lower.specs.declared.bodies.Bodies.{Bodies}
 use Rattle.om_lower.specs.declared.input.Input.{Input}
 use Rattle.om_lower.specs.declared.input.Known.{Known}
 use Rattle.om_lower.specs.declared.input.SeenBody.{SeenBody}
+use Rattle.om_lower.specs.Made.{AddsBody}
 use Rattle.om_lower.specs.Ready.{IsReady}
 use Rattle.om_resolved.specs.Beside.{TreeCopiesBehind}
 use Rattle.om_resolved.specs.ResolvedTree.{ResolvedTree}
@@ -13,7 +16,8 @@ use Rattle.om_rows.specs.Bodies.{BodySite, variables_of}
 use Rattle.om_rows.specs.Coded.{TreeHasCode}
 use Rattle.om_rows.specs.Ends.{KnownBodies}
 use Rattle.om_rows.specs.ProgramTables.{IsTablesOf, known_of}
-use Rattle.om_sights.specs.Sites.{body_in}
+use Rattle.om_sights.specs.declared.sites.Site.{Site}
+use Rattle.om_sights.specs.Sites.{body_in, body_round}
 
 abbrev pub tree_of : Input → ResolvedTree
 tree_of input = view.resolved input.resolved.now
@@ -38,6 +42,14 @@ known_tree known = tree_of known.input.now
 -- a body can be lowered with what is known
 abbrev pub IsReadyIn : Known → BodySite → Type 0
 IsReadyIn known b = IsReady (known_bodies known) known.extents.now b
+
+-- the variables of the bodies that are not yet over, each as it is lent
+abbrev pub seen_round : List (Bor (List ℕ)) → List (List ℕ)
+seen_round round = map (λ one. one.now) round
+
+-- the body at a site, in those round it, is put behind others, unless it passes a limit
+abbrev pub AddsSite : Known → (round : List (Bor (List ℕ))) → Site → Bodies → Bodies → (fits : Bool) → Type 0
+AddsSite known round site old new fits = AddsBody (known_tree known) (body_round (seen_round round) site) old new fits
 
 -- a body, once its variables are known and those of the body round it
 abbrev pub seen_body : SeenBody → BodySite

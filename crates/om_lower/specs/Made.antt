@@ -1,6 +1,7 @@
 -- Bodies that were made, before all of their program is.
 use Rattle.std.specs.Prelude.{◌≡◌, ◌≤◌, ◌<◌, ◌⊎◌, ℕ, List, [], ◌∷◌, ◌++◌, Option, None, Some, Bool, true, false, All}
-use Rattle.std.specs.Prelude.{Any, length, map, slice_get, take}
+use Rattle.std.specs.Prelude.{Any, IfSome, Vec, length, map, slice_get, take}
+use Rattle.std.specs.declared.alloc.Global.{Global}
 use Rattle.std.specs.List.{AllZip, flat_map}
 use Rattle.om_lower.specs.declared.body.Emitted.{Emitted}
 use Rattle.om_lower.specs.Emitted.{FitsRow}
@@ -92,6 +93,13 @@ abbrev pub IsPut : {A : Type 0} → (put : Bool) → (old more new : List A) →
 IsPut false old more new = new ≡ old
 IsPut true old more new = new ≡ old ++ more
 
+-- the bodies of a function are put behind those of other ones with their lists, or nothing changes
+abbrev pub PutsBodies : Bodies → Lowered → Lowered → (put : Bool) → Type 0
+PutsBodies bodies old new put = IsPut put old.functions (bodies.bodies ∷ []) new.functions
+
+abbrev pub PutsLists : Bodies → Lowered → Lowered → (put : Bool) → Type 0
+PutsLists bodies old new put = IsPut put old.lists bodies.lists new.lists
+
 -- the bodies of a function, if none passes a limit
 abbrev pub FitsFunction : ResolvedTree → Numbers → ResolvedFunctionTree → Option Bodies → Type 0
 FitsFunction tree n f made = FitsBodies tree (function_bodies n f) made
@@ -103,9 +111,13 @@ AddsFunction tree n f old new false = FitsFunction tree n f None
 AddsFunction tree n f old new true = (bodies : Bodies) × FitsFunction tree n f (Some bodies)
     × (new.functions ≡ old.functions ++ bodies.bodies ∷ []) × (new.lists ≡ old.lists ++ bodies.lists)
 
--- the variables of a function's bodies are put behind those of the bodies before them
-abbrev pub AddsSlots : Numbers → ResolvedFunctionTree → (old new : List (List ℕ)) → Type 0
-AddsSlots n f old new = new ≡ old ++ map variables_of (function_bodies n f)
+-- the variables of one body, or of bodies, are put behind those of the bodies before them; where a body passes a limit,
+-- nothing is said
+abbrev pub AddsVariables : BodySite → (old new : Vec (List ℕ) Global) → Type 0
+AddsVariables b old new = new.items ≡ old.items ++ variables_of b ∷ []
+
+abbrev pub AddsAllVariables : List BodySite → (old new : Vec (List ℕ) Global) → (fits : Bool) → Type 0
+AddsAllVariables bodies old new fits = fits ≡ true → new.items ≡ old.items ++ map variables_of bodies
 
 abbrev pub next_function : Next → ResolvedFunctionTree
 next_function next = view.function next.function.now
@@ -172,6 +184,10 @@ pub record IsLowered (tree : ResolvedTree) (picks : List (List ℕ)) (functions 
 -- what is placed has them, with its lists
 abbrev pub ArePlaced : ResolvedTree → Placed → Type 0
 ArePlaced tree placed = IsLowered tree placed.picks placed.functions placed.is_whole
+
+-- what is found is the index of an item of a list, if anything is found
+abbrev pub IsIndexIn : {A : Type 0} → List A → Option ℕ → Type 0
+IsIndexIn items found = IfSome found (λ index. index < length items)
 
 -- which function passes a limit, if one does
 abbrev pub IsOverAt : (picks : List (List ℕ)) → (functions : List (List Body)) → (is_whole : Bool) → Option ℕ → Type 0

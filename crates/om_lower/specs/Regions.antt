@@ -1,22 +1,28 @@
 -- What is promised of what stands in the place of a `parallel` or a `task`.
 use Rattle.std.specs.Prelude.{◌≡◌, ℕ, List, IfOk, OnOk, Result, map}
+use Rattle.om_resolved.specs.declared.resolved.ResolvedClause.{ResolvedClause}
 use Rattle.om_resolved.specs.ResolvedTree.{ResolvedClauseTree, ResolvedStatementTree}
 use Rattle.om_resolved.specs.ResolvedTree as trees
 use Rattle.om_resolved.specs.ResolvedView as view
 use Rattle.om_rows.specs.Bodies as rows
 use Rattle.om_rows.specs.BodyTables.{numbered_by}
+use Rattle.om_rows.specs.Copies.{first_copies_of}
 use Rattle.om_rows.specs.Ends.{IsKnown}
+use Rattle.om_rows.specs.Expressions.{value}
 use Rattle.om_rows.specs.Numbering.{numbers_of}
 use Rattle.om_rows.specs.ProgramTables.{known_in}
 use Rattle.om_rows.specs.Slots.{FirstCopy}
-use Rattle.om_rows.specs.Rows.{each}
+use Rattle.om_rows.specs.Rows.{each, perhaps}
 use Rattle.om_rows.specs.Statements.{given_copies, load_original}
 use Rattle.om_rows.specs.declared.body.BodyTables.{BodyTables}
 use Rattle.om_rows.specs.declared.numbers.Numbers.{Numbers}
+use Rattle.om_rows.specs.declared.copies.FirstCopy as copies
 use Rattle.om_rows.specs.declared.copies.Region.{Region}
 use Rattle.om_statements.specs.Drafts.{Written}
-use Rattle.om_statements.specs.Emits.{EmitsRow}
+use Rattle.om_statements.specs.declared.here.Here.{Here}
+use Rattle.om_statements.specs.Emits.{Appends, EmitsRow}
 use Rattle.om_statements.specs.Statements.{EmitsStatement}
+use Rattle.om_statements.specs.Stretches.{value_in}
 use Rattle.om_statements.specs.declared.spot.JumpLabels.{JumpLabels}
 
 abbrev pub clauses_of : Region → List ResolvedClauseTree
@@ -67,3 +73,14 @@ EmitsTask result tables numbers region old new = EmitsRegion result tables numbe
 abbrev pub LoadsGiven : BodyTables → Region → Written → Written → Type 0
 LoadsGiven tables region old new =
     EmitsRow (numbered_by tables) (λ at. each (load_original at region.at.line) (given_to region)) old new
+
+-- a function loads the originals of these copies there, unless memory runs out
+abbrev pub LoadsOriginals : {T E : Type 0} → Result T E → Here → List copies.FirstCopy → Written → Written → Type 0
+LoadsOriginals result here copied old new =
+    Appends result here (λ at l. each (load_original at l)) (first_copies_of copied) old new
+
+-- a function writes the size that the clauses of a `parallel` ask for there, if one of them does, unless memory runs
+-- out
+abbrev pub AppendsTeamSize : {T E : Type 0} → Result T E → Here → List ResolvedClause → Written → Written → Type 0
+AppendsTeamSize result here clauses old new =
+    Appends result here (λ at l. perhaps (value at l)) (value_in clauses) old new

@@ -1,9 +1,10 @@
 -- What PRINT writes for a format, as it is cut piece by piece.
-use Rattle.std.specs.Prelude.{ℕ, Bool, true, false, List, [], ◌∷◌, ◌++◌, Option, None, Some, map, option_map}
+use Rattle.std.specs.Prelude.{◌≡◌, ℕ, Bool, true, false, List, [], ◌∷◌, ◌++◌, Option, None, Some, map, option_map}
+use denote.Ref.{Bor}
 use Rattle.om_code.specs.declared.raw.Piece as texts
 use Rattle.om_code.specs.declared.raw.Piece.TheVariants as pieces
 use Rattle.om_lower.specs.declared.texts.Cut.{Cut}
-use Rattle.om_resolved.specs.Formats.{Piece, pieces_of}
+use Rattle.om_resolved.specs.Formats.{Piece, converted, pieces_of}
 use Rattle.om_rows.specs.Mentions.{text_piece}
 
 -- a format as PRINT writes it, if it is one
@@ -25,10 +26,22 @@ behind_cut cut rest = cut.pieces.items ++ with_run cut.run.items (map text_piece
 abbrev pub cut_behind : Cut → List ℕ → Option (List texts.Piece)
 cut_behind cut format = option_map (behind_cut cut) (pieces_of format)
 
+-- where what follows a `%` is
+abbrev pub converted_behind : Cut → List ℕ → Option (List texts.Piece)
+converted_behind cut behind = option_map (behind_cut cut) (converted behind)
+
+-- something is cut, behind which this much of a format comes to what all of it came to before
+abbrev pub CutsFrom : (List Piece → List Piece) → Cut → Cut → Type 0
+CutsFrom all old new = (rest : List Piece) → behind_cut new rest ≡ behind_cut old (all rest)
+
 -- what is left of a format, if it goes on
 abbrev pub cut_on : Cut → Option (List ℕ) → Option (List texts.Piece)
 cut_on cut None = None
 cut_on cut (Some rest) = cut_behind cut rest
+
+-- the same of what is lent
+abbrev pub cut_left : Cut → Option (Bor (List ℕ)) → Option (List texts.Piece)
+cut_left cut left = cut_on cut (option_map (λ rest. rest.now) left)
 
 -- the pieces, where all of it was cut
 abbrev pub cut_pieces : Cut → (is_whole : Bool) → Option (List texts.Piece)

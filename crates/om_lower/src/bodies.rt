@@ -1,13 +1,12 @@
 //! The bodies of a function, each within its limits.
 
-ghost use Rattle.std.specs.Prelude.{◌≡◌, ◌≤◌, ◌∷◌, ◌++◌, [], All, Any, IfOk, OnOk, false, length, map, true};
+ghost use Rattle.std.specs.Prelude.{◌≡◌, ◌≤◌, ◌∷◌, ◌++◌, [], All, Any, IfOk, OnOk, false, length, true};
 ghost use Rattle.om_lower.specs.Regions.{given_to, slots_of};
-ghost use Rattle.om_lower.specs.Words.{AddsBody, AreAdded, FitsSlots, FitsCode, GivesSlots, HasFewSlots};
-ghost use Rattle.om_lower.specs.Words.{HasManySlots, HasSlots, IsInput, IsListed, IsReady, IsReadyIn, IsSeen};
-ghost use Rattle.om_lower.specs.Words.{bodies_in, body_in, body_round, captures_of, copied_variables, given_of};
-ghost use Rattle.om_lower.specs.Words.{innermost, known_bodies, known_tree, part_tree, round_with, seen_body};
-ghost use Rattle.om_lower.specs.Words.{seen_tree, tree_of, variables_at, variables_of};
-ghost use Rattle.om_resolved.specs.ResolvedView as view;
+ghost use Rattle.om_lower.specs.Words.{AddsAllVariables, AddsBody, AddsSite, AddsVariables, AreAdded, FitsCode};
+ghost use Rattle.om_lower.specs.Words.{FitsSlots, GivesSlots, HasFewSlots, HasManySlots, HasSlots, IsInput};
+ghost use Rattle.om_lower.specs.Words.{IsListed, IsReadyIn, IsSeen, bodies_in, body_in, body_round, captures_of};
+ghost use Rattle.om_lower.specs.Words.{copied_variables, given_of, innermost, known_tree, part_tree, round_with};
+ghost use Rattle.om_lower.specs.Words.{seen_body, seen_round, seen_tree, site_variables, variables_of};
 
 use crate::body::{Emitted, emitted_in};
 use crate::frames::{SLOT_LIMIT, frame_of};
@@ -27,8 +26,7 @@ use std::alloc::Global;
 /// Adds the variables of these bodies behind those of other ones; false where a body has more than 256 slots.
 pub(crate) fn add_slots(slots: &mut Vec<Variables>, alloc: Global, sites: &[Site<'_>]) -> Made<bool>
     ensures few { IfOk result (λ few. few ≡ true → All HasFewSlots (bodies_in [] sites.now)) }
-    ensures added { IfOk result (λ few. few ≡ true →
-        slots.new.items ≡ slots.old.items ++ map variables_of (bodies_in [] sites.now)) }
+    ensures added { IfOk result (AddsAllVariables (bodies_in [] sites.now) slots.old slots.new) }
     ensures many { IfOk result (λ few.
         few ≡ false → Any HasManySlots (bodies_in [] sites.now)) }
 {
@@ -43,8 +41,7 @@ pub(crate) fn add_slots(slots: &mut Vec<Variables>, alloc: Global, sites: &[Site
 // Adds the variables of a body; false where it has more than 256 slots.
 fn add_variables(slots: &mut Vec<Variables>, alloc: Global, site: &Site<'_>) -> Made<bool>
     ensures few { IfOk result (λ few. HasSlots few (body_in [] site.now)) }
-    ensures added { OnOk result
-        (slots.new.items ≡ slots.old.items ++ variables_of (body_in [] site.now) ∷ []) }
+    ensures added { OnOk result (AddsVariables (body_in [] site.now) slots.old slots.new) }
 {
     let variables = variables_in(alloc, site)?;
     let few = variables.len() <= SLOT_LIMIT;
@@ -54,8 +51,7 @@ fn add_variables(slots: &mut Vec<Variables>, alloc: Global, site: &Site<'_>) -> 
 
 // The variables of a body, by their slots.
 fn variables_in(alloc: Global, site: &Site<'_>) -> Made<Variables>
-    ensures { let f = view.function site.now.function.now in
-        IfOk result (λ made. made ≡ variables_at f site.now.part) }
+    ensures { IfOk result (λ made. made ≡ site_variables site.now) }
 {
     match &site.part {
         BodyPart::Function => function_variables(alloc, site.function),
@@ -102,12 +98,10 @@ fn add_next<'a>(
     site: &'a Site<'a>,
 ) -> Made<bool>
     requires given { IsInput known.now.input.now }
-    requires ready { IsReady (known_bodies known.now) known.now.extents.now
-        (body_round (map (λ one. one.now) round.old.items) site.now) }
-    ensures adds { let b = body_round (map (λ one. one.now) round.old.items) site.now in
-        IfOk result (λ fits. AddsBody (tree_of known.now.input.now) b made.old made.new fits) }
-    ensures round { OnOk result (map (λ one. one.now) round.new.items
-        ≡ round_with (map (λ one. one.now) round.old.items) site.now) }
+    requires ready { IsReadyIn known.now (body_round (seen_round round.old.items) site.now) }
+    ensures adds { IfOk result (AddsSite known.now round.old.items site.now made.old made.new) }
+    ensures round { OnOk result
+        (seen_round round.new.items ≡ round_with (seen_round round.old.items) site.now) }
 {
     round.truncate(site.depth);
     let variables = own_variables(known, site);
@@ -130,7 +124,7 @@ fn add_next<'a>(
 // The variables of the innermost body, if there is one, and these otherwise.
 fn innermost<'a>(round: &[&'a Variables], none: &'a Variables) -> &'a Variables
     requires { none.now ≡ [] }
-    ensures { result.now ≡ innermost (map (λ one. one.now) round.now) }
+    ensures { result.now ≡ innermost (seen_round round.now) }
 {
     match round.last() {
         None => none,

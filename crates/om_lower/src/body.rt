@@ -1,10 +1,10 @@
 //! The code of a body, within the limit on instructions.
 
-ghost use Rattle.std.specs.Prelude.{◌≡◌, ◌≤◌, [], IfOk, OnOk, false, length};
-ghost use Rattle.om_lower.specs.Words.{BodyHasCode, FitsRow, FunctionBody, HasBodyEnds, HasEnds};
-ghost use Rattle.om_lower.specs.Words.{WritesOwnScopes, WritesParallelScopes, WritesSiteScopes, WritesTaskScopes};
-ghost use Rattle.om_lower.specs.Words.{StatementHasCode, WritesOwnBody, WritesParallelBody, WritesSiteBody};
-ghost use Rattle.om_lower.specs.Words.{WritesTaskBody, body_in, known_in, numbered_by, numbers_of, settled_code};
+ghost use Rattle.std.specs.Prelude.{◌≡◌, ◌≤◌, IfOk, false, length};
+ghost use Rattle.om_lower.specs.Words.{BodyHasCode, FitsSite, FunctionBody, HasEnds, HasOwnEnds, HasSiteCode};
+ghost use Rattle.om_lower.specs.Words.{HasSiteEnds, StatementHasCode, WritesOwnBody, WritesOwnScopes};
+ghost use Rattle.om_lower.specs.Words.{WritesParallelBody, WritesParallelScopes, WritesSiteBody, WritesSiteScopes};
+ghost use Rattle.om_lower.specs.Words.{WritesTaskBody, WritesTaskScopes, known_in, numbers_of, settled_code};
 ghost use Rattle.om_lower.specs.Words.{settled_lists, statement_of};
 ghost use Rattle.om_resolved.specs.ResolvedView as view;
 
@@ -41,11 +41,9 @@ pub(crate) fn emitted_in(
     tables: &BodyTables<'_>,
     site: &Site<'_>,
 ) -> Made<Option<Emitted>>
-    requires code { BodyHasCode (body_in [] site.now).function (body_in [] site.now).tree }
-    requires regions { let b = body_in [] site.now in
-        HasBodyEnds (known_in tables.now) b.numbers b.function b.tree }
-    ensures { let b = body_in [] site.now in
-        IfOk result (FitsRow (numbered_by tables.now) b.numbers b.function b.tree) }
+    requires code { HasSiteCode site.now }
+    requires regions { HasSiteEnds tables.now site.now }
+    ensures { IfOk result (FitsSite tables.now site.now) }
 {
     let mut writing = Writing::new(alloc);
     write(alloc, &mut writing, tables, site)?;
@@ -57,11 +55,10 @@ pub(crate) fn emitted_in(
 
 // Writes all that stands in a body.
 fn write(alloc: Global, writing: &mut Writing, tables: &BodyTables<'_>, site: &Site<'_>) -> Done
-    requires code { BodyHasCode (body_in [] site.now).function (body_in [] site.now).tree }
-    requires regions { let b = body_in [] site.now in
-        HasBodyEnds (known_in tables.now) b.numbers b.function b.tree }
-    ensures code { OnOk result (WritesSiteBody tables.now site.now writing.old writing.new) }
-    ensures scopes { OnOk result (WritesSiteScopes tables.now site.now writing.old writing.new) }
+    requires code { HasSiteCode site.now }
+    requires regions { HasSiteEnds tables.now site.now }
+    ensures code { WritesSiteBody result tables.now site.now writing.old writing.new }
+    ensures scopes { WritesSiteScopes result tables.now site.now writing.old writing.new }
 {
     match &site.part {
         BodyPart::Function => write_function(alloc, writing, tables, site.numbers, site.function),
@@ -79,10 +76,9 @@ fn write_function(
     function: &ResolvedFunction,
 ) -> Done
     requires code { BodyHasCode (view.function function.now) FunctionBody }
-    requires ends { HasBodyEnds (known_in tables.now) (numbers_of numbers)
-        (view.function function.now) FunctionBody }
-    ensures code { OnOk result (WritesOwnBody tables.now numbers function.now writing.old writing.new) }
-    ensures scopes { OnOk result (WritesOwnScopes tables.now function.now writing.old writing.new) }
+    requires ends { HasOwnEnds tables.now numbers function.now }
+    ensures code { WritesOwnBody result tables.now numbers function.now writing.old writing.new }
+    ensures scopes { WritesOwnScopes result tables.now function.now writing.old writing.new }
 {
     let height = writing.scopes.height();
     parameters(&mut writing.scopes, function.parameters.as_slice())?;
@@ -106,8 +102,8 @@ fn write_parallel(
     requires code { StatementHasCode false false (statement_of region.now) }
     requires ends { HasEnds (known_in tables.now) (numbers_of numbers)
         (statement_of region.now) }
-    ensures code { OnOk result (WritesParallelBody tables.now numbers region.now writing.old writing.new) }
-    ensures scopes { OnOk result (WritesParallelScopes tables.now region.now writing.old writing.new) }
+    ensures code { WritesParallelBody result tables.now numbers region.now writing.old writing.new }
+    ensures scopes { WritesParallelScopes result tables.now region.now writing.old writing.new }
 {
     let at = region.at;
     let here = Here { tables, at };
@@ -135,8 +131,8 @@ fn write_task(
     requires code { StatementHasCode false false (statement_of region.now) }
     requires ends { HasEnds (known_in tables.now) (numbers_of numbers)
         (statement_of region.now) }
-    ensures code { OnOk result (WritesTaskBody tables.now numbers region.now writing.old writing.new) }
-    ensures scopes { OnOk result (WritesTaskScopes tables.now region.now writing.old writing.new) }
+    ensures code { WritesTaskBody result tables.now numbers region.now writing.old writing.new }
+    ensures scopes { WritesTaskScopes result tables.now region.now writing.old writing.new }
 {
     let height = writing.scopes.height();
     task_copies(&mut writing.scopes, region.clauses)?;

@@ -1,7 +1,7 @@
 //! The slots of a frame, within their limits.
 
-ghost use Rattle.std.specs.Prelude.{◌≡◌, ◌≤◌, IfOk, length, map};
-ghost use Rattle.om_lower.specs.Words.{FitsFrame, frame_cells, own_cells, slot_with};
+ghost use Rattle.std.specs.Prelude.{◌≡◌, ◌≤◌, IfOk, length};
+ghost use Rattle.om_lower.specs.Words.{FitsVariables, frame_cells, own_cells};
 
 use om_code::raw::{Slot, Source};
 use om_resolved::{Capture, Made};
@@ -24,8 +24,7 @@ pub(crate) fn frame_of(
     variables: &Variables,
 ) -> Made<Option<Seq<Slot>>>
     requires { length outer.now ≤ 256 }
-    ensures { let slots = map (slot_with extents.now outer.now captures.now) variables.now in
-        IfOk result (λ frame. FitsFrame variables.now slots frame) }
+    ensures { IfOk result (FitsVariables extents.now outer.now captures.now variables.now) }
 {
     if variables.len() > SLOT_LIMIT {
         return Ok(None);

@@ -1,9 +1,9 @@
 //! The bodies of functions, each within its limits.
 
-ghost use Rattle.std.specs.Prelude.{◌≡◌, ◌<◌, ◌∷◌, [], All, IfOk, Ok, OnOk, Some, length, slice_get, true};
-ghost use Rattle.om_lower.specs.Words.{AddsNext, AddsSlots, AreGathered, IsInput, IsNext, IsPut, IsReadyIn};
-ghost use Rattle.om_lower.specs.Words.{bodies_in, ends_in, is_main_function, known_tree, next_bodies};
-ghost use Rattle.om_lower.specs.Words.{next_function, next_numbers, numbers_of, tree_of};
+ghost use Rattle.std.specs.Prelude.{◌≡◌, ◌<◌, ◌∷◌, [], All, IfOk, Ok, OnOk, Some, length, slice_get};
+ghost use Rattle.om_lower.specs.Words.{AddsAllVariables, AddsNext, AreGathered, IsInput, IsNext, IsPut, IsReadyIn};
+ghost use Rattle.om_lower.specs.Words.{PutsBodies, PutsLists, bodies_in, ends_in, is_main_function, known_tree};
+ghost use Rattle.om_lower.specs.Words.{next_bodies, numbers_of, tree_of};
 ghost use Rattle.om_resolved.specs.ResolvedView as view;
 
 use crate::bodies::{Bodies, add_sites, add_slots, put_both};
@@ -121,8 +121,7 @@ fn add_function(
     requires given { IsInput input.now }
     requires next { IsNext input.now.tables.now slots.old.items next.now }
     ensures adds { IfOk result (AddsNext (tree_of input.now) next.now lowered.old lowered.new) }
-    ensures slots { IfOk result (λ fits. fits ≡ true →
-        AddsSlots (next_numbers next.now) (next_function next.now) slots.old.items slots.new.items) }
+    ensures slots { IfOk result (AddsAllVariables (next_bodies next.now) slots.old slots.new) }
 {
     let sites = sites_of(input.alloc, next.function, next.numbers)?;
     if !add_slots(slots, input.alloc, sites.as_slice())? {
@@ -161,9 +160,8 @@ fn add_bodies<'a>(
 // Puts the bodies of a function and their lists behind those that are there, where they fit.
 fn put_function(lowered: &mut Lowered, bodies: Bodies, fits: Made<bool>) -> Made<bool>
     ensures fits { IfOk result (λ put. fits ≡ Ok put) }
-    ensures functions { IfOk result (λ put.
-        IsPut put lowered.old.functions (bodies.bodies ∷ []) lowered.new.functions) }
-    ensures lists { IfOk result (λ put. IsPut put lowered.old.lists bodies.lists lowered.new.lists) }
+    ensures functions { IfOk result (PutsBodies bodies lowered.old lowered.new) }
+    ensures lists { IfOk result (PutsLists bodies lowered.old lowered.new) }
 {
     let Bodies { bodies, lists } = bodies;
     put_where(

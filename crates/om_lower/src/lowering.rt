@@ -1,10 +1,9 @@
 //! From a resolved tree to its code.
 
-ghost use Rattle.std.specs.Prelude.{◌≡◌, ◌≢◌, ◌<◌, IfErr, IfOk, IfSome, OnOk, length, map, slice_set};
-ghost use Rattle.om_lower.specs.Words.{ArePlaced, AreWithin, HasSmallWeight, IsCodeOf, IsEachOnce, IsInput};
-ghost use Rattle.om_lower.specs.Words.{IsOverIn, IsRefusal, IsTooMany, IsWholeTree, KeepsMeaning, ListsStand};
-ghost use Rattle.om_lower.specs.Words.{TreeAtomicsAssign, TreeCopiesBehind, no_memory, number_of, too_many};
-ghost use Rattle.om_lower.specs.Words.{tree_of};
+ghost use Rattle.std.specs.Prelude.{◌≡◌, ◌<◌, IfErr, IfOk, OnOk, length, map, slice_set};
+ghost use Rattle.om_lower.specs.Words.{ArePlaced, AreWithin, HasSmallWeight, IsCodeOf, IsEachOnce, IsIndexIn};
+ghost use Rattle.om_lower.specs.Words.{IsInput, IsOverIn, IsRefusal, IsWholeTree, KeepsMeaning, ListsStand};
+ghost use Rattle.om_lower.specs.Words.{TreeAtomicsAssign, TreeCopiesBehind, number_of, too_many, tree_of};
 ghost use Rattle.om_resolved.specs.ResolvedView as view;
 
 use crate::functions::{Lowered, Placed, lower_functions};
@@ -45,8 +44,7 @@ pub fn lower(alloc: Global, resolved: &Resolved) -> Result<Program, SourceFault>
     ensures code { IfOk result (λ program. IsCodeOf (view.resolved resolved.now) program) }
     ensures means { IfOk result (λ program. KeepsMeaning (view.resolved resolved.now) program) }
     ensures within { OnOk result (AreWithin (view.resolved resolved.now)) }
-    ensures refused { let tree = view.resolved resolved.now in
-        IfErr result (λ fault. fault ≢ no_memory → IsTooMany tree fault) }
+    ensures refused { IfErr result (IsRefusal (view.resolved resolved.now)) }
 {
     whole_has_code();
     serial_meaning();
@@ -106,8 +104,7 @@ fn within_limits(input: &Input<'_>, placed: &Placed) -> Result<(), SourceFault>
 fn over_at(input: &Input<'_>, placed: &Placed) -> Made<Option<usize>>
     requires { ArePlaced (tree_of input.now) placed.now }
     ensures over { IfOk result (IsOverIn placed.now) }
-    ensures within { let count = length input.now.resolved.now.functions.items in
-        IfOk result (λ index. IfSome index (λ index. index < count)) }
+    ensures within { IfOk result (IsIndexIn input.now.resolved.now.functions.items) }
 {
     body_is_level();
     let functions = placed.functions.as_slice();

@@ -1,10 +1,10 @@
 //! The program of a tree whose functions are lowered.
 
-ghost use Rattle.std.specs.Prelude.{◌≡◌, ◌<◌, All, Any, IfErr, IfOk, IfSome, IsSome, length, map, true};
-ghost use Rattle.std.specs.Prelude.{option_map, position, slice_get};
-ghost use Rattle.std.specs.List.{AllZip, flat_map};
-ghost use Rattle.om_lower.specs.Words.{AreLow, IsCodeOf, IsInput, IsLowered, IsTextOf, called_body, global_of};
-ghost use Rattle.om_lower.specs.Words.{is_main_function, no_memory, pieces_of, tree_of};
+ghost use Rattle.std.specs.Prelude.{◌≡◌, ◌<◌, All, IfErr, IfOk, IsSome, length, map, position, slice_get, true};
+ghost use Rattle.std.specs.List.{AllZip};
+ghost use Rattle.om_lower.specs.Words.{AreLow, HasMain, IsCodeOf, IsInput, IsLowered, IsTextAt, IsTextOf};
+ghost use Rattle.om_lower.specs.Words.{flattened, global_of, is_main_function, main_body, no_memory, pieces_of};
+ghost use Rattle.om_lower.specs.Words.{tree_of};
 ghost use Rattle.om_resolved.specs.ResolvedView as view;
 
 use crate::functions::{Placed, is_main};
@@ -39,8 +39,7 @@ fn raw_of(input: &Input<'_>, placed: Placed) -> Made<Raw>
     requires given { IsInput input.now }
     requires lowered { IsLowered (tree_of input.now) placed.picks placed.functions true }
     ensures code { IfOk result (λ raw. IsCodeOf (tree_of input.now) raw) }
-    ensures bodies { IfOk result
-        (λ raw. raw.bodies ≡ flat_map (λ bodies. bodies) placed.functions) }
+    ensures bodies { IfOk result (λ raw. raw.bodies ≡ flattened placed.functions) }
     ensures picks { IfOk result (λ raw. raw.picks ≡ placed.picks) }
 {
     let alloc = input.alloc;
@@ -66,7 +65,7 @@ fn raw_of(input: &Input<'_>, placed: Placed) -> Made<Raw>
 
 // The bodies of functions, one behind the other.
 fn flattened(alloc: Global, functions: Seq<Seq<Body>>) -> Made<Seq<Body>>
-    ensures { IfOk result (λ bodies. bodies ≡ flat_map (λ bodies. bodies) functions) }
+    ensures { IfOk result (λ bodies. bodies ≡ flattened functions) }
 {
     let mut functions = functions.into_vec();
     let mut all = Seq::new(alloc);
@@ -93,8 +92,7 @@ fn texts_of(alloc: Global, formats: &Texts) -> Made<Seq<Seq<Piece>>>
 fn text_at(alloc: Global, formats: &Texts, number: usize) -> Made<Seq<Piece>>
     requires there { number < length formats.now }
     requires formats { All (λ format. IsSome (pieces_of format)) formats.now }
-    ensures { IfOk result
-        (λ text. IfSome (slice_get formats.now number) (λ format. IsTextOf format text)) }
+    ensures { IfOk result (IsTextAt formats.now number) }
 {
     let Some(format) = formats.text(number) else {
         unreachable!();
@@ -153,8 +151,7 @@ fn copy_global(alloc: Global, global: &GlobalVariable) -> Made<raw::GlobalVariab
 // The number of the body of `main`.
 fn main_body(input: &Input<'_>) -> u32
     requires given { IsInput input.now }
-    ensures { let functions = (tree_of input.now).functions in
-        option_map (called_body functions) (position is_main_function functions) ≡ Some result }
+    ensures { main_body (tree_of input.now) ≡ Some result }
 {
     let main = main_of(input.resolved);
     let variables = Variables::new(input.alloc);
@@ -165,8 +162,7 @@ fn main_body(input: &Input<'_>) -> u32
 // The index of `main`.
 #[tactic(auto, using(crate::proofs::Searches::position_none, crate::proofs::Searches::position_map))]
 fn main_of(resolved: &Resolved) -> usize
-    requires { Any (λ function. is_main_function function ≡ true)
-        (view.resolved resolved.now).functions }
+    requires { HasMain (view.resolved resolved.now) }
     ensures { position is_main_function (view.resolved resolved.now).functions ≡ Some result }
 {
     match index_of_main(resolved.functions.as_slice()) {

@@ -1,12 +1,9 @@
 //! A `parallel` and a `task`, in the body that meets them. Their own bodies stand by themselves.
 
-ghost use Rattle.std.specs.Prelude.{◌≡◌, ◌≤◌, IfOk, IfSome, OnOk, is_some, length, map};
-ghost use Rattle.om_lower.specs.Regions.{EmitsParallel, EmitsTask, IsKnownThere, LoadsGiven, clauses_of};
-ghost use Rattle.om_lower.specs.Regions.{given_to, parallel_of, slots_of, task_of};
-ghost use Rattle.om_lower.specs.Words.{Appends, GivesBehind, ValueHasCode, each, first_copies_of, perhaps};
-ghost use Rattle.om_resolved.specs.ResolvedView as view;
-ghost use Rattle.om_rows.specs.Expressions as expressions;
-ghost use Rattle.om_rows.specs.Statements as rows;
+ghost use Rattle.std.specs.Prelude.{◌≡◌, ◌≤◌, IfOk, IfSome, OnOk, is_some, length};
+ghost use Rattle.om_lower.specs.Regions.{AppendsTeamSize, EmitsParallel, EmitsTask, IsKnownThere, LoadsGiven};
+ghost use Rattle.om_lower.specs.Regions.{LoadsOriginals, given_to, parallel_of, slots_of, task_of};
+ghost use Rattle.om_lower.specs.Words.{GivesBehind, ValueHasCode, value_in};
 
 use om_code::Instr;
 use om_resolved::{Made, ResolvedClause};
@@ -25,7 +22,7 @@ pub(crate) fn parallel(
     numbers: Numbers,
     region: &Region<'_>,
 ) -> Made<Numbers>
-    requires code { IfSome (rows.clause_value (clauses_of region.now)) ValueHasCode }
+    requires code { IfSome (value_in region.now.clauses.now) ValueHasCode }
     requires known { IsKnownThere tables.now numbers region.now }
     ensures behind { GivesBehind result numbers (parallel_of region.now) }
     ensures emitted { EmitsParallel result tables.now numbers region.now draft.old draft.new }
@@ -94,11 +91,9 @@ fn load_given(
 // Writes the size that a `parallel` asks for, if one of its clauses does (OpenMP API 5.2, section
 // 10.1.2), and says whether one does.
 fn team_size(draft: &mut Draft, here: &Here<'_>, clauses: &[ResolvedClause]) -> Made<bool>
-    requires { IfSome (rows.clause_value (map view.clause clauses.now)) ValueHasCode }
-    ensures sized { IfOk result
-        (λ sized. sized ≡ is_some (rows.clause_value (map view.clause clauses.now))) }
-    ensures emitted { Appends result here.now (λ at l. perhaps (expressions.value at l))
-        (rows.clause_value (map view.clause clauses.now)) draft.old draft.new }
+    requires { IfSome (value_in clauses.now) ValueHasCode }
+    ensures sized { IfOk result (λ sized. sized ≡ is_some (value_in clauses.now)) }
+    ensures emitted { AppendsTeamSize result here.now clauses.now draft.old draft.new }
 {
     match clause_value(clauses) {
         None => Ok(false),
@@ -111,8 +106,7 @@ fn team_size(draft: &mut Draft, here: &Here<'_>, clauses: &[ResolvedClause]) -> 
 
 // Loads the originals of the firstprivate copies of a region, by the slots of the copies.
 fn load_originals(draft: &mut Draft, here: &Here<'_>, copies: &[FirstCopy]) -> Done
-    ensures { Appends result here.now (λ at l. each (rows.load_original at l))
-        (first_copies_of copies.now) draft.old draft.new }
+    ensures { LoadsOriginals result here.now copies.now draft.old draft.new }
 {
     for copy in copies {
         draft.put(here.at.line, Instr::Load(here.tables.place(copy.original)))?;

@@ -1,9 +1,9 @@
 //! The heads and the ends of `if`, `while`, `do` and `for`.
 
 ghost use Rattle.std.specs.Prelude.{◌≡◌, ◌<◌, IfOk, IfSome, None, OnOk, Some, option_map, slice_get};
-ghost use Rattle.om_lower.specs.Words.{AppendsHead, BeginsElse, BeginsFor, BeginsIf, BeginsTurn, EffectHasCode};
+ghost use Rattle.om_lower.specs.Words.{BeginsElse, BeginsFor, BeginsIf, BeginsTurn, BeginsWhile, EffectHasCode};
 ghost use Rattle.om_lower.specs.Words.{EndsDo, EndsFor, EndsLoop, FreshTurn, ScopesFor, StartHasCode};
-ghost use Rattle.om_lower.specs.Words.{ValueHasCode, do_begin, while_begin};
+ghost use Rattle.om_lower.specs.Words.{ValueHasCode, do_begin};
 ghost use Rattle.om_resolved.specs.ResolvedView as view;
 
 use om_resolved::{Made, ResolvedExpression, ResolvedStart};
@@ -20,8 +20,7 @@ pub(crate) fn begin_while(
     condition: &ResolvedExpression,
 ) -> Made<LoopLabels>
     requires { ValueHasCode (view.expression condition.now) }
-    ensures { AppendsHead result here.now while_begin (view.expression condition.now)
-        draft.old draft.new }
+    ensures { BeginsWhile result here.now condition.now draft.old draft.new }
 {
     let again = draft.fresh()?;
     let over = draft.fresh()?;

@@ -2,10 +2,9 @@
 
 ghost use Rattle.std.specs.Prelude.{◌≤◌, ◌+◌, ◌^◌, length};
 ghost use Rattle.om_lower.specs.Words.{AreFree, EmitsAllThere, EmitsPartsThere, EmitsThere, GivesAllBehind};
-ghost use Rattle.om_lower.specs.Words.{GivesBehind, GivesPartsBehind, HasCodeThere, HasEndsThere, HasPartsEnds};
-ghost use Rattle.om_lower.specs.Words.{HaveCodeThere, HaveEndsThere, PartsHaveCode, ScopesThere, all_scopes};
-ghost use Rattle.om_lower.specs.Words.{block, known_in, numbers_of, part_scopes, part_trees, scopes};
-ghost use Rattle.om_lower.specs.Words.{statement_trees};
+ghost use Rattle.om_lower.specs.Words.{GivesBehind, GivesPartsBehind, HasCodeThere, HasEndsThere, HaveCodeThere};
+ghost use Rattle.om_lower.specs.Words.{HaveEndsThere, HavePartsEndsThere, PartsHaveCode, ScopesOf, ScopesOfAll};
+ghost use Rattle.om_lower.specs.Words.{ScopesOfBlock, ScopesOfParts, part_trees};
 ghost use Rattle.om_resolved.specs.ResolvedView as view;
 
 use crate::region::{parallel, task};
@@ -42,8 +41,7 @@ pub(crate) fn statement(
     requires ends { HasEndsThere tables.now spot tree.now }
     ensures behind { GivesBehind result spot.numbers (view.statement tree.now) }
     ensures emitted { EmitsThere result tables.now spot tree.now writing.old writing.new }
-    ensures scopes { let seen = view.statement tree.now in
-        ScopesThere result tables.now (λ at. scopes at seen) writing.old writing.new }
+    ensures scopes { ScopesOf result tables.now tree.now writing.old writing.new }
 {
     let numbers = spot.numbers;
     // Lent again, since each arm lends them for less long.
@@ -263,8 +261,7 @@ pub(crate) fn inner(
     requires ends { HasEndsThere tables.now spot tree.now }
     ensures behind { GivesBehind result spot.numbers (view.statement tree.now) }
     ensures emitted { EmitsThere result tables.now spot tree.now writing.old writing.new }
-    ensures scopes { let seen = view.statement tree.now in
-        ScopesThere result tables.now (λ at. block (scopes at seen)) writing.old writing.new }
+    ensures scopes { ScopesOfBlock result tables.now tree.now writing.old writing.new }
 {
     let height = writing.scopes.height();
     let after = statement(alloc, writing, tables, spot, tree)?;
@@ -286,8 +283,7 @@ pub(crate) fn statements(
     requires ends { HaveEndsThere tables.now spot items.now }
     ensures behind { GivesAllBehind result spot items.now }
     ensures emitted { EmitsAllThere result tables.now spot items.now writing.old writing.new }
-    ensures scopes { let all = statement_trees items.now in
-        ScopesThere result tables.now (λ at. all_scopes at all) writing.old writing.new }
+    ensures scopes { ScopesOfAll result tables.now items.now writing.old writing.new }
 {
     let mut numbers = spot.numbers;
     for item in items {
@@ -309,14 +305,12 @@ pub(crate) fn parts(
     sections: &[ResolvedPart],
 ) -> Made<Numbers>
     requires code { PartsHaveCode (part_trees sections.now) }
-    requires ends { HasPartsEnds (known_in tables.now) (numbers_of spot.numbers)
-        (part_trees sections.now) }
+    requires ends { HavePartsEndsThere tables.now spot sections.now }
     requires free { AreFree spot.first (length sections.now) writing.old.draft }
     requires fit { spot.first + length sections.now ≤ 2 ^ 64 }
     ensures behind { GivesPartsBehind result spot sections.now }
     ensures emitted { EmitsPartsThere result tables.now spot sections.now writing.old writing.new }
-    ensures scopes { let all = part_trees sections.now in
-        ScopesThere result tables.now (λ at. part_scopes at all) writing.old writing.new }
+    ensures scopes { ScopesOfParts result tables.now sections.now writing.old writing.new }
 {
     let mut numbers = spot.numbers;
     for (index, section) in sections.iter().enumerate() {

@@ -1,7 +1,8 @@
 //! What PRINT writes for the formats of a program.
 
-ghost use Rattle.std.specs.Prelude.{◌≡◌, ◌∷◌, ◌++◌, ◌≤◌, [], OnOk, IfOk, IfSome, List, length, option_map};
-ghost use Rattle.om_lower.specs.Texts.{behind_cut, cut_behind, cut_on, cut_pieces, text_of, with_run};
+ghost use Rattle.std.specs.Prelude.{◌≡◌, ◌∷◌, ◌≤◌, [], OnOk, IfOk, IfSome, length};
+ghost use Rattle.om_lower.specs.Texts.{CutsFrom, behind_cut, converted_behind, cut_behind, cut_left, cut_pieces};
+ghost use Rattle.om_lower.specs.Texts.{text_of};
 ghost use Rattle.om_resolved.specs.Formats as formats;
 
 use om_code::raw::Piece;
@@ -35,8 +36,7 @@ pub fn text_of(alloc: Global, format: &[u8]) -> Made<Option<Seq<Piece>>>
 
 // Cuts a whole format behind what was cut, if it is one.
 fn cut_format(alloc: Global, cut: &mut Cut, format: &[u8]) -> Made<bool>
-    ensures { IfOk result
-        (λ is_whole. cut_behind cut.old format.now ≡ cut_pieces cut.new is_whole) }
+    ensures { IfOk result (λ whole. cut_behind cut.old format.now ≡ cut_pieces cut.new whole) }
 {
     let mut left = format;
     while let Some((byte, rest)) = left.split_first() {
@@ -53,10 +53,8 @@ fn cut_format(alloc: Global, cut: &mut Cut, format: &[u8]) -> Made<bool>
 #[tactic(auto, unfolding(om_resolved::specs::Formats::pieces_of), using(crate::proofs::Cutting::byte_or, crate::proofs::Cutting::not_this))]
 fn cut_next<'a>(alloc: Global, cut: &mut Cut, byte: u8, rest: &'a [u8]) -> Made<Option<&'a [u8]>>
     ensures same { IfOk result (λ left.
-        cut_behind cut.old (byte ∷ rest.now)
-        ≡ cut_on cut.new (option_map (λ next. next.now) left)) }
-    ensures shorter { IfOk result
-        (λ left. IfSome left (λ next. length next.now ≤ length rest.now)) }
+        cut_behind cut.old (byte ∷ rest.now) ≡ cut_left cut.new left) }
+    ensures shorter { IfOk result (λ left. IfSome left (λ one. length one.now ≤ length rest.now)) }
 {
     if byte == b'%' {
         return cut_converted(alloc, cut, rest);
@@ -68,10 +66,9 @@ fn cut_next<'a>(alloc: Global, cut: &mut Cut, byte: u8, rest: &'a [u8]) -> Made<
 // Cuts what begins behind a `%`.
 #[tactic(auto, unfolding(om_resolved::specs::Formats::converted), using(crate::proofs::Cutting::value_or, crate::proofs::Cutting::byte_or, crate::proofs::Cutting::not_this))]
 fn cut_converted<'a>(alloc: Global, cut: &mut Cut, rest: &'a [u8]) -> Made<Option<&'a [u8]>>
-    ensures shorter { IfOk result
-        (λ left. IfSome left (λ next. length next.now ≤ length rest.now)) }
-    ensures same { IfOk result (λ left. option_map (behind_cut cut.old) (formats.converted rest.now)
-        ≡ cut_on cut.new (option_map (λ next. next.now) left)) }
+    ensures shorter { IfOk result (λ left. IfSome left (λ one. length one.now ≤ length rest.now)) }
+    ensures same { IfOk result (λ left.
+        converted_behind cut.old rest.now ≡ cut_left cut.new left) }
 {
     let Some((byte, behind)) = rest.split_first() else {
         return Ok(None);
@@ -90,8 +87,7 @@ fn cut_converted<'a>(alloc: Global, cut: &mut Cut, rest: &'a [u8]) -> Made<Optio
 // Adds a byte that is written.
 #[tactic(auto, using(crate::proofs::Cutting::run_byte))]
 fn add_byte(cut: &mut Cut, byte: u8) -> Done
-    ensures { OnOk result ((rest : List formats.Piece)
-        → behind_cut cut.new rest ≡ behind_cut cut.old (formats.with_byte byte rest)) }
+    ensures { OnOk result (CutsFrom (formats.with_byte byte) cut.old cut.new) }
 {
     cut.run.push(byte)?;
     Ok(())
@@ -100,8 +96,7 @@ fn add_byte(cut: &mut Cut, byte: u8) -> Done
 // Adds a value that is written in decimal.
 #[tactic(auto, using(crate::proofs::Cutting::run_value))]
 fn add_value(alloc: Global, cut: &mut Cut) -> Done
-    ensures { OnOk result ((rest : List formats.Piece)
-        → behind_cut cut.new rest ≡ behind_cut cut.old (formats.Value ∷ rest)) }
+    ensures { OnOk result (CutsFrom (λ rest. formats.Value ∷ rest) cut.old cut.new) }
 {
     flush(alloc, cut)?;
     cut.pieces.push(Piece::Value)?;
@@ -110,8 +105,7 @@ fn add_value(alloc: Global, cut: &mut Cut) -> Done
 
 // Makes a piece of the bytes that have none yet, if there are any.
 fn flush(alloc: Global, cut: &mut Cut) -> Done
-    ensures pieces { OnOk result (
-        cut.new.pieces.items ≡ cut.old.pieces.items ++ with_run cut.old.run.items []) }
+    ensures pieces { OnOk result (cut.new.pieces.items ≡ behind_cut cut.old []) }
     ensures run { OnOk result (cut.new.run.items ≡ []) }
 {
     if cut.run.is_empty() {
