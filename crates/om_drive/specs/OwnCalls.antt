@@ -1,5 +1,5 @@
 -- The calls that a free run makes.
-use Rattle.std.specs.Prelude.{◌≡◌, ℕ, suc, Bool, true, false, not, nat_eq, filter, List, [], ◌∷◌}
+use Rattle.std.specs.Prelude.{◌≡◌, ℕ, suc, Bool, true, false, not, nat_eq, filter, List, [], ◌∷◌, map}
 use Rattle.std.specs.List.{AllByRecursion}
 use Rattle.om_journal.specs.Records.{JournalRecord}
 use Rattle.om_journal.specs.declared.command.Command.{Command}
@@ -22,6 +22,14 @@ others_in worker rs = filter (λ r. not (is_own_call worker r.command)) rs
 abbrev pub others_from : ℕ → List (List Receipt) → List (List Receipt)
 others_from worker [] = []
 others_from worker (rs ∷ more) = others_in worker rs ∷ others_from (suc worker) more
+
+-- what something made since then is own calls of the worker alone
+abbrev pub AddsOwn : {A : Type 0} → ℕ → (A → List Receipt) → A → A → Type 0
+AddsOwn worker made old new = others_in worker (made new) ≡ others_in worker (made old)
+
+-- each of these made own calls of its worker alone since then; the first one has worker 0, and so on
+abbrev pub AddOwn : {A : Type 0} → (A → List Receipt) → List A → List A → Type 0
+AddOwn made old new = others_from 0 (map made new) ≡ others_from 0 (map made old)
 
 abbrev pub receipts_of : SeatView → List Receipt
 receipts_of s = s.receipts

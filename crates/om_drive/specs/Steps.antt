@@ -1,5 +1,5 @@
 -- The steps that calls made.
-use Rattle.std.specs.Prelude.{ℕ, suc, Bool, true, false, cond, List, [], ◌∷◌}
+use Rattle.std.specs.Prelude.{◌≡◌, ◌+◌, ℕ, suc, Bool, true, false, cond, List, [], ◌∷◌, sum_by}
 use Rattle.om_journal.specs.Runs.{is_step_made}
 use Rattle.om_book.specs.Seats.{SeatView}
 use Rattle.om_journal.specs.declared.command.Command.{Command}
@@ -20,3 +20,23 @@ steps_in (r ∷ rs) = cond (makes_step r.command r.reply) (suc (steps_in rs)) (s
 -- how many steps a seat made
 abbrev pub steps_of : SeatView → ℕ
 steps_of s = steps_in s.receipts
+
+-- something made so many steps since then
+abbrev pub MakesSteps : {A : Type 0} → (A → List Receipt) → A → A → ℕ → Type 0
+MakesSteps made old new n = steps_in (made new) ≡ steps_in (made old) + n
+
+-- it made one step since then, or none
+abbrev pub StepIf : {A : Type 0} → (A → List Receipt) → A → A → Bool → Type 0
+StepIf made old new step = MakesSteps made old new (cond step 1 0)
+
+-- it made none
+abbrev pub NoStep : {A : Type 0} → (A → List Receipt) → A → A → Type 0
+NoStep made old new = steps_in (made new) ≡ steps_in (made old)
+
+-- how many steps all of these made
+abbrev pub steps_by : {A : Type 0} → (A → List Receipt) → List A → ℕ
+steps_by made xs = sum_by (λ x. steps_in (made x)) xs
+
+-- all of these made so many steps since then
+abbrev pub AllMakeSteps : {A : Type 0} → (A → List Receipt) → List A → List A → ℕ → Type 0
+AllMakeSteps made old new n = steps_by made new ≡ steps_by made old + n

@@ -1,7 +1,9 @@
 //! Workers in threads of their own, asked round by round. No command needs it: om_checks alone drives workers.
 
-ghost use Rattle.std.specs.Prelude.{◌≡◌, ◌≤◌, ◌+◌, ◌++◌, [], IfOk, IfErr, None, Some, length, vec_len, vec_capacity, map};
-ghost use Rattle.om_book.specs.Rounds.{answer_number, in_rounds, Begins};
+ghost use Rattle.std.specs.Prelude.{◌≡◌, ◌≤◌, [], IfOk, IfErr, None, Some, length, vec_len, vec_capacity, map};
+ghost use Rattle.om_book.specs.Rounds.{numbers_of};
+ghost use Rattle.om_drive.specs.Answered.{AddsAll, AddsSome, AnswerAll, AnswerSome};
+ghost use Rattle.om_drive.specs.Calls.{ComeBack, HasRoomFor};
 
 use crate::rounds::{ask_all, push_within};
 use crate::worker::{Debuggee, Gate, Worker};
@@ -38,10 +40,8 @@ pub fn drive_over<G: Gate + Drop + Send, D: Debuggee + Drop + Send, R: Threads +
     requires gates { vec_len gates ≡ vec_len debuggees }
     requires lists { length orders.now ≡ vec_len debuggees }
     ensures back { map D.place result.debuggees.items ≡ map D.place debuggees.items }
-    ensures part { Begins [] (map answer_number result.answers.items)
-        (in_rounds (λ o. o.items) orders.now) }
-    ensures all { result.fault ≡ None → map answer_number result.answers.items
-        ≡ in_rounds (λ o. o.items) orders.now }
+    ensures part { AnswerSome (numbers_of orders.now) result.answers }
+    ensures all { result.fault ≡ None → AnswerAll (numbers_of orders.now) result.answers }
 {
     let alloc = *debuggees.allocator();
     let Ok(back) = Vec::with_capacity(alloc, debuggees.len()) else {
@@ -62,16 +62,14 @@ pub fn drive_over<G: Gate + Drop + Send, D: Debuggee + Drop + Send, R: Threads +
         scope_env(),
         rt,
         move |scope| -> DrivenOver<D>
-            requires room { vec_len drive.ranks.back + vec_len drive.ranks.waiting
-                ≤ vec_capacity drive.ranks.back }
+            requires room { HasRoomFor (vec_len drive.ranks.waiting) drive.ranks.back }
             requires none { drive.ranks.back.items ≡ [] }
             requires new { drive.ring.answers.items ≡ [] }
             ensures back { map D.place result.debuggees.items
                 ≡ map D.place drive.ranks.waiting.items }
-            ensures part { Begins [] (map answer_number result.answers.items)
-                (in_rounds (λ o. o.items) orders.entry.now) }
-            ensures all { result.fault ≡ None → map answer_number result.answers.items
-                ≡ in_rounds (λ o. o.items) orders.entry.now }
+            ensures part { AnswerSome (numbers_of orders.entry.now) result.answers }
+            ensures all { result.fault ≡ None
+                → AnswerAll (numbers_of orders.entry.now) result.answers }
         { drive_in(scope, rt, orders, drive) },
     )
 }
@@ -85,15 +83,12 @@ fn drive_in<
     D: Debuggee + Drop + Send + 's,
     R: Threads + Wait + Sync,
 >(scope: &Scope<'s, E>, rt: &'s R, orders: &[Vec<Order>], drive: Drive<G, D>) -> DrivenOver<D>
-    requires room { vec_len drive.ranks.back + vec_len drive.ranks.waiting
-        ≤ vec_capacity drive.ranks.back }
+    requires room { HasRoomFor (vec_len drive.ranks.waiting) drive.ranks.back }
     requires none { drive.ranks.back.items ≡ [] }
     requires new { drive.ring.answers.items ≡ [] }
     ensures back { map D.place result.debuggees.items ≡ map D.place drive.ranks.waiting.items }
-    ensures part { Begins [] (map answer_number result.answers.items)
-        (in_rounds (λ o. o.items) orders.now) }
-    ensures all { result.fault ≡ None → map answer_number result.answers.items
-        ≡ in_rounds (λ o. o.items) orders.now }
+    ensures part { AnswerSome (numbers_of orders.now) result.answers }
+    ensures all { result.fault ≡ None → AnswerAll (numbers_of orders.now) result.answers }
 {
     let Drive {
         mut ring,
@@ -132,14 +127,12 @@ fn drive_from<
     D: Debuggee + Drop + Send + 's,
     R: Threads + Wait + Sync,
 >(scope: &Scope<'s, E>, rt: &'s R, orders: &[Vec<Order>], ring: &mut Ring<G>, ranks: &mut Ranks<D>)
-    requires { vec_len ranks.old.back + vec_len ranks.old.waiting ≤ vec_capacity ranks.old.back }
-    ensures back { map D.place ranks.new.back.items
-        ≡ map D.place ranks.old.back.items ++ map D.place ranks.old.waiting.items }
+    requires { HasRoomFor (vec_len ranks.old.waiting) ranks.old.back }
+    ensures back { ComeBack D.place ranks.old.waiting ranks.old.back ranks.new.back }
     ensures capacity { vec_capacity ranks.old.back ≤ vec_capacity ranks.new.back }
-    ensures part { Begins (map answer_number ring.old.answers.items)
-        (map answer_number ring.new.answers.items) (in_rounds (λ o. o.items) orders.now) }
-    ensures all { ring.new.fault ≡ None → map answer_number ring.new.answers.items
-        ≡ map answer_number ring.old.answers.items ++ in_rounds (λ o. o.items) orders.now }
+    ensures part { AddsSome (numbers_of orders.now) ring.old.answers ring.new.answers }
+    ensures all { ring.new.fault ≡ None
+        → AddsAll (numbers_of orders.now) ring.old.answers ring.new.answers }
 {
     let Some(debuggee) = ranks.waiting.pop() else {
         ring.ask(rt, orders);
@@ -289,10 +282,9 @@ impl<G: Drop> Ring<G> {
     // Asks all orders, and lets go of the ends, so that the workers end.
     #[tactic(auto, using(crate::proofs::Rounding::begins_none, crate::proofs::Rounding::begins_all))]
     fn ask<R: Wait>(&mut self, rt: &R, orders: &[Vec<Order>])
-        ensures part { Begins (map answer_number self.old.answers.items)
-            (map answer_number self.new.answers.items) (in_rounds (λ o. o.items) orders.now) }
-        ensures all { self.new.fault ≡ None → map answer_number self.new.answers.items
-            ≡ map answer_number self.old.answers.items ++ in_rounds (λ o. o.items) orders.now }
+        ensures part { AddsSome (numbers_of orders.now) self.old.answers self.new.answers }
+        ensures all { self.new.fault ≡ None
+            → AddsAll (numbers_of orders.now) self.old.answers self.new.answers }
     {
         if self.fault.is_none() {
             self.fault = asked(
@@ -318,11 +310,8 @@ fn asked<R: Wait>(
     orders: &[Vec<Order>],
     answers: &mut Vec<Answer>,
 ) -> Option<Fault>
-    ensures part { Begins (map answer_number answers.old.items)
-        (map answer_number answers.new.items)
-        (in_rounds (λ o. o.items) orders.now) }
-    ensures all { result ≡ None → map answer_number answers.new.items
-        ≡ map answer_number answers.old.items ++ in_rounds (λ o. o.items) orders.now }
+    ensures part { AddsSome (numbers_of orders.now) answers.old answers.new }
+    ensures all { result ≡ None → AddsAll (numbers_of orders.now) answers.old answers.new }
 {
     if senders.len() != orders.len() || receivers.len() != orders.len() {
         return Some(Fault::Memory);

@@ -2,8 +2,9 @@
 
 ghost use Rattle.std.specs.Prelude.{◌≡◌, ◌<◌, ◌≤◌, ◌+◌, ◌*◌, ◌^◌, ◌++◌, ◌∷◌, [], IfOk, IfErr, vec_len, vec_capacity, map, sum_by};
 ghost use Rattle.om_book.specs.Standing.{number_of};
-ghost use Rattle.om_drive.specs.OwnCalls.{others_in, others_from, receipts_of};
-ghost use Rattle.om_drive.specs.Steps.{steps_in, steps_of};
+ghost use Rattle.om_drive.specs.Calls.{ComeBack, HasRoomFor};
+ghost use Rattle.om_drive.specs.OwnCalls.{AddOwn, AddsOwn, receipts_of};
+ghost use Rattle.om_drive.specs.Steps.{AllMakeSteps, MakesSteps, steps_by, steps_of};
 
 use crate::rounds::push_within;
 use crate::runner::{Ran, Runner};
@@ -47,8 +48,7 @@ pub fn free<L: Sitting + Send + Sync, G: Gate + Drop + Send, R: Threads + Wait +
     ensures back { map number_of result.seats.items ≡ map number_of seats.items }
     ensures done { sum_by steps_of result.seats.items
         ≡ sum_by steps_of seats.items + result.done }
-    ensures own { others_from 0 (map receipts_of result.seats.items)
-        ≡ others_from 0 (map receipts_of seats.items) }
+    ensures own { AddOwn receipts_of seats.items result.seats.items }
 {
     let alloc = *seats.allocator();
     let Ok(mut sitters) = Vec::with_capacity(alloc, seats.len()) else {
@@ -81,10 +81,8 @@ fn free_over<G: Gate + Drop + Send, D: Debuggee + Drop + Send, R: Threads + Wait
     requires gates { vec_len gates ≡ vec_len debuggees }
     requires few { vec_len debuggees ≤ 64 }
     ensures back { map D.place result.0.items ≡ map D.place debuggees.items }
-    ensures done { sum_by (λ d. steps_in (D.made d)) result.0.items
-        ≡ sum_by (λ d. steps_in (D.made d)) debuggees.items + result.1.done }
-    ensures own { others_from 0 (map D.made result.0.items)
-        ≡ others_from 0 (map D.made debuggees.items) }
+    ensures done { AllMakeSteps D.made debuggees.items result.0.items result.1.done }
+    ensures own { AddOwn D.made debuggees.items result.0.items }
 {
     let tally = Tally {
         done: 0,
@@ -104,16 +102,14 @@ fn free_over<G: Gate + Drop + Send, D: Debuggee + Drop + Send, R: Threads + Wait
         scope_env(),
         rt,
         move |scope| -> (Vec<D>, Tally)
-            requires room { vec_len line.back + vec_len line.waiting ≤ vec_capacity line.back }
+            requires room { HasRoomFor (vec_len line.waiting) line.back }
             requires paired { vec_len line.gates ≡ vec_len line.waiting }
             requires few { vec_len line.waiting ≤ 64 }
             requires none { line.back.items ≡ [] }
             requires nothing { line.tally.done ≡ 0 }
             ensures back { map D.place result.0.items ≡ map D.place line.waiting.items }
-            ensures done { sum_by (λ d. steps_in (D.made d)) result.0.items
-                ≡ sum_by (λ d. steps_in (D.made d)) line.waiting.items + result.1.done }
-            ensures own { others_from 0 (map D.made result.0.items)
-                ≡ others_from 0 (map D.made line.waiting.items) }
+            ensures done { AllMakeSteps D.made line.waiting.items result.0.items result.1.done }
+            ensures own { AddOwn D.made line.waiting.items result.0.items }
         { free_in(scope, rt, rounds, line) },
     )
 }
@@ -144,16 +140,14 @@ fn free_in<
     D: Debuggee + Drop + Send + 's,
     R: Threads + Wait + Sync,
 >(scope: &Scope<'s, E>, rt: &'s R, rounds: u32, mut line: Line<D, G>) -> (Vec<D>, Tally)
-    requires room { vec_len line.back + vec_len line.waiting ≤ vec_capacity line.back }
+    requires room { HasRoomFor (vec_len line.waiting) line.back }
     requires paired { vec_len line.gates ≡ vec_len line.waiting }
     requires few { vec_len line.waiting ≤ 64 }
     requires none { line.back.items ≡ [] }
     requires nothing { line.tally.done ≡ 0 }
     ensures back { map D.place result.0.items ≡ map D.place line.waiting.items }
-    ensures done { sum_by (λ d. steps_in (D.made d)) result.0.items
-        ≡ sum_by (λ d. steps_in (D.made d)) line.waiting.items + result.1.done }
-    ensures own { others_from 0 (map D.made result.0.items)
-        ≡ others_from 0 (map D.made line.waiting.items) }
+    ensures done { AllMakeSteps D.made line.waiting.items result.0.items result.1.done }
+    ensures own { AddOwn D.made line.waiting.items result.0.items }
 {
     free_from(scope, rt, rounds, &mut line);
     let Line { back, tally, .. } = line;
@@ -168,18 +162,16 @@ fn free_from<
     D: Debuggee + Drop + Send + 's,
     R: Threads + Wait + Sync,
 >(scope: &Scope<'s, E>, rt: &'s R, rounds: u32, line: &mut Line<D, G>)
-    requires room { vec_len line.old.back + vec_len line.old.waiting ≤ vec_capacity line.old.back }
+    requires room { HasRoomFor (vec_len line.old.waiting) line.old.back }
     requires paired { vec_len line.old.gates ≡ vec_len line.old.waiting }
     requires few { vec_len line.old.waiting ≤ 64 }
     requires none { line.old.back.items ≡ [] }
     requires small { line.old.tally.done + vec_len line.old.waiting * 2 ^ 32 < 2 ^ 63 }
-    ensures back { map D.place line.new.back.items
-        ≡ map D.place line.old.back.items ++ map D.place line.old.waiting.items }
-    ensures done { sum_by (λ d. steps_in (D.made d)) line.new.back.items + line.old.tally.done
-        ≡ sum_by (λ d. steps_in (D.made d)) line.old.back.items
-        + sum_by (λ d. steps_in (D.made d)) line.old.waiting.items + line.new.tally.done }
-    ensures own { others_from 0 (map D.made line.new.back.items)
-        ≡ others_from 0 (map D.made line.old.waiting.items) }
+    ensures back { ComeBack D.place line.old.waiting line.old.back line.new.back }
+    ensures done { steps_by D.made line.new.back.items + line.old.tally.done
+        ≡ steps_by D.made line.old.back.items + steps_by D.made line.old.waiting.items
+        + line.new.tally.done }
+    ensures own { AddOwn D.made line.old.waiting.items line.new.back.items }
     ensures small { line.new.tally.done ≤ line.old.tally.done + vec_len line.old.waiting * 2 ^ 32 }
     ensures capacity { vec_capacity line.old.back ≤ vec_capacity line.new.back }
 {
@@ -213,14 +205,13 @@ fn free_from<
 struct Counted<G: Gate + Drop, D: Debuggee + Drop>(Snapshot<Runner<G, D>>);
 
 impl<G: Gate + Drop, D: Debuggee + Drop> Promise<Ran<D>> for Counted<G, D> {
-    ghost use Rattle.std.specs.Prelude.{◌≡◌, ◌+◌};
-    ghost use Rattle.om_drive.specs.OwnCalls.{others_in};
-    ghost use Rattle.om_drive.specs.Steps.{steps_in};
+    ghost use Rattle.std.specs.Prelude.{◌≡◌};
+    ghost use Rattle.om_drive.specs.OwnCalls.{AddsOwn};
+    ghost use Rattle.om_drive.specs.Steps.{MakesSteps};
 
     ghost kept_by = { λ p r. (D.place r.debuggee ≡ D.place p.0.value.debuggee)
-        × (steps_in (D.made r.debuggee) ≡ steps_in (D.made p.0.value.debuggee) + r.done)
-        × (others_in p.0.value.worker (D.made r.debuggee)
-        ≡ others_in p.0.value.worker (D.made p.0.value.debuggee)) };
+        × MakesSteps D.made p.0.value.debuggee r.debuggee r.done
+        × AddsOwn p.0.value.worker D.made p.0.value.debuggee r.debuggee };
 }
 
 // Starts a worker's thread. Where there is none, the worker makes its rounds here.
@@ -238,10 +229,8 @@ fn start<
 ) -> Result<PromisedHandle<Ran<D>, Counted<G, D>>, Ran<D>>
     ensures started { IfOk result (λ thread. thread.promise.0.value ≡ runner) }
     ensures place { IfErr result (λ ran. D.place ran.debuggee ≡ D.place runner.debuggee) }
-    ensures steps { IfErr result
-        (λ ran. steps_in (D.made ran.debuggee) ≡ steps_in (D.made runner.debuggee) + ran.done) }
-    ensures own { IfErr result (λ ran. others_in runner.worker (D.made ran.debuggee)
-        ≡ others_in runner.worker (D.made runner.debuggee)) }
+    ensures steps { IfErr result (λ ran. MakesSteps D.made runner.debuggee ran.debuggee ran.done) }
+    ensures own { IfErr result (λ ran. AddsOwn runner.worker D.made runner.debuggee ran.debuggee) }
 {
     let promise = Counted(Snapshot::of(&runner));
     match scope.spawn_with(promise, move || runner.run(rt, rounds)) {

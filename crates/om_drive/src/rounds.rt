@@ -1,8 +1,9 @@
 //! Rounds: in each, every list that still has an order gets its next one asked and answered. No command needs
 //! it: om_checks alone drives workers.
 
-ghost use Rattle.std.specs.Prelude.{◌≡◌, ℕ, ◌<◌, ◌≤◌, ◌+◌, ◌++◌, ◌∷◌, [], IfOk, OnOk, OnErr, None, length, vec_len, vec_capacity, map, take};
-ghost use Rattle.om_book.specs.Rounds.{answer_number, listed, round_at, in_rounds, Begins};
+ghost use Rattle.std.specs.Prelude.{◌≡◌, ℕ, ◌<◌, ◌≤◌, ◌+◌, ◌++◌, ◌∷◌, [], IfOk, OnOk, OnErr, None, length, vec_len, vec_capacity, take};
+ghost use Rattle.om_book.specs.Rounds.{listed, numbers_at, numbers_of};
+ghost use Rattle.om_drive.specs.Answered.{AddsAll, AddsSome, AnswerAll};
 
 use crossbeam_channel::{Receiver, SendError, Sender};
 use om_book::{Answer, Fault, Order, most_rounds, order_at};
@@ -28,8 +29,7 @@ pub fn gather<R: Wait>(
     numbers: &[u64],
 ) -> Gathered
     requires { length receivers.now ≡ length numbers.now }
-    ensures answered { map answer_number result.answers.items
-        ≡ take (vec_len result.answers) numbers.now }
+    ensures answered { AnswerAll (take (vec_len result.answers) numbers.now) result.answers }
     ensures most { vec_len result.answers ≤ length numbers.now }
     ensures all { result.fault ≡ None → vec_len result.answers ≡ length numbers.now }
 {
@@ -55,8 +55,7 @@ fn await_one<R: Wait>(
     number: u64,
     answers: &mut Vec<Answer>,
 ) -> Result<(), Fault>
-    ensures ok { OnOk result (map answer_number answers.new.items
-        ≡ map answer_number answers.old.items ++ number ∷ []) }
+    ensures ok { OnOk result (AddsAll (number ∷ []) answers.old answers.new) }
     ensures one_more { OnOk result (vec_len answers.new ≡ vec_len answers.old + 1) }
     ensures err { OnErr result (answers.new.items ≡ answers.old.items) }
 {
@@ -101,8 +100,7 @@ fn awaited_in(
     round: usize,
 ) -> Result<Awaited, AllocError>
     requires { length receivers.now ≡ length orders.now }
-    ensures numbers { IfOk result (λ awaited. awaited.numbers.items
-        ≡ round_at (λ o. o.items) round orders.now) }
+    ensures numbers { IfOk result (λ awaited. awaited.numbers.items ≡ numbers_at round orders.now) }
     ensures paired { IfOk result (λ awaited. vec_len awaited.receivers
         ≡ vec_len awaited.numbers) }
 {
@@ -142,11 +140,8 @@ fn take_round<R: Wait>(
     answers: &mut Vec<Answer>,
 ) -> Result<(), Fault>
     requires { length receivers.now ≡ length orders.now }
-    ensures ok { OnOk result (map answer_number answers.new.items
-        ≡ map answer_number answers.old.items ++ round_at (λ o. o.items) round orders.now) }
-    ensures err { OnErr result (Begins (map answer_number answers.old.items)
-        (map answer_number answers.new.items)
-        (round_at (λ o. o.items) round orders.now)) }
+    ensures ok { OnOk result (AddsAll (numbers_at round orders.now) answers.old answers.new) }
+    ensures err { OnErr result (AddsSome (numbers_at round orders.now) answers.old answers.new) }
 {
     let Ok(awaited) = awaited_in(*answers.allocator(), receivers, orders, round) else {
         return Err(Fault::Memory);
@@ -158,10 +153,8 @@ fn take_round<R: Wait>(
 #[tactic(auto, using(crate::proofs::Rounding::begins_none, crate::proofs::Rounding::gathered_all, crate::proofs::Rounding::gathered_some))]
 fn take_all<R: Wait>(rt: &R, awaited: Awaited, answers: &mut Vec<Answer>) -> Result<(), Fault>
     requires { vec_len awaited.receivers ≡ vec_len awaited.numbers }
-    ensures ok { OnOk result (map answer_number answers.new.items
-        ≡ map answer_number answers.old.items ++ awaited.numbers.items) }
-    ensures err { OnErr result (Begins (map answer_number answers.old.items)
-        (map answer_number answers.new.items) awaited.numbers.items) }
+    ensures ok { OnOk result (AddsAll awaited.numbers.items answers.old answers.new) }
+    ensures err { OnErr result (AddsSome awaited.numbers.items answers.old answers.new) }
 {
     if answers.reserve(awaited.numbers.len()).is_err() {
         return Err(Fault::Memory);
@@ -223,11 +216,8 @@ pub(crate) fn ask_all<R: Wait>(
 ) -> Result<(), Fault>
     requires { (length senders.now ≡ length orders.now)
         × (length receivers.now ≡ length orders.now) }
-    ensures ok { OnOk result (map answer_number answers.new.items
-        ≡ map answer_number answers.old.items ++ in_rounds (λ o. o.items) orders.now) }
-    ensures err { OnErr result (Begins (map answer_number answers.old.items)
-        (map answer_number answers.new.items)
-        (in_rounds (λ o. o.items) orders.now)) }
+    ensures ok { OnOk result (AddsAll (numbers_of orders.now) answers.old answers.new) }
+    ensures err { OnErr result (AddsSome (numbers_of orders.now) answers.old answers.new) }
 {
     let most = most_rounds(orders);
     for round in 0..most {

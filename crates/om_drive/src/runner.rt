@@ -1,9 +1,9 @@
 //! A worker that runs freely: it makes its rounds over one debuggee, behind a gate.
 
-ghost use Rattle.std.specs.Prelude.{◌≡◌, ◌<◌, ◌≤◌, ◌+◌, cond, IfOk, OnErr};
+ghost use Rattle.std.specs.Prelude.{◌≡◌, ◌<◌, IfOk, OnErr};
 ghost use Rattle.om_journal.specs.Runs.{IsInRange};
-ghost use Rattle.om_drive.specs.OwnCalls.{others_in};
-ghost use Rattle.om_drive.specs.Steps.{makes_step, steps_in};
+ghost use Rattle.om_drive.specs.OwnCalls.{AddsOwn};
+ghost use Rattle.om_drive.specs.Steps.{MakesSteps, NoStep, StepIf};
 
 use crate::worker::{Debuggee, Gate, says_yes};
 use om_book::{CallError, Command, Query, Reply};
@@ -45,10 +45,8 @@ impl<G: Gate + Drop, D: Debuggee + Drop> Runner<G, D> {
     /// of range makes none. All calls are the worker's own.
     pub(crate) fn run<R: Wait>(mut self, rt: &R, rounds: u32) -> Ran<D>
         ensures place { D.place result.debuggee ≡ D.place self.debuggee }
-        ensures steps { steps_in (D.made result.debuggee)
-            ≡ steps_in (D.made self.debuggee) + result.done }
-        ensures own { others_in self.worker (D.made result.debuggee)
-            ≡ others_in self.worker (D.made self.debuggee) }
+        ensures steps { MakesSteps D.made self.debuggee result.debuggee result.done }
+        ensures own { AddsOwn self.worker D.made self.debuggee result.debuggee }
     {
         let mut done = 0;
         let mut error = None;
@@ -67,10 +65,8 @@ impl<G: Gate + Drop, D: Debuggee + Drop> Runner<G, D> {
     fn make_rounds<R: Wait>(&mut self, rt: &R, rounds: u32) -> (u32, Option<CallError>)
         requires { self.old.worker < (D.place self.old.debuggee).workers }
         ensures place { D.place self.new.debuggee ≡ D.place self.old.debuggee }
-        ensures steps { steps_in (D.made self.new.debuggee)
-            ≡ steps_in (D.made self.old.debuggee) + result.0 }
-        ensures own { others_in self.old.worker (D.made self.new.debuggee)
-            ≡ others_in self.old.worker (D.made self.old.debuggee) }
+        ensures steps { MakesSteps D.made self.old.debuggee self.new.debuggee result.0 }
+        ensures own { AddsOwn self.old.worker D.made self.old.debuggee self.new.debuggee }
     {
         let mut done = 0;
         for round in 0..rounds {
@@ -90,12 +86,9 @@ impl<G: Gate + Drop, D: Debuggee + Drop> Runner<G, D> {
         requires { self.old.worker < (D.place self.old.debuggee).workers }
         ensures place { D.place self.new.debuggee ≡ D.place self.old.debuggee }
         ensures worker { self.new.worker ≡ self.old.worker }
-        ensures steps { IfOk result (λ made. steps_in (D.made self.new.debuggee)
-            ≡ steps_in (D.made self.old.debuggee) + cond made 1 0) }
-        ensures none_on_error { OnErr result
-            (steps_in (D.made self.new.debuggee) ≡ steps_in (D.made self.old.debuggee)) }
-        ensures own { others_in self.old.worker (D.made self.new.debuggee)
-            ≡ others_in self.old.worker (D.made self.old.debuggee) }
+        ensures steps { IfOk result (StepIf D.made self.old.debuggee self.new.debuggee) }
+        ensures none_on_error { OnErr result (NoStep D.made self.old.debuggee self.new.debuggee) }
+        ensures own { AddsOwn self.old.worker D.made self.old.debuggee self.new.debuggee }
     {
         let tried = self.step(rt, Choice::Next)?;
         if tried.waits && !tried.made {
@@ -109,12 +102,9 @@ impl<G: Gate + Drop, D: Debuggee + Drop> Runner<G, D> {
         requires { self.old.worker < (D.place self.old.debuggee).workers }
         ensures place { D.place self.new.debuggee ≡ D.place self.old.debuggee }
         ensures worker { self.new.worker ≡ self.old.worker }
-        ensures steps { IfOk result (λ made. steps_in (D.made self.new.debuggee)
-            ≡ steps_in (D.made self.old.debuggee) + cond made 1 0) }
-        ensures none_on_error { OnErr result
-            (steps_in (D.made self.new.debuggee) ≡ steps_in (D.made self.old.debuggee)) }
-        ensures own { others_in self.old.worker (D.made self.new.debuggee)
-            ≡ others_in self.old.worker (D.made self.old.debuggee) }
+        ensures steps { IfOk result (StepIf D.made self.old.debuggee self.new.debuggee) }
+        ensures none_on_error { OnErr result (NoStep D.made self.old.debuggee self.new.debuggee) }
+        ensures own { AddsOwn self.old.worker D.made self.old.debuggee self.new.debuggee }
     {
         let Some(task) = self.first_ready(rt)? else {
             return Ok(false);
@@ -127,9 +117,8 @@ impl<G: Gate + Drop, D: Debuggee + Drop> Runner<G, D> {
     fn first_ready<R: Wait>(&mut self, rt: &R) -> Result<Option<Name>, CallError>
         ensures place { D.place self.new.debuggee ≡ D.place self.old.debuggee }
         ensures worker { self.new.worker ≡ self.old.worker }
-        ensures steps { steps_in (D.made self.new.debuggee) ≡ steps_in (D.made self.old.debuggee) }
-        ensures own { others_in self.old.worker (D.made self.new.debuggee)
-            ≡ others_in self.old.worker (D.made self.old.debuggee) }
+        ensures steps { NoStep D.made self.old.debuggee self.new.debuggee }
+        ensures own { AddsOwn self.old.worker D.made self.old.debuggee self.new.debuggee }
     {
         let reply = self.debuggee.call(rt, Command::Look(Query::Ready))?;
         let first = first_name(&reply);
@@ -142,12 +131,10 @@ impl<G: Gate + Drop, D: Debuggee + Drop> Runner<G, D> {
         requires { self.old.worker < (D.place self.old.debuggee).workers }
         ensures place { D.place self.new.debuggee ≡ D.place self.old.debuggee }
         ensures worker { self.new.worker ≡ self.old.worker }
-        ensures steps { IfOk result (λ tried. steps_in (D.made self.new.debuggee)
-            ≡ steps_in (D.made self.old.debuggee) + cond tried.made 1 0) }
-        ensures none_on_error { OnErr result
-            (steps_in (D.made self.new.debuggee) ≡ steps_in (D.made self.old.debuggee)) }
-        ensures own { others_in self.old.worker (D.made self.new.debuggee)
-            ≡ others_in self.old.worker (D.made self.old.debuggee) }
+        ensures steps { IfOk result (λ tried. StepIf D.made self.old.debuggee self.new.debuggee
+            tried.made) }
+        ensures none_on_error { OnErr result (NoStep D.made self.old.debuggee self.new.debuggee) }
+        ensures own { AddsOwn self.old.worker D.made self.old.debuggee self.new.debuggee }
     {
         let worker = self.worker;
         let reply = self.debuggee.call(rt, Command::Step { worker, choice })?;

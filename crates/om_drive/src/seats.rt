@@ -1,10 +1,10 @@
 //! Drives over the seats of a session. No command needs it: om_checks alone drives seats.
 
-ghost use Rattle.std.specs.Prelude.{◌≡◌, ◌≢◌, [], None, Some, All, IfOk, length, vec_len, map};
-ghost use Rattle.std.specs.List.{AllPairs};
+ghost use Rattle.std.specs.Prelude.{◌≡◌, [], None, Some, IfOk, length, vec_len, map};
 ghost use Rattle.om_book.specs.Standing.{number_of};
-ghost use Rattle.om_book.specs.Rounds.{answer_number, in_rounds};
-ghost use Rattle.om_book.specs.Backing.{AreKept, in_turns, IsOfOne, Keeps};
+ghost use Rattle.om_book.specs.Rounds.{numbers_of, NumbersDiffer};
+ghost use Rattle.om_book.specs.Backing.{AllBacked, KeepsBacked, KeptOfOrders};
+ghost use Rattle.om_drive.specs.Answered.{AnswerAll};
 
 use crate::driving::{DrivenOver, drive_over};
 use crate::rounds::Gathered;
@@ -45,14 +45,11 @@ pub fn drive<L: Sitting + Send + Sync, G: Gate + Drop + Send, R: Threads + Wait 
 ) -> Driven<L>
     requires gates { vec_len gates ≡ vec_len seats }
     requires lists { length orders.now ≡ vec_len seats }
-    requires differ { AllPairs (λ n m. n ≢ m) (in_rounds (λ o. o.items) orders.now) }
+    requires differ { NumbersDiffer (numbers_of orders.now) }
     ensures back { map number_of result.seats.items ≡ map number_of seats.items }
-    ensures kept { AreKept (in_rounds (λ o. o.items) orders.now)
-        (in_turns (λ o. o.items) result.seats.items orders.now) result.answers.items }
-    ensures all { result.fault ≡ None → map answer_number result.answers.items
-        ≡ in_rounds (λ o. o.items) orders.now }
-    ensures backed { All (IsOfOne (in_turns (λ o. o.items) result.seats.items orders.now))
-        result.answers.items }
+    ensures kept { KeptOfOrders result.seats.items orders.now result.answers }
+    ensures all { result.fault ≡ None → AnswerAll (numbers_of orders.now) result.answers }
+    ensures backed { AllBacked result.seats.items orders.now result.answers }
 {
     let alloc = *seats.allocator();
     let Ok(mut sitters) = Vec::with_capacity(alloc, seats.len()) else {
@@ -108,10 +105,8 @@ fn compared<L: Sitting>(
     requires lists { length orders.now ≡ vec_len seats }
     requires marks { vec_len marks ≡ vec_len seats }
     ensures seats { result.seats.items ≡ seats.items }
-    ensures kept { Keeps (in_turns (λ o. o.items) result.seats.items orders.now) came.answers.items
-        result.answers.items }
-    ensures backed { All (IsOfOne (in_turns (λ o. o.items) result.seats.items orders.now))
-        result.answers.items }
+    ensures kept { KeepsBacked result.seats.items orders.now came.answers result.answers }
+    ensures backed { AllBacked result.seats.items orders.now result.answers }
     ensures none { result.fault ≡ None → came.fault ≡ None }
     ensures all { result.fault ≡ None → result.answers.items ≡ came.answers.items }
 {
