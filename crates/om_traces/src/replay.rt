@@ -1,13 +1,11 @@
 //! The steps of a history, made again one by one, with what each touched and did.
 
-ghost use Rattle.std.specs.Prelude.{◌≡◌, ◌≤◌, ◌<◌, ◌^◌, map, length, IfOk, OnOk};
-ghost use Rattle.om_values.specs.Rules.{Rules};
+ghost use Rattle.std.specs.Prelude.{◌≡◌, ◌≤◌, ◌<◌, ◌^◌, length, IfOk, OnOk};
 ghost use Rattle.om_task.specs.Rules.{rules_of};
 ghost use Rattle.om_history.specs.Runs.{label_of};
-ghost use Rattle.om_history.specs.Cones.{transitions};
 ghost use Rattle.om_history.specs.Pasts.{past_in, IsHeld};
-ghost use Rattle.om_undo.specs.Machines.{rules_for, IsPlan};
-ghost use Rattle.om_traces.specs.Traces.{transition_of, CanReplay, CanBeMade, footprint_for, transition_for, IsLonger};
+ghost use Rattle.om_undo.specs.Machines.{IsPlan};
+ghost use Rattle.om_traces.specs.Traces.{CanBeMade, CanReplay, HasStep, IsForStep, IsTouched, IsTraced, Remakes, replayed, traced, transitions_of};
 
 use crate::words::{Spoken, Words};
 use om_code::Program;
@@ -26,8 +24,7 @@ use std::alloc::{AllocError, Global};
 /// The steps of a machine's history, each with what it touched and did at its place in the replay.
 /// They are made again, each once. The only error is out of memory.
 pub fn trace(alloc: Global, machine: &Machine) -> Result<Vec<Traced>, AllocError>
-    ensures { IfOk result (λ steps. map transition_of steps.items
-        ≡ transitions (rules_for machine.now) machine.now.history.entries) }
+    ensures { IfOk result (λ steps. traced steps.items ≡ transitions_of machine.now) }
 {
     let entries = machine.history(alloc)?;
     retraced(alloc, machine.program(), machine.workers(), &entries)
@@ -44,8 +41,7 @@ fn retraced(
     requires at_least_one { 1 ≤ workers }
     requires few { length entries.now < 2 ^ 63 }
     requires replayed { CanReplay (rules_of program.now workers) entries.now }
-    ensures { IfOk result (λ steps. map transition_of steps.items
-        ≡ transitions (rules_of program.now workers) entries.now) }
+    ensures { IfOk result (λ steps. traced steps.items ≡ replayed program.now workers entries.now) }
 {
     steady_rules();
     shaped_rules();
@@ -72,10 +68,8 @@ fn traced(
     requires some { 1 ≤ workers }
     requires few_made { (past_in history.old).made < 2 ^ 63 }
     requires made { CanBeMade (rules_of program.now workers) history.old (label_of entry.now) }
-    ensures noted { IfOk result (λ step. transition_of step
-        ≡ transition_for (rules_of program.now workers) history.old entry.now) }
-    ensures longer { OnOk result (IsLonger (rules_of program.now workers) history.old history.new
-        (label_of entry.now)) }
+    ensures noted { IfOk result (IsTraced program.now workers history.old entry.now) }
+    ensures longer { OnOk result (Remakes program.now workers history.old history.new entry.now) }
 {
     let label = label_of(entry);
     let plan = planned(alloc, program, workers, history, &label)?;
@@ -121,8 +115,7 @@ fn planned(
 ) -> Result<Plan, AllocError>
     requires held { IsHeld (rules_of program.now workers) history.now }
     requires some { 1 ≤ workers }
-    ensures { IfOk result
-        (λ plan. IsPlan (rules_of program.now workers) history.now label.now plan) }
+    ensures { IfOk result (IsPlan (rules_of program.now workers) history.now label.now) }
 {
     low_counters();
     plan(alloc, program, history.store(), workers, label)
@@ -152,12 +145,9 @@ fn remade(
     plan: Plan,
 ) -> Result<Seq<Access>, AllocError>
     requires few_made { (past_in history.old).made < 2 ^ 63 }
-    requires planned { (r : Rules)
-        × IsPlan r history.old label.now plan × CanBeMade r history.old label.now }
-    ensures footprint { IfOk result (λ footprint. (r : Rules) → IsPlan r history.old label.now plan
-        → footprint ≡ footprint_for r history.old label.now) }
-    ensures longer { OnOk result ((r : Rules) → IsPlan r history.old label.now plan
-        → IsLonger r history.old history.new label.now) }
+    requires planned { IsForStep history.old label.now plan }
+    ensures footprint { IfOk result (IsTouched history.old label.now plan) }
+    ensures longer { OnOk result (HasStep history.old history.new label.now plan) }
 {
     match plan {
         Plan::Updates(change) => {
