@@ -1,4 +1,6 @@
 -- What is bad about where a machine stands.
+use denote.Ref.{Bor}
+use Rattle.std.specs.Prelude.{option_copied}
 use Rattle.std.specs.Prelude.{◌≡◌, ◌≢◌, ◌<◌, ℕ, true, false, cond, List, Option, None, Some, IsSomeAnd}
 use Rattle.om_values.specs.declared.control.Control as controls
 use Rattle.om_values.specs.declared.control.Control.TheVariants as control
@@ -78,3 +80,7 @@ EndsWith m wanted None = NothingIsBad m wanted
 abbrev pub wanted_by : Option (List ℕ) → MachineView → Option (List ℕ)
 wanted_by (Some text) m = Some text
 wanted_by None m = cond (has_ended (control_of m 0)) (Some (output_of m)) None
+
+-- the same, where what is expected is lent
+abbrev pub due_at : Option (Bor (List ℕ)) → MachineView → Option (List ℕ)
+due_at expected m = wanted_by (option_copied expected) m

@@ -34,9 +34,13 @@ seed_text seed = if seed == 0 then codes "run: " else codes "seed " ++ decimal s
 abbrev pub before_wanted : Bool → List ℕ
 before_wanted by_run = if by_run then codes ", where `run` prints " else codes ", wanted "
 
--- what was wanted, where that is known
+-- what was wanted
+abbrev pub told_text : Bool → List ℕ → List ℕ
+told_text by_run wanted = before_wanted by_run ++ quoted wanted
+
+-- the same, where it is known
 abbrev pub wanted_text : Bool → Option (List ℕ) → List ℕ
-wanted_text by_run (Some wanted) = before_wanted by_run ++ quoted wanted
+wanted_text by_run (Some wanted) = told_text by_run wanted
 wanted_text by_run None = []
 
 abbrev pub outputs_text : Bool → List ℕ → Option (List ℕ) → List ℕ
@@ -57,10 +61,25 @@ badness_text by_run badness.Output output wanted = outputs_text by_run output wa
 badness_text by_run (badness.Fault fault worker line) output wanted = fault_words fault worker line
 badness_text by_run badness.Stuck output wanted = codes "stuck: no worker has a move"
 
+-- what is bad of what was found
+abbrev pub bad_text : Bool → Found → List ℕ
+bad_text by_run found = badness_text by_run found.why found.output.items (text_in found.wanted)
+
+-- what was printed in what was found, and what was wanted
+abbrev pub prints_text : Bool → Found → List ℕ
+prints_text by_run found = outputs_text by_run found.output.items (text_in found.wanted)
+
+-- so many steps of a worker
+abbrev pub steps_words : ℕ → ℕ → List ℕ
+steps_words worker count = decimal count ++ codes " of worker " ++ decimal worker ++ codes ", "
+
+-- the start of a task by a worker
+abbrev pub start_words : ℕ → List ℕ → List ℕ
+start_words worker task = codes "task " ++ name_text task ++ codes " by worker " ++ decimal worker ++ codes ", "
+
 abbrev pub block_words : Block → List ℕ
-block_words (block.Steps worker count) = decimal count ++ codes " of worker " ++ decimal worker ++ codes ", "
-block_words (block.Start worker task) = codes "task " ++ name_text task ++ codes " by worker " ++ decimal worker
-    ++ codes ", "
+block_words (block.Steps worker count) = steps_words worker count
+block_words (block.Start worker task) = start_words worker task
 
 abbrev pub length_text : List Block → List ℕ
 length_text blocks = codes "shortened to " ++ decimal (length blocks) ++ codes " blocks: "
@@ -69,7 +88,7 @@ length_text blocks = codes "shortened to " ++ decimal (length blocks) ++ codes "
 -- what was found, in words
 abbrev pub words_text : Bool → Found → List ℕ
 words_text by_run found = seed_text found.seed
-    ++ badness_text by_run found.why found.output.items (text_in found.wanted) ++ codes "\n" ++ length_text found.blocks.items
+    ++ bad_text by_run found ++ codes "\n" ++ length_text found.blocks.items
 
 -- the words, an empty line, and the script
 abbrev pub found_text : Bool → Found → List ℕ

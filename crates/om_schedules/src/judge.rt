@@ -7,7 +7,7 @@ ghost use Rattle.om_journal.specs.Runs.{is_step_made};
 ghost use Rattle.om_journal.specs.declared.reply.Reply.TheVariants as replies;
 ghost use Rattle.om_undo.specs.ReadyNames.{ready_names};
 ghost use Rattle.om_view.specs.Runs.{can_step, start_among, move_of, has_ended};
-ghost use Rattle.om_schedules.specs.Bad.{IsBad, IsJudged, NoneFaulted, NoneMoves, control_of, output_of, wanted_by, fault_of};
+ghost use Rattle.om_schedules.specs.Bad.{IsBad, IsJudged, NoneFaulted, NoneMoves, control_of, output_of, due_at, wanted_by, fault_of};
 ghost use Rattle.om_schedules.specs.Texts.{text_in};
 
 use om_code::frame::Fault;
@@ -43,9 +43,7 @@ impl Wanted {
         machine: &Machine,
         expected: Option<&[u8]>,
     ) -> Result<Wanted, AllocError>
-        ensures { IfOk result
-            (λ wanted.
-            text_in wanted.text ≡ wanted_by (option_copied expected.entry) machine.now) }
+        ensures { IfOk result (λ wanted. text_in wanted.text ≡ due_at expected.entry machine.now) }
     {
         let text = match expected {
             Some(text) => Some(Vec::from_slice(alloc, text)?),

@@ -1,8 +1,8 @@
 //! A machine that is played forwards, and wound back to its start.
 
 ghost use Rattle.std.specs.Prelude.{◌≡◌, ◌<◌, ◌≤◌, ◌+◌, ◌^◌, [], slice_index, EachIndex, IfOk};
-ghost use Rattle.om_history.specs.Runs.{no_history};
 ghost use Rattle.om_schedules.specs.Entries.{workers_of};
+ghost use Rattle.om_undo.specs.Machines.{at_start};
 
 use om_code::Program;
 use om_foot::Name;
@@ -42,8 +42,7 @@ impl Player {
     pub(crate) fn new(alloc: Global, program: Program, workers: u8) -> Result<Player, AllocError>
         requires at_least_one { 1 ≤ workers }
         requires at_most_32 { workers ≤ 32 }
-        ensures { IfOk result (λ player. player.machine
-            ≡ record { program = program; workers = workers; history = no_history }) }
+        ensures { IfOk result (λ player. player.machine ≡ at_start program workers) }
     {
         let machine = Machine::new(alloc, program, workers)?;
         Ok(Player {

@@ -1,9 +1,8 @@
 //! The text of a report: words, an empty line, and the script.
 
-ghost use Rattle.std.specs.Prelude.{◌≡◌, ◌++◌, OnOk, Some};
+ghost use Rattle.std.specs.Prelude.{◌≡◌, ◌++◌, OnOk};
 ghost use Rattle.om_command.specs.Lists.{joined};
-ghost use Rattle.om_schedules.specs.Reports.{byte_text, quoted, seed_text, before_wanted, wanted_text, outputs_text, fault_words, badness_text, block_words, length_text, words_text, found_text, limits_text, nothing_text, report_text};
-ghost use Rattle.om_schedules.specs.Texts.{text_in};
+ghost use Rattle.om_schedules.specs.Reports.{bad_text, before_wanted, block_words, byte_text, fault_words, found_text, length_text, limits_text, nothing_text, prints_text, quoted, report_text, seed_text, start_words, steps_words, told_text, words_text};
 
 use crate::block::Block;
 use crate::hunted::{Found, Hunted};
@@ -74,9 +73,7 @@ fn push_seed(text: &mut Vec<u8>, seed: u64) -> Result<(), AllocError>
 }
 
 fn push_badness(text: &mut Vec<u8>, found: &Found, by_run: bool) -> Result<(), AllocError>
-    ensures { OnOk result
-        (text.new.items ≡ text.old.items
-        ++ badness_text by_run found.now.why found.now.output.items (text_in found.now.wanted)) }
+    ensures { OnOk result (text.new.items ≡ text.old.items ++ bad_text by_run found.now) }
 {
     match found.why {
         Badness::Output => push_outputs(text, found, by_run),
@@ -99,9 +96,7 @@ fn push_fault(text: &mut Vec<u8>, fault: Fault, worker: u8, line: u32) -> Result
 }
 
 fn push_outputs(text: &mut Vec<u8>, found: &Found, by_run: bool) -> Result<(), AllocError>
-    ensures { OnOk result
-        (text.new.items ≡ text.old.items
-        ++ outputs_text by_run found.now.output.items (text_in found.now.wanted)) }
+    ensures { OnOk result (text.new.items ≡ text.old.items ++ prints_text by_run found.now) }
 {
     text.extend_from_slice(b"printed ")?;
     push_quoted(text, found.output.as_slice())?;
@@ -112,8 +107,7 @@ fn push_outputs(text: &mut Vec<u8>, found: &Found, by_run: bool) -> Result<(), A
 }
 
 fn push_wanted(text: &mut Vec<u8>, wanted: &[u8], by_run: bool) -> Result<(), AllocError>
-    ensures { OnOk result
-        (text.new.items ≡ text.old.items ++ wanted_text by_run (Some wanted.now)) }
+    ensures { OnOk result (text.new.items ≡ text.old.items ++ told_text by_run wanted.now) }
 {
     text.extend_from_slice(before_wanted(by_run))?;
     push_quoted(text, wanted)
@@ -188,8 +182,7 @@ fn push_block(text: &mut Vec<u8>, block: &Block) -> Result<(), AllocError>
 }
 
 fn push_steps(text: &mut Vec<u8>, worker: u8, count: u32) -> Result<(), AllocError>
-    ensures { OnOk result
-        (text.new.items ≡ text.old.items ++ block_words (Block.Steps worker count)) }
+    ensures { OnOk result (text.new.items ≡ text.old.items ++ steps_words worker count) }
 {
     push_numbered(text, b"", count)?;
     push_numbered(text, b" of worker ", worker)?;
@@ -197,8 +190,7 @@ fn push_steps(text: &mut Vec<u8>, worker: u8, count: u32) -> Result<(), AllocErr
 }
 
 fn push_start(text: &mut Vec<u8>, worker: u8, task: &Name) -> Result<(), AllocError>
-    ensures { OnOk result
-        (text.new.items ≡ text.old.items ++ block_words (Block.Start worker task.now)) }
+    ensures { OnOk result (text.new.items ≡ text.old.items ++ start_words worker task.now) }
 {
     text.extend_from_slice(b"task ")?;
     task.text(text)?;

@@ -1,7 +1,7 @@
 //! The schedules of seeds, up to the first that is bad.
 
 ghost use Rattle.std.specs.Prelude.{◌≡◌, ◌<◌, ◌≤◌, IfOk, IfSome};
-ghost use Rattle.om_history.specs.Runs.{no_history};
+ghost use Rattle.om_undo.specs.Machines.{at_start};
 
 use crate::block::Block;
 use crate::commands::MOST_STEPS;
@@ -55,8 +55,7 @@ impl Chances {
     pub fn new(alloc: Global, program: Program, workers: u8) -> Result<Chances, AllocError>
         requires at_least_one { 1 ≤ workers }
         requires at_most_32 { workers ≤ 32 }
-        ensures { IfOk result (λ chances. chances.player.machine
-            ≡ record { program = program; workers = workers; history = no_history }) }
+        ensures { IfOk result (λ chances. chances.player.machine ≡ at_start program workers) }
     {
         let player = Player::new(alloc, program, workers)?;
         Ok(Chances { player })
