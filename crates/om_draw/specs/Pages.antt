@@ -1,13 +1,18 @@
 -- The page of a session.
-use Rattle.std.specs.Prelude.{◌≡◌, ◌↔◌, ◌++◌, ℕ, List, [], Option, None, Some, map, codes, Contains}
+use Rattle.std.specs.Prelude.{◌≡◌, ◌↔◌, ◌++◌, ℕ, List, [], Option, None, Some, Vec, map, codes, option_copied, Contains}
+use Rattle.std.specs.declared.alloc.Global.{Global}
+use Rattle.om_code.specs.declared.raw.Raw.{Raw}
 use Rattle.om_history.specs.Cones.{transitions}
 use Rattle.om_undo.specs.Machines.{MachineView, rules_for}
 use Rattle.om_book.specs.Books.{BookView, machine_of}
+use Rattle.om_shell.specs.declared.ended.Ended.{Ended}
+use Rattle.om_shell.specs.declared.options.Options.{Options}
 use Rattle.om_shell.specs.Files.{ReadsAll}
 use Rattle.om_shell.specs.Ends.{RunsToEnd}
 use Rattle.om_shell.specs.Progress.{moment_of}
 use Rattle.om_picture.specs.declared.traced.Traced.{Traced}
 use Rattle.om_picture.specs.declared.picture.Arrow.{Arrow}
+use Rattle.om_picture.specs.declared.picture.Picture.{Picture}
 use Rattle.om_draw.specs.declared.scale.Scale.{Scale}
 use Rattle.om_draw.specs.declared.outcome.Page as outcome
 use Rattle.om_draw.specs.declared.outcome.Page.TheVariants.{Drawn, Refused}
@@ -21,6 +26,17 @@ abbrev pub Leaves : List ℕ → List ℕ → List ℕ → ℕ → Option (List 
 Leaves input old new workers given status book =
     (left : Option (List ℕ))
     × RunsToEnd (moment_of (Some input) (Some old) []) (moment_of left (Some new) []) workers given status book
+
+-- a session with these options over these bytes came to such an end
+abbrev pub EndsSo : List ℕ → List ℕ → List ℕ → Options → Ended → Type 0
+EndsSo input old new options ended =
+    Leaves input old new options.workers (option_copied options.source) ended.status ended.book
+
+-- a page has a front, the arrows and the boxes of a picture, and a foot
+abbrev pub HasElements : Vec ℕ Global → Raw → Scale → Picture → List ℕ → Vec ℕ Global → Type 0
+HasElements front program scale picture foot page = page.items
+    ≡ front.items ++ arrows_text program (codes "arrow") scale picture.arrows.items
+    ++ boxes_text (codes "step") scale picture.boxes.items ++ foot
 
 -- A page has a stretch that is the picture of a machine's history: the texts of its arrows, and then of its boxes. In
 -- this stretch there is a box for each entry of the history, and for nothing else, and an arrow exactly where the steps
@@ -55,3 +71,8 @@ pub record IsPage (left_before left_after : Option (List ℕ)) (workers : ℕ) (
   pub book : Option BookView
   pub leaves : Leaves input [] text workers given status book
   pub shown : IsShown book text page
+
+-- the same, with the options of the session
+abbrev pub Shows : (left_before left_after : Option (List ℕ)) → Options → outcome.Page → Type 0
+Shows left_before left_after options page =
+    IsPage left_before left_after options.workers (option_copied options.source) page

@@ -1,5 +1,6 @@
 -- The text of arrows.
-use Rattle.std.specs.Prelude.{ℕ, List, [], ◌∷◌, ◌++◌, codes, decimal}
+use Rattle.std.specs.Prelude.{ℕ, List, [], ◌∷◌, ◌++◌, ◌≡◌, Vec, codes, decimal}
+use Rattle.std.specs.declared.alloc.Global.{Global}
 use Rattle.om_code.specs.declared.raw.Raw.{Raw}
 use Rattle.om_foot.specs.declared.object.Obj.{Obj}
 use Rattle.om_foot.specs.declared.object.Obj.TheVariants as object
@@ -43,3 +44,11 @@ arrow_text program class scale x = codes "<g class='" ++ class_text class x.obje
 abbrev pub arrows_text : Raw → List ℕ → Scale → List Arrow → List ℕ
 arrows_text program class scale [] = []
 arrows_text program class scale (x ∷ xs) = arrow_text program class scale x ++ arrows_text program class scale xs
+
+-- a text has the element of an arrow more than before, at its end
+abbrev pub AddsArrow : (old new : Vec ℕ Global) → Raw → List ℕ → Scale → Arrow → Type 0
+AddsArrow old new program class scale x = new.items ≡ old.items ++ arrow_text program class scale x
+
+-- and the elements of several
+abbrev pub AddsArrows : (old new : Vec ℕ Global) → Raw → List ℕ → Scale → List Arrow → Type 0
+AddsArrows old new program class scale xs = new.items ≡ old.items ++ arrows_text program class scale xs

@@ -1,10 +1,8 @@
 //! The page of a session: it is run, and the history that it leaves is drawn.
 
-ghost use Rattle.std.specs.Prelude.{◌≡◌, ◌<◌, ◌≤◌, ◌++◌, codes, IfOk, option_copied};
+ghost use Rattle.std.specs.Prelude.{◌<◌, ◌≤◌, IfOk};
 ghost use Rattle.om_book.specs.Books.{machine_of};
-ghost use Rattle.om_draw.specs.Marks.{boxes_text};
-ghost use Rattle.om_draw.specs.Strokes.{arrows_text};
-ghost use Rattle.om_draw.specs.Pages.{IsDrawing, IsPage, IsShown, Leaves};
+ghost use Rattle.om_draw.specs.Pages.{EndsSo, HasElements, IsDrawing, IsShown, Shows};
 
 use crate::beside::{Beside, beside_of, push_beside};
 use crate::front::push_front;
@@ -40,8 +38,7 @@ pub fn page<H: Threads + Wait + Sync, R: Read>(
 ) -> Result<Page, ShellFault>
     requires at_least_one { 0 < options.workers }
     requires at_most_32 { options.workers ≤ 32 }
-    ensures { IfOk result (λ page. IsPage (R.remaining reader.old) (R.remaining reader.new)
-        options.entry.workers (option_copied options.entry.source) page) }
+    ensures { IfOk result (Shows (R.remaining reader.old) (R.remaining reader.new) options.entry) }
 {
     let input = read_all(alloc, reader)?;
     let mut text = Vec::new(alloc);
@@ -64,8 +61,7 @@ fn session<H: Threads + Wait + Sync>(
 ) -> Result<Ended, ShellFault>
     requires at_least_one { 0 < options.workers }
     requires at_most_32 { options.workers ≤ 32 }
-    ensures { IfOk result (λ ended. Leaves input.entry.now text.old.items text.new.items
-        options.entry.workers (option_copied options.entry.source) ended.status ended.book) }
+    ensures { IfOk result (EndsSo input.entry.now text.old.items text.new.items options.entry) }
 {
     run(rt, alloc, &mut input, text, options)
 }
@@ -117,9 +113,7 @@ fn with_elements(
     scale: Scale,
     picture: &Picture,
 ) -> Result<Vec<u8>, AllocError>
-    ensures { IfOk result (λ page. page.items
-        ≡ front.items ++ arrows_text program.now (codes "arrow") scale picture.now.arrows.items
-        ++ boxes_text (codes "step") scale picture.now.boxes.items ++ FOOT.now) }
+    ensures { IfOk result (HasElements front program.now scale picture.now FOOT.now) }
 {
     let mut text = front;
     push_arrows(&mut text, program, b"arrow", scale, &picture.arrows)?;

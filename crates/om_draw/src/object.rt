@@ -1,6 +1,7 @@
 //! The words for the objects at which steps conflict.
 
 ghost use Rattle.std.specs.Prelude.{◌≡◌, ◌++◌, OnOk};
+ghost use Rattle.om_command.specs.Texts.{Adds};
 ghost use Rattle.om_foot.specs.Names.{name_text};
 ghost use Rattle.om_draw.specs.Objects.{named_text, numbered_text, before_cell, behind_cell, cell_words, index_words, variable_words, name_of_lock, lock_words, object_words};
 
@@ -10,16 +11,15 @@ use om_command::push_numbered;
 use om_foot::{Name, Obj};
 use std::alloc::AllocError;
 
-/// Appends the words for an object: a global variable has its name in the source. `variable` is the name
+/// Appends the words for an object: a global variable has its name in the source. `name` is the name
 /// of the local variable if the object is a cell of one; it is empty where that is not known.
 pub(crate) fn push_object(
     text: &mut Vec<u8>,
     program: &Program,
-    variable: &[u8],
+    name: &[u8],
     object: &Obj,
 ) -> Result<(), AllocError>
-    ensures { OnOk result
-        (text.new.items ≡ text.old.items ++ object_words program.now variable.now object.now) }
+    ensures { OnOk result (Adds text.old text.new (object_words program.now name.now object.now)) }
 {
     match object {
         Obj::Control(worker) => push_numbered(text, b"control of worker ", *worker),
@@ -29,9 +29,9 @@ pub(crate) fn push_object(
             slot,
             index,
         } => {
-            push_before_cell(text, variable)?;
+            push_before_cell(text, name)?;
             push_cell(text, task, *frame, *slot, *index)?;
-            push_behind_cell(text, variable)
+            push_behind_cell(text, name)
         }
         Obj::Global { variable, index } => push_variable(text, program, *variable, *index),
         Obj::Task(task) => push_named(text, b"task ", task),
@@ -63,8 +63,7 @@ fn push_in_team(
     team: &Name,
     number: u64,
 ) -> Result<(), AllocError>
-    ensures { OnOk result
-        (text.new.items ≡ text.old.items ++ numbered_text before.now team.now number) }
+    ensures { OnOk result (Adds text.old text.new (numbered_text before.now team.now number)) }
 {
     push_named(text, before, team)?;
     push_numbered(text, b" number ", number)
@@ -99,8 +98,7 @@ fn push_cell(
     slot: u32,
     index: u32,
 ) -> Result<(), AllocError>
-    ensures { OnOk result
-        (text.new.items ≡ text.old.items ++ cell_words task.now frame slot index) }
+    ensures { OnOk result (Adds text.old text.new (cell_words task.now frame slot index)) }
 {
     push_named(text, b"cell ", task)?;
     push_numbered(text, b"/", frame)?;
@@ -116,8 +114,7 @@ fn push_variable(
     variable: u32,
     index: u32,
 ) -> Result<(), AllocError>
-    ensures { OnOk result
-        (text.new.items ≡ text.old.items ++ variable_words program.now variable index) }
+    ensures { OnOk result (Adds text.old text.new (variable_words program.now variable index)) }
 {
     let Some(global) = program.globals().get(variable as usize) else {
         return Ok(());

@@ -1,7 +1,8 @@
 //! The text of arrows: one element for each.
 
 ghost use Rattle.std.specs.Prelude.{◌≡◌, ◌++◌, OnOk};
-ghost use Rattle.om_draw.specs.Strokes.{class_text, name_text, line_text, label_text, arrow_text, arrows_text};
+ghost use Rattle.om_command.specs.Texts.{Adds};
+ghost use Rattle.om_draw.specs.Strokes.{class_text, name_text, line_text, label_text, AddsArrow, AddsArrows};
 
 use crate::escape::push_attribute;
 use crate::object::push_object;
@@ -41,8 +42,7 @@ fn push_label(
     scale: Scale,
     arrow: &Arrow,
 ) -> Result<(), AllocError>
-    ensures { OnOk result
-        (text.new.items ≡ text.old.items ++ label_text program.now scale arrow.now) }
+    ensures { OnOk result (Adds text.old text.new (label_text program.now scale arrow.now)) }
 {
     push_attribute(text, b"<text x='", scale.label_left(arrow.to.serial))?;
     push_attribute(text, b" y='", label_base(arrow.from, arrow.to))?;
@@ -71,8 +71,7 @@ pub(crate) fn push_arrow(
     scale: Scale,
     arrow: &Arrow,
 ) -> Result<(), AllocError>
-    ensures { OnOk result
-        (text.new.items ≡ text.old.items ++ arrow_text program.now class.now scale arrow.now) }
+    ensures { OnOk result (AddsArrow text.old text.new program.now class.now scale arrow.now) }
 {
     text.extend_from_slice(b"<g class='")?;
     push_class(text, class, &arrow.object)?;
@@ -91,8 +90,7 @@ pub(crate) fn push_arrows(
     scale: Scale,
     arrows: &[Arrow],
 ) -> Result<(), AllocError>
-    ensures { OnOk result
-        (text.new.items ≡ text.old.items ++ arrows_text program.now class.now scale arrows.now) }
+    ensures { OnOk result (AddsArrows text.old text.new program.now class.now scale arrows.now) }
 {
     for arrow in arrows {
         push_arrow(text, program, class, scale, arrow)?;

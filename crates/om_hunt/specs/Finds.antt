@@ -1,8 +1,10 @@
 -- What is promised of a hunt.
-use Rattle.std.specs.Prelude.{◌≡◌, ℕ, List, [], Option, None, Some}
+use Rattle.std.specs.Prelude.{◌≡◌, ℕ, List, [], Option, None, Some, option_copied}
+use Rattle.om_schedules.specs.declared.hunted.Aims.{Aims}
 use Rattle.om_schedules.specs.declared.hunted.Found.{Found}
 use Rattle.om_schedules.specs.declared.hunted.Hunted.{Hunted}
 use Rattle.om_schedules.specs.declared.hunted.Hunted.TheVariants as hunted
+use Rattle.om_schedules.specs.declared.seeds.Ground.{Ground}
 use Rattle.om_schedules.specs.Bad.{IsEnd, NothingIsBad, wanted_by}
 use Rattle.om_schedules.specs.Schedules.{schedule_text}
 use Rattle.om_schedules.specs.Texts.{text_in}
@@ -16,6 +18,10 @@ pub record IsFound (workers : ℕ) (source : List ℕ) (wanted : Option (List �
   pub schedule : found.script.items ≡ schedule_text found.blocks.items
   pub wanted_is : text_in found.wanted ≡ wanted
   pub ends : IsEnd (machine_of book) wanted found.output.items found.why
+
+-- it is found over this ground
+abbrev pub IsFoundOn : Ground → List ℕ → Found → Type 0
+IsFoundOn ground source found = IsFound ground.workers source (text_in ground.wanted.now.text) found
 
 -- where `run` makes all steps, ompback writes this and leaves this book
 abbrev pub RunsAlone : ℕ → List ℕ → List ℕ → Option BookView → Type 0
@@ -40,3 +46,7 @@ IsHunted workers seeds source expected (hunted.Refused line) = RunsAlone workers
 IsHunted workers seeds source expected (hunted.Nothing told printed) =
     (told ≡ seeds) × FindsNothing workers source expected printed.items
 IsHunted workers seeds source expected (hunted.Found found) = FindsBad workers source expected found
+
+-- what came of a hunt with these aims
+abbrev pub IsHuntBy : Aims → List ℕ → Hunted → Type 0
+IsHuntBy aims source hunted = IsHunted aims.workers aims.seeds source (option_copied aims.expected) hunted

@@ -1,9 +1,7 @@
 //! The hunt: schedules by chance, up to the first that is bad, and that one made short.
 
-ghost use Rattle.std.specs.Prelude.{◌≡◌, ◌<◌, ◌≤◌, IfOk, IfSome};
-ghost use Rattle.std.specs.Option.{option_copied};
-ghost use Rattle.om_hunt.specs.Finds.{IsFound, IsHunted};
-ghost use Rattle.om_schedules.specs.Texts.{text_in};
+ghost use Rattle.std.specs.Prelude.{◌<◌, ◌≤◌, IfOk, IfSome};
+ghost use Rattle.om_hunt.specs.Finds.{IsFoundOn, IsHuntBy};
 
 use om_front::program_of;
 use om_schedules::{
@@ -35,9 +33,7 @@ pub fn hunt<H: Threads + Wait + Sync, P: Progress>(
 ) -> Result<Hunted, ShellFault>
     requires at_least_one { 0 < aims.now.workers }
     requires at_most_32 { aims.now.workers ≤ 32 }
-    ensures { IfOk result
-        (λ hunted. IsHunted aims.now.workers aims.now.seeds source.now
-        (option_copied aims.now.expected) hunted) }
+    ensures { IfOk result (IsHuntBy aims.now source.now) }
 {
     let commands = script(alloc, &[])?;
     let Ran { text, book } = run_over(rt, alloc, aims.workers, source, &commands)?;
@@ -81,9 +77,7 @@ fn find<H: Threads + Wait + Sync, P: Progress>(
 ) -> Result<Option<Found>, ShellFault>
     requires at_least_one { 0 < ground.now.workers }
     requires at_most_32 { ground.now.workers ≤ 32 }
-    ensures { IfOk result
-        (λ found. IfSome found
-        (IsFound ground.now.workers source.now (text_in ground.now.wanted.now.text))) }
+    ensures { IfOk result (λ found. IfSome found (IsFoundOn ground.now source.now)) }
 {
     let mut chances = chances_over(alloc, source, ground.workers)?;
     let mut behind = 0;
@@ -121,9 +115,7 @@ fn shown<H: Threads + Wait + Sync>(
 ) -> Result<Option<Found>, ShellFault>
     requires at_least_one { 0 < ground.now.workers }
     requires at_most_32 { ground.now.workers ≤ 32 }
-    ensures { IfOk result
-        (λ found. IfSome found
-        (IsFound ground.now.workers source.now (text_in ground.now.wanted.now.text))) }
+    ensures { IfOk result (λ found. IfSome found (IsFoundOn ground.now source.now)) }
 {
     let commands = script(alloc, &schedule.blocks)?;
     let Ran { text, book } = run_over(rt, alloc, ground.workers, source, &commands)?;

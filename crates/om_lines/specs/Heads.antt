@@ -2,6 +2,7 @@
 use Rattle.std.specs.Prelude.{◌≡◌, ℕ, List, ◌++◌, codes, decimal, take}
 use Rattle.om_lexer.specs.declared.fault.SourceFault.{SourceFault}
 use Rattle.om_lexer.specs.Faults.{number_of}
+use Rattle.om_lines.specs.declared.report.Report.{Report}
 use Rattle.om_shell.specs.Places.{line_after, column_after}
 
 -- FILE:LINE:COLUMN of a byte of the source
@@ -22,3 +23,7 @@ refused_head file source fault =
 pub record BeginsWith (front text : List ℕ) : Type 0 where
   pub rest : List ℕ
   pub is : text ≡ front ++ rest
+
+-- the text of a report is a head, and this behind it
+abbrev pub HasText : List ℕ → List ℕ → Report → Type 0
+HasText head rest report = report.text.items ≡ head ++ rest

@@ -1,6 +1,7 @@
 //! The head of a report: the verdict, with its place.
 
 ghost use Rattle.std.specs.Prelude.{◌≡◌, ◌++◌, OnOk};
+ghost use Rattle.om_command.specs.Texts.{Adds};
 ghost use Rattle.om_lines.specs.Heads.{accepted_head, place_text, refused_head};
 
 use om_command::push_numbered;
@@ -34,8 +35,7 @@ pub(crate) fn push_refused(
     source: &[u8],
     fault: SourceFault,
 ) -> Result<(), AllocError>
-    ensures { OnOk result
-        (text.new.items ≡ text.old.items ++ refused_head file.now source.now fault) }
+    ensures { OnOk result (Adds text.old text.new (refused_head file.now source.now fault)) }
 {
     push_place(text, file, source, fault.at)?;
     push_numbered(text, b": error: S", fault.code.number())?;

@@ -1,7 +1,7 @@
 //! A report as it is written: the head by the verdict, and what stands behind it.
 
-ghost use Rattle.std.specs.Prelude.{◌≡◌, ◌++◌, IfOk};
-ghost use Rattle.om_lines.specs.Heads.{accepted_head, refused_head};
+ghost use Rattle.std.specs.Prelude.{◌≡◌, IfOk};
+ghost use Rattle.om_lines.specs.Heads.{HasText, accepted_head, refused_head};
 
 use crate::head::{push_accepted, push_refused};
 use om_lexer::SourceFault;
@@ -19,8 +19,7 @@ pub struct Report {
 /// The report on the accepted source of a file, with notes behind its head. The only error is out of memory.
 #[tactic(auto, using(crate::proofs::HeadLaws::stands_behind))]
 pub fn accepted_report(alloc: Global, file: &str, notes: &[u8]) -> Result<Report, AllocError>
-    ensures text { IfOk result
-        (λ report. report.text.items ≡ accepted_head file.now ++ notes.now) }
+    ensures text { IfOk result (HasText (accepted_head file.now) notes.now) }
     ensures status { IfOk result (λ report. report.status ≡ 0) }
 {
     let mut text = Vec::new(alloc);
@@ -39,8 +38,7 @@ pub fn refused_report(
     fault: SourceFault,
     explanation: &[u8],
 ) -> Result<Report, AllocError>
-    ensures text { IfOk result
-        (λ report. report.text.items ≡ refused_head file.now source.now fault ++ explanation.now) }
+    ensures text { IfOk result (HasText (refused_head file.now source.now fault) explanation.now) }
     ensures status { IfOk result (λ report. report.status ≡ 1) }
 {
     let mut text = Vec::new(alloc);

@@ -1,6 +1,7 @@
 -- The picture of a history: its boxes and its arrows.
 use Rattle.std.specs.Prelude.{◌≡◌, ◌≢◌, ◌==◌, ◌&&◌, ◌||◌, ℕ, Bool, true, false, cond, not, is_some, Option, None, Some, List}
-use Rattle.std.specs.Prelude.{[], ◌∷◌, ◌++◌}
+use Rattle.std.specs.Prelude.{[], ◌∷◌, ◌++◌, ◌↔◌, Contains, Vec}
+use Rattle.std.specs.declared.alloc.Global.{Global}
 use Rattle.std.specs.List.{AllByRecursion}
 use Rattle.om_foot.specs.declared.object.Obj.{Obj}
 use Rattle.om_foot.specs.Footprint.{conflict_of}
@@ -73,6 +74,14 @@ arrows_behind before (b ∷ rest) = arrows_into before b ++ arrows_behind (befor
 abbrev pub arrows_of : List Traced → List Arrow
 arrows_of ts = arrows_behind [] ts
 
+-- the arrow from a step to a later one, if there is one, was added behind other arrows
+abbrev pub AddsBetween : (old new : Vec Arrow Global) → Traced → List Traced → Traced → Type 0
+AddsBetween old new a between b = new.items ≡ old.items ++ arrow_between a between b
+
+-- the arrows into a step were added behind other arrows
+abbrev pub AddsInto : (old new : Vec Arrow Global) → List Traced → Traced → Type 0
+AddsInto old new before b = new.items ≡ old.items ++ arrows_into before b
+
 -- a step of the same worker would not do
 abbrev pub IsFreeOf : ℕ → Traced → Traced → Type 0
 IsFreeOf w b c = c.entry.worker ≡ w → Apart c.footprint b.footprint
@@ -92,3 +101,7 @@ pub record IsArrow (ts : List Traced) (x : Arrow) : Type 0 where
   pub from_is : x.from ≡ end_of a
   pub to_is : x.to ≡ end_of b
   pub variable_is : x.variable ≡ variable_of a b
+
+-- these are the arrows of steps, and all of them
+abbrev pub AreArrows : List Traced → List Arrow → Type 0
+AreArrows ts arrows = (x : Arrow) → Contains arrows x ↔ IsArrow ts x

@@ -1,8 +1,8 @@
 //! The arrows of a history: to each step from the last earlier step of each other worker that conflicts
 //! with it.
 
-ghost use Rattle.std.specs.Prelude.{◌≡◌, ◌++◌, IfOk, OnOk};
-ghost use Rattle.om_picture.specs.Pictures.{hides, is_hidden, meets_other, object_between, first_named, arrow_at, arrow_between, arrows_into, arrows_of};
+ghost use Rattle.std.specs.Prelude.{◌≡◌, IfOk, OnOk};
+ghost use Rattle.om_picture.specs.Pictures.{hides, is_hidden, meets_other, object_between, first_named, arrow_at, arrows_of, AddsBetween, AddsInto};
 
 use crate::picture::{Arrow, end_of};
 use crate::sketch::{Sketch, sketches_of};
@@ -93,8 +93,7 @@ fn push_arrow(
     between: &[Sketch<'_>],
     later: &Sketch<'_>,
 ) -> Result<(), AllocError>
-    ensures { OnOk result (arrows.new.items ≡ arrows.old.items
-        ++ arrow_between earlier.now between.now later.now) }
+    ensures { OnOk result (AddsBetween arrows.old arrows.new earlier.now between.now later.now) }
 {
     if !meets_other(earlier, later) {
         return Ok(());
@@ -112,7 +111,7 @@ fn push_arrows_into(
     before: &[Sketch<'_>],
     later: &Sketch<'_>,
 ) -> Result<(), AllocError>
-    ensures { OnOk result (arrows.new.items ≡ arrows.old.items ++ arrows_into before.now later.now) }
+    ensures { OnOk result (AddsInto arrows.old arrows.new before.now later.now) }
 {
     for (at, earlier) in before.iter().enumerate() {
         push_arrow(alloc, arrows, earlier, &before[at + 1..], later)?;

@@ -1,8 +1,7 @@
 //! The picture of a history, as data: boxes and arrows.
 
-ghost use Rattle.std.specs.Prelude.{◌≡◌, ◌↔◌, map, IfOk, Contains};
-ghost use Rattle.om_picture.specs.Pictures.{box_of, end_of, arrows_of, IsArrow};
-ghost use Rattle.om_picture.specs.declared.picture.Arrow.{Arrow};
+ghost use Rattle.std.specs.Prelude.{◌≡◌, map, IfOk};
+ghost use Rattle.om_picture.specs.Pictures.{box_of, end_of, arrows_of, AreArrows};
 
 use crate::arrows::arrows_of;
 use crate::traced::Traced;
@@ -103,8 +102,7 @@ fn boxes_of(alloc: Global, steps: &[Traced]) -> Result<Vec<StepBox>, AllocError>
 pub fn picture_of(alloc: Global, steps: &[Traced]) -> Result<Picture, AllocError>
     ensures boxes { IfOk result (λ p. p.boxes.items ≡ map box_of steps.now) }
     ensures arrows { IfOk result (λ p. p.arrows.items ≡ arrows_of steps.now) }
-    ensures exactly { IfOk result (λ p. (x : Arrow)
-        → Contains p.arrows.items x ↔ IsArrow steps.now x) }
+    ensures exactly { IfOk result (λ p. AreArrows steps.now p.arrows.items) }
 {
     let boxes = boxes_of(alloc, steps)?;
     match arrows_of(alloc, steps) {

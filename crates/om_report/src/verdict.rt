@@ -1,8 +1,8 @@
 //! The report on a source, by its verdict.
 
 ghost use Rattle.std.specs.Prelude.{◌≡◌, IfOk};
-ghost use Rattle.om_lines.specs.Heads.{BeginsWith, accepted_head, refused_head};
-ghost use Rattle.om_report.specs.Reports.{Reports};
+ghost use Rattle.om_lines.specs.Heads.{accepted_head, refused_head};
+ghost use Rattle.om_report.specs.Reports.{HasHead, Reports};
 
 use crate::excerpt::explanation;
 use crate::team::{Checked, team_notes};
@@ -14,8 +14,7 @@ use std::alloc::{AllocError, Global};
 // The report on an accepted source.
 #[tactic(auto, using(crate::proofs::ReportLaws::begins_with))]
 fn accepted(alloc: Global, checked: Checked<'_>) -> Result<Report, AllocError>
-    ensures begins { IfOk result
-        (λ report. BeginsWith (accepted_head checked.entry.file.now) report.text.items) }
+    ensures begins { IfOk result (HasHead (accepted_head checked.entry.file.now)) }
     ensures status { IfOk result (λ report. report.status ≡ 0) }
 {
     let notes = team_notes(alloc, checked)?;
@@ -30,8 +29,7 @@ fn refused(
     source: &[u8],
     fault: SourceFault,
 ) -> Result<Report, AllocError>
-    ensures begins { IfOk result
-        (λ report. BeginsWith (refused_head file.now source.now fault) report.text.items) }
+    ensures begins { IfOk result (HasHead (refused_head file.now source.now fault)) }
     ensures status { IfOk result (λ report. report.status ≡ 1) }
 {
     let explanation = explanation(alloc, source, fault)?;

@@ -9,7 +9,9 @@ use Rattle.om_code.specs.declared.frame.Fault.{Fault}
 use Rattle.om_foot.specs.declared.object.Obj.TheVariants as object
 use Rattle.om_schedules.specs.declared.judge.Badness.{Badness}
 use Rattle.om_schedules.specs.declared.judge.Badness.TheVariants as badness
+use Rattle.om_schedules.specs.declared.outcome.Alone.{Alone}
 use Rattle.om_schedules.specs.declared.outcome.End.{End}
+use Rattle.om_schedules.specs.Texts.{text_in}
 use Rattle.om_undo.specs.Machines.{MachineView, state_in}
 use Rattle.om_view.specs.Looks.{line_at}
 use Rattle.om_view.specs.Runs.{has_ended, move_of}
@@ -84,3 +86,7 @@ wanted_by None m = cond (has_ended (control_of m 0)) (Some (output_of m)) None
 -- the same, where what is expected is lent
 abbrev pub due_at : Option (Bor (List ℕ)) → MachineView → Option (List ℕ)
 due_at expected m = wanted_by (option_copied expected) m
+
+-- what a program has to print, by the session in which `run` makes all steps
+abbrev pub due : Alone → Option (List ℕ)
+due alone = text_in alone.wanted.text

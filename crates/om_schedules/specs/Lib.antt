@@ -3,3 +3,4 @@ pub mod Bad
 pub mod Reports
 pub mod Entries
 pub mod Texts
+pub mod Seeds

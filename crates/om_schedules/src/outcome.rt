@@ -1,9 +1,8 @@
 //! What the book that a session left says of its schedule.
 
 ghost use Rattle.std.specs.Prelude.{◌≡◌, IfOk};
-ghost use Rattle.std.specs.Option.{option_copied};
 ghost use Rattle.om_book.specs.Books.{machine_of};
-ghost use Rattle.om_schedules.specs.Bad.{EndsWith, wanted_by};
+ghost use Rattle.om_schedules.specs.Bad.{EndsWith, due, due_at};
 ghost use Rattle.om_schedules.specs.Texts.{text_in};
 
 use crate::judge::{Badness, Wanted, output};
@@ -42,11 +41,8 @@ pub struct Alone {
 /// What is wanted, by the book that `run` alone left, and what is bad about that book, if something
 /// is. Its only error is out of memory.
 pub fn alone_of(alloc: Global, book: Book, expected: Option<&[u8]>) -> Result<Alone, AllocError>
-    ensures wanted { IfOk result
-        (λ alone.
-        text_in alone.wanted.text ≡ wanted_by (option_copied expected.entry) (machine_of book)) }
-    ensures judged { IfOk result
-        (λ alone. EndsWith (machine_of book) (text_in alone.wanted.text) alone.end) }
+    ensures wanted { IfOk result (λ alone. due alone ≡ due_at expected.entry (machine_of book)) }
+    ensures judged { IfOk result (λ alone. EndsWith (machine_of book) (due alone) alone.end) }
 {
     let alone = alone_at(alloc, book.machine(), expected);
     drop(book);
@@ -55,11 +51,8 @@ pub fn alone_of(alloc: Global, book: Book, expected: Option<&[u8]>) -> Result<Al
 
 // What is wanted, by where `run` alone leaves a machine, and what is bad there, if something is.
 fn alone_at(alloc: Global, machine: &Machine, expected: Option<&[u8]>) -> Result<Alone, AllocError>
-    ensures wanted { IfOk result
-        (λ alone.
-        text_in alone.wanted.text ≡ wanted_by (option_copied expected.entry) machine.now) }
-    ensures judged { IfOk result
-        (λ alone. EndsWith machine.now (text_in alone.wanted.text) alone.end) }
+    ensures wanted { IfOk result (λ alone. due alone ≡ due_at expected.entry machine.now) }
+    ensures judged { IfOk result (λ alone. EndsWith machine.now (due alone) alone.end) }
 {
     let wanted = Wanted::of(alloc, machine, expected)?;
     let end = end_at(alloc, machine, &wanted)?;

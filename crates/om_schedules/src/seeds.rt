@@ -1,6 +1,7 @@
 //! The schedules of seeds, up to the first that is bad.
 
-ghost use Rattle.std.specs.Prelude.{◌≡◌, ◌<◌, ◌≤◌, IfOk, IfSome};
+ghost use Rattle.std.specs.Prelude.{◌≡◌, ◌≤◌, IfOk, IfSome};
+ghost use Rattle.om_schedules.specs.Seeds.{IsOfSeed, LiesBehind};
 ghost use Rattle.om_undo.specs.Machines.{at_start};
 
 use crate::block::Block;
@@ -71,10 +72,8 @@ impl Chances {
         behind: u64,
         progress: &mut P,
     ) -> Result<Option<Schedule>, AllocError>
-        ensures lies_behind { IfOk result
-            (λ found. IfSome found (λ schedule. behind < schedule.seed)) }
-        ensures is_a_seed { IfOk result
-            (λ found. IfSome found (λ schedule. schedule.seed ≤ ground.now.seeds)) }
+        ensures lies_behind { IfOk result (λ found. IfSome found (LiesBehind behind)) }
+        ensures is_a_seed { IfOk result (λ found. IfSome found (IsOfSeed ground.now)) }
     {
         'seeds: for before in behind..ground.seeds {
             let seed = before + 1;

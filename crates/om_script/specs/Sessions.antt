@@ -1,11 +1,14 @@
 -- What is answered of a session: its steps as commands, or the steps that a roll would take.
-use Rattle.std.specs.Prelude.{◌≡◌, ℕ, List, map, Option, None, Some}
+use Rattle.std.specs.Prelude.{◌≡◌, ℕ, IfSome, List, map, Option, None, Some, option_copied}
 use Rattle.om_values.specs.declared.step.Entry.{Entry}
 use Rattle.om_book.specs.Books.{BookView, machine_of}
+use Rattle.om_shell.specs.declared.cut.SessionBytes.{SessionBytes}
+use Rattle.om_shell.specs.declared.options.Options.{Options}
 use Rattle.om_shell.specs.Script.{source_of}
 use Rattle.om_lines.specs.Commands.{script_text}
 use Rattle.om_script.specs.declared.answer.Script.{Script}
 use Rattle.om_script.specs.declared.answer.Script.TheVariants.{Steps, Refused}
+use Rattle.om_script.specs.declared.steps.Steps as made
 use Rattle.om_script.specs.Cones.{IsConeOf}
 use Rattle.om_script.specs.Runs.{Leaves, entries_in}
 use Rattle.om_script.specs.Steps.{unnumbered}
@@ -16,6 +19,10 @@ pub record LeadsTo (workers : ℕ) (source commands : List ℕ) (entries : List 
   pub book : BookView
   pub leaves : Leaves workers (Some source) commands text (Some book)
   pub same : map unnumbered (entries_in book) ≡ map unnumbered entries
+
+-- the commands of steps lead to their entries
+abbrev pub LeadBack : ℕ → List ℕ → made.Steps → Type 0
+LeadBack workers source steps = LeadsTo workers source steps.text.items steps.entries.items
 
 -- The session left a book. The lines are the commands for the steps that stand in it, and they lead there again.
 pub record AreSteps (workers : ℕ) (given : Option (List ℕ)) (input lines : List ℕ) : Type 0 where
@@ -33,6 +40,15 @@ abbrev pub IsScriptFor : ℕ → Option (List ℕ) → List ℕ → Script → T
 IsScriptFor workers given input (Steps lines) = AreSteps workers given input lines.items
 IsScriptFor workers given input (Refused line) = IsRefusal workers given input line.items
 
+-- the script is that of a session whose source and commands are these
+abbrev pub IsScriptOver : ℕ → SessionBytes → Script → Type 0
+IsScriptOver workers session script = IsScriptFor workers (Some session.source.now) session.commands.now script
+
+-- the script is that of the session that a reader had
+abbrev pub IsScriptIn : Option (List ℕ) → Options → Script → Type 0
+IsScriptIn bytes options script =
+    IfSome bytes (λ input. IsScriptFor options.workers (option_copied options.source) input script)
+
 -- The session left a book. The lines have the steps that the roll of a serial would take out of it.
 pub record AreOfCone (workers : ℕ) (given : Option (List ℕ)) (input : List ℕ) (serial : ℕ) (lines : List ℕ) : Type 0
   where
@@ -44,3 +60,13 @@ pub record AreOfCone (workers : ℕ) (given : Option (List ℕ)) (input : List �
 abbrev pub IsConeFor : ℕ → Option (List ℕ) → List ℕ → ℕ → Script → Type 0
 IsConeFor workers given input serial (Steps lines) = AreOfCone workers given input serial lines.items
 IsConeFor workers given input serial (Refused line) = IsRefusal workers given input line.items
+
+-- it is the cone of a serial in a session whose source and commands are these
+abbrev pub IsConeOver : ℕ → SessionBytes → ℕ → Script → Type 0
+IsConeOver workers session serial script =
+    IsConeFor workers (Some session.source.now) session.commands.now serial script
+
+-- it is the cone of a serial in the session that a reader had
+abbrev pub IsConeIn : Option (List ℕ) → Options → ℕ → Script → Type 0
+IsConeIn bytes options serial script =
+    IfSome bytes (λ input. IsConeFor options.workers (option_copied options.source) input serial script)

@@ -1,11 +1,10 @@
 //! The steps that a roll would take, taking none.
 
-ghost use Rattle.std.specs.Prelude.{◌≡◌, ◌<◌, ◌≤◌, ◌++◌, Some, map, reverse, IfOk, OnOk, IfSome};
-ghost use Rattle.std.specs.Option.{option_copied};
+ghost use Rattle.std.specs.Prelude.{◌≡◌, ◌<◌, ◌≤◌, ◌++◌, reverse, IfOk, OnOk};
 ghost use Rattle.om_book.specs.Books.{machine_of};
 ghost use Rattle.om_command.specs.Lists.{joined, roll_text};
 ghost use Rattle.om_script.specs.Cones.{cone_line, cone_text, IsConeOf};
-ghost use Rattle.om_script.specs.Sessions.{IsConeFor};
+ghost use Rattle.om_script.specs.Sessions.{IsConeIn, IsConeOver};
 
 use crate::answer::{Script, ScriptFault};
 use crate::run::{Ran, run_over};
@@ -32,10 +31,7 @@ pub fn cone<H: Threads + Wait + Sync, R: Read>(
 ) -> Result<Script, ScriptFault>
     requires at_least_one_worker { 0 < options.workers }
     requires at_most_32_workers { options.workers ≤ 32 }
-    ensures { IfOk result
-        (λ script. IfSome (R.remaining reader.old) (λ input.
-        IsConeFor options.entry.workers (option_copied options.entry.source) input serial
-        script)) }
+    ensures { IfOk result (IsConeIn (R.remaining reader.old) options.entry serial) }
 {
     let input = read_all(alloc, reader)?;
     let session = session_bytes(options.source, &input);
@@ -52,10 +48,7 @@ fn cone_of<H: Threads + Wait + Sync>(
 ) -> Result<Script, ScriptFault>
     requires at_least_one_worker { 0 < workers }
     requires at_most_32_workers { workers ≤ 32 }
-    ensures { IfOk result
-        (λ script.
-        IsConeFor workers (Some session.entry.source.now) session.entry.commands.now serial
-        script) }
+    ensures { IfOk result (IsConeOver workers session.entry serial) }
 {
     let Ran { text, book } = run_over(rt, alloc, workers, session.source, session.commands)?;
     match book {

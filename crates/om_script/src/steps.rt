@@ -1,11 +1,10 @@
 //! The steps that a session leaves, as commands.
 
-ghost use Rattle.std.specs.Prelude.{◌≡◌, ◌<◌, ◌≤◌, Some, map, true, IfOk, IfSome};
-ghost use Rattle.std.specs.Option.{option_copied};
+ghost use Rattle.std.specs.Prelude.{◌≡◌, ◌<◌, ◌≤◌, map, true, IfOk};
 ghost use Rattle.om_lines.specs.Commands.{script_text};
-ghost use Rattle.om_script.specs.Steps.{unnumbered};
+ghost use Rattle.om_script.specs.Steps.{bare, unnumbered};
 ghost use Rattle.om_script.specs.Runs.{entries_in};
-ghost use Rattle.om_script.specs.Sessions.{LeadsTo, IsScriptFor};
+ghost use Rattle.om_script.specs.Sessions.{IsScriptIn, IsScriptOver, LeadBack};
 
 use crate::answer::{Script, ScriptFault};
 use crate::run::{Ran, run_over};
@@ -34,9 +33,7 @@ pub fn script<H: Threads + Wait + Sync, R: Read>(
 ) -> Result<Script, ScriptFault>
     requires at_least_one_worker { 0 < options.workers }
     requires at_most_32_workers { options.workers ≤ 32 }
-    ensures { IfOk result
-        (λ script. IfSome (R.remaining reader.old) (λ input.
-        IsScriptFor options.entry.workers (option_copied options.entry.source) input script)) }
+    ensures { IfOk result (IsScriptIn (R.remaining reader.old) options.entry) }
 {
     let input = read_all(alloc, reader)?;
     let session = session_bytes(options.source, &input);
@@ -59,9 +56,7 @@ fn script_of<H: Threads + Wait + Sync>(
 ) -> Result<Script, ScriptFault>
     requires at_least_one_worker { 0 < workers }
     requires at_most_32_workers { workers ≤ 32 }
-    ensures { IfOk result
-        (λ script.
-        IsScriptFor workers (Some session.entry.source.now) session.entry.commands.now script) }
+    ensures { IfOk result (IsScriptOver workers session.entry) }
 {
     let Ran { text, book } = run_over(rt, alloc, workers, session.source, session.commands)?;
     match book {
@@ -103,9 +98,7 @@ fn leads_to<H: Threads + Wait + Sync>(
 ) -> Result<bool, ShellFault>
     requires at_least_one_worker { 0 < workers }
     requires at_most_32_workers { workers ≤ 32 }
-    ensures { IfOk result
-        (λ leads. leads ≡ true →
-        LeadsTo workers source.now steps.now.text.items steps.now.entries.items) }
+    ensures { IfOk result (λ leads. leads ≡ true → LeadBack workers source.now steps.now) }
 {
     let Ran { text: _, book } = run_over(rt, alloc, workers, source, &steps.text)?;
     match book {
@@ -119,8 +112,7 @@ fn leads_to<H: Threads + Wait + Sync>(
 
 // Whether entries are the same but for their serials.
 fn are_same(alloc: Global, ones: &[Entry], others: &[Entry]) -> Result<bool, ShellFault>
-    ensures { IfOk result
-        (λ same. same ≡ true → map unnumbered others.now ≡ map unnumbered ones.now) }
+    ensures { IfOk result (λ same. same ≡ true → bare others.now ≡ bare ones.now) }
 {
     let ones = unnumbered(alloc, ones)?;
     let others = unnumbered(alloc, others)?;
