@@ -53,11 +53,13 @@ fn break_stop(breaks: &[u64], before: u32, after: u32, worker: u8) -> Option<Sto
 fn is_same_cell(a: Cell, b: Cell) -> bool
     ensures { result ≡ cell_eq a b }
 {
-    match (a, b) {
-        (Cell::Int(a), Cell::Int(b)) => a == b,
-        (Cell::Unset, Cell::Unset) | (Cell::Dead, Cell::Dead) => true,
-        _ => false,
+    if let (Cell::Int(a), Cell::Int(b)) = (a, b) {
+        return a == b;
     }
+    matches!(
+        (a, b),
+        (Cell::Unset, Cell::Unset) | (Cell::Dead, Cell::Dead)
+    )
 }
 
 // What a cell of a global holds.
