@@ -1,3 +1,4 @@
 mod Bounded
 mod Undone
 mod Told
+mod Saying

@@ -1,15 +1,23 @@
 -- The calls of a debugger: it makes them through one seat, 0, of its book.
-use Rattle.std.specs.Prelude.{ℕ}
+use Rattle.std.specs.Prelude.{◌≡◌, ℕ, List}
+use Rattle.om_foot.specs.declared.object.Obj.{Obj}
 use Rattle.om_values.specs.declared.step.Choice.{Choice}
 use Rattle.om_values.specs.declared.step.Label.{Label}
+use Rattle.om_values.specs.declared.step.Entry.{Entry}
+use Rattle.om_values.specs.declared.value.Val.{Val}
+use Rattle.om_history.specs.Cones.{reply_to_roll}
+use Rattle.om_history.specs.declared.reply.RollReply.{RollReply}
 use Rattle.om_history.specs.declared.reply.StepReply.{StepReply}
 use Rattle.om_history.specs.declared.reply.UndoReply.{UndoReply}
 use Rattle.om_history.specs.Runs.{reply_to_step, reply_to_undo}
 use Rattle.om_book.specs.Books.{BookView, machine_of, with_record}
 use Rattle.om_journal.specs.declared.command.Command.{Command}
 use Rattle.om_journal.specs.declared.command.Command.TheVariants as call
+use Rattle.om_journal.specs.declared.command.Query.TheVariants as query
+use Rattle.om_journal.specs.declared.reply.Reply.{Reply}
 use Rattle.om_journal.specs.Runs.{reply_to}
-use Rattle.om_undo.specs.Machines.{MachineView, rules_for}
+use Rattle.om_undo.specs.Machines.{MachineView, rules_for, state_in}
+use Rattle.om_undo.specs.ReadyNames.{ready_names}
 
 -- the book behind a call
 abbrev pub with_call : BookView → Command → BookView
@@ -28,6 +36,43 @@ step_reply_of m label = reply_to_step (rules_for m) m.history label
 
 abbrev pub undo_reply_of : MachineView → ℕ → UndoReply
 undo_reply_of m worker = reply_to_undo (rules_for m) m.history worker
+
+-- what a worker's step by a choice is answered where a book stands
+abbrev pub step_reply_at : BookView → ℕ → Choice → StepReply
+step_reply_at b worker choice = step_reply_of (machine_of b) (label_of worker choice)
+
+-- the book behind a look at what an object holds
+abbrev pub with_value_look : BookView → Obj → BookView
+with_value_look b object = with_call b (call.Look (query.Value object))
+
+-- What the book tells of its last call, whatever book that call was made in: of any call its reply,
+abbrev pub IsReplyTold : Reply → BookView → Type 0
+IsReplyTold reply now = (b : BookView) (c : Command) → now ≡ with_call b c → reply ≡ reply_to (machine_of b) c
+
+-- of an undo how it went,
+abbrev pub IsUndoTold : UndoReply → BookView → Type 0
+IsUndoTold reply now = (b : BookView) (worker : ℕ) → now ≡ with_call b (call.Undo worker)
+    → reply ≡ undo_reply_of (machine_of b) worker
+
+-- of a roll how it went,
+abbrev pub IsRollTold : RollReply → BookView → Type 0
+IsRollTold reply now = (b : BookView) (serial : ℕ) → now ≡ with_call b (call.Roll serial)
+    → reply ≡ reply_to_roll (rules_for (machine_of b)) (machine_of b).history serial
+
+-- of a look at an object what it holds,
+abbrev pub IsValueTold : Val → BookView → Type 0
+IsValueTold value now = (b : BookView) (object : Obj) → now ≡ with_value_look b object
+    → value ≡ state_in (machine_of b) object
+
+-- of a look at the entries which ones stand,
+abbrev pub AreEntriesTold : List Entry → BookView → Type 0
+AreEntriesTold entries now = (b : BookView) → now ≡ with_call b (call.Look query.Entries)
+    → entries ≡ (machine_of b).history.entries
+
+-- and of a look at the tasks that are ready their names
+abbrev pub AreNamesTold : List (List ℕ) → BookView → Type 0
+AreNamesTold names now = (b : BookView) → now ≡ with_call b (call.Look query.Ready)
+    → names ≡ ready_names (machine_of b)
 
 -- a command that is neither a step nor an undo
 abbrev pub IsOther : Command → Type 0

@@ -1,6 +1,7 @@
 -- Free runs: all workers step at once, in whatever order they come to the lock.
-use Rattle.std.specs.Prelude.{◌≡◌, ℕ, Bool, true, false, ◌&&◌, cond, List, [], ◌∷◌}
+use Rattle.std.specs.Prelude.{◌≡◌, ℕ, Bool, true, false, ◌&&◌, cond, List, [], ◌∷◌, Vec}
 use Rattle.std.specs.List.{AllByRecursion}
+use Rattle.std.specs.declared.alloc.Global.{Global}
 use Rattle.om_drive.specs.FreeRuns.{with_records}
 use Rattle.om_drive.specs.OwnCalls.{is_own_call}
 use Rattle.om_book.specs.Books.{BookView, is_full, machine_of}
@@ -12,6 +13,7 @@ use Rattle.om_command.specs.Steps.{full_text}
 use Rattle.om_command.specs.Stops.{freed_text}
 use Rattle.om_undo.specs.Machines.{MachineView}
 use Rattle.om_view.specs.Said.{Said}
+use Rattle.om_view.specs.Says.{Says}
 
 -- a command, and the seat through which it came
 pub record SeatCall : Type 0 where
@@ -53,3 +55,7 @@ free_said run b = record {
   text = cond (run.full && is_full (freed_book run b)) full_text (freed_text (done_in (made_by run b)));
   book = freed_book run b;
 }
+
+-- what some free run over a book says is written behind a text, and the book that this run leaves is the new one
+abbrev pub SaysFreed : BookView → (old new : Vec ℕ Global) → BookView → Type 0
+SaysFreed b old new book = (run : FreeRun) × Says (free_said run b) old new book

@@ -2,6 +2,7 @@ pub mod Variables
 pub mod Locals
 pub mod Calls
 pub mod Said
+pub mod Says
 pub mod Looks
 pub mod Moves
 pub mod Stops

@@ -14,6 +14,9 @@ use Rattle.om_command.specs.Objects.{length_of}
 use Rattle.om_steps.specs.Objects.{object_of}
 use Rattle.om_view.specs.declared.local.Seen.{Seen}
 use Rattle.om_view.specs.declared.local.Seen.TheVariants as seen
+use Rattle.om_undo.specs.Machines.{MachineView, state_in}
+use Rattle.om_values.specs.Values.{control_in}
+use Rattle.om_foot.specs.declared.object.Obj.TheVariants as object
 use Rattle.om_view.specs.Variables.{cell_at, cell_of, element_at}
 
 -- the cell of a global variable, where there is one
@@ -43,3 +46,7 @@ seen_by program variable control.Idle = global_seen (cell_of program variable)
 seen_by program variable (control.Ended value) = global_seen (cell_of program variable)
 seen_by program variable (control.Running stack) = seen_in program variable stack.top
 seen_by program variable (control.Faulted fault stack) = seen_in program variable stack.top
+
+-- what a worker of a machine sees, by the control that it has there
+abbrev pub worker_sees : MachineView → ℕ → Variable → Seen
+worker_sees m worker variable = seen_by m.program variable (control_in (state_in m (object.Control worker)))

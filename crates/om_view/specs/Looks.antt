@@ -1,9 +1,11 @@
 -- The commands that look and change nothing.
 use Rattle.std.specs.Prelude.{ℕ, List, [], ◌∷◌}
+use Rattle.om_code.specs.declared.raw.Raw.{Raw}
 use Rattle.om_foot.specs.declared.object.Obj.{Obj}
 use Rattle.om_foot.specs.declared.object.Obj.TheVariants as object
 use Rattle.om_values.specs.declared.value.Task as tasks
 use Rattle.om_values.specs.declared.value.Task.TheVariants as task
+use Rattle.om_values.specs.declared.value.Val.{Val}
 use Rattle.om_values.specs.State.{State}
 use Rattle.om_values.specs.Values.{bytes_in, control_in, records_in, task_in}
 use Rattle.om_command.specs.declared.command.Variable.{Variable}
@@ -43,6 +45,10 @@ local_said variable cell b = looked_at b cell (local_text variable (state_in (ma
 abbrev pub line_at : MachineView → ℕ → ℕ
 line_at m worker = line_in m.program (control_in (state_in m (object.Control worker)))
 
+-- what a worker is doing, by the value of its control
+abbrev pub control_text : ℕ → Raw → Val → List ℕ
+control_text worker program value = where_text worker (control_in value) (line_in program (control_in value))
+
 -- `where W`
 abbrev pub where_said : ℕ → BookView → Said
 where_said worker b =
@@ -69,6 +75,10 @@ directive_line _ = 0
 
 abbrev pub ready_line : State → List ℕ → List ℕ
 ready_line s name = task_text name (directive_line (task_in (s (object.Task name))))
+
+-- tasks that are ready, each on a line
+abbrev pub ready_text : MachineView → List (List ℕ) → List ℕ
+ready_text m names = joined (ready_line (state_in m)) names
 
 abbrev pub tasks_text : State → List (List ℕ) → List ℕ
 tasks_text s [] = no_tasks_text

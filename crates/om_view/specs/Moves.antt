@@ -1,7 +1,8 @@
 -- The commands of one worker's steps and undos, and rolls.
-use Rattle.std.specs.Prelude.{ℕ, zero, suc, Bool, true, false, cond, ◌&&◌, nat_eq}
+use Rattle.std.specs.Prelude.{ℕ, zero, suc, Bool, true, false, cond, ◌&&◌, nat_eq, List}
 use Rattle.om_values.specs.declared.step.Choice.{Choice}
-use Rattle.om_values.specs.declared.step.Choice.TheVariants.{Next}
+use Rattle.om_values.specs.declared.step.Choice.TheVariants.{Next, Start}
+use Rattle.om_history.specs.declared.reply.StepReply.{StepReply}
 use Rattle.om_history.specs.declared.reply.UndoReply.{UndoReply}
 use Rattle.om_history.specs.declared.reply.UndoReply.TheVariants as undo_reply
 use Rattle.om_history.specs.Cones.{reply_to_roll}
@@ -11,7 +12,8 @@ use Rattle.om_journal.specs.declared.command.Command.TheVariants as call
 use Rattle.om_journal.specs.declared.reply.Reply.TheVariants as reply
 use Rattle.om_command.specs.Steps.{step_text, undo_text}
 use Rattle.om_command.specs.Lists.{roll_text}
-use Rattle.om_undo.specs.Machines.{rules_for}
+use Rattle.om_undo.specs.Machines.{MachineView, rules_for}
+use Rattle.om_view.specs.declared.moves.Stay.{Stay}
 use Rattle.om_view.specs.Calls.{label_of, step_reply_of, undo_reply_of, with_call, with_step}
 use Rattle.om_view.specs.Looks.{line_at}
 use Rattle.om_view.specs.Said.{Said, unless_full}
@@ -28,6 +30,10 @@ step_said worker choice b = unless_full b (record {
   book = with_step b (label_of worker choice);
 })
 
+-- `start W NAME`
+abbrev pub start_said : ℕ → List ℕ → BookView → Said
+start_said worker task b = step_said worker (Start task) b
+
 -- `undo W`
 abbrev pub undo_said : ℕ → BookView → Said
 undo_said worker b = unless_full b (record {
@@ -39,6 +45,18 @@ undo_said worker b = unless_full b (record {
 abbrev pub steps_within : ℕ → ℕ → BookView → Bool
 steps_within line worker b = is_step_made (reply.Step (step_reply_of (machine_of b) (label_of worker Next)))
     && nat_eq (line_at (machine_of (with_step b (label_of worker Next))) worker) line
+
+-- a worker still is at the line that it is to leave
+abbrev pub stays : MachineView → Stay → Bool
+stays m stay = nat_eq (line_at m stay.worker) stay.line
+
+-- this is the reply to a step that was done, and it left the worker at its line
+abbrev pub is_step_within : StepReply → MachineView → Stay → Bool
+is_step_within r m stay = is_step_made (reply.Step r) && stays m stay
+
+-- and this to an undo that took a step out, and left it there
+abbrev pub is_undo_within : UndoReply → MachineView → Stay → Bool
+is_undo_within r m stay = is_undone r && stays m stay
 
 -- a further step may follow
 abbrev pub goes_on : ℕ → Bool → Bool
@@ -55,6 +73,10 @@ next_within (suc further) line worker b =
       text = step_text worker (step_reply_of (machine_of b) (label_of worker Next));
       book = with_step b (label_of worker Next);
     }))
+
+-- those of a worker that is to leave its line
+abbrev pub next_from : ℕ → Stay → BookView → Said
+next_from further stay b = next_within further stay.line stay.worker b
 
 -- `next W`: 10,000 steps at most, until the line changes or a step isn't done; the last reply
 abbrev pub next_said : ℕ → ℕ → BookView → Said
@@ -74,6 +96,10 @@ back_within (suc further) line worker b =
       text = undo_text b.start.program worker (undo_reply_of (machine_of b) worker);
       book = with_call b (call.Undo worker);
     }))
+
+-- the undos of a worker that is to leave its line
+abbrev pub back_from : ℕ → Stay → BookView → Said
+back_from further stay b = back_within further stay.line stay.worker b
 
 -- `back W`: the same with undos
 abbrev pub back_said : ℕ → ℕ → BookView → Said

@@ -1,5 +1,5 @@
 -- Runs: the least worker that has a move makes it, so many times at most.
-use Rattle.std.specs.Prelude.{ℕ, zero, suc, ◌+◌, ◌-◌, Bool, true, false, cond, List, [], ◌∷◌, Option, None, Some}
+use Rattle.std.specs.Prelude.{ℕ, zero, suc, ◌+◌, ◌-◌, ◌<◌, Bool, true, false, cond, List, [], ◌∷◌, Option, None, Some}
 use Rattle.om_foot.specs.declared.object.Obj.TheVariants as object
 use Rattle.om_values.specs.declared.control.Control as controls
 use Rattle.om_values.specs.declared.control.Control.TheVariants as control
@@ -22,7 +22,7 @@ use Rattle.om_journal.specs.Runs.{is_step_made}
 use Rattle.om_journal.specs.declared.reply.Reply.TheVariants as reply
 use Rattle.om_view.specs.Calls.{label_of, step_reply_of, with_step}
 use Rattle.om_view.specs.Said.{Said}
-use Rattle.om_view.specs.Stops.{stop_behind}
+use Rattle.om_view.specs.Stops.{stop_after}
 
 -- a worker can make a step by a choice
 abbrev pub can_step : MachineView → ℕ → Choice → Bool
@@ -64,6 +64,26 @@ planned_for m worker choice = planned_move m (move_or worker choice None)
 abbrev pub planned_if : MachineView → Bool → Label → Option PlannedView
 planned_if m can label = cond can (Some (planned_at m label)) None
 
+-- the step of a worker by a choice, where it can be made
+abbrev pub planned_by : MachineView → ℕ → Choice → Option PlannedView
+planned_by m worker choice = planned_if m (can_step m worker choice) (label_of worker choice)
+
+-- the start of the least ready task that a worker can begin
+abbrev pub planned_start : MachineView → ℕ → Option PlannedView
+planned_start m worker = planned_for m worker (start_among m worker (ready_names m))
+
+-- a worker's move
+abbrev pub planned_of : MachineView → ℕ → Option PlannedView
+planned_of m worker = planned_for m worker (move_of m worker)
+
+-- the move of the least of the last so many workers that has one
+abbrev pub planned_among : MachineView → ℕ → Option PlannedView
+planned_among m last = planned_move m (move_among m last)
+
+-- a planned step is one of the first so many workers
+abbrev pub IsOfWorkerBelow : ℕ → PlannedView → Type 0
+IsOfWorkerBelow workers p = p.label.worker < workers
+
 -- the initial task has ended
 abbrev pub has_ended : controls.Control → Bool
 has_ended (control.Ended value) = true
@@ -76,6 +96,10 @@ stop_without_move m = cond (has_ended (control_in (state_in m (object.Control 0)
 abbrev pub ran : BookView → ℕ → Stop → Said
 ran b made why = record { text = ran_text b.start.program made why; book = b }
 
+-- what a run says that stops where no worker has a move, behind so many
+abbrev pub rest_text : BookView → ℕ → List ℕ
+rest_text b made = ran_text b.start.program made (stop_without_move (machine_of b))
+
 abbrev pub stopped_by : Option Stop → Moved
 stopped_by None = moved.GoesOn
 stopped_by (Some why) = moved.Stopped why
@@ -84,7 +108,7 @@ stopped_by (Some why) = moved.Stopped why
 abbrev pub moved_by : Marks → BookView → Option Label → Moved
 moved_by marks b None = moved.NoMove
 moved_by marks b (Some label) = cond (is_full b) moved.Full
-    (stopped_by (stop_behind marks (machine_of b) (machine_of (with_step b label)) label))
+    (stopped_by (stop_after marks b label))
 
 -- what a move leaves, where there is one
 abbrev pub behind_move : BookView → Option Label → BookView
@@ -110,3 +134,7 @@ unfoldable pub run_within : ℕ → ℕ → Marks → BookView → Said
 run_within zero made marks b = ran b made stop.Limit
 run_within (suc left) made marks b = said_by (moved_of marks b) made (after_move b)
     (run_within left (made + 1) marks (after_move b))
+
+-- `run K`
+abbrev pub run_said : ℕ → Marks → BookView → Said
+run_said steps marks b = run_within steps 0 marks b

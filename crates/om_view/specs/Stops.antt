@@ -13,10 +13,11 @@ use Rattle.om_command.specs.declared.stop.Stop.{Stop}
 use Rattle.om_command.specs.declared.stop.Stop.TheVariants as stop
 use Rattle.om_command.specs.declared.value.GlobalCell.{GlobalCell}
 use Rattle.om_undo.specs.Machines.{MachineView, state_in}
+use Rattle.om_book.specs.Books.{BookView, machine_of}
 use Rattle.om_view.specs.declared.marks.Marks.{Marks}
 use Rattle.om_view.specs.declared.stops.Watched.{Watched}
 use Rattle.om_view.specs.Looks.{line_at}
-use Rattle.om_view.specs.Calls.{step_reply_of}
+use Rattle.om_view.specs.Calls.{step_reply_of, with_step}
 
 -- the first of two that is there
 abbrev pub or_else : Option Stop → Option Stop → Option Stop
@@ -63,3 +64,7 @@ stop_behind marks before after label =
     or_else (fault_stop (step_reply_of before label) label.worker)
     (or_else (break_stop marks.breaks (line_at before label.worker) (line_at after label.worker) label.worker)
     (watch_stop (map (watched (state_in before)) marks.watches) (state_in after) label.worker))
+
+-- why a run stops behind a step that is taken where a book stands, if it does
+abbrev pub stop_after : Marks → BookView → Label → Option Stop
+stop_after marks b label = stop_behind marks (machine_of b) (machine_of (with_step b label)) label

@@ -1,7 +1,7 @@
 -- What a line of commands is answered, and what it leaves.
-use Rattle.std.specs.Prelude.{◌≡◌, ℕ, Bool, true, false, List, [], ◌∷◌, ◌++◌, Option, None, Some}
-use Rattle.om_values.specs.declared.step.Choice.TheVariants.{Next, Start}
-use Rattle.om_values.specs.Values.{control_in}
+use Rattle.std.specs.Prelude.{◌≡◌, ℕ, Bool, true, false, List, [], ◌∷◌, ◌++◌, Option, None, Some, Vec}
+use Rattle.std.specs.declared.alloc.Global.{Global}
+use Rattle.om_values.specs.declared.step.Choice.TheVariants.{Next}
 use Rattle.om_command.specs.declared.command.Command.{Command}
 use Rattle.om_command.specs.declared.command.Command.TheVariants as command
 use Rattle.om_command.specs.declared.command.CommandFault.{CommandFault}
@@ -10,11 +10,9 @@ use Rattle.om_command.specs.declared.command.Request.{Request}
 use Rattle.om_command.specs.declared.command.Request.TheVariants as request
 use Rattle.om_command.specs.declared.command.Variable.{Variable}
 use Rattle.om_command.specs.Commands.{request_of}
-use Rattle.om_foot.specs.declared.object.Obj.TheVariants as object
 use Rattle.om_command.specs.declared.value.GlobalCell.{GlobalCell}
 use Rattle.om_command.specs.Steps.{command_fault_text}
 use Rattle.om_command.specs.Stops.{break_text, deleted_text, watch_text}
-use Rattle.om_undo.specs.Machines.{state_in}
 use Rattle.om_code.specs.declared.raw.Raw.{Raw}
 use Rattle.om_view.specs.declared.debugger.Debugger.{Debugger}
 use Rattle.om_view.specs.declared.local.Seen.{Seen}
@@ -22,13 +20,14 @@ use Rattle.om_view.specs.declared.local.Seen.TheVariants as seen
 use Rattle.om_view.specs.declared.marks.Marks.{Marks}
 use Rattle.om_view.specs.Freed.{FreeRun, no_run, free_said}
 use Rattle.om_view.specs.Looks.{local_said, print_said, where_said, history_said, events_said, output_said, tasks_said}
-use Rattle.om_view.specs.Locals.{seen_by}
+use Rattle.om_view.specs.Locals.{worker_sees}
 use Rattle.om_view.specs.Marked.{with_break, with_watch, without_break}
-use Rattle.om_view.specs.Moves.{step_said, undo_said, next_said, back_said, roll_said}
+use Rattle.om_view.specs.Moves.{start_said, step_said, undo_said, next_said, back_said, roll_said}
 use Rattle.om_book.specs.Books.{machine_of}
 use Rattle.om_journal.specs.Runs.{fresh}
-use Rattle.om_view.specs.Runs.{run_within}
+use Rattle.om_view.specs.Runs.{run_said}
 use Rattle.om_view.specs.Said.{Said}
+use Rattle.om_view.specs.Says.{Writes}
 use Rattle.om_view.specs.Stops.{has_line}
 use Rattle.om_view.specs.Variables.{cell_of}
 
@@ -85,15 +84,13 @@ local_told d variable seen.Nothing = refused d BadArgument
 -- what a command is answered, by what the free run does if it is one
 abbrev pub obeyed : Debugger → FreeRun → Command → Told
 obeyed d run (command.Step worker) = called d (step_said worker Next d.book)
-obeyed d run (command.Start worker task) = called d (step_said worker (Start task) d.book)
+obeyed d run (command.Start worker task) = called d (start_said worker task d.book)
 obeyed d run (command.Undo worker) = called d (undo_said worker d.book)
 obeyed d run (command.Next worker) = called d (next_said 9999 worker d.book)
 obeyed d run (command.Back worker) = called d (back_said 9999 worker d.book)
 obeyed d run (command.Print variable) = global_told d variable
 obeyed d run (command.PrintLocal worker variable) =
-    local_told d variable
-    (seen_by (machine_of d.book).program variable
-    (control_in (state_in (machine_of d.book) (object.Control worker))))
+    local_told d variable (worker_sees (machine_of d.book) worker variable)
 obeyed d run (command.Where worker) = called d (where_said worker d.book)
 obeyed d run command.History = called d (history_said d.book)
 obeyed d run (command.Events worker) = called d (events_said worker d.book)
@@ -104,7 +101,7 @@ obeyed d run (command.Watch variable) = by_cell d (cell_of d.book.start.program 
     (λ cell. marked d (watch_text d.book.start.program cell) (with_watch cell d.marks))
 obeyed d run (command.Delete line) = marked d (deleted_text line (has_line d.marks.breaks line))
     (without_break line d.marks)
-obeyed d run (command.Run steps) = called d (run_within steps 0 d.marks d.book)
+obeyed d run (command.Run steps) = called d (run_said steps d.marks d.book)
 obeyed d run (command.Free rounds) = called d (free_said run d.book)
 obeyed d run (command.Roll serial) = called d (roll_said serial d.book)
 obeyed d run command.Quit = told d []
@@ -156,3 +153,19 @@ pub record IsAnswered (d : Debugger) (line text : List ℕ) (view : Debugger) (q
   pub runs : List FreeRun
   pub is : (later : List FreeRun) → answered d (runs ++ later) line
       ≡ record { text = text; view = view; quits = quits; runs = later }
+
+-- what is told is written behind a text, and the debugger that it leaves is this one
+abbrev pub Tells : Told → (old new : Vec ℕ Global) → Debugger → Type 0
+Tells told old new view = Writes told.text old new × (view ≡ told.view)
+
+-- a debugger carries out a command that is no free run
+abbrev pub Obeys : Debugger → Command → (old new : Vec ℕ Global) → Debugger → Type 0
+Obeys d c old new view = Tells (obeyed d no_run c) old new view
+
+-- among them `print W VAR`
+abbrev pub PrintsFor : Debugger → ℕ → Variable → (old new : Vec ℕ Global) → Debugger → Type 0
+PrintsFor d worker variable old new view = Obeys d (command.PrintLocal worker variable) old new view
+
+-- and it answers a request that asks for no free run
+abbrev pub AnswersRequest : Debugger → Request → (old new : Vec ℕ Global) → Debugger → Type 0
+AnswersRequest d asked old new view = Tells (answer_to d no_run asked) old new view

@@ -2,15 +2,12 @@
 
 ghost use Rattle.std.specs.Prelude.{◌≡◌, ◌<◌, ℕ, IfOk, OnOk};
 ghost use Rattle.om_foot.specs.declared.object.Obj.{Obj};
-ghost use Rattle.om_history.specs.Cones.{reply_to_roll};
 ghost use Rattle.om_book.specs.Books.{BookView, machine_of, records_of};
 ghost use Rattle.om_journal.specs.Records.{reply_in};
-ghost use Rattle.om_journal.specs.Runs.{IsInRange, reply_to};
+ghost use Rattle.om_journal.specs.Runs.{IsInRange};
 ghost use Rattle.om_journal.specs.declared.command.Command.{Command as Asked};
 ghost use Rattle.om_journal.specs.declared.command.Query.TheVariants as query;
-ghost use Rattle.om_undo.specs.Machines.{rules_for, state_in};
-ghost use Rattle.om_undo.specs.ReadyNames.{ready_names};
-ghost use Rattle.om_view.specs.Calls.{IsOther, label_of, step_reply_of, undo_reply_of, with_call, with_step};
+ghost use Rattle.om_view.specs.Calls.{IsOther, AreEntriesTold, AreNamesTold, IsReplyTold, IsRollTold, IsUndoTold, IsValueTold, label_of, step_reply_at, step_reply_of, with_call, with_step, with_value_look};
 
 use om_book::{Book, CallError};
 use om_foot::Name;
@@ -82,8 +79,7 @@ pub(crate) fn step(
 ) -> Result<StepReply, AllocError>
     requires in_range { worker < book.old.start.workers }
     requires room { records_of book.old < 200000 }
-    ensures reply { IfOk result
-        (λ reply. reply ≡ step_reply_of (machine_of book.old) (label_of worker choice.now)) }
+    ensures reply { IfOk result (λ reply. reply ≡ step_reply_at book.old worker choice.now) }
     ensures after { OnOk result (book.new ≡ with_step book.old (label_of worker choice.now)) }
 {
     let planned = book.machine().plan(alloc, worker, choice)?;
@@ -93,8 +89,7 @@ pub(crate) fn step(
 // What the last call was answered.
 fn told(book: &Book) -> ReplyIn<'_>
     requires { (b : BookView) × (c : Asked) × (book.now ≡ with_call b c) }
-    ensures { (b : BookView) (c : Asked) → book.now ≡ with_call b c
-        → reply_in result ≡ reply_to (machine_of b) c }
+    ensures { IsReplyTold (reply_in result) book.now }
 {
     book.last_reply()
 }
@@ -102,8 +97,7 @@ fn told(book: &Book) -> ReplyIn<'_>
 // What the last call was answered, which was neither a step nor an undo.
 fn other_told(book: &Book) -> &Reply
     requires { (b : BookView) × (c : Asked) × (book.now ≡ with_call b c) × IsOther c }
-    ensures { (b : BookView) (c : Asked) → book.now ≡ with_call b c
-        → result.now ≡ reply_to (machine_of b) c }
+    ensures { IsReplyTold result.now book.now }
 {
     match told(book) {
         ReplyIn::Step(_) => unreachable!(),
@@ -115,8 +109,7 @@ fn other_told(book: &Book) -> &Reply
 /// What the last call was answered, which was a worker's undo.
 pub(crate) fn undo_told(book: &Book) -> &KeptUndoReply
     requires { (b : BookView) × (worker : ℕ) × (book.now ≡ with_call b (Command.Undo worker)) }
-    ensures { (b : BookView) (worker : ℕ) → book.now ≡ with_call b (Command.Undo worker)
-        → result.now ≡ undo_reply_of (machine_of b) worker }
+    ensures { IsUndoTold result.now book.now }
 {
     let reply = match told(book) {
         ReplyIn::Step(_) => unreachable!(),
@@ -132,8 +125,7 @@ pub(crate) fn undo_told(book: &Book) -> &KeptUndoReply
 /// What the last call was answered, which was a roll.
 pub(crate) fn roll_told(book: &Book) -> &RollReply
     requires { (b : BookView) × (serial : ℕ) × (book.now ≡ with_call b (Command.Roll serial)) }
-    ensures { (b : BookView) (serial : ℕ) → book.now ≡ with_call b (Command.Roll serial)
-        → result.now ≡ reply_to_roll (rules_for (machine_of b)) (machine_of b).history serial }
+    ensures { IsRollTold result.now book.now }
 {
     let Reply::Roll(reply) = other_told(book) else {
         unreachable!()
@@ -143,11 +135,8 @@ pub(crate) fn roll_told(book: &Book) -> &RollReply
 
 /// What the last call was answered, which was a look at what an object holds.
 pub(crate) fn value_told(book: &Book) -> &Val
-    requires { (b : BookView) × (object : Obj)
-        × (book.now ≡ with_call b (Command.Look (query.Value object))) }
-    ensures { (b : BookView) (object : Obj)
-        → book.now ≡ with_call b (Command.Look (query.Value object))
-        → result.now ≡ state_in (machine_of b) object }
+    requires { (b : BookView) × (object : Obj) × (book.now ≡ with_value_look b object) }
+    ensures { IsValueTold result.now book.now }
 {
     let Reply::Value(value) = other_told(book) else {
         unreachable!()
@@ -158,8 +147,7 @@ pub(crate) fn value_told(book: &Book) -> &Val
 /// What the last call was answered, which was a look at the entries that stand.
 pub(crate) fn entries_told(book: &Book) -> &Seq<Entry>
     requires { (b : BookView) × (book.now ≡ with_call b (Command.Look query.Entries)) }
-    ensures { (b : BookView) → book.now ≡ with_call b (Command.Look query.Entries)
-        → result.now ≡ (machine_of b).history.entries }
+    ensures { AreEntriesTold result.now book.now }
 {
     let Reply::Entries(entries) = other_told(book) else {
         unreachable!()
@@ -170,8 +158,7 @@ pub(crate) fn entries_told(book: &Book) -> &Seq<Entry>
 /// What the last call was answered, which was a look at the names of the tasks that are ready, ascending.
 pub(crate) fn names_told(book: &Book) -> &Seq<Name>
     requires { (b : BookView) × (book.now ≡ with_call b (Command.Look query.Ready)) }
-    ensures { (b : BookView) → book.now ≡ with_call b (Command.Look query.Ready)
-        → result.now ≡ ready_names (machine_of b) }
+    ensures { AreNamesTold result.now book.now }
 {
     let Reply::Ready(names) = other_told(book) else {
         unreachable!()

@@ -3,9 +3,8 @@
 ghost use Rattle.std.specs.Prelude.{◌≡◌, ◌≤◌, ◌++◌, ℕ, List, None, IfOk, OnOk};
 ghost use Rattle.om_command.specs.Commands.{AsksWorkerBelow, HasWorkerBelow};
 ghost use Rattle.om_command.specs.declared.command.Request.TheVariants as request;
-ghost use Rattle.om_view.specs.Freed.{no_run};
-ghost use Rattle.om_view.specs.Views.{opened, obeyed, answer_to, is_quit, rounds_asked, IsAnswered};
-ghost use Rattle.om_command.specs.declared.command.Command.TheVariants as command;
+ghost use Rattle.om_view.specs.Views.{opened, is_quit, rounds_asked, AnswersRequest, IsAnswered, Obeys, PrintsFor};
+ghost use Rattle.om_command.specs.declared.command.Command.TheVariants.{Break, Delete, Print, Watch};
 
 use crate::freed::free;
 use crate::local::{Seen, worker_sees};
@@ -102,9 +101,7 @@ impl Debugger {
     ) -> Result<(), AllocError>
         requires in_range { AsksWorkerBelow self.old.book.start.workers request.now }
         requires no_free_run { rounds_asked request.now ≡ None }
-        ensures text { OnOk result
-            (text.new.items ≡ text.old.items ++ (answer_to self.old no_run request.now).text) }
-        ensures view { OnOk result (self.new ≡ (answer_to self.old no_run request.now).view) }
+        ensures { OnOk result (AnswersRequest self.old request.now text.old text.new self.new) }
     {
         match request {
             Request::Nothing => Ok(()),
@@ -123,9 +120,7 @@ impl Debugger {
     ) -> Result<(), AllocError>
         requires in_range { HasWorkerBelow self.old.book.start.workers command.now }
         requires no_free_run { rounds_asked (request.Command command.now) ≡ None }
-        ensures text { OnOk result
-            (text.new.items ≡ text.old.items ++ (obeyed self.old no_run command.now).text) }
-        ensures view { OnOk result (self.new ≡ (obeyed self.old no_run command.now).view) }
+        ensures { OnOk result (Obeys self.old command.now text.old text.new self.new) }
     {
         match command {
             Command::Step(worker) => step(alloc, &mut self.book, *worker, text),
@@ -143,9 +138,7 @@ impl Debugger {
     ) -> Result<(), AllocError>
         requires in_range { HasWorkerBelow self.old.book.start.workers command.now }
         requires no_free_run { rounds_asked (request.Command command.now) ≡ None }
-        ensures text { OnOk result
-            (text.new.items ≡ text.old.items ++ (obeyed self.old no_run command.now).text) }
-        ensures view { OnOk result (self.new ≡ (obeyed self.old no_run command.now).view) }
+        ensures { OnOk result (Obeys self.old command.now text.old text.new self.new) }
     {
         let book = &mut self.book;
         match command {
@@ -180,11 +173,7 @@ impl Debugger {
         variable: &Variable,
         text: &mut Vec<u8>,
     ) -> Result<(), AllocError>
-        ensures text { OnOk result
-            (text.new.items ≡ text.old.items
-            ++ (obeyed self.old no_run (command.Print variable.now)).text) }
-        ensures view { OnOk result
-            (self.new ≡ (obeyed self.old no_run (command.Print variable.now)).view) }
+        ensures { OnOk result (Obeys self.old (Print variable.now) text.old text.new self.new) }
     {
         match cell_of(self.book.machine().program(), variable) {
             Some(cell) => print(alloc, &mut self.book, cell, text),
@@ -200,11 +189,7 @@ impl Debugger {
         variable: &Variable,
         text: &mut Vec<u8>,
     ) -> Result<(), AllocError>
-        ensures text { OnOk result
-            (text.new.items ≡ text.old.items
-            ++ (obeyed self.old no_run (command.PrintLocal worker variable.now)).text) }
-        ensures view { OnOk result
-            (self.new ≡ (obeyed self.old no_run (command.PrintLocal worker variable.now)).view) }
+        ensures { OnOk result (PrintsFor self.old worker variable.now text.old text.new self.new) }
     {
         let machine = self.book.machine();
         let seen = worker_sees(machine, worker, variable);
@@ -217,10 +202,7 @@ impl Debugger {
 
     // Answers `break L`.
     fn set_break(&mut self, line: u64, text: &mut Vec<u8>) -> Result<(), AllocError>
-        ensures text { OnOk result
-            (text.new.items ≡ text.old.items
-            ++ (obeyed self.old no_run (command.Break line)).text) }
-        ensures view { OnOk result (self.new ≡ (obeyed self.old no_run (command.Break line)).view) }
+        ensures { OnOk result (Obeys self.old (Break line) text.old text.new self.new) }
     {
         self.marks.set_break(line)?;
         push_break(text, line)
@@ -228,11 +210,7 @@ impl Debugger {
 
     // Answers `watch VAR`.
     fn set_watch(&mut self, variable: &Variable, text: &mut Vec<u8>) -> Result<(), AllocError>
-        ensures text { OnOk result
-            (text.new.items ≡ text.old.items
-            ++ (obeyed self.old no_run (command.Watch variable.now)).text) }
-        ensures view { OnOk result
-            (self.new ≡ (obeyed self.old no_run (command.Watch variable.now)).view) }
+        ensures { OnOk result (Obeys self.old (Watch variable.now) text.old text.new self.new) }
     {
         match cell_of(self.book.machine().program(), variable) {
             Some(cell) => {
@@ -245,11 +223,7 @@ impl Debugger {
 
     // Answers `delete L`.
     fn delete(&mut self, alloc: Global, line: u64, text: &mut Vec<u8>) -> Result<(), AllocError>
-        ensures text { OnOk result
-            (text.new.items ≡ text.old.items
-            ++ (obeyed self.old no_run (command.Delete line)).text) }
-        ensures view { OnOk result
-            (self.new ≡ (obeyed self.old no_run (command.Delete line)).view) }
+        ensures { OnOk result (Obeys self.old (Delete line) text.old text.new self.new) }
     {
         let was_set = self.marks.delete(alloc, line)?;
         push_deleted(text, line, was_set)

@@ -1,7 +1,7 @@
 //! The command `free`: all workers step at once, each in a thread of its own.
 
-ghost use Rattle.std.specs.Prelude.{◌≡◌, ◌++◌, OnOk};
-ghost use Rattle.om_view.specs.Freed.{FreeRun, free_said};
+ghost use Rattle.std.specs.Prelude.{OnOk};
+ghost use Rattle.om_view.specs.Freed.{SaysFreed};
 
 use om_book::Book;
 use om_command::{push_freed, push_full};
@@ -19,9 +19,7 @@ pub(crate) fn free<R: Threads + Wait + Sync>(
     rounds: u64,
     text: &mut Vec<u8>,
 ) -> Result<(), AllocError>
-    ensures { OnOk result ((run : FreeRun)
-        × (text.new.items ≡ text.old.items ++ (free_said run book.old).text)
-        × (book.new ≡ (free_said run book.old).book)) }
+    ensures { OnOk result (SaysFreed book.old text.old text.new book.new) }
 {
     // Each round is a record at least, so more rounds come to no more.
     let rounds = u32::try_from(rounds).unwrap_or(u32::MAX);

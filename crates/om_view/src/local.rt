@@ -1,11 +1,8 @@
 //! The cell that a worker sees by the name of a variable.
 
 ghost use Rattle.std.specs.Prelude.{◌≡◌};
-ghost use Rattle.om_values.specs.Values.{control_in};
-ghost use Rattle.om_foot.specs.declared.object.Obj.TheVariants as object;
 ghost use Rattle.om_live.specs.Plain.{plain_context, plain_control};
-ghost use Rattle.om_undo.specs.Machines.{state_in};
-ghost use Rattle.om_view.specs.Locals.{cell_seen, global_seen, seen_by, seen_in, var_seen};
+ghost use Rattle.om_view.specs.Locals.{cell_seen, global_seen, seen_by, seen_in, var_seen, worker_sees};
 
 use crate::variable::{cell_at, cell_of, element_at, length_of};
 use om_code::Program;
@@ -84,8 +81,7 @@ fn seen_by(program: &Program, variable: &Variable, control: &Control) -> Seen
 
 /// What a worker sees by the name of a variable.
 pub(crate) fn worker_sees(machine: &Machine, worker: u8, variable: &Variable) -> Seen
-    ensures { result ≡ seen_by machine.now.program variable.now
-        (control_in (state_in machine.now (object.Control worker))) }
+    ensures { result ≡ worker_sees machine.now worker variable.now }
 {
     match machine.control(worker) {
         Some(control) => seen_by(machine.program(), variable, control),

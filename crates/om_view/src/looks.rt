@@ -1,14 +1,12 @@
 //! The commands that look and change nothing.
 
-ghost use Rattle.std.specs.Prelude.{◌≡◌, ◌<◌, ◌++◌, unwrap_or, OnOk};
+ghost use Rattle.std.specs.Prelude.{◌≡◌, ◌<◌, unwrap_or, OnOk};
 ghost use Rattle.std.specs.Option.{option_copied};
 ghost use Rattle.om_values.specs.declared.value.Task.TheVariants as tasks;
-ghost use Rattle.om_command.specs.Lists.{joined};
 ghost use Rattle.om_task.specs.Rules.{line_in};
 ghost use Rattle.om_undo.specs.Machines.{state_in};
-ghost use Rattle.om_command.specs.Places.{where_text};
-ghost use Rattle.om_values.specs.Values.{control_in};
-ghost use Rattle.om_view.specs.Looks.{local_said, print_said, where_said, history_said, events_said, output_said, directive_line, ready_line, tasks_text, tasks_said};
+ghost use Rattle.om_view.specs.Looks.{local_said, print_said, control_text, where_said, history_said, events_said, output_said, directive_line, ready_line, ready_text, tasks_text, tasks_said};
+ghost use Rattle.om_view.specs.Says.{Says, Writes};
 
 use crate::calls::{call, entries_told, names_told, value_told};
 use om_book::Book;
@@ -31,9 +29,7 @@ pub(crate) fn print(
     cell: GlobalCell,
     text: &mut Vec<u8>,
 ) -> Result<(), AllocError>
-    ensures text { OnOk result
-        (text.new.items ≡ text.old.items ++ (print_said cell book.old).text) }
-    ensures after { OnOk result (book.new ≡ (print_said cell book.old).book) }
+    ensures { OnOk result (Says (print_said cell book.old) text.old text.new book.new) }
 {
     if book.is_full() {
         return push_full(text);
@@ -50,10 +46,7 @@ pub(crate) fn print_local(
     cell: &Obj,
     text: &mut Vec<u8>,
 ) -> Result<(), AllocError>
-    ensures text { OnOk result
-        (text.new.items ≡ text.old.items ++ (local_said variable.now cell.now book.old).text) }
-    ensures after { OnOk result
-        (book.new ≡ (local_said variable.now cell.now book.old).book) }
+    ensures { OnOk result (Says (local_said variable.now cell.now book.old) text.old text.new book.new) }
 {
     if book.is_full() {
         return push_full(text);
@@ -81,9 +74,7 @@ fn push_control(
     worker: u8,
     value: &Val,
 ) -> Result<(), AllocError>
-    ensures { OnOk result
-        (text.new.items ≡ text.old.items
-        ++ where_text worker (control_in value.now) (line_in program.now (control_in value.now))) }
+    ensures { OnOk result (Writes (control_text worker program.now value.now) text.old text.new) }
 {
     match value.control() {
         Some(control) => push_where(text, worker, control, line_in(program, control)),
@@ -99,9 +90,7 @@ pub(crate) fn place(
     text: &mut Vec<u8>,
 ) -> Result<(), AllocError>
     requires { worker < book.old.start.workers }
-    ensures text { OnOk result
-        (text.new.items ≡ text.old.items ++ (where_said worker book.old).text) }
-    ensures after { OnOk result (book.new ≡ (where_said worker book.old).book) }
+    ensures { OnOk result (Says (where_said worker book.old) text.old text.new book.new) }
 {
     if book.is_full() {
         return push_full(text);
@@ -116,9 +105,7 @@ pub(crate) fn place(
 
 /// Answers `history`.
 pub(crate) fn history(alloc: Global, book: &mut Book, text: &mut Vec<u8>) -> Result<(), AllocError>
-    ensures text { OnOk result
-        (text.new.items ≡ text.old.items ++ (history_said book.old).text) }
-    ensures after { OnOk result (book.new ≡ (history_said book.old).book) }
+    ensures { OnOk result (Says (history_said book.old) text.old text.new book.new) }
 {
     if book.is_full() {
         return push_full(text);
@@ -134,9 +121,7 @@ pub(crate) fn events(
     worker: u8,
     text: &mut Vec<u8>,
 ) -> Result<(), AllocError>
-    ensures text { OnOk result
-        (text.new.items ≡ text.old.items ++ (events_said worker book.old).text) }
-    ensures after { OnOk result (book.new ≡ (events_said worker book.old).book) }
+    ensures { OnOk result (Says (events_said worker book.old) text.old text.new book.new) }
 {
     if book.is_full() {
         return push_full(text);
@@ -151,9 +136,7 @@ pub(crate) fn events(
 
 /// Answers `output`.
 pub(crate) fn output(alloc: Global, book: &mut Book, text: &mut Vec<u8>) -> Result<(), AllocError>
-    ensures text { OnOk result
-        (text.new.items ≡ text.old.items ++ (output_said book.old).text) }
-    ensures after { OnOk result (book.new ≡ (output_said book.old).book) }
+    ensures { OnOk result (Says (output_said book.old) text.old text.new book.new) }
 {
     if book.is_full() {
         return push_full(text);
@@ -179,8 +162,7 @@ fn push_ready(
     name: &Name,
     text: &mut Vec<u8>,
 ) -> Result<(), AllocError>
-    ensures { OnOk result
-        (text.new.items ≡ text.old.items ++ ready_line (state_in machine.now) name.now) }
+    ensures { OnOk result (Writes (ready_line (state_in machine.now) name.now) text.old text.new) }
 {
     let value = machine.look(alloc, &Obj::Task(*name))?;
     let line = directive_line(value.task());
@@ -195,8 +177,7 @@ fn push_all_ready(
     names: &[Name],
     text: &mut Vec<u8>,
 ) -> Result<(), AllocError>
-    ensures { OnOk result
-        (text.new.items ≡ text.old.items ++ joined (ready_line (state_in machine.now)) names.now) }
+    ensures { OnOk result (Writes (ready_text machine.now names.now) text.old text.new) }
 {
     for name in names {
         push_ready(alloc, machine, name, text)?;
@@ -211,8 +192,7 @@ fn push_tasks(
     names: &[Name],
     text: &mut Vec<u8>,
 ) -> Result<(), AllocError>
-    ensures { OnOk result
-        (text.new.items ≡ text.old.items ++ tasks_text (state_in machine.now) names.now) }
+    ensures { OnOk result (Writes (tasks_text (state_in machine.now) names.now) text.old text.new) }
 {
     match names {
         [] => push_no_tasks(text),
@@ -222,8 +202,7 @@ fn push_tasks(
 
 /// Answers `tasks`.
 pub(crate) fn tasks(alloc: Global, book: &mut Book, text: &mut Vec<u8>) -> Result<(), AllocError>
-    ensures text { OnOk result (text.new.items ≡ text.old.items ++ (tasks_said book.old).text) }
-    ensures after { OnOk result (book.new ≡ (tasks_said book.old).book) }
+    ensures { OnOk result (Says (tasks_said book.old) text.old text.new book.new) }
 {
     if book.is_full() {
         return push_full(text);

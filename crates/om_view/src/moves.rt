@@ -1,13 +1,12 @@
 //! The commands of one worker's steps and undos, and rolls.
 
-ghost use Rattle.std.specs.Prelude.{◌≡◌, ◌<◌, ◌++◌, ◌&&◌, nat_eq, true, OnOk};
-ghost use Rattle.om_values.specs.declared.step.Choice.TheVariants as choices;
+ghost use Rattle.std.specs.Prelude.{◌≡◌, ◌<◌, true, OnOk};
+ghost use Rattle.om_values.specs.declared.step.Choice.TheVariants.{Next};
 ghost use Rattle.om_command.specs.Steps.{undo_text};
-ghost use Rattle.om_view.specs.Looks.{line_at};
 ghost use Rattle.om_journal.specs.declared.reply.Reply.TheVariants as replies;
-ghost use Rattle.om_book.specs.Books.{machine_of};
 ghost use Rattle.om_journal.specs.Runs.{is_step_made};
-ghost use Rattle.om_view.specs.Moves.{goes_on, is_undone, step_said, undo_said, next_within, next_said, back_within, back_said, roll_said};
+ghost use Rattle.om_view.specs.Moves.{goes_on, is_undone, stays, is_step_within, is_undo_within, step_said, start_said, undo_said, next_from, next_said, back_from, back_said, roll_said};
+ghost use Rattle.om_view.specs.Says.{Says, Writes};
 
 use crate::calls;
 use om_book::Book;
@@ -37,9 +36,7 @@ fn step_by(
     text: &mut Vec<u8>,
 ) -> Result<(), AllocError>
     requires { worker < book.old.start.workers }
-    ensures text { OnOk result
-        (text.new.items ≡ text.old.items ++ (step_said worker choice.now book.old).text) }
-    ensures after { OnOk result (book.new ≡ (step_said worker choice.now book.old).book) }
+    ensures { OnOk result (Says (step_said worker choice.now book.old) text.old text.new book.new) }
 {
     if book.is_full() {
         return push_full(text);
@@ -56,9 +53,7 @@ pub(crate) fn step(
     text: &mut Vec<u8>,
 ) -> Result<(), AllocError>
     requires { worker < book.old.start.workers }
-    ensures text { OnOk result
-        (text.new.items ≡ text.old.items ++ (step_said worker choices.Next book.old).text) }
-    ensures after { OnOk result (book.new ≡ (step_said worker choices.Next book.old).book) }
+    ensures { OnOk result (Says (step_said worker Next book.old) text.old text.new book.new) }
 {
     step_by(alloc, book, worker, &Choice::Next, text)
 }
@@ -72,10 +67,7 @@ pub(crate) fn start(
     text: &mut Vec<u8>,
 ) -> Result<(), AllocError>
     requires { worker < book.old.start.workers }
-    ensures text { OnOk result (text.new.items
-        ≡ text.old.items ++ (step_said worker (choices.Start task.now) book.old).text) }
-    ensures after { OnOk result
-        (book.new ≡ (step_said worker (choices.Start task.now) book.old).book) }
+    ensures { OnOk result (Says (start_said worker task.now book.old) text.old text.new book.new) }
 {
     step_by(alloc, book, worker, &Choice::Start(task.name()), text)
 }
@@ -87,8 +79,7 @@ fn push_refused(
     worker: u8,
     reply: &KeptUndoReply,
 ) -> Result<(), AllocError>
-    ensures { OnOk result
-        (text.new.items ≡ text.old.items ++ undo_text program.now worker reply.now) }
+    ensures { OnOk result (Writes (undo_text program.now worker reply.now) text.old text.new) }
 {
     push_undo(text, program, worker, &reply.get())
 }
@@ -100,8 +91,7 @@ fn push_kept(
     worker: u8,
     reply: &KeptUndoReply,
 ) -> Result<(), AllocError>
-    ensures { OnOk result
-        (text.new.items ≡ text.old.items ++ undo_text program.now worker reply.now) }
+    ensures { OnOk result (Writes (undo_text program.now worker reply.now) text.old text.new) }
 {
     match reply.undone() {
         Some(step) => push_undone(text, step.serial, worker, step.line),
@@ -117,9 +107,7 @@ pub(crate) fn undo(
     text: &mut Vec<u8>,
 ) -> Result<(), AllocError>
     requires { worker < book.old.start.workers }
-    ensures text { OnOk result
-        (text.new.items ≡ text.old.items ++ (undo_said worker book.old).text) }
-    ensures after { OnOk result (book.new ≡ (undo_said worker book.old).book) }
+    ensures { OnOk result (Says (undo_said worker book.old) text.old text.new book.new) }
 {
     if book.is_full() {
         return push_full(text);
@@ -150,7 +138,7 @@ fn is_undone(reply: &KeptUndoReply) -> bool
 // Whether a worker still is at the line.
 fn stays(machine: &Machine, stay: Stay) -> bool
     requires { stay.worker < machine.now.workers }
-    ensures { result ≡ nat_eq (line_at machine.now stay.worker) stay.line }
+    ensures { result ≡ stays machine.now stay }
 {
     machine.line(stay.worker) == stay.line
 }
@@ -158,8 +146,7 @@ fn stays(machine: &Machine, stay: Stay) -> bool
 // Whether a step was made that left its worker at the line, and a further one may follow.
 fn steps_on(machine: &Machine, reply: &StepReply, stay: Stay, further: u32) -> bool
     requires { stay.worker < machine.now.workers }
-    ensures on { result ≡ goes_on further
-        (is_step_made (replies.Step reply.now) && nat_eq (line_at machine.now stay.worker) stay.line) }
+    ensures on { result ≡ goes_on further (is_step_within reply.now machine.now stay) }
     ensures further { result ≡ true → 0 < further }
 {
     further > 0 && is_step_made(reply) && stays(machine, stay)
@@ -168,8 +155,7 @@ fn steps_on(machine: &Machine, reply: &StepReply, stay: Stay, further: u32) -> b
 // Whether a step was taken out, which left its worker at the line, and a further one may be.
 fn undoes_on(machine: &Machine, reply: &KeptUndoReply, stay: Stay, further: u32) -> bool
     requires { stay.worker < machine.now.workers }
-    ensures on { result ≡ goes_on further
-        (is_undone reply.now && nat_eq (line_at machine.now stay.worker) stay.line) }
+    ensures on { result ≡ goes_on further (is_undo_within reply.now machine.now stay) }
     ensures further { result ≡ true → 0 < further }
 {
     further > 0 && is_undone(reply) && stays(machine, stay)
@@ -184,11 +170,7 @@ fn next_within(
     text: &mut Vec<u8>,
 ) -> Result<(), AllocError>
     requires { stay.worker < book.old.start.workers }
-    ensures text { OnOk result
-        (text.new.items ≡ text.old.items
-        ++ (next_within further stay.line stay.worker book.old).text) }
-    ensures after { OnOk result
-        (book.new ≡ (next_within further stay.line stay.worker book.old).book) }
+    ensures { OnOk result (Says (next_from further stay book.old) text.old text.new book.new) }
 {
     let mut further = further;
     'steps: loop {
@@ -211,9 +193,7 @@ pub(crate) fn next(
     text: &mut Vec<u8>,
 ) -> Result<(), AllocError>
     requires { worker < book.old.start.workers }
-    ensures text { OnOk result
-        (text.new.items ≡ text.old.items ++ (next_said 9999 worker book.old).text) }
-    ensures after { OnOk result (book.new ≡ (next_said 9999 worker book.old).book) }
+    ensures { OnOk result (Says (next_said 9999 worker book.old) text.old text.new book.new) }
 {
     let line = book.machine().line(worker);
     next_within(alloc, book, Stay { worker, line }, MOST_FURTHER, text)
@@ -228,11 +208,7 @@ fn back_within(
     text: &mut Vec<u8>,
 ) -> Result<(), AllocError>
     requires { stay.worker < book.old.start.workers }
-    ensures text { OnOk result
-        (text.new.items ≡ text.old.items
-        ++ (back_within further stay.line stay.worker book.old).text) }
-    ensures after { OnOk result
-        (book.new ≡ (back_within further stay.line stay.worker book.old).book) }
+    ensures { OnOk result (Says (back_from further stay book.old) text.old text.new book.new) }
 {
     let mut further = further;
     'undos: loop {
@@ -256,9 +232,7 @@ pub(crate) fn back(
     text: &mut Vec<u8>,
 ) -> Result<(), AllocError>
     requires { worker < book.old.start.workers }
-    ensures text { OnOk result
-        (text.new.items ≡ text.old.items ++ (back_said 9999 worker book.old).text) }
-    ensures after { OnOk result (book.new ≡ (back_said 9999 worker book.old).book) }
+    ensures { OnOk result (Says (back_said 9999 worker book.old) text.old text.new book.new) }
 {
     let line = book.machine().line(worker);
     back_within(alloc, book, Stay { worker, line }, MOST_FURTHER, text)
@@ -271,9 +245,7 @@ pub(crate) fn roll(
     serial: u64,
     text: &mut Vec<u8>,
 ) -> Result<(), AllocError>
-    ensures text { OnOk result
-        (text.new.items ≡ text.old.items ++ (roll_said serial book.old).text) }
-    ensures after { OnOk result (book.new ≡ (roll_said serial book.old).book) }
+    ensures { OnOk result (Says (roll_said serial book.old) text.old text.new book.new) }
 {
     if book.is_full() {
         return push_full(text);

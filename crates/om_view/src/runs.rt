@@ -1,14 +1,11 @@
 //! Runs: the least worker that has a move makes it, so many times at most.
 
-ghost use Rattle.std.specs.Prelude.{◌≡◌, ◌<◌, ◌≤◌, ◌+◌, ◌++◌, IfOk, IfSome, OnOk, Some};
+ghost use Rattle.std.specs.Prelude.{◌≡◌, ◌<◌, ◌≤◌, IfOk, IfSome, OnOk, Some};
 ghost use Rattle.std.specs.Option.{option_copied};
 ghost use Rattle.om_live.specs.Stores.{plain_or_idle};
-ghost use Rattle.om_undo.specs.ReadyNames.{ready_names};
-ghost use Rattle.om_command.specs.Stops.{ran_text};
 ghost use Rattle.om_book.specs.Books.{machine_of};
-ghost use Rattle.om_view.specs.Calls.{label_of};
-ghost use Rattle.om_undo.specs.Machines.{state_in};
-ghost use Rattle.om_view.specs.Runs.{can_step, planned_if, planned_for, planned_move, start_among, move_of, move_among, first_move, has_ended, stop_without_move, moved_by, behind_move, moved_of, after_move, run_within};
+ghost use Rattle.om_view.specs.Runs.{planned_by, planned_start, planned_of, planned_among, planned_move, first_move, IsOfWorkerBelow, has_ended, stop_without_move, rest_text, moved_by, behind_move, moved_of, after_move, run_said};
+ghost use Rattle.om_view.specs.Says.{Says, Writes};
 
 use crate::marks::Marks;
 use crate::stops::step_and_stop;
@@ -29,9 +26,7 @@ fn planned(
     choice: &Choice,
 ) -> Result<Option<PlannedStep>, AllocError>
     requires { worker < machine.now.workers }
-    ensures { IfOk result
-        (λ step. step ≡ planned_if machine.now (can_step machine.now worker choice.now)
-        (label_of worker choice.now)) }
+    ensures { IfOk result (λ step. step ≡ planned_by machine.now worker choice.now) }
 {
     let step = machine.plan(alloc, worker, choice)?;
     if step.is_possible() {
@@ -49,8 +44,7 @@ fn first_start(
     worker: u8,
 ) -> Result<Option<PlannedStep>, AllocError>
     requires { worker < machine.now.workers }
-    ensures { IfOk result (λ step. step ≡ planned_for machine.now worker
-        (start_among machine.now worker (ready_names machine.now))) }
+    ensures { IfOk result (λ step. step ≡ planned_start machine.now worker) }
 {
     starts_at_scheduling_points();
     ready_names_are_ready();
@@ -71,8 +65,7 @@ fn first_start(
 // A worker's move: its next step, else the start of the least task that it can begin.
 fn move_of(alloc: Global, machine: &Machine, worker: u8) -> Result<Option<PlannedStep>, AllocError>
     requires { worker < machine.now.workers }
-    ensures { IfOk result
-        (λ step. step ≡ planned_for machine.now worker (move_of machine.now worker)) }
+    ensures { IfOk result (λ step. step ≡ planned_of machine.now worker) }
 {
     match planned(alloc, machine, worker, &Choice::Next)? {
         Some(step) => Ok(Some(step)),
@@ -83,9 +76,8 @@ fn move_of(alloc: Global, machine: &Machine, worker: u8) -> Result<Option<Planne
 // The move of the least of the last so many workers that has one.
 fn move_among(alloc: Global, machine: &Machine, last: u8) -> Result<Option<PlannedStep>, AllocError>
     requires { last ≤ machine.now.workers }
-    ensures moved { IfOk result
-        (λ step. step ≡ planned_move machine.now (move_among machine.now last)) }
-    ensures in_range { IfOk result (λ step. IfSome step (λ p. p.label.worker < machine.now.workers)) }
+    ensures moved { IfOk result (λ step. step ≡ planned_among machine.now last) }
+    ensures in_range { IfOk result (λ step. IfSome step (IsOfWorkerBelow machine.now.workers)) }
 {
     let mut last = last;
     'workers: while last > 0 {
@@ -102,7 +94,7 @@ fn move_among(alloc: Global, machine: &Machine, last: u8) -> Result<Option<Plann
 // The move of the least worker that has one.
 fn first_move(alloc: Global, machine: &Machine) -> Result<Option<PlannedStep>, AllocError>
     ensures moved { IfOk result (λ step. step ≡ planned_move machine.now (first_move machine.now)) }
-    ensures in_range { IfOk result (λ step. IfSome step (λ p. p.label.worker < machine.now.workers)) }
+    ensures in_range { IfOk result (λ step. IfSome step (IsOfWorkerBelow machine.now.workers)) }
 {
     move_among(alloc, machine, machine.workers())
 }
@@ -132,9 +124,7 @@ fn stop_without_move(machine: &Machine) -> Stop
 
 // Tells that a run stops where no worker has a move.
 fn push_without_move(book: &Book, made: u64, text: &mut Vec<u8>) -> Result<(), AllocError>
-    ensures { OnOk result
-        (text.new.items ≡ text.old.items
-        ++ ran_text book.now.start.program made (stop_without_move (machine_of book.now))) }
+    ensures { OnOk result (Writes (rest_text book.now made) text.old text.new) }
 {
     let stop = stop_without_move(book.machine());
     push_ran(text, book.machine().program(), made, stop)
@@ -195,10 +185,7 @@ pub(crate) fn run(
     steps: u32,
     text: &mut Vec<u8>,
 ) -> Result<(), AllocError>
-    ensures text { OnOk result
-        (text.new.items ≡ text.old.items ++ (run_within steps 0 marks.now book.old).text) }
-    ensures after { OnOk result
-        (book.new ≡ (run_within steps 0 marks.now book.old).book) }
+    ensures { OnOk result (Says (run_said steps marks.now book.old) text.old text.new book.new) }
 {
     let mut left = steps;
     let mut made = 0;

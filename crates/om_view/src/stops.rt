@@ -5,7 +5,7 @@ ghost use Rattle.om_undo.specs.Machines.{state_in};
 ghost use Rattle.om_view.specs.Looks.{line_at};
 ghost use Rattle.om_book.specs.Books.{machine_of, records_of};
 ghost use Rattle.om_view.specs.Calls.{with_step};
-ghost use Rattle.om_view.specs.Stops.{or_else, fault_stop, break_stop, cell_eq, value_of, watched, watch_stop, stop_behind};
+ghost use Rattle.om_view.specs.Stops.{or_else, fault_stop, break_stop, cell_eq, value_of, watched, watch_stop, stop_after};
 
 use crate::calls::take;
 use crate::marks::{Marks, has_line};
@@ -135,9 +135,7 @@ pub(crate) fn step_and_stop(
     requires planned { step.machine ≡ machine_of book.old }
     requires in_range { step.label.worker < book.old.start.workers }
     requires room { records_of book.old < 200000 }
-    ensures stop { IfOk result
-        (λ stop. stop ≡ stop_behind marks.now (machine_of book.old)
-        (machine_of (with_step book.old step.label)) step.label) }
+    ensures stop { IfOk result (λ stop. stop ≡ stop_after marks.now book.old step.label) }
     ensures after { OnOk result (book.new ≡ with_step book.old step.label) }
 {
     let worker = step.worker();

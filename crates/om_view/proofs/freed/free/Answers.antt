@@ -23,8 +23,7 @@ returns-then-count g c =
     let text : Bool → List ℕ = λ full. cond full full_text (freed_text (done_in (made_by run old))) in
     on_ok_weaker c.push_full.result (λ said. (
       run,
-      said ∙ ap (λ full. c.args.text.now.items ++ text full) (sym no_room),
-      behind,
+      (said ∙ ap (λ full. c.args.text.now.items ++ text full) (sym no_room), behind),
     )) c.push_full.ensures
 
 pub returns : goal.returns
@@ -37,6 +36,8 @@ returns g c =
     let same : calls ≡ made_by run old = legal_records (machine_of old) calls ran.legal in
     on_ok_weaker c.push_freed.result (λ said. (
       run,
-      said ∙ ap (λ n. c.args.text.now.items ++ freed_text n) (c.in_ok-count.ensures.done ∙ ap done_in same),
-      ran.grown ∙ ap (with_records old) same,
+      (
+        said ∙ ap (λ n. c.args.text.now.items ++ freed_text n) (c.in_ok-count.ensures.done ∙ ap done_in same),
+        ran.grown ∙ ap (with_records old) same,
+      ),
     )) c.push_freed.ensures

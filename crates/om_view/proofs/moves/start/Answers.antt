@@ -1,7 +1,4 @@
 use Rattle.om_view.proofs.moves.start.Goals as goal
 
-pub returns-clause-text : goal.returns-clause-text
-returns-clause-text c = rw c.name.ensures at c.step_by.ensures.text
-
-pub returns-clause-after : goal.returns-clause-after
-returns-clause-after c = rw c.name.ensures at c.step_by.ensures.after
+pub returns : goal.returns
+returns c = rw c.name.ensures at c.step_by.ensures

@@ -3,47 +3,31 @@ use Rattle.std.proofs.lemmas.Result.{on_ok_weaker}
 use Rattle.om_view.proofs.Bounded.{run_ends, run_came}
 use Rattle.om_view.proofs.runs.run.Goals as goal
 
-pub returns-in-NoMove-clause-text : goal.returns-in-NoMove-clause-text
-returns-in-NoMove-clause-text c =
+pub returns-in-NoMove : goal.returns-in-NoMove
+returns-in-NoMove c =
     let came = sym c.in_ok-advance.ensures.moved ∙ c.in-NoMove.is in
     let said = sym c.steps.invariant.said ∙ run_came _ _ _ _ _ c.steps-test.true came in
-    rw said (rw (c.in_ok-advance.ensures.after, c.steps.invariant.text) at
-    c.push_without_move.ensures)
+    rw said (on_ok_weaker c.push_without_move.result (λ written. (written, c.in_ok-advance.ensures.after))
+    (rw (c.in_ok-advance.ensures.after, c.steps.invariant.text) at c.push_without_move.ensures))
 
-pub returns-in-NoMove-clause-after : goal.returns-in-NoMove-clause-after
-returns-in-NoMove-clause-after c =
-    let came = sym c.in_ok-advance.ensures.moved ∙ c.in-NoMove.is in
-    let said = sym c.steps.invariant.said ∙ run_came _ _ _ _ _ c.steps-test.true came in
-    rw said (on_ok_weaker c.push_without_move.result (λ _. c.in_ok-advance.ensures.after) c.push_without_move.ensures)
-
-pub returns-in-Full-clause-text : goal.returns-in-Full-clause-text
-returns-in-Full-clause-text c =
+pub returns-in-Full : goal.returns-in-Full
+returns-in-Full c =
     let came = sym c.in_ok-advance.ensures.moved ∙ c.in-Full.is in
     let said = sym c.steps.invariant.said ∙ run_came _ _ _ _ _ c.steps-test.true came in
-    rw said (rw c.steps.invariant.text at c.push_full.ensures)
+    rw said (on_ok_weaker c.push_full.result (λ written. (written, c.in_ok-advance.ensures.after))
+    (rw c.steps.invariant.text at c.push_full.ensures))
 
-pub returns-in-Full-clause-after : goal.returns-in-Full-clause-after
-returns-in-Full-clause-after c =
-    let came = sym c.in_ok-advance.ensures.moved ∙ c.in-Full.is in
-    let said = sym c.steps.invariant.said ∙ run_came _ _ _ _ _ c.steps-test.true came in
-    rw said (on_ok_weaker c.push_full.result (λ _. c.in_ok-advance.ensures.after) c.push_full.ensures)
-
-pub returns-in-Stopped-clause-text : goal.returns-in-Stopped-clause-text
-returns-in-Stopped-clause-text c =
+pub returns-in-Stopped : goal.returns-in-Stopped
+returns-in-Stopped c =
     let came = sym c.in_ok-advance.ensures.moved ∙ c.in-Stopped.is in
     let said = sym c.steps.invariant.said ∙ run_came _ _ _ _ _ c.steps-test.true came in
-    rw said (rw (
+    rw said (on_ok_weaker c.push_ran.result (λ written. (written, c.in_ok-advance.ensures.after))
+    (rw (
       c.program.ensures,
       c.machine.ensures.program,
       c.in_ok-advance.ensures.after,
       c.steps.invariant.text,
-    ) at c.push_ran.ensures)
-
-pub returns-in-Stopped-clause-after : goal.returns-in-Stopped-clause-after
-returns-in-Stopped-clause-after c =
-    let came = sym c.in_ok-advance.ensures.moved ∙ c.in-Stopped.is in
-    let said = sym c.steps.invariant.said ∙ run_came _ _ _ _ _ c.steps-test.true came in
-    rw said (on_ok_weaker c.push_ran.result (λ _. c.in_ok-advance.ensures.after) c.push_ran.ensures)
+    ) at c.push_ran.ensures))
 
 pub steps-preserved : goal.steps-preserved
 steps-preserved c =
@@ -54,12 +38,8 @@ steps-preserved c =
       count = omega (arith, c.steps.invariant.count, c.steps-test.true);
     })
 
-pub returns-clause-text : goal.returns-clause-text
-returns-clause-text c =
+pub returns : goal.returns
+returns c =
     let said = sym c.steps.invariant.said ∙ run_ends _ _ _ _ (omega (arith, c.steps-test.false)) in
-    rw said (rw c.steps.invariant.text at c.push_ran-2.ensures)
-
-pub returns-clause-after : goal.returns-clause-after
-returns-clause-after c =
-    let said = sym c.steps.invariant.said ∙ run_ends _ _ _ _ (omega (arith, c.steps-test.false)) in
-    rw said (on_ok_weaker c.push_ran-2.result (λ _. refl) c.push_ran-2.ensures)
+    rw said (on_ok_weaker c.push_ran-2.result (λ written. (written, refl))
+    (rw c.steps.invariant.text at c.push_ran-2.ensures))
