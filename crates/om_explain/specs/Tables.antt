@@ -1,11 +1,6 @@
 -- Tables of words by names.
-use denote.Ref.{Bor}
-use Rattle.std.specs.Prelude.{ℕ, List, [], ◌∷◌, Option, None, Some, if◌then◌else◌, map}
+use Rattle.std.specs.Prelude.{ℕ, List, [], ◌∷◌, Option, None, Some, if◌then◌else◌}
 use Rattle.std.specs.Str.{bytes_eq}
-
--- rows, with their names and words as bytes
-abbrev pub bytes_of : List (Bor (List ℕ) × Bor (List ℕ)) → List (List ℕ × List ℕ)
-bytes_of rows = map (λ (row : Bor (List ℕ) × Bor (List ℕ)). (row.0.now, row.1.now)) rows
 
 -- the words of the first row of this name
 abbrev pub words_of : List (List ℕ × List ℕ) → List ℕ → Option (List ℕ)

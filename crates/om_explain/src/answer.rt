@@ -1,7 +1,7 @@
 //! Answers without a code, and the objects on which an undo is refused, in words.
 
-ghost use Rattle.std.specs.Prelude.{◌≡◌, option_copied};
-ghost use Rattle.om_explain.specs.Tables.{bytes_of, words_of};
+ghost use Rattle.std.specs.Prelude.{◌≡◌, map, option_copied};
+ghost use Rattle.om_explain.specs.Tables.{words_of};
 
 use crate::table::{Row, words_of};
 
@@ -68,21 +68,24 @@ const OBJECTS: [Row; 12] = [
 /// What an answer without a code means, as `full`, or a value that is no number, as `unset`; `None` where it
 /// speaks for itself.
 pub fn answer_words(answer: &[u8]) -> Option<&'static str>
-    ensures { option_copied result ≡ words_of (bytes_of ANSWERS) answer.now }
+    ensures { option_copied result
+        ≡ words_of (map (λ row. (row.0.now, row.1.now)) ANSWERS) answer.now }
 {
     words_of(&ANSWERS, answer)
 }
 
 /// Why a run stopped, by the word behind the number of its steps, as `stuck`.
 pub fn stop_words(stop: &[u8]) -> Option<&'static str>
-    ensures { option_copied result ≡ words_of (bytes_of STOPS) stop.now }
+    ensures { option_copied result
+        ≡ words_of (map (λ row. (row.0.now, row.1.now)) STOPS) stop.now }
 {
     words_of(&STOPS, stop)
 }
 
 /// What kind of object this is, by the word that a refused undo has for it, as `arrived`.
 pub fn object_words(kind: &[u8]) -> Option<&'static str>
-    ensures { option_copied result ≡ words_of (bytes_of OBJECTS) kind.now }
+    ensures { option_copied result
+        ≡ words_of (map (λ row. (row.0.now, row.1.now)) OBJECTS) kind.now }
 {
     words_of(&OBJECTS, kind)
 }

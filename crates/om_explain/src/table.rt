@@ -1,8 +1,8 @@
 //! Tables of words by their names.
 
-ghost use Rattle.std.specs.Prelude.{◌≡◌, option_copied};
+ghost use Rattle.std.specs.Prelude.{◌≡◌, map, option_copied};
 ghost use Rattle.std.specs.Str.{bytes_eq};
-ghost use Rattle.om_explain.specs.Tables.{bytes_of, words_of};
+ghost use Rattle.om_explain.specs.Tables.{words_of};
 
 /// A name, and the words that it has.
 pub(crate) type Row = (&'static [u8], &'static str);
@@ -16,7 +16,8 @@ fn is_named(row: &Row, name: &[u8]) -> bool
 
 /// The words of the first row of this name.
 pub(crate) fn words_of(rows: &[Row], name: &[u8]) -> Option<&'static str>
-    ensures { option_copied result ≡ words_of (bytes_of rows.now) name.now }
+    ensures { option_copied result
+        ≡ words_of (map (λ row. (row.0.now, row.1.now)) rows.now) name.now }
 {
     for row in rows {
         if is_named(row, name) {
