@@ -366,7 +366,6 @@ fn put_one(values: &mut Vec<Val>, index: u32, count: u32, was: Was) -> u32
 }
 
 // Puts values at the first indexes, up to a limit.
-#[tactic(auto, using(crate::proofs::SlotLemmas::no_updates))]
 fn put_was(values: &mut Vec<Val>, count: u32, was: Seq<Was>)
     requires { count ≤ length values.old.items }
     ensures written { WritesAll (were_listed was) count values.old.items values.new.items }

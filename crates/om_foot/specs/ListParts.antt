@@ -1,12 +1,8 @@
 -- Lists in two and three parts, and what is left of a list: matter of proofs, for crates that keep such lists.
-use Rattle.std.proofs.Common.{◌≡◌, refl, sym, ◌∙◌, ap, ℕ, suc, ◌+◌, ◌-◌, ◌<◌, List, [], ◌∷◌, ◌++◌, arith}
+use Rattle.std.proofs.Common.{◌≡◌, sym, ◌∙◌, ap, ℕ, suc, ◌+◌, ◌-◌, ◌<◌, List, ◌∷◌, ◌++◌, arith}
 use Rattle.std.proofs.Common.{drop, slice_get, Some}
-use Rattle.std.proofs.lemmas.List.{append_assoc, append-nil, drop_more}
+use Rattle.std.proofs.lemmas.List.{append_assoc, drop_more}
 use Rattle.std.proofs.lemmas.Option.{get_or_from_slice_get, slice_get_within}
-
--- more behind the first part, where there is no other
-pub only_more : {A : Type 0} → (first more : List A) → (first ++ more) ++ [] ≡ (first ++ []) ++ more
-only_more first more = append-nil (first ++ more) ∙ sym (ap (λ f. f ++ more) (append-nil first))
 
 -- more behind the second of two parts
 pub second_more : {A : Type 0} → (first second more : List A) → first ++ (second ++ more) ≡ (first ++ second) ++ more

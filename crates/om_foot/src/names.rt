@@ -106,7 +106,6 @@ fn list_each(names: &mut Seq<Access>, all: &[Cells]) -> Result<(), AllocError>
 
 impl Behind {
     // Appends an access. When out of memory, no more is said of the names.
-    #[tactic(auto, using(crate::specs::ListParts::second_more))]
     fn push(&mut self, access: &Access) -> Result<(), AllocError>
         ensures { OnOk result (self.new ≡ self.old ++ access.now ∷ []) }
     {
@@ -115,7 +114,6 @@ impl Behind {
 
     // Appends cells of a slot, at once where no single object stands behind the others. When out of
     // memory, no more is said of the names.
-    #[tactic(auto, using(crate::specs::ListParts::second_more, crate::proofs::CellLists::behind_more))]
     fn push_cells(&mut self, cells: &Cells) -> Result<(), AllocError>
         ensures { OnOk result (self.new ≡ self.old ++ cells_of cells.now) }
     {
@@ -129,7 +127,6 @@ impl Behind {
 
 // Appends cells of a slot to single objects, or answers what stands behind these where the cells are
 // many.
-#[tactic(auto, using(crate::specs::ListParts::only_more))]
 fn begun(
     alloc: Global,
     first: &mut Seq<Access>,
@@ -181,7 +178,6 @@ impl Names {
     }
 
     /// Appends an access. Its only error is out of memory; then no more is said of the names.
-    #[tactic(auto, using(crate::specs::ListParts::only_more, crate::specs::ListParts::second_more))]
     pub fn push(&mut self, access: &Access) -> Result<(), AllocError>
         ensures { OnOk result (self.new ≡ self.old ++ access.now ∷ []) }
     {
@@ -193,7 +189,6 @@ impl Names {
 
     /// Appends cells of a slot, at once where they are many or stand behind others that are. Its only
     /// error is out of memory; then no more is said of the names.
-    #[tactic(auto, using(crate::specs::ListParts::second_more))]
     pub fn push_cells(&mut self, cells: &Cells) -> Result<(), AllocError>
         ensures { OnOk result (self.new ≡ self.old ++ cells_of cells.now) }
     {
@@ -218,7 +213,6 @@ impl Names {
 
     /// Appends all that other names name. Its only error is out of memory; then no more is said of the
     /// names.
-    #[tactic(auto, using(crate::specs::ListParts::all_behind))]
     pub fn push_all(&mut self, others: &Names) -> Result<(), AllocError>
         ensures { OnOk result (self.new ≡ self.old ++ others.now) }
     {
@@ -239,7 +233,6 @@ impl Names {
     }
 
     /// Each access by itself. Its only error is out of memory.
-    #[tactic(auto, using(crate::specs::ListParts::only_more, crate::specs::ListParts::regrouped))]
     pub fn into_seq(self) -> Result<Seq<Access>, AllocError>
         ensures { IfOk result (λ all. all ≡ self) }
     {

@@ -85,7 +85,6 @@ fn stepped(reply: &StepReply) -> Replies
 }
 
 /// Takes a worker's last step back. Only an undo that is refused, and so changes nothing, asks for memory.
-#[tactic(auto, using(crate::proofs::Undos::refused_same))]
 pub fn undo(alloc: Global, machine: &mut Machine, worker: u8) -> Result<KeptUndoReply, AllocError>
     requires { worker < machine.old.workers }
     ensures reply { IfOk result (λ x. IsReply machine.old (Command.Undo worker) (Reply.Undo x)) }
@@ -101,7 +100,6 @@ pub fn undo(alloc: Global, machine: &mut Machine, worker: u8) -> Result<KeptUndo
 
 // Takes a worker's last step back, and answers three times. Only an undo that is refused, and so changes
 // nothing, asks for memory.
-#[tactic(auto, using(crate::proofs::Undos::refused_same))]
 fn undo_thrice(alloc: Global, machine: &mut Machine, worker: u8) -> Result<Replies, AllocError>
     requires { worker < machine.old.workers }
     ensures reply { IfOk result (λ x. IsReply machine.old (Command.Undo worker) x.answer) }

@@ -48,7 +48,6 @@ impl<T: Same> Same for SharedPile<T> {
 }
 
 /// Whether two slices have the same items, in the same order.
-#[tactic(auto, using(crate::proofs::Lists::same_to_next, crate::proofs::Lists::all_taken))]
 pub fn same_items<T: Same>(ones: &[T], others: &[T]) -> bool
     ensures { IsTrue result ↔ (ones.now ≡ others.now) }
 {

@@ -1,30 +1,10 @@
 -- Formats, cut piece by piece.
-use Rattle.std.proofs.Common.{◌≡◌, ℕ, Bool, true, false, List, [], ◌∷◌, ◌++◌, Option, None, Some, length, map}
+use Rattle.std.proofs.Common.{◌≡◌, ℕ, Bool, true, false, List, [], ◌∷◌, ◌++◌, Option, None, Some, length}
 use Rattle.std.proofs.Common.{option_map, if◌then◌else◌, refl, sym, ap, ◌∙◌}
-use Rattle.std.proofs.lemmas.List.{append_assoc}
-use Rattle.om_code.specs.declared.raw.Piece as texts
 use Rattle.om_code.specs.declared.raw.Piece.TheVariants as pieces
 use Rattle.om_lower.specs.declared.texts.Cut.{Cut}
 use Rattle.om_lower.specs.Texts.{behind_cut, cut_behind, with_run}
-use Rattle.om_resolved.specs.Formats.{Piece, Bytes, Value, pieces_of, with_byte}
-use Rattle.om_rows.specs.Mentions.{text_piece}
-
--- a byte can be written with those before it, or with what is behind it
-pub run_byte : (run : List ℕ) (byte : ℕ) (rest : List Piece)
-    → with_run (run ++ byte ∷ []) (map text_piece rest) ≡ with_run run (map text_piece (with_byte byte rest))
-run_byte [] byte [] = refl
-run_byte [] byte (Bytes bytes ∷ rest) = refl
-run_byte [] byte (Value ∷ rest) = refl
-run_byte (first ∷ run) byte [] = refl
-run_byte (first ∷ run) byte (Bytes bytes ∷ rest) =
-    ap (λ all. pieces.Bytes (first ∷ all) ∷ map text_piece rest) (append_assoc run (byte ∷ []) bytes)
-run_byte (first ∷ run) byte (Value ∷ rest) = refl
-
--- a value ends the bytes before it
-pub run_value : (run : List ℕ) (rest : List texts.Piece)
-    → with_run run (pieces.Value ∷ rest) ≡ with_run run [] ++ pieces.Value ∷ rest
-run_value [] rest = refl
-run_value (first ∷ run) rest = refl
+use Rattle.om_resolved.specs.Formats.{Piece, Value, pieces_of, with_byte}
 
 on_option : {A B C : Type 0} (f : A → C) (g : B → C) (h : A → B) (x : Option A) → ((a : A) → g (h a) ≡ f a)
     → option_map g (option_map h x) ≡ option_map f x

@@ -160,7 +160,6 @@ fn main_body(input: &Input<'_>) -> u32
 }
 
 // The index of `main`.
-#[tactic(auto, using(crate::proofs::Searches::position_none, crate::proofs::Searches::position_map))]
 fn main_of(resolved: &Resolved) -> usize
     requires { HasMain (view.resolved resolved.now) }
     ensures { position is_main_function (view.resolved resolved.now).functions ≡ Some result }

@@ -85,7 +85,6 @@ fn cut_converted<'a>(alloc: Global, cut: &mut Cut, rest: &'a [u8]) -> Made<Optio
 }
 
 // Adds a byte that is written.
-#[tactic(auto, using(crate::proofs::Cutting::run_byte))]
 fn add_byte(cut: &mut Cut, byte: u8) -> Done
     ensures { OnOk result (CutsFrom (formats.with_byte byte) cut.old cut.new) }
 {
@@ -94,7 +93,6 @@ fn add_byte(cut: &mut Cut, byte: u8) -> Done
 }
 
 // Adds a value that is written in decimal.
-#[tactic(auto, using(crate::proofs::Cutting::run_value))]
 fn add_value(alloc: Global, cut: &mut Cut) -> Done
     ensures { OnOk result (CutsFrom (λ rest. formats.Value ∷ rest) cut.old cut.new) }
 {

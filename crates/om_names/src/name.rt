@@ -70,7 +70,6 @@ pub fn misuse(at: u32) -> SourceFault
 }
 
 /// The variable of a name that is used as a scalar: S7, S9, S13.
-#[tactic(auto, using(om_rules::specs::InRow::first_of_left))]
 pub fn resolve_scalar(symbols: &Symbols, name: &Name) -> Result<Variable, SourceFault>
     ensures checked { ChecksExactly result (scalar_breaches symbols.now name.now) }
     ensures resolved { IfOk result
@@ -103,7 +102,6 @@ fn check_is_listed(symbols: &Symbols, name: &Name) -> Result<(), SourceFault>
 }
 
 /// The variable of a name that is used as an array: S7, S9, S13.
-#[tactic(auto, using(om_rules::specs::InRow::first_of_left))]
 pub fn resolve_array(symbols: &Symbols, name: &Name) -> Result<Variable, SourceFault>
     ensures checked { ChecksExactly result (array_breaches symbols.now name.now) }
     ensures resolved { IfOk result

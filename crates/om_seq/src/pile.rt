@@ -86,7 +86,6 @@ impl<T> Pile<T> {
     }
 
     /// The item at this depth, the top one at 0; `None` exactly where there is none.
-    #[tactic(auto, using(crate::proofs::Piles::at_depth, crate::proofs::Piles::past_depth))]
     pub fn get(&self, depth: usize) -> Option<&T>
         ensures { option_map (λ t. t.now) result ≡ slice_get self.now depth }
     {
@@ -97,7 +96,6 @@ impl<T> Pile<T> {
     }
 
     /// Takes so many items off the top, or all where there are fewer.
-    #[tactic(auto, using(crate::proofs::Piles::taken_off))]
     pub fn drop_top(&mut self, count: usize)
     where
         T: Drop,

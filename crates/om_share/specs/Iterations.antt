@@ -124,10 +124,6 @@ pub chunk_ints : (share : Share) (taken : ℕ) (chunk : Chunk) → ShareHasInts 
     → ShareHasInts (record share { taken = taken; next = chunk.first; end = chunk.end })
 chunk_ints share taken chunk h within = record { within = within; values = h.values }
 
--- and with one more iteration begun
-pub next_ints : (share : Share) (next : ℕ) → ShareHasInts share → ShareHasInts (record share { next = next })
-next_ints share next h = record { within = h.within; values = h.values }
-
 -- the value of the next iteration, where one is left
 pub next_int : (share : Share) → ShareHasInts share → is_loop share.sharing ≡ true → share.next < share.end
     → IsInt (value_of share.lower share.step share.next)

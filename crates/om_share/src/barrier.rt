@@ -38,7 +38,6 @@ pub(crate) fn name_barrier(names: &mut Names, team: &Team, phase: u64) -> Result
 }
 
 /// Whether all members have reached the barrier of a phase, and no task of it is unfinished.
-#[tactic(auto, using(crate::proofs::Counting::open_in_next))]
 pub(crate) fn is_open(alloc: Global, store: &Store, team: &Team, phase: u64) -> bool
     ensures { result ≡ open_in (state_of store.now) team.now.name phase 0 team.now.size }
 {
@@ -59,7 +58,6 @@ pub(crate) fn is_open(alloc: Global, store: &Store, team: &Team, phase: u64) -> 
 }
 
 /// Appends that what a member of a team of this size reads at a barrier stays.
-#[tactic(auto, using(crate::proofs::Counting::replicate_past))]
 pub(crate) fn put_kept(updates: &mut Puts, size: u8) -> Result<(), AllocError>
     ensures { OnOk result (updates.new ≡ updates.old ++ replicate (size + 1) Update.Keep) }
 {

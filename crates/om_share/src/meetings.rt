@@ -124,7 +124,6 @@ pub fn arrive(
 }
 
 // The names of a member at a barrier, with these cells of its own.
-#[tactic(auto, using(crate::proofs::Counting::regrouped))]
 fn barrier_names(
     alloc: Global,
     worker: u8,
@@ -176,7 +175,6 @@ fn departed(
 
 /// DEPART: a member goes on from a barrier. The row is blocked until all members have reached it and
 /// the tasks of its phase have ended. The only error is out of memory.
-#[tactic(auto, using(crate::proofs::Counting::barrier_read))]
 pub fn depart(
     alloc: Global,
     store: &Store,
@@ -288,7 +286,6 @@ fn left(
 }
 
 // The answer of a member whose task can end.
-#[tactic(auto, using(crate::proofs::Counting::barrier_read))]
 fn left_answer(
     alloc: Global,
     store: &Store,
@@ -310,7 +307,6 @@ fn left_answer(
 /// The slots are those of the body that runs. The row is blocked as at DEPART, and lacks what it
 /// needs where no implicit task runs, or number 0 has no context to go back to. The only error is
 /// out of memory.
-#[tactic(auto, using(crate::proofs::Leaving::above_another, crate::proofs::Leaving::not_the_first))]
 pub fn leave(
     alloc: Global,
     store: &Store,

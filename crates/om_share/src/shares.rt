@@ -127,7 +127,6 @@ pub fn open_loop(
 }
 
 /// SECT: opens so many sections.
-#[tactic(auto, using(crate::specs::Iterations::sections_ints))]
 pub fn open_sections(
     alloc: Global,
     context: &Context,
@@ -151,7 +150,6 @@ pub fn open_sections(
 }
 
 // A share whose member has begun a chunk.
-#[tactic(auto, using(crate::specs::Iterations::chunk_ints))]
 fn in_chunk(share: Share, taken: u64, chunk: Chunk) -> Construct
     requires ints { ShareHasInts share }
     requires within { chunk.end ≤ share.count }
@@ -312,7 +310,6 @@ fn is_loop(sharing: Sharing) -> bool
 }
 
 // The row that begins an iteration of this value.
-#[tactic(auto, using(crate::specs::Iterations::next_ints))]
 fn iterated(alloc: Global, to: u32, share: Share, value: i32) -> Result<Row, AllocError>
     requires few { share.next + 1 < 2 ^ 64 }
     requires ints { ShareHasInts share }

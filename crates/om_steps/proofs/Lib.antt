@@ -1,4 +1,3 @@
 mod Lists
-mod CountLemmas
 pub mod Returns
 pub mod Same

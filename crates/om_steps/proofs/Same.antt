@@ -4,7 +4,6 @@ use Rattle.std.specs.Prelude.{Result, Ok, Err, OnOk}
 use Rattle.std.proofs.lemmas.List.{drop_more}
 use Rattle.om_foot.specs.declared.footprint.Access.{Access}
 use Rattle.om_code.specs.declared.frame.Cell as cells
-use Rattle.om_code.specs.declared.frame.Cell.TheVariants as cell
 use Rattle.om_foot.specs.declared.cells.SlotName.{SlotName}
 use Rattle.om_foot.specs.declared.cells.Cells.{Cells}
 use Rattle.om_values.specs.declared.control.Home.{Home}
@@ -14,16 +13,7 @@ use Rattle.om_values.specs.declared.step.Update.TheVariants.{Put}
 use Rattle.om_values.specs.declared.value.Val.TheVariants as value
 use Rattle.om_foot.specs.Cells.{cell_access, cells_from, cells_of, cells_listed}
 use Rattle.om_values.specs.Runs.{puts_of}
-use Rattle.om_steps.specs.Objects.{same_puts, deaths, slot_in, slot_cells}
-use Rattle.om_steps.specs.SerialRows.{unsets}
-
-pub deaths_same : (names : List Access) → same_puts cell.Dead names ≡ deaths names
-deaths_same [] = refl
-deaths_same (a ∷ rest) = ap (λ us. Put (value.Cell cell.Dead) ∷ us) (deaths_same rest)
-
-pub unsets_same : (names : List Access) → same_puts cell.Unset names ≡ unsets names
-unsets_same [] = refl
-unsets_same (a ∷ rest) = ap (λ us. Put (value.Cell cell.Unset) ∷ us) (unsets_same rest)
+use Rattle.om_steps.specs.Objects.{same_puts, slot_in, slot_cells}
 
 same_more : (c : cells.Cell) (xs ys : List Access) → same_puts c (xs ++ ys) ≡ same_puts c xs ++ same_puts c ys
 same_more c [] ys = refl

@@ -82,7 +82,6 @@ fn cells_of(slots: &[Slot], slot: u32) -> u32
 }
 
 // That cells become unset, one for each of these names.
-#[tactic(auto, using(crate::proofs::Same::unsets_same))]
 fn unset(alloc: Global, names: &Names) -> Result<Puts, AllocError>
     ensures { Gives result (unsets names.now) }
 {

@@ -10,7 +10,6 @@ use om_live::Store;
 use std::alloc::Global;
 
 // The count that an object holds, or 0.
-#[tactic(auto, using(crate::proofs::CountLemmas::count_is))]
 fn count_at(alloc: Global, store: &Store, object: &Obj) -> i128
     ensures { result ≡ count_in (state_of store.now object.now) }
 {

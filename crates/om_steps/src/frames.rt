@@ -77,7 +77,6 @@ pub fn call(
 }
 
 /// RET, RETN: the frame ends, with a value for the one that called it.
-#[tactic(auto, using(crate::proofs::Returns::gives))]
 pub fn give_back(
     alloc: Global,
     context: &Context,

@@ -54,7 +54,6 @@ fn put_runs(updates: &mut Puts, cell: Cell, names: &[Cells]) -> Result<(), Alloc
 
 /// Appends puts of a cell, one for each of these names, at once for those that are named at once. Its only
 /// error is out of memory.
-#[tactic(auto, using(crate::proofs::Same::same_parts))]
 pub(crate) fn put_each(updates: &mut Puts, cell: Cell, names: &Names) -> Result<(), AllocError>
     ensures { OnOk result (updates.new ≡ updates.old ++ same_puts cell names.now) }
 {
@@ -65,7 +64,6 @@ pub(crate) fn put_each(updates: &mut Puts, cell: Cell, names: &Names) -> Result<
 }
 
 /// Appends the deaths of cells, one for each of these names.
-#[tactic(auto, using(crate::proofs::Same::deaths_same))]
 pub fn put_deaths(updates: &mut Puts, names: &Names) -> Result<(), AllocError>
     ensures { OnOk result (updates.new ≡ updates.old ++ deaths names.now) }
 {

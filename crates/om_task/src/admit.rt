@@ -59,7 +59,6 @@ fn admits_on(program: &Program, name: &Name, context: &Context) -> bool
 }
 
 // The context at this depth, the next one below the top at 0; `None` exactly where there is none.
-#[tactic(auto, using(crate::proofs::Admits::held_at))]
 fn context_at(contexts: &Tape<Box<Context>>, depth: usize) -> Option<&Context>
     ensures { option_map (λ c. plain_context c.now) result ≡ held_at contexts.now.items depth }
 {

@@ -113,7 +113,6 @@ fn control_answer(
 }
 
 // The plan of a step, by what it names and by its row. A fault is an edit of the control.
-#[tactic(auto, using(crate::proofs::Plans::fault_room))]
 fn planned(alloc: Global, worker: u8, line: u32, names: Names, row: Row) -> Result<Plan, AllocError>
     ensures plan { (c : controls.Control) → Plans result c (row_step worker names c row line) }
     ensures room { (c : controls.Control) → RowHasRoom c row → IfOk result (PlanHasRoom c) }

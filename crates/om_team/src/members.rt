@@ -17,7 +17,6 @@ use om_values::{
 use std::alloc::{AllocError, Global};
 
 // The name of the task of a team's member.
-#[tactic(auto, using(crate::proofs::Counting::has_child))]
 fn member_name(team: &Name, number: u8) -> Name
     requires { length team.now ≤ 63 }
     ensures { result ≡ team.now ++ number ∷ [] }
@@ -39,7 +38,6 @@ pub(crate) fn name_workers(names: &mut Names, size: u8) -> Result<(), AllocError
 }
 
 /// The first of the workers that a team of this size needs that isn't idle.
-#[tactic(auto, using(crate::proofs::Counting::busy_in_next))]
 pub(crate) fn busy(store: &Store, size: u8) -> Option<u8>
     ensures { result ≡ busy_in (state_of store.now) 1 (size - 1) }
 {
@@ -52,7 +50,6 @@ pub(crate) fn busy(store: &Store, size: u8) -> Option<u8>
 }
 
 /// Appends the cells of the firstprivate copies of a team's members, as what is written.
-#[tactic(auto, using(crate::proofs::Counting::members_past))]
 pub(crate) fn name_members(
     names: &mut Names,
     team: &Name,
@@ -108,7 +105,6 @@ fn put_member(
 }
 
 /// Appends the controls that the other workers of a team become.
-#[tactic(auto, using(crate::proofs::Counting::controls_past))]
 pub(crate) fn put_members(
     alloc: Global,
     updates: &mut Puts,
@@ -132,7 +128,6 @@ pub(crate) fn put_members(
 }
 
 /// Appends what is put into the firstprivate copies of a team's members.
-#[tactic(auto, using(crate::proofs::Counting::given_past))]
 pub(crate) fn put_given(updates: &mut Puts, values: &[i32], size: u8) -> Result<(), AllocError>
     ensures { OnOk result (updates.new ≡ updates.old ++ member_puts values.now size) }
 {

@@ -67,7 +67,6 @@ fn level_of(size: u8, level: u8) -> u8
 }
 
 // The team that the context's task makes, with the place of its first member.
-#[tactic(auto, using(crate::proofs::Counting::has_child))]
 fn team_of(
     alloc: Global,
     workers: u8,
@@ -94,7 +93,6 @@ fn team_of(
 }
 
 // What a FORK names that makes this team.
-#[tactic(auto, using(crate::proofs::Counting::regrouped))]
 fn team_names(alloc: Global, worker: u8, team: &Team, given: &[u32]) -> Result<Names, AllocError>
     requires { length team.now.name ≤ 63 }
     ensures { Gives result (workers_from 1 (team.now.size - 1) ++ (member_cells team.now.name
@@ -108,7 +106,6 @@ fn team_names(alloc: Global, worker: u8, team: &Team, given: &[u32]) -> Result<N
 }
 
 // What is put where a team is made.
-#[tactic(auto, using(crate::proofs::Counting::regrouped_updates))]
 fn team_updates(
     alloc: Global,
     task: &Shared<Name>,
@@ -190,7 +187,6 @@ fn forked(
 }
 
 // The answer of a FORK that makes this team.
-#[tactic(auto, using(crate::proofs::Counting::busy_read))]
 fn team_answer(
     alloc: Global,
     store: &Store,

@@ -49,7 +49,6 @@ fn meets_cells(access: &Access, others: &[SharedCells]) -> bool
 }
 
 // Whether an access conflicts with one of a footprint.
-#[tactic(auto, using(crate::proofs::ConflictLemmas::met_append))]
 fn meets_any(access: &Access, others: &Accesses) -> bool
     ensures { result ≡ conflicts_with_any access.now (accesses_of others.now) }
 {
@@ -73,7 +72,6 @@ fn conflict_at(first: &[SharedAccess], others: &Accesses) -> Option<Obj>
 }
 
 // The first of the first cells of a slot at which a footprint conflicts with a write of them.
-#[tactic(auto, using(crate::proofs::ConflictLemmas::cells_next))]
 fn conflict_in_slot(cells: &Cells, others: &Accesses) -> Option<Obj>
     ensures { result ≡ conflict_of (cells_of cells.now) (accesses_of others.now) }
 {

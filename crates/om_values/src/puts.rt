@@ -103,7 +103,6 @@ fn list_each(updates: &mut Seq<Update>, runs: &[Run]) -> Result<(), AllocError>
 
 impl Behind {
     // Appends an update. When out of memory, no more is said of the updates.
-    #[tactic(auto, using(om_foot::specs::ListParts::second_more))]
     fn push(&mut self, update: Update) -> Result<(), AllocError>
         ensures { OnOk result (self.new ≡ self.old ++ update ∷ []) }
     {
@@ -111,7 +110,6 @@ impl Behind {
     }
 
     // Appends the puts of a run. When out of memory, no more is said of the updates.
-    #[tactic(auto, using(om_foot::specs::ListParts::second_more, crate::proofs::RunLists::behind_more))]
     fn push_run(&mut self, run: Run) -> Result<(), AllocError>
         ensures { OnOk result (self.new ≡ self.old ++ run_puts run) }
     {
@@ -166,7 +164,6 @@ impl Puts {
     }
 
     /// Appends an update. Its only error is out of memory; then no more is said of the updates.
-    #[tactic(auto, using(om_foot::specs::ListParts::only_more, om_foot::specs::ListParts::second_more))]
     pub fn push(&mut self, update: Update) -> Result<(), AllocError>
         ensures { OnOk result (self.new ≡ self.old ++ update ∷ []) }
     {
@@ -177,7 +174,6 @@ impl Puts {
     }
 
     /// Appends the puts of a run. Its only error is out of memory; then no more is said of the updates.
-    #[tactic(auto, using(om_foot::specs::ListParts::only_more, om_foot::specs::ListParts::second_more))]
     pub fn push_run(&mut self, run: Run) -> Result<(), AllocError>
         ensures { OnOk result (self.new ≡ self.old ++ run_puts run) }
     {
@@ -236,7 +232,6 @@ impl Puts {
     }
 
     /// Each update by itself. Its only error is out of memory.
-    #[tactic(auto, using(om_foot::specs::ListParts::only_more, om_foot::specs::ListParts::regrouped))]
     pub fn into_vec(self) -> Result<Vec<Update>, AllocError>
         ensures { IfOk result (λ all. all.items ≡ self) }
     {

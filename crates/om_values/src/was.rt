@@ -46,7 +46,6 @@ impl Noted {
     }
 
     /// Notes a value behind the others. Its only error is out of memory; then no more is said of them.
-    #[tactic(auto, using(crate::proofs::WasLemmas::value_more))]
     pub fn note(&mut self, alloc: Global, value: &Val) -> Result<(), AllocError>
         ensures { OnOk result (self.new ≡ self.old ++ update.Put value.now ∷ []) }
     {
@@ -60,7 +59,6 @@ impl Noted {
     }
 
     // Notes a cell behind the others.
-    #[tactic(auto, using(crate::proofs::WasLemmas::run_more, crate::proofs::WasLemmas::run_next))]
     fn note_cell(&mut self, cell: Cell) -> Result<(), AllocError>
         ensures { OnOk result (self.new ≡ self.old ++ update.Put (value.Cell cell) ∷ []) }
     {
@@ -74,7 +72,6 @@ impl Noted {
     }
 
     /// What is noted. Its only error is out of memory.
-    #[tactic(auto, using(crate::proofs::WasLemmas::run_last))]
     pub fn into_seq(self) -> Result<Seq<Was>, AllocError>
         ensures { IfOk result (λ was. were_listed was ≡ self) }
     {
