@@ -58,7 +58,6 @@ impl Model for Records {
 }
 
 // Adds the touches of an entry to both lists. When out of memory, no touch changes.
-#[tactic(auto, using(om_touches::specs::Lists::added_out, om_touches::specs::Lists::only_added))]
 fn note(
     lists: &mut TouchLists,
     own: &mut OwnEntries,

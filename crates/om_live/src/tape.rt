@@ -55,7 +55,6 @@ impl<T> Tape<T> {
     }
 
     /// The item that stands at this depth, the top one at 0; `None` exactly where there is none.
-    #[tactic(auto, using(crate::proofs::Tapes::at_depth, crate::proofs::Tapes::past_depth))]
     pub fn get(&self, depth: usize) -> Option<&T>
         ensures { option_map (λ t. t.now) result ≡ slice_get self.now.items depth }
     {

@@ -43,7 +43,6 @@ impl Extents {
     }
 
     /// How many cells a variable has: 1 unless it is declared with more.
-    #[tactic(auto, using(crate::proofs::Cells::cells_found))]
     pub fn cells(&self, variable: u32) -> u32
         ensures { result ≡ cells_in self.now variable }
     {

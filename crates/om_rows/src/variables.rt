@@ -56,7 +56,6 @@ impl Variables {
     }
 
     /// The slot of a variable; of one that is not there, the number behind all slots.
-    #[tactic(auto, using(crate::proofs::Places::number_found, crate::proofs::Places::number_least))]
     pub fn slot_of(&self, variable: u32) -> usize
         ensures exact { result ≡ slot_of self.now variable }
         ensures least { result ≤ length self.now }

@@ -3,6 +3,8 @@ use Rattle.std.specs.Option.{unwrap_or}
 use Rattle.om_rows.specs.Slots.{slot_of}
 use Rattle.om_rows.specs.Tables.{found_in}
 use Rattle.om_rows.proofs.Indexes.{found-number}
+use Rattle.std.proofs.Common.{rules}
+use Rattle.om_rows.proofs.Places.{number_found, number_least}
 use Rattle.om_rows.proofs.variables.Variables.slot_of.Goals as goal
 
 pub returns-clause-exact : goal.returns-clause-exact
@@ -15,3 +17,6 @@ returns-clause-exact c =
     ∙ ap (λ all. unwrap_or (found_in (nat_eq variable) seen) all) (c.len.ensures ∙ c.self.inside.seen.ok.0)
     ∙ found-number (nat_eq variable) seen
     ∙ ap (λ table. slot_of table variable) c.self.view_is
+
+pub returns-clause-least : goal.returns-clause-least
+returns-clause-least c = search (rules, number_found, number_least)
