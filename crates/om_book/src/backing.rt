@@ -12,7 +12,6 @@ use crate::session::{Seat, Sitting};
 use om_journal::{Command, Reply};
 
 // Where the receipt of a call lies; it is looked for at `mark` first.
-#[tactic(auto, using(crate::proofs::Backed::all_more, crate::proofs::Backed::all_of, crate::proofs::Backed::none_there))]
 fn found_at(
     receipts: &[Receipt],
     mark: usize,
@@ -96,7 +95,6 @@ pub struct KeptAnswers {
 impl Walk {
     // Compares the next answer with an order and the receipts of its seat, and keeps it or leaves
     // it out.
-    #[tactic(auto, using(crate::proofs::Backed::passes_kept, crate::proofs::Backed::passes_without, crate::proofs::Backed::passes_end))]
     fn take_turn(&mut self, receipts: &[Receipt], mark: &mut usize, order: &Order)
         requires { self.old.at ≤ vec_len self.old.answers }
         ensures passes { Leads (turn_of receipts.now (Some order.now)) self.old self.new }
@@ -115,7 +113,6 @@ impl Walk {
     }
 
     // Takes a turn where there is an order.
-    #[tactic(auto, using(crate::proofs::Backed::passes_none))]
     fn take_turn_if(&mut self, receipts: &[Receipt], mark: &mut usize, order: Option<Order>)
         requires { self.old.at ≤ vec_len self.old.answers }
         ensures passes { Leads (turn_of receipts.now order) self.old self.new }
@@ -164,7 +161,6 @@ impl Walk {
 /// order's command with that reply, at the answer's place. Each other one is left out, and that one alone. The marks,
 /// one for each seat, say where its next receipt is sought first. They are 0 at first; whatever they are, the same
 /// answers are kept.
-#[tactic(auto, using(crate::proofs::Backed::keeps_all))]
 pub fn keep_backed<L: Sitting>(
     rows: &Rows<'_, L>,
     marks: &mut [usize],

@@ -51,7 +51,6 @@ fn add_number(numbers: &mut Vec<u64>, order: Option<Order>) -> Result<(), AllocE
 }
 
 // Whether no two of these numbers are the same: then a set of them has as many.
-#[tactic(auto, using(crate::proofs::Distinct::as_many_differ))]
 fn are_distinct(alloc: Global, numbers: &[u64]) -> Result<bool, AllocError>
     ensures { IfOk result (λ differ. IsTrue differ ↔ NumbersDiffer numbers.now) }
 {

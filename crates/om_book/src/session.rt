@@ -330,7 +330,6 @@ impl<L: Sitting> Session<L> {
 
 // Makes so many seats, numbered from 0, each with one part of a share. When out of memory, some of
 // them are made.
-#[tactic(auto, using(crate::proofs::Counting::seats_below_next))]
 fn seat_all<L: Sitting>(
     alloc: Global,
     count: u8,

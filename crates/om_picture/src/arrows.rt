@@ -85,7 +85,6 @@ fn arrow_at(
 }
 
 // Adds the arrow from a step to a later one, if there is one. When out of memory, nothing changes.
-#[tactic(auto, using(crate::proofs::Apart::no_arrow))]
 fn push_arrow(
     alloc: Global,
     arrows: &mut Vec<Arrow>,
