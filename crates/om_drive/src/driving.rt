@@ -75,7 +75,6 @@ pub fn drive_over<G: Gate + Drop + Send, D: Debuggee + Drop + Send, R: Threads +
 }
 
 // Drives within a scope.
-#[tactic(auto, using(crate::proofs::Rounding::begins_none))]
 fn drive_in<
     's,
     E,
@@ -280,7 +279,6 @@ impl<G: Drop> Ring<G> {
     }
 
     // Asks all orders, and lets go of the ends, so that the workers end.
-    #[tactic(auto, using(crate::proofs::Rounding::begins_none, crate::proofs::Rounding::begins_all))]
     fn ask<R: Wait>(&mut self, rt: &R, orders: &[Vec<Order>])
         ensures part { AddsSome (numbers_of orders.now) self.old.answers self.new.answers }
         ensures all { self.new.fault ≡ None
@@ -302,7 +300,6 @@ impl<G: Drop> Ring<G> {
 
 // Asks all orders, and answers what broke off, if something did. There are as many ends of each kind
 // as lists of orders. They differ only where there was no memory for an end.
-#[tactic(auto, using(crate::proofs::Rounding::begins_none, crate::proofs::Rounding::begins_all))]
 fn asked<R: Wait>(
     rt: &R,
     senders: &[Sender<Order>],

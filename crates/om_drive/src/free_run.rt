@@ -64,7 +64,6 @@ pub fn run_freely<R: Threads + Wait + Sync>(
 }
 
 // The book behind a free run, and what the run came to.
-#[tactic(auto, using(crate::proofs::Freeing::goes_on_same))]
 fn ran_freely<R: Threads + Wait + Sync>(
     errand: Errand<'_, R>,
     book: Book,
@@ -103,7 +102,6 @@ fn open_gates(alloc: Global, workers: u8) -> Result<Vec<Open>, AllocError>
 }
 
 // Opens a session over a book. It has as many seats as parts.
-#[tactic(auto, using(crate::specs::DistinctSeats::seats_count))]
 fn opened<L: Sitting>(
     alloc: Global,
     blank: Blank,
@@ -121,7 +119,6 @@ fn opened<L: Sitting>(
 }
 
 // Runs freely through a session over a book.
-#[tactic(auto, using(crate::specs::DistinctSeats::seats_differ, crate::specs::DistinctSeats::seats_count, crate::specs::DistinctSeats::as_many_back, crate::proofs::Freeing::goes_on_same))]
 fn run_through<L: Sitting + Send + Sync, R: Threads + Wait + Sync>(
     errand: Errand<'_, R>,
     gates: Vec<Open>,

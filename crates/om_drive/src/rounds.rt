@@ -150,7 +150,6 @@ fn take_round<R: Wait>(
 }
 
 // Takes all answers that are awaited.
-#[tactic(auto, using(crate::proofs::Rounding::begins_none, crate::proofs::Rounding::gathered_all, crate::proofs::Rounding::gathered_some))]
 fn take_all<R: Wait>(rt: &R, awaited: Awaited, answers: &mut Vec<Answer>) -> Result<(), Fault>
     requires { vec_len awaited.receivers ≡ vec_len awaited.numbers }
     ensures ok { OnOk result (AddsAll awaited.numbers.items answers.old answers.new) }

@@ -35,7 +35,6 @@ pub struct Driven<L: Sitting> {
 /// its receipt is left out (V1). That no other one is left out is promised by `keep_backed`, and not
 /// here, where the answers that came are not seen. `back` speaks of numbers alone: that a seat keeps
 /// the receipts that it had is promised by each of its calls, and not here.
-#[tactic(auto, using(om_book::specs::KeptAnswers::none_kept, om_book::specs::KeptAnswers::none_backed))]
 pub fn drive<L: Sitting + Send + Sync, G: Gate + Drop + Send, R: Threads + Wait + Sync>(
     session: &Session<L>,
     rt: &R,
@@ -95,7 +94,6 @@ fn zeros(alloc: Global, count: usize) -> Result<Vec<usize>, AllocError>
 
 // Compares the answers with the receipts. An answer without its receipt is left out, which is a
 // fault.
-#[tactic(auto, using(om_book::specs::KeptAnswers::kept_backed))]
 fn compared<L: Sitting>(
     seats: Vec<Seat<L>>,
     orders: &[Vec<Order>],

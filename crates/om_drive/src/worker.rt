@@ -59,7 +59,6 @@ impl<G: Gate + Drop, D: Debuggee + Drop> Worker<G, D> {
     }
 
     /// Asks the gate, makes the order's call, once, and says what came of it.
-    #[tactic(auto, using(crate::proofs::Places::last_made))]
     pub fn answer<R: Wait>(&mut self, rt: &R, order: Order) -> Answer
         requires { IsInRange (D.place self.old.debuggee).workers order.command }
         ensures number { result.number ≡ order.number }

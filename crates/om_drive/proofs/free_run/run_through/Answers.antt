@@ -7,6 +7,9 @@ use Rattle.om_drive.specs.FreeRuns.{gained}
 use Rattle.om_drive.specs.OwnCalls.{AreOwnCalls}
 use Rattle.om_drive.proofs.Freeing.{goes_on_grown}
 use Rattle.om_drive.proofs.OwnCalls.{own_covered}
+use Rattle.std.proofs.Common.{rules}
+use Rattle.om_drive.specs.DistinctSeats.{seats_differ, seats_count, as_many_back}
+use Rattle.om_drive.proofs.Freeing.{goes_on_same}
 use Rattle.om_drive.proofs.free_run.run_through.Goals as goal
 
 pub returns-clause-goes_on : goal.returns-clause-goes_on
@@ -32,3 +35,9 @@ returns-clause-own g c =
     in
     rw c.counted.ensures.book (IfOk-weaker c.counted.result.1 (λ count. c.is_whole.result ≡ true)
     (λ count. AreOwnCalls (gained old book)) (λ count whole. own whole) c.counted.ensures.whole)
+
+pub close-requires : goal.close-requires
+close-requires g c = search (rules, seats_differ, seats_count, as_many_back, goes_on_same)
+
+pub unreachable-requires : goal.unreachable-requires
+unreachable-requires g c = search (rules, seats_differ, seats_count, as_many_back, goes_on_same)

@@ -6,6 +6,8 @@ use Rattle.om_book.specs.Standing.{number_of}
 use Rattle.om_drive.specs.Calls.{place_of}
 use Rattle.om_drive.proofs.Places.{numbers_same}
 use Rattle.om_drive.proofs.Sent.{sitter_send}
+use Rattle.std.proofs.Common.{rules}
+use Rattle.om_book.specs.KeptAnswers.{none_kept, none_backed}
 use Rattle.om_drive.proofs.seats.drive.Goals as goal
 
 -- a seat beside its session may go to another thread
@@ -36,3 +38,9 @@ returns-clause-all g c = λ no_fault. ap (λ xs. map answer_number xs) (c.compar
 
 pub returns-clause-backed : goal.returns-clause-backed
 returns-clause-backed g c = c.compared.ensures.backed
+
+pub returns-in_default-clause-kept : goal.returns-in_default-clause-kept
+returns-in_default-clause-kept g c = search (rules, none_kept, none_backed)
+
+pub returns-in_default-zeros-clause-kept : goal.returns-in_default-zeros-clause-kept
+returns-in_default-zeros-clause-kept g c = search (rules, none_kept, none_backed)
