@@ -19,9 +19,9 @@ pub record IsFound (workers : ℕ) (source : List ℕ) (wanted : Option (List �
   pub wanted_is : text_in found.wanted ≡ wanted
   pub ends : IsEnd (machine_of book) wanted found.output.items found.why
 
--- it is found over this ground
+-- a schedule is found over a ground: for its number of workers, where its text is wanted
 abbrev pub IsFoundOn : Ground → List ℕ → Found → Type 0
-IsFoundOn ground source found = IsFound ground.workers source (text_in ground.wanted.now.text) found
+IsFoundOn g source found = IsFound g.workers source (text_in g.wanted.now.text) found
 
 -- where `run` makes all steps, ompback writes this and leaves this book
 abbrev pub RunsAlone : ℕ → List ℕ → List ℕ → Option BookView → Type 0
