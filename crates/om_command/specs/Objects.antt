@@ -42,7 +42,7 @@ place_text team number = name_text team ++ codes " " ++ decimal number
 abbrev pub team_text : List ℕ → List ℕ → ℕ → List ℕ
 team_text kind team number = kind ++ place_text team number
 
--- its task, the ordinal of its frame, its slot and its index: `0.1.0/0/2/0`
+-- a cell of a local variable: its task, the ordinal of its frame, its slot and its index: `0.1.0/0/2/0`
 abbrev pub cell_place_text : List ℕ → ℕ → ℕ → ℕ → List ℕ
 cell_place_text task frame slot index = name_text task ++ codes "/" ++ decimal frame ++ codes "/" ++ decimal slot
     ++ codes "/" ++ decimal index

@@ -68,15 +68,15 @@ EndsFor result here labels step old new =
     AppendsEnd result here labels.next (λ names l. for_end names l labels) (option_map view.expression step) old new
 
 -- the begin of a worksharing loop, and its scopes
-abbrev pub BeginsLoop : {E : Type 0} → Result LoopLabels E → Here → List ResolvedClause → ResolvedLoop → Writing
+abbrev pub BeginsSharedLoop : {E : Type 0} → Result LoopLabels E → Here → List ResolvedClause → ResolvedLoop → Writing
     → Writing → Type 0
-BeginsLoop result here clauses repeated old new =
+BeginsSharedLoop result here clauses repeated old new =
     let trees = map view.clause clauses in
     AppendsHead result here (λ names l. worksharing_begin names l trees) (view.loop repeated) old.draft new.draft
 
-abbrev pub ScopesLoop : {T E : Type 0} → Result T E → Here → List ResolvedClause → ResolvedLoop → Writing → Writing
+abbrev pub ScopesSharedLoop : {T E : Type 0} → Result T E → Here → List ResolvedClause → ResolvedLoop → Writing → Writing
     → Type 0
-ScopesLoop result here clauses repeated old new =
+ScopesSharedLoop result here clauses repeated old new =
     let trees = map view.clause clauses in
     AppendsScopes result here (λ at l. loop_head at l trees) (view.loop repeated) old new
 

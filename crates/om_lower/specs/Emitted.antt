@@ -98,10 +98,11 @@ WritesSiteScopes result tables site old new =
     let b = body_in [] site in
     OnOk result (EmitsScopes (numbered_by tables) (λ at. body_scopes at b.function b.tree) old new)
 
--- the own body of a function, in which the tables have the regions
+-- the tables have the regions in the own body of a function
 abbrev pub HasOwnEnds : BodyTables → tables.Numbers → ResolvedFunction → Type 0
 HasOwnEnds tables numbers f = HasBodyEnds (known_in tables) (numbers_of numbers) (view.function f) FunctionBody
 
+-- the own body of a function
 abbrev pub WritesOwnBody : {T E : Type 0} → Result T E → BodyTables → tables.Numbers → ResolvedFunction → Writing
     → Writing → Type 0
 WritesOwnBody result tables numbers f old new = OnOk result

@@ -111,11 +111,11 @@ AddsFunction tree n f old new false = FitsFunction tree n f None
 AddsFunction tree n f old new true = (bodies : Bodies) × FitsFunction tree n f (Some bodies)
     × (new.functions ≡ old.functions ++ bodies.bodies ∷ []) × (new.lists ≡ old.lists ++ bodies.lists)
 
--- the variables of one body, or of bodies, are put behind those of the bodies before them; where a body passes a limit,
--- nothing is said
+-- the variables of one body are put behind those of the bodies before it
 abbrev pub AddsVariables : BodySite → (old new : Vec (List ℕ) Global) → Type 0
 AddsVariables b old new = new.items ≡ old.items ++ variables_of b ∷ []
 
+-- the variables of these bodies are put behind those of the bodies before them; nothing is said unless they fit
 abbrev pub AddsAllVariables : List BodySite → (old new : Vec (List ℕ) Global) → (fits : Bool) → Type 0
 AddsAllVariables bodies old new fits = fits ≡ true → new.items ≡ old.items ++ map variables_of bodies
 

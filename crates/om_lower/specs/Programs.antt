@@ -20,6 +20,6 @@ IsTextAt formats number text = IfSome (slice_get formats number) (λ format. IsT
 abbrev pub HasMain : ResolvedTree → Type 0
 HasMain tree = Any (λ function. is_main_function function ≡ true) tree.functions
 
--- the number of the own body of the first one
+-- the number of the own body of the first function named `main`
 abbrev pub main_body : ResolvedTree → Option ℕ
 main_body tree = option_map (called_body tree.functions) (position is_main_function tree.functions)

@@ -26,11 +26,12 @@ behind_cut cut rest = cut.pieces.items ++ with_run cut.run.items (map text_piece
 abbrev pub cut_behind : Cut → List ℕ → Option (List texts.Piece)
 cut_behind cut format = option_map (behind_cut cut) (pieces_of format)
 
--- where what follows a `%` is
+-- what was cut, and then the pieces of what follows a `%`, if a format goes on so
 abbrev pub converted_behind : Cut → List ℕ → Option (List texts.Piece)
 converted_behind cut behind = option_map (behind_cut cut) (converted behind)
 
--- something is cut, behind which this much of a format comes to what all of it came to before
+-- The function `all` puts what is cut before the rest of a format. The new cut with the rest comes to what the
+-- old cut came to with all of it.
 abbrev pub CutsFrom : (List Piece → List Piece) → Cut → Cut → Type 0
 CutsFrom all old new = (rest : List Piece) → behind_cut new rest ≡ behind_cut old (all rest)
 
@@ -39,7 +40,7 @@ abbrev pub cut_on : Cut → Option (List ℕ) → Option (List texts.Piece)
 cut_on cut None = None
 cut_on cut (Some rest) = cut_behind cut rest
 
--- the same of what is lent
+-- what is left of a format that is lent, if it goes on
 abbrev pub cut_left : Cut → Option (Bor (List ℕ)) → Option (List texts.Piece)
 cut_left cut left = cut_on cut (option_map (λ rest. rest.now) left)
 

@@ -2,9 +2,10 @@
 --
 -- The code of a body is written statement by statement. A spot has what a statement must know of the code round it:
 -- the numbers that the next `parallel`, `task` and `sections` in it get, and the labels to which `break` and `continue`
--- jump. A name ends in `There` where what it says depends on the spot. First comes what is asked of a statement before
--- it is written, and then what is promised once it is, unless memory runs out: of its code, and of the scopes of the
--- names in it. The same is said of statements one behind the other, and of the parts of a `sections`.
+-- jump. A name that ends in `There` depends on the spot, and so do `GivesAllBehind` and `GivesPartsBehind`. First
+-- comes what is asked of a statement before it is written, and then what is promised once it is, unless memory runs
+-- out: of its code, and of the scopes of the names in it. The same is said of statements one behind the other, and of
+-- the parts of a `sections`.
 use Rattle.std.specs.Prelude.{◌≡◌, List, IfOk, OnOk, Result, is_some}
 use Rattle.om_lower.specs.Parts.{EmitsParts}
 use Rattle.om_lower.specs.declared.worksharing.PartsSpot.{PartsSpot}

@@ -20,8 +20,8 @@ pub use Rattle.om_lower.specs.Regions.{GivesBehind}
 pub use Rattle.om_lower.specs.There.{EmitsAllThere, EmitsThere, GivesAllBehind, HasCodeThere, HasEndsThere}
 pub use Rattle.om_lower.specs.There.{EmitsPartsThere, GivesPartsBehind, HaveCodeThere, HaveEndsThere}
 pub use Rattle.om_lower.specs.There.{HavePartsEndsThere, ScopesOf, ScopesOfAll, ScopesOfBlock, ScopesOfParts}
-pub use Rattle.om_lower.specs.BeginsAndEnds.{BeginsElse, BeginsFor, BeginsIf, BeginsLoop, BeginsParts, BeginsWhile}
-pub use Rattle.om_lower.specs.BeginsAndEnds.{EndsDo, EndsFor, EndsLoop, EndsWorksharing, ScopesFor, ScopesLoop}
+pub use Rattle.om_lower.specs.BeginsAndEnds.{BeginsElse, BeginsFor, BeginsIf, BeginsSharedLoop, BeginsParts, BeginsWhile}
+pub use Rattle.om_lower.specs.BeginsAndEnds.{EndsDo, EndsFor, EndsLoop, EndsWorksharing, ScopesFor, ScopesSharedLoop}
 pub use Rattle.om_lower.specs.BeginsAndEnds.{ScopesParts}
 pub use Rattle.om_statements.specs.Drafts.{settled_code}
 pub use Rattle.om_statements.specs.Settled.{ListsStand, number_of, settled_lists}

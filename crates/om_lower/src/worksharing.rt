@@ -1,7 +1,7 @@
 //! The begins and the ends of worksharing loops and of `sections`.
 
 ghost use Rattle.std.specs.Prelude.{◌<◌, ◌≤◌, length};
-ghost use Rattle.om_lower.specs.Words.{BeginsLoop, BeginsParts, EndsWorksharing, LoopHasCode, ScopesLoop, ScopesParts};
+ghost use Rattle.om_lower.specs.Words.{BeginsSharedLoop, BeginsParts, EndsWorksharing, LoopHasCode, ScopesSharedLoop, ScopesParts};
 ghost use Rattle.om_resolved.specs.ResolvedView as view;
 
 use crate::loop_form::{comparison_of, form_with};
@@ -47,8 +47,8 @@ pub(crate) fn begin_worksharing(
     repeated: &ResolvedLoop,
 ) -> Made<LoopLabels>
     requires { LoopHasCode (view.loop repeated.now) }
-    ensures code { BeginsLoop result here.now clauses.now repeated.now writing.old writing.new }
-    ensures scopes { ScopesLoop result here.now clauses.now repeated.now writing.old writing.new }
+    ensures code { BeginsSharedLoop result here.now clauses.now repeated.now writing.old writing.new }
+    ensures scopes { ScopesSharedLoop result here.now clauses.now repeated.now writing.old writing.new }
 {
     let Some(comparison) = comparison_of(repeated.comparison) else {
         unreachable!();

@@ -83,7 +83,7 @@ MakesConstruct setting d clauses body around =
 abbrev pub IsTree : Option ResolvedStatementTree → ResolvedStatement → Type 0
 IsTree tree found = tree ≡ Some (view.statement found)
 
--- nothing is refused, unless memory ran out, and what is made is this tree
+-- the answer is this tree; nothing is refused, unless memory ran out
 abbrev pub Makes : Result ResolvedStatement SourceFault → Option ResolvedStatementTree → Type 0
 Makes result tree = Resolves view.statement result [] tree
 

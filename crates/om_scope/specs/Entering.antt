@@ -26,7 +26,7 @@ use Rattle.om_uses.specs.Bounds.{ResolvesLoop, view_repeated}
 abbrev pub region_of : Directive Expression → RegionKind
 region_of d = (traits_of (view_directive d).name).region
 
--- a directive is refused where it stands, or its clauses are resolved
+-- a directive is refused where it stands, or its clauses are resolved; they alone are answered
 abbrev pub ResolvesClausesOf : Result (Vec ResolvedClause Global) SourceFault → Scopes → Flow → Directive Expression
     → Type 0
 ResolvesClausesOf result scopes flow d =
@@ -45,7 +45,7 @@ ChecksEntering result scopes flow d found =
 abbrev pub IsAllowed : Scopes → Flow → Directive Expression → Type 0
 IsAllowed scopes flow d = directive_breaches scopes flow (view_directive d) ≡ []
 
--- and the bounds of its loop break none
+-- the bounds of the loop of the directive break no rule
 abbrev pub IsBounded : Scopes → Directive Expression → Loop → Type 0
 IsBounded scopes d found = found_breaches (round_bounds (view_directive d) scopes) found ≡ []
 
@@ -55,7 +55,7 @@ abbrev pub FindsClauses : Result (Vec ResolvedClause Global × Box ResolvedLoop)
 FindsClauses result scopes d =
     Finds (λ made. view_clauses made.0) result (resolved_clauses scopes (view_directive d).clauses)
 
--- and so is the loop, with the schedule that they ask for
+-- the loop is resolved with the schedule that the clauses ask for, unless something is refused
 abbrev pub FindsLoop : Result (Vec ResolvedClause Global × Box ResolvedLoop) SourceFault → Scopes → Directive Expression
     → Loop → Type 0
 FindsLoop result scopes d found =
@@ -63,12 +63,12 @@ FindsLoop result scopes d found =
     Finds (λ made. view_repeated made.1) result
     (resolved_loop (round_bounds tree scopes) (schedule_of tree.clauses) found)
 
--- the loop is refused or resolved where the clauses of its construct list this
+-- a loop is refused or resolved, where `listed` is what the clauses of its construct list
 abbrev pub ResolvesRound : Result (Box ResolvedLoop) SourceFault → Scopes → Listed → Directive Expression → Loop
     → Type 0
 ResolvesRound result scopes listed d found = ResolvesLoop result (round_listed (region_of d) listed scopes)
     (schedule_of (view_directive d).clauses) found
 
--- the scopes are those in the construct whose clauses list this, unless something is refused
+-- the scopes are those in the construct, where `listed` is what its clauses list, unless something is refused
 abbrev pub EntersListed : {T : Type 0} → Result T SourceFault → Scopes → Scopes → Listed → Directive Expression → Type 0
 EntersListed result old new listed d = OnOk result (new ≡ in_kind (region_of d) listed old)

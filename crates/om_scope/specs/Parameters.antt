@@ -48,7 +48,7 @@ abbrev pub AppendsFurtherParameters : {T : Type 0} → Result T SourceFault → 
     → Vec LocalVariable Global → List (Span × Parameter names.Name) → Type 0
 AppendsFurtherParameters result old new rest = Appends result old new (map parameter_variable (further_parameters rest))
 
--- so does the variable of one
+-- the variable of one parameter stands behind those that were there, unless the parameter is refused
 abbrev pub AppendsParameter : {T : Type 0} → Result T SourceFault → Vec LocalVariable Global → Vec LocalVariable Global
     → Parameter names.Name → Type 0
 AppendsParameter result old new p = Appends result old new (map parameter_variable (p ∷ []))

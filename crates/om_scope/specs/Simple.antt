@@ -1,4 +1,5 @@
--- What is promised of the parts of a `for`, and of statements that have no statement in them.
+-- What is promised of a `for` put together of its parts, of these parts, of statements that have no statement in
+-- them, and of the `section` that a part of `sections` begins with.
 use Rattle.std.specs.Global.{Box}
 use Rattle.std.specs.Prelude.{◌≡◌, ◌++◌, false, Bool, Option, Result, not, option_map}
 use Rattle.om_lexer.specs.declared.fault.SourceFault.{SourceFault}
@@ -29,18 +30,18 @@ use Rattle.om_uses.specs.Views.{view_boxed}
 -- ---- the parts of a `for`
 
 -- the condition that a resolved head has
-abbrev pub condition_in : Box ResolvedHead → Option ResolvedExpressionTree
-condition_in head = option_map view.expression head.value.condition
+abbrev pub head_condition : Box ResolvedHead → Option ResolvedExpressionTree
+head_condition head = option_map view.expression head.value.condition
 
 -- the step that it has
-abbrev pub step_in : Box ResolvedHead → Option ResolvedExpressionTree
-step_in head = option_map view.expression head.value.step
+abbrev pub head_step : Box ResolvedHead → Option ResolvedExpressionTree
+head_step head = option_map view.expression head.value.step
 
 -- a statement is a `for` with this head and this body
 abbrev pub IsFor : Span → Box ResolvedHead → Box ResolvedStatement → ResolvedStatement → Type 0
 IsFor at head body found =
     view.statement found
-    ≡ resolved.For at (view.start head.value.start) (condition_in head) (step_in head) (view_body body)
+    ≡ resolved.For at (view.start head.value.start) (head_condition head) (head_step head) (view_body body)
 
 -- what a `for` begins with is refused, or resolved
 abbrev pub ResolvesStart : Result ResolvedStart SourceFault → Scopes → ForStartTree → Type 0
@@ -85,7 +86,7 @@ ResolvesStandAlone result scopes flow d =
     let tree = view_directive d in
     Resolves view.statement result (stand_alone_breaches scopes flow tree) (resolved_alone scopes tree tree.name)
 
--- the same, where its rules beside those of a list are kept
+-- a directive that stands alone, of which only the list of a `flush` is still to be checked
 abbrev pub ResolvesAlone : Result ResolvedStatement SourceFault → Scopes → Directive Expression → Type 0
 ResolvesAlone result scopes d =
     let tree = view_directive d in

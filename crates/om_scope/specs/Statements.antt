@@ -1,5 +1,5 @@
--- What is promised of the functions for statements with statements in them: each is refused, or resolved, in these
--- scopes and where control may leave it so.
+-- What is promised of the functions for statements with statements in them. Each is refused or resolved. `scopes`
+-- says what is declared there, and `flow` whether control may leave it.
 use Rattle.std.specs.Global.{Box}
 use Rattle.std.specs.Prelude.{ℕ, List, Result, Some, Vec}
 use Rattle.std.specs.declared.alloc.Global.{Global}
@@ -34,7 +34,7 @@ ResolvesFor result scopes flow head body =
 
 -- ---- constructs round a statement
 
--- any
+-- a construct of any kind round a statement
 abbrev pub ResolvesConstruct : Result ResolvedStatement SourceFault → Scopes → Flow → Directive Expression → Statement
     → Type 0
 ResolvesConstruct result scopes flow d body =
@@ -43,7 +43,7 @@ ResolvesConstruct result scopes flow d body =
     Resolves view.statement result (construct_breaches scopes flow tree inner)
     (resolved_construct scopes flow.parallel tree inner)
 
--- one that is for any statement
+-- a construct that is for any statement
 abbrev pub ResolvesPlainConstruct : Result ResolvedStatement SourceFault → Scopes → Flow → Directive Expression
     → Statement → Type 0
 ResolvesPlainConstruct result scopes flow d body =
@@ -52,7 +52,7 @@ ResolvesPlainConstruct result scopes flow d body =
     Resolves view.statement result (plain_construct_breaches scopes flow tree inner)
     (resolved_plain_construct scopes flow.parallel tree inner)
 
--- one that is for a loop
+-- a construct that is for a loop
 abbrev pub ResolvesLoopConstruct : Result ResolvedStatement SourceFault → Scopes → Flow → Directive Expression
     → Statement → Type 0
 ResolvesLoopConstruct result scopes flow d body =
@@ -61,21 +61,21 @@ ResolvesLoopConstruct result scopes flow d body =
     Resolves view.statement result (loop_construct_breaches scopes flow tree (loop_in inner) inner)
     (resolved_loop_construct scopes flow.parallel tree (loop_in inner) inner)
 
--- the body of this canonical loop, which the statement is
+-- the body of a canonical loop, where the statement is that loop
 abbrev pub ResolvesLoopBody : Result (Box ResolvedStatement) SourceFault → Scopes → Flow → Loop → Statement → Type 0
 ResolvesLoopBody result scopes flow found body =
     let inner = view_statement body in
     Resolves view_body result (body_breaches scopes flow (Some found) inner)
     (resolved_repeated scopes flow.parallel found inner)
 
--- what it repeats, where its variable is one of its own
+-- what a canonical loop repeats; the loop has its variable in a scope of its own
 abbrev pub ResolvesRepeated : Result (Box ResolvedStatement) SourceFault → Scopes → Flow → Loop → Statement → Type 0
 ResolvesRepeated result scopes flow found repeated =
     ResolvesStatement view_body result (in_loop scopes (Some found)) (continuing flow) repeated
 
 -- ---- `sections`
 
--- the construct, with its parts
+-- the construct of `sections`, with its parts
 abbrev pub ResolvesSections : Result ResolvedStatement SourceFault → Scopes → Flow → Directive Expression → List Part
     → Type 0
 ResolvesSections result scopes flow d sections =
@@ -84,13 +84,13 @@ ResolvesSections result scopes flow d sections =
     Resolves view.statement result (sections_construct_breaches scopes flow tree inner)
     (resolved_sections scopes flow.parallel tree inner)
 
--- the parts
+-- the parts of `sections`
 abbrev pub ResolvesParts : Result (Vec ResolvedPart Global) SourceFault → Scopes → Flow → List Part → Type 0
 ResolvesParts result scopes flow sections =
     let trees = part_trees sections in
     Resolves view_parts result (parts_breaches scopes flow 0 trees) (resolved_parts scopes flow.parallel trees)
 
--- a part behind so many
+-- a part of `sections`; `before` is how many parts stand before it
 abbrev pub ResolvesPart : Result ResolvedPart SourceFault → Scopes → Flow → (before : ℕ) → Part → Type 0
 ResolvesPart result scopes flow before part =
     let tree = view_part part in

@@ -16,10 +16,10 @@ use Rattle.om_rules.specs.Scopes.{Scopes, after_item, definitions_of, file_scope
 use Rattle.om_rules.specs.UnitResolution.{globals_of, item_functions, items_resolution}
 use Rattle.om_rules.specs.UnitRules.{items_breaches}
 
--- the function that an item defines stands behind those before it, unless something is refused
-abbrev pub AddsFunction : {T : Type 0} → Result T SourceFault → Scopes → Vec ResolvedFunction Global
+-- the function that an item defines, if it defines one, stands behind those before it, unless something is refused
+abbrev pub AddsFunctionOf : {T : Type 0} → Result T SourceFault → Scopes → Vec ResolvedFunction Global
     → Vec ResolvedFunction Global → Item → Type 0
-AddsFunction result scopes old new item = Adds view.function result old new (item_functions scopes (view_item item))
+AddsFunctionOf result scopes old new item = Adds view.function result old new (item_functions scopes (view_item item))
 
 -- the globals that items declare stand behind those before them, unless something is refused
 abbrev pub AppendsGlobalsOf : {T : Type 0} → Result T SourceFault → Vec GlobalVariable Global

@@ -5,7 +5,7 @@ ghost use Rattle.om_tree.specs.View.{view_for_head, view_for_start};
 ghost use Rattle.om_rules.specs.Checks.{Checks};
 ghost use Rattle.om_rules.specs.StatementRules.{continuing, looping};
 ghost use Rattle.om_scope.specs.Resolving.{GoesBehindStart, ResolvesHead, ResolvesTurn};
-ghost use Rattle.om_scope.specs.Simple.{IsFor, ResolvesPerhaps, ResolvesStart, condition_in, step_in};
+ghost use Rattle.om_scope.specs.Simple.{IsFor, ResolvesPerhaps, ResolvesStart, head_condition, head_step};
 ghost use Rattle.om_uses.specs.Views.{view_boxed};
 
 use om_lexer::{SourceFault, Span};
@@ -39,8 +39,8 @@ fn head_of(
 ) -> Result<Box<ResolvedHead>, SourceFault>
     ensures checked { Checks result [] }
     ensures start { IfOk result (λ head. head.value.start ≡ start.value) }
-    ensures condition { IfOk result (λ head. condition_in head ≡ option_map view_boxed condition) }
-    ensures step { IfOk result (λ head. step_in head ≡ option_map view_boxed step) }
+    ensures condition { IfOk result (λ head. head_condition head ≡ option_map view_boxed condition) }
+    ensures step { IfOk result (λ head. head_step head ≡ option_map view_boxed step) }
 {
     let head = ResolvedHead {
         start: Box::into_inner(start),

@@ -17,7 +17,7 @@ ghost use Rattle.om_rules.specs.UnitRules.{item_breaches, items_breaches};
 ghost use Rattle.om_resolved.specs.Beside.{TreeAtomicsAssign};
 ghost use Rattle.om_resolved.specs.Uses.{IsResolved};
 ghost use Rattle.om_resolved.specs.Whole.{IsWholeTree};
-ghost use Rattle.om_scope.specs.Units.{AddsFunction, AddsFunctions, AppendsGlobalsOf, ResolvesSource};
+ghost use Rattle.om_scope.specs.Units.{AddsFunctionOf, AddsFunctions, AppendsGlobalsOf, ResolvesSource};
 
 use crate::function::{check_prototype, resolve_function};
 use om_lexer::{FaultCode, SourceFault};
@@ -73,7 +73,7 @@ fn resolve_item(
     ensures checked { Checks result (item_breaches symbols.old (view_item item.now)) }
     ensures in_scope { OnOk result (symbols.new ≡ after_item symbols.old (view_item item.now)) }
     ensures declared { Appends result globals.old globals.new (globals_of (view_item item.now)) }
-    ensures defined { AddsFunction result symbols.old functions.old functions.new item.now }
+    ensures defined { AddsFunctionOf result symbols.old functions.old functions.new item.now }
 {
     match item {
         Item::Declaration(declaration) => declare_globals(alloc, symbols, globals, declaration),

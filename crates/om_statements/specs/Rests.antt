@@ -106,14 +106,14 @@ abbrev pub AppendsStep : {T E : Type 0} → Result T E → Here → (keeps : Boo
     → Written → Written → Type 0
 AppendsStep result here keeps x operator old new = Appends result here (λ at l. stepped at l keeps x) operator old new
 
--- an element is, whose index stands before it
+-- an element, whose index stands before it, is stepped by one; `keeps` says whether the new value is left
 abbrev pub AppendsElementStep : {T E : Type 0} → Result T E → Here → (keeps : Bool) → variables.Variable
     → PostfixOperator → Written → Written → Type 0
 AppendsElementStep result here keeps a operator old new =
     Appends result here (λ at l. stepped_rest at l keeps a) operator old new
 
--- the truth of the value on top is written in whichever body; both labels get their places, and those below the first
--- one are kept
+-- the row of the truth of the value on top is written in any body; both labels are placed, and the labels below the
+-- first one keep their places
 abbrev pub AppendsTruth : {T E : Type 0} → Result T E → (line otherwise over : ℕ) → Written → Written → Type 0
 AppendsTruth result line otherwise over old new = (names : Numbered)
     → OnOk result (Goes otherwise (λ done at. truth_row (site names done) line (at otherwise) (at over)) old new)

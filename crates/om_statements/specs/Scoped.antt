@@ -28,7 +28,7 @@ pub record EndsScopes (height to : ℕ) (old new : ScopeStack) : Type 0 where
   pub opened : new.opened.items ≡ take height old.opened.items
   pub closed : new.closed.items ≡ old.closed.items ++ map (closed_at to) (reverse (drop height old.opened.items))
 
--- they do, if there are so many of them
+-- all scopes but the first `height` that have begun end at this place, if so many have begun
 abbrev pub EndsAbove : (height to : ℕ) → ScopeStack → ScopeStack → Type 0
 EndsAbove height to old new = height ≤ length old.opened.items → EndsScopes height to old new
 
@@ -37,7 +37,7 @@ abbrev pub BeginsCopy : (from : ℕ) → ResolvedClauseTree → ScopeStack → S
 BeginsCopy from (Copied kind x copy) old new = BeginsOneScope from None copy old new
 BeginsCopy from clause old new = new ≡ old
 
--- where it begins in the body of a `parallel`
+-- where the scope of that copy begins in the body of a `parallel`
 abbrev pub team_from : (place : ℕ) → ResolvedClauseTree → ℕ
 team_from place (Copied (copies.Reduction o) x copy) = place
 team_from place clause = 0

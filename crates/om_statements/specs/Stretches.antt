@@ -50,11 +50,12 @@ abbrev pub AppendsClauses : {T E : Type 0} → Result T E → Here → (row : Si
 AppendsClauses result here row clauses old new =
     Appends result here row (map view.clause clauses) old.draft new.draft
 
--- a function writes there what the copy of a clause begins with in the body of a `parallel`, which is nothing unless
--- the clause is a reduction, and what those of clauses begin with, unless memory runs out
+-- a function writes there what the copy of a reduction begins with in the body of a `parallel`, unless memory runs
+-- out; of another clause it writes nothing
 abbrev pub BeginsReduction : {T E : Type 0} → Result T E → Here → ResolvedClause → Written → Written → Type 0
 BeginsReduction result here clause old new = Appends result here clause_reduction_start (view.clause clause) old new
 
+-- a function writes there what the copies of all reductions begin with, unless memory runs out
 abbrev pub BeginsReductions : {T E : Type 0} → Result T E → Here → List ResolvedClause → Writing → Writing → Type 0
 BeginsReductions result here clauses old new =
     Appends result here reduction_starts (map view.clause clauses) old.draft new.draft

@@ -99,7 +99,7 @@ AddsLocalsOf result scopes old new d = Adds view.declarator result old new (reso
 abbrev pub global_tree : Declarator SignedNumber → DeclaratorTree SignedNumber
 global_tree = view_declarator view_number
 
--- what it holds at the start
+-- what a global holds at the start, as a tree
 abbrev pub initial_tree : Option (Initializer SignedNumber) → Option (InitializerTree SignedNumber)
 initial_tree = option_map (view_initializer view_number)
 
@@ -107,7 +107,7 @@ initial_tree = option_map (view_initializer view_number)
 abbrev pub name_breaches_of : Scopes → Declarator SignedNumber → List SourceFault
 name_breaches_of scopes d = global_name_breaches scopes (global_tree d)
 
--- so many cells may still be declared
+-- the cells of this global and those of the globals before it are not more than the limit
 abbrev pub HasCellsFor : Scopes → Declarator SignedNumber → Type 0
 HasCellsFor scopes d = scopes.cells + cells_of d.array ≤ GLOBAL_CELL_LIMIT
 

@@ -11,13 +11,13 @@ use Rattle.om_rules.specs.Outcomes.{Refuses}
 abbrev pub KeepsRefusals : {X Y : Type 0} → Result X SourceFault → Result Y SourceFault → Type 0
 KeepsRefusals found result = (breaches : List SourceFault) → Checks found breaches → Checks result breaches
 
--- and for one more, where this rule is broken
+-- whatever breaches a part has, the first of them and of this rule, where it is broken, is refused
 abbrev pub RefusesAmong : {X Y : Type 0} → Result X SourceFault → (broken : Bool) → FaultCode → (at : ℕ)
     → Result Y SourceFault → Type 0
 RefusesAmong checked broken code at result =
     (breaches : List SourceFault) → Checks checked breaches → Checks result (perhaps_with broken code at breaches)
 
--- whatever breaches a statement has, this is the first of them and of S12 at this byte
+-- Whatever breaches a statement has, this fault is the first of them and of S12 at this byte, unless memory ran out.
 abbrev pub IsFaultOfLoop : {X : Type 0} → Result X SourceFault → (at : ℕ) → SourceFault → Type 0
 IsFaultOfLoop checked at fault =
     (breaches : List SourceFault) → Checks checked breaches

@@ -55,7 +55,7 @@ listed_in items = fold after_item nothing_listed items
 
 -- ---- what is promised where a clause lists names in such a way
 
--- the first breach of a name is refused, where others are listed
+-- the first breach of a name is refused, where others are listed; this check takes no memory
 abbrev pub ChecksListed : {T : Type 0} → Result T SourceFault → Scopes → DataSharing → Listed → names.Name → Type 0
 ChecksListed result scopes sharing listed name = ChecksExactly result (listed_breaches scopes sharing listed name)
 
@@ -84,7 +84,7 @@ ListsNames result listing old new ns = OnOk result (new ≡ after_names (sharing
 abbrev pub listed_clauses : listings.Listing → List names.Name → Option (List ResolvedClauseTree)
 listed_clauses listing = each (resolved_listed listing.kind listing.symbols.now)
 
--- the same of all the names of a list
+-- all the names of a list are listed behind those before them, unless one is refused
 abbrev pub ListsAll : {T : Type 0} → Result T SourceFault → listings.Listing → Listed → Listed → names.Name
     → List (Span × names.Name) → Type 0
 ListsAll result listing old new first rest = ListsNames result listing old new (names_in first rest)
@@ -117,7 +117,7 @@ abbrev pub ResolvesClauses : Result (Listed × Vec ResolvedClause Global) Source
 ResolvesClauses result scopes items = Resolves view_taken result
     (breaches_along (item_breaches scopes) after_item nothing_listed items) (resolved_clauses scopes items)
 
--- a directive is refused where it stands, or its clauses are resolved
+-- a directive is refused where it stands, or its clauses are resolved; what they list is answered beside them
 abbrev pub ResolvesDirective : Result (Listed × Vec ResolvedClause Global) SourceFault → Scopes → Flow
     → Directive ExpressionTree → Type 0
 ResolvesDirective result scopes flow d = Resolves view_taken result (directive_breaches scopes flow d)
