@@ -1,28 +1,13 @@
 -- Answers that are kept, turn by turn.
-use Rattle.std.specs.Prelude.{◌≡◌, ◌≢◌, ◌<◌, ◌≤◌, ◌-◌, ◌+◌, ◌++◌, ℕ, suc, All, List, [], ◌∷◌, length, take, drop, slice_get, refl}
+use Rattle.std.specs.Prelude.{◌≡◌, ◌<◌, ◌≤◌, ◌-◌, ◌+◌, ◌++◌, ℕ, suc, List, [], ◌∷◌, length, take, drop, slice_get, refl}
 use Rattle.std.specs.List.{remove}
 use Rattle.std.proofs.Common.{Bool, false, IsTrue, get_or, inl, inr, subst, sym, ◌∙◌, ap, arith, drop-cons, add-one, append_assoc, append-nil}
 use Rattle.std.proofs.Math.Seq.{take-append_seam, drop-append_seam}
-use Rattle.std.proofs.lemmas.List.{take_all, take_more, length-take-le, drop_all}
-use Rattle.std.proofs.lemmas.List.Elements.{All-more}
-use Rattle.std.proofs.lemmas.Option.{get_or_from_slice_get, slice_get_within}
+use Rattle.std.proofs.lemmas.List.{take_more, length-take-le, drop_all}
 use Rattle.om_book.specs.Seats.{SeatView}
 use Rattle.om_book.specs.declared.order.Answer.{Answer}
 use Rattle.om_book.specs.declared.order.Order.{Order}
-use Rattle.om_book.specs.Backing.{Has, Turn, turn_of, turns_at, turns, IsBacked, Keeps, Passes, IsUnderway}
-
--- one more has it
-pub all_more : {A : Type 0} (P : A → Type 0) (xs : List A) (i : ℕ) (x : A) → i < length xs → x ≡ get_or xs i x
-    → All P (take i xs) → P x → All P (take (i + 1) xs)
-all_more P xs i x within is h p = All-more P xs i x within h (subst P is p)
-
--- at the end all have it
-pub all_of : {A : Type 0} (P : A → Type 0) (xs : List A) (i : ℕ) → length xs ≤ i → All P (take i xs) → All P xs
-all_of P xs i past h = let Q : List _ → Type 0 = λ ys. All P ys in subst Q (take_all i xs past) h
-
--- what none of these is, is not among them
-pub none_there : {A : Type 0} (xs : List A) (x : A) → All (λ y. y ≢ x) xs → ¬ Has xs x
-none_there xs x none h = none h.0 x (slice_get_within xs h.0 x h.1) (get_or_from_slice_get xs h.0 x x h.1)
+use Rattle.om_book.specs.Backing.{Turn, turn_of, turns_at, turns, IsBacked, Keeps, Passes, IsUnderway}
 
 pub drop_front : {A : Type 0} (xs : List A) (i : ℕ) (x : A) → i < length xs → x ≡ get_or xs i x
     → drop i xs ≡ x ∷ drop (i + 1) xs

@@ -1,14 +1,10 @@
 -- Receipts, counted one after the other.
-use Rattle.std.specs.Prelude.{◌≡◌, ◌≤◌, ◌<◌, ◌+◌, ℕ, List, [], ◌∷◌, ◌++◌, length, refl}
-use Rattle.std.proofs.Common.{sym, ◌∙◌, ap, subst, inl, inr, arith, add-one, drop, get_or, drop-cons}
+use Rattle.std.specs.Prelude.{◌≡◌, ◌≤◌, ◌<◌, ◌+◌, ℕ, List, [], ◌∷◌, length, refl}
+use Rattle.std.proofs.Common.{sym, ◌∙◌, subst, inl, inr, arith, add-one, drop, get_or, drop-cons}
 use Rattle.std.proofs.lemmas.Grind.{common_steps}
-use Rattle.om_book.specs.Seats.{seats_below}
 use Rattle.om_book.specs.Standing.{Stands, Counts}
 use Rattle.om_journal.specs.Records.{JournalRecord}
 use Rattle.om_book.specs.declared.receipt.Receipt.{Receipt}
-
-pub seats_below_next : (n : ℕ) → seats_below (n + 1) ≡ seats_below n ++ record { number = n; receipts = [] } ∷ []
-seats_below_next n = ap seats_below (add-one n)
 
 pub drop_first : (xs : List Receipt) (i : ℕ) (x : Receipt) → i < length xs → x ≡ get_or xs i x → drop i xs ≡ x
     ∷ drop (i + 1) xs

@@ -1,4 +1,3 @@
 pub mod Lists
 pub mod Rolls
-pub mod Undos
 pub mod Answering

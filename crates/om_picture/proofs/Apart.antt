@@ -1,7 +1,7 @@
 -- Footprints whose objects are in other sets do not conflict.
 use Rattle.std.proofs.Common.{◌≡◌, ◌≢◌, refl, sym, ◌∙◌, ap, subst, Bool, true, false, cond, nat_eq, ◌&&◌, ℕ, ◌%◌, ◌^◌, ◌<◌, min}
 use Rattle.std.proofs.Common.{Option, None, Some, List, [], ◌∷◌, arith, lit<, w64, bit_and, bit_or}
-use Rattle.std.proofs.Common.{◌==◌, ◌||◌, not}
+use Rattle.std.proofs.Common.{◌||◌, not}
 use Rattle.std.specs.Prelude.{is_some}
 use Rattle.std.specs.Int.{bit_at}
 use Rattle.std.proofs.lemmas.Bool.Decides.{Decides-eqb}
@@ -12,7 +12,7 @@ use Rattle.om_foot.specs.declared.footprint.Access.{Access}
 use Rattle.om_foot.specs.Footprint.{obj_eq, modes_conflict, conflicts_with_any, conflict_of}
 use Rattle.om_foot.specs.Objects.{obj_eq-true}
 use Rattle.om_picture.specs.declared.traced.Traced.{Traced}
-use Rattle.om_picture.specs.Pictures.{is_hidden, meets_other, arrow_if, arrow_between}
+use Rattle.om_picture.specs.Pictures.{arrow_if}
 use Rattle.om_picture.specs.Sets.{set_of, sets_behind, sets_of}
 
 -- one more set: its bit is set, and no bit goes
@@ -96,9 +96,3 @@ no_object a b true h o e = refl
 no_object a b false true o e = refl
 no_object a b false false None e = refl
 no_object a b false false (Some q) e = cc
-
--- from a step that does not meet a later one of another worker there is no arrow to it
-pub no_arrow : (a b : Traced) (between : List Traced) → meets_other a b ≡ false → arrow_between a between b ≡ []
-no_arrow a b between e =
-    no_object a b (a.entry.worker == b.entry.worker) (is_hidden a.entry.worker between b)
-    (conflict_of a.footprint b.footprint) e

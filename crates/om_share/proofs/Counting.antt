@@ -41,6 +41,3 @@ arrivals_past names team n size h = append_assoc names _ _ ∙ ap (λ k. names +
 pub replicate_past : (us : List Update) (u : Update) (n size : ℕ) → n < size → (us ++ u ∷ [])
     ++ replicate (size - (n + 1)) u ≡ us ++ replicate (size - n) u
 replicate_past us u n size h = append_assoc us _ _ ∙ ap (λ k. us ++ replicate k u) (sym (one_less n size h))
-
-pub regrouped : (a b : List Access) (e : Access) → (a ++ b) ++ e ∷ [] ≡ a ++ (b ++ e ∷ [])
-regrouped a b e = append_assoc a b (e ∷ [])

@@ -12,7 +12,6 @@ use Rattle.om_code.specs.declared.instruction.Comparison.{Comparison}
 use Rattle.om_code.specs.declared.instruction.Comparison.TheVariants.{Less, LessOrEqual, Greater, GreaterOrEqual}
 use Rattle.om_code.specs.declared.instruction.LoopForm.{LoopForm}
 use Rattle.om_values.specs.declared.control.Share.{Share}
-use Rattle.om_values.specs.declared.control.Sharing.TheVariants.{Sections}
 use Rattle.om_values.specs.OpenShares.{IsInt, ShareHasInts, is_loop, value_of}
 use Rattle.om_share.specs.declared.chunk.Chunk.{Chunk}
 use Rattle.om_share.specs.Chunks.{step_size, rounded_up, rounded_down, count_of, chunk_within}
@@ -114,15 +113,6 @@ pub opened_ints : (share : Share) (region : ℕ) (form : LoopForm) (lower upper 
     → ShareHasInts share
 opened_ints share region form lower upper e right f g =
     subst ShareHasInts (sym e) (loop_ints region form lower upper (int_that_fits lower f) (int_that_fits upper g) right)
-
--- sections have no values
-pub sections_ints : (share : Share) → share.sharing ≡ Sections → share.end ≤ share.count → ShareHasInts share
-sections_ints share e within = record { within = within; values = λ is. cc }
-
--- a loop or sections in a chunk that ends within it
-pub chunk_ints : (share : Share) (taken : ℕ) (chunk : Chunk) → ShareHasInts share → chunk.end ≤ share.count
-    → ShareHasInts (record share { taken = taken; next = chunk.first; end = chunk.end })
-chunk_ints share taken chunk h within = record { within = within; values = h.values }
 
 -- the value of the next iteration, where one is left
 pub next_int : (share : Share) → ShareHasInts share → is_loop share.sharing ≡ true → share.next < share.end

@@ -2,4 +2,4 @@ pub mod Barriers
 pub mod Chunks
 pub mod Rows
 pub mod Iterations
-pub mod Answers
+pub mod RowParts

@@ -5,7 +5,7 @@ ghost use Rattle.std.specs.Ordering.{int_eq};
 ghost use Rattle.om_live.specs.Plain.{plain_context};
 ghost use Rattle.om_steps.specs.Objects.{innermost};
 ghost use Rattle.om_steps.specs.Answers.{Gives, Answers};
-ghost use Rattle.om_share.specs.Answers.{filtered_by};
+ghost use Rattle.om_share.specs.RowParts.{filtered_by};
 ghost use Rattle.om_share.specs.Rows.{masked_row, is_masked, end_masked_row};
 
 use crate::parts::{Branch, jump, opened};

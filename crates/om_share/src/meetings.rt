@@ -4,8 +4,8 @@ ghost use Rattle.std.specs.Prelude.{◌≡◌, ◌++◌, ◌≤◌, ◌<◌, ◌
 ghost use Rattle.om_live.specs.Plain.{plain_context, plain_held, plain_stack};
 ghost use Rattle.om_steps.specs.Objects.{own_cells};
 ghost use Rattle.om_steps.specs.Answers.{Gives, Answers, AnswersAt};
-ghost use Rattle.om_share.specs.Answers.{reached_names, reached_turn, departed_updates, held};
-ghost use Rattle.om_share.specs.Answers.{barrier_names, left_updates, left_on};
+ghost use Rattle.om_share.specs.RowParts.{reached_names, reached_turn, departed_updates, held};
+ghost use Rattle.om_share.specs.RowParts.{barrier_names, left_updates, left_on};
 ghost use Rattle.om_share.specs.Barriers.{barrier};
 ghost use Rattle.om_share.specs.Rows.{sync_of, team_at_end, reached_row, is_misplaced_barrier, arrive_row, departed, depart_row, region_end, left_records, left, leave_row};
 

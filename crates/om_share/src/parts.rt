@@ -5,7 +5,7 @@ ghost use Rattle.om_values.specs.OpenShares.{ShareHasInts};
 ghost use Rattle.om_live.specs.Plain.{plain_context};
 ghost use Rattle.om_steps.specs.Rows.{goes};
 ghost use Rattle.om_steps.specs.Answers.{Gives};
-ghost use Rattle.om_share.specs.Answers.{work_record};
+ghost use Rattle.om_share.specs.RowParts.{work_record};
 ghost use Rattle.om_share.specs.Rows.{edits, begun, share_of, share_in};
 
 use om_events::{Endpoint, Record, Work};

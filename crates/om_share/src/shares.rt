@@ -6,7 +6,7 @@ ghost use Rattle.om_live.specs.Plain.{plain_context};
 ghost use Rattle.om_foot.specs.declared.object.Obj.TheVariants as obj;
 ghost use Rattle.om_steps.specs.Objects.{write};
 ghost use Rattle.om_steps.specs.Answers.{Gives, Answers, AnswersAt};
-ghost use Rattle.om_share.specs.Answers.{iterated, static_by, iteration_by};
+ghost use Rattle.om_share.specs.RowParts.{iterated, static_by, iteration_by};
 ghost use Rattle.om_share.specs.Rows.{edits, is_right_schedule, is_right_form, loop_of, work_of, open_row, loop_row, sections_row, share_in, in_chunk, taken_row, given_row, grab_row, iterate_row, is_section, section_row, pick_row};
 
 use crate::chunk::{Chunk, chunk_within, count_of, static_chunk, step_size};

@@ -4,7 +4,7 @@ ghost use Rattle.std.specs.Prelude.{◌≡◌, true, false};
 ghost use Rattle.om_live.specs.Plain.{plain_context};
 ghost use Rattle.om_steps.specs.Objects.{innermost};
 ghost use Rattle.om_steps.specs.Answers.{Gives, Answers, AnswersAt};
-ghost use Rattle.om_share.specs.Answers.{chosen_by};
+ghost use Rattle.om_share.specs.RowParts.{chosen_by};
 ghost use Rattle.om_share.specs.Rows.{single_work, chosen_row, single_row, closed_row, end_worksharing_row};
 
 use crate::parts::{Branch, begun, work_record};

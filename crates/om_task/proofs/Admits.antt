@@ -1,16 +1,12 @@
 -- Which contexts admit a task.
 use Rattle.std.proofs.Common.{◌≡◌, refl, sym, ◌∙◌, ap, ℕ, ◌+◌, List, ◌∷◌, Bool, true, false, drop}
-use Rattle.std.specs.Prelude.{IsTrue, ◌↔◌, Option, Some, slice_get, if◌then◌else◌, map, option_map}
-use Rattle.std.specs.declared.alloc.Global.{Global}
-use Rattle.std.specs.declared.boxed.Box.{Box}
+use Rattle.std.specs.Prelude.{IsTrue, ◌↔◌, Some, slice_get, if◌then◌else◌}
 use Rattle.std.proofs.lemmas.List.{drop_more}
-use Rattle.std.proofs.lemmas.Option.{get_or_from_slice_get, slice_get_within, slice_get-map}
+use Rattle.std.proofs.lemmas.Option.{get_or_from_slice_get, slice_get_within}
 use Rattle.om_foot.specs.Names.{IsDescendant, is_below}
 use Rattle.om_foot.specs.Below.{below_to, below_from}
 use Rattle.om_code.specs.declared.raw.Raw.{Raw}
 use Rattle.om_values.specs.declared.control.Context.{Context}
-use Rattle.om_live.specs.declared.control.Context as live
-use Rattle.om_live.specs.Plain.{plain_held}
 use Rattle.om_task.specs.Rules.{admits_on, admits_all}
 
 same_test : (x y : Bool) → (x ≡ true → y ≡ true) → (y ≡ true → x ≡ true) → x ≡ y
@@ -20,11 +16,6 @@ same_test false false h k = refl
 
 pub is_same : (x : Bool) (a b : List ℕ) → IsTrue x ↔ IsDescendant a b → x ≡ is_below a b
 is_same x a b h = same_test x (is_below a b) (λ t. below_from a b (h.0 t)) (λ t. h.1 (below_to a b t))
-
--- the context at a depth, where contexts are kept in boxes
-pub held_at : (xs : List (Box live.Context Global)) (k : ℕ) (o : Option (Box live.Context Global)) → o ≡ slice_get xs k
-    → option_map plain_held o ≡ slice_get (map plain_held xs) k
-held_at xs k o e = ap (option_map plain_held) e ∙ sym (slice_get-map plain_held xs k)
 
 from_context : (xs : List Context) (k : ℕ) (x : Context) → slice_get xs k ≡ Some x → drop k xs ≡ x ∷ drop (k + 1) xs
 from_context xs k x h = drop_more xs k x (slice_get_within xs k x h) ∙ ap (λ y. y ∷ drop (k + 1) xs)

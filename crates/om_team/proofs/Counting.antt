@@ -1,10 +1,8 @@
 -- Lists and tests that count down: the first one, and what is left.
 use Rattle.std.proofs.Common.{◌≡◌, refl, sym, ◌∙◌, ap, ℕ, ℤ, zero, suc, ◌+◌, ◌-◌, ◌<◌, arith, List, [], ◌∷◌, ◌++◌}
-use Rattle.std.proofs.Common.{if◌then◌else◌, Some, append_assoc, length, length-append, ◌≤◌}
-use Rattle.std.proofs.lemmas.Bool.Decides.{nat_tests}
+use Rattle.std.proofs.Common.{if◌then◌else◌, Some, append_assoc}
 use Rattle.om_foot.specs.declared.object.Obj.TheVariants as obj
 use Rattle.om_foot.specs.declared.footprint.Access.{Access}
-use Rattle.om_foot.specs.Names.{name_of}
 use Rattle.om_values.specs.declared.control.Control.TheVariants as control
 use Rattle.om_values.specs.declared.control.Frame.{Frame}
 use Rattle.om_values.specs.declared.control.Team.{Team}
@@ -18,9 +16,6 @@ use Rattle.om_team.specs.Teams.{workers_from, first_busy, busy_in, member, membe
 
 one_less : (n size : ℕ) → n < size → size - n ≡ suc (size - (n + 1))
 one_less n size h = omega arith
-
-pub regrouped : (a b : List Access) (e : Access) → (a ++ b) ++ e ∷ [] ≡ a ++ (b ++ e ∷ [])
-regrouped a b e = append_assoc a b (e ∷ [])
 
 pub workers_past : (names : List Access) (n size : ℕ) → n < size → (names ++ write (obj.Control n) ∷ [])
     ++ workers_from (n + 1) (size - (n + 1)) ≡ names ++ workers_from n (size - n)
@@ -57,11 +52,3 @@ busy_from s n (suc k) more = ap (λ o. if is_idle (control_in (s (obj.Control n)
 pub busy_read : (s : State) (k : ℕ) (more : List Access) → first_busy 1 k (values_read (workers_from 1 k ++ more) s)
     ≡ busy_in s 1 k
 busy_read s k more = busy_from s 1 k more
-
--- a name with room has children
-pub has_child : (xs : List ℕ) (n : ℕ) → length xs ≤ 63 → name_of (xs ++ n ∷ []) ≡ Some (xs ++ n ∷ [])
-has_child xs n h = let few : length (xs ++ n ∷ []) ≤ 64 = omega (arith, length-append xs (n ∷ [])) in grind
-    (arith, nat_tests, few)
-
-pub regrouped_updates : (a b : List Update) (u : Update) → (a ++ b) ++ u ∷ [] ≡ a ++ (b ++ u ∷ [])
-regrouped_updates a b u = append_assoc a b (u ∷ [])

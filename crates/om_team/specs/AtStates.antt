@@ -1,4 +1,4 @@
--- Matter of proofs, for om_task too: answers at a state.
+-- Matter of proofs, for om_task too: what is answered where two things asked are equal.
 use Rattle.std.proofs.Common.{◌≡◌, subst}
 use Rattle.std.specs.Prelude.{Result, IfOk}
 use Rattle.om_values.specs.State.{State}
