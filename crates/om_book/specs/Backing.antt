@@ -42,11 +42,11 @@ abbrev pub turns : {V : Type 0} → (V → List Order) → ℕ → ℕ → List 
 turns items k zero ss vs = []
 turns items k (suc n) ss vs = turns_at items k ss vs ++ turns items (k + 1) n ss vs
 
--- those of all orders, round by round
+-- the turns of all orders, round by round, where `items` gives the orders of a seat
 abbrev pub in_turns : {V : Type 0} → (V → List Order) → List SeatView → List V → List Turn
 in_turns items ss vs = turns items 0 (longest items vs) ss vs
 
--- those of all orders in these lists, one list for each seat
+-- the turns of all orders, round by round; there is one list of orders for each seat
 abbrev pub turns_told : List SeatView → List (Vec Order Global) → List Turn
 turns_told seats orders = in_turns (λ o. o.items) seats orders
 
@@ -80,7 +80,8 @@ AreKept due ts kept = (came : List Answer) × Begins [] (map answer_number came)
 abbrev pub IsOfOne : List Turn → Answer → Type 0
 IsOfOne ts a = (t : Turn) × Has ts t × IsBacked t a
 
--- answers to a beginning of these orders are kept of *some* answers, each backed by the receipts of the orders' seats
+-- these are kept of *some* answers, whose numbers are a beginning of the numbers of the orders: those that the
+-- receipts of the orders' seats back; it binds nothing to answers that really came
 abbrev pub KeptOfOrders : List SeatView → List (Vec Order Global) → Vec Answer Global → Type 0
 KeptOfOrders seats orders kept = AreKept (numbers_of orders) (turns_told seats orders) kept.items
 

@@ -49,15 +49,15 @@ abbrev pub AddsRecord : ℕ → Command → Reply → Vec JournalRecord Global �
 AddsRecord seat command reply old new =
     new.items ≡ old.items ++ record { seat = seat; command = command; reply = reply } ∷ []
 
--- that of a seat's call, which a machine answers
+-- a journal has one more record: that of a seat's call, with the reply of this machine
 abbrev pub AddsCall : MachineView → ℕ → Command → Vec JournalRecord Global → Vec JournalRecord Global → Type 0
 AddsCall machine seat command old new = AddsRecord seat command (reply_to machine command) old new
 
--- that of a seat's step
+-- a journal has one more record: that of a seat's step, with the reply of this machine
 abbrev pub AddsStep : MachineView → ℕ → Label → Vec JournalRecord Global → Vec JournalRecord Global → Type 0
 AddsStep machine seat label old new = AddsCall machine seat (step_command label) old new
 
--- that of a seat's undo of a worker
+-- a journal has one more record: that of a seat's undo of a worker's step, with the reply of this machine
 abbrev pub AddsUndo : MachineView → ℕ → ℕ → Vec JournalRecord Global → Vec JournalRecord Global → Type 0
 AddsUndo machine seat worker old new = AddsCall machine seat (command.Undo worker) old new
 

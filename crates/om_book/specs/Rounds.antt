@@ -35,7 +35,7 @@ in_rounds items vs = rounds items 0 (longest items vs) vs
 abbrev pub numbers_at : ℕ → List (Vec Order Global) → List ℕ
 numbers_at round orders = round_at (λ o. o.items) round orders
 
--- and the numbers of all of them, round by round
+-- the numbers of all orders in these lists, round by round
 abbrev pub numbers_of : List (Vec Order Global) → List ℕ
 numbers_of orders = in_rounds (λ o. o.items) orders
 

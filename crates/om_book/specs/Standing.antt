@@ -59,6 +59,6 @@ pub record Covers (journal : List JournalRecord) (opened : ℕ) (seats : List Se
   pub receipts : All (λ (s : SeatView). s.receipts ≡ calls_of s.number opened (drop opened journal)) seats
   pub records : All (λ (r : JournalRecord). IsSeat seats r.seat) (drop opened journal)
 
--- they are its calls in a book, which was opened with fewer records, and each record since then is of one of the seats
+-- each seat's receipts are its calls in a book since the opening, and each record since then is of one of the seats
 abbrev pub CoversSince : BookView → BookView → List SeatView → Type 0
 CoversSince opened book seats = Covers book.journal (records_of opened) seats

@@ -72,7 +72,7 @@ pub record IsPage (left_before left_after : Option (List ℕ)) (workers : ℕ) (
   pub leaves : Leaves input [] text workers given status book
   pub shown : IsShown book text page
 
--- the same, with the options of the session
+-- this page comes of a session with these options over all that a reader had
 abbrev pub Shows : (left_before left_after : Option (List ℕ)) → Options → outcome.Page → Type 0
 Shows left_before left_after options page =
     IsPage left_before left_after options.workers (option_copied options.source) page

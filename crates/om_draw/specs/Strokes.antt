@@ -49,6 +49,6 @@ arrows_text program class scale (x ∷ xs) = arrow_text program class scale x ++
 abbrev pub AddsArrow : (old new : Vec ℕ Global) → Raw → List ℕ → Scale → Arrow → Type 0
 AddsArrow old new program class scale x = new.items ≡ old.items ++ arrow_text program class scale x
 
--- and the elements of several
+-- a text has the elements of these arrows more than before, at its end
 abbrev pub AddsArrows : (old new : Vec ℕ Global) → Raw → List ℕ → Scale → List Arrow → Type 0
 AddsArrows old new program class scale xs = new.items ≡ old.items ++ arrows_text program class scale xs

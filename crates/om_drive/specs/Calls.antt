@@ -23,13 +23,13 @@ last_place_in (r ∷ []) = Some r.place
 last_place_in (r ∷ s ∷ rs) = last_place_in (s ∷ rs)
 
 -- one more call was answered: this command with this reply, and its record has some place
-abbrev pub AddsCall : List Receipt → List Receipt → Command → Reply → Type 0
-AddsCall old new command reply = (at : ℕ) × (new ≡ old ++ receipt_of at command reply ∷ [])
+abbrev pub AddsReceipt : List Receipt → List Receipt → Command → Reply → Type 0
+AddsReceipt old new command reply = (at : ℕ) × (new ≡ old ++ receipt_of at command reply ∷ [])
 
--- there is room for so many more
+-- so many more items fit into the capacity of a vector
 abbrev pub HasRoomFor : {A : Type 0} → ℕ → Vec A Global → Type 0
 HasRoomFor more items = vec_len items + more ≤ vec_capacity items
 
--- those that waited are back behind the others, each with the same f
+-- behind the items that were there are those that waited; f gives of each what it gave before
 abbrev pub ComeBack : {A B : Type 0} → (A → B) → (waiting old new : Vec A Global) → Type 0
 ComeBack f waiting old new = map f new.items ≡ map f old.items ++ map f waiting.items

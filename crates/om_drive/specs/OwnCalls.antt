@@ -23,11 +23,11 @@ abbrev pub others_from : ℕ → List (List Receipt) → List (List Receipt)
 others_from worker [] = []
 others_from worker (rs ∷ more) = others_in worker rs ∷ others_from (suc worker) more
 
--- what something made since then is own calls of the worker alone
+-- the calls that are not the worker's own are the same calls before and after
 abbrev pub AddsOwn : {A : Type 0} → ℕ → (A → List Receipt) → A → A → Type 0
 AddsOwn worker made old new = others_in worker (made new) ≡ others_in worker (made old)
 
--- each of these made own calls of its worker alone since then; the first one has worker 0, and so on
+-- for each item: the calls that are not its worker's own are the same calls before and after; item 0 is worker 0's
 abbrev pub AddOwn : {A : Type 0} → (A → List Receipt) → List A → List A → Type 0
 AddOwn made old new = others_from 0 (map made new) ≡ others_from 0 (map made old)
 

@@ -21,15 +21,15 @@ steps_in (r ∷ rs) = cond (makes_step r.command r.reply) (suc (steps_in rs)) (s
 abbrev pub steps_of : SeatView → ℕ
 steps_of s = steps_in s.receipts
 
--- something made so many steps since then
+-- the new one made so many more steps than the old one
 abbrev pub MakesSteps : {A : Type 0} → (A → List Receipt) → A → A → ℕ → Type 0
 MakesSteps made old new n = steps_in (made new) ≡ steps_in (made old) + n
 
--- it made one step since then, or none
+-- the new one made one more step than the old one where this is true, and no more where it is false
 abbrev pub StepIf : {A : Type 0} → (A → List Receipt) → A → A → Bool → Type 0
 StepIf made old new step = MakesSteps made old new (cond step 1 0)
 
--- it made none
+-- the new one made as many steps as the old one
 abbrev pub NoStep : {A : Type 0} → (A → List Receipt) → A → A → Type 0
 NoStep made old new = steps_in (made new) ≡ steps_in (made old)
 

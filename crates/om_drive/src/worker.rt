@@ -4,7 +4,7 @@
 ghost use Rattle.std.specs.Prelude.{◌≡◌, ℕ, ◌++◌, ◌∷◌, [], List, IfOk, OnErr, None, Some};
 ghost use Rattle.om_journal.specs.Runs.{IsInRange};
 ghost use Rattle.om_book.specs.declared.receipt.Receipt.{Receipt};
-ghost use Rattle.om_drive.specs.Calls.{AddsCall, Place, last_place_in};
+ghost use Rattle.om_drive.specs.Calls.{AddsReceipt, Place, last_place_in};
 
 use crossbeam_channel::{Receiver, Sender};
 use om_book::{Answer, CallError, Command, Order, Reply};
@@ -26,7 +26,7 @@ pub trait Debuggee {
     fn call<R: Wait>(&mut self, rt: &R, command: Command) -> Result<Reply, CallError>
         requires { IsInRange (place self.old).workers command }
         ensures place { place self.new ≡ place self.old }
-        ensures made { IfOk result (AddsCall (made self.old) (made self.new) command) }
+        ensures made { IfOk result (AddsReceipt (made self.old) (made self.new) command) }
         ensures none { OnErr result (made self.new ≡ made self.old) };
 
     /// The place in the journal of its last call that was answered, if there was one.

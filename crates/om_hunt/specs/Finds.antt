@@ -19,7 +19,7 @@ pub record IsFound (workers : ℕ) (source : List ℕ) (wanted : Option (List �
   pub wanted_is : text_in found.wanted ≡ wanted
   pub ends : IsEnd (machine_of book) wanted found.output.items found.why
 
--- a schedule is found over a ground: for its number of workers, where its text is wanted
+-- a bad schedule is found with the ground's number of workers, where the ground's text is what is wanted
 abbrev pub IsFoundOn : Ground → List ℕ → Found → Type 0
 IsFoundOn g source found = IsFound g.workers source (text_in g.wanted.now.text) found
 

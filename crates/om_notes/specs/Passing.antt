@@ -73,12 +73,12 @@ BreaksOff held_before held_after pending due =
 abbrev pub pending_count : Waiting → ℕ
 pending_count w = length w.read.pending.items
 
--- a line was passed on where nothing is due as it is
+-- one line was passed on, and no bytes were due before it
 abbrev pub PassesLine : {W : Type 0} → (W → Option (List ℕ)) → W → W → Waiting → Waiting → Type 0
 PassesLine contents to_before to_after before after = PassesPart (contents to_before) (contents to_after)
     before.read.pending.items after.read.pending.items 0 after.due
 
--- a beginning of such a line was passed on
+-- a beginning of one line was passed on, and no bytes were due before it
 abbrev pub BreaksLine : {W : Type 0} → (W → Option (List ℕ)) → W → W → Waiting → Type 0
 BreaksLine contents to_before to_after before =
     BreaksPart (contents to_before) (contents to_after) before.read.pending.items 0
@@ -105,8 +105,10 @@ BreaksMore contents to_before to_after before =
 
 -- what holds where a function answers yes, and where it answers no
 
+-- this holds where a function answers yes
 abbrev pub OnYes : {E : Type 0} → Result Bool E → Type 0 → Type 0
 OnYes result P = IfOk result (λ yes. yes ≡ true → P)
 
+-- this holds where a function answers no
 abbrev pub OnNo : {E : Type 0} → Result Bool E → Type 0 → Type 0
 OnNo result P = IfOk result (λ yes. yes ≡ false → P)

@@ -83,7 +83,7 @@ abbrev pub wanted_by : Option (List ℕ) → MachineView → Option (List ℕ)
 wanted_by (Some text) m = Some text
 wanted_by None m = cond (has_ended (control_of m 0)) (Some (output_of m)) None
 
--- the same, where what is expected is lent
+-- what a program has to print, where that is known; what is expected is lent
 abbrev pub due_at : Option (Bor (List ℕ)) → MachineView → Option (List ℕ)
 due_at expected m = wanted_by (option_copied expected) m
 

@@ -38,7 +38,7 @@ before_wanted by_run = if by_run then codes ", where `run` prints " else codes "
 abbrev pub told_text : Bool → List ℕ → List ℕ
 told_text by_run wanted = before_wanted by_run ++ quoted wanted
 
--- the same, where it is known
+-- what was wanted, where that is known
 abbrev pub wanted_text : Bool → Option (List ℕ) → List ℕ
 wanted_text by_run (Some wanted) = told_text by_run wanted
 wanted_text by_run None = []

@@ -3,10 +3,10 @@ use Rattle.std.specs.Prelude.{◌<◌, ◌≤◌, ℕ}
 use Rattle.om_schedules.specs.declared.seeds.Ground.{Ground}
 use Rattle.om_schedules.specs.declared.seeds.Schedule.{Schedule}
 
--- a schedule of a later seed than this one
+-- the schedule is of a later seed than this one
 abbrev pub LiesBehind : ℕ → Schedule → Type 0
 LiesBehind seed schedule = seed < schedule.seed
 
--- a schedule of one of the seeds that are tried
+-- the schedule's seed is not above the last seed that is tried
 abbrev pub IsOfSeed : Ground → Schedule → Type 0
 IsOfSeed g schedule = schedule.seed ≤ g.seeds

@@ -20,7 +20,7 @@ pub record LeadsTo (workers : ℕ) (source commands : List ℕ) (entries : List 
   pub leaves : Leaves workers (Some source) commands text (Some book)
   pub same : map unnumbered (entries_in book) ≡ map unnumbered entries
 
--- the commands of steps lead to their entries
+-- over a source, the commands of these steps lead to their entries, but for the serials
 abbrev pub LeadBack : ℕ → List ℕ → made.Steps → Type 0
 LeadBack workers source steps = LeadsTo workers source steps.text.items steps.entries.items
 
@@ -44,7 +44,7 @@ IsScriptFor workers given input (Refused line) = IsRefusal workers given input l
 abbrev pub IsScriptOver : ℕ → SessionBytes → Script → Type 0
 IsScriptOver workers session script = IsScriptFor workers (Some session.source.now) session.commands.now script
 
--- the script is that of the session that a reader had
+-- where it is known which bytes a reader had, this is what is answered of the session in them: steps or a refusal
 abbrev pub IsScriptIn : Option (List ℕ) → Options → Script → Type 0
 IsScriptIn bytes options script =
     IfSome bytes (λ input. IsScriptFor options.workers (option_copied options.source) input script)
@@ -61,12 +61,12 @@ abbrev pub IsConeFor : ℕ → Option (List ℕ) → List ℕ → ℕ → Script
 IsConeFor workers given input serial (Steps lines) = AreOfCone workers given input serial lines.items
 IsConeFor workers given input serial (Refused line) = IsRefusal workers given input line.items
 
--- it is the cone of a serial in a session whose source and commands are these
+-- this is answered of a serial in a session with this source and these commands: its cone or a refusal
 abbrev pub IsConeOver : ℕ → SessionBytes → ℕ → Script → Type 0
 IsConeOver workers session serial script =
     IsConeFor workers (Some session.source.now) session.commands.now serial script
 
--- it is the cone of a serial in the session that a reader had
+-- where it is known which bytes a reader had, this is answered of a serial in their session: its cone or a refusal
 abbrev pub IsConeIn : Option (List ℕ) → Options → ℕ → Script → Type 0
 IsConeIn bytes options serial script =
     IfSome bytes (λ input. IsConeFor options.workers (option_copied options.source) input serial script)

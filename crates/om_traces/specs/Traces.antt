@@ -23,11 +23,11 @@ transition_of t = record { entry = t.entry; footprint = t.footprint }
 abbrev pub traced : List Traced → List Transition
 traced steps = map transition_of steps
 
--- what a replay of entries touches, from the start of a program with so many workers
+-- the entries, each with what its step touches in a replay from the start of a program with so many workers
 abbrev pub replayed : Raw → ℕ → List Entry → List Transition
 replayed program workers entries = transitions (rules_of program workers) entries
 
--- what a replay of a machine's history touches
+-- the entries of a machine's history, each with what its step touches in a replay from the start
 abbrev pub transitions_of : MachineView → List Transition
 transitions_of m = transitions (rules_for m) m.history.entries
 

@@ -45,31 +45,31 @@ step_reply_at b worker choice = step_reply_of (machine_of b) (label_of worker ch
 abbrev pub with_value_look : BookView → Obj → BookView
 with_value_look b object = with_call b (call.Look (query.Value object))
 
--- What the book tells of its last call, whatever book that call was made in: of any call its reply,
+-- whatever call was the last one in a book, this is the reply to it
 abbrev pub IsReplyTold : Reply → BookView → Type 0
 IsReplyTold reply now = (b : BookView) (c : Command) → now ≡ with_call b c → reply ≡ reply_to (machine_of b) c
 
--- of an undo how it went,
+-- where the last call was an undo, this is the reply to it
 abbrev pub IsUndoTold : UndoReply → BookView → Type 0
 IsUndoTold reply now = (b : BookView) (worker : ℕ) → now ≡ with_call b (call.Undo worker)
     → reply ≡ undo_reply_of (machine_of b) worker
 
--- of a roll how it went,
+-- where the last call was a roll, this is the reply to it
 abbrev pub IsRollTold : RollReply → BookView → Type 0
 IsRollTold reply now = (b : BookView) (serial : ℕ) → now ≡ with_call b (call.Roll serial)
     → reply ≡ reply_to_roll (rules_for (machine_of b)) (machine_of b).history serial
 
--- of a look at an object what it holds,
+-- where the last call was a look at an object, this is what the object holds
 abbrev pub IsValueTold : Val → BookView → Type 0
 IsValueTold value now = (b : BookView) (object : Obj) → now ≡ with_value_look b object
     → value ≡ state_in (machine_of b) object
 
--- of a look at the entries which ones stand,
+-- where the last call was a look at the entries, these are the entries that stand
 abbrev pub AreEntriesTold : List Entry → BookView → Type 0
 AreEntriesTold entries now = (b : BookView) → now ≡ with_call b (call.Look query.Entries)
     → entries ≡ (machine_of b).history.entries
 
--- and of a look at the tasks that are ready their names
+-- where the last call was a look at the tasks that are ready, these are their names
 abbrev pub AreNamesTold : List (List ℕ) → BookView → Type 0
 AreNamesTold names now = (b : BookView) → now ≡ with_call b (call.Look query.Ready)
     → names ≡ ready_names (machine_of b)

@@ -54,7 +54,7 @@ stays m stay = nat_eq (line_at m stay.worker) stay.line
 abbrev pub is_step_within : StepReply → MachineView → Stay → Bool
 is_step_within r m stay = is_step_made (reply.Step r) && stays m stay
 
--- and this to an undo that took a step out, and left it there
+-- this is the reply to an undo that took a step out, and the worker is at its line behind it
 abbrev pub is_undo_within : UndoReply → MachineView → Stay → Bool
 is_undo_within r m stay = is_undone r && stays m stay
 
@@ -74,7 +74,7 @@ next_within (suc further) line worker b =
       book = with_step b (label_of worker Next);
     }))
 
--- those of a worker that is to leave its line
+-- what is said by the steps of a worker that is to leave its line
 abbrev pub next_from : ℕ → Stay → BookView → Said
 next_from further stay b = next_within further stay.line stay.worker b
 
@@ -87,6 +87,7 @@ abbrev pub undoes_within : ℕ → ℕ → BookView → Bool
 undoes_within line worker b = is_undone (undo_reply_of (machine_of b) worker)
     && nat_eq (line_at (machine_of (with_call b (call.Undo worker))) worker) line
 
+-- undos of a worker, while each takes a step out and leaves it at the line, and one more; so many before at most
 unfoldable pub back_within : ℕ → ℕ → ℕ → BookView → Said
 back_within zero line worker b = undo_said worker b
 back_within (suc further) line worker b =
@@ -97,11 +98,11 @@ back_within (suc further) line worker b =
       book = with_call b (call.Undo worker);
     }))
 
--- the undos of a worker that is to leave its line
+-- what is said by the undos of a worker that is to leave its line
 abbrev pub back_from : ℕ → Stay → BookView → Said
 back_from further stay b = back_within further stay.line stay.worker b
 
--- `back W`: the same with undos
+-- `back W`: 10,000 undos at most, until the line changes or an undo takes no step out; the last reply
 abbrev pub back_said : ℕ → ℕ → BookView → Said
 back_said most worker b = back_within most (line_at (machine_of b) worker) worker b
 

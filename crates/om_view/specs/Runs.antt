@@ -56,11 +56,11 @@ abbrev pub planned_move : MachineView → Option Label → Option PlannedView
 planned_move m None = None
 planned_move m (Some label) = Some (planned_at m label)
 
--- that of a worker by a choice, where it has one
+-- the planned step of a worker by a choice, where there is a choice
 abbrev pub planned_for : MachineView → ℕ → Option Choice → Option PlannedView
 planned_for m worker choice = planned_move m (move_or worker choice None)
 
--- that of a label, where it can be made
+-- the planned step of a label, where this is true
 abbrev pub planned_if : MachineView → Bool → Label → Option PlannedView
 planned_if m can label = cond can (Some (planned_at m label)) None
 
@@ -72,11 +72,11 @@ planned_by m worker choice = planned_if m (can_step m worker choice) (label_of w
 abbrev pub planned_start : MachineView → ℕ → Option PlannedView
 planned_start m worker = planned_for m worker (start_among m worker (ready_names m))
 
--- a worker's move
+-- the planned step of a worker's move, where it has one
 abbrev pub planned_of : MachineView → ℕ → Option PlannedView
 planned_of m worker = planned_for m worker (move_of m worker)
 
--- the move of the least of the last so many workers that has one
+-- the planned step of the move of the least of the last so many workers that has one
 abbrev pub planned_among : MachineView → ℕ → Option PlannedView
 planned_among m last = planned_move m (move_among m last)
 
@@ -96,7 +96,7 @@ stop_without_move m = cond (has_ended (control_in (state_in m (object.Control 0)
 abbrev pub ran : BookView → ℕ → Stop → Said
 ran b made why = record { text = ran_text b.start.program made why; book = b }
 
--- what a run says that stops where no worker has a move, behind so many
+-- what a run says behind so many steps, where no worker has a move
 abbrev pub rest_text : BookView → ℕ → List ℕ
 rest_text b made = ran_text b.start.program made (stop_without_move (machine_of b))
 

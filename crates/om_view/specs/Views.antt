@@ -162,10 +162,10 @@ Tells told old new view = Writes told.text old new × (view ≡ told.view)
 abbrev pub Obeys : Debugger → Command → (old new : Vec ℕ Global) → Debugger → Type 0
 Obeys d c old new view = Tells (obeyed d no_run c) old new view
 
--- among them `print W VAR`
+-- a debugger carries out `print W VAR`
 abbrev pub PrintsFor : Debugger → ℕ → Variable → (old new : Vec ℕ Global) → Debugger → Type 0
 PrintsFor d worker variable old new view = Obeys d (command.PrintLocal worker variable) old new view
 
--- and it answers a request that asks for no free run
+-- a debugger answers a request that asks for no free run
 abbrev pub AnswersRequest : Debugger → Request → (old new : Vec ℕ Global) → Debugger → Type 0
 AnswersRequest d asked old new view = Tells (answer_to d no_run asked) old new view
