@@ -62,7 +62,6 @@ impl<'a, R: Threads + Wait + Sync> Session<'a, R> {
     /// Answers one line, and says whether the session is over.
     ///
     /// After a fault a beginning of the answer was written.
-    #[tactic(auto, using(crate::proofs::SessionLaws::part_of, crate::proofs::SessionLaws::no_part))]
     pub(crate) fn answer<W: Write>(
         &mut self,
         line: &[u8],
