@@ -17,7 +17,6 @@ pub struct Report {
 }
 
 /// The report on the accepted source of a file, with notes behind its head. The only error is out of memory.
-#[tactic(auto, using(crate::proofs::HeadLaws::stands_behind))]
 pub fn accepted_report(alloc: Global, file: &str, notes: &[u8]) -> Result<Report, AllocError>
     ensures text { IfOk result (HasText (accepted_head file.now) notes.now) }
     ensures status { IfOk result (λ report. report.status ≡ 0) }
@@ -30,7 +29,6 @@ pub fn accepted_report(alloc: Global, file: &str, notes: &[u8]) -> Result<Report
 
 /// The report on the refused source of a file, with an explanation behind its head. The only error is out of
 /// memory.
-#[tactic(auto, using(crate::proofs::HeadLaws::stands_behind))]
 pub fn refused_report(
     alloc: Global,
     file: &str,

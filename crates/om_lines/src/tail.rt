@@ -8,7 +8,6 @@ use std::alloc::{AllocError, Global};
 
 /// A line with the mark and words behind it, and its end; without the mark where there are no words, or where
 /// they would end the line. The only error is out of memory.
-#[tactic(auto, using(crate::proofs::TailLaws::noted))]
 pub fn noted(alloc: Global, line: &[u8], words: &[u8]) -> Result<Vec<u8>, AllocError>
     ensures { IfOk result (λ text. text.items ≡ line.now ++ tail_of words.now ++ 10 ∷ []) }
 {
@@ -26,7 +25,6 @@ fn fits_behind(words: &[u8]) -> bool
 }
 
 // Appends the mark and words; nothing where there are none, or where they would end the line.
-#[tactic(auto, using(crate::proofs::TailLaws::no_tail, crate::proofs::TailLaws::a_tail))]
 fn push_tail(text: &mut Vec<u8>, words: &[u8]) -> Result<(), AllocError>
     ensures { OnOk result (text.new.items ≡ text.old.items ++ tail_of words.now) }
 {

@@ -1,12 +1,12 @@
 //! The filter: what is read is passed on part by part, with words behind its lines.
-ghost use Rattle.std.specs.Prelude.{◌≡◌, ◌==◌, ◌<◌, ◌≤◌, [], Some, length, take, IfOk, OnErr, OnOk};
+ghost use Rattle.std.specs.Prelude.{◌≡◌, ◌==◌, ◌+◌, ◌<◌, ◌≤◌, true, false, [], Some, length, take, IfOk, OnErr, OnOk};
 ghost use Rattle.std.specs.List.{position};
 ghost use Rattle.om_command.specs.Words.{words_of};
 ghost use Rattle.om_shell.specs.Lines.{HasNoLineEnd};
 ghost use Rattle.om_notes.specs.Parts.{announced};
 ghost use Rattle.om_lines.specs.Tails.{IsNoted};
-ghost use Rattle.om_notes.specs.Passing.{BreaksLine, BreaksMore, BreaksOne, OnNo, OnYes, PassesLine, PassesMore, PassesOne};
-ghost use Rattle.om_notes.specs.Passing.{PassesAll, PassesBeginning, pending_count};
+ghost use Rattle.om_notes.specs.Passing.{BreaksOff, BreaksPart, GoesOn};
+ghost use Rattle.om_notes.specs.Passing.{PassesAll, PassesBeginning, PassesPart};
 
 use crate::names::Names;
 use crate::remark::remark;
@@ -36,18 +36,23 @@ fn pass_line<W: Write>(
     names: &Names<'_>,
     waiting: &mut Waiting,
     end: usize,
-    out: &mut W,
+    writer: &mut W,
 ) -> Result<(), ShellFault>
     requires due { waiting.old.due ≡ 0 }
     requires ended { Some end ≡ position (λ byte. byte == 10) waiting.old.read.pending.items }
     requires within { end < length waiting.old.read.pending.items }
-    ensures passed { OnOk result (PassesLine W.contents out.old out.new waiting.old waiting.new) }
-    ensures fewer { OnOk result (pending_count waiting.new < pending_count waiting.old) }
-    ensures broken_off { OnErr result (BreaksLine W.contents out.old out.new waiting.old) }
+    ensures passed { OnOk result
+        (PassesPart (W.contents writer.old) (W.contents writer.new) waiting.old.read.pending.items
+        waiting.new.read.pending.items 0 waiting.new.due) }
+    ensures fewer { OnOk result
+        (length waiting.new.read.pending.items < length waiting.old.read.pending.items) }
+    ensures broken_off { OnErr result
+        (BreaksPart (W.contents writer.old) (W.contents writer.new)
+        waiting.old.read.pending.items 0) }
     ensures reads { waiting.new.read.reads_left ≡ waiting.old.read.reads_left }
 {
     let (text, due) = answer(names, &waiting.read.pending, end)?;
-    send(out, &text)?;
+    send(writer, &text)?;
     waiting.discard(end + 1, due);
     Ok(())
 }
@@ -63,16 +68,21 @@ fn smaller(one: usize, other: usize) -> usize
 
 // Passes pending bytes on that are due as they are.
 #[tactic(auto, using(crate::proofs::PassLaws::bytes_passed))]
-fn pass_bytes<W: Write>(waiting: &mut Waiting, out: &mut W) -> Result<(), ShellFault>
+fn pass_bytes<W: Write>(waiting: &mut Waiting, writer: &mut W) -> Result<(), ShellFault>
     requires due { 0 < waiting.old.due }
     requires pending { 0 < length waiting.old.read.pending.items }
-    ensures passed { OnOk result (PassesOne W.contents out.old out.new waiting.old waiting.new) }
-    ensures fewer { OnOk result (pending_count waiting.new < pending_count waiting.old) }
-    ensures broken_off { OnErr result (BreaksOne W.contents out.old out.new waiting.old) }
+    ensures passed { OnOk result
+        (PassesPart (W.contents writer.old) (W.contents writer.new) waiting.old.read.pending.items
+        waiting.new.read.pending.items waiting.old.due waiting.new.due) }
+    ensures fewer { OnOk result
+        (length waiting.new.read.pending.items < length waiting.old.read.pending.items) }
+    ensures broken_off { OnErr result
+        (BreaksPart (W.contents writer.old) (W.contents writer.new) waiting.old.read.pending.items
+        waiting.old.due) }
     ensures reads { waiting.new.read.reads_left ≡ waiting.old.read.reads_left }
 {
     let count = smaller(waiting.due, waiting.read.pending.len());
-    send(out, &waiting.read.pending[..count])?;
+    send(writer, &waiting.read.pending[..count])?;
     waiting.discard(count, waiting.due - count);
     Ok(())
 }
@@ -82,26 +92,33 @@ fn pass_bytes<W: Write>(waiting: &mut Waiting, out: &mut W) -> Result<(), ShellF
 fn pass_part<W: Write>(
     names: &Names<'_>,
     waiting: &mut Waiting,
-    out: &mut W,
+    writer: &mut W,
 ) -> Result<bool, ShellFault>
-    ensures passed { OnYes result (PassesOne W.contents out.old out.new waiting.old waiting.new) }
-    ensures fewer { OnYes result (pending_count waiting.new < pending_count waiting.old) }
-    ensures unended { OnNo result (HasNoLineEnd waiting.new.read.pending.items) }
-    ensures unchanged { OnNo result ((out.new ≡ out.old) × (waiting.new ≡ waiting.old)) }
-    ensures broken_off { OnErr result (BreaksOne W.contents out.old out.new waiting.old) }
+    ensures passed { IfOk result (λ passed. passed ≡ true
+        → PassesPart (W.contents writer.old) (W.contents writer.new) waiting.old.read.pending.items
+        waiting.new.read.pending.items waiting.old.due waiting.new.due) }
+    ensures fewer { IfOk result (λ passed. passed ≡ true
+        → length waiting.new.read.pending.items < length waiting.old.read.pending.items) }
+    ensures unended { IfOk result
+        (λ passed. passed ≡ false → HasNoLineEnd waiting.new.read.pending.items) }
+    ensures unchanged { IfOk result (λ passed. passed ≡ false
+        → (writer.new ≡ writer.old) × (waiting.new ≡ waiting.old)) }
+    ensures broken_off { OnErr result
+        (BreaksPart (W.contents writer.old) (W.contents writer.new) waiting.old.read.pending.items
+        waiting.old.due) }
     ensures reads { waiting.new.read.reads_left ≡ waiting.old.read.reads_left }
 {
     if waiting.due > 0 {
         if waiting.read.pending.is_empty() {
             return Ok(false);
         }
-        pass_bytes(waiting, out)?;
+        pass_bytes(waiting, writer)?;
         return Ok(true);
     }
     let Some(end) = first_line_end(&waiting.read.pending) else {
         return Ok(false);
     };
-    pass_line(names, waiting, end, out)?;
+    pass_line(names, waiting, end, writer)?;
     Ok(true)
 }
 
@@ -110,14 +127,18 @@ fn pass_part<W: Write>(
 fn pass_parts<W: Write>(
     names: &Names<'_>,
     waiting: &mut Waiting,
-    out: &mut W,
+    writer: &mut W,
 ) -> Result<(), ShellFault>
-    ensures passed { OnOk result (PassesMore W.contents out.old out.new waiting.old waiting.new) }
+    ensures passed { OnOk result
+        (GoesOn (W.contents writer.old) (W.contents writer.new) waiting.old.read.pending.items
+        waiting.new.read.pending.items waiting.old.due waiting.new.due) }
     ensures unended { OnOk result (HasNoLineEnd waiting.new.read.pending.items) }
-    ensures broken_off { OnErr result (BreaksMore W.contents out.old out.new waiting.old) }
+    ensures broken_off { OnErr result
+        (BreaksOff (W.contents writer.old) (W.contents writer.new) waiting.old.read.pending.items
+        waiting.old.due) }
     ensures reads { waiting.new.read.reads_left ≡ waiting.old.read.reads_left }
 {
-    'parts: while pass_part(names, waiting, out)? {}
+    'parts: while pass_part(names, waiting, writer)? {}
     Ok(())
 }
 

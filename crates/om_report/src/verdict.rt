@@ -12,7 +12,6 @@ use om_lines::{Report, accepted_report, refused_report};
 use std::alloc::{AllocError, Global};
 
 // The report on an accepted source.
-#[tactic(auto, using(crate::proofs::ReportLaws::begins_with))]
 fn accepted(alloc: Global, checked: Checked<'_>) -> Result<Report, AllocError>
     ensures begins { IfOk result (HasHead (accepted_head checked.entry.file.now)) }
     ensures status { IfOk result (λ report. report.status ≡ 0) }
@@ -22,7 +21,6 @@ fn accepted(alloc: Global, checked: Checked<'_>) -> Result<Report, AllocError>
 }
 
 // The report on a refused source.
-#[tactic(auto, using(crate::proofs::ReportLaws::begins_with))]
 fn refused(
     alloc: Global,
     file: &str,
@@ -42,7 +40,6 @@ fn refused(
 /// and help where there is some. Of an accepted one it is `FILE: accepted`, and a note for each `num_threads`
 /// whose constant is above the number of workers. Columns count bytes from 1. The only error is out of
 /// memory.
-#[tactic(auto, using(crate::proofs::ReportLaws::reports_accepted))]
 pub fn report(alloc: Global, file: &str, source: &[u8], workers: u8) -> Result<Report, AllocError>
     ensures { IfOk result
         (λ report. Reports file.now source.now report.text.items report.status) }

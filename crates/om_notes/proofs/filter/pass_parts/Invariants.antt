@@ -4,7 +4,7 @@ use Rattle.om_notes.proofs.filter.pass_parts.Given as goal
 
 abbrev pub invariant-parts : goal.invariant-parts
 invariant-parts g l = record {
-  passed : GoesOn (g.W.Write.contents l.initial.out) (g.W.Write.contents l.out)
+  passed : GoesOn (g.W.Write.contents l.initial.writer) (g.W.Write.contents l.writer)
       l.initial.waiting.read.pending.items l.waiting.read.pending.items l.initial.waiting.due l.waiting.due;
   reads : l.waiting.read.reads_left ≡ l.initial.waiting.read.reads_left;
 }
