@@ -2,6 +2,6 @@
 use Rattle.std.specs.Prelude.{◌≡◌, ℕ, List, ◌++◌, Vec}
 use Rattle.std.specs.declared.alloc.Global.{Global}
 
--- a text has these bytes more than before, at its end
-abbrev pub Adds : (old new : Vec ℕ Global) → List ℕ → Type 0
-Adds old new more = new.items ≡ old.items ++ more
+-- these bytes are written behind a text, and the text before them stays
+abbrev pub Writes : List ℕ → (old new : Vec ℕ Global) → Type 0
+Writes bytes old new = new.items ≡ old.items ++ bytes

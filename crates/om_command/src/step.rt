@@ -1,7 +1,7 @@
 //! The replies to steps and undos, and to lines that are refused.
 ghost use Rattle.std.specs.Prelude.{◌≡◌, ◌++◌, OnOk};
 ghost use Rattle.om_command.specs.Steps.{blocker_text, command_fault_text, done_text, full_text, refuser_text, step_text, undo_text, undone_text};
-ghost use Rattle.om_command.specs.Texts.{Adds};
+ghost use Rattle.om_command.specs.Texts.{Writes};
 
 use crate::command::CommandFault;
 use crate::ending::{ROOM, put, put_entry, put_fault};
@@ -85,7 +85,7 @@ pub fn push_undo(
     worker: u8,
     reply: &UndoReply,
 ) -> Result<(), AllocError>
-    ensures { OnOk result (Adds text.old text.new (undo_text program.now worker reply.now)) }
+    ensures { OnOk result (Writes (undo_text program.now worker reply.now) text.old text.new) }
 {
     match reply {
         UndoReply::Undone { serial, line } => push_undone(text, *serial, worker, *line),

@@ -2,7 +2,7 @@
 
 ghost use Rattle.std.specs.Prelude.{◌≡◌, ◌++◌, OnOk};
 ghost use Rattle.om_command.specs.Objects.{variable_text};
-ghost use Rattle.om_command.specs.Texts.{Adds};
+ghost use Rattle.om_command.specs.Texts.{Writes};
 ghost use Rattle.om_command.specs.Values.{cell_text, local_text, print_text, written_index};
 
 use crate::command::Variable;
@@ -52,7 +52,7 @@ pub fn push_print(
     cell: GlobalCell,
     value: &Val,
 ) -> Result<(), AllocError>
-    ensures { OnOk result (Adds text.old text.new (print_text program.now cell value.now)) }
+    ensures { OnOk result (Writes (print_text program.now cell value.now) text.old text.new) }
 {
     push_variable(text, program, cell)?;
     text.extend_from_slice(b" = ")?;

@@ -1,7 +1,7 @@
 //! The text of boxes: one element for each.
 
 ghost use Rattle.std.specs.Prelude.{◌≡◌, ◌++◌, OnOk};
-ghost use Rattle.om_command.specs.Texts.{Adds};
+ghost use Rattle.om_command.specs.Texts.{Writes};
 ghost use Rattle.om_draw.specs.Marks.{hue_of, corner_text, title_text, hue_text, upper_text, lines_text, class_text, mark_text, card_begin, card_text, box_text, boxes_text};
 
 use crate::escape::{push_after, push_attribute};
@@ -152,7 +152,7 @@ pub(crate) fn push_boxes(
     scale: Scale,
     boxes: &[StepBox],
 ) -> Result<(), AllocError>
-    ensures { OnOk result (Adds text.old text.new (boxes_text class.now scale boxes.now)) }
+    ensures { OnOk result (Writes (boxes_text class.now scale boxes.now) text.old text.new) }
 {
     for step in boxes {
         push_box(text, class, scale, step)?;

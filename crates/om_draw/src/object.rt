@@ -1,7 +1,7 @@
 //! The words for the objects at which steps conflict.
 
 ghost use Rattle.std.specs.Prelude.{◌≡◌, ◌++◌, OnOk};
-ghost use Rattle.om_command.specs.Texts.{Adds};
+ghost use Rattle.om_command.specs.Texts.{Writes};
 ghost use Rattle.om_foot.specs.Names.{name_text};
 ghost use Rattle.om_draw.specs.Objects.{named_text, numbered_text, before_cell, behind_cell, cell_words, index_words, variable_words, name_of_lock, lock_words, object_words};
 
@@ -19,7 +19,7 @@ pub(crate) fn push_object(
     name: &[u8],
     object: &Obj,
 ) -> Result<(), AllocError>
-    ensures { OnOk result (Adds text.old text.new (object_words program.now name.now object.now)) }
+    ensures { OnOk result (Writes (object_words program.now name.now object.now) text.old text.new) }
 {
     match object {
         Obj::Control(worker) => push_numbered(text, b"control of worker ", *worker),
@@ -63,7 +63,7 @@ fn push_in_team(
     team: &Name,
     number: u64,
 ) -> Result<(), AllocError>
-    ensures { OnOk result (Adds text.old text.new (numbered_text before.now team.now number)) }
+    ensures { OnOk result (Writes (numbered_text before.now team.now number) text.old text.new) }
 {
     push_named(text, before, team)?;
     push_numbered(text, b" number ", number)
@@ -98,7 +98,7 @@ fn push_cell(
     slot: u32,
     index: u32,
 ) -> Result<(), AllocError>
-    ensures { OnOk result (Adds text.old text.new (cell_words task.now frame slot index)) }
+    ensures { OnOk result (Writes (cell_words task.now frame slot index) text.old text.new) }
 {
     push_named(text, b"cell ", task)?;
     push_numbered(text, b"/", frame)?;
@@ -114,7 +114,7 @@ fn push_variable(
     variable: u32,
     index: u32,
 ) -> Result<(), AllocError>
-    ensures { OnOk result (Adds text.old text.new (variable_words program.now variable index)) }
+    ensures { OnOk result (Writes (variable_words program.now variable index) text.old text.new) }
 {
     let Some(global) = program.globals().get(variable as usize) else {
         return Ok(());

@@ -1,7 +1,7 @@
 //! The text of arrows: one element for each.
 
 ghost use Rattle.std.specs.Prelude.{◌≡◌, ◌++◌, OnOk};
-ghost use Rattle.om_command.specs.Texts.{Adds};
+ghost use Rattle.om_command.specs.Texts.{Writes};
 ghost use Rattle.om_draw.specs.Strokes.{class_text, name_text, line_text, label_text, AddsArrow, AddsArrows};
 
 use crate::escape::push_attribute;
@@ -42,7 +42,7 @@ fn push_label(
     scale: Scale,
     arrow: &Arrow,
 ) -> Result<(), AllocError>
-    ensures { OnOk result (Adds text.old text.new (label_text program.now scale arrow.now)) }
+    ensures { OnOk result (Writes (label_text program.now scale arrow.now) text.old text.new) }
 {
     push_attribute(text, b"<text x='", scale.label_left(arrow.to.serial))?;
     push_attribute(text, b" y='", label_base(arrow.from, arrow.to))?;

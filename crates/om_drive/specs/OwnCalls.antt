@@ -24,12 +24,12 @@ others_from worker [] = []
 others_from worker (rs ∷ more) = others_in worker rs ∷ others_from (suc worker) more
 
 -- the calls that are not the worker's own are the same calls before and after
-abbrev pub AddsOwn : {A : Type 0} → ℕ → (A → List Receipt) → A → A → Type 0
-AddsOwn worker made old new = others_in worker (made new) ≡ others_in worker (made old)
+abbrev pub KeepsOtherCalls : {A : Type 0} → ℕ → (A → List Receipt) → A → A → Type 0
+KeepsOtherCalls worker made old new = others_in worker (made new) ≡ others_in worker (made old)
 
 -- for each item: the calls that are not its worker's own are the same calls before and after; item 0 is worker 0's
-abbrev pub AddOwn : {A : Type 0} → (A → List Receipt) → List A → List A → Type 0
-AddOwn made old new = others_from 0 (map made new) ≡ others_from 0 (map made old)
+abbrev pub EachKeepsOtherCalls : {A : Type 0} → (A → List Receipt) → List A → List A → Type 0
+EachKeepsOtherCalls made old new = others_from 0 (map made new) ≡ others_from 0 (map made old)
 
 abbrev pub receipts_of : SeatView → List Receipt
 receipts_of s = s.receipts

@@ -3,7 +3,7 @@
 ghost use Rattle.std.specs.Prelude.{◌≡◌, ◌<◌, ◌≤◌, ◌+◌, ◌*◌, ◌^◌, ◌++◌, ◌∷◌, [], IfOk, IfErr, vec_len, vec_capacity, map, sum_by};
 ghost use Rattle.om_book.specs.Standing.{number_of};
 ghost use Rattle.om_drive.specs.Calls.{ComeBack, HasRoomFor};
-ghost use Rattle.om_drive.specs.OwnCalls.{AddOwn, AddsOwn, receipts_of};
+ghost use Rattle.om_drive.specs.OwnCalls.{EachKeepsOtherCalls, KeepsOtherCalls, receipts_of};
 ghost use Rattle.om_drive.specs.Steps.{AllMakeSteps, MakesSteps, steps_by, steps_of};
 
 use crate::rounds::push_within;
@@ -48,7 +48,7 @@ pub fn free<L: Sitting + Send + Sync, G: Gate + Drop + Send, R: Threads + Wait +
     ensures back { map number_of result.seats.items ≡ map number_of seats.items }
     ensures done { sum_by steps_of result.seats.items
         ≡ sum_by steps_of seats.items + result.done }
-    ensures own { AddOwn receipts_of seats.items result.seats.items }
+    ensures own { EachKeepsOtherCalls receipts_of seats.items result.seats.items }
 {
     let alloc = *seats.allocator();
     let Ok(mut sitters) = Vec::with_capacity(alloc, seats.len()) else {
@@ -82,7 +82,7 @@ fn free_over<G: Gate + Drop + Send, D: Debuggee + Drop + Send, R: Threads + Wait
     requires few { vec_len debuggees ≤ 64 }
     ensures back { map D.place result.0.items ≡ map D.place debuggees.items }
     ensures done { AllMakeSteps D.made debuggees.items result.0.items result.1.done }
-    ensures own { AddOwn D.made debuggees.items result.0.items }
+    ensures own { EachKeepsOtherCalls D.made debuggees.items result.0.items }
 {
     let tally = Tally {
         done: 0,
@@ -109,7 +109,7 @@ fn free_over<G: Gate + Drop + Send, D: Debuggee + Drop + Send, R: Threads + Wait
             requires nothing { line.tally.done ≡ 0 }
             ensures back { map D.place result.0.items ≡ map D.place line.waiting.items }
             ensures done { AllMakeSteps D.made line.waiting.items result.0.items result.1.done }
-            ensures own { AddOwn D.made line.waiting.items result.0.items }
+            ensures own { EachKeepsOtherCalls D.made line.waiting.items result.0.items }
         { free_in(scope, rt, rounds, line) },
     )
 }
@@ -147,7 +147,7 @@ fn free_in<
     requires nothing { line.tally.done ≡ 0 }
     ensures back { map D.place result.0.items ≡ map D.place line.waiting.items }
     ensures done { AllMakeSteps D.made line.waiting.items result.0.items result.1.done }
-    ensures own { AddOwn D.made line.waiting.items result.0.items }
+    ensures own { EachKeepsOtherCalls D.made line.waiting.items result.0.items }
 {
     free_from(scope, rt, rounds, &mut line);
     let Line { back, tally, .. } = line;
@@ -171,7 +171,7 @@ fn free_from<
     ensures done { steps_by D.made line.new.back.items + line.old.tally.done
         ≡ steps_by D.made line.old.back.items + steps_by D.made line.old.waiting.items
         + line.new.tally.done }
-    ensures own { AddOwn D.made line.old.waiting.items line.new.back.items }
+    ensures own { EachKeepsOtherCalls D.made line.old.waiting.items line.new.back.items }
     ensures small { line.new.tally.done ≤ line.old.tally.done + vec_len line.old.waiting * 2 ^ 32 }
     ensures capacity { vec_capacity line.old.back ≤ vec_capacity line.new.back }
 {
@@ -206,12 +206,12 @@ struct Counted<G: Gate + Drop, D: Debuggee + Drop>(Snapshot<Runner<G, D>>);
 
 impl<G: Gate + Drop, D: Debuggee + Drop> Promise<Ran<D>> for Counted<G, D> {
     ghost use Rattle.std.specs.Prelude.{◌≡◌};
-    ghost use Rattle.om_drive.specs.OwnCalls.{AddsOwn};
+    ghost use Rattle.om_drive.specs.OwnCalls.{KeepsOtherCalls};
     ghost use Rattle.om_drive.specs.Steps.{MakesSteps};
 
     ghost kept_by = { λ p r. (D.place r.debuggee ≡ D.place p.0.value.debuggee)
         × MakesSteps D.made p.0.value.debuggee r.debuggee r.done
-        × AddsOwn p.0.value.worker D.made p.0.value.debuggee r.debuggee };
+        × KeepsOtherCalls p.0.value.worker D.made p.0.value.debuggee r.debuggee };
 }
 
 // Starts a worker's thread. Where there is none, the worker makes its rounds here.
@@ -230,7 +230,7 @@ fn start<
     ensures started { IfOk result (λ thread. thread.promise.0.value ≡ runner) }
     ensures place { IfErr result (λ ran. D.place ran.debuggee ≡ D.place runner.debuggee) }
     ensures steps { IfErr result (λ ran. MakesSteps D.made runner.debuggee ran.debuggee ran.done) }
-    ensures own { IfErr result (λ ran. AddsOwn runner.worker D.made runner.debuggee ran.debuggee) }
+    ensures own { IfErr result (λ ran. KeepsOtherCalls runner.worker D.made runner.debuggee ran.debuggee) }
 {
     let promise = Counted(Snapshot::of(&runner));
     match scope.spawn_with(promise, move || runner.run(rt, rounds)) {

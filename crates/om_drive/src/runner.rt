@@ -2,7 +2,7 @@
 
 ghost use Rattle.std.specs.Prelude.{◌≡◌, ◌<◌, IfOk, OnErr};
 ghost use Rattle.om_journal.specs.Runs.{IsInRange};
-ghost use Rattle.om_drive.specs.OwnCalls.{AddsOwn};
+ghost use Rattle.om_drive.specs.OwnCalls.{KeepsOtherCalls};
 ghost use Rattle.om_drive.specs.Steps.{MakesSteps, NoStep, StepIf};
 
 use crate::worker::{Debuggee, Gate, says_yes};
@@ -46,7 +46,7 @@ impl<G: Gate + Drop, D: Debuggee + Drop> Runner<G, D> {
     pub(crate) fn run<R: Wait>(mut self, rt: &R, rounds: u32) -> Ran<D>
         ensures place { D.place result.debuggee ≡ D.place self.debuggee }
         ensures steps { MakesSteps D.made self.debuggee result.debuggee result.done }
-        ensures own { AddsOwn self.worker D.made self.debuggee result.debuggee }
+        ensures own { KeepsOtherCalls self.worker D.made self.debuggee result.debuggee }
     {
         let mut done = 0;
         let mut error = None;
@@ -66,7 +66,7 @@ impl<G: Gate + Drop, D: Debuggee + Drop> Runner<G, D> {
         requires { self.old.worker < (D.place self.old.debuggee).workers }
         ensures place { D.place self.new.debuggee ≡ D.place self.old.debuggee }
         ensures steps { MakesSteps D.made self.old.debuggee self.new.debuggee result.0 }
-        ensures own { AddsOwn self.old.worker D.made self.old.debuggee self.new.debuggee }
+        ensures own { KeepsOtherCalls self.old.worker D.made self.old.debuggee self.new.debuggee }
     {
         let mut done = 0;
         for round in 0..rounds {
@@ -88,7 +88,7 @@ impl<G: Gate + Drop, D: Debuggee + Drop> Runner<G, D> {
         ensures worker { self.new.worker ≡ self.old.worker }
         ensures steps { IfOk result (StepIf D.made self.old.debuggee self.new.debuggee) }
         ensures none_on_error { OnErr result (NoStep D.made self.old.debuggee self.new.debuggee) }
-        ensures own { AddsOwn self.old.worker D.made self.old.debuggee self.new.debuggee }
+        ensures own { KeepsOtherCalls self.old.worker D.made self.old.debuggee self.new.debuggee }
     {
         let tried = self.step(rt, Choice::Next)?;
         if tried.waits && !tried.made {
@@ -104,7 +104,7 @@ impl<G: Gate + Drop, D: Debuggee + Drop> Runner<G, D> {
         ensures worker { self.new.worker ≡ self.old.worker }
         ensures steps { IfOk result (StepIf D.made self.old.debuggee self.new.debuggee) }
         ensures none_on_error { OnErr result (NoStep D.made self.old.debuggee self.new.debuggee) }
-        ensures own { AddsOwn self.old.worker D.made self.old.debuggee self.new.debuggee }
+        ensures own { KeepsOtherCalls self.old.worker D.made self.old.debuggee self.new.debuggee }
     {
         let Some(task) = self.first_ready(rt)? else {
             return Ok(false);
@@ -118,7 +118,7 @@ impl<G: Gate + Drop, D: Debuggee + Drop> Runner<G, D> {
         ensures place { D.place self.new.debuggee ≡ D.place self.old.debuggee }
         ensures worker { self.new.worker ≡ self.old.worker }
         ensures steps { NoStep D.made self.old.debuggee self.new.debuggee }
-        ensures own { AddsOwn self.old.worker D.made self.old.debuggee self.new.debuggee }
+        ensures own { KeepsOtherCalls self.old.worker D.made self.old.debuggee self.new.debuggee }
     {
         let reply = self.debuggee.call(rt, Command::Look(Query::Ready))?;
         let first = first_name(&reply);
@@ -134,7 +134,7 @@ impl<G: Gate + Drop, D: Debuggee + Drop> Runner<G, D> {
         ensures steps { IfOk result (λ tried. StepIf D.made self.old.debuggee self.new.debuggee
             tried.made) }
         ensures none_on_error { OnErr result (NoStep D.made self.old.debuggee self.new.debuggee) }
-        ensures own { AddsOwn self.old.worker D.made self.old.debuggee self.new.debuggee }
+        ensures own { KeepsOtherCalls self.old.worker D.made self.old.debuggee self.new.debuggee }
     {
         let worker = self.worker;
         let reply = self.debuggee.call(rt, Command::Step { worker, choice })?;

@@ -1,7 +1,7 @@
 //! The head of a report: the verdict, with its place.
 
 ghost use Rattle.std.specs.Prelude.{◌≡◌, ◌++◌, OnOk};
-ghost use Rattle.om_command.specs.Texts.{Adds};
+ghost use Rattle.om_command.specs.Texts.{Writes};
 ghost use Rattle.om_lines.specs.Heads.{accepted_head, place_text, refused_head};
 
 use om_command::push_numbered;
@@ -35,7 +35,7 @@ pub(crate) fn push_refused(
     source: &[u8],
     fault: SourceFault,
 ) -> Result<(), AllocError>
-    ensures { OnOk result (Adds text.old text.new (refused_head file.now source.now fault)) }
+    ensures { OnOk result (Writes (refused_head file.now source.now fault) text.old text.new) }
 {
     push_place(text, file, source, fault.at)?;
     push_numbered(text, b": error: S", fault.code.number())?;

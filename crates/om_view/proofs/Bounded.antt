@@ -18,10 +18,10 @@ use Rattle.om_history.specs.declared.reply.RollReply.{RollReply}
 use Rattle.om_history.specs.declared.reply.UndoReply.{UndoReply}
 use Rattle.om_history.specs.Runs.{reply_for, reply_to_step}
 use Rattle.om_history.specs.declared.reply.StepReply.{StepReply}
-use Rattle.om_history.specs.declared.reply.StepReply.TheVariants as step_reply
+use Rattle.om_history.specs.declared.reply.StepReply.TheVariants as stepped
 use Rattle.om_task.specs.Laws.{StartsAtSchedulingPoints}
 use Rattle.om_task.specs.Rules.{is_at_scheduling_point}
-use Rattle.om_undo.specs.Machines.{MachineView, rules_for, state_in}
+use Rattle.om_undo.specs.Machines.{MachineView, rules_for, state_in, step_reply}
 use Rattle.om_undo.specs.PlannedSteps.{PlannedView, is_made, planned_at}
 use Rattle.om_view.specs.declared.marks.Marks.{Marks}
 use Rattle.om_view.specs.declared.runs.Moved.{Moved}
@@ -34,7 +34,8 @@ use Rattle.om_journal.specs.Growing.{left_by-snoc}
 use Rattle.om_journal.specs.declared.command.Command.TheVariants as call
 use Rattle.om_journal.specs.declared.command.Query.{Query}
 use Rattle.om_journal.specs.declared.reply.Reply.TheVariants as reply
-use Rattle.om_view.specs.Calls.{label_of, step_reply_of, undo_reply_of, with_call, with_step}
+use Rattle.om_task.specs.Plans.{label_at}
+use Rattle.om_view.specs.Calls.{undo_reply_of, with_own_call, with_step}
 use Rattle.om_drive.specs.OwnCalls.{AreOwnCalls}
 use Rattle.om_view.specs.Freed.{SeatCall, AreOwn, records_by}
 use Rattle.om_view.specs.Runs.{after_move, can_step, move_among, move_of, moved_of, ran, run_within, said_by}
@@ -53,8 +54,8 @@ next_full (suc n) line worker b e = rw e refl
 
 abbrev stepped_once : ℕ → BookView → Said
 stepped_once worker b = record {
-  text = step_text worker (step_reply_of (machine_of b) (label_of worker Next));
-  book = with_step b (label_of worker Next);
+  text = step_text worker (step_reply (machine_of b) (label_at worker Next));
+  book = with_step b (label_at worker Next);
 }
 
 pub next_stops : (further line worker : ℕ) (b : BookView) → is_full b ≡ false → goes_on further
@@ -66,7 +67,7 @@ next_stops (suc n) line worker b e h = rw (e, h) refl
 
 pub next_goes_on : (further line worker : ℕ) (b : BookView) → is_full b ≡ false → goes_on further
     (steps_within line worker b) ≡ true
-    → next_within (further - 1) line worker (with_step b (label_of worker Next)) ≡ next_within further line worker b
+    → next_within (further - 1) line worker (with_step b (label_at worker Next)) ≡ next_within further line worker b
 unfolding next_within
 next_goes_on zero line worker b e h = cc
 next_goes_on (suc n) line worker b e h = let same : suc n - 1 ≡ n = omega arith in rw (same, e, h) refl
@@ -81,7 +82,7 @@ back_full (suc n) line worker b e = rw e refl
 abbrev undone_once : ℕ → BookView → Said
 undone_once worker b = record {
   text = undo_text b.start.program worker (undo_reply_of (machine_of b) worker);
-  book = with_call b (call.Undo worker);
+  book = with_own_call b (call.Undo worker);
 }
 
 pub back_stops : (further line worker : ℕ) (b : BookView) → is_full b ≡ false → goes_on further
@@ -93,7 +94,7 @@ back_stops (suc n) line worker b e h = rw (e, h) refl
 
 pub back_goes_on : (further line worker : ℕ) (b : BookView) → is_full b ≡ false → goes_on further
     (undoes_within line worker b) ≡ true
-    → back_within (further - 1) line worker (with_call b (call.Undo worker)) ≡ back_within further line worker b
+    → back_within (further - 1) line worker (with_own_call b (call.Undo worker)) ≡ back_within further line worker b
 unfolding back_within
 back_goes_on zero line worker b e h = cc
 back_goes_on (suc n) line worker b e h = let same : suc n - 1 ≡ n = omega arith in rw (same, e, h) refl
@@ -107,7 +108,7 @@ no_worker_left m (suc n) p = absurd (omega (arith, p))
 
 pub worker_moves : (m : MachineView) (last : ℕ) (choice : Choice) → 0 < last → move_of m (m.workers - last)
     ≡ Some choice
-    → move_among m last ≡ Some (label_of (m.workers - last) choice)
+    → move_among m last ≡ Some (label_at (m.workers - last) choice)
 unfolding move_among
 worker_moves m zero choice p e = absurd (omega (arith, p))
 worker_moves m (suc n) choice p e = rw e refl
@@ -169,26 +170,26 @@ same_entries x y e = cc
 -- planned steps
 
 same_made : (x : StepReply) → is_made x ≡ is_step_made (reply.Step x)
-same_made (step_reply.Done serial line fault) = refl
-same_made (step_reply.Blocked b) = refl
-same_made step_reply.Ended = refl
+same_made (stepped.Done serial line fault) = refl
+same_made (stepped.Blocked b) = refl
+same_made stepped.Ended = refl
 
 -- a planned step is possible where the worker can make it
 pub can_be_made : (m : MachineView) (worker : ℕ) (choice : Choice) (p : PlannedView) (can : Bool)
-    → p ≡ planned_at m (label_of worker choice)
+    → p ≡ planned_at m (label_at worker choice)
     → can ≡ is_made (reply_to_step (rules_for p.machine) p.machine.history p.label) → can ≡ can_step m worker choice
 can_be_made m worker choice p can e is =
     is
     ∙ ap (λ (v : PlannedView). is_made (reply_to_step (rules_for v.machine) v.machine.history v.label)) e
-    ∙ same_made (step_reply_of m (label_of worker choice))
+    ∙ same_made (step_reply m (label_at worker choice))
 
 pub planned_here : (m : MachineView) (worker : ℕ) (choice : Choice) (p : PlannedView)
-    → p ≡ planned_at m (label_of worker choice) → can_step m worker choice ≡ true
-    → Some p ≡ planned_if m (can_step m worker choice) (label_of worker choice)
+    → p ≡ planned_at m (label_at worker choice) → can_step m worker choice ≡ true
+    → Some p ≡ planned_if m (can_step m worker choice) (label_at worker choice)
 planned_here m worker choice p e can = rw can (ap Some e)
 
 pub planned_not : (m : MachineView) (worker : ℕ) (choice : Choice) → can_step m worker choice ≡ false
-    → None ≡ planned_if m (can_step m worker choice) (label_of worker choice)
+    → None ≡ planned_if m (can_step m worker choice) (label_at worker choice)
 planned_not m worker choice cannot = rw cannot refl
 
 some_if : (m : MachineView) (can : Bool) (label : Label) (p : PlannedView) → Some p ≡ planned_if m can label
@@ -202,30 +203,30 @@ none_if m false label e = refl
 
 -- what is planned says whether it can be made
 pub can_where_planned : (m : MachineView) (worker : ℕ) (choice : Choice) (o : Option PlannedView) (p : PlannedView)
-    → o ≡ Some p → o ≡ planned_if m (can_step m worker choice) (label_of worker choice)
+    → o ≡ Some p → o ≡ planned_if m (can_step m worker choice) (label_at worker choice)
     → can_step m worker choice ≡ true
-can_where_planned m worker choice o p some is = some_if m (can_step m worker choice) (label_of worker choice) p
+can_where_planned m worker choice o p some is = some_if m (can_step m worker choice) (label_at worker choice) p
     (sym some ∙ is)
 
 pub cannot_where_none : (m : MachineView) (worker : ℕ) (choice : Choice) (o : Option PlannedView)
-    → o ≡ None → o ≡ planned_if m (can_step m worker choice) (label_of worker choice)
+    → o ≡ None → o ≡ planned_if m (can_step m worker choice) (label_at worker choice)
     → can_step m worker choice ≡ false
-cannot_where_none m worker choice o none is = none_if m (can_step m worker choice) (label_of worker choice)
+cannot_where_none m worker choice o none is = none_if m (can_step m worker choice) (label_at worker choice)
     (sym none ∙ is)
 
 -- and which step it is
 pub planned_is : (m : MachineView) (worker : ℕ) (choice : Choice) (o : Option PlannedView) (p : PlannedView)
-    → o ≡ Some p → o ≡ planned_if m (can_step m worker choice) (label_of worker choice)
+    → o ≡ Some p → o ≡ planned_if m (can_step m worker choice) (label_at worker choice)
     → Some p ≡ planned_for m worker (Some choice)
 planned_is m worker choice o p some is =
     sym some ∙ is
-    ∙ ap (λ b. planned_if m b (label_of worker choice)) (can_where_planned m worker choice o p some is)
+    ∙ ap (λ b. planned_if m b (label_at worker choice)) (can_where_planned m worker choice o p some is)
 
 -- a move that is planned for a worker, or that there is none
 
 pub some_move : (m : MachineView) (worker : ℕ) (choice : Option Choice) (p : PlannedView)
-    → Some p ≡ planned_for m worker choice → (c : Choice) × (choice ≡ Some c) × (p ≡ planned_at m (label_of worker c))
-some_move m worker (Some c) p e = (c, refl, some_same p (planned_at m (label_of worker c)) e)
+    → Some p ≡ planned_for m worker choice → (c : Choice) × (choice ≡ Some c) × (p ≡ planned_at m (label_at worker c))
+some_move m worker (Some c) p e = (c, refl, some_same p (planned_at m (label_at worker c)) e)
 some_move m worker None p e = absurd (some_none p e)
 
 pub none_move : (m : MachineView) (worker : ℕ) (choice : Option Choice) → None ≡ planned_for m worker choice
@@ -269,7 +270,7 @@ no_start law m worker (name ∷ names) elsewhere =
     ∙ no_start law m worker names elsewhere
 
 -- a question leaves the machine as it was
-pub looked_same : (b : BookView) (q : Query) → machine_of (with_call b (call.Look q)) ≡ machine_of b
+pub looked_same : (b : BookView) (q : Query) → machine_of (with_own_call b (call.Look q)) ≡ machine_of b
 looked_same b q = left_by-snoc b.start b.journal _
 
 -- the records of a free run

@@ -12,9 +12,10 @@ use Rattle.om_journal.specs.declared.command.Command.TheVariants as call
 use Rattle.om_journal.specs.declared.reply.Reply.TheVariants as reply
 use Rattle.om_command.specs.Steps.{step_text, undo_text}
 use Rattle.om_command.specs.Lists.{roll_text}
-use Rattle.om_undo.specs.Machines.{MachineView, rules_for}
+use Rattle.om_undo.specs.Machines.{MachineView, rules_for, step_reply}
 use Rattle.om_view.specs.declared.moves.Stay.{Stay}
-use Rattle.om_view.specs.Calls.{label_of, step_reply_of, undo_reply_of, with_call, with_step}
+use Rattle.om_task.specs.Plans.{label_at}
+use Rattle.om_view.specs.Calls.{undo_reply_of, with_own_call, with_step}
 use Rattle.om_view.specs.Looks.{line_at}
 use Rattle.om_view.specs.Said.{Said, unless_full}
 
@@ -26,8 +27,8 @@ is_undone _ = false
 -- `step W`, or `start W NAME`
 abbrev pub step_said : ℕ → Choice → BookView → Said
 step_said worker choice b = unless_full b (record {
-  text = step_text worker (step_reply_of (machine_of b) (label_of worker choice));
-  book = with_step b (label_of worker choice);
+  text = step_text worker (step_reply (machine_of b) (label_at worker choice));
+  book = with_step b (label_at worker choice);
 })
 
 -- `start W NAME`
@@ -38,13 +39,13 @@ start_said worker task b = step_said worker (Start task) b
 abbrev pub undo_said : ℕ → BookView → Said
 undo_said worker b = unless_full b (record {
   text = undo_text b.start.program worker (undo_reply_of (machine_of b) worker);
-  book = with_call b (call.Undo worker);
+  book = with_own_call b (call.Undo worker);
 })
 
 -- a worker's step is done and leaves it at a line
 abbrev pub steps_within : ℕ → ℕ → BookView → Bool
-steps_within line worker b = is_step_made (reply.Step (step_reply_of (machine_of b) (label_of worker Next)))
-    && nat_eq (line_at (machine_of (with_step b (label_of worker Next))) worker) line
+steps_within line worker b = is_step_made (reply.Step (step_reply (machine_of b) (label_at worker Next)))
+    && nat_eq (line_at (machine_of (with_step b (label_at worker Next))) worker) line
 
 -- a worker still is at the line that it is to leave
 abbrev pub stays : MachineView → Stay → Bool
@@ -68,10 +69,10 @@ unfoldable pub next_within : ℕ → ℕ → ℕ → BookView → Said
 next_within zero line worker b = step_said worker Next b
 next_within (suc further) line worker b =
     unless_full b (cond (steps_within line worker b)
-    (next_within further line worker (with_step b (label_of worker Next)))
+    (next_within further line worker (with_step b (label_at worker Next)))
     (record {
-      text = step_text worker (step_reply_of (machine_of b) (label_of worker Next));
-      book = with_step b (label_of worker Next);
+      text = step_text worker (step_reply (machine_of b) (label_at worker Next));
+      book = with_step b (label_at worker Next);
     }))
 
 -- what is said by the steps of a worker that is to leave its line
@@ -85,17 +86,17 @@ next_said most worker b = next_within most (line_at (machine_of b) worker) worke
 -- a worker's undo takes a step out and leaves it at a line
 abbrev pub undoes_within : ℕ → ℕ → BookView → Bool
 undoes_within line worker b = is_undone (undo_reply_of (machine_of b) worker)
-    && nat_eq (line_at (machine_of (with_call b (call.Undo worker))) worker) line
+    && nat_eq (line_at (machine_of (with_own_call b (call.Undo worker))) worker) line
 
 -- undos of a worker, while each takes a step out and leaves it at the line, and one more; so many before at most
 unfoldable pub back_within : ℕ → ℕ → ℕ → BookView → Said
 back_within zero line worker b = undo_said worker b
 back_within (suc further) line worker b =
     unless_full b (cond (undoes_within line worker b)
-    (back_within further line worker (with_call b (call.Undo worker)))
+    (back_within further line worker (with_own_call b (call.Undo worker)))
     (record {
       text = undo_text b.start.program worker (undo_reply_of (machine_of b) worker);
-      book = with_call b (call.Undo worker);
+      book = with_own_call b (call.Undo worker);
     }))
 
 -- what is said by the undos of a worker that is to leave its line
@@ -110,5 +111,5 @@ back_said most worker b = back_within most (line_at (machine_of b) worker) worke
 abbrev pub roll_said : ℕ → BookView → Said
 roll_said serial b = unless_full b (record {
   text = roll_text serial (reply_to_roll (rules_for (machine_of b)) (machine_of b).history serial);
-  book = with_call b (call.Roll serial);
+  book = with_own_call b (call.Roll serial);
 })

@@ -11,7 +11,7 @@ use Rattle.om_command.specs.declared.stop.Stop.{Stop}
 use Rattle.om_command.specs.declared.stop.Stop.TheVariants as stop
 use Rattle.om_command.specs.Steps.{full_text}
 use Rattle.om_command.specs.Stops.{ran_text}
-use Rattle.om_undo.specs.Machines.{MachineView, state_in}
+use Rattle.om_undo.specs.Machines.{MachineView, state_in, step_reply}
 use Rattle.om_undo.specs.PlannedSteps.{PlannedView, planned_at}
 use Rattle.om_view.specs.declared.marks.Marks.{Marks}
 use Rattle.om_view.specs.declared.runs.Moved.{Moved}
@@ -20,13 +20,14 @@ use Rattle.om_undo.specs.ReadyNames.{ready_names}
 use Rattle.om_book.specs.Books.{BookView, is_full, machine_of}
 use Rattle.om_journal.specs.Runs.{is_step_made}
 use Rattle.om_journal.specs.declared.reply.Reply.TheVariants as reply
-use Rattle.om_view.specs.Calls.{label_of, step_reply_of, with_step}
+use Rattle.om_task.specs.Plans.{label_at}
+use Rattle.om_view.specs.Calls.{with_step}
 use Rattle.om_view.specs.Said.{Said}
 use Rattle.om_view.specs.Stops.{stop_after}
 
 -- a worker can make a step by a choice
 abbrev pub can_step : MachineView → ℕ → Choice → Bool
-can_step m worker choice = is_step_made (reply.Step (step_reply_of m (label_of worker choice)))
+can_step m worker choice = is_step_made (reply.Step (step_reply m (label_at worker choice)))
 
 -- the start of the first of the names with which a worker can begin
 abbrev pub start_among : MachineView → ℕ → List (List ℕ) → Option Choice
@@ -39,7 +40,7 @@ abbrev pub move_of : MachineView → ℕ → Option Choice
 move_of m worker = cond (can_step m worker Next) (Some Next) (start_among m worker (ready_names m))
 
 abbrev pub move_or : ℕ → Option Choice → Option Label → Option Label
-move_or worker (Some choice) other = Some (label_of worker choice)
+move_or worker (Some choice) other = Some (label_at worker choice)
 move_or worker None other = other
 
 -- the move of the least of the last so many workers that has one
@@ -66,7 +67,7 @@ planned_if m can label = cond can (Some (planned_at m label)) None
 
 -- the step of a worker by a choice, where it can be made
 abbrev pub planned_by : MachineView → ℕ → Choice → Option PlannedView
-planned_by m worker choice = planned_if m (can_step m worker choice) (label_of worker choice)
+planned_by m worker choice = planned_if m (can_step m worker choice) (label_at worker choice)
 
 -- the start of the least ready task that a worker can begin
 abbrev pub planned_start : MachineView → ℕ → Option PlannedView

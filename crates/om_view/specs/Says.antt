@@ -1,12 +1,9 @@
 -- What is written behind a text, and what is left of a book.
-use Rattle.std.specs.Prelude.{◌≡◌, ◌++◌, ℕ, List, Vec}
+use Rattle.std.specs.Prelude.{◌≡◌, ℕ, Vec}
 use Rattle.std.specs.declared.alloc.Global.{Global}
 use Rattle.om_book.specs.Books.{BookView}
+use Rattle.om_command.specs.Texts.{Writes}
 use Rattle.om_view.specs.Said.{Said}
-
--- these bytes are written behind a text, and the text before them stays
-abbrev pub Writes : List ℕ → (old new : Vec ℕ Global) → Type 0
-Writes bytes old new = new.items ≡ old.items ++ bytes
 
 -- what a command says is written behind a text, and the book that it leaves is this one
 abbrev pub Says : Said → (old new : Vec ℕ Global) → BookView → Type 0

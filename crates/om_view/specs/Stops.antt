@@ -8,16 +8,16 @@ use Rattle.om_values.specs.declared.step.Label.{Label}
 use Rattle.om_values.specs.State.{State}
 use Rattle.om_values.specs.Values.{cell_in}
 use Rattle.om_history.specs.declared.reply.StepReply.{StepReply}
-use Rattle.om_history.specs.declared.reply.StepReply.TheVariants as step_reply
+use Rattle.om_history.specs.declared.reply.StepReply.TheVariants as stepped
 use Rattle.om_command.specs.declared.stop.Stop.{Stop}
 use Rattle.om_command.specs.declared.stop.Stop.TheVariants as stop
 use Rattle.om_command.specs.declared.value.GlobalCell.{GlobalCell}
-use Rattle.om_undo.specs.Machines.{MachineView, state_in}
+use Rattle.om_undo.specs.Machines.{MachineView, state_in, step_reply}
 use Rattle.om_book.specs.Books.{BookView, machine_of}
 use Rattle.om_view.specs.declared.marks.Marks.{Marks}
 use Rattle.om_view.specs.declared.stops.Watched.{Watched}
 use Rattle.om_view.specs.Looks.{line_at}
-use Rattle.om_view.specs.Calls.{step_reply_of, with_step}
+use Rattle.om_view.specs.Calls.{with_step}
 
 -- the first of two that is there
 abbrev pub or_else : Option Stop → Option Stop → Option Stop
@@ -26,7 +26,7 @@ or_else (Some why) other = Some why
 
 -- the step ended with a fault
 abbrev pub fault_stop : StepReply → ℕ → Option Stop
-fault_stop (step_reply.Done serial line (Some fault)) worker = Some (stop.Fault fault worker)
+fault_stop (stepped.Done serial line (Some fault)) worker = Some (stop.Fault fault worker)
 fault_stop _ worker = None
 
 abbrev pub has_line : List ℕ → ℕ → Bool
@@ -61,7 +61,7 @@ watch_stop (w ∷ ws) after worker = cond (cell_eq w.held (value_of after w.cell
 -- of a watched cell, of several the one set first
 abbrev pub stop_behind : Marks → MachineView → MachineView → Label → Option Stop
 stop_behind marks before after label =
-    or_else (fault_stop (step_reply_of before label) label.worker)
+    or_else (fault_stop (step_reply before label) label.worker)
     (or_else (break_stop marks.breaks (line_at before label.worker) (line_at after label.worker) label.worker)
     (watch_stop (map (watched (state_in before)) marks.watches) (state_in after) label.worker))
 

@@ -27,7 +27,7 @@ use Rattle.om_book.specs.Books.{machine_of}
 use Rattle.om_journal.specs.Runs.{fresh}
 use Rattle.om_view.specs.Runs.{run_said}
 use Rattle.om_view.specs.Said.{Said}
-use Rattle.om_view.specs.Says.{Writes}
+use Rattle.om_command.specs.Texts.{Writes}
 use Rattle.om_view.specs.Stops.{has_line}
 use Rattle.om_view.specs.Variables.{cell_of}
 

@@ -6,7 +6,8 @@ ghost use Rattle.om_values.specs.declared.value.Task.TheVariants as tasks;
 ghost use Rattle.om_task.specs.Rules.{line_in};
 ghost use Rattle.om_undo.specs.Machines.{state_in};
 ghost use Rattle.om_view.specs.Looks.{local_said, print_said, control_text, where_said, history_said, events_said, output_said, directive_line, ready_line, ready_text, tasks_text, tasks_said};
-ghost use Rattle.om_view.specs.Says.{Says, Writes};
+ghost use Rattle.om_command.specs.Texts.{Writes};
+ghost use Rattle.om_view.specs.Says.{Says};
 
 use crate::calls::{call, entries_told, names_told, value_told};
 use om_book::Book;

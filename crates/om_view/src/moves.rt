@@ -6,7 +6,8 @@ ghost use Rattle.om_command.specs.Steps.{undo_text};
 ghost use Rattle.om_journal.specs.declared.reply.Reply.TheVariants as replies;
 ghost use Rattle.om_journal.specs.Runs.{is_step_made};
 ghost use Rattle.om_view.specs.Moves.{goes_on, is_undone, stays, is_step_within, is_undo_within, step_said, start_said, undo_said, next_from, next_said, back_from, back_said, roll_said};
-ghost use Rattle.om_view.specs.Says.{Says, Writes};
+ghost use Rattle.om_command.specs.Texts.{Writes};
+ghost use Rattle.om_view.specs.Says.{Says};
 
 use crate::calls;
 use om_book::Book;

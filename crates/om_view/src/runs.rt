@@ -5,7 +5,8 @@ ghost use Rattle.std.specs.Option.{option_copied};
 ghost use Rattle.om_live.specs.Stores.{plain_or_idle};
 ghost use Rattle.om_book.specs.Books.{machine_of};
 ghost use Rattle.om_view.specs.Runs.{planned_by, planned_start, planned_of, planned_among, planned_move, first_move, IsOfWorkerBelow, has_ended, stop_without_move, rest_text, moved_by, behind_move, moved_of, after_move, run_said};
-ghost use Rattle.om_view.specs.Says.{Says, Writes};
+ghost use Rattle.om_command.specs.Texts.{Writes};
+ghost use Rattle.om_view.specs.Says.{Says};
 
 use crate::marks::Marks;
 use crate::stops::step_and_stop;

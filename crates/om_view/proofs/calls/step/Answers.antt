@@ -3,9 +3,10 @@ use Rattle.std.specs.Prelude.{Result, IfOk, OnOk}
 use Rattle.om_values.specs.declared.step.Label.{Label}
 use Rattle.om_history.specs.declared.reply.StepReply.{StepReply}
 use Rattle.om_book.specs.Books.{BookView, machine_of}
-use Rattle.om_undo.specs.Machines.{MachineView}
+use Rattle.om_undo.specs.Machines.{MachineView, step_reply}
 use Rattle.om_undo.specs.PlannedSteps.{PlannedView, planned_at}
-use Rattle.om_view.specs.Calls.{label_of, step_reply_of, with_step}
+use Rattle.om_task.specs.Plans.{label_at}
+use Rattle.om_view.specs.Calls.{with_step}
 use Rattle.om_view.proofs.calls.step.Goals as goal
 
 -- what is taken is the step that was planned
@@ -16,16 +17,16 @@ step_taken result old new p m l is h = subst (λ (v : PlannedView). OnOk result 
 pub returns-clause-after : goal.returns-clause-after
 returns-clause-after c =
     step_taken c.take.result c.args.book.now c.take.new.book c.in_ok-planned.planned c.machine.result.now
-    (label_of c.args.worker c.args.choice.now) c.in_ok-planned.ensures c.take.ensures.after
+    (label_at c.args.worker c.args.choice.now) c.in_ok-planned.ensures c.take.ensures.after
 
 -- and so is what is replied
 step_replied : {E : Type 0} (result : Result StepReply E) (old : BookView) (p : PlannedView) (m : MachineView) (l : Label)
-    → p ≡ planned_at m l → IfOk result (λ r. r ≡ step_reply_of (machine_of old) p.label)
-    → IfOk result (λ r. r ≡ step_reply_of (machine_of old) l)
+    → p ≡ planned_at m l → IfOk result (λ r. r ≡ step_reply (machine_of old) p.label)
+    → IfOk result (λ r. r ≡ step_reply (machine_of old) l)
 step_replied result old p m l is h =
-    subst (λ (v : PlannedView). IfOk result (λ r. r ≡ step_reply_of (machine_of old) v.label)) is h
+    subst (λ (v : PlannedView). IfOk result (λ r. r ≡ step_reply (machine_of old) v.label)) is h
 
 pub returns-clause-reply : goal.returns-clause-reply
 returns-clause-reply c =
     step_replied c.take.result c.args.book.now c.in_ok-planned.planned c.machine.result.now
-    (label_of c.args.worker c.args.choice.now) c.in_ok-planned.ensures c.take.ensures.reply
+    (label_at c.args.worker c.args.choice.now) c.in_ok-planned.ensures c.take.ensures.reply
