@@ -69,7 +69,6 @@ impl<T: Same> Same for Seq<T> {
 }
 
 impl<T: Same> Same for Pile<T> {
-    #[tactic(auto, using(crate::proofs::Lists::same_reversed))]
     fn is_same(&self, other: &Pile<T>) -> bool {
         same_items(self.as_slice(), other.as_slice())
     }
