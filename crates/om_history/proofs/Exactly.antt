@@ -10,14 +10,14 @@ use Rattle.om_foot.specs.Footprint.{conflict_of}
 use Rattle.om_values.specs.State.{State}
 use Rattle.om_values.specs.Rules.{Rules}
 use Rattle.om_history.specs.Laws.{Apart}
-use Rattle.om_history.specs.Runs.{History, conflict_or, reply_at, reply_to_undo, no_history}
+use Rattle.om_history.specs.Runs.{History, reply_at, reply_to_undo, no_history}
 use Rattle.om_history.specs.Cones.{Transition, transitions}
 use Rattle.om_history.specs.Commands.{run}
 use Rattle.om_history.specs.Undos.{HasNone, IsFree, IsLast, IsUndoable, IsRefused, UndoReplies, ExactlyWhere}
 use Rattle.om_history.specs.declared.reply.UndoReply.{UndoReply}
 use Rattle.om_history.specs.declared.reply.UndoReply.TheVariants.{Undone, Conflict, Nothing}
 use Rattle.om_history.specs.declared.records.UndoRecord.{UndoRecord}
-use Rattle.om_history.specs.Records.{entries_of, transition_of, transitions_of, ReplaysTo, first_kept_conflict}
+use Rattle.om_history.specs.Records.{conflict_or, entries_of, transition_of, transitions_of, ReplaysTo, first_kept_conflict}
 use Rattle.om_history.proofs.Logs.{NoneConflicts}
 use Rattle.om_history.proofs.Places.{NoneOwn, last_place-none_own}
 use Rattle.om_history.proofs.Undos.{history_of, none_answers, split_between, reply_at-split, last_place-records, LastOf}

@@ -14,8 +14,7 @@ use Rattle.om_history.specs.declared.reply.UndoReply.TheVariants.{Undone}
 use Rattle.om_history.specs.declared.records.UndoRecord.{UndoRecord}
 use Rattle.om_touches.specs.declared.own.OwnEntries.{OwnEntries}
 use Rattle.om_touches.specs.declared.touches.TouchLists.{TouchLists}
-use Rattle.om_history.specs.Runs.{conflict_or}
-use Rattle.om_history.specs.Records.{kept_reply, AreBelow}
+use Rattle.om_history.specs.Records.{conflict_or, kept_reply, AreBelow}
 use Rattle.om_touches.specs.Touches.{names as names_it, has_touch, meets, AreSame, AreWith}
 use Rattle.om_foot.specs.Firsts.{IsFirst}
 use Rattle.om_history.specs.Touches.{touched, AreBySerial, AreListsOf}

@@ -1,18 +1,21 @@
 -- Taking an entry out of the undo records.
 use Rattle.std.proofs.Common.{◌≡◌, refl, sym, ◌∙◌, ap, subst, Some, List, [], ◌∷◌, ◌++◌, ℕ, zero, suc, take, drop}
-use Rattle.std.specs.Prelude.{slice_get, unwrap_or}
+use Rattle.std.specs.Prelude.{Option, None, option_map, slice_get, unwrap_or}
+use Rattle.std.specs.Option.{option_or}
+use Rattle.om_foot.specs.declared.object.Obj.{Obj}
 use Rattle.om_foot.specs.declared.footprint.Access.{Access}
 use Rattle.om_foot.specs.Footprint.{conflict_of}
 use Rattle.om_foot.specs.Apart.{AllApart, AllApart-flip, all_apart}
+use Rattle.om_values.specs.declared.step.Entry.{Entry}
 use Rattle.om_values.specs.declared.step.Label.{Label}
 use Rattle.om_values.specs.declared.step.Step.{Step}
 use Rattle.om_values.specs.State.{State, updated, taken_back}
 use Rattle.om_values.specs.Rules.{Rules, step_at, next_state}
 use Rattle.om_history.specs.Laws.{Apart, updates_of}
-use Rattle.om_history.specs.Runs.{label_of, state_of_entries, state_after_step, conflict_or, first_conflict}
-use Rattle.om_history.specs.declared.reply.UndoReply.{UndoReply}
+use Rattle.om_history.specs.Runs.{label_of, state_of_entries, state_after_step, Obstacle, first_conflict, reply_against}
+use Rattle.om_history.specs.declared.reply.UndoReply.TheVariants.{Undone}
 use Rattle.om_history.specs.declared.records.UndoRecord.{UndoRecord}
-use Rattle.om_history.specs.Records.{entries_of, back_of, IsRight, ReplaysTo, first_kept_conflict}
+use Rattle.om_history.specs.Records.{conflict_or, entries_of, back_of, IsRight, ReplaysTo, first_kept_conflict}
 use Rattle.om_history.specs.Replayed.{ReplaysTo-replay}
 use Rattle.om_history.proofs.Frame.{undo_record-agree}
 use Rattle.om_history.proofs.Back.{taken_back-updated}
@@ -139,15 +142,25 @@ ReplaysTo-removed r s before k later now p apart =
     (sym p.right.footprint) ∙ ap (λ us. taken_back k.footprint us now) (sym p.right.back) in
     ReplaysTo-append r s before later p.at _ p.to (subst (λ t. ReplaysTo r p.at later t) end gone)
 
+-- an entry that conflicts is named; else the reply is to what stands in the way behind it
+named_or : (undone e : Entry) (o : Option Obj) (next : Option Obstacle)
+    → reply_against undone (option_or (option_map (λ q. record { entry = e; object = q }) o) next)
+    ≡ conflict_or e o (reply_against undone next)
+named_or undone e (Some q) next = refl
+named_or undone e None next = refl
+
 pub first_kept_conflict-is : (r : Rules) (footprint : List Access) (s : State) (ks : List UndoRecord) (now : State)
-    (reply : UndoReply) → ReplaysTo r s ks now
-    → first_conflict r footprint s (entries_of ks) reply ≡ first_kept_conflict footprint ks reply
-first_kept_conflict-is r footprint s [] now reply h = refl
-first_kept_conflict-is r footprint s (k ∷ ks) now reply h =
-    ap (λ ns. conflict_or k.entry (conflict_of footprint ns)
-    (first_conflict r footprint (state_after_step r s (label_of k.entry)) (entries_of ks) reply))
+    (undone : Entry) → ReplaysTo r s ks now
+    → reply_against undone (first_conflict r footprint s (entries_of ks))
+    ≡ first_kept_conflict footprint ks (Undone undone.serial undone.line)
+first_kept_conflict-is r footprint s [] now undone h = refl
+first_kept_conflict-is r footprint s (k ∷ ks) now undone h =
+    named_or undone k.entry (conflict_of footprint (step_at r s (label_of k.entry)).footprint)
+    (first_conflict r footprint (state_after_step r s (label_of k.entry)) (entries_of ks))
+    ∙ ap (λ ns. conflict_or k.entry (conflict_of footprint ns)
+    (reply_against undone (first_conflict r footprint (state_after_step r s (label_of k.entry)) (entries_of ks))))
     (sym h.2.footprint)
     ∙ ap (λ t. conflict_or k.entry (conflict_of footprint k.footprint)
-    (first_conflict r footprint t (entries_of ks) reply)) (ap (λ o. unwrap_or o s) h.1)
+    (reply_against undone (first_conflict r footprint t (entries_of ks)))) (ap (λ o. unwrap_or o s) h.1)
     ∙ ap (conflict_or k.entry (conflict_of footprint k.footprint))
-    (first_kept_conflict-is r footprint h.0 ks now reply h.3)
+    (first_kept_conflict-is r footprint h.0 ks now undone h.3)

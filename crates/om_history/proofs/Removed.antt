@@ -7,9 +7,8 @@ use Rattle.om_history.specs.declared.records.UndoRecord.{UndoRecord}
 use Rattle.om_history.specs.declared.reply.UndoReply.{UndoReply}
 use Rattle.om_history.specs.declared.reply.UndoReply.TheVariants.{Undone}
 use Rattle.om_foot.specs.Footprint.{conflict_of}
-use Rattle.om_history.specs.Records.{entries_of, transition_of, transitions_of, first_kept_conflict, reply_before, kept_reply}
+use Rattle.om_history.specs.Records.{conflict_or, entries_of, transition_of, transitions_of, first_kept_conflict, reply_before, kept_reply}
 use Rattle.om_history.specs.Records.{IsLastOf}
-use Rattle.om_history.specs.Runs.{conflict_or}
 use Rattle.om_live.specs.Stores.{Pasts}
 use Rattle.om_history.specs.Fills.{full, before, before_all, full_all}
 use Rattle.om_history.proofs.Logs.{NoneConflicts}

@@ -17,8 +17,7 @@ use Rattle.om_history.specs.declared.reply.UndoReply.TheVariants.{Undone}
 use Rattle.om_history.specs.declared.records.UndoRecord.{UndoRecord}
 use Rattle.om_touches.specs.declared.own.OwnEntries.{OwnEntries}
 use Rattle.om_touches.specs.declared.touches.TouchLists.{TouchLists}
-use Rattle.om_history.specs.Runs.{conflict_or}
-use Rattle.om_history.specs.Records.{first_kept_conflict, reply_before, kept_reply, LastHasSerial}
+use Rattle.om_history.specs.Records.{conflict_or, first_kept_conflict, reply_before, kept_reply, LastHasSerial}
 use Rattle.om_touches.specs.Touches.{names, has_touch, meets_at, meets}
 use Rattle.om_foot.specs.Firsts.{IsFirst, IsGreatest}
 use Rattle.om_history.specs.Touches.{AreListsOf, own_footprint}

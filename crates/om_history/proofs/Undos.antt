@@ -14,12 +14,12 @@ use Rattle.om_values.specs.declared.step.Entry.{Entry}
 use Rattle.om_values.specs.State.{State, taken_back}
 use Rattle.om_values.specs.Rules.{Rules, control_access, step_at}
 use Rattle.om_history.specs.Laws.{Apart}
-use Rattle.om_history.specs.Runs.{History, label_of, Place, last_or_first, last_place, state_after_step, conflict_or}
-use Rattle.om_history.specs.Runs.{first_conflict, reply_at, reply_to_undo, history_without, after_undo}
+use Rattle.om_history.specs.Runs.{History, label_of, Place, last_or_first, last_place, state_after_step}
+use Rattle.om_history.specs.Runs.{first_conflict, reply_against, reply_at, reply_to_undo, history_without, after_undo}
 use Rattle.om_history.specs.declared.reply.UndoReply.{UndoReply}
 use Rattle.om_history.specs.declared.reply.UndoReply.TheVariants.{Undone, Conflict, Nothing}
 use Rattle.om_history.specs.declared.records.UndoRecord.{UndoRecord}
-use Rattle.om_history.specs.Records.{entries_of, ReplaysTo, first_kept_conflict, is_undone}
+use Rattle.om_history.specs.Records.{conflict_or, entries_of, ReplaysTo, first_kept_conflict, is_undone}
 use Rattle.om_history.proofs.Logs.{ReplaysTo-now, NoneConflicts, Split, ReplaysTo-removed, first_kept_conflict-is}
 use Rattle.om_history.proofs.Places.{NoneOwn, last_place-none_own}
 
@@ -82,13 +82,12 @@ pub reply_at-split : (r : Rules) (before : List UndoRecord) (k : UndoRecord) (la
     (Undone k.entry.serial k.entry.line)
 reply_at-split r before k later now parts =
     let l : Label = label_of k.entry in
-    let reply : UndoReply = Undone k.entry.serial k.entry.line in
-    ap (λ s. first_conflict r (step_at r s l).footprint (state_after_step r s l) (entries_of later) reply)
-    (ReplaysTo-now r before parts.at parts.to)
-    ∙ ap (λ s. first_conflict r (step_at r parts.at l).footprint s (entries_of later) reply)
-    (ap (λ o. unwrap_or o parts.at) parts.taken)
-    ∙ ap (λ ns. first_conflict r ns parts.after (entries_of later) reply) (sym parts.right.footprint)
-    ∙ first_kept_conflict-is r k.footprint parts.after later now reply parts.rest
+    let reply : List Access → State → UndoReply = λ ns s.
+    reply_against k.entry (first_conflict r ns s (entries_of later)) in
+    ap (λ s. reply (step_at r s l).footprint (state_after_step r s l)) (ReplaysTo-now r before parts.at parts.to)
+    ∙ ap (reply (step_at r parts.at l).footprint) (ap (λ o. unwrap_or o parts.at) parts.taken)
+    ∙ ap (λ ns. reply ns parts.after) (sym parts.right.footprint)
+    ∙ first_kept_conflict-is r k.footprint parts.after later now k.entry parts.rest
 
 -- two steps of one worker conflict, at its control
 apart-workers : (l m : Label) (fs gs : List Access) → Apart (control_access l ∷ fs) (control_access m ∷ gs)

@@ -2,6 +2,7 @@
 use Rattle.std.specs.Prelude.{◌≡◌, ◌≢◌, Bool, true, false, Option, None, Some, List, [], ◌∷◌, map, All, ℕ, ◌+◌, ◌<◌}
 use Rattle.std.specs.Prelude.{drop, reverse, slice_get, remove}
 use Rattle.std.specs.List.{AllByRecursion}
+use Rattle.om_foot.specs.declared.object.Obj.{Obj}
 use Rattle.om_foot.specs.declared.footprint.Access.{Access}
 use Rattle.om_foot.specs.Footprint.{conflict_of}
 use Rattle.om_values.specs.declared.step.Update.{Update}
@@ -16,7 +17,7 @@ use Rattle.om_history.specs.declared.reply.Taken.{Taken}
 use Rattle.om_history.specs.declared.reply.UndoReply.{UndoReply}
 use Rattle.om_history.specs.declared.reply.UndoReply.TheVariants.{Undone, Conflict, Nothing}
 use Rattle.om_history.specs.Laws.{updates_of}
-use Rattle.om_history.specs.Runs.{label_of, conflict_or}
+use Rattle.om_history.specs.Runs.{label_of}
 use Rattle.om_history.specs.Cones.{Transition, cone, taken_of}
 
 abbrev pub entries_of : List UndoRecord → List Entry
@@ -59,6 +60,11 @@ Keeps store footprint = All (λ a. is_kept store a.object ≡ true) footprint
 -- and those of a record
 abbrev pub HasRoom : Store → UndoRecord → Type 0
 HasRoom store k = Keeps store k.footprint
+
+-- the reply that names an entry, and the object at which it conflicts, else the other reply
+abbrev pub conflict_or : Entry → Option Obj → UndoReply → UndoReply
+conflict_or e (Some q) otherwise = Conflict e.serial e.worker q
+conflict_or e None otherwise = otherwise
 
 -- the reply that names the first record that conflicts with a footprint, else the other reply
 abbrev pub first_kept_conflict : List Access → List UndoRecord → UndoReply → UndoReply

@@ -2,7 +2,8 @@
 -- as relations when an undo is done, when it is refused and when it has nothing to take out: read that first. What an
 -- undo leaves is `history_without`: the entries before and behind the one that is taken out.
 use Rattle.std.specs.Prelude.{◌≡◌, ◌==◌, Bool, true, false, Option, None, Some, List, [], ◌∷◌, ◌++◌, map, ℕ, ◌+◌}
-use Rattle.std.specs.Prelude.{unwrap_or}
+use Rattle.std.specs.Prelude.{option_map, unwrap_or}
+use Rattle.std.specs.Option.{option_or}
 use Rattle.om_foot.specs.declared.object.Obj.{Obj}
 use Rattle.om_foot.specs.declared.footprint.Access.{Access}
 use Rattle.om_foot.specs.Footprint.{conflict_of}
@@ -93,25 +94,31 @@ last_place w (e ∷ es) = last_or_first (last_place w es) (e.worker == w) e es
 abbrev pub state_after_step : Rules → State → Label → State
 state_after_step r s l = unwrap_or (next_state r s l) s
 
--- the reply that names an entry, and the object at which it conflicts, else the other reply
-abbrev pub conflict_or : Entry → Option Obj → UndoReply → UndoReply
-conflict_or e (Some q) otherwise = Conflict e.serial e.worker q
-conflict_or e None otherwise = otherwise
+-- what stands in the way of an undo: a later entry, and the first object at which the two conflict
+pub record Obstacle : Type 0 where
+  pub entry : Entry
+  pub object : Obj
 
--- the reply that names the first of the entries from a state that conflicts with a footprint, else the other reply
-abbrev pub first_conflict : Rules → List Access → State → List Entry → UndoReply → UndoReply
-first_conflict r footprint s [] otherwise = otherwise
-first_conflict r footprint s (e ∷ es) otherwise =
-    conflict_or e (conflict_of footprint (step_at r s (label_of e)).footprint)
-    (first_conflict r footprint (state_after_step r s (label_of e)) es otherwise)
+-- the first of the entries from a state that conflicts with a footprint
+abbrev pub first_conflict : Rules → List Access → State → List Entry → Option Obstacle
+first_conflict r footprint s [] = None
+first_conflict r footprint s (e ∷ es) =
+    option_or
+    (option_map (λ q. record { entry = e; object = q }) (conflict_of footprint (step_at r s (label_of e)).footprint))
+    (first_conflict r footprint (state_after_step r s (label_of e)) es)
+
+-- what an undo of an entry replies: it names what stands in the way, or else the entry is undone
+abbrev pub reply_against : Entry → Option Obstacle → UndoReply
+reply_against e (Some it) = Conflict it.entry.serial it.entry.worker it.object
+reply_against e None = Undone e.serial e.line
 
 -- what an undo replies that would take the entry of this place out
 abbrev pub reply_at : Rules → Option Place → UndoReply
 reply_at r None = Nothing
 reply_at r (Some p) =
     let s = state_of_entries r p.earlier in
-    first_conflict r (step_at r s (label_of p.entry)).footprint (state_after_step r s (label_of p.entry)) p.later
-    (Undone p.entry.serial p.entry.line)
+    reply_against p.entry
+    (first_conflict r (step_at r s (label_of p.entry)).footprint (state_after_step r s (label_of p.entry)) p.later)
 
 -- what an undo replies: it takes the worker's last entry out, unless a later one conflicts with it
 abbrev pub reply_to_undo : Rules → History → ℕ → UndoReply
