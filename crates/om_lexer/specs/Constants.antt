@@ -15,6 +15,10 @@ base_of text = if starts_with nat_eq text (codes "0x") then 16 else (if starts_w
 unfoldable pub digits_of : List ℕ → List ℕ
 digits_of text = if starts_with nat_eq text (codes "0x") then drop 2 text else text
 
+-- all bytes are digits of this base
+abbrev pub AreDigits : ℕ → List ℕ → Type 0
+AreDigits base digits = All (λ digit. digit_value digit < base) digits
+
 -- the number that digits stand for, the first of them the highest
 abbrev pub value_in : ℕ → List ℕ → ℕ
 value_in base digits = fold (λ value digit. value * base + digit_value digit) 0 digits
@@ -22,7 +26,7 @@ value_in base digits = fold (λ value digit. value * base + digit_value digit) 0
 -- the text is a constant of this value, however large
 pub record IsConstant (text : List ℕ) (value : ℕ) : Type 0 where
   pub has_digits : 0 < length (digits_of text)
-  pub digits : All (λ digit. digit_value digit < base_of text) (digits_of text)
+  pub digits : AreDigits (base_of text) (digits_of text)
   pub value_is : value ≡ value_in (base_of text) (digits_of text)
 
 -- the text is no constant, or one above 2147483647

@@ -1,5 +1,5 @@
 -- What users see of a refusal.
-use Rattle.std.specs.Prelude.{ℕ}
+use Rattle.std.specs.Prelude.{◌≡◌, ℕ, ◌⊎◌}
 use Rattle.om_lexer.specs.declared.fault.FaultCode.{FaultCode}
 use Rattle.om_lexer.specs.declared.fault.FaultCode.TheVariants as codes
 use Rattle.om_lexer.specs.declared.fault.SourceFault.{SourceFault}
@@ -27,3 +27,7 @@ number_of codes.TooDeep = 16
 -- out of memory, which stands at byte 0
 abbrev pub no_memory : SourceFault
 no_memory = record { code = codes.Memory; at = 0 }
+
+-- a refusal that is out of memory, or stands at this byte for a reason of this kind
+abbrev pub IsRefusalAt : ℕ → (FaultCode → Type 0) → SourceFault → Type 0
+IsRefusalAt at is_wrong fault = (fault ≡ no_memory) ⊎ ((fault.at ≡ at) × is_wrong fault.code)

@@ -1,12 +1,15 @@
 -- `#` lines: include, define and pragma (C17 6.10).
-use Rattle.std.specs.Prelude.{◌≡◌, ℕ, ◌+◌, ◌<◌, ◌≤◌, ◌⊎◌, false, List, None, length, slice_index, slice_range, All}
+use Rattle.std.specs.Prelude.{◌≡◌, ℕ, ◌+◌, ◌<◌, ◌≤◌, ◌⊎◌, false, List, None, length, slice_index, slice_range}
 use Rattle.std.specs.Prelude.{codes}
-use Rattle.std.specs.Char.{is_ascii_digit, digit_value}
+use Rattle.std.specs.Char.{is_ascii_digit}
+use Rattle.om_lexer.specs.declared.define.Definition.{Definition}
 use Rattle.om_lexer.specs.declared.fault.FaultCode.{FaultCode}
 use Rattle.om_lexer.specs.declared.fault.FaultCode.TheVariants as codes
+use Rattle.om_lexer.specs.declared.fault.SourceFault.{SourceFault}
 use Rattle.om_lexer.specs.declared.piece.HashLine.{HashLine}
 use Rattle.om_lexer.specs.declared.piece.HashLine.TheVariants as lines
-use Rattle.om_lexer.specs.Constants.{value_in}
+use Rattle.om_lexer.specs.Constants.{AreDigits, value_in}
+use Rattle.om_lexer.specs.Faults.{IsRefusalAt}
 use Rattle.om_lexer.specs.WhiteSpace.{IsGap}
 use Rattle.om_lexer.specs.Tokens.{IsWord, IsLongest}
 use Rattle.om_lexer.specs.Macros.{MacroList, number_of_macro, macro_limit, MayDefine, IsOther}
@@ -42,6 +45,14 @@ HasText source from text to = (slice_range source from to ≡ text) × (to ≡ f
 abbrev pub IsHeader : List ℕ → ℕ → ℕ → Type 0
 IsHeader source from to = HasText source from (codes "<stdio.h>") to ⊎ HasText source from (codes "<omp.h>") to
 
+-- one of the two headers, with nothing but white space behind it on the line
+abbrev pub IsLastHeader : List ℕ → ℕ → ℕ → Type 0
+IsLastHeader source from to = IsHeader source from to × EndsLine source to
+
+-- none of the two headers stands there with nothing but white space behind it on the line
+abbrev pub HasNoLastHeader : List ℕ → ℕ → Type 0
+HasNoLastHeader source from = (to : ℕ) → IsHeader source from to → EndsLine source to → ⊥
+
 -- C17 6.10.2: a line that includes one of the two headers, from its `#` up to the header's end
 pub record IsInclude (source : List ℕ) (from to : ℕ) : Type 0 where
   pub word : ℕ
@@ -59,7 +70,7 @@ IsMacroName text = (0 < length text) × (is_ascii_digit (slice_index text 0) ≡
 
 -- a decimal constant, however large, or `0`, which C17 6.4.4.1 calls octal
 abbrev pub IsDecimal : List ℕ → Type 0
-IsDecimal text = (0 < length text) × All (λ b. digit_value b < 10) text × (slice_index text 0 ≡ 48 → length text ≡ 1)
+IsDecimal text = (0 < length text) × AreDigits 10 text × (slice_index text 0 ≡ 48 → length text ≡ 1)
 
 -- a name, and its number from `to` on, with nothing but white space behind it on the line
 pub record IsDefinition (source : List ℕ) (from to : ℕ) (name : List ℕ) (value : ℕ) : Type 0 where
@@ -75,6 +86,31 @@ pub record IsDefinition (source : List ℕ) (from to : ℕ) (name : List ℕ) (v
   pub is_decimal : IsDecimal number
   pub value_is : value ≡ value_in 10 number
   pub tail : EndsLine source number_end
+
+-- no name stands there with its number behind it and nothing but white space behind that on the line
+abbrev pub HasNoDefinition : List ℕ → ℕ → Type 0
+HasNoDefinition source from = (to : ℕ) (name : List ℕ) (value : ℕ) → IsDefinition source from to name value → ⊥
+
+-- these words are a name and a decimal constant, and nothing but white space follows the constant on its line
+abbrev pub AreNameAndNumber : List ℕ → (name number : List ℕ) → (number_end : ℕ) → Type 0
+AreNameAndNumber source name number number_end = IsMacroName name × IsDecimal number × EndsLine source number_end
+
+-- from one byte up to another stands a range of the source
+abbrev pub IsRange : List ℕ → ℕ → ℕ → Type 0
+IsRange source from to = (from ≤ to) × (to ≤ length source)
+
+-- the name of a definition that is found
+abbrev pub found_name : List ℕ → Definition → List ℕ
+found_name source found = slice_range source found.name found.name_end
+
+-- the number of a definition that is found, as it is written
+abbrev pub found_number : List ℕ → Definition → List ℕ
+found_number source found = slice_range source found.number found.number_end
+
+-- what is found is the definition from this byte on
+abbrev pub IsFoundDefinition : List ℕ → ℕ → Definition → Type 0
+IsFoundDefinition source from found = IsDefinition source from found.number
+    (found_name source found) (value_in 10 (found_number source found))
 
 -- C17 6.10.3: a line that defines this name as this number, from its `#` up to the number
 pub record IsDefine (source : List ℕ) (from to : ℕ) (name : List ℕ) (value : ℕ) : Type 0 where
@@ -104,6 +140,15 @@ IsHashLine source macros from to (lines.Define name) = (value : ℕ) × IsDefine
 IsHashLine source macros from to (lines.Directive pragma omp) = IsDirective source from pragma omp to
 IsHashLine source macros from to lines.Ignored = IsOtherPragma source from to
 
+-- what is read is the `#` line that begins there, as far as it is one piece, and the byte behind that
+abbrev pub IsReadHashLine : List ℕ → MacroList → ℕ → HashLine × ℕ → Type 0
+IsReadHashLine source macros from read = IsHashLine source macros from read.1 read.0
+
+-- what is read is the line of each `#` whose word stands there and is `pragma`, whatever names are defined
+abbrev pub IsReadPragma : List ℕ → (word word_end : ℕ) → HashLine × ℕ → Type 0
+IsReadPragma source word word_end read = (macros : MacroList) (from : ℕ)
+    → IsHashWord source from word word_end (codes "pragma") → IsReadHashLine source macros from read
+
 -- a `#` line that is no include, define or pragma, or that defines a name as another number
 pub record IsBadHashLine (source : List ℕ) (macros : MacroList) (from : ℕ) : Type 0 where
   pub no_include : (to : ℕ) → IsInclude source from to → ⊥
@@ -124,3 +169,7 @@ abbrev pub IsWrongHashLine : List ℕ → MacroList → ℕ → FaultCode → Ty
 IsWrongHashLine source macros from codes.BadHashLine = IsBadHashLine source macros from
 IsWrongHashLine source macros from codes.TooMany = IsMacroTooMany source macros from
 IsWrongHashLine source macros from _ = ⊥
+
+-- a refusal of the line of a `#`, at the `#`
+abbrev pub IsHashLineRefusal : List ℕ → MacroList → ℕ → SourceFault → Type 0
+IsHashLineRefusal source macros from = IsRefusalAt from (IsWrongHashLine source macros from)

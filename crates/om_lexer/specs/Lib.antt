@@ -9,5 +9,6 @@ pub mod Macros
 pub mod HashLines
 pub mod Pieces
 pub mod Folding
+pub mod Adding
 pub mod Sources
 pub mod Order

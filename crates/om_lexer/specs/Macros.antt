@@ -30,6 +30,10 @@ number_of_macro macros name = lookup (bytes_eq name) macros
 abbrev pub with_macro : MacroList → List ℕ → ℕ → MacroList
 with_macro macros name number = if is_some (number_of_macro macros name) then macros else macros ++ (name, number) ∷ []
 
+-- the new table holds the macros of the old one, behind a define
+abbrev pub DefinesMacro : (old new : List (Vec ℕ Global × ℕ)) → List ℕ → ℕ → Type 0
+DefinesMacro old new name number = macros_of new ≡ with_macro (macros_of old) name number
+
 -- C17 6.10.3p2: a name may be defined again, with the same number
 abbrev pub MayDefine : MacroList → List ℕ → ℕ → Type 0
 MayDefine macros name number =

@@ -6,7 +6,7 @@ use Rattle.om_lexer.specs.declared.piece.Piece.{Piece}
 use Rattle.om_lexer.specs.declared.fault.FaultCode.{FaultCode}
 use Rattle.om_lexer.specs.declared.fault.FaultCode.TheVariants as codes
 use Rattle.om_lexer.specs.declared.fault.SourceFault.{SourceFault}
-use Rattle.om_lexer.specs.Faults.{no_memory}
+use Rattle.om_lexer.specs.Faults.{no_memory, IsRefusalAt}
 use Rattle.om_lexer.specs.Tokens.{IsTooLarge}
 use Rattle.om_lexer.specs.HashLines.{IsWrongHashLine}
 use Rattle.om_lexer.specs.Pieces.{Context, at_first, is_fresh, is_ignored, IsPiece, Decomposes, context_behind_all}
@@ -57,7 +57,7 @@ IsWrong source context at _ = ⊥
 
 -- a refusal at a byte: out of memory, or what is wrong there
 abbrev pub IsWrongAt : List ℕ → Context → ℕ → SourceFault → Type 0
-IsWrongAt source context at fault = (fault ≡ no_memory) ⊎ ((fault.at ≡ at) × IsWrong source context at fault.code)
+IsWrongAt source context at = IsRefusalAt at (IsWrong source context at)
 
 -- the source is pieces up to that byte, and there it is wrong
 pub record GoesWrong (source : List ℕ) (code : FaultCode) (at : ℕ) : Type 0 where

@@ -1,5 +1,6 @@
 -- How keywords and punctuators are spelled.
-use Rattle.std.specs.Prelude.{ℕ, List, codes}
+use Rattle.std.specs.Prelude.{◌≡◌, ◌≤◌, ℕ, true, false, List, length, codes, nat_eq}
+use Rattle.std.specs.List.{starts_with}
 use Rattle.om_lexer.specs.declared.token.Keyword.{Keyword}
 use Rattle.om_lexer.specs.declared.token.Keyword.TheVariants as keywords
 use Rattle.om_lexer.specs.declared.token.Punctuator.{Punctuator}
@@ -86,3 +87,16 @@ punctuator_text punctuators.PlusPlus = codes "++"
 punctuator_text punctuators.MinusMinus = codes "--"
 punctuator_text punctuators.AndAnd = codes "&&"
 punctuator_text punctuators.OrOr = codes "||"
+
+-- the bytes begin with this punctuator
+abbrev pub BeginsWithPunctuator : List ℕ → Punctuator → Type 0
+BeginsWithPunctuator bytes punctuator = starts_with nat_eq bytes (punctuator_text punctuator) ≡ true
+
+-- no punctuator with which the bytes begin is longer than this one
+abbrev pub IsLongestPunctuator : List ℕ → Punctuator → Type 0
+IsLongestPunctuator bytes punctuator = (other : Punctuator) → BeginsWithPunctuator bytes other
+    → length (punctuator_text other) ≤ length (punctuator_text punctuator)
+
+-- the bytes begin with no punctuator
+abbrev pub BeginsWithNoPunctuator : List ℕ → Type 0
+BeginsWithNoPunctuator bytes = (punctuator : Punctuator) → starts_with nat_eq bytes (punctuator_text punctuator) ≡ false

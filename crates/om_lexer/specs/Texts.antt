@@ -17,6 +17,10 @@ IsCharacter source from character to =
     ((from < length source) × (slice_index source from ≡ character) × IsPlain character × (to ≡ from + 1))
     ⊎ ((slice_index source from ≡ 92) × (escaped (slice_index source (from + 1)) ≡ Some character) × (to ≡ from + 2))
 
+-- no character of a text begins there
+abbrev pub HasNoCharacter : List ℕ → ℕ → Type 0
+HasNoCharacter source from = (character to : ℕ) → IsCharacter source from character to → ⊥
+
 -- from there up to a quote, and over it, stand these characters
 abbrev pub Characters : List ℕ → ℕ → List ℕ → ℕ → Type 0
 Characters source from [] to = (slice_index source from ≡ 34) × (to ≡ from + 1)

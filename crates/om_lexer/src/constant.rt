@@ -1,8 +1,7 @@
 //! Integer constants (C17 6.4.4.1).
 
-ghost use Rattle.std.specs.Prelude.{◌≡◌, ◌≤◌, ◌<◌, ◌^◌, ℕ, length, All, IfOk, IfErr, SomeIff, IsTrue, ◌↔◌};
-ghost use Rattle.std.specs.Char.{digit_value};
-ghost use Rattle.om_lexer.specs.Constants.{base_of, digits_of, value_in, IsConstant, IsWrongConstant};
+ghost use Rattle.std.specs.Prelude.{◌≡◌, ◌≤◌, ◌<◌, ◌^◌, IfOk, IfErr, SomeIff, IsTrue, ◌↔◌};
+ghost use Rattle.om_lexer.specs.Constants.{base_of, digits_of, AreDigits, value_in, IsConstant, IsWrongConstant};
 
 use crate::fault::FaultCode;
 
@@ -30,7 +29,7 @@ pub(crate) fn base_and_digits(text: &[u8]) -> (u32, &[u8])
 pub(crate) fn are_digits(base: u32, digits: &[u8]) -> bool
     requires least { 2 ≤ base }
     requires most { base ≤ 36 }
-    ensures { IsTrue result ↔ All (λ digit. digit_value digit < base) digits.now }
+    ensures { IsTrue result ↔ AreDigits base digits.now }
 {
     for digit in digits {
         if char::from(*digit).to_digit(base).is_none() {
@@ -44,7 +43,7 @@ pub(crate) fn are_digits(base: u32, digits: &[u8]) -> bool
 pub(crate) fn value_in(base: u32, digits: &[u8]) -> Option<u32>
     requires least { 2 ≤ base }
     requires most { base ≤ 36 }
-    requires digits { All (λ digit. digit_value digit < base) digits.now }
+    requires digits { AreDigits base digits.now }
     ensures { SomeIff result (value_in base digits.now < 2 ^ 32) (value_in base digits.now) }
 {
     let mut value: u32 = 0;

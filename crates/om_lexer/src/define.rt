@@ -1,10 +1,8 @@
 //! Defines (C17 6.10.3).
 
-ghost use Rattle.std.specs.Prelude.{◌≡◌, ◌≤◌, ◌<◌, ◌⊎◌, ◌↔◌, ℕ, List, All, length, slice_range, codes, IfSome, IfNone, IfOk, IfErr, IsTrue};
-ghost use Rattle.std.specs.Char.{digit_value};
-ghost use Rattle.om_lexer.specs.Constants.{value_in};
-ghost use Rattle.om_lexer.specs.Faults.{no_memory};
-ghost use Rattle.om_lexer.specs.HashLines.{IsHashWord, IsHashLine, IsWrongHashLine, EndsLine, IsMacroName, IsDecimal, IsDefinition};
+ghost use Rattle.std.specs.Prelude.{◌≤◌, ◌<◌, ◌↔◌, ℕ, length, codes, IfSome, IfNone, IfOk, IfErr, IsTrue};
+ghost use Rattle.om_lexer.specs.Constants.{AreDigits, value_in};
+ghost use Rattle.om_lexer.specs.HashLines.{IsHashWord, IsReadHashLine, IsHashLineRefusal, IsMacroName, IsDecimal, AreNameAndNumber, IsFoundDefinition, IsRange, found_number, HasNoDefinition};
 ghost use Rattle.om_lexer.specs.Macros.{IsAnswer};
 ghost use Rattle.om_lexer.specs.Sources.{source_limit};
 
@@ -49,10 +47,8 @@ pub(crate) fn define_at(
     requires below { at < source_limit }
     requires inside { end ≤ length source.now }
     requires begins { (word : ℕ) × IsHashWord source.now at word end (codes "define") }
-    ensures line { IfOk result (λ read. IsHashLine source.now macros.now at read.1 read.0) }
-    ensures fault { IfErr result
-        (λ fault. (fault ≡ no_memory)
-        ⊎ ((fault.at ≡ at) × IsWrongHashLine source.now macros.now at fault.code)) }
+    ensures line { IfOk result (IsReadHashLine source.now macros.now at) }
+    ensures fault { IfErr result (IsHashLineRefusal source.now macros.now at) }
 {
     let Some(found) = definition_at(source, end) else {
         return Err(bad_hash_line(at));
@@ -75,16 +71,11 @@ pub(crate) fn define_at(
 // The name and the number behind the word of a define, with nothing but white space behind them on the line.
 fn definition_at(source: &[u8], from: usize) -> Option<Definition>
     requires { from ≤ length source.now }
-    ensures found { IfSome result
-        (λ d. IsDefinition source.now from d.number (slice_range source.now d.name d.name_end)
-        (value_in 10 (slice_range source.now d.number d.number_end))) }
-    ensures name { IfSome result (λ d. (d.name ≤ d.name_end) × (d.name_end ≤ length source.now)) }
-    ensures number { IfSome result
-        (λ d. (d.number ≤ d.number_end) × (d.number_end ≤ length source.now)) }
-    ensures digits { IfSome result
-        (λ d. All (λ b. digit_value b < 10) (slice_range source.now d.number d.number_end)) }
-    ensures none { IfNone result
-        ((to : ℕ) (name : List ℕ) (value : ℕ) → IsDefinition source.now from to name value → ⊥) }
+    ensures found { IfSome result (IsFoundDefinition source.now from) }
+    ensures name { IfSome result (λ found. IsRange source.now found.name found.name_end) }
+    ensures number { IfSome result (λ found. IsRange source.now found.number found.number_end) }
+    ensures digits { IfSome result (λ found. AreDigits 10 (found_number source.now found)) }
+    ensures none { IfNone result (HasNoDefinition source.now from) }
 {
     let name = gap_end(source, from);
     let name_end = word_end(source, name);
@@ -110,8 +101,7 @@ fn definition_at(source: &[u8], from: usize) -> Option<Definition>
 // Whether these words are a name and a number, and nothing but white space follows the number on its line.
 fn is_definition(source: &[u8], name: &[u8], number: &[u8], number_end: usize) -> bool
     requires { number_end ≤ length source.now }
-    ensures { IsTrue result ↔
-        (IsMacroName name.now × IsDecimal number.now × EndsLine source.now number_end) }
+    ensures { IsTrue result ↔ AreNameAndNumber source.now name.now number.now number_end }
 {
     is_macro_name(name) && is_decimal(number) && ends_line(source, number_end)
 }
@@ -132,7 +122,7 @@ fn is_decimal(text: &[u8]) -> bool
 
 // Whether a name may be defined as the number that decimal digits stand for.
 fn defines(macros: &Macros, name: &[u8], digits: &[u8]) -> Answer
-    requires { All (λ b. digit_value b < 10) digits.now }
+    requires { AreDigits 10 digits.now }
     ensures { IsAnswer macros.now name.now (value_in 10 digits.now) result }
 {
     match macros.number(name) {

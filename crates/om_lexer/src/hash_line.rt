@@ -1,8 +1,7 @@
 //! The beginnings of `#` lines (C17 6.10).
 
-ghost use Rattle.std.specs.Prelude.{◌≡◌, ◌≤◌, ◌<◌, ◌+◌, ◌⊎◌, ◌↔◌, ℕ, length, slice_index, codes, IfSome, IfNone, IfOk, IfErr, IsTrue};
-ghost use Rattle.om_lexer.specs.Faults.{no_memory};
-ghost use Rattle.om_lexer.specs.HashLines.{IsHashWord, EndsLine, HasText, IsHeader, IsHashLine, IsWrongHashLine};
+ghost use Rattle.std.specs.Prelude.{◌≡◌, ◌≤◌, ◌<◌, ◌+◌, ◌↔◌, ℕ, length, slice_index, codes, IfSome, IfNone, IfOk, IfErr, IsTrue};
+ghost use Rattle.om_lexer.specs.HashLines.{IsHashWord, HasText, IsHeader, IsLastHeader, HasNoLastHeader, IsReadHashLine, IsReadPragma, IsHashLineRefusal};
 ghost use Rattle.om_lexer.specs.Macros.{MacroList};
 ghost use Rattle.om_lexer.specs.Sources.{source_limit};
 
@@ -25,10 +24,8 @@ pub(crate) fn hash_line_at(
     requires hash { slice_index source.now at ≡ 35 }
     requires inside { at < length source.now }
     requires below { at < source_limit }
-    ensures line { IfOk result (λ read. IsHashLine source.now macros.now at read.1 read.0) }
-    ensures fault { IfErr result
-        (λ fault. (fault ≡ no_memory)
-        ⊎ ((fault.at ≡ at) × IsWrongHashLine source.now macros.now at fault.code)) }
+    ensures line { IfOk result (IsReadHashLine source.now macros.now at) }
+    ensures fault { IfErr result (IsHashLineRefusal source.now macros.now at) }
 {
     let word = gap_end(source, at + 1);
     let end = word_end(source, word);
@@ -50,12 +47,8 @@ fn include_at(source: &[u8], at: usize, end: usize) -> Result<(HashLine, usize),
     requires below { at < source_limit }
     requires inside { end ≤ length source.now }
     requires begins { (word : ℕ) × IsHashWord source.now at word end (codes "include") }
-    ensures line { (macros : MacroList) →
-        IfOk result (λ read. IsHashLine source.now macros at read.1 read.0) }
-    ensures fault { (macros : MacroList) →
-        IfErr result
-        (λ fault. (fault ≡ no_memory)
-        ⊎ ((fault.at ≡ at) × IsWrongHashLine source.now macros at fault.code)) }
+    ensures line { (macros : MacroList) → IfOk result (IsReadHashLine source.now macros at) }
+    ensures fault { (macros : MacroList) → IfErr result (IsHashLineRefusal source.now macros at) }
 {
     let header = gap_end(source, end);
     match include_end(source, header) {
@@ -67,9 +60,8 @@ fn include_at(source: &[u8], at: usize, end: usize) -> Result<(HashLine, usize),
 // The byte behind the header that stands there, where nothing but white space follows on its line.
 fn include_end(source: &[u8], from: usize) -> Option<usize>
     requires { from ≤ length source.now }
-    ensures found { IfSome result (λ to. IsHeader source.now from to × EndsLine source.now to) }
-    ensures none { IfNone result
-        ((to : ℕ) → IsHeader source.now from to → EndsLine source.now to → ⊥) }
+    ensures found { IfSome result (IsLastHeader source.now from) }
+    ensures none { IfNone result (HasNoLastHeader source.now from) }
 {
     let to = header_end(source, from)?;
     if ends_line(source, to) {
@@ -106,8 +98,7 @@ fn has_text(source: &[u8], from: usize, text: &[u8]) -> bool
 // A pragma, whose word stands from `word` up to `end`: `omp` behind it makes it a directive.
 fn pragma_at(source: &[u8], word: usize, end: usize) -> (HashLine, usize)
     requires { end ≤ length source.now }
-    ensures { (macros : MacroList) (at : ℕ) → IsHashWord source.now at word end (codes "pragma") →
-        IsHashLine source.now macros at result.1 result.0 }
+    ensures { IsReadPragma source.now word end result }
 {
     let omp = gap_end(source, end);
     let omp_end = word_end(source, omp);

@@ -1,8 +1,8 @@
 //! The token at a byte of the source.
 
-ghost use Rattle.std.specs.Prelude.{◌≡◌, ◌<◌, ◌⊎◌, true, false, length, slice_index, IfOk, IfErr};
+ghost use Rattle.std.specs.Prelude.{◌≡◌, ◌<◌, true, false, length, slice_index, IfOk, IfErr};
 ghost use Rattle.om_lexer.specs.Characters.{is_word_byte};
-ghost use Rattle.om_lexer.specs.Faults.{no_memory};
+ghost use Rattle.om_lexer.specs.Faults.{IsRefusalAt};
 ghost use Rattle.om_lexer.specs.WhiteSpace.{BeginsComment};
 ghost use Rattle.om_lexer.specs.Tokens.{IsToken, IsNoToken};
 ghost use Rattle.om_lexer.specs.Sources.{source_limit};
@@ -25,8 +25,7 @@ pub(crate) fn token_at(
     requires below { at < source_limit }
     requires no_comment { BeginsComment source.now at → ⊥ }
     ensures token { IfOk result (λ read. IsToken source.now at read.1 read.0) }
-    ensures fault { IfErr result
-        (λ fault. (fault ≡ no_memory) ⊎ ((fault.at ≡ at) × IsNoToken source.now at fault.code)) }
+    ensures fault { IfErr result (IsRefusalAt at (IsNoToken source.now at)) }
 {
     if is_word_byte(source[at]) {
         return word_at(alloc, source, at);
@@ -43,8 +42,7 @@ fn word_at(alloc: Global, source: &[u8], at: usize) -> Result<(TokenKind, usize)
     requires below { at < source_limit }
     requires word { is_word_byte (slice_index source.now at) ≡ true }
     ensures token { IfOk result (λ read. IsToken source.now at read.1 read.0) }
-    ensures fault { IfErr result
-        (λ fault. (fault ≡ no_memory) ⊎ ((fault.at ≡ at) × IsNoToken source.now at fault.code)) }
+    ensures fault { IfErr result (IsRefusalAt at (IsNoToken source.now at)) }
 {
     let end = word_end(source, at);
     let kind = word_kind(alloc, &source[at..end], at as u32)?;
@@ -59,8 +57,7 @@ fn punctuator_at(source: &[u8], at: usize) -> Result<(TokenKind, usize), SourceF
     requires no_quote { slice_index source.now at ≡ 34 → ⊥ }
     requires no_comment { BeginsComment source.now at → ⊥ }
     ensures token { IfOk result (λ read. IsToken source.now at read.1 read.0) }
-    ensures fault { IfErr result
-        (λ fault. (fault ≡ no_memory) ⊎ ((fault.at ≡ at) × IsNoToken source.now at fault.code)) }
+    ensures fault { IfErr result (IsRefusalAt at (IsNoToken source.now at)) }
 {
     match longest_punctuator(&source[at..]) {
         Some(punctuator) => Ok((

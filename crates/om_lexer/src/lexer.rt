@@ -1,9 +1,9 @@
 //! The tokens of a source.
 
-ghost use Rattle.std.specs.Prelude.{◌≡◌, ◌==◌, ◌++◌, ◌+◌, ◌<◌, ◌≤◌, ◌^◌, ℕ, List, [], ◌∷◌, length, count_by, IfOk, IfErr, OnOk};
-ghost use Rattle.om_lexer.specs.Macros.{replaced};
-ghost use Rattle.om_lexer.specs.Pieces.{context_of, span_of, line_at, state_behind, state_behind_token, state_of_line, macros_behind, macros_behind_token, macros_defined};
-ghost use Rattle.om_lexer.specs.Folding.{tokens_in, token_in, tokens_of_line, directive_begin, directive_end, HasWords, HasWordsInside};
+ghost use Rattle.std.specs.Prelude.{◌≡◌, ◌==◌, ◌++◌, ◌+◌, ◌<◌, ◌≤◌, ◌^◌, [], ◌∷◌, length, count_by, IfOk, IfErr, OnOk};
+ghost use Rattle.om_lexer.specs.Adding.{AddsEnd, AddsWord, AddsDirectiveBegin, AddsHashLine, AddsReplaced, AddsToken, AddsPiece, HasMacrosBehindToken, HasMacrosBehind, state_behind_placed};
+ghost use Rattle.om_lexer.specs.Pieces.{span_of, line_at, state_behind_token, state_of_line, macros_defined};
+ghost use Rattle.om_lexer.specs.Folding.{directive_end, HasWords, HasWordsInside};
 ghost use Rattle.om_lexer.specs.Sources.{IsTokens, IsRefusal};
 
 use crate::fault::{FaultCode, SourceFault};
@@ -116,9 +116,7 @@ fn no_width(at: usize, line: u32) -> Span
 
 // Adds the end of the source at its place, and before it that of the directive whose line ends here, if one does.
 fn add_end(tokens: &mut Vec<Token>, state: &LineState, span: Span) -> Result<(), AllocError>
-    ensures { OnOk result
-        (tokens.new.items ≡ (tokens.old.items ++ directive_end state.now)
-        ++ record { kind = TokenKind.End; span = span } ∷ []) }
+    ensures { OnOk result (AddsEnd state.now tokens.old tokens.new span) }
 {
     end_directive(tokens, state)?;
     add(
@@ -152,13 +150,9 @@ fn take_piece(
     requires fits { piece.span.end < 2 ^ 31 }
     requires words { HasWordsInside piece.item piece.span.start piece.span.end }
     requires behind { piece.behind ≡ span_of source.now piece.span.end piece.span.end }
-    ensures tokens { OnOk result
-        (output.new.tokens.items ≡ output.old.tokens.items
-        ++ tokens_in source.now (context_of state output.old.macros) piece.span.start piece.span.end piece.item) }
-    ensures macros { OnOk result
-        (output.new.macros ≡ macros_behind piece.item state output.old.macros) }
-    ensures state { IfOk result
-        (λ behind. behind ≡ state_behind piece.item state (span_of source.now piece.span.end piece.span.end)) }
+    ensures tokens { OnOk result (AddsPiece source.now state output.old output.new piece) }
+    ensures macros { OnOk result (HasMacrosBehind state output.old output.new piece) }
+    ensures state { IfOk result (λ behind. behind ≡ state_behind_placed source.now state piece) }
 {
     let span = piece.span;
     let behind = piece.behind;
@@ -213,11 +207,8 @@ fn take_token(
     state: &LineState,
     token: Placed<TokenKind>,
 ) -> Result<LineState, AllocError>
-    ensures tokens { OnOk result
-        (output.new.tokens.items ≡ output.old.tokens.items
-        ++ token_in state.now output.old.macros token.span token.item) }
-    ensures macros { OnOk result
-        (output.new.macros ≡ macros_behind_token state.now output.old.macros token.item) }
+    ensures tokens { OnOk result (AddsToken state.now output.old output.new token) }
+    ensures macros { OnOk result (HasMacrosBehindToken state.now output.old output.new token) }
     ensures state { IfOk result (λ next. next ≡ state_behind_token state.now token.behind) }
 {
     let kind = token.item;
@@ -235,9 +226,7 @@ fn take_token(
 
 // Adds a token, replaced where it is a macro.
 fn add_token(output: &mut Output, token: Token) -> Result<(), AllocError>
-    ensures tokens { OnOk result
-        (output.new.tokens.items ≡ output.old.tokens.items
-        ++ record { kind = replaced output.old.macros token.kind; span = token.span } ∷ []) }
+    ensures tokens { OnOk result (AddsReplaced output.old output.new token) }
     ensures macros { output.new.macros ≡ output.old.macros }
 {
     let kind = output.macros.replaced(token.kind);
@@ -276,8 +265,7 @@ fn take_hash_line(
     requires inside { line.span.end ≤ length source.now }
     requires fits { line.span.end < 2 ^ 31 }
     requires words { HasWords line.item line.span.start line.span.end }
-    ensures tokens { OnOk result
-        (tokens.new.items ≡ tokens.old.items ++ tokens_of_line source.now line.span.start line.item) }
+    ensures tokens { OnOk result (AddsHashLine source.now tokens.old tokens.new line) }
     ensures state { IfOk result (λ next. next ≡ state_of_line line.item line.behind) }
 {
     match line.item {
@@ -306,9 +294,7 @@ fn begin_directive(
     requires hash { span.start < words.pragma }
     requires pragma { words.pragma + 6 ≤ words.omp }
     requires omp { words.omp + 3 ≤ span.end }
-    ensures { OnOk result
-        (tokens.new.items ≡ tokens.old.items
-        ++ directive_begin source.now span.start words.pragma words.omp) }
+    ensures { OnOk result (AddsDirectiveBegin source.now tokens.old tokens.new span words) }
 {
     let hash = Span {
         start: span.start,
@@ -356,9 +342,7 @@ fn add_word(
     text: &[u8],
     span: Span,
 ) -> Result<(), AllocError>
-    ensures { OnOk result
-        (tokens.new.items ≡ tokens.old.items
-        ++ record { kind = TokenKind.Name text.now; span = span } ∷ []) }
+    ensures { OnOk result (AddsWord tokens.old tokens.new text.now span) }
 {
     let kind = TokenKind::Name(Seq::of(Vec::from_slice(alloc, text)?));
     add(tokens, Token { kind, span })

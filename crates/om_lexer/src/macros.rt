@@ -1,7 +1,7 @@
 //! The names that are defined as numbers.
 
 ghost use Rattle.std.specs.Prelude.{◌≡◌, ◌≤◌, ◌↔◌, [], length, IsTrue, OnOk};
-ghost use Rattle.om_lexer.specs.Macros.{macros_of, macro_limit, number_of_macro, with_macro, replaced};
+ghost use Rattle.om_lexer.specs.Macros.{DefinesMacro, macro_limit, number_of_macro, with_macro, replaced};
 
 use crate::spelling::keyword_text;
 use crate::token::TokenKind;
@@ -33,9 +33,7 @@ fn put(
     name: &[u8],
     number: u32,
 ) -> Result<(), AllocError>
-    ensures { OnOk result
-        (macros_of numbers.new.entries
-        ≡ with_macro (macros_of numbers.old.entries) name.now number) }
+    ensures { OnOk result (DefinesMacro numbers.old.entries numbers.new.entries name.now number) }
 {
     if numbers.contains_key(name) {
         return Ok(());

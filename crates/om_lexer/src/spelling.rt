@@ -1,10 +1,8 @@
 //! How keywords and punctuators are spelled.
 
-ghost use Rattle.std.specs.Prelude.{◌≡◌, ◌≢◌, ◌≤◌, ℕ, true, false, length, nat_eq, IfSome, IfNone};
-ghost use Rattle.std.specs.List.{starts_with};
+ghost use Rattle.std.specs.Prelude.{◌≡◌, ◌≢◌, IfSome, IfNone};
 ghost use Rattle.om_lexer.specs.declared.token.Keyword.{Keyword};
-ghost use Rattle.om_lexer.specs.declared.token.Punctuator.{Punctuator};
-ghost use Rattle.om_lexer.specs.Spellings.{keyword_text, punctuator_text};
+ghost use Rattle.om_lexer.specs.Spellings.{keyword_text, punctuator_text, BeginsWithPunctuator, IsLongestPunctuator, BeginsWithNoPunctuator};
 
 use crate::token::{Keyword, Punctuator};
 
@@ -106,12 +104,9 @@ pub(crate) fn keyword_spelled(text: &[u8]) -> Option<Keyword>
 
 /// The longest punctuator with which the bytes begin.
 pub(crate) fn longest_punctuator(bytes: &[u8]) -> Option<Punctuator>
-    ensures begins { IfSome result (λ p. starts_with nat_eq bytes.now (punctuator_text p) ≡ true) }
-    ensures longest { IfSome result (λ p. (q : Punctuator) →
-        starts_with nat_eq bytes.now (punctuator_text q) ≡ true →
-        length (punctuator_text q) ≤ length (punctuator_text p)) }
-    ensures none { IfNone result
-        ((q : Punctuator) → starts_with nat_eq bytes.now (punctuator_text q) ≡ false) }
+    ensures begins { IfSome result (BeginsWithPunctuator bytes.now) }
+    ensures longest { IfSome result (IsLongestPunctuator bytes.now) }
+    ensures none { IfNone result (BeginsWithNoPunctuator bytes.now) }
 {
     for punctuator in PUNCTUATORS {
         if bytes.starts_with(punctuator_text(punctuator)) {

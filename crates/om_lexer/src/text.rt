@@ -1,9 +1,9 @@
 //! Text literals (C17 6.4.5).
 
-ghost use Rattle.std.specs.Prelude.{◌≡◌, ◌≤◌, ◌<◌, ◌+◌, ◌⊎◌, ◌↔◌, ℕ, length, slice_index, IfSome, IfNone, IfOk, IfErr, IsTrue};
-ghost use Rattle.om_lexer.specs.Faults.{no_memory};
+ghost use Rattle.std.specs.Prelude.{◌≡◌, ◌≤◌, ◌<◌, ◌+◌, ◌↔◌, length, slice_index, IfSome, IfNone, IfOk, IfErr, IsTrue};
+ghost use Rattle.om_lexer.specs.Faults.{IsRefusalAt};
 ghost use Rattle.om_lexer.specs.Sources.{source_limit};
-ghost use Rattle.om_lexer.specs.Texts.{IsPlain, escaped, IsCharacter};
+ghost use Rattle.om_lexer.specs.Texts.{IsPlain, escaped, IsCharacter, HasNoCharacter};
 ghost use Rattle.om_lexer.specs.Tokens.{IsToken, IsNoToken};
 
 use crate::character::byte_at;
@@ -43,8 +43,7 @@ fn character_at(source: &[u8], from: usize) -> Option<(u8, usize)>
     ensures found { IfSome result (λ read. IsCharacter source.now from read.0 read.1) }
     ensures moves { IfSome result (λ read. from < read.1) }
     ensures inside { IfSome result (λ read. read.1 ≤ length source.now) }
-    ensures none { IfNone result
-        ((character to : ℕ) → IsCharacter source.now from character to → ⊥) }
+    ensures none { IfNone result (HasNoCharacter source.now from) }
 {
     if from >= source.len() {
         return None;
@@ -70,8 +69,7 @@ pub(crate) fn text_at(
     requires below { at < source_limit }
     requires quote { slice_index source.now at ≡ 34 }
     ensures token { IfOk result (λ read. IsToken source.now at read.1 read.0) }
-    ensures fault { IfErr result
-        (λ fault. (fault ≡ no_memory) ⊎ ((fault.at ≡ at) × IsNoToken source.now at fault.code)) }
+    ensures fault { IfErr result (IsRefusalAt at (IsNoToken source.now at)) }
 {
     let mut characters = Vec::new(alloc);
     let mut next = at + 1;

@@ -1,7 +1,7 @@
 //! Names, constants and keywords.
 
-ghost use Rattle.std.specs.Prelude.{◌≡◌, ◌≤◌, ◌⊎◌, length, IfOk, IfErr};
-ghost use Rattle.om_lexer.specs.Faults.{no_memory};
+ghost use Rattle.std.specs.Prelude.{◌≤◌, length, IfOk, IfErr};
+ghost use Rattle.om_lexer.specs.Faults.{IsRefusalAt};
 ghost use Rattle.om_lexer.specs.Tokens.{IsRun, IsWord, Spells, IsWrongText};
 
 use crate::character::is_word_byte;
@@ -33,8 +33,7 @@ pub(crate) fn word_end(source: &[u8], from: usize) -> usize
 pub(crate) fn word_kind(alloc: Global, text: &[u8], at: u32) -> Result<TokenKind, SourceFault>
     requires { IsWord text.now }
     ensures kind { IfOk result (Spells text.now) }
-    ensures fault { IfErr result
-        (λ fault. (fault ≡ no_memory) ⊎ ((fault.at ≡ at) × IsWrongText text.now fault.code)) }
+    ensures fault { IfErr result (IsRefusalAt at (IsWrongText text.now)) }
 {
     if text[0].is_ascii_digit() {
         return match constant(text) {
