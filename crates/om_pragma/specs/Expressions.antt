@@ -1,6 +1,6 @@
 -- The expressions of a directive.
-use Rattle.std.specs.Prelude.{◌≡◌, ◌≢◌, ℕ, ◌+◌, ◌-◌, ◌==◌, List, [], ◌∷◌, map, if◌then◌else◌, Option, Some, None}
-use Rattle.std.specs.Prelude.{IsSomeAnd, IfSome, option_to_list}
+use Rattle.std.specs.Prelude.{◌≡◌, ◌≢◌, ◌≤◌, ℕ, ◌+◌, ◌-◌, ◌==◌, List, [], ◌∷◌, map, length, Option, Some, None}
+use Rattle.std.specs.Prelude.{if◌then◌else◌, IsSomeAnd, IfSome, option_to_list}
 use Rattle.std.specs.List.{flat_map}
 use denote.Ref.{Bor}
 use Rattle.om_lexer.specs.declared.token.Punctuator.TheVariants as punctuators
@@ -72,6 +72,19 @@ map_directive f d = record {
 -- a function that gives the value, where there is one
 abbrev pub IsValue : {E F : Type 0} → (E → F) → Option F → Type 0
 IsValue {E} f value = IfSome value (λ v. (e : E) → f e ≡ v)
+
+-- the value can be put in place of these expressions: they are one at most, and none where there is no value
+abbrev pub CanFill : {E F : Type 0} → Option F → List E → Type 0
+CanFill value expressions = length expressions ≤ length (option_to_list value)
+
+-- the value is left behind these expressions, unless one of them takes it
+abbrev pub IsLeftBehind : {E F : Type 0} → Option F → List E → Option F → Type 0
+IsLeftBehind value expressions left = length (option_to_list value) ≤ length expressions
+    + length (option_to_list left)
+
+-- the new part is what the old one is mapped to, by each function that gives this value
+abbrev pub IsFilled : {E F A B : Type 0} → ((E → F) → A → B) → Option F → A → B → Type 0
+IsFilled {E} {F} mapped value old new = (f : E → F) → IsValue f value → new ≡ mapped f old
 
 -- the tokens that a slice has
 abbrev pub tokens_in : Bor (List Token) → List Token

@@ -6,4 +6,5 @@ pub mod Values
 pub mod Table
 pub mod Refusals
 pub mod Reading
+pub mod Views
 pub mod Questions

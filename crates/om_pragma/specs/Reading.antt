@@ -141,11 +141,16 @@ further_at before ts = do
   n ← name_at c.1
   Ok ((c.0, n.0), n.1)
 
+-- commas and names up to the parenthesis
+abbrev pub further_names_at : List Token → Result (List (Span × names.Name) × Span × List Token) ℕ
+further_names_at ts =
+    until place (take_kind (kinds.Punctuator punctuators.CloseParen)) further_at (suc (length ts)) [] ts
+
 -- names up to the parenthesis
 unfoldable pub names_at : List Token → Part (names.Name × List (Span × names.Name) × Span)
 names_at ts = do
   n ← name_at ts
-  m ← until place (take_kind (kinds.Punctuator punctuators.CloseParen)) further_at (suc (length n.1)) [] n.1
+  m ← further_names_at n.1
   Ok ((n.0, m.0, m.1), m.2)
 
 -- the rest of a list, behind its parenthesis
@@ -185,11 +190,15 @@ value_after k s ts = do
 abbrev pub default_words : List Sharing
 default_words = sharings.Shared ∷ sharings.None ∷ []
 
+-- `shared` or `none`, which must stand first
+abbrev pub sharing_at : List Token → Part (Sharing × Span)
+sharing_at ts = known ts (take_word sharing_word default_words ts)
+
 -- `shared` or `none` in parentheses
 unfoldable pub default_after : Span → List Token → Part (Clause (List Token))
 default_after s ts = do
   o ← mark_at punctuators.OpenParen ts
-  w ← known o.1 (take_word sharing_word default_words o.1)
+  w ← sharing_at o.1
   c ← mark_at punctuators.CloseParen w.1
   Ok (clauses.Default s (record { open_paren = o.0; sharing = w.0.0; word = w.0.1; close_paren = c.0 }), c.1)
 
@@ -203,11 +212,15 @@ data_after k s ts = do
 abbrev pub reduction_operators : List ReductionOperator
 reduction_operators = operators.Add ∷ operators.Multiply ∷ operators.Max ∷ operators.Min ∷ []
 
+-- the operator of a reduction, which must stand first
+abbrev pub operator_at : List Token → Part (ReductionOperator × Span)
+operator_at ts = known ts (take_word operator_word reduction_operators ts)
+
 -- an operator, a colon and names in parentheses
 unfoldable pub reduction_after : Span → List Token → Part (Clause (List Token))
 reduction_after s ts = do
   o ← mark_at punctuators.OpenParen ts
-  w ← known o.1 (take_word operator_word reduction_operators o.1)
+  w ← operator_at o.1
   c ← mark_at punctuators.Colon w.1
   n ← names_at c.1
   Ok (
@@ -227,6 +240,10 @@ reduction_after s ts = do
 abbrev pub schedule_kinds : List ScheduleKind
 schedule_kinds = schedules.Static ∷ schedules.Dynamic ∷ []
 
+-- the kind of a schedule, which must stand first
+abbrev pub schedule_kind_at : List Token → Part (ScheduleKind × Span)
+schedule_kind_at ts = known ts (take_word schedule_word schedule_kinds ts)
+
 -- a comma and a chunk, where the comma stands
 unfoldable pub chunk_at : List Token → Part (Option (Span × Number))
 chunk_at ts = choose (take_kind (kinds.Punctuator punctuators.Comma) ts)
@@ -237,7 +254,7 @@ chunk_at ts = choose (take_kind (kinds.Punctuator punctuators.Comma) ts)
 unfoldable pub schedule_after : Span → List Token → Part (Clause (List Token))
 schedule_after s ts = do
   o ← mark_at punctuators.OpenParen ts
-  w ← known o.1 (take_word schedule_word schedule_kinds o.1)
+  w ← schedule_kind_at o.1
   k ← chunk_at w.1
   c ← mark_at punctuators.CloseParen k.1
   Ok (clauses.Schedule s (record { open_paren = o.0; kind = w.0.0; word = w.0.1; chunk = k.0; close_paren = c.0 }), c.1)
@@ -395,9 +412,13 @@ abbrev pub some_tokens : List Token → Option (List Token)
 some_tokens [] = None
 some_tokens (t ∷ ts) = Some (t ∷ ts)
 
+-- one or more tokens, where the parenthesis behind them starts before a place
+abbrev pub tokens_before : ℕ → (right : Span) → List Token → Option (List Token)
+tokens_before place right ts = if nat_le place right.start then None else some_tokens ts
+
 -- the tokens in parentheses, where these end before a place
 abbrev pub ends_before : ℕ → Result (List Token × Span × List Token) ℕ → Option (List Token)
-ends_before place (Ok c) = if nat_le place c.1.start then None else some_tokens c.0
+ends_before place (Ok c) = tokens_before place c.1 c.0
 ends_before place (Err e) = None
 
 -- the tokens in parentheses that stand there

@@ -117,6 +117,10 @@ abbrev pub IsFound : Directive (List Token) → Result (Directive (Bor (List Tok
 IsFound d (Ok found) = with_tokens found ≡ d
 IsFound d (Err fault) = fault ≡ no_memory
 
+-- whichever directive the tokens are, it is found, unless memory ran out
+abbrev pub FindsEvery : List Token → Result (Directive (Bor (List Token))) SourceFault → Type 0
+FindsEvery tokens result = (d : Directive (List Token)) → IsDirectiveOf tokens d → IsFound d result
+
 -- a clause by the grammar alone: a comma stands between two, and behind the word what belongs to it
 pub record IsWrittenItem (before : List (ClauseItem (List Token))) (i : ClauseItem (List Token)) : Type 0 where
   pub between : IsBetween before i.comma
@@ -139,12 +143,26 @@ pub record StopsAt (tokens : List Token) (at : ℕ) : Type 0 where
   pub stops : BeginsDirective (front ++ first ∷ []) → ⊥
   pub place : first.span.start ≡ at
 
+-- no token is the end of a run
+abbrev pub IsEndless : List Token → Type 0
+IsEndless = All (λ t. t.kind ≢ kinds.DirectiveEnd)
+
 -- the end of the run stands last, and nowhere else
 pub record EndsOnce (tokens : List Token) : Type 0 where
   pub front : List Token
   pub end : Span
   pub parts : tokens ≡ front ++ token kinds.DirectiveEnd end ∷ []
-  pub endless : All (λ t. t.kind ≢ kinds.DirectiveEnd) front
+  pub endless : IsEndless front
+
+-- where the run ends once, S3 stands at the first token that no directive has there
+abbrev pub StopsAtFirst : List Token → SourceFault → Type 0
+StopsAtFirst tokens fault = fault.code ≡ codes.Syntax → EndsOnce tokens → StopsAt tokens fault.at
+
+-- where the run has no end, S3 stands at the first token that no directive has there, or all of the tokens begin a
+-- directive
+abbrev pub RunsOut : List Token → SourceFault → Type 0
+RunsOut tokens fault = fault.code ≡ codes.Syntax → IsEndless tokens
+    → StopsAt tokens fault.at ⊎ BeginsDirective tokens
 
 -- What tokens are: a directive, or none for this reason; S3 stands at the first token that no directive has there.
 abbrev pub IsAnswer : List Token → Result (Directive (List Token)) SourceFault → Type 0

@@ -1,11 +1,9 @@
 //! What stands behind the word of a clause.
 
-ghost use Rattle.std.specs.Prelude.{◌≡◌, ◌<◌, [], suc, length};
-ghost use Rattle.om_lexer.specs.declared.token.Punctuator.TheVariants.{CloseParen};
-ghost use Rattle.om_lexer.specs.declared.token.TokenKind.TheVariants as kinds;
-ghost use Rattle.om_pragma.specs.Expressions.{open_behind, map_clause, tokens_in};
-ghost use Rattle.om_pragma.specs.Reading.{place, take_kind, take_word, known, until, further_at, names_at, list_after, list_at, closing, value_after, data_after, default_words, default_after, reduction_operators, reduction_after, chunk_at, schedule_kinds, schedule_after, clause_after, Gets, GetsAlways};
-ghost use Rattle.om_pragma.specs.Words.{sharing_word, operator_word, schedule_word};
+ghost use Rattle.std.specs.Prelude.{◌≡◌, ◌<◌, []};
+ghost use Rattle.om_pragma.specs.Expressions.{open_behind};
+ghost use Rattle.om_pragma.specs.Reading.{further_at, further_names_at, names_at, list_after, closing, value_after, data_after, sharing_at, default_after, operator_at, reduction_after, chunk_at, schedule_kind_at, schedule_after, clause_after, Gets, GetsAlways};
+ghost use Rattle.om_pragma.specs.Views.{part_and_rest, clause_and_rest};
 
 use crate::clause::{
     Clause, ClauseKind, DataSharing, DefaultArgument, PlainClause, Reduction, ReductionOperator,
@@ -26,8 +24,7 @@ pub fn clause_after(
     word: Span,
     tokens: &[Token],
 ) -> Result<(Clause<&[Token]>, &[Token]), Stop>
-    ensures { Gets (λ x. (map_clause tokens_in x.0, x.1.now)) result
-        (clause_after kind word tokens.now) }
+    ensures { Gets clause_and_rest result (clause_after kind word tokens.now) }
 {
     match kind {
         ClauseKind::NumThreads => value_after(ValueClause::NumThreads, word, tokens),
@@ -89,8 +86,7 @@ fn value_after(
     word: Span,
     tokens: &[Token],
 ) -> Result<(Clause<&[Token]>, &[Token]), Stop>
-    ensures { GetsAlways (λ x. (map_clause tokens_in x.0, x.1.now)) result
-        (value_after kind word tokens.now) }
+    ensures { GetsAlways clause_and_rest result (value_after kind word tokens.now) }
 {
     let (open_paren, rest) = mark(tokens, Punctuator::OpenParen)?;
     let (expression, close_paren, rest) = closing(rest)?;
@@ -107,8 +103,7 @@ fn value_after(
 
 // `(`, `shared` or `none`, and `)`.
 fn default_after(word: Span, tokens: &[Token]) -> Result<(Clause<&[Token]>, &[Token]), Stop>
-    ensures { GetsAlways (λ x. (map_clause tokens_in x.0, x.1.now)) result
-        (default_after word tokens.now) }
+    ensures { GetsAlways clause_and_rest result (default_after word tokens.now) }
 {
     let (open_paren, rest) = mark(tokens, Punctuator::OpenParen)?;
     let (sharing, span, rest) = default_word(rest)?;
@@ -124,8 +119,7 @@ fn default_after(word: Span, tokens: &[Token]) -> Result<(Clause<&[Token]>, &[To
 
 // `shared` or `none`, its span, and the tokens behind it.
 fn default_word(tokens: &[Token]) -> Result<(Sharing, Span, &[Token]), Stop>
-    ensures { GetsAlways (λ x. ((x.0, x.1), x.2.now)) result
-        (known tokens.now (take_word sharing_word default_words tokens.now)) }
+    ensures { GetsAlways (λ x. ((x.0, x.1), x.2.now)) result (sharing_at tokens.now) }
 {
     let [first, rest @ ..] = tokens else {
         return Err(Stop::Token(u32::MAX));
@@ -143,8 +137,7 @@ fn data_after(
     word: Span,
     tokens: &[Token],
 ) -> Result<(Clause<&[Token]>, &[Token]), Stop>
-    ensures { Gets (λ x. (map_clause tokens_in x.0, x.1.now)) result
-        (data_after kind word tokens.now) }
+    ensures { Gets clause_and_rest result (data_after kind word tokens.now) }
 {
     let (open_paren, rest) = mark(tokens, Punctuator::OpenParen)?;
     let (list, rest) = list_after(alloc, open_paren, rest)?;
@@ -157,7 +150,7 @@ pub fn list_after(
     open_paren: Span,
     tokens: &[Token],
 ) -> Result<(NameList, &[Token]), Stop>
-    ensures { Gets (λ x. (x.0, x.1.now)) result (list_after open_paren tokens.now) }
+    ensures { Gets part_and_rest result (list_after open_paren tokens.now) }
 {
     let (first, rest, close_paren, behind) = names(alloc, tokens)?;
     let list = NameList {
@@ -184,9 +177,7 @@ fn further_names(
     alloc: Global,
     tokens: &[Token],
 ) -> Result<(Seq<FurtherName>, Span, &[Token]), Stop>
-    ensures { Gets (λ x. (x.0, x.1, x.2.now)) result
-        (until place (take_kind (kinds.Punctuator CloseParen)) further_at (suc (length tokens.now))
-        [] tokens.now) }
+    ensures { Gets (λ x. (x.0, x.1, x.2.now)) result (further_names_at tokens.now) }
 {
     let mut names = Seq::new(alloc);
     let mut rest = tokens;
@@ -215,8 +206,7 @@ fn reduction_after(
     word: Span,
     tokens: &[Token],
 ) -> Result<(Clause<&[Token]>, &[Token]), Stop>
-    ensures { Gets (λ x. (map_clause tokens_in x.0, x.1.now)) result
-        (reduction_after word tokens.now) }
+    ensures { Gets clause_and_rest result (reduction_after word tokens.now) }
 {
     let (open_paren, rest) = mark(tokens, Punctuator::OpenParen)?;
     let (operator, sign, rest) = operator(rest)?;
@@ -236,8 +226,7 @@ fn reduction_after(
 
 // The operator of a reduction, its span, and the tokens behind it.
 fn operator(tokens: &[Token]) -> Result<(ReductionOperator, Span, &[Token]), Stop>
-    ensures { GetsAlways (λ x. ((x.0, x.1), x.2.now)) result
-        (known tokens.now (take_word operator_word reduction_operators tokens.now)) }
+    ensures { GetsAlways (λ x. ((x.0, x.1), x.2.now)) result (operator_at tokens.now) }
 {
     let [first, rest @ ..] = tokens else {
         return Err(Stop::Token(u32::MAX));
@@ -250,8 +239,7 @@ fn operator(tokens: &[Token]) -> Result<(ReductionOperator, Span, &[Token]), Sto
 
 // `(`, a kind, perhaps a chunk, and `)`.
 fn schedule_after(word: Span, tokens: &[Token]) -> Result<(Clause<&[Token]>, &[Token]), Stop>
-    ensures { GetsAlways (λ x. (map_clause tokens_in x.0, x.1.now)) result
-        (schedule_after word tokens.now) }
+    ensures { GetsAlways clause_and_rest result (schedule_after word tokens.now) }
 {
     let (open_paren, rest) = mark(tokens, Punctuator::OpenParen)?;
     let (kind, span, rest) = schedule_word(rest)?;
@@ -269,8 +257,7 @@ fn schedule_after(word: Span, tokens: &[Token]) -> Result<(Clause<&[Token]>, &[T
 
 // The kind of a schedule, its span, and the tokens behind it.
 fn schedule_word(tokens: &[Token]) -> Result<(ScheduleKind, Span, &[Token]), Stop>
-    ensures { GetsAlways (λ x. ((x.0, x.1), x.2.now)) result
-        (known tokens.now (take_word schedule_word schedule_kinds tokens.now)) }
+    ensures { GetsAlways (λ x. ((x.0, x.1), x.2.now)) result (schedule_kind_at tokens.now) }
 {
     let [first, rest @ ..] = tokens else {
         return Err(Stop::Token(u32::MAX));
@@ -283,7 +270,7 @@ fn schedule_word(tokens: &[Token]) -> Result<(ScheduleKind, Span, &[Token]), Sto
 
 // A comma and a chunk, where a comma stands, and the tokens behind them.
 fn chunk(tokens: &[Token]) -> Result<(Option<(Span, Number)>, &[Token]), Stop>
-    ensures { GetsAlways (λ x. (x.0, x.1.now)) result (chunk_at tokens.now) }
+    ensures { GetsAlways part_and_rest result (chunk_at tokens.now) }
 {
     let Some((comma, rest)) = take_mark(tokens, Punctuator::Comma) else {
         return Ok((None, tokens));

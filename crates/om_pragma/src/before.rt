@@ -1,8 +1,8 @@
 //! An expression in a run that is refused.
 
-ghost use Rattle.std.specs.Prelude.{◌≡◌, List, IfSome, option_map, nat_le, if◌then◌else◌};
+ghost use Rattle.std.specs.Prelude.{◌≡◌, List, IfSome, option_map};
 ghost use Rattle.om_lexer.specs.declared.token.Token.{Token as Tokens};
-ghost use Rattle.om_pragma.specs.Reading.{in_parentheses, some_tokens, expression_at, GetsAlways};
+ghost use Rattle.om_pragma.specs.Reading.{in_parentheses, tokens_before, expression_at, GetsAlways};
 ghost use Rattle.om_pragma.specs.Values.{StandsAsValue, IsFirstValue};
 
 use crate::argument::closing;
@@ -59,8 +59,7 @@ fn in_parentheses(tokens: &[Token]) -> Result<(&[Token], Span, &[Token]), Stop>
 
 // These tokens, if there are some, and the parenthesis behind them starts before the place.
 fn ends_before(tokens: &[Token], close_paren: Span, place: u32) -> Option<&[Token]>
-    ensures { option_map (λ e. e.now) result
-        ≡ (if nat_le place close_paren.start then None else some_tokens tokens.now) }
+    ensures { option_map (λ e. e.now) result ≡ tokens_before place close_paren tokens.now }
 {
     if place <= close_paren.start {
         return None;

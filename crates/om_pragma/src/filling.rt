@@ -1,8 +1,8 @@
 //! The expression of a directive, put in place of its tokens.
 
-ghost use Rattle.std.specs.Prelude.{◌≡◌, ◌≤◌, ◌+◌, [], length, map, IfOk, option_to_list};
+ghost use Rattle.std.specs.Prelude.{map, IfOk};
 ghost use Rattle.std.specs.List.{flat_map};
-ghost use Rattle.om_pragma.specs.Expressions.{expressions, clause_expressions, map_item, map_directive, IsValue};
+ghost use Rattle.om_pragma.specs.Expressions.{expressions, clause_expressions, map_item, map_directive, IsValue, CanFill, IsLeftBehind, IsFilled};
 
 use crate::clause::{Clause, ClauseItem, Value};
 use crate::tree::Directive;
@@ -17,8 +17,8 @@ impl<E: Drop> Directive<E> {
         alloc: Global,
         value: Option<F>,
     ) -> Result<Directive<F>, AllocError>
-        requires { length (expressions self) ≤ length (option_to_list value) }
-        ensures { IfOk result (λ d. (f : E → F) → IsValue f value → d ≡ map_directive f self) }
+        requires { CanFill value (expressions self) }
+        ensures { IfOk result (IsFilled map_directive value self) }
     {
         let Directive {
             hash,
@@ -46,10 +46,8 @@ fn filled<E: Drop, F: Drop>(
     items: Vec<ClauseItem<E>>,
     value: Option<F>,
 ) -> Result<Seq<ClauseItem<F>>, AllocError>
-    requires { length (flat_map (λ i. clause_expressions i.clause) items.items) ≤ length
-        (option_to_list value) }
-    ensures { IfOk result
-        (λ made. (f : E → F) → IsValue f value → made ≡ map (map_item f) items.items) }
+    requires { CanFill value (flat_map (λ i. clause_expressions i.clause) items.items) }
+    ensures { IfOk result (IsFilled (λ f. map (map_item f)) value items.items) }
 {
     let mut left = value;
     let mut made = Seq::new(alloc);
@@ -69,11 +67,10 @@ fn filled_item<E: Drop, F: Drop>(
     item: ClauseItem<E>,
     value: Option<F>,
 ) -> (ClauseItem<F>, Option<F>)
-    requires { length (clause_expressions item.clause) ≤ length (option_to_list value) }
-    ensures made { (f : E → F) → IsValue f value → result.0 ≡ map_item f item }
+    requires { CanFill value (clause_expressions item.clause) }
+    ensures made { IsFilled map_item value item result.0 }
     ensures still { (f : E → F) → IsValue f value → IsValue f result.1 }
-    ensures left { length (option_to_list value) ≤ length (clause_expressions item.clause)
-        + length (option_to_list result.1) }
+    ensures left { IsLeftBehind value (clause_expressions item.clause) result.1 }
 {
     let ClauseItem { comma, clause } = item;
     let (clause, left) = match clause {

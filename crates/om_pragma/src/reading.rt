@@ -1,15 +1,13 @@
 //! Reading the tokens of a directive line.
 
-ghost use Rattle.std.specs.Prelude.{◌≡◌, ◌≢◌, ◌≤◌, ◌⊎◌, All, ℕ, suc, List, [], IfOk, IfErr, Result, length, map};
+ghost use Rattle.std.specs.Prelude.{◌≡◌, ◌≤◌, ◌⊎◌, [], IfOk, IfErr, length};
 ghost use Rattle.om_lexer.specs.declared.fault.FaultCode.TheVariants.{BadClause, Syntax};
-ghost use Rattle.om_lexer.specs.declared.token.Token.{Token as Tokens};
-ghost use Rattle.om_lexer.specs.declared.token.TokenKind.TheVariants.{DirectiveEnd};
 ghost use Rattle.om_lexer.specs.Faults.{no_memory};
-ghost use Rattle.om_pragma.specs.declared.tree.Directive.{Directive as DirectiveOf};
-ghost use Rattle.om_pragma.specs.Expressions.{expressions, map_clause, map_item, tokens_in, with_tokens};
-ghost use Rattle.om_pragma.specs.Reading.{take_kind, fault, stop_fault, stopped, in_clause, no_word, opening_at, critical_after, critical_at, flush_at, parallel_at, name_after, directive_name_at, comma_at, clause_at, item_at, until, syntax_at, take_end, clauses_at, directive_at, Gets, Reads};
-ghost use Rattle.om_pragma.specs.Refusals.{IsRefusal, IsFound, BeginsDirective, EndsOnce, StopsAt};
-ghost use Rattle.om_pragma.specs.Table.{IsDirectiveOf, kinds_of};
+ghost use Rattle.om_pragma.specs.Expressions.{expressions, with_tokens};
+ghost use Rattle.om_pragma.specs.Reading.{fault, stop_fault, stopped, opening_at, critical_after, critical_at, flush_at, parallel_at, name_after, directive_name_at, comma_at, clause_at, item_at, clauses_at, directive_at, Gets, Reads};
+ghost use Rattle.om_pragma.specs.Refusals.{IsRefusal, FindsEvery, StopsAtFirst, RunsOut};
+ghost use Rattle.om_pragma.specs.Table.{IsDirectiveOf};
+ghost use Rattle.om_pragma.specs.Views.{part_and_rest, clause_and_rest, item_and_rest, seen_items, seen_kinds};
 
 use crate::argument::{clause_after, list_after};
 use crate::clause::{Clause, ClauseItem};
@@ -40,16 +38,12 @@ pub fn directive(alloc: Global, tokens: &[Token]) -> Result<Directive<&[Token]>,
     ensures found { IfOk result (λ d. IsDirectiveOf tokens.now (with_tokens d)) }
     ensures one_expression_at_most { IfOk result (λ d. length (expressions d) ≤ 1) }
 
-    ensures every_directive_is_found { (d : DirectiveOf (List Tokens)) → IsDirectiveOf tokens.now d
-        → IsFound d result }
+    ensures every_directive_is_found { FindsEvery tokens.now result }
     ensures refused { IfErr result (λ fault. (fault ≡ no_memory) ⊎ IsRefusal tokens.now fault) }
     // S3 stands at the first token that no directive has there, where the run ends once.
-    ensures stops_at_the_first { IfErr result
-        (λ fault. fault.code ≡ Syntax → EndsOnce tokens.now → StopsAt tokens.now fault.at) }
+    ensures stops_at_the_first { IfErr result (StopsAtFirst tokens.now) }
     // So it does where the run has no end, or all of its tokens begin a directive.
-    ensures runs_out { IfErr result
-        (λ fault. fault.code ≡ Syntax → All (λ t. t.kind ≢ DirectiveEnd) tokens.now →
-        StopsAt tokens.now fault.at ⊎ BeginsDirective tokens.now) }
+    ensures runs_out { IfErr result (RunsOut tokens.now) }
 {
     read(alloc, tokens)
 }
@@ -121,7 +115,7 @@ fn opening(tokens: &[Token]) -> Result<(Span, Span, Span, &[Token]), SourceFault
 
 // The words of a directive, and the tokens behind them.
 fn directive_name(alloc: Global, tokens: &[Token]) -> Result<(DirectiveName, &[Token]), SourceFault>
-    ensures { Reads (λ x. (x.0, x.1.now)) result (directive_name_at tokens.now) }
+    ensures { Reads part_and_rest result (directive_name_at tokens.now) }
 {
     let [first, rest @ ..] = tokens else {
         return Err(no_word(tokens));
@@ -139,7 +133,7 @@ fn name_after(
     span: Span,
     tokens: &[Token],
 ) -> Result<(DirectiveName, &[Token]), SourceFault>
-    ensures { Reads (λ x. (x.0, x.1.now)) result (name_after kind span tokens.now) }
+    ensures { Reads part_and_rest result (name_after kind span tokens.now) }
 {
     match kind {
         DirectiveKind::Parallel => Ok(parallel(span, tokens)),
@@ -182,7 +176,7 @@ fn critical(
     span: Span,
     tokens: &[Token],
 ) -> Result<(DirectiveName, &[Token]), SourceFault>
-    ensures { Reads (λ x. (x.0, x.1.now)) result (critical_at span tokens.now) }
+    ensures { Reads part_and_rest result (critical_at span tokens.now) }
 {
     let Some((open_paren, rest)) = take_mark(tokens, Punctuator::OpenParen) else {
         return Ok((DirectiveName::Critical(span, None), tokens));
@@ -200,7 +194,7 @@ fn critical_after(
     open_paren: Span,
     tokens: &[Token],
 ) -> Result<((Span, Name, Span), &[Token]), Stop>
-    ensures { Gets (λ x. (x.0, x.1.now)) result (critical_after open_paren tokens.now) }
+    ensures { Gets part_and_rest result (critical_after open_paren tokens.now) }
 {
     let (name, rest) = name(alloc, tokens)?;
     let (close_paren, rest) = mark(rest, Punctuator::CloseParen)?;
@@ -213,7 +207,7 @@ fn flush(
     span: Span,
     tokens: &[Token],
 ) -> Result<(DirectiveName, &[Token]), SourceFault>
-    ensures { Reads (λ x. (x.0, x.1.now)) result (flush_at span tokens.now) }
+    ensures { Reads part_and_rest result (flush_at span tokens.now) }
 {
     let Some((open_paren, rest)) = take_mark(tokens, Punctuator::OpenParen) else {
         return Ok((DirectiveName::Flush(span, None), tokens));
@@ -240,8 +234,7 @@ fn clauses<'a>(
     name: &DirectiveName,
     tokens: &'a [Token],
 ) -> Result<(Seq<ClauseItem<&'a [Token]>>, Span), SourceFault>
-    ensures { Reads (λ x. (map (map_item tokens_in) x.0, x.1, [])) result
-        (clauses_at name.now tokens.now) }
+    ensures { Reads (λ x. (seen_items x.0, x.1, [])) result (clauses_at name.now tokens.now) }
 {
     let mut items = Seq::new(alloc);
     let mut rest = tokens;
@@ -262,8 +255,7 @@ fn item<'a>(
     before: &[ClauseItem<&'a [Token]>],
     tokens: &'a [Token],
 ) -> Result<(ClauseItem<&'a [Token]>, &'a [Token]), SourceFault>
-    ensures { Reads (λ x. (map_item tokens_in x.0, x.1.now)) result
-        (item_at name.now (map (map_item tokens_in) before.now) tokens.now) }
+    ensures { Reads item_and_rest result (item_at name.now (seen_items before.now) tokens.now) }
 {
     let (comma, rest) = comma(before, tokens);
     let (clause, rest) = clause(alloc, name, before, rest)?;
@@ -272,7 +264,7 @@ fn item<'a>(
 
 // A comma, where one stands behind a clause, and the tokens behind it.
 fn comma<'a>(before: &[ClauseItem<&[Token]>], tokens: &'a [Token]) -> (Option<Span>, &'a [Token])
-    ensures { (result.0, result.1.now) ≡ comma_at (map (map_item tokens_in) before.now) tokens.now }
+    ensures { (result.0, result.1.now) ≡ comma_at (seen_items before.now) tokens.now }
 {
     match before {
         [] => (None, tokens),
@@ -290,8 +282,7 @@ fn clause<'a>(
     before: &[ClauseItem<&'a [Token]>],
     tokens: &'a [Token],
 ) -> Result<(Clause<&'a [Token]>, &'a [Token]), SourceFault>
-    ensures { Reads (λ x. (map_clause tokens_in x.0, x.1.now)) result
-        (clause_at name.now (kinds_of (map (map_item tokens_in) before.now)) tokens.now) }
+    ensures { Reads clause_and_rest result (clause_at name.now (seen_kinds before.now) tokens.now) }
 {
     let [first, rest @ ..] = tokens else {
         return Err(no_word(tokens));

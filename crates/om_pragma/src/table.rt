@@ -1,11 +1,11 @@
 //! Which clauses a directive has.
 
-ghost use Rattle.std.specs.Prelude.{◌≡◌, map};
+ghost use Rattle.std.specs.Prelude.{◌≡◌};
 ghost use Rattle.std.specs.List.{list_any};
-ghost use Rattle.om_pragma.specs.Expressions.{map_item, tokens_in};
 ghost use Rattle.om_pragma.specs.Kinds.{directive_kind};
 ghost use Rattle.om_pragma.specs.Spelling.{kind_of};
-ghost use Rattle.om_pragma.specs.Table.{clauses_of, may_repeat, group_of, same_clause, excludes, may_stand, kinds_of};
+ghost use Rattle.om_pragma.specs.Table.{clauses_of, may_repeat, group_of, same_clause, excludes, may_stand};
+ghost use Rattle.om_pragma.specs.Views.{seen_kinds};
 
 use crate::clause::{ClauseItem, ClauseKind};
 use crate::kind::DirectiveKind;
@@ -141,7 +141,7 @@ fn is_excluded(before: &[ClauseItem<&[Token]>], kind: ClauseKind) -> bool
 /// Whether a directive can have a clause behind those before it.
 // A clause that can repeat is excluded by none, so a long line of such clauses takes linear time.
 pub fn may_stand(name: &DirectiveName, before: &[ClauseItem<&[Token]>], kind: ClauseKind) -> bool
-    ensures { result ≡ may_stand name.now (kinds_of (map (map_item tokens_in) before.now)) kind }
+    ensures { result ≡ may_stand name.now (seen_kinds before.now) kind }
 {
     has_clause(name, kind) && (may_repeat(kind) || !is_excluded(before, kind))
 }

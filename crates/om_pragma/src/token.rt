@@ -2,7 +2,8 @@
 
 ghost use Rattle.std.specs.Prelude.{◌≡◌, [], option_map};
 ghost use Rattle.om_lexer.specs.declared.token.TokenKind.TheVariants as kinds;
-ghost use Rattle.om_pragma.specs.Reading.{take_first, take_kind, take_name, take_chunk, take_end, mark_at, name_at, place, Gets, GetsAlways};
+ghost use Rattle.om_pragma.specs.Reading.{take_first, take_kind, take_chunk, take_end, mark_at, name_at, place, Gets, GetsAlways};
+ghost use Rattle.om_pragma.specs.Views.{part_and_rest};
 
 use crate::name::{Name, Number};
 use crate::stop::Stop;
@@ -33,8 +34,7 @@ pub fn take_first(tokens: &[Token]) -> Option<(&Token, &[Token])>
 
 /// The first token's span, if it is this punctuator, and the tokens behind it.
 pub fn take_mark(tokens: &[Token], wanted: Punctuator) -> Option<(Span, &[Token])>
-    ensures { option_map (λ x. (x.0, x.1.now)) result
-        ≡ take_kind (kinds.Punctuator wanted) tokens.now }
+    ensures { option_map part_and_rest result ≡ take_kind (kinds.Punctuator wanted) tokens.now }
 {
     let [first, rest @ ..] = tokens else {
         return None;
@@ -48,8 +48,7 @@ pub fn take_mark(tokens: &[Token], wanted: Punctuator) -> Option<(Span, &[Token]
 
 /// The first token's span, if it is this name, and the tokens behind it.
 pub fn take_named<'a>(tokens: &'a [Token], wanted: &[u8]) -> Option<(Span, &'a [Token])>
-    ensures { option_map (λ x. (x.0, x.1.now)) result
-        ≡ take_kind (kinds.Name wanted.now) tokens.now }
+    ensures { option_map part_and_rest result ≡ take_kind (kinds.Name wanted.now) tokens.now }
 {
     let [first, rest @ ..] = tokens else {
         return None;
@@ -63,8 +62,7 @@ pub fn take_named<'a>(tokens: &'a [Token], wanted: &[u8]) -> Option<(Span, &'a [
 
 /// The first token's span, if it is this keyword, and the tokens behind it.
 pub fn take_keyword(tokens: &[Token], wanted: Keyword) -> Option<(Span, &[Token])>
-    ensures { option_map (λ x. (x.0, x.1.now)) result
-        ≡ take_kind (kinds.Keyword wanted) tokens.now }
+    ensures { option_map part_and_rest result ≡ take_kind (kinds.Keyword wanted) tokens.now }
 {
     let [first, rest @ ..] = tokens else {
         return None;
@@ -78,7 +76,7 @@ pub fn take_keyword(tokens: &[Token], wanted: Keyword) -> Option<(Span, &[Token]
 
 /// The span of the `#` with which a run begins, and the tokens behind it.
 pub fn take_begin(tokens: &[Token]) -> Option<(Span, &[Token])>
-    ensures { option_map (λ x. (x.0, x.1.now)) result ≡ take_kind kinds.DirectiveBegin tokens.now }
+    ensures { option_map part_and_rest result ≡ take_kind kinds.DirectiveBegin tokens.now }
 {
     let [first, rest @ ..] = tokens else {
         return None;
@@ -104,7 +102,7 @@ pub fn take_end(tokens: &[Token]) -> Option<Span>
 
 /// The first token, if it is a constant of 1 or more, and the tokens behind it.
 pub fn take_chunk(tokens: &[Token]) -> Option<(Number, &[Token])>
-    ensures { option_map (λ x. (x.0, x.1.now)) result ≡ take_chunk tokens.now }
+    ensures { option_map part_and_rest result ≡ take_chunk tokens.now }
 {
     let [first, rest @ ..] = tokens else {
         return None;
@@ -118,14 +116,14 @@ pub fn take_chunk(tokens: &[Token]) -> Option<(Number, &[Token])>
 
 /// The span of this punctuator, which must stand first, and the tokens behind it.
 pub fn mark(tokens: &[Token], wanted: Punctuator) -> Result<(Span, &[Token]), Stop>
-    ensures { GetsAlways (λ x. (x.0, x.1.now)) result (mark_at wanted tokens.now) }
+    ensures { GetsAlways part_and_rest result (mark_at wanted tokens.now) }
 {
     take_mark(tokens, wanted).ok_or(Stop::Token(place(tokens)))
 }
 
 /// The name that must stand first, and the tokens behind it.
 pub fn name(alloc: Global, tokens: &[Token]) -> Result<(Name, &[Token]), Stop>
-    ensures { Gets (λ x. (x.0, x.1.now)) result (name_at tokens.now) }
+    ensures { Gets part_and_rest result (name_at tokens.now) }
 {
     match tokens {
         [first, rest @ ..] => match &first.kind {
