@@ -4,7 +4,6 @@ ghost use Rattle.std.specs.Prelude.{◌≡◌, ◌<◌, ◌↔◌, length, slice
 ghost use Rattle.om_lexer.specs.Characters.{is_blank, is_word_byte};
 
 /// Whether a byte is a letter, a digit or `_`.
-#[tactic(auto, unfolding(crate::specs::Characters::is_word_byte))]
 pub(crate) fn is_word_byte(byte: u8) -> bool
     ensures { result ≡ is_word_byte byte }
 {
@@ -12,7 +11,6 @@ pub(crate) fn is_word_byte(byte: u8) -> bool
 }
 
 /// Whether a byte is a space, a tab or a carriage return.
-#[tactic(auto, unfolding(crate::specs::Characters::is_blank))]
 pub(crate) fn is_blank(byte: u8) -> bool
     ensures { result ≡ is_blank byte }
 {

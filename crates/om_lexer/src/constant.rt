@@ -9,7 +9,6 @@ use crate::fault::FaultCode;
 const LARGEST: u32 = 2_147_483_647;
 
 /// The base that the first characters of a constant tell, and its digits.
-#[tactic(auto, unfolding(crate::specs::Constants::base_of, crate::specs::Constants::digits_of))]
 pub(crate) fn base_and_digits(text: &[u8]) -> (u32, &[u8])
     ensures base { result.0 ≡ base_of text.now }
     ensures digits { result.1.now ≡ digits_of text.now }

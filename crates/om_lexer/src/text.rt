@@ -20,7 +20,6 @@ fn is_plain(byte: u8) -> bool
 }
 
 // The character that a letter behind a backslash stands for.
-#[tactic(auto, unfolding(crate::specs::Texts::escaped))]
 fn escaped(letter: u8) -> Option<u8>
     ensures { result ≡ escaped letter }
 {
