@@ -269,7 +269,6 @@ fn postfixes(
 
 // A constant, an expression in parentheses, or what begins with a name, and the tokens behind
 // it.
-#[tactic(auto, unfolding(crate::specs::ExpressionReading::primary_step, crate::specs::ExpressionReading::paren_after, crate::specs::ExpressionReading::within))]
 #[cycle(expression)]
 fn primary(
     alloc: Global,
@@ -322,7 +321,6 @@ fn closed(
 }
 
 // A name, and its index or its arguments, where they stand behind it.
-#[tactic(auto, unfolding(crate::specs::ExpressionReading::named_after, crate::specs::ExpressionReading::index_after, crate::specs::ExpressionReading::within))]
 #[cycle(expression)]
 fn named_after(
     alloc: Global,
@@ -363,7 +361,6 @@ fn named_after(
 }
 
 // The rest of a call, of which the left parenthesis is taken.
-#[tactic(auto, unfolding(crate::specs::ExpressionReading::call_after, crate::specs::ExpressionReading::arguments_after, crate::specs::ExpressionReading::within))]
 #[cycle(expression)]
 fn call_after(
     alloc: Global,

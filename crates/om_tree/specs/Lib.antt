@@ -1,5 +1,6 @@
 pub mod Tree
 pub mod View
+pub mod CallViews
 pub mod Making
 pub mod Spelling
 pub mod Formed

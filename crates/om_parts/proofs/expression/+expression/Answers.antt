@@ -2,16 +2,20 @@ use Rattle.std.proofs.Common.{◌≡◌, ◌-◌, ◌∷◌, ◌++◌, [], Some,
 use Rattle.std.proofs.lemmas.List.{map_push}
 use Rattle.std.proofs.lemmas.Result.{err_from_is_err_and}
 use Rattle.om_lexer.specs.declared.token.Punctuator.TheVariants.{CloseParen}
-use Rattle.om_parts.specs.ExpressionReading.{argument_at, arguments_at, binary_at, binary_more, chain_at, expression_at}
+use Rattle.om_parts.specs.ExpressionReading.{argument_at, arguments_at, binary_at, binary_more, chain_at}
+use Rattle.om_parts.specs.ExpressionReading.{expression_at, call_after, arguments_after, within, named_after}
+use Rattle.om_parts.specs.ExpressionReading.{index_after, primary_step, paren_after, expression_after}
 use Rattle.om_parts.specs.ExpressionReading.{operand_at}
+use Rattle.om_parts.specs.Loops.{until_ends, until_fails, until_goes_on}
 use Rattle.om_parts.specs.Reading.{take_mark, too_deep}
+use Rattle.om_parts.specs.Taken.{mark_shorter}
+use Rattle.om_tree.specs.CallViews.{view_call}
 use Rattle.om_tree.specs.Tree.{Binary}
 use Rattle.om_tree.specs.View.{view_argument, view_expression}
+use Rattle.om_parts.proofs.Chains.{binary_on, binary_shorter, operand_shorter, argument_shorter, fails_or}
+use Rattle.om_parts.proofs.Chains.{binary_stops}
 use Rattle.om_parts.proofs.Chains.{chain_ends, chain_stops, chain_goes_on, no_binary, binary_over, binary_fails}
-use Rattle.om_parts.proofs.Chains.{binary_on, binary_shorter, operand_shorter, argument_shorter, fails_or, binary_stops}
 use Rattle.om_parts.proofs.Chains.{level_stops, level_ends, turn_goes_on}
-use Rattle.om_parts.specs.Loops.{until_ends, until_fails, until_goes_on}
-use Rattle.om_parts.specs.Taken.{mark_shorter}
 use Rattle.om_parts.proofs.expression.+expression.Goals as goal
 
 pub expression-returns : goal.expression-returns
@@ -157,3 +161,26 @@ arguments-further-preserved t c =
     (view_expression c.args.first.value) c.args.tokens.now) next c.in_ok-comma.after.now
     (sym c.in_default.ensures) c.in_ok-comma.ensures (argument_shorter c.args.budget.beyond c.args.budget.turns
     c.args.budget.room c.further.rest.now next c.in_ok-comma.after.now c.in_ok-comma.ensures) c.further.invariant)
+
+pub call_after-returns-in_err-within-2 : goal.call_after-returns-in_err-within-2
+unfolding call_after arguments_after within
+call_after-returns-in_err-within-2 t c = search rules
+
+pub named_after-returns-in_err-index : goal.named_after-returns-in_err-index
+unfolding named_after index_after within
+named_after-returns-in_err-index t c = search rules
+
+pub named_after-returns-in-Some-take_mark : goal.named_after-returns-in-Some-take_mark
+unfolding named_after index_after within
+named_after-returns-in-Some-take_mark t c = search rules
+
+pub primary-returns-in_err-inner : goal.primary-returns-in_err-inner
+unfolding primary_step paren_after within
+primary-returns-in_err-inner t c = search rules
+
+pub call_after-returns : goal.call_after-returns
+unfolding call_after arguments_after within
+call_after-returns t c = rw
+    (sym c.in_default.ensures, c.in_ok-first.ensures, c.in_ok-arguments.ensures, c.in_ok-within-2.ensures,
+    sym (view_call c.args.name c.args.left c.in_ok-arguments.arguments c.in_ok-arguments.right))
+    c.before-2.ensures

@@ -1,4 +1,4 @@
--- The tree of a call.
+-- Matter of proofs, for om_parts too: the tree of a call.
 use Rattle.std.proofs.Common.{◌≡◌, ap, map, sym, ◌∙◌}
 use Rattle.om_tree.specs.declared.tree.Expression.{fold-roll-Expression}
 use Rattle.om_tree.specs.declared.tree.Expression.TheOpen.{Expression-F}
