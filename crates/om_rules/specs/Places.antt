@@ -8,7 +8,7 @@ use Rattle.om_tree.specs.Tree.{Conditional, Assign, StatementTree, LocalDeclarat
 use Rattle.om_tree.specs.Tree.{IfElse, While, Do, For, Return, Break, Continue, Construct, StandAlone, Sections}
 use Rattle.om_tree.specs.Tree.{HeadTree, ItemTree, Declaration, Prototype, Function}
 
-unfoldable pub expression_first : ExpressionTree → Span
+abbrev pub expression_first : ExpressionTree → Span
 expression_first (Name n) = n.span
 expression_first (Constant n) = n.span
 expression_first (Text t) = t.span

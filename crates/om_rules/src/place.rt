@@ -8,7 +8,6 @@ use om_lexer::Span;
 use om_tree::{Expression, FunctionHead, ResultType, Statement};
 
 /// The span of an expression's first token.
-#[tactic(auto, unfolding(crate::specs::Places::expression_first))]
 pub fn expression_first(expression: &Expression) -> Span
     ensures { result ≡ expression_first (view_expression expression.now) }
 {
