@@ -23,7 +23,6 @@ use om_tree::{Argument, AssignOperator, Expression, Name, Number, PrefixOperator
 use std::alloc::Global;
 
 /// An expression, whose value is used or not.
-#[tactic(auto, unfolding(om_rules::specs::ExpressionRules::expression_breaches, om_rules::specs::Resolution::resolved_expression))]
 #[cycle(expression)]
 pub fn resolve_expression(
     alloc: Global,
@@ -194,7 +193,6 @@ fn resolve_unary(
 }
 
 // What is assigned to.
-#[tactic(auto, unfolding(om_rules::specs::ExpressionRules::target_breaches, om_rules::specs::Resolution::resolved_target))]
 #[cycle(expression)]
 fn resolve_target(
     alloc: Global,
@@ -273,7 +271,6 @@ fn resolve_print(
 }
 
 // The arguments of a `printf`, of which the first is its format: the values behind it.
-#[tactic(auto, using(crate::proofs::Arguments::printed_begin, crate::proofs::Arguments::printed_format), unfolding(om_rules::specs::ExpressionRules::printed_breaches))]
 #[cycle(expression)]
 fn resolve_printed(
     alloc: Global,
@@ -329,7 +326,6 @@ fn resolve_own_call(
 }
 
 // The values of a call.
-#[tactic(auto, using(crate::proofs::Arguments::made_none, crate::proofs::Arguments::made_all), unfolding(om_rules::specs::ExpressionRules::arguments_breaches))]
 #[cycle(expression)]
 fn resolve_values(
     alloc: Global,

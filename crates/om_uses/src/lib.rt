@@ -1,6 +1,6 @@
 //! Names and rules: the uses of names, in expressions, declarations, directives and the bounds of loops.
 //! Each has its breaches or its resolution.
-#![tactic(auto, unfolding(om_rules::specs::ExpressionRules::is_target, om_rules::specs::ExpressionRules::leading_breaches, om_rules::specs::DirectiveRules::clause_breaches, om_rules::specs::DirectiveRules::after_clause, om_rules::specs::StatementRules::local_breaches, om_rules::specs::StatementResolution::resolved_clause, om_rules::specs::StatementResolution::resolved_declarator, om_rules::specs::StatementResolution::resolved_loop))]
+#![tactic(auto, unfolding(om_rules::specs::ExpressionRules::is_target, om_rules::specs::ExpressionRules::leading_breaches, om_rules::specs::DirectiveRules::clause_breaches, om_rules::specs::DirectiveRules::after_clause, om_rules::specs::StatementRules::local_breaches, om_rules::specs::StatementResolution::resolved_clause, om_rules::specs::StatementResolution::resolved_declarator, om_rules::specs::StatementResolution::resolved_loop, om_rules::specs::ExpressionRules::expression_breaches, om_rules::specs::Resolution::resolved_expression, om_rules::specs::ExpressionRules::target_breaches, om_rules::specs::Resolution::resolved_target, om_rules::specs::ExpressionRules::printed_breaches, om_rules::specs::ExpressionRules::arguments_breaches))]
 
 mod bounds;
 mod call;
