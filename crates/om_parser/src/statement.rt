@@ -40,7 +40,6 @@ pub struct Room {
 }
 
 /// The block of a function, and the tokens behind it.
-#[tactic(auto, unfolding(crate::specs::StatementReading::block_at, crate::specs::StatementReading::block_with, crate::specs::StatementReading::block_items_after))]
 pub(crate) fn block(alloc: Global, tokens: &[Token]) -> Result<(Block, &[Token]), SourceFault>
     ensures { Reads (λ x. (view_block x.0, x.1.now)) result (block_at accepted tokens.now) }
 {
@@ -85,7 +84,6 @@ fn items(
 }
 
 // A declaration, a statement or a directive that stands alone, and the tokens behind it.
-#[tactic(auto, unfolding(crate::specs::StatementReading::block_item_at))]
 #[cycle(statement)]
 fn block_item(
     alloc: Global,
@@ -102,7 +100,6 @@ fn block_item(
 }
 
 // A statement or a directive that stands alone, and the tokens behind it.
-#[tactic(auto, unfolding(crate::specs::ConstructReading::part_item_at, crate::specs::ConstructReading::item_of, crate::specs::ConstructReading::misplaced))]
 #[cycle(statement)]
 fn part_item(
     alloc: Global,
@@ -121,7 +118,6 @@ fn part_item(
 }
 
 // A statement, and the tokens behind it.
-#[tactic(auto, unfolding(crate::specs::StatementReading::statement_at, crate::specs::StatementReading::statement_of))]
 #[cycle(statement)]
 fn statement(
     alloc: Global,
@@ -148,7 +144,6 @@ fn statement(
 }
 
 // A block, of which the left brace is taken, and the tokens behind it.
-#[tactic(auto, unfolding(crate::specs::StatementReading::block_after, crate::specs::StatementReading::block_items_after))]
 #[cycle(statement)]
 fn block_after(
     alloc: Global,
@@ -169,7 +164,6 @@ fn block_after(
 }
 
 // A statement that begins with an opening, and the tokens behind it.
-#[tactic(auto, unfolding(crate::specs::StatementReading::headed_of, crate::specs::StatementReading::body_after))]
 #[cycle(statement)]
 fn headed(
     alloc: Global,
@@ -187,7 +181,6 @@ fn headed(
 }
 
 // What follows the body of a statement.
-#[tactic(auto, unfolding(crate::specs::StatementReading::behind_body, crate::specs::StatementReading::else_after))]
 #[cycle(statement)]
 fn behind_body(
     alloc: Global,
@@ -225,7 +218,6 @@ fn take_else(tokens: &[Token]) -> Option<(Span, &[Token])>
 }
 
 // A `do`, of which the word is taken, and the tokens behind it.
-#[tactic(auto, unfolding(crate::specs::StatementReading::do_after))]
 #[cycle(statement)]
 fn do_after(
     alloc: Global,
@@ -240,7 +232,6 @@ fn do_after(
 }
 
 // A construct whose line stands first, and the tokens behind it.
-#[tactic(auto, unfolding(crate::specs::ConstructReading::line_of, crate::specs::ConstructReading::misplaced))]
 #[cycle(statement)]
 fn directive(
     alloc: Global,
@@ -258,7 +249,6 @@ fn directive(
 }
 
 // A construct, and the tokens behind it.
-#[tactic(auto, unfolding(crate::specs::ConstructReading::construct_at, crate::specs::ConstructReading::construct_after))]
 #[cycle(statement)]
 fn construct(
     alloc: Global,
@@ -279,7 +269,6 @@ fn construct(
 }
 
 // A construct with one statement, of which the line is taken, and the tokens behind it.
-#[tactic(auto, unfolding(crate::specs::ConstructReading::constructed_after))]
 #[cycle(statement)]
 fn constructed(
     alloc: Global,
@@ -295,7 +284,6 @@ fn constructed(
 }
 
 // An `atomic`, of which the line is taken, and the tokens behind it.
-#[tactic(auto, unfolding(crate::specs::ConstructReading::atomic_after))]
 #[cycle(statement)]
 fn atomic(
     alloc: Global,
@@ -315,7 +303,6 @@ fn atomic(
 }
 
 // A `sections`, of which the line is taken, and the tokens behind it.
-#[tactic(auto, unfolding(crate::specs::ConstructReading::sections_after))]
 #[cycle(statement)]
 fn sections(
     alloc: Global,
@@ -331,7 +318,6 @@ fn sections(
 }
 
 // The braces of `sections`, the parts in them, and the tokens behind them.
-#[tactic(auto, unfolding(crate::specs::StatementReading::parts_at, crate::specs::StatementReading::parts_after))]
 #[cycle(statement)]
 fn braces(
     alloc: Global,
@@ -379,7 +365,6 @@ fn parts(alloc: Global, tokens: &[Token], room: Room) -> Result<(Vec<Part>, &[To
 }
 
 // A part of `sections`: its `section`, if it has one, its items, and the tokens behind them.
-#[tactic(auto, unfolding(crate::specs::ConstructReading::part_at))]
 #[cycle(statement)]
 fn part(alloc: Global, tokens: &[Token], room: Room) -> Result<(Part, &[Token]), SourceFault>
     ensures { Reads (λ x. (view_part x.0, x.1.now)) result

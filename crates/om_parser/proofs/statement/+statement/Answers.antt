@@ -1,16 +1,23 @@
-use Rattle.std.proofs.Common.{◌∙◌, ◌≡◌, [], ◌∷◌, ◌++◌, length, map, not, ap, sym, arith, rules}
-use Rattle.std.proofs.lemmas.Result.{err_from_is_err_and}
+use Rattle.std.proofs.Common.{refl, ◌∙◌, ◌≡◌, [], ◌∷◌, ◌++◌, length, map, not, ap, sym, arith, rules}
+use Rattle.std.proofs.lemmas.Grind.{common_steps}
 use Rattle.std.proofs.lemmas.List.{map_push}
+use Rattle.std.proofs.lemmas.Result.{err_from_is_err_and}
 use Rattle.om_lexer.specs.declared.token.Punctuator.TheVariants.{CloseBrace}
-use Rattle.om_tree.specs.Limits.{accepted}
+use Rattle.om_parser.specs.ConstructReading.{ends_part, ends_parts, part_at, part_item_at, atomic_after}
+use Rattle.om_parser.specs.ConstructReading.{construct_at, construct_after, constructed_after, line_of, misplaced}
+use Rattle.om_parser.specs.ConstructReading.{item_of, sections_after}
+use Rattle.om_parser.specs.OneOrMore.{one_or_more}
+use Rattle.om_parser.specs.StatementReading.{block_item_at, statement_at, behind_body, else_after, block_after}
+use Rattle.om_parser.specs.StatementReading.{block_items_after, parts_at, parts_after, do_after, statement_of}
+use Rattle.om_parser.specs.StatementReading.{headed_of, body_after}
+use Rattle.om_parts.specs.Loops.{until_begins, until_ends, until_fails, until_goes_on}
 use Rattle.om_parts.specs.PartReading.{parts}
 use Rattle.om_parts.specs.Reading.{take_mark}
 use Rattle.om_parts.specs.Repetition.{until}
-use Rattle.om_parser.specs.ConstructReading.{ends_part, ends_parts, part_at, part_item_at}
-use Rattle.om_parser.specs.OneOrMore.{one_or_more}
-use Rattle.om_parser.specs.StatementReading.{block_item_at, statement_at}
-use Rattle.om_tree.specs.View.{view_part, view_statement}
-use Rattle.om_parts.specs.Loops.{until_begins, until_ends, until_fails, until_goes_on}
+use Rattle.om_tree.specs.Limits.{accepted}
+use Rattle.om_tree.specs.Tree.{PartTree, StatementTree}
+use Rattle.om_tree.specs.View.{part_layer, statement_layer, view_part, view_statement}
+use Rattle.om_tree.specs.declared.tree.Part.{fold-roll-Part}
 use Rattle.om_parser.proofs.OneOrMore.{more_begins, more_ends, more_fails, more_goes_on}
 use Rattle.om_parser.proofs.Shorter.{brace_shorter, block_item_shorter, part_item_shorter, part_shorter}
 use Rattle.om_parser.proofs.Started.{block_statement}
@@ -157,3 +164,193 @@ statement-returns-in-Block t c =
     c.in-Some.statements c.args.room.blocks c.args.tokens.now c.first-item.result c.in-len1-up.len_at_least
     c.first-item.is
     (omega (arith, c.in-Some.ensures)) (sym c.start_of-start.ensures ∙ c.in-Block.is) c.block_after.ensures
+
+pub atomic-returns-in_err-body : goal.atomic-returns-in_err-body
+unfolding atomic_after
+atomic-returns-in_err-body t c = search rules
+
+pub atomic-returns : goal.atomic-returns
+unfolding atomic_after
+atomic-returns t c = search rules
+
+pub behind_body-returns-in_err-else_body-in-Some : goal.behind_body-returns-in_err-else_body-in-Some
+unfolding behind_body else_after
+behind_body-returns-in_err-else_body-in-Some t c = search rules
+
+pub behind_body-returns-in_ok-else_body-in-Some : goal.behind_body-returns-in_ok-else_body-in-Some
+unfolding behind_body else_after
+behind_body-returns-in_ok-else_body-in-Some t c = search rules
+
+pub behind_body-returns-in-None : goal.behind_body-returns-in-None
+unfolding behind_body else_after
+behind_body-returns-in-None t c = search rules
+
+pub behind_body-returns-in-While : goal.behind_body-returns-in-While
+unfolding behind_body else_after
+behind_body-returns-in-While t c = search rules
+
+pub behind_body-returns-in-For : goal.behind_body-returns-in-For
+unfolding behind_body else_after
+behind_body-returns-in-For t c = search rules
+
+pub block_after-returns-in_default : goal.block_after-returns-in_default
+unfolding block_after block_items_after
+block_after-returns-in_default t c = search rules
+
+pub block_after-returns-in_err-items : goal.block_after-returns-in_err-items
+unfolding block_after block_items_after
+block_after-returns-in_err-items t c = search rules
+
+pub block_after-returns : goal.block_after-returns
+unfolding block_after block_items_after
+block_after-returns t c = search rules
+
+pub block_item-returns-in-Some : goal.block_item-returns-in-Some
+unfolding block_item_at
+block_item-returns-in-Some t c = search rules
+
+pub block_item-returns-in-None : goal.block_item-returns-in-None
+unfolding block_item_at
+block_item-returns-in-None t c = search rules
+
+pub braces-returns-in_err-open_brace : goal.braces-returns-in_err-open_brace
+unfolding parts_at parts_after
+braces-returns-in_err-open_brace t c = search rules
+
+pub braces-returns-in_default : goal.braces-returns-in_default
+unfolding parts_at parts_after
+braces-returns-in_default t c = search rules
+
+pub braces-returns-in_default-checked_sub : goal.braces-returns-in_default-checked_sub
+unfolding parts_at parts_after
+braces-returns-in_default-checked_sub t c = search rules
+
+pub braces-returns-in_err-parts : goal.braces-returns-in_err-parts
+unfolding parts_at parts_after
+braces-returns-in_err-parts t c = search rules
+
+pub braces-returns-in_err-close_brace : goal.braces-returns-in_err-close_brace
+unfolding parts_at parts_after
+braces-returns-in_err-close_brace t c = search rules
+
+pub braces-returns : goal.braces-returns
+unfolding parts_at parts_after
+braces-returns t c = search rules
+
+pub construct-returns-in_err-directive : goal.construct-returns-in_err-directive
+unfolding construct_at construct_after
+construct-returns-in_err-directive t c = search rules
+
+pub construct-returns-then-has_parts : goal.construct-returns-then-has_parts
+unfolding construct_at construct_after
+construct-returns-then-has_parts t c = search rules
+
+pub construct-returns-then-is_atomic : goal.construct-returns-then-is_atomic
+unfolding construct_at construct_after
+construct-returns-then-is_atomic t c = search rules
+
+pub construct-returns-else-is_atomic : goal.construct-returns-else-is_atomic
+unfolding construct_at construct_after
+construct-returns-else-is_atomic t c = search rules
+
+pub constructed-returns-in_err-body : goal.constructed-returns-in_err-body
+unfolding constructed_after
+constructed-returns-in_err-body t c = search rules
+
+pub constructed-returns : goal.constructed-returns
+unfolding constructed_after
+constructed-returns t c = search rules
+
+pub directive-returns-in-Construct : goal.directive-returns-in-Construct
+unfolding line_of misplaced
+directive-returns-in-Construct t c = search rules
+
+pub directive-returns-in-Unknown : goal.directive-returns-in-Unknown
+unfolding line_of misplaced
+directive-returns-in-Unknown t c = search rules
+
+pub directive-returns-in_default : goal.directive-returns-in_default
+unfolding line_of misplaced
+directive-returns-in_default t c = search rules
+
+pub do_after-returns-in_err-body : goal.do_after-returns-in_err-body
+unfolding do_after
+do_after-returns-in_err-body t c = search rules
+
+pub statement-returns-in_default : goal.statement-returns-in_default
+unfolding statement_at statement_of
+statement-returns-in_default t c = search rules
+
+pub statement-returns-in_default-checked_sub : goal.statement-returns-in_default-checked_sub
+unfolding statement_at statement_of
+statement-returns-in_default-checked_sub t c = search rules
+
+pub statement-returns-in-Directive : goal.statement-returns-in-Directive
+unfolding statement_at statement_of
+statement-returns-in-Directive t c = search rules
+
+pub statement-returns-in-If : goal.statement-returns-in-If
+unfolding statement_at statement_of
+statement-returns-in-If t c = grind (arith, common_steps)
+
+pub statement-returns-in-Do : goal.statement-returns-in-Do
+unfolding statement_at statement_of
+statement-returns-in-Do t c = grind (arith, common_steps)
+
+pub statement-returns-in_default-start : goal.statement-returns-in_default-start
+unfolding statement_at statement_of
+statement-returns-in_default-start t c = grind (arith, common_steps)
+
+pub do_after-returns : goal.do_after-returns
+unfolding do_after
+do_after-returns t c = search rules
+
+pub headed-returns-in_err-opening : goal.headed-returns-in_err-opening
+unfolding headed_of body_after
+headed-returns-in_err-opening t c = search rules
+
+pub headed-returns-in_err-body : goal.headed-returns-in_err-body
+unfolding headed_of body_after
+headed-returns-in_err-body t c = search rules
+
+pub headed-returns : goal.headed-returns
+unfolding headed_of body_after
+headed-returns t c = search rules
+
+pub part-returns-in_err-section : goal.part-returns-in_err-section
+unfolding part_at
+part-returns-in_err-section t c = search rules
+
+pub part-returns-in_err-items : goal.part-returns-in_err-items
+unfolding part_at
+part-returns-in_err-items t c = search rules
+
+pub part_item-returns-in-StandAlone : goal.part_item-returns-in-StandAlone
+unfolding part_item_at item_of misplaced
+part_item-returns-in-StandAlone t c = search rules
+
+pub part_item-returns-in-Section : goal.part_item-returns-in-Section
+unfolding part_item_at item_of misplaced
+part_item-returns-in-Section t c = search rules
+
+pub part_item-returns-in-Unknown : goal.part_item-returns-in-Unknown
+unfolding part_item_at item_of misplaced
+part_item-returns-in-Unknown t c = search rules
+
+pub part_item-returns-in_default : goal.part_item-returns-in_default
+unfolding part_item_at item_of misplaced
+part_item-returns-in_default t c = search rules
+
+pub sections-returns-in_err-open_brace : goal.sections-returns-in_err-open_brace
+unfolding sections_after
+sections-returns-in_err-open_brace t c = search rules
+
+pub sections-returns : goal.sections-returns
+unfolding sections_after
+sections-returns t c = search rules
+
+pub part-returns : goal.part-returns
+unfolding part_at
+part-returns t c = rw
+    (c.in_ok-section.ensures, c.in_ok-items.ensures, fold-roll-Part StatementTree PartTree statement_layer part_layer _)
+    refl
