@@ -146,6 +146,7 @@ ReplaysTo-removed r s before k later now p apart =
 named_or : (undone e : Entry) (o : Option Obj) (next : Option Obstacle)
     → reply_against undone (option_or (option_map (λ q. record { entry = e; object = q }) o) next)
     ≡ conflict_or e o (reply_against undone next)
+unfolding reply_against
 named_or undone e (Some q) next = refl
 named_or undone e None next = refl
 
@@ -153,6 +154,7 @@ pub first_kept_conflict-is : (r : Rules) (footprint : List Access) (s : State) (
     (undone : Entry) → ReplaysTo r s ks now
     → reply_against undone (first_conflict r footprint s (entries_of ks))
     ≡ first_kept_conflict footprint ks (Undone undone.serial undone.line)
+unfolding reply_against
 first_kept_conflict-is r footprint s [] now undone h = refl
 first_kept_conflict-is r footprint s (k ∷ ks) now undone h =
     named_or undone k.entry (conflict_of footprint (step_at r s (label_of k.entry)).footprint)

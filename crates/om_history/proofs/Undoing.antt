@@ -7,7 +7,8 @@ use Rattle.om_values.specs.declared.step.Step.{Step}
 use Rattle.om_values.specs.declared.step.Entry.{Entry}
 use Rattle.om_values.specs.Rules.{Rules, step_at}
 use Rattle.om_history.specs.Runs.{History, state_of_entries, entry_for, reply_for, history_with, reply_to_step}
-use Rattle.om_history.specs.Runs.{last_or_first, last_place, reply_at, reply_to_undo, history_without, after_undo}
+use Rattle.om_history.specs.Runs.{last_or_first, last_place, reply_against, reply_at, reply_to_undo}
+use Rattle.om_history.specs.Runs.{history_without, after_undo}
 use Rattle.om_history.specs.Runs.{Undoes}
 use Rattle.om_code.specs.declared.frame.Fault.{Fault}
 use Rattle.om_history.specs.declared.reply.UndoReply.TheVariants.{Undone}
@@ -22,6 +23,7 @@ last_place-push w (x ∷ xs) e h = ap (λ o. last_or_first o (x.worker == w) x (
 -- the last entry can be undone
 pub undo-push : (r : Rules) (es : List Entry) (e : Entry) (n : ℕ)
     → reply_to_undo r (record { entries = es ++ e ∷ []; made = n }) e.worker ≡ Undone e.serial e.line
+unfolding reply_against
 undo-push r es e n = ap (reply_at r) (last_place-push e.worker es e refl)
 
 after-push : (r : Rules) (es : List Entry) (e : Entry) (n : ℕ)

@@ -108,7 +108,7 @@ first_conflict r footprint s (e ∷ es) =
     (first_conflict r footprint (state_after_step r s (label_of e)) es)
 
 -- what an undo of an entry replies: it names what stands in the way, or else the entry is undone
-abbrev pub reply_against : Entry → Option Obstacle → UndoReply
+unfoldable pub reply_against : Entry → Option Obstacle → UndoReply
 reply_against e (Some it) = Conflict it.entry.serial it.entry.worker it.object
 reply_against e None = Undone e.serial e.line
 

@@ -11,7 +11,8 @@ use Rattle.om_values.specs.Rules.{Rules, step_at}
 use Rattle.om_code.specs.declared.frame.Fault.{Fault}
 use Rattle.om_history.specs.declared.reply.StepReply.TheVariants as step_reply
 use Rattle.om_history.specs.Runs.{History, after_step, after_undo, entry_for, history_with, last_or_first, last_place}
-use Rattle.om_history.specs.Runs.{history_without, reply_at, reply_for, reply_to_step, state_of_entries}
+use Rattle.om_history.specs.Runs.{history_without, reply_against, reply_at, reply_for, reply_to_step}
+use Rattle.om_history.specs.Runs.{state_of_entries}
 use Rattle.om_undo.specs.Machines.{MachineView, rules_for}
 use Rattle.om_schedules.specs.Entries.{workers_of}
 
@@ -54,6 +55,7 @@ last_place-push w (x ∷ xs) e h = ap (λ o. last_or_first o (x.worker == w) x (
 -- an undo of the last entry's worker takes that entry out
 without_last : (r : Rules) (h : History) (es : List Entry) (e : Entry) (w : ℕ) → h.entries ≡ es ++ e ∷ []
     → e.worker ≡ w → (after_undo r h w).entries ≡ es
+unfolding reply_against
 without_last r h es e w is own =
     let at = ap (last_place w) is ∙ last_place-push w es e own in
     ap (λ p. (history_without h p (reply_at r p)).entries) at ∙ append-nil es
