@@ -1,5 +1,7 @@
 -- The tree of a value of the program.
-use Rattle.std.specs.Prelude.{Option, map, option_map}
+use Rattle.std.specs.Prelude.{List, Option, Vec, map, option_map}
+use Rattle.std.specs.Global.{Box}
+use Rattle.std.specs.declared.alloc.Global.{Global}
 use Rattle.om_lexer.specs.declared.token.Span.{Span}
 use Rattle.om_pragma.specs.declared.tree.Directive.{Directive}
 use Rattle.om_pragma.specs.Expressions.{map_directive}
@@ -27,7 +29,7 @@ use Rattle.om_tree.specs.declared.tree.Unit as units
 use Rattle.om_tree.specs.Tree as trees
 use Rattle.om_tree.specs.Tree.{ExpressionTree, InitializerTree, DeclaratorTree, DeclarationTree, ConditionTree}
 use Rattle.om_tree.specs.Tree.{ForStartTree, ForHeadTree, StatementTree, BlockTree, ParametersTree, HeadTree}
-use Rattle.om_tree.specs.Tree.{FunctionTree, ItemTree, UnitTree, PartTree}
+use Rattle.om_tree.specs.Tree.{FunctionTree, ItemTree, UnitTree, PartTree, ArgumentsTree, StatementsTree}
 
 -- one layer of an expression, whose parts are trees already
 abbrev pub expression_layer : Expression-F ExpressionTree → ExpressionTree
@@ -51,6 +53,10 @@ view_expression = fold-Expression ExpressionTree expression_layer
 -- an argument behind its comma, if it has one
 abbrev pub view_argument : Option Span × Expression → Option Span × ExpressionTree
 view_argument a = (a.0, view_expression a.1)
+
+-- the arguments of a call (C17 6.5.2.2)
+abbrev pub view_arguments : List (Option Span × Expression) → ArgumentsTree
+view_arguments values = trees.arguments (map view_argument values)
 
 -- an initializer, whose value is viewed so
 abbrev pub view_initializer : {I T : Type 0} → (I → T) → Initializer I → InitializerTree T
@@ -149,6 +155,22 @@ view_statement = fold-Statement StatementTree PartTree statement_layer part_laye
 -- a part of `sections` without boxes and capacities
 abbrev pub view_part : Part → PartTree
 view_part = fold-Part StatementTree PartTree statement_layer part_layer
+
+-- the condition that stands in a statement, out of its box
+abbrev pub view_test : Box Condition → ConditionTree
+view_test condition = view_condition condition.value
+
+-- the directive that stands before a statement, out of its box
+abbrev pub view_line : Box (Directive Expression) → Directive ExpressionTree
+view_line directive = view_directive directive.value
+
+-- the statement that stands in another one, out of its box
+abbrev pub view_inner : Box Statement → StatementTree
+view_inner body = view_statement body.value
+
+-- the statements that stand in a block
+abbrev pub view_braced : Vec Statement Global → StatementsTree
+view_braced items = trees.statements (map view_statement items.items)
 
 -- a block without boxes and capacities
 abbrev pub view_block : blocks.Block → BlockTree

@@ -3,10 +3,9 @@
 //! The functions of the parser's recursion hold a statement and its parts in boxes, and leave it to
 //! these to put them together, so that their frames are small: none of these may be inlined into them.
 
-ghost use Rattle.std.specs.Prelude.{map};
-ghost use Rattle.om_tree.specs.Making.{MakesStatement};
-ghost use Rattle.om_tree.specs.Tree as trees;
-ghost use Rattle.om_tree.specs.View.{view_condition, view_directive, view_for_head, view_part, view_statement};
+ghost use Rattle.om_tree.specs.Making.{if_else_of, sections_of, MakesStatement};
+ghost use Rattle.om_tree.specs.Tree.{Block, Construct, For, If, While};
+ghost use Rattle.om_tree.specs.View.{view_braced, view_for_head, view_inner, view_line, view_test};
 
 use crate::boxed::boxed_before;
 use crate::tree::{Condition, Expression, ForHead, Part, Statement};
@@ -23,8 +22,7 @@ pub fn block_of<'a>(
     close_brace: Span,
     rest: &'a [Token],
 ) -> Result<(Box<Statement>, &'a [Token]), SourceFault>
-    ensures { MakesStatement result (trees.Block open_brace
-        (trees.statements (map view_statement items.items)) close_brace) rest.now }
+    ensures { MakesStatement result (Block open_brace (view_braced items) close_brace) rest.now }
 {
     let block = Statement::Block {
         open_brace,
@@ -43,8 +41,7 @@ pub fn if_of<'a>(
     body: Box<Statement>,
     rest: &'a [Token],
 ) -> Result<(Box<Statement>, &'a [Token]), SourceFault>
-    ensures { MakesStatement result (trees.If at (view_condition condition.value)
-        (view_statement body.value)) rest.now }
+    ensures { MakesStatement result (If at (view_test condition) (view_inner body)) rest.now }
 {
     let statement = Statement::If {
         word: at,
@@ -71,9 +68,7 @@ pub fn if_else_of<'a>(
     branches: Branches,
     rest: &'a [Token],
 ) -> Result<(Box<Statement>, &'a [Token]), SourceFault>
-    ensures { MakesStatement result (trees.IfElse at (view_condition condition.value)
-        (view_statement branches.body.value) branches.else_word
-        (view_statement branches.else_body.value)) rest.now }
+    ensures { MakesStatement result (if_else_of at condition branches) rest.now }
 {
     let if_else = Statement::IfElse {
         word: at,
@@ -94,8 +89,7 @@ pub fn while_of<'a>(
     body: Box<Statement>,
     rest: &'a [Token],
 ) -> Result<(Box<Statement>, &'a [Token]), SourceFault>
-    ensures { MakesStatement result (trees.While at (view_condition condition.value)
-        (view_statement body.value)) rest.now }
+    ensures { MakesStatement result (While at (view_test condition) (view_inner body)) rest.now }
 {
     let statement = Statement::While {
         word: at,
@@ -113,8 +107,7 @@ pub fn for_of<'a>(
     body: Box<Statement>,
     rest: &'a [Token],
 ) -> Result<(Box<Statement>, &'a [Token]), SourceFault>
-    ensures { MakesStatement result (trees.For (view_for_head head.value)
-        (view_statement body.value)) rest.now }
+    ensures { MakesStatement result (For (view_for_head head.value) (view_inner body)) rest.now }
 {
     boxed_before(alloc, Statement::For { head, body }, rest)
 }
@@ -127,8 +120,7 @@ pub fn construct_of<'a>(
     body: Box<Statement>,
     rest: &'a [Token],
 ) -> Result<(Box<Statement>, &'a [Token]), SourceFault>
-    ensures { MakesStatement result (trees.Construct (view_directive directive.value)
-        (view_statement body.value)) rest.now }
+    ensures { MakesStatement result (Construct (view_line directive) (view_inner body)) rest.now }
 {
     boxed_before(alloc, Statement::Construct { directive, body }, rest)
 }
@@ -141,8 +133,7 @@ pub fn sections_of<'a>(
     braces: (Span, Vec<Part>, Span),
     rest: &'a [Token],
 ) -> Result<(Box<Statement>, &'a [Token]), SourceFault>
-    ensures { MakesStatement result (trees.Sections (view_directive directive.value) braces.0
-        (trees.parts (map view_part braces.1.items)) braces.2) rest.now }
+    ensures { MakesStatement result (sections_of directive braces) rest.now }
 {
     let (open_brace, parts, close_brace) = braces;
     let sections = Statement::Sections {

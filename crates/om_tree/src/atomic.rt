@@ -1,10 +1,9 @@
 //! Which statements an `atomic` may have (OpenMP API 5.2, 4.3.1.3).
 
-ghost use Rattle.std.specs.Prelude.{◌≡◌, map};
+ghost use Rattle.std.specs.Prelude.{◌≡◌};
 ghost use Rattle.std.specs.Str.{bytes_eq};
 ghost use Rattle.om_tree.specs.AtomicForms.{same_expression, contains, arguments_contain, same_arguments, is_place, is_atomic_operator, is_one_operand, is_operation_on, is_step, is_updated, is_update, is_read, is_write, has_atomic_form};
-ghost use Rattle.om_tree.specs.Tree.{arguments};
-ghost use Rattle.om_tree.specs.View.{view_argument, view_expression, view_statement};
+ghost use Rattle.om_tree.specs.View.{view_arguments, view_expression, view_statement};
 
 use crate::tree::{
     Argument, AssignOperator, BinaryOperator, Expression, PrefixOperator, Statement,
@@ -137,8 +136,7 @@ pub fn same_expression(one: &Expression, other: &Expression) -> bool
 // Whether these are as many arguments as the others, and each is the same as the other's.
 #[cycle(same)]
 fn same_arguments(values: &[Argument], others: &[Argument]) -> bool
-    ensures { result ≡ same_arguments (arguments (map view_argument values.now))
-        (arguments (map view_argument others.now)) }
+    ensures { result ≡ same_arguments (view_arguments values.now) (view_arguments others.now) }
 {
     let mut rest = others;
     for (_, value) in values {
@@ -189,8 +187,7 @@ fn contains(expression: &Expression, target: &Expression) -> bool
 // Whether one of these arguments, or a part of it, is the same as the target.
 #[cycle(contains)]
 fn any_contains(values: &[Argument], target: &Expression) -> bool
-    ensures { result ≡ arguments_contain (view_expression target.now)
-        (arguments (map view_argument values.now)) }
+    ensures { result ≡ arguments_contain (view_expression target.now) (view_arguments values.now) }
 {
     for (_, value) in values {
         if contains(value, target) {
