@@ -99,9 +99,13 @@ abbrev pub text_of : TokenKind → Span → Option texts.Text
 text_of (kinds.Text value) s = Some (record { value = value; span = s })
 text_of _ s = None
 
+-- a text, if one stands first
+abbrev pub take_any_text : List Token → Option (texts.Text × List Token)
+take_any_text = take (λ t. text_of t.kind t.span)
+
 -- a text, where the function is `printf`
 unfoldable pub take_text : names.Name → List Token → Option (texts.Text × List Token)
-take_text n ts = if bytes_eq n.text (codes "printf") then take (λ t. text_of t.kind t.span) ts else None
+take_text n ts = if bytes_eq n.text (codes "printf") then take_any_text ts else None
 
 -- ---- one step of each part of the grammar, over the readers of its parts
 

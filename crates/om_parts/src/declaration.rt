@@ -1,15 +1,14 @@
 //! Declarations of variables (C17 6.7).
 
-ghost use Rattle.std.specs.Prelude.{ℕ, None, Some, length, map};
-ghost use Rattle.om_lexer.specs.declared.token.Punctuator.TheVariants.{Semicolon};
+ghost use Rattle.std.specs.Prelude.{ℕ};
 ghost use Rattle.om_tree.specs.Limits.{accepted};
-ghost use Rattle.om_parts.specs.Reading.{take_mark, LeavesNoMore, Makes, Reader, Reads, ReadsAlways};
-ghost use Rattle.om_parts.specs.Repetition.{until};
+ghost use Rattle.om_parts.specs.Reading.{LeavesNoMore, Reader, Reads, ReadsAlways};
 ghost use Rattle.om_parts.specs.ExpressionReading.{whole_at};
-ghost use Rattle.om_parts.specs.DeclarationReading.{signed_at, array_after, declarator_after, further_at, declaration_after, declared_at};
+ghost use Rattle.om_parts.specs.DeclarationReading.{signed_at, array_after, declarator_after, further_at, declarators_at, declaration_after, declared_at, initialized};
+ghost use Rattle.om_parts.specs.Made.{MakesDeclarator, MakesUninitialized, ReadsDeclarator, ReadsDeclared, ReadsFurther, ReadsOne, ReadsUntil};
 ghost use Rattle.om_tree.specs.Tree.{ExpressionTree};
 ghost use Rattle.om_tree.specs.declared.tree.SignedNumber.{SignedNumber};
-ghost use Rattle.om_tree.specs.View.{view_expression, view_declarator, view_declaration, view_further, view_local};
+ghost use Rattle.om_tree.specs.View.{view_expression, view_further, view_local};
 
 use crate::expression::whole;
 use crate::front::{mark, name, number, take_mark};
@@ -87,8 +86,7 @@ pub fn declaration_after<I: Initial>(
     tokens: &[Token],
 ) -> Result<(Declaration<I>, &[Token]), SourceFault>
     requires { LeavesNoMore (I.reader room) }
-    ensures { Reads (λ x. (view_declaration I.view x.0, x.1.now)) result (declaration_after
-        (I.reader room) int name tokens.now) }
+    ensures { ReadsDeclared I.view result (declaration_after (I.reader room) int name tokens.now) }
 {
     let (first, rest) = declarator_after(alloc, room, name, tokens)?;
     let (others, semicolon, rest) = further_declarators(alloc, room, rest)?;
@@ -112,8 +110,7 @@ pub fn local_declaration(
     int: Span,
     tokens: &[Token],
 ) -> Result<(Declaration<Expression>, &[Token]), SourceFault>
-    ensures { Reads (λ x. (view_local x.0, x.1.now)) result (declared_at
-        (whole_at accepted room) int tokens.now) }
+    ensures { ReadsOne view_local result (declared_at (whole_at accepted room) int tokens.now) }
 {
     let (name, rest) = name(alloc, tokens)?;
     declaration_after(alloc, room, int, name, rest)
@@ -126,9 +123,7 @@ fn further_declarators<I: Initial>(
     tokens: &[Token],
 ) -> Result<(Vec<(Span, Declarator<I>)>, Span, &[Token]), SourceFault>
     requires { LeavesNoMore (I.reader room) }
-    ensures { Reads (λ x. (map (view_further I.view) x.0.items, x.1, x.2.now)) result
-        (until (take_mark Semicolon) (further_at (I.reader room))
-        (length tokens.now) tokens.now) }
+    ensures { ReadsUntil (view_further I.view) result (declarators_at (I.reader room) tokens.now) }
 {
     let mut declarators = Vec::new(alloc);
     let mut rest = tokens;
@@ -148,8 +143,7 @@ fn further_declarator<I: Initial>(
     room: usize,
     tokens: &[Token],
 ) -> Result<(Span, Box<Declarator<I>>, &[Token]), SourceFault>
-    ensures { Reads (λ x. ((x.0, view_declarator I.view x.1.value), x.2.now)) result (further_at
-        (I.reader room) tokens.now) }
+    ensures { ReadsFurther I.view result (further_at (I.reader room) tokens.now) }
 {
     let (comma, rest) = mark(tokens, Punctuator::Comma)?;
     let (name, rest) = name(alloc, rest)?;
@@ -164,8 +158,7 @@ fn declarator_after<I: Initial>(
     name: Name,
     tokens: &[Token],
 ) -> Result<(Box<Declarator<I>>, &[Token]), SourceFault>
-    ensures { Reads (λ x. (view_declarator I.view x.0.value, x.1.now)) result (declarator_after
-        (I.reader room) name tokens.now) }
+    ensures { ReadsDeclarator I.view result (declarator_after (I.reader room) name tokens.now) }
 {
     if let Some((left, rest)) = take_mark(tokens, Punctuator::OpenBracket) {
         let (array, rest) = array_after(left, rest)?;
@@ -185,8 +178,7 @@ fn uninitialized<'a, I: Initial>(
     array: Option<ArrayLength>,
     rest: &'a [Token],
 ) -> Result<(Box<Declarator<I>>, &'a [Token]), SourceFault>
-    ensures { Makes (λ x. (view_declarator I.view x.0.value, x.1.now)) result
-        (record { name = name; array = array; initializer = None }) rest.now }
+    ensures { MakesUninitialized I.view result name array rest.now }
 {
     let declarator = Declarator {
         name,
@@ -204,12 +196,7 @@ fn initialized<'a, I: Initial>(
     value: I,
     rest: &'a [Token],
 ) -> Result<(Box<Declarator<I>>, &'a [Token]), SourceFault>
-    ensures { Makes (λ x. (view_declarator I.view x.0.value, x.1.now)) result
-        (record {
-          name = name;
-          array = None;
-          initializer = Some (record { equal = equal; value = I.view value });
-        }) rest.now }
+    ensures { MakesDeclarator I.view result (initialized name equal (I.view value)) rest.now }
 {
     let declarator = Declarator {
         name,

@@ -1,13 +1,10 @@
 //! Expressions (C17 6.5).
 
-ghost use Rattle.std.specs.Prelude.{◌≡◌, ℕ, ◌-◌, ◌≤◌, ◌⊎◌, true, false, List, Some, Ok, Err, length, map, IfOk, IfErr};
-ghost use Rattle.om_lexer.specs.declared.token.Token as lexed;
-ghost use Rattle.om_lexer.specs.Faults.{no_memory};
-ghost use Rattle.om_parts.specs.ExpressionReading.{argument_at, arguments_at, behind, binary_more, call_after, chain_at, closed_by, conditional_after, expression_after, expression_at, first_at, named_after, operand_at, postfix_at, postfix_more, primary_step, whole_at, IsTakenWithin};
-ghost use Rattle.om_parts.specs.Made.{choice_in, inside_in, operands_in, whole_in, ReadsExpression};
+ghost use Rattle.std.specs.Prelude.{◌≤◌, IfOk, IfErr};
+ghost use Rattle.om_parts.specs.ExpressionReading.{argument_at, closed_by, primary_step, whole_at, IsTakenWithin};
+ghost use Rattle.om_parts.specs.Made.{arguments_in, call_in, conditional_in, expression_in, first_in, inside_in, named_in, operand_in, operands_in, operators_in, postfix_in, postfixes_behind, rest_in, whole_in};
+ghost use Rattle.om_parts.specs.Made.{ArePrefixes, MakesExpression, ReadsArgument, ReadsClosed, ReadsExpression, ReadsUntil, StopsOperand};
 ghost use Rattle.om_tree.specs.Limits.{accepted};
-ghost use Rattle.om_parts.specs.Reading.{Reads};
-ghost use Rattle.om_tree.specs.Tree.{ExpressionTree};
 ghost use Rattle.om_tree.specs.View.{view_argument, view_expression};
 
 use crate::front::{mark, name, syntax, take_mark, take_number, too_deep};
@@ -74,8 +71,7 @@ fn expression(
     budget: Budget,
     may_assign: bool,
 ) -> Result<(Box<Expression>, &[Token]), SourceFault>
-    ensures { ReadsExpression result
-        (expression_at budget.beyond budget.turns may_assign budget.room tokens.now) }
+    ensures { ReadsExpression result (expression_in budget may_assign tokens.now) }
 {
     let Some(turns) = budget.turns.checked_sub(1) else {
         return Err(syntax(tokens));
@@ -95,8 +91,7 @@ fn expression_after(
     budget: Budget,
     may_assign: bool,
 ) -> Result<(Box<Expression>, &[Token]), SourceFault>
-    ensures { ReadsExpression result (expression_after budget.beyond may_assign (whole_in budget)
-        (choice_in budget) (view_expression left.value) tokens.now) }
+    ensures { ReadsExpression result (rest_in budget may_assign left tokens.now) }
 {
     if let Some((question, rest)) = take_mark(tokens, Punctuator::Question) {
         within(rest, question, budget.beyond)?;
@@ -125,8 +120,7 @@ fn conditional_after(
     tokens: &[Token],
     budget: Budget,
 ) -> Result<(Box<Expression>, &[Token]), SourceFault>
-    ensures { ReadsExpression result (conditional_after budget.beyond (whole_in budget)
-        (choice_in budget) (view_expression condition.value) question tokens.now) }
+    ensures { ReadsExpression result (conditional_in budget condition question tokens.now) }
 {
     let (value, rest) = expression(alloc, tokens, budget, true)?;
     let (colon, rest) = mark(rest, Punctuator::Colon)?;
@@ -171,9 +165,7 @@ fn operators(
     budget: Budget,
     tighter: usize,
 ) -> Result<(Box<Expression>, &[Token]), SourceFault>
-    ensures { let operands = operands_in budget tighter in
-        ReadsExpression result (chain_at (binary_more budget.beyond (8 - tighter) operands)
-        (length tokens.now) (view_expression operand.value) tokens.now) }
+    ensures { ReadsExpression result (operators_in budget tighter operand tokens.now) }
 {
     let mut left = operand;
     let mut rest = tokens;
@@ -193,8 +185,7 @@ fn unary(
     tokens: &[Token],
     budget: Budget,
 ) -> Result<(Box<Expression>, &[Token]), SourceFault>
-    ensures { ReadsExpression result
-        (operand_at budget.beyond budget.turns budget.room tokens.now) }
+    ensures { ReadsExpression result (operand_in budget tokens.now) }
 {
     let (operators, turns, rest) = prefixes(alloc, tokens, budget.beyond, budget.turns)?;
     let budget = Budget { turns, ..budget };
@@ -212,10 +203,8 @@ fn prefixes(
     turns: usize,
 ) -> Result<(Vec<(PrefixOperator, Span)>, usize, &[Token]), SourceFault>
     ensures fewer_turns { IfOk result (λ x. x.1 ≤ turns) }
-    ensures taken { IfOk result (λ x. (room : ℕ) → operand_at beyond turns room tokens.now
-        ≡ behind x.0.items (postfix_at beyond x.1 room x.2.now)) }
-    ensures refused { IfErr result (λ fault. (fault ≡ no_memory) ⊎ ((room : ℕ) →
-        operand_at beyond turns room tokens.now ≡ Err fault)) }
+    ensures taken { IfOk result (ArePrefixes beyond turns tokens.now) }
+    ensures refused { IfErr result (StopsOperand beyond turns tokens.now) }
 {
     let mut operators = Vec::new(alloc);
     let mut left = turns;
@@ -239,8 +228,7 @@ fn postfix(
     tokens: &[Token],
     budget: Budget,
 ) -> Result<(Box<Expression>, &[Token]), SourceFault>
-    ensures { ReadsExpression result
-        (postfix_at budget.beyond budget.turns budget.room tokens.now) }
+    ensures { ReadsExpression result (postfix_in budget tokens.now) }
 {
     let (operand, rest) = primary(alloc, tokens, budget)?;
     postfixes(alloc, operand, rest, budget.beyond)
@@ -254,8 +242,7 @@ fn postfixes(
     tokens: &[Token],
     beyond: usize,
 ) -> Result<(Box<Expression>, &[Token]), SourceFault>
-    ensures { ReadsExpression result (chain_at (postfix_more beyond) (length tokens.now)
-        (view_expression operand.value) tokens.now) }
+    ensures { ReadsExpression result (postfixes_behind beyond operand tokens.now) }
 {
     let mut left = operand;
     let mut rest = tokens;
@@ -311,8 +298,7 @@ fn closed(
     close: Punctuator,
     budget: Budget,
 ) -> Result<(Box<Expression>, Span, &[Token]), SourceFault>
-    ensures { Reads (λ x. ((view_expression x.0.value, x.1), x.2.now)) result
-        (closed_by budget.beyond close (whole_in budget) tokens.now) }
+    ensures { ReadsClosed result (closed_by budget.beyond close (whole_in budget) tokens.now) }
 {
     let (inner, rest) = expression(alloc, tokens, budget, true)?;
     let (right, rest) = mark(rest, close)?;
@@ -328,8 +314,7 @@ fn named_after(
     tokens: &[Token],
     budget: Budget,
 ) -> Result<(Box<Expression>, &[Token]), SourceFault>
-    ensures { ReadsExpression result (named_after budget.beyond
-        (inside_in budget) name tokens.now) }
+    ensures { ReadsExpression result (named_in budget name tokens.now) }
 {
     if let Some((left, rest)) = take_mark(tokens, Punctuator::OpenBracket) {
         within(rest, left, budget.beyond)?;
@@ -369,8 +354,7 @@ fn call_after(
     tokens: &[Token],
     budget: Budget,
 ) -> Result<(Box<Expression>, &[Token]), SourceFault>
-    ensures { ReadsExpression result (call_after budget.beyond
-        (whole_in budget) name left tokens.now) }
+    ensures { ReadsExpression result (call_in budget name left tokens.now) }
 {
     if let Some((right, rest)) = take_mark(tokens, Punctuator::CloseParen) {
         within(rest, right, budget.beyond)?;
@@ -405,8 +389,7 @@ fn first_argument<'a>(
     tokens: &'a [Token],
     budget: Budget,
 ) -> Result<(Box<Expression>, &'a [Token]), SourceFault>
-    ensures { ReadsExpression result (first_at budget.beyond
-        (whole_in budget) function.now tokens.now) }
+    ensures { ReadsExpression result (first_in budget function.now tokens.now) }
 {
     if let Some((text, rest)) = take_text(alloc, function, tokens)? {
         within(rest, text.span, budget.beyond)?;
@@ -424,9 +407,7 @@ fn arguments(
     tokens: &[Token],
     budget: Budget,
 ) -> Result<(Vec<Argument>, Span, &[Token]), SourceFault>
-    ensures { Reads (λ x. (map view_argument x.0.items, x.1, x.2.now)) result
-        (arguments_at budget.beyond (whole_in budget)
-        (view_expression first.value) tokens.now) }
+    ensures { ReadsUntil view_argument result (arguments_in budget first tokens.now) }
 {
     let mut arguments = Vec::new(alloc);
     arguments.push((None, Box::into_inner(first)))?;
@@ -448,8 +429,7 @@ fn argument(
     tokens: &[Token],
     budget: Budget,
 ) -> Result<(Span, Box<Expression>, &[Token]), SourceFault>
-    ensures { Reads (λ x. ((Some x.0, view_expression x.1.value), x.2.now)) result
-        (argument_at budget.beyond (whole_in budget) tokens.now) }
+    ensures { ReadsArgument result (argument_at budget.beyond (whole_in budget) tokens.now) }
 {
     let (comma, rest) = mark(tokens, Punctuator::Comma)?;
     within(rest, comma, budget.beyond)?;
@@ -464,9 +444,7 @@ pub fn before<'a>(
     expression: Expression,
     rest: &'a [Token],
 ) -> Result<(Box<Expression>, &'a [Token]), SourceFault>
-    ensures { Reads {Y = ExpressionTree × List lexed.Token} (λ x.
-        (view_expression x.0.value, x.1.now)) result (Ok
-        (view_expression expression, rest.now)) }
+    ensures { MakesExpression result (view_expression expression) rest.now }
 {
     boxed_before(alloc, expression, rest)
 }

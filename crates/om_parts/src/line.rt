@@ -2,13 +2,14 @@
 
 ghost use Rattle.std.specs.Prelude.{◌≡◌, ◌≤◌, ◌⊎◌, Err, IfErr, IfOk, IfSome, length, option_map, option_to_list};
 ghost use Rattle.om_lexer.specs.Faults.{no_memory};
-ghost use Rattle.om_pragma.specs.Expressions.{expressions, map_directive, with_tokens, IsValue};
+ghost use Rattle.om_pragma.specs.Expressions.{expressions, with_tokens};
 ghost use Rattle.om_pragma.specs.Reading.{is_end, take_first, directive_at, expression_before};
 ghost use Rattle.om_pragma.specs.Refusals.{EndsOnce};
 ghost use Rattle.om_tree.specs.Limits.{accepted};
 ghost use Rattle.om_parts.specs.LineReading.{alone, clause_value, in_run, is_syntax, last_start, line_at, line_of, place_behind, run_of, sooner, with_value};
+ghost use Rattle.om_parts.specs.Made.{view_operand, IsFilled, ReadsBoxed, ReadsDirective};
 ghost use Rattle.om_parts.specs.Reading.{Reads, ReadsAlways};
-ghost use Rattle.om_tree.specs.View.{view_directive, view_expression};
+ghost use Rattle.om_tree.specs.View.{view_directive};
 
 use crate::front::syntax;
 use crate::part::enclosed;
@@ -35,8 +36,7 @@ pub fn line(
     alloc: Global,
     tokens: &[Token],
 ) -> Result<(Box<Directive<Expression>>, &[Token]), SourceFault>
-    ensures { Reads (λ x. (view_directive x.0.value, x.1.now)) result
-        (line_at accepted tokens.now) }
+    ensures { ReadsBoxed view_directive result (line_at accepted tokens.now) }
 {
     let Some((run, rest)) = run(tokens) else {
         return Err(syntax(&[]));
@@ -48,7 +48,7 @@ pub fn line(
 // The directive of a run, with its expression.
 fn line_of(alloc: Global, run: &[Token]) -> Result<Directive<Expression>, SourceFault>
     requires { EndsOnce run.now }
-    ensures { Reads view_directive result (line_of accepted run.now (directive_at run.now)) }
+    ensures { ReadsDirective result (line_of accepted run.now (directive_at run.now)) }
 {
     match directive_of(alloc, run) {
         Ok(found) => with_value(alloc, run, found),
@@ -94,8 +94,7 @@ fn with_value(
     directive: Directive<&[Token]>,
 ) -> Result<Directive<Expression>, SourceFault>
     requires { length (expressions directive) ≤ 1 }
-    ensures { Reads view_directive result (with_value accepted run.now
-        (with_tokens directive.entry)) }
+    ensures { ReadsDirective result (with_value accepted run.now (with_tokens directive.entry)) }
 {
     let Some(tokens) = directive.expression() else {
         return filled(alloc, directive, None);
@@ -116,8 +115,7 @@ fn filled<E: Drop, F: Drop>(
     value: Option<F>,
 ) -> Result<Directive<F>, SourceFault>
     requires { length (expressions directive) ≤ length (option_to_list value) }
-    ensures made { IfOk result (λ d. (f : E → F) → IsValue f value → d
-        ≡ map_directive f directive) }
+    ensures made { IfOk result (IsFilled directive value) }
     ensures refused { IfErr result (λ fault. fault ≡ no_memory) }
 {
     Ok(directive.with_expression(alloc, value)?)
@@ -129,8 +127,7 @@ fn clause_value(
     run: &[Token],
     tokens: &[Token],
 ) -> Result<Box<Expression>, SourceFault>
-    ensures { Reads (λ x. view_expression x.value) result
-        (clause_value accepted run.now tokens.now) }
+    ensures { Reads view_operand result (clause_value accepted run.now tokens.now) }
 {
     match enclosed(alloc, tokens) {
         Ok((value, rest)) => alone(value, rest),
@@ -140,8 +137,7 @@ fn clause_value(
 
 // The expression, where no tokens are left behind it.
 fn alone(value: Box<Expression>, rest: &[Token]) -> Result<Box<Expression>, SourceFault>
-    ensures { ReadsAlways (λ x. view_expression x.value) result (alone
-        (view_expression value.value) rest.now) }
+    ensures { ReadsAlways view_operand result (alone (view_operand value) rest.now) }
 {
     match rest {
         [] => Ok(value),

@@ -1,9 +1,8 @@
 //! Operators, and what an operand may begin with.
 
-ghost use Rattle.std.specs.Prelude.{◌≡◌, ◌-◌, IfOk, nat_le, option_map};
-ghost use Rattle.om_parts.specs.ExpressionReading.{assign_of, binary_of, level_operator, postfix_of, prefix_of, prefixed, take_assign, take_operator, take_text, text_of};
-ghost use Rattle.om_parts.specs.Made.{Takes};
-ghost use Rattle.om_parts.specs.Reading.{take};
+ghost use Rattle.std.specs.Prelude.{◌≡◌, ◌-◌, IfOk, nat_le};
+ghost use Rattle.om_parts.specs.ExpressionReading.{assign_of, binary_of, level_operator, postfix_of, prefix_of, prefixed, take_any_text, take_assign, take_operator, take_text};
+ghost use Rattle.om_parts.specs.Made.{view_operand, MakesBoxed, Takes, TakesText};
 ghost use Rattle.om_tree.specs.Formed.{binary_level, level};
 ghost use Rattle.om_tree.specs.Tree.{Binary, Postfix, Prefix};
 ghost use Rattle.om_tree.specs.View.{view_expression};
@@ -198,8 +197,7 @@ pub fn take_assign<'a>(
 
 // The text that stands first, and the tokens behind it.
 fn take_any_text(alloc: Global, tokens: &[Token]) -> Result<Option<(Text, &[Token])>, AllocError>
-    ensures { IfOk result (λ found. option_map (λ x. (x.0, x.1.now)) found ≡ take
-        (λ t. text_of t.kind t.span) tokens.now) }
+    ensures { IfOk result (λ found. TakesText found (take_any_text tokens.now)) }
 {
     let [first, rest @ ..] = tokens else {
         return Ok(None);
@@ -219,8 +217,7 @@ pub fn take_text<'a>(
     function: &Name,
     tokens: &'a [Token],
 ) -> Result<Option<(Text, &'a [Token])>, AllocError>
-    ensures { IfOk result (λ found. option_map (λ x. (x.0, x.1.now)) found
-        ≡ take_text function.now tokens.now) }
+    ensures { IfOk result (λ found. TakesText found (take_text function.now tokens.now)) }
 {
     if function.text.as_slice() == b"printf".as_slice() {
         take_any_text(alloc, tokens)
@@ -236,8 +233,7 @@ pub fn prefixed(
     operators: Vec<(PrefixOperator, Span)>,
     operand: Box<Expression>,
 ) -> Result<Box<Expression>, AllocError>
-    ensures { IfOk result (λ made. view_expression made.value ≡ prefixed operators.items
-        (view_expression operand.value)) }
+    ensures { MakesBoxed result (prefixed operators.items (view_operand operand)) }
 {
     let mut outer = operators;
     let mut made = operand;
@@ -255,8 +251,7 @@ fn with_prefix(
     at: Span,
     operand: Box<Expression>,
 ) -> Result<Box<Expression>, AllocError>
-    ensures { IfOk result (λ made. view_expression made.value ≡ Prefix operator at
-        (view_expression operand.value)) }
+    ensures { MakesBoxed result (Prefix operator at (view_operand operand)) }
 {
     let prefix = Expression::Prefix {
         operator,
@@ -274,8 +269,7 @@ pub fn postfixed(
     operator: PostfixOperator,
     at: Span,
 ) -> Result<Box<Expression>, AllocError>
-    ensures { IfOk result (λ made. view_expression made.value ≡ Postfix
-        (view_expression operand.value) operator at) }
+    ensures { MakesBoxed result (Postfix (view_operand operand) operator at) }
 {
     let postfix = Expression::Postfix {
         operand,
@@ -294,8 +288,7 @@ pub fn joined(
     at: Span,
     right: Box<Expression>,
 ) -> Result<Box<Expression>, AllocError>
-    ensures { IfOk result (λ made. view_expression made.value ≡ Binary
-        (view_expression left.value) operator at (view_expression right.value)) }
+    ensures { MakesBoxed result (Binary (view_operand left) operator at (view_operand right)) }
 {
     let binary = Expression::Binary {
         left,

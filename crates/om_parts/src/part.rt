@@ -1,9 +1,8 @@
 //! The parts of statements that are no statements.
 
 ghost use Rattle.om_tree.specs.Limits.{accepted};
-ghost use Rattle.om_parts.specs.Made.{ReadsExpression};
+ghost use Rattle.om_parts.specs.Made.{ReadsBoxed, ReadsExpression, ReadsOne};
 ghost use Rattle.om_parts.specs.PartReading.{global_at, parts};
-ghost use Rattle.om_parts.specs.Reading.{Reads};
 ghost use Rattle.om_tree.specs.View.{view_directive, view_global, view_local};
 
 use crate::declaration::{declaration_after, local_declaration};
@@ -37,8 +36,7 @@ pub fn declaration(
     int: Span,
     tokens: &[Token],
 ) -> Result<(Declaration<Expression>, &[Token]), SourceFault>
-    ensures { Reads (λ x. (view_local x.0, x.1.now)) result
-        ((parts accepted).declaration int tokens.now) }
+    ensures { ReadsOne view_local result ((parts accepted).declaration int tokens.now) }
 {
     local_declaration(alloc, NESTING_LIMIT, int, tokens)
 }
@@ -49,8 +47,7 @@ pub fn enclosed_declaration(
     int: Span,
     tokens: &[Token],
 ) -> Result<(Declaration<Expression>, &[Token]), SourceFault>
-    ensures { Reads (λ x. (view_local x.0, x.1.now)) result
-        ((parts accepted).enclosed_declaration int tokens.now) }
+    ensures { ReadsOne view_local result ((parts accepted).enclosed_declaration int tokens.now) }
 {
     local_declaration(alloc, NESTING_LIMIT - 1, int, tokens)
 }
@@ -60,8 +57,7 @@ pub fn directive_line(
     alloc: Global,
     tokens: &[Token],
 ) -> Result<(Box<Directive<Expression>>, &[Token]), SourceFault>
-    ensures { Reads (λ x. (view_directive x.0.value, x.1.now)) result
-        ((parts accepted).line tokens.now) }
+    ensures { ReadsBoxed view_directive result ((parts accepted).line tokens.now) }
 {
     line(alloc, tokens)
 }
@@ -74,7 +70,7 @@ pub fn global_declaration(
     name: Name,
     tokens: &[Token],
 ) -> Result<(Declaration<SignedNumber>, &[Token]), SourceFault>
-    ensures { Reads (λ x. (view_global x.0, x.1.now)) result (global_at int name tokens.now) }
+    ensures { ReadsOne view_global result (global_at int name tokens.now) }
 {
     declaration_after(alloc, 0, int, name, tokens)
 }
