@@ -100,10 +100,14 @@ unfoldable pub section_of : LineReader → LineStart → Reader (Option (Directi
 section_of line lines.Section ts = line ts >>= λ d. Ok (Some d.0, d.1)
 section_of line _ ts = Ok (None, ts)
 
+-- a `section`, if one stands first
+abbrev pub section_at : LineReader → Reader (Option (Directive ExpressionTree))
+section_at line ts = section_of line (line_start ts) ts
+
 -- a part: its `section`, if it has one, and its items
 unfoldable pub part_at : LineReader → Reader StatementTree → Reader PartTree
 part_at line statement ts = do
-  d ← section_of line (line_start ts) ts
+  d ← section_at line ts
   x ← one_or_more ends_part (part_item_at line statement) (length d.1) d.1
   Ok (record { section = d.0; items = statements x.0 }, x.1)
 

@@ -26,11 +26,16 @@ further_parameter_at ts = do
   p ← parameter_at c.1
   Ok ((c.0, p.0), p.1)
 
+-- parameters behind commas, up to the right parenthesis
+abbrev pub further_parameters_at : List Token
+    → Outcome (List (Span × Parameter (Option names.Name)) × Span × List Token)
+further_parameters_at ts = until (take_mark punctuators.CloseParen) further_parameter_at (length ts) ts
+
 -- one parameter or several, and the right parenthesis
 unfoldable pub listed_at : Reader (ParametersTree (Option names.Name) × Span)
 listed_at ts = do
   p ← parameter_at ts
-  m ← until (take_mark punctuators.CloseParen) further_parameter_at (length p.1) p.1
+  m ← further_parameters_at p.1
   Ok ((Listed p.0 m.0, m.1), m.2)
 
 -- parameters and the right parenthesis, behind the left one (C17 6.7.6.3)

@@ -11,7 +11,9 @@ use Rattle.om_lexer.specs.declared.token.TokenKind.TheVariants as kinds
 use Rattle.om_tree.specs.Limits.{Limits, accepted}
 use Rattle.om_parser.specs.declared.statement.Room.{Room}
 use Rattle.om_parts.specs.PartReading.{Parts, parts}
-use Rattle.om_parser.specs.ConstructReading.{PartsReader, ends_parts, line_start, part_at, part_item_at, line_of}
+use Rattle.om_pragma.specs.declared.tree.Directive.{Directive}
+use Rattle.om_parser.specs.ConstructReading.{PartsReader, ends_part, ends_parts, line_start, part_at, part_item_at}
+use Rattle.om_parser.specs.ConstructReading.{atomic_after, construct_at, constructed_after, line_of, sections_after}
 use Rattle.om_parser.specs.OneOrMore.{one_or_more}
 use Rattle.om_parser.specs.declared.start.Start.{Start}
 use Rattle.om_parser.specs.declared.start.Start.TheVariants as starts
@@ -20,7 +22,7 @@ use Rattle.om_parts.specs.Reading.{word_at}
 use Rattle.om_parts.specs.Repetition.{until}
 use Rattle.om_tree.specs.Tree.{ExpressionTree, ConditionTree, ForStartTree, Nothing, StartExpression, StartDeclaration}
 use Rattle.om_tree.specs.Tree.{ForHeadTree, StatementTree, LocalDeclaration, Block, Empty, Expression, If, IfElse}
-use Rattle.om_tree.specs.Tree.{While, Do, For, Return, Break, Continue, statements, BlockTree}
+use Rattle.om_tree.specs.Tree.{While, Do, For, Return, Break, Continue, statements, BlockTree, PartTree}
 use Rattle.om_tree.specs.Tree as trees
 
 -- ---- what a first token begins
@@ -71,15 +73,15 @@ optional_before p expression ts = choose (take_mark p ts)
     (λ s. Ok ((None, s.0), s.1))
     (expression ts >>= λ e. mark_at p e.1 >>= λ s. Ok ((Some e.0, s.0), s.1))
 
+-- what a `for` begins with that declares nothing: perhaps an expression, and the semicolon
+abbrev pub start_with : Option ExpressionTree → Span → ForStartTree
+start_with found semicolon = choose found (λ e. StartExpression e semicolon) (Nothing semicolon)
+
 -- what a `for` begins with (C17 6.8.5.3)
 unfoldable pub for_start_at : Parts → Reader ForStartTree
 for_start_at p ts = choose (take_word keywords.Int ts)
     (λ i. p.enclosed_declaration i.0 i.1 >>= λ d. Ok (StartDeclaration d.0, d.1))
-    (optional_before punctuators.Semicolon p.enclosed ts >>= λ e. Ok (
-      choose e.0.0 (λ x. StartExpression x e.0.1)
-          (Nothing e.0.1),
-      e.1,
-    ))
+    (optional_before punctuators.Semicolon p.enclosed ts >>= λ e. Ok (start_with e.0.0 e.0.1, e.1))
 
 -- a `for` up to its closing parenthesis, behind its word
 unfoldable pub for_head_after : Parts → Span → Reader ForHeadTree
@@ -261,6 +263,8 @@ block_with p checked room blocks ts = do
 unfoldable pub block_at : Limits → Reader BlockTree
 block_at l = block_with (parts l) l.checked l.statements l.blocks
 
+-- ---- the readers of what stands in one another in this room
+
 -- a statement in this room
 abbrev pub statement_in : Room → Reader StatementTree
 statement_in room = statement_at (parts accepted) room.checked room.statements room.blocks
@@ -272,3 +276,55 @@ statement_if room checked = statement_at (parts accepted) checked room.statement
 -- the braces of `sections` in this room
 abbrev pub parts_in : Room → PartsReader
 parts_in room = parts_at (parts accepted) room.checked room.statements room.blocks
+
+-- a declaration, a statement, or a directive that stands alone, in this room (C17 6.8.2)
+abbrev pub block_item_in : Room → Reader StatementTree
+block_item_in room = block_item_at (parts accepted) (statement_in room)
+
+-- the items of a block, behind its left brace
+abbrev pub items_in : Room → List Token → Outcome (List StatementTree × Span × List Token)
+items_in room = items_at (parts accepted) (statement_in room)
+
+-- a block, behind its left brace
+abbrev pub block_in : Room → Span → Reader StatementTree
+block_in room = block_after (parts accepted) (statement_at (parts accepted) room.checked room.statements) room.blocks
+
+-- a statement of this start with its opening, behind its word
+abbrev pub headed_in : Room → Start → Span → Reader StatementTree
+headed_in room = headed_of (parts accepted) (statement_in room)
+
+-- a statement, or a directive that stands alone, as an item of a part of `sections`
+abbrev pub part_item_in : Room → Reader StatementTree
+part_item_in room = part_item_at (parts accepted).line (statement_in room)
+
+-- the items of a part, one at least
+abbrev pub part_items_in : Room → Reader (List StatementTree)
+part_items_in room ts = one_or_more ends_part (part_item_in room) (length ts) ts
+
+-- a part of `sections`
+abbrev pub part_in : Room → Reader PartTree
+part_in room = part_at (parts accepted).line (statement_in room)
+
+-- the parts of `sections`, one at least
+abbrev pub every_part_in : Room → Reader (List PartTree)
+every_part_in room ts = one_or_more ends_parts (part_in room) (length ts) ts
+
+-- the line that stands first where a statement must stand, with what belongs to it
+abbrev pub directive_in : Room → Reader StatementTree
+directive_in room ts = line_of (parts accepted).line room.checked (statement_if room) (parts_in room) (line_start ts) ts
+
+-- a construct
+abbrev pub construct_in : Room → Reader StatementTree
+construct_in room = construct_at (parts accepted).line room.checked (statement_if room) (parts_in room)
+
+-- a construct with one statement, behind its line
+abbrev pub constructed_in : Room → Directive ExpressionTree → Reader StatementTree
+constructed_in room = constructed_after (statement_in room)
+
+-- an `atomic`, behind its line
+abbrev pub atomic_in : Room → Directive ExpressionTree → Reader StatementTree
+atomic_in room = atomic_after room.checked (statement_if room)
+
+-- `sections`, behind its line
+abbrev pub sections_in : Room → Directive ExpressionTree → Reader StatementTree
+sections_in room = sections_after (parts_in room)

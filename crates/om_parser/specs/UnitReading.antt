@@ -67,8 +67,12 @@ unfoldable pub take_end : List Token → Option (Span × List Token)
 take_end [] = None
 take_end (t ∷ ts) = end_of t ts
 
+-- the items up to the end of the source
+abbrev pub items_to_end : Limits → List Token → Outcome (List ItemTree × Span × List Token)
+items_to_end l ts = until take_end (item_at l) (length ts) ts
+
 -- all of the tokens, as a unit
 unfoldable pub unit_at : Limits → List Token → Outcome UnitTree
 unit_at l ts = do
-  u ← until take_end (item_at l) (length ts) ts
+  u ← items_to_end l ts
   Ok (record { items = u.0; end = u.1 })

@@ -5,14 +5,13 @@
 //! their frames stay small.
 
 ghost use Rattle.std.specs.Prelude.{◌≡◌};
-ghost use Rattle.om_parser.specs.ConstructReading.{atomic_of};
 ghost use Rattle.om_parser.specs.StatementReading.{do_end};
-ghost use Rattle.om_parser.specs.StatementView.{ReadsStatement};
+ghost use Rattle.om_parser.specs.StatementView.{atomic_with, ReadsStatement};
 ghost use Rattle.om_parts.specs.PartReading.{parts};
 ghost use Rattle.om_pragma.specs.Questions.{atomic_kind};
 ghost use Rattle.om_tree.specs.AtomicForms.{has_atomic_form};
 ghost use Rattle.om_tree.specs.Limits.{accepted};
-ghost use Rattle.om_tree.specs.View.{view_directive, view_statement};
+ghost use Rattle.om_tree.specs.View.{view_directive, view_inner, view_statement};
 
 use crate::opening::condition;
 use om_lexer::{FaultCode, Keyword, Punctuator, SourceFault, Span, Token};
@@ -31,8 +30,7 @@ pub fn do_end(
     body: Box<Statement>,
     tokens: &[Token],
 ) -> Result<(Box<Statement>, &[Token]), SourceFault>
-    ensures { ReadsStatement result (do_end (parts accepted) at
-        (view_statement body.value) tokens.now) }
+    ensures { ReadsStatement result (do_end (parts accepted) at (view_inner body) tokens.now) }
 {
     let (again, rest) = word(tokens, Keyword::While)?;
     let (condition, rest) = condition(alloc, rest)?;
@@ -56,8 +54,7 @@ pub fn atomic_of<'a>(
     body: Box<Statement>,
     tokens: &'a [Token],
 ) -> Result<(Box<Statement>, &'a [Token]), SourceFault>
-    ensures { ReadsStatement result (atomic_of checked (view_directive directive.value)
-        (view_statement body.value) tokens.now) }
+    ensures { ReadsStatement result (atomic_with checked directive body tokens.now) }
 {
     if !checked || has_form(&directive, &body) {
         return construct_of(alloc, directive, body, tokens);

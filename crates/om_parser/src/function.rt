@@ -1,10 +1,11 @@
 //! The heads of functions (C17 6.7.6.3).
 
-ghost use Rattle.std.specs.Prelude.{length, Ok};
-ghost use Rattle.om_lexer.specs.declared.token.Punctuator.TheVariants.{CloseParen};
-ghost use Rattle.om_parser.specs.FunctionReading.{parameter_at, further_parameter_at, listed_at, parameters_at, head_after, named_parameter, named_further, named_parameters, named_head};
-ghost use Rattle.om_parts.specs.Reading.{take_mark, take_name, Reads, ReadsAlways};
-ghost use Rattle.om_parts.specs.Repetition.{optional, until};
+ghost use Rattle.std.specs.Prelude.{Ok};
+ghost use Rattle.om_parser.specs.FunctionReading.{parameter_at, further_parameter_at, further_parameters_at, listed_at, parameters_at, head_after, named_parameter, named_further, named_parameters, named_head};
+ghost use Rattle.om_parser.specs.StatementView.{ReadsParameters};
+ghost use Rattle.om_parts.specs.Made.{ReadsBoxed};
+ghost use Rattle.om_parts.specs.Reading.{take_name, Reads, ReadsAlways};
+ghost use Rattle.om_parts.specs.Repetition.{optional};
 ghost use Rattle.om_tree.specs.View.{view_parameters, view_head};
 
 use om_lexer::{Keyword, Punctuator, SourceFault, Span, Token, TokenKind};
@@ -22,8 +23,7 @@ pub fn head_after(
     open_paren: Span,
     tokens: &[Token],
 ) -> Result<(Box<FunctionHead<Option<Name>>>, &[Token]), SourceFault>
-    ensures { Reads (λ x. (view_head x.0.value, x.1.now)) result
-        (head_after result_type name open_paren tokens.now) }
+    ensures { ReadsBoxed view_head result (head_after result_type name open_paren tokens.now) }
 {
     let (parameters, close_paren, rest) = parameters(alloc, tokens)?;
     let head = FunctionHead {
@@ -63,8 +63,7 @@ fn named_parameters(
     parameters: Parameters<Option<Name>>,
     body: &[Token],
 ) -> Result<Parameters<Name>, SourceFault>
-    ensures { Reads (λ x. view_parameters x) result
-        (named_parameters body.now (view_parameters parameters)) }
+    ensures { ReadsParameters result (named_parameters body.now (view_parameters parameters)) }
 {
     match parameters {
         Parameters::Nothing => Ok(Parameters::Nothing),
@@ -147,8 +146,7 @@ fn further_parameters(
     alloc: Global,
     tokens: &[Token],
 ) -> Result<(Vec<(Span, Parameter<Option<Name>>)>, Span, &[Token]), SourceFault>
-    ensures { Reads (λ x. (x.0.items, x.1, x.2.now)) result
-        (until (take_mark CloseParen) further_parameter_at (length tokens.now) tokens.now) }
+    ensures { Reads (λ x. (x.0.items, x.1, x.2.now)) result (further_parameters_at tokens.now) }
 {
     let mut parameters = Vec::new(alloc);
     let mut rest = tokens;

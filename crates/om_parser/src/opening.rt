@@ -1,13 +1,12 @@
 //! What stands before the body of an `if`, a `while` or a `for` (C17 6.8.4, 6.8.5).
 
 ghost use Rattle.std.specs.Prelude.{◌≡◌, option_map};
-ghost use Rattle.om_parser.specs.StatementReading.{condition_at, for_head_after, for_start_at, opening_of, optional_before};
-ghost use Rattle.om_parser.specs.StatementView.{view_opening};
+ghost use Rattle.om_parser.specs.StatementReading.{condition_at, for_head_after, for_start_at, opening_of, optional_before, start_with};
+ghost use Rattle.om_parser.specs.StatementView.{view_opening, ReadsOptional};
+ghost use Rattle.om_parts.specs.Made.{view_operand, ReadsBoxed, ReadsOne};
 ghost use Rattle.om_parts.specs.PartReading.{parts};
-ghost use Rattle.om_parts.specs.Reading.{choose, Reads};
 ghost use Rattle.om_tree.specs.Limits.{accepted};
-ghost use Rattle.om_tree.specs.Tree as trees;
-ghost use Rattle.om_tree.specs.View.{view_condition, view_expression, view_for_head, view_for_start};
+ghost use Rattle.om_tree.specs.View.{view_condition, view_for_head, view_for_start};
 
 use crate::start::Start;
 use om_lexer::{Keyword, Punctuator, SourceFault, Span, Token};
@@ -33,8 +32,7 @@ pub fn opening_after(
     at: Span,
     tokens: &[Token],
 ) -> Result<(Opening, &[Token]), SourceFault>
-    ensures { Reads (λ x. (view_opening x.0, x.1.now)) result
-        (opening_of (parts accepted) start at tokens.now) }
+    ensures { ReadsOne view_opening result (opening_of (parts accepted) start at tokens.now) }
 {
     match start {
         Start::If => {
@@ -55,8 +53,7 @@ pub fn opening_after(
 
 /// An expression in parentheses, and the tokens behind it.
 pub fn condition(alloc: Global, tokens: &[Token]) -> Result<(Box<Condition>, &[Token]), SourceFault>
-    ensures { Reads (λ x. (view_condition x.0.value, x.1.now)) result
-        (condition_at (parts accepted) tokens.now) }
+    ensures { ReadsBoxed view_condition result (condition_at (parts accepted) tokens.now) }
 {
     let (open_paren, rest) = mark(tokens, Punctuator::OpenParen)?;
     let (value, rest) = enclosed(alloc, rest)?;
@@ -76,8 +73,7 @@ fn for_head(
     word: Span,
     tokens: &[Token],
 ) -> Result<(Box<ForHead>, &[Token]), SourceFault>
-    ensures { Reads (λ x. (view_for_head x.0.value, x.1.now)) result
-        (for_head_after (parts accepted) word tokens.now) }
+    ensures { ReadsBoxed view_for_head result (for_head_after (parts accepted) word tokens.now) }
 {
     let (open_paren, rest) = mark(tokens, Punctuator::OpenParen)?;
     let (start, rest) = for_start(alloc, rest)?;
@@ -97,8 +93,7 @@ fn for_head(
 
 // What a `for` begins with, and the tokens behind it.
 fn for_start(alloc: Global, tokens: &[Token]) -> Result<(Box<ForStart>, &[Token]), SourceFault>
-    ensures { Reads (λ x. (view_for_start x.0.value, x.1.now)) result
-        (for_start_at (parts accepted) tokens.now) }
+    ensures { ReadsBoxed view_for_start result (for_start_at (parts accepted) tokens.now) }
 {
     if let Some((int, rest)) = take_word(tokens, Keyword::Int) {
         let (declaration, rest) = enclosed_declaration(alloc, int, rest)?;
@@ -110,8 +105,7 @@ fn for_start(alloc: Global, tokens: &[Token]) -> Result<(Box<ForStart>, &[Token]
 
 // What a `for` begins with that declares nothing: perhaps an expression, and the semicolon.
 fn start_with(first: Option<Box<Expression>>, semicolon: Span) -> ForStart
-    ensures { view_for_start result ≡ choose (option_map (λ b. view_expression b.value) first)
-        (λ e. trees.StartExpression e semicolon) (trees.Nothing semicolon) }
+    ensures { view_for_start result ≡ start_with (option_map view_operand first) semicolon }
 {
     match first {
         Some(first) => ForStart::Expression {
@@ -129,8 +123,7 @@ fn enclosed_before(
     tokens: &[Token],
     end: Punctuator,
 ) -> Result<(Option<Box<Expression>>, Span, &[Token]), SourceFault>
-    ensures { Reads (λ x. ((option_map (λ b. view_expression b.value) x.0, x.1), x.2.now)) result
-        (optional_before end (parts accepted).enclosed tokens.now) }
+    ensures { ReadsOptional result (optional_before end (parts accepted).enclosed tokens.now) }
 {
     if let Some((span, rest)) = take_mark(tokens, end) {
         return Ok((None, span, rest));

@@ -1,14 +1,14 @@
 //! Items of a block, and lines, that have no statement in them (C17 6.8).
 
 ghost use Rattle.std.specs.Prelude.{option_map};
-ghost use Rattle.om_parser.specs.ConstructReading.{line_start, section_of, stand_alone_at, unknown_line};
+ghost use Rattle.om_parser.specs.ConstructReading.{section_at, stand_alone_at, unknown_line};
 ghost use Rattle.om_parser.specs.StatementReading.{expression_statement_at, jump_after, local_item_after, return_after, simple_of};
 ghost use Rattle.om_parser.specs.StatementView.{ReadsStatement};
+ghost use Rattle.om_parts.specs.Made.{ReadsOne};
 ghost use Rattle.om_parts.specs.PartReading.{parts};
-ghost use Rattle.om_parts.specs.Reading.{Reads};
 ghost use Rattle.om_tree.specs.Limits.{accepted};
 ghost use Rattle.om_tree.specs.Tree as trees;
-ghost use Rattle.om_tree.specs.View.{view_directive};
+ghost use Rattle.om_tree.specs.View.{view_line};
 
 use crate::construct::{LineStart, line_start, misplaced};
 use crate::start::Start;
@@ -168,8 +168,7 @@ pub fn section(
     alloc: Global,
     tokens: &[Token],
 ) -> Result<(Option<Box<Directive<Expression>>>, &[Token]), SourceFault>
-    ensures { Reads (λ x. (option_map (λ d. view_directive d.value) x.0, x.1.now)) result
-        (section_of (parts accepted).line (line_start tokens.now) tokens.now) }
+    ensures { ReadsOne (option_map view_line) result (section_at (parts accepted).line tokens.now) }
 {
     match line_start(tokens) {
         LineStart::Section => {

@@ -1,16 +1,14 @@
 //! Statements and blocks (C17 6.8).
 
-ghost use Rattle.std.specs.Prelude.{◌≡◌, length, map, option_map};
+ghost use Rattle.std.specs.Prelude.{◌≡◌, option_map};
 ghost use Rattle.om_lexer.specs.declared.token.Keyword.TheVariants.{Else};
-ghost use Rattle.om_parser.specs.ConstructReading.{atomic_after, construct_at, constructed_after, ends_part, ends_parts, line_of, line_start, part_at, part_item_at, sections_after};
-ghost use Rattle.om_parser.specs.OneOrMore.{one_or_more};
-ghost use Rattle.om_parser.specs.StatementReading.{behind_body, block_after, block_at, block_item_at, do_after, headed_of, items_at, parts_in, statement_at, statement_if, statement_in};
-ghost use Rattle.om_parser.specs.StatementView.{view_opening, ReadsStatement};
+ghost use Rattle.om_parser.specs.StatementReading.{atomic_in, block_at, block_in, block_item_in, construct_in, constructed_in, directive_in, do_after, every_part_in, headed_in, items_in, part_in, part_item_in, part_items_in, parts_in, sections_in, statement_in};
+ghost use Rattle.om_parser.specs.StatementView.{behind_body_in, ReadsBraces, ReadsStatement};
+ghost use Rattle.om_parts.specs.Made.{ReadsEach, ReadsOne, ReadsUntil};
 ghost use Rattle.om_parts.specs.PartReading.{parts};
-ghost use Rattle.om_parts.specs.Reading.{take_word, Reads};
+ghost use Rattle.om_parts.specs.Reading.{take_word};
 ghost use Rattle.om_tree.specs.Limits.{accepted};
-ghost use Rattle.om_tree.specs.Tree as trees;
-ghost use Rattle.om_tree.specs.View.{view_block, view_directive, view_part, view_statement};
+ghost use Rattle.om_tree.specs.View.{view_block, view_line, view_part, view_statement};
 
 use crate::construct::{LineStart, at_section, ends_part, line_start, misplaced};
 use crate::ending::{atomic_of, do_end};
@@ -41,7 +39,7 @@ pub struct Room {
 
 /// The block of a function, and the tokens behind it.
 pub(crate) fn block(alloc: Global, tokens: &[Token]) -> Result<(Block, &[Token]), SourceFault>
-    ensures { Reads (λ x. (view_block x.0, x.1.now)) result (block_at accepted tokens.now) }
+    ensures { ReadsOne view_block result (block_at accepted tokens.now) }
 {
     let (open_brace, rest) = mark(tokens, Punctuator::OpenBrace)?;
     let room = Room {
@@ -67,8 +65,7 @@ fn items(
     tokens: &[Token],
     room: Room,
 ) -> Result<(Vec<Statement>, Span, &[Token]), SourceFault>
-    ensures { Reads (λ x. (map view_statement x.0.items, x.1, x.2.now)) result
-        (items_at (parts accepted) (statement_in room) tokens.now) }
+    ensures { ReadsUntil view_statement result (items_in room tokens.now) }
 {
     parts_are_sound();
     let mut items = Vec::new(alloc);
@@ -90,8 +87,7 @@ fn block_item(
     tokens: &[Token],
     room: Room,
 ) -> Result<(Box<Statement>, &[Token]), SourceFault>
-    ensures { ReadsStatement result
-        (block_item_at (parts accepted) (statement_in room) tokens.now) }
+    ensures { ReadsStatement result (block_item_in room tokens.now) }
 {
     match take_word(tokens, Keyword::Int) {
         Some((int, rest)) => declaration_item(alloc, int, rest),
@@ -106,8 +102,7 @@ fn part_item(
     tokens: &[Token],
     room: Room,
 ) -> Result<(Box<Statement>, &[Token]), SourceFault>
-    ensures { ReadsStatement result (part_item_at (parts accepted).line
-        (statement_in room) tokens.now) }
+    ensures { ReadsStatement result (part_item_in room tokens.now) }
 {
     match line_start(tokens) {
         LineStart::StandAlone => stand_alone(alloc, tokens),
@@ -151,9 +146,7 @@ fn block_after(
     tokens: &[Token],
     room: Room,
 ) -> Result<(Box<Statement>, &[Token]), SourceFault>
-    ensures { ReadsStatement result (block_after (parts accepted)
-        (statement_at (parts accepted) room.checked room.statements) room.blocks open_brace
-        tokens.now) }
+    ensures { ReadsStatement result (block_in room open_brace tokens.now) }
 {
     let Some(blocks) = room.blocks.checked_sub(1) else {
         return Err(too_deep(open_brace));
@@ -172,8 +165,7 @@ fn headed(
     tokens: &[Token],
     room: Room,
 ) -> Result<(Box<Statement>, &[Token]), SourceFault>
-    ensures { ReadsStatement result (headed_of (parts accepted)
-        (statement_in room) start at tokens.now) }
+    ensures { ReadsStatement result (headed_in room start at tokens.now) }
 {
     let (opening, rest) = opening_after(alloc, start, at, tokens)?;
     let (body, rest) = statement(alloc, rest, room)?;
@@ -189,8 +181,7 @@ fn behind_body(
     tokens: &[Token],
     room: Room,
 ) -> Result<(Box<Statement>, &[Token]), SourceFault>
-    ensures { ReadsStatement result (behind_body (statement_in room) (view_opening opening)
-        (view_statement body.value) tokens.now) }
+    ensures { ReadsStatement result (behind_body_in room opening body tokens.now) }
 {
     match opening {
         Opening::If(at, condition) => match take_else(tokens) {
@@ -238,8 +229,7 @@ fn directive(
     tokens: &[Token],
     room: Room,
 ) -> Result<(Box<Statement>, &[Token]), SourceFault>
-    ensures { ReadsStatement result (line_of (parts accepted).line room.checked (statement_if room)
-        (parts_in room) (line_start tokens.now) tokens.now) }
+    ensures { ReadsStatement result (directive_in room tokens.now) }
 {
     match line_start(tokens) {
         LineStart::Construct => construct(alloc, tokens, room),
@@ -255,8 +245,7 @@ fn construct(
     tokens: &[Token],
     room: Room,
 ) -> Result<(Box<Statement>, &[Token]), SourceFault>
-    ensures { ReadsStatement result (construct_at (parts accepted).line room.checked
-        (statement_if room) (parts_in room) tokens.now) }
+    ensures { ReadsStatement result (construct_in room tokens.now) }
 {
     let (directive, rest) = directive_line(alloc, tokens)?;
     if directive.name.kind().has_parts() {
@@ -276,8 +265,7 @@ fn constructed(
     tokens: &[Token],
     room: Room,
 ) -> Result<(Box<Statement>, &[Token]), SourceFault>
-    ensures { ReadsStatement result (constructed_after (statement_in room)
-        (view_directive directive.value) tokens.now) }
+    ensures { ReadsStatement result (constructed_in room (view_line directive) tokens.now) }
 {
     let (body, rest) = statement(alloc, tokens, room)?;
     construct_of(alloc, directive, body, rest)
@@ -291,8 +279,7 @@ fn atomic(
     tokens: &[Token],
     room: Room,
 ) -> Result<(Box<Statement>, &[Token]), SourceFault>
-    ensures { ReadsStatement result (atomic_after room.checked (statement_if room)
-        (view_directive directive.value) tokens.now) }
+    ensures { ReadsStatement result (atomic_in room (view_line directive) tokens.now) }
 {
     let unchecked = Room {
         checked: false,
@@ -310,8 +297,7 @@ fn sections(
     tokens: &[Token],
     room: Room,
 ) -> Result<(Box<Statement>, &[Token]), SourceFault>
-    ensures { ReadsStatement result (sections_after (parts_in room)
-        (view_directive directive.value) tokens.now) }
+    ensures { ReadsStatement result (sections_in room (view_line directive) tokens.now) }
 {
     let (open_brace, parts, close_brace, rest) = braces(alloc, tokens, room)?;
     sections_of(alloc, directive, (open_brace, parts, close_brace), rest)
@@ -324,8 +310,7 @@ fn braces(
     tokens: &[Token],
     room: Room,
 ) -> Result<(Span, Vec<Part>, Span, &[Token]), SourceFault>
-    ensures { Reads (λ x. ((x.0, trees.parts (map view_part x.1.items), x.2), x.3.now))
-        result (parts_in room tokens.now) }
+    ensures { ReadsBraces result (parts_in room tokens.now) }
 {
     let (open_brace, rest) = mark(tokens, Punctuator::OpenBrace)?;
     let Some(statements) = room.statements.checked_sub(1) else {
@@ -347,9 +332,7 @@ fn braces(
 // The parts of `sections`, one at least, and the tokens behind them.
 #[cycle(statement)]
 fn parts(alloc: Global, tokens: &[Token], room: Room) -> Result<(Vec<Part>, &[Token]), SourceFault>
-    ensures { Reads (λ x. (map view_part x.0.items, x.1.now)) result
-        (one_or_more ends_parts (part_at (parts accepted).line (statement_in room))
-        (length tokens.now) tokens.now) }
+    ensures { ReadsEach view_part result (every_part_in room tokens.now) }
 {
     parts_are_sound();
     let mut parts = Vec::new(alloc);
@@ -367,8 +350,7 @@ fn parts(alloc: Global, tokens: &[Token], room: Room) -> Result<(Vec<Part>, &[To
 // A part of `sections`: its `section`, if it has one, its items, and the tokens behind them.
 #[cycle(statement)]
 fn part(alloc: Global, tokens: &[Token], room: Room) -> Result<(Part, &[Token]), SourceFault>
-    ensures { Reads (λ x. (view_part x.0, x.1.now)) result
-        (part_at (parts accepted).line (statement_in room) tokens.now) }
+    ensures { ReadsOne view_part result (part_in room tokens.now) }
 {
     let (section, rest) = section(alloc, tokens)?;
     let (items, rest) = part_items(alloc, rest, room)?;
@@ -382,9 +364,7 @@ fn part_items(
     tokens: &[Token],
     room: Room,
 ) -> Result<(Vec<Statement>, &[Token]), SourceFault>
-    ensures { Reads (λ x. (map view_statement x.0.items, x.1.now)) result
-        (one_or_more ends_part (part_item_at (parts accepted).line (statement_in room))
-        (length tokens.now) tokens.now) }
+    ensures { ReadsEach view_statement result (part_items_in room tokens.now) }
 {
     parts_are_sound();
     let mut items = Vec::new(alloc);

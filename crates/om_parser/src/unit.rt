@@ -1,25 +1,23 @@
 //! A whole source.
 
-ghost use Rattle.std.specs.Prelude.{◌≡◌, ◌⊎◌, List, [], IfOk, IfErr, None, Some, false, length, map, option_map};
-ghost use Rattle.om_lexer.specs.Faults.{no_memory};
+ghost use Rattle.std.specs.Prelude.{◌≡◌, List, [], IfOk, IfErr, None, Some, false, option_map};
 ghost use Rattle.om_lexer.specs.Order.{AreWhole};
 ghost use Rattle.om_lexer.specs.declared.fault.SourceFault.{SourceFault};
 ghost use Rattle.om_lexer.specs.declared.fault.FaultCode.TheVariants.{BadClause, Syntax, TooDeep, UnknownDirective};
 ghost use Rattle.om_lexer.specs.declared.token.Token.{Token};
-ghost use Rattle.om_parser.specs.Faults.{IsBadAtomic};
 ghost use Rattle.om_tree.specs.Formed.{IsUnit};
 ghost use Rattle.om_tree.specs.Limits.{accepted};
 ghost use Rattle.om_parser.specs.LineFaults.{IsRefusedLine};
 ghost use Rattle.om_tree.specs.Sizes.{AtomicsHaveForms, IsWithinLimits};
-ghost use Rattle.om_parser.specs.Parsing.{IsTreeOf, IsTreeOrMemory, IsLimitPassed};
+ghost use Rattle.om_parser.specs.Parsing.{ForEachAccepted, HasNoTree, HasParserCode, IfRefusedBy, IsRefusedLineOrAtomic, IsTreeOf, IsTreeOrMemory, PassesALimit};
 ghost use Rattle.om_parser.specs.Halts.{IsSyntaxHalt};
-ghost use Rattle.om_parser.specs.Refusals.{refusal_of};
+ghost use Rattle.om_parser.specs.Refusals.{refusal_of, IsRefusalOrMemory};
+ghost use Rattle.om_parser.specs.StatementView.{ReadsItem, ReadsToEnd};
 ghost use Rattle.om_parts.specs.Reading.{Reads};
 ghost use Rattle.om_tree.specs.Spelling.{unit_spelling};
 ghost use Rattle.om_tree.specs.Tree.{UnitTree};
-ghost use Rattle.om_parts.specs.Repetition.{until};
-ghost use Rattle.om_parser.specs.UnitReading.{function_after, prototype_after, void_after, int_after, item_at, take_end, unit_at};
-ghost use Rattle.om_tree.specs.View.{view_head, view_item, view_unit};
+ghost use Rattle.om_parser.specs.UnitReading.{function_after, prototype_after, void_after, int_after, item_at, items_to_end, take_end, unit_at};
+ghost use Rattle.om_tree.specs.View.{view_head, view_unit};
 
 use crate::function::{head_after, named_head};
 use crate::laws::{blocks_are_local, blocks_are_read_again, blocks_are_sound, blocks_stop_so};
@@ -74,24 +72,17 @@ pub fn parse(alloc: Global, tokens: &[Token]) -> Result<Unit, SourceFault>
     ensures atomics_have_forms { IfOk result (λ unit. AtomicsHaveForms (view_unit unit)) }
 
     // A well-formed tree within the limits is found, where each `atomic` has one of its forms.
-    ensures every_tree_is_found { (unit : UnitTree) → IsTreeOf tokens.now unit →
-        IsWithinLimits unit → AtomicsHaveForms unit → IsTreeOrMemory unit result }
+    ensures every_tree_is_found { ForEachAccepted tokens.now (λ unit. IsTreeOrMemory unit result) }
 
-    ensures syntax_has_no_tree { IfErr result (λ fault. fault.code ≡ Syntax → (unit : UnitTree) →
-        ¬ IsTreeOf tokens.now unit) }
-    ensures too_deep_passes_a_limit { IfErr result (λ fault. fault.code ≡ TooDeep →
-        IsLimitPassed tokens.now fault.at) }
-    ensures unknown_word { IfErr result (λ fault. fault.code ≡ UnknownDirective →
-        IsRefusedLine tokens.now fault) }
-    ensures bad_clause { IfErr result (λ fault. fault.code ≡ BadClause →
-        IsRefusedLine tokens.now fault ⊎ IsBadAtomic tokens.now fault.at) }
-    ensures no_other_refusal { IfErr result (λ fault. (fault ≡ no_memory) ⊎ (fault.code ≡ Syntax)
-        ⊎ (fault.code ≡ TooDeep) ⊎ (fault.code ≡ UnknownDirective) ⊎ (fault.code ≡ BadClause)) }
+    ensures syntax_has_no_tree { IfRefusedBy Syntax result (λ fault. HasNoTree tokens.now) }
+    ensures too_deep_passes_a_limit { IfRefusedBy TooDeep result (PassesALimit tokens.now) }
+    ensures unknown_word { IfRefusedBy UnknownDirective result (IsRefusedLine tokens.now) }
+    ensures bad_clause { IfRefusedBy BadClause result (IsRefusedLineOrAtomic tokens.now) }
+    ensures no_other_refusal { IfErr result HasParserCode }
 
     // A source is either accepted or has one refusal.
     ensures accepted_source { IfOk result (λ unit. refusal_of tokens.now ≡ None) }
-    ensures one_refusal { IfErr result
-        (λ fault. (fault ≡ no_memory) ⊎ (refusal_of tokens.now ≡ Some fault)) }
+    ensures one_refusal { IfErr result (IsRefusalOrMemory tokens.now) }
 {
     blocks_are_sound();
     blocks_are_read_again();
@@ -112,8 +103,7 @@ pub fn one_tree()
 /// The tokens of a well-formed unit have no refusal, where it keeps the limits and each `atomic` has one
 /// of its forms.
 pub fn accepted_units()
-    ensures { (tokens : List Token) (unit : UnitTree) → IsTreeOf tokens unit →
-        IsWithinLimits unit → AtomicsHaveForms unit → refusal_of tokens ≡ None }
+    ensures { (tokens : List Token) → ForEachAccepted tokens (λ unit. refusal_of tokens ≡ None) }
 {
     blocks_are_read_again();
     globals();
@@ -143,8 +133,7 @@ fn unit(alloc: Global, tokens: &[Token]) -> Result<Unit, SourceFault>
 
 // Declarations and functions up to the end of the source, and its span.
 fn items(alloc: Global, tokens: &[Token]) -> Result<(Vec<Item>, Span), SourceFault>
-    ensures { Reads (λ x. (map view_item x.0.items, x.1, [])) result
-        (until take_end (item_at accepted) (length tokens.now) tokens.now) }
+    ensures { ReadsToEnd result (items_to_end accepted tokens.now) }
 {
     blocks_are_sound();
     globals();
@@ -175,7 +164,7 @@ fn take_end(tokens: &[Token]) -> Option<Span>
 
 // A declaration, a prototype or a function, and the tokens behind it.
 fn item(alloc: Global, tokens: &[Token]) -> Result<(Item, &[Token]), SourceFault>
-    ensures { Reads (λ x. (view_item x.0, x.1.now)) result (item_at accepted tokens.now) }
+    ensures { ReadsItem result (item_at accepted tokens.now) }
 {
     if let Some((void, rest)) = take_word(tokens, Keyword::Void) {
         return void_after(alloc, void, rest);
@@ -186,7 +175,7 @@ fn item(alloc: Global, tokens: &[Token]) -> Result<(Item, &[Token]), SourceFault
 
 // The rest of a function or prototype without a result, of which `void` is taken.
 fn void_after(alloc: Global, void: Span, tokens: &[Token]) -> Result<(Item, &[Token]), SourceFault>
-    ensures { Reads (λ x. (view_item x.0, x.1.now)) result (void_after accepted void tokens.now) }
+    ensures { ReadsItem result (void_after accepted void tokens.now) }
 {
     let (name, rest) = name(alloc, tokens)?;
     let (open_paren, rest) = mark(rest, Punctuator::OpenParen)?;
@@ -195,7 +184,7 @@ fn void_after(alloc: Global, void: Span, tokens: &[Token]) -> Result<(Item, &[To
 
 // The rest of an item of which `int` is taken.
 fn int_after(alloc: Global, int: Span, tokens: &[Token]) -> Result<(Item, &[Token]), SourceFault>
-    ensures { Reads (λ x. (view_item x.0, x.1.now)) result (int_after accepted int tokens.now) }
+    ensures { ReadsItem result (int_after accepted int tokens.now) }
 {
     let (name, rest) = name(alloc, tokens)?;
     if let Some((open_paren, rest)) = take_mark(rest, Punctuator::OpenParen) {
@@ -213,7 +202,7 @@ fn prototype_after(
     open_paren: Span,
     tokens: &[Token],
 ) -> Result<(Item, &[Token]), SourceFault>
-    ensures { Reads (λ x. (view_item x.0, x.1.now)) result
+    ensures { ReadsItem result
         (prototype_after accepted result_type name open_paren tokens.now) }
 {
     let (head, rest) = head_after(alloc, result_type, name, open_paren, tokens)?;
@@ -226,8 +215,7 @@ fn function_after(
     head: Box<FunctionHead<Option<Name>>>,
     tokens: &[Token],
 ) -> Result<(Item, &[Token]), SourceFault>
-    ensures { Reads (λ x. (view_item x.0, x.1.now)) result
-        (function_after accepted (view_head head.value) tokens.now) }
+    ensures { ReadsItem result (function_after accepted (view_head head.value) tokens.now) }
 {
     if let Some((semicolon, rest)) = take_mark(tokens, Punctuator::Semicolon) {
         return Ok((
