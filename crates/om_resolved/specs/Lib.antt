@@ -3,6 +3,8 @@ pub mod ResolvedView
 pub mod Formats
 pub mod Captures
 pub mod FoundVariables
+pub mod Used
+pub mod Taken
 pub mod Whole
 pub mod Uses
 pub mod Beside

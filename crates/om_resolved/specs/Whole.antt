@@ -396,3 +396,7 @@ pub record IsWholeTree (tree : ResolvedTree) : Type 0 where
   pub names : IsDistinct same_name tree.functions
   pub main : Any IsMain tree.functions
   pub functions : All (IsWholeFunction tree.globals tree.functions) tree.functions
+
+-- a whole tree has a `main`
+abbrev pub WholeTreesHaveMain : Type 0
+WholeTreesHaveMain = (tree : ResolvedTree) → IsWholeTree tree → Any (λ function. is_main function ≡ true) tree.functions

@@ -1,9 +1,8 @@
 //! What a region takes from outside, and how (OpenMP API 5.2, section 5.1).
 
-ghost use Rattle.std.specs.Prelude.{◌≡◌, OnOk, IfOk, fold, map};
-ghost use Rattle.std.specs.List.{flat_map};
-ghost use Rattle.om_resolved.specs.Captures.{captured, captures_of, combined_uses, is_before, listed_uses, listed_variables, taken_by_parallel, taken_by_task, taken_variables, with_use};
-ghost use Rattle.om_resolved.specs.ResolvedView as view;
+ghost use Rattle.std.specs.Prelude.{◌≡◌};
+ghost use Rattle.om_resolved.specs.Captures.{captured, is_before, taken_by_parallel};
+ghost use Rattle.om_resolved.specs.Taken.{Produces, found_from, listed_from, parallel_captures, taken_from, taken_under, task_captures};
 
 use crate::found::Found;
 use crate::made::Made;
@@ -14,8 +13,7 @@ use std::alloc::Global;
 
 // The variables from outside that the clauses of a region list that begins there.
 fn listed_variables(alloc: Global, start: u32, clauses: &[ResolvedClause]) -> Made<Found>
-    ensures { let listed = listed_variables start (map view.clause clauses.now) in
-        IfOk result (λ found. found ≡ record { start = start; variables = listed }) }
+    ensures { Produces result (found_from start (listed_from start clauses.now)) }
 {
     let mut found = Found::new(alloc, start);
     take_all_listed(&mut found, clauses)?;
@@ -29,9 +27,7 @@ fn taken_variables(
     clauses: &[ResolvedClause],
     body: &ResolvedStatement,
 ) -> Made<Found>
-    ensures { let trees = map view.clause clauses.now in
-        let taken = taken_variables start trees (view.statement body.now) in
-        IfOk result (λ found. found ≡ record { start = start; variables = taken }) }
+    ensures { Produces result (found_from start (taken_from start clauses.now body.now)) }
 {
     let mut found = listed_variables(alloc, start, clauses)?;
     take_statement(&mut found, body)?;
@@ -40,7 +36,7 @@ fn taken_variables(
 
 // Variables as a `parallel` takes them from outside.
 fn captured_by_parallel(alloc: Global, variables: &[u32]) -> Made<Seq<Capture>>
-    ensures { IfOk result (λ captures. captures ≡ captured taken_by_parallel variables.now) }
+    ensures { Produces result (captured taken_by_parallel variables.now) }
 {
     let mut captures = Vec::new(alloc);
     for variable in variables {
@@ -59,9 +55,7 @@ pub fn captures_of_parallel(
     clauses: &[ResolvedClause],
     body: &ResolvedStatement,
 ) -> Made<Seq<Capture>>
-    ensures { IfOk result
-        (λ captures. captures ≡ captures_of taken_by_parallel start
-        (map view.clause clauses.now) (view.statement body.now)) }
+    ensures { Produces result (parallel_captures start clauses.now body.now) }
 {
     let found = taken_variables(alloc, start, clauses, body)?;
     captured_by_parallel(alloc, found.variables())
@@ -88,7 +82,7 @@ fn is_before(parallel: Option<u32>, variable: u32) -> bool
 
 // How a `task` takes a variable from outside.
 fn taken_by_task(sharing: TaskSharing, listed: &Found, variable: u32) -> Taking
-    ensures { result ≡ taken_by_task sharing.has_default sharing.parallel listed.now.variables variable }
+    ensures { result ≡ taken_under sharing listed.now.variables variable }
 {
     if sharing.has_default || listed.contains(variable) || is_before(sharing.parallel, variable) {
         Taking::Shared
@@ -104,8 +98,7 @@ fn captured_by_task(
     listed: &Found,
     variables: &[u32],
 ) -> Made<Seq<Capture>>
-    ensures { let taking = taken_by_task sharing.has_default sharing.parallel listed.now.variables in
-        IfOk result (λ captures. captures ≡ captured taking variables.now) }
+    ensures { Produces result (captured (taken_under sharing listed.now.variables) variables.now) }
 {
     let mut captures = Vec::new(alloc);
     for variable in variables {
@@ -125,11 +118,7 @@ pub fn captures_of_task(
     clauses: &[ResolvedClause],
     body: &ResolvedStatement,
 ) -> Made<Seq<Capture>>
-    ensures { let trees = map view.clause clauses.now in
-        let listed = listed_variables start trees in
-        let taking = taken_by_task sharing.has_default sharing.parallel listed in
-        IfOk result
-        (λ captures. captures ≡ captures_of taking start trees (view.statement body.now)) }
+    ensures { Produces result (task_captures sharing start clauses.now body.now) }
 {
     let listed = listed_variables(alloc, start, clauses)?;
     let found = taken_variables(alloc, start, clauses, body)?;

@@ -1,10 +1,10 @@
 //! The variables of its function that a part of a resolved tree uses, in the order of the text.
 
-ghost use Rattle.std.specs.Prelude.{◌≡◌, ◌++◌, ℕ, OnOk, fold, map, option_map};
+ghost use Rattle.std.specs.Prelude.{◌≡◌, ℕ, OnOk, map};
 ghost use Rattle.std.specs.List.{flat_map};
-ghost use Rattle.om_resolved.specs.Captures.{captured_variable, clause_uses, combined_uses, copy_uses, declarator_uses, expression_uses, listed_uses, own_uses, perhaps_uses, stand_alone_uses, start_uses, parts_uses, statement_uses, statements_uses, update_uses, values_uses, variable_uses};
-ghost use Rattle.om_resolved.specs.ResolvedTree as trees;
+ghost use Rattle.om_resolved.specs.Captures.{captured_variable, clause_uses, combined_uses, copy_uses, listed_uses, stand_alone_uses, start_uses, update_uses, variable_uses};
 ghost use Rattle.om_resolved.specs.ResolvedView as view;
+ghost use Rattle.om_resolved.specs.Used.{SeesUses, used_as_listed, used_by_bounds, used_by_clauses, used_by_declarators, used_by_expression, used_by_head, used_by_itself, used_by_parts, used_by_perhaps, used_by_region, used_by_statement, used_by_statements, used_by_values};
 
 use crate::made::Made;
 use crate::resolved::{
@@ -25,7 +25,7 @@ pub trait Sighting {
 
 /// Notes a variable that is used, where it is one of the function.
 pub fn take<S: Sighting>(seen: &mut S, variable: Variable) -> Made<()>
-    ensures { OnOk result (seen.new ≡ fold S.next seen.old (variable_uses variable)) }
+    ensures { SeesUses result S.next (variable_uses variable) seen.old seen.new }
 {
     let Variable::Local(at) = variable else {
         return Ok(());
@@ -36,9 +36,7 @@ pub fn take<S: Sighting>(seen: &mut S, variable: Variable) -> Made<()>
 /// Notes what an expression uses.
 #[cycle(expression)]
 pub fn take_expression<S: Sighting>(seen: &mut S, expression: &ResolvedExpression) -> Made<()>
-    ensures { OnOk result
-        (seen.new ≡ fold S.next seen.old
-        (expression_uses (view.expression expression.now))) }
+    ensures { SeesUses result S.next (used_by_expression expression.now) seen.old seen.new }
 {
     match expression {
         ResolvedExpression::Constant(_)
@@ -94,9 +92,7 @@ pub fn take_expression<S: Sighting>(seen: &mut S, expression: &ResolvedExpressio
 // Notes what the values of a call use.
 #[cycle(expression)]
 fn take_values<S: Sighting>(seen: &mut S, values: &[ResolvedExpression]) -> Made<()>
-    ensures { OnOk result
-        (seen.new ≡ fold S.next seen.old
-        (values_uses (trees.values (map view.expression values.now)))) }
+    ensures { SeesUses result S.next (used_by_values values.now) seen.old seen.new }
 {
     for value in values {
         take_expression(seen, value)?;
@@ -106,9 +102,7 @@ fn take_values<S: Sighting>(seen: &mut S, values: &[ResolvedExpression]) -> Made
 
 /// Notes what an expression uses that may be left out.
 pub fn take_perhaps<S: Sighting>(seen: &mut S, expression: &Option<ResolvedExpression>) -> Made<()>
-    ensures { OnOk result
-        (seen.new ≡ fold S.next seen.old
-        (perhaps_uses (option_map view.expression expression.now))) }
+    ensures { SeesUses result S.next (used_by_perhaps expression.now) seen.old seen.new }
 {
     let Some(expression) = expression else {
         return Ok(());
@@ -118,9 +112,7 @@ pub fn take_perhaps<S: Sighting>(seen: &mut S, expression: &Option<ResolvedExpre
 
 // Notes what declarations use.
 fn take_declarators<S: Sighting>(seen: &mut S, declarators: &[ResolvedDeclarator]) -> Made<()>
-    ensures { OnOk result
-        (seen.new ≡ fold S.next seen.old
-        (flat_map declarator_uses (map view.declarator declarators.now))) }
+    ensures { SeesUses result S.next (used_by_declarators declarators.now) seen.old seen.new }
 {
     for declarator in declarators {
         take_perhaps(seen, &declarator.initial)?;
@@ -130,8 +122,7 @@ fn take_declarators<S: Sighting>(seen: &mut S, declarators: &[ResolvedDeclarator
 
 // Notes what the beginning of a `for` uses.
 fn take_start<S: Sighting>(seen: &mut S, begin: &ResolvedStart) -> Made<()>
-    ensures { OnOk result
-        (seen.new ≡ fold S.next seen.old (start_uses (view.start begin.now))) }
+    ensures { SeesUses result S.next (start_uses (view.start begin.now)) seen.old seen.new }
 {
     match begin {
         ResolvedStart::Nothing => Ok(()),
@@ -144,7 +135,7 @@ fn take_start<S: Sighting>(seen: &mut S, begin: &ResolvedStart) -> Made<()>
 
 /// Notes the original of a copy, unless that is private.
 pub fn take_original<S: Sighting>(seen: &mut S, kind: CopyKind, original: Variable) -> Made<()>
-    ensures { OnOk result (seen.new ≡ fold S.next seen.old (copy_uses kind original)) }
+    ensures { SeesUses result S.next (copy_uses kind original) seen.old seen.new }
 {
     if matches!(kind, CopyKind::Private) {
         return Ok(());
@@ -154,9 +145,7 @@ pub fn take_original<S: Sighting>(seen: &mut S, kind: CopyKind, original: Variab
 
 // Notes what a clause uses outside of its construct.
 fn take_clause<S: Sighting>(seen: &mut S, clause: &ResolvedClause) -> Made<()>
-    ensures { OnOk result
-        (seen.new ≡ fold S.next seen.old
-        (clause_uses (view.clause clause.now))) }
+    ensures { SeesUses result S.next (clause_uses (view.clause clause.now)) seen.old seen.new }
 {
     match clause {
         ResolvedClause::Value { value, .. } => take_expression(seen, value),
@@ -167,9 +156,7 @@ fn take_clause<S: Sighting>(seen: &mut S, clause: &ResolvedClause) -> Made<()>
 
 // Notes what clauses use outside of their construct.
 fn take_clauses<S: Sighting>(seen: &mut S, clauses: &[ResolvedClause]) -> Made<()>
-    ensures { OnOk result
-        (seen.new ≡ fold S.next seen.old
-        (flat_map clause_uses (map view.clause clauses.now))) }
+    ensures { SeesUses result S.next (used_by_clauses clauses.now) seen.old seen.new }
 {
     for clause in clauses {
         take_clause(seen, clause)?;
@@ -179,7 +166,7 @@ fn take_clauses<S: Sighting>(seen: &mut S, clauses: &[ResolvedClause]) -> Made<(
 
 // Notes what a region takes from outside.
 fn take_captures<S: Sighting>(seen: &mut S, captures: &[Capture]) -> Made<()>
-    ensures { OnOk result (seen.new ≡ fold S.next seen.old (map captured_variable captures.now)) }
+    ensures { SeesUses result S.next (map captured_variable captures.now) seen.old seen.new }
 {
     for capture in captures {
         seen.see(capture.variable)?;
@@ -189,7 +176,7 @@ fn take_captures<S: Sighting>(seen: &mut S, captures: &[Capture]) -> Made<()>
 
 // Notes variables that are used.
 fn take_variables<S: Sighting>(seen: &mut S, variables: &[Variable]) -> Made<()>
-    ensures { OnOk result (seen.new ≡ fold S.next seen.old (flat_map variable_uses variables.now)) }
+    ensures { SeesUses result S.next (flat_map variable_uses variables.now) seen.old seen.new }
 {
     for variable in variables {
         take(seen, *variable)?;
@@ -199,7 +186,7 @@ fn take_variables<S: Sighting>(seen: &mut S, variables: &[Variable]) -> Made<()>
 
 /// Notes what a directive uses that stands alone.
 pub fn take_stand_alone<S: Sighting>(seen: &mut S, directive: &StandAlone) -> Made<()>
-    ensures { OnOk result (seen.new ≡ fold S.next seen.old (stand_alone_uses directive.now)) }
+    ensures { SeesUses result S.next (stand_alone_uses directive.now) seen.old seen.new }
 {
     let StandAlone::Flush(variables) = directive else {
         return Ok(());
@@ -213,10 +200,7 @@ pub fn take_region<S: Sighting>(
     clauses: &[ResolvedClause],
     captures: &[Capture],
 ) -> Made<()>
-    ensures { OnOk result
-        (seen.new ≡ fold S.next seen.old
-        (flat_map clause_uses (map view.clause clauses.now)
-        ++ map captured_variable captures.now)) }
+    ensures { SeesUses result S.next (used_by_region clauses.now captures.now) seen.old seen.new }
 {
     take_clauses(seen, clauses)?;
     take_captures(seen, captures)
@@ -224,11 +208,7 @@ pub fn take_region<S: Sighting>(
 
 // Notes what the head of a `for` uses.
 fn take_head<S: Sighting>(seen: &mut S, head: &ResolvedHead) -> Made<()>
-    ensures { OnOk result
-        (seen.new ≡ fold S.next seen.old
-        (start_uses (view.start head.now.start)
-        ++ (perhaps_uses (option_map view.expression head.now.condition)
-        ++ perhaps_uses (option_map view.expression head.now.step)))) }
+    ensures { SeesUses result S.next (used_by_head head.now) seen.old seen.new }
 {
     take_start(seen, &head.start)?;
     take_perhaps(seen, &head.condition)?;
@@ -241,11 +221,7 @@ fn take_bounds<S: Sighting>(
     clauses: &[ResolvedClause],
     repeated: &ResolvedLoop,
 ) -> Made<()>
-    ensures { OnOk result
-        (seen.new ≡ fold S.next seen.old
-        (flat_map clause_uses (map view.clause clauses.now)
-        ++ (expression_uses (view.expression repeated.now.from)
-        ++ expression_uses (view.expression repeated.now.to)))) }
+    ensures { SeesUses result S.next (used_by_bounds clauses.now repeated.now) seen.old seen.new }
 {
     take_clauses(seen, clauses)?;
     take_expression(seen, &repeated.from)?;
@@ -254,9 +230,7 @@ fn take_bounds<S: Sighting>(
 
 /// Notes what an atomic update uses.
 pub fn take_update<S: Sighting>(seen: &mut S, update: &ResolvedUpdate) -> Made<()>
-    ensures { OnOk result
-        (seen.new ≡ fold S.next seen.old
-        (update_uses (view.update update.now))) }
+    ensures { SeesUses result S.next (update_uses (view.update update.now)) seen.old seen.new }
 {
     take(seen, update.variable)?;
     take_perhaps(seen, &update.index)?;
@@ -266,9 +240,7 @@ pub fn take_update<S: Sighting>(seen: &mut S, update: &ResolvedUpdate) -> Made<(
 // Notes what a statement uses besides the statements in it. The condition of a `do` stands behind
 // its body, so that nothing is noted of that one.
 fn take_own<S: Sighting>(seen: &mut S, statement: &ResolvedStatement) -> Made<()>
-    ensures { OnOk result
-        (seen.new ≡ fold S.next seen.old
-        (own_uses (view.statement statement.now))) }
+    ensures { SeesUses result S.next (used_by_itself statement.now) seen.old seen.new }
 {
     match statement {
         ResolvedStatement::Declaration { declarators, .. } => {
@@ -319,9 +291,7 @@ fn take_own<S: Sighting>(seen: &mut S, statement: &ResolvedStatement) -> Made<()
 /// Notes what a statement uses.
 #[cycle(statement)]
 pub(crate) fn take_statement<S: Sighting>(seen: &mut S, statement: &ResolvedStatement) -> Made<()>
-    ensures { OnOk result
-        (seen.new ≡ fold S.next seen.old
-        (statement_uses (view.statement statement.now))) }
+    ensures { SeesUses result S.next (used_by_statement statement.now) seen.old seen.new }
 {
     take_own(seen, statement)?;
     match statement {
@@ -360,9 +330,7 @@ pub(crate) fn take_statement<S: Sighting>(seen: &mut S, statement: &ResolvedStat
 // Notes what statements use.
 #[cycle(statement)]
 fn take_statements<S: Sighting>(seen: &mut S, items: &[ResolvedStatement]) -> Made<()>
-    ensures { OnOk result
-        (seen.new ≡ fold S.next seen.old
-        (statements_uses (trees.statements (map view.statement items.now)))) }
+    ensures { SeesUses result S.next (used_by_statements items.now) seen.old seen.new }
 {
     for item in items {
         take_statement(seen, item)?;
@@ -373,9 +341,7 @@ fn take_statements<S: Sighting>(seen: &mut S, items: &[ResolvedStatement]) -> Ma
 // Notes what the parts of `sections` use.
 #[cycle(statement)]
 fn take_parts<S: Sighting>(seen: &mut S, parts: &[ResolvedPart]) -> Made<()>
-    ensures { OnOk result
-        (seen.new ≡ fold S.next seen.old
-        (parts_uses (trees.parts (map view.part parts.now)))) }
+    ensures { SeesUses result S.next (used_by_parts parts.now) seen.old seen.new }
 {
     for part in parts {
         take_statements(seen, part.items.as_slice())?;
@@ -385,7 +351,7 @@ fn take_parts<S: Sighting>(seen: &mut S, parts: &[ResolvedPart]) -> Made<()>
 
 /// Notes the original of a copy that is combined into it.
 pub fn take_combined<S: Sighting>(seen: &mut S, kind: CopyKind, original: Variable) -> Made<()>
-    ensures { OnOk result (seen.new ≡ fold S.next seen.old (combined_uses kind original)) }
+    ensures { SeesUses result S.next (combined_uses kind original) seen.old seen.new }
 {
     let CopyKind::Reduction(_) = kind else {
         return Ok(());
@@ -395,9 +361,7 @@ pub fn take_combined<S: Sighting>(seen: &mut S, kind: CopyKind, original: Variab
 
 // Notes what a clause of a region uses in it.
 fn take_listed<S: Sighting>(seen: &mut S, clause: &ResolvedClause) -> Made<()>
-    ensures { OnOk result
-        (seen.new ≡ fold S.next seen.old
-        (listed_uses (view.clause clause.now))) }
+    ensures { SeesUses result S.next (listed_uses (view.clause clause.now)) seen.old seen.new }
 {
     match clause {
         ResolvedClause::Value { .. } => Ok(()),
@@ -408,9 +372,7 @@ fn take_listed<S: Sighting>(seen: &mut S, clause: &ResolvedClause) -> Made<()>
 
 /// Notes what the clauses of a region use in it.
 pub(crate) fn take_all_listed<S: Sighting>(seen: &mut S, clauses: &[ResolvedClause]) -> Made<()>
-    ensures { OnOk result
-        (seen.new ≡ fold S.next seen.old
-        (flat_map listed_uses (map view.clause clauses.now))) }
+    ensures { SeesUses result S.next (used_as_listed clauses.now) seen.old seen.new }
 {
     for clause in clauses {
         take_listed(seen, clause)?;
