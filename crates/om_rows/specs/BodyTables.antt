@@ -1,8 +1,9 @@
 -- The tables of a body, as what is numbered in them.
-use Rattle.std.specs.Prelude.{map}
+use Rattle.std.specs.Prelude.{◌≡◌, ℕ, Bool, List, map}
+use Rattle.om_resolved.specs.declared.resolved.Resolved.{Resolved}
 use Rattle.om_resolved.specs.ResolvedView as view
 use Rattle.om_rows.specs.declared.body.BodyTables.{BodyTables}
-use Rattle.om_rows.specs.Numbered.{Numbered}
+use Rattle.om_rows.specs.Numbered.{Numbered, numbered_in}
 
 abbrev pub numbered_by : BodyTables → Numbered
 numbered_by tables = record {
@@ -12,3 +13,8 @@ numbered_by tables = record {
   locks = tables.program.now.locks;
   is_main = tables.is_main;
 }
+
+-- they are those of a body of this program that has these variables
+abbrev pub AreOfBody : BodyTables → Resolved → (variables : List ℕ) → (is_main : Bool) → Type 0
+AreOfBody tables resolved variables is_main =
+    numbered_by tables ≡ numbered_in (view.resolved resolved) variables is_main

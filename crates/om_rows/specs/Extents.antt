@@ -10,6 +10,10 @@ is_extent_of variable extent = nat_eq variable extent.variable
 abbrev pub with_extent : List Extent → Extent → List Extent
 with_extent extents extent = if list_any (is_extent_of extent.variable) extents then extents else extents ++ extent ∷ []
 
+-- behind the declaration of this variable with so many cells
+abbrev pub with_declaration : List Extent → (variable : ℕ) → (cells : ℕ) → List Extent
+with_declaration extents variable cells = with_extent extents (record { variable = variable; cells = cells })
+
 -- behind further declarations
 abbrev pub measured : List Extent → (declared : List Extent) → List Extent
 measured extents declared = fold with_extent extents declared

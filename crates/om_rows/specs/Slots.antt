@@ -3,7 +3,7 @@
 -- `task` each variable of the function from outside that it uses, combines or lists as `shared` has one too, at its
 -- first sight. The data clauses of a `parallel` or a `task` belong to its body.
 use Rattle.std.specs.Prelude.{ℕ, List, [], ◌∷◌, ◌++◌, Option, None, Some, Bool, true, false, map, nat_eq, length}
-use Rattle.std.specs.Prelude.{if◌then◌else◌}
+use Rattle.std.specs.Prelude.{◌≡◌, IfOk, Result, if◌then◌else◌}
 use Rattle.std.specs.List.{flat_map, list_any}
 use Rattle.om_code.specs.declared.instruction.Place.{Place}
 use Rattle.om_code.specs.declared.instruction.Place.TheVariants as places
@@ -163,6 +163,12 @@ slot_with extents outer captures variable = record {
   source = source_of outer
       captures variable;
 }
+
+-- a function makes the slots of these variables, unless memory runs out
+abbrev pub MakesSlots : {E : Type 0} → Result (List Slot) E → List Extent → (outer : List ℕ) → List Capture
+    → (variables : List ℕ) → Type 0
+MakesSlots result extents outer captures variables =
+    IfOk result (λ slots. slots ≡ map (slot_with extents outer captures) variables)
 
 -- ---- firstprivate copies of a `parallel` or a `task`
 

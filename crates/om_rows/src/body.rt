@@ -37,8 +37,7 @@ impl<'a> BodyTables<'a> {
     ghost use Rattle.om_rows.specs.Mentions.{lock_name};
     ghost use Rattle.om_rows.specs.Slots.{place_of, slot_of};
     ghost use Rattle.om_rows.specs.Tables.{number_in};
-    ghost use Rattle.om_rows.specs.BodyTables.{numbered_by};
-    ghost use Rattle.om_rows.specs.Numbered.{numbered_in};
+    ghost use Rattle.om_rows.specs.BodyTables.{AreOfBody, numbered_by};
     ghost use Rattle.om_rows.specs.Numbering.{numbers_of};
     ghost use Rattle.om_rows.specs.ProgramTables.{IsTablesOf, known_in, known_of};
 
@@ -52,8 +51,7 @@ impl<'a> BodyTables<'a> {
     ) -> BodyTables<'a>
         requires few { length variables.now ≤ 256 }
         requires tables { IsTablesOf (view.resolved resolved.now) tables.now }
-        ensures names { numbered_by result
-            ≡ numbered_in (view.resolved resolved.now) variables.now is_main }
+        ensures names { AreOfBody result resolved.now variables.now is_main }
         ensures known { known_in result ≡ known_of tables.now known.now }
     {
         BodyTables {

@@ -1,10 +1,10 @@
 //! A `parallel` or a `task`, and its firstprivate copies.
 
-ghost use Rattle.std.specs.Prelude.{◌≡◌, ◌++◌, ◌∷◌, [], IfOk, OnOk, map};
+ghost use Rattle.std.specs.Prelude.{◌≡◌, ◌++◌, ◌∷◌, [], OnOk};
 ghost use Rattle.std.specs.List.{flat_map};
 ghost use Rattle.om_resolved.specs.ResolvedView as view;
-ghost use Rattle.om_rows.specs.Slots.{by_slots, capture_first, clause_first, first_copies, first_copy_at};
-ghost use Rattle.om_rows.specs.Copies.{AddsCopies, clauses_first, first_copies_of};
+ghost use Rattle.om_rows.specs.Slots.{capture_first, clause_first};
+ghost use Rattle.om_rows.specs.Copies.{AddsCopies, GivesCopies, clauses_first, first_copies_in, first_copies_of, first_copy_in};
 
 use crate::variables::Variables;
 use om_lexer::Span;
@@ -35,8 +35,7 @@ pub fn given_copies(
     captures: &[Capture],
     variables: &Variables,
 ) -> Made<Vec<FirstCopy>>
-    ensures { let copies = first_copies (map view.clause clauses.now) captures.now in
-        IfOk result (λ made. first_copies_of made.items ≡ by_slots variables.now copies) }
+    ensures { GivesCopies result variables.now (first_copies_in clauses.now captures.now) }
 {
     let mut copies = Vec::new(alloc);
     add_clauses(&mut copies, clauses)?;
@@ -107,8 +106,7 @@ fn add_capture(copies: &mut Vec<FirstCopy>, capture: Capture) -> Made<()>
 
 // The copies by the slots of their variables.
 fn by_slots(alloc: Global, variables: &[u32], copies: &[FirstCopy]) -> Made<Vec<FirstCopy>>
-    ensures { let given = by_slots variables.now (first_copies_of copies.now) in
-        IfOk result (λ made. first_copies_of made.items ≡ given) }
+    ensures { GivesCopies result variables.now (first_copies_of copies.now) }
 {
     let mut given = Vec::new(alloc);
     for variable in variables {
@@ -119,8 +117,7 @@ fn by_slots(alloc: Global, variables: &[u32], copies: &[FirstCopy]) -> Made<Vec<
 
 // Adds the copy whose variable this is, if there is one.
 fn add_first(given: &mut Vec<FirstCopy>, copies: &[FirstCopy], variable: u32) -> Made<()>
-    ensures { let added = first_copy_at (first_copies_of copies.now) variable in
-        AddsCopies result added given.old given.new }
+    ensures { AddsCopies result (first_copy_in copies.now variable) given.old given.new }
 {
     for copy in copies {
         if copy.variable == variable {

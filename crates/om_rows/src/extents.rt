@@ -2,7 +2,7 @@
 
 ghost use Rattle.std.specs.Prelude.{◌≡◌, [], OnOk};
 ghost use Rattle.om_rows.specs.Slots.{cells_in};
-ghost use Rattle.om_rows.specs.Extents.{with_extent};
+ghost use Rattle.om_rows.specs.Extents.{with_declaration};
 
 use om_resolved::Made;
 use std::alloc::Global;
@@ -51,8 +51,7 @@ impl Extents {
 
     /// Notes a declared variable.
     pub fn note(&mut self, variable: u32, cells: u32) -> Made<()>
-        ensures { OnOk result
-            (self.new ≡ with_extent self.old (record { variable = variable; cells = cells })) }
+        ensures { OnOk result (self.new ≡ with_declaration self.old variable cells) }
     {
         if self.cells.contains_key(&variable) {
             return Ok(());

@@ -1,8 +1,8 @@
 //! The slots of a body, and those that values are given to.
 
-ghost use Rattle.std.specs.Prelude.{◌≡◌, ◌≤◌, IfOk, length, map};
+ghost use Rattle.std.specs.Prelude.{◌≡◌, ◌≤◌, length, map};
 ghost use Rattle.std.specs.List.{list_any};
-ghost use Rattle.om_rows.specs.Slots.{is_shared, parameter_sight, shares, slot_with, source_of};
+ghost use Rattle.om_rows.specs.Slots.{MakesSlots, is_shared, parameter_sight, shares, source_of};
 ghost use Rattle.om_rows.specs.Copies.{GivesSlots, copied_variables, first_copies_of};
 
 use crate::copies::FirstCopy;
@@ -22,8 +22,7 @@ pub fn slots_with(
     variables: &Variables,
 ) -> Made<Seq<Slot>>
     requires { length outer.now ≤ 256 }
-    ensures { IfOk result
-        (λ slots. slots ≡ map (slot_with extents.now outer.now captures.now) variables.now) }
+    ensures { MakesSlots result extents.now outer.now captures.now variables.now }
 {
     let mut slots = Vec::new(alloc);
     for variable in variables.as_slice() {
