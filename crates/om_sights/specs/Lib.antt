@@ -5,4 +5,5 @@ pub mod Regions
 pub mod Sites
 pub mod Room
 pub mod Walks
+pub mod Gathered
 pub mod Weighed

@@ -1,5 +1,5 @@
 -- Whether numbers of 32 bits are enough for what a part of a tree mentions, and for the regions in it.
-use Rattle.std.specs.Prelude.{◌+◌, ◌<◌, ◌^◌, ℕ, length}
+use Rattle.std.specs.Prelude.{◌+◌, ◌<◌, ◌^◌, ℕ, List, length}
 use Rattle.om_rows.specs.declared.numbers.Numbers.{Numbers}
 use Rattle.om_sights.specs.declared.mentions.Mentions.{Mentions}
 use Rattle.om_sights.specs.declared.mentions.Walk.{Walk}
@@ -14,6 +14,10 @@ given_numbers numbers = numbers.bodies + numbers.picks
 -- a part of this weight has numbers behind so many
 unfoldable pub IsRoomFor : (weight : ℕ) → (given : ℕ) → Type 0
 IsRoomFor weight given = given + weight < 2 ^ 32
+
+-- it has numbers behind these texts
+abbrev pub HasRoomBehind : (weight : ℕ) → (texts : List (List ℕ)) → Type 0
+HasRoomBehind weight texts = IsRoomFor weight (length texts)
 
 abbrev pub HasTextRoom : (weight : ℕ) → Mentions → Type 0
 HasTextRoom weight found = IsRoomFor weight (texts_in found)

@@ -1,17 +1,18 @@
 -- The bodies of a function, as they are found.
-use Rattle.std.specs.Prelude.{◌≡◌, ◌+◌, ◌-◌, ℕ, List, [], ◌∷◌, ◌++◌, Some, Vec, length}
+use Rattle.std.specs.Prelude.{◌≡◌, ◌+◌, ◌-◌, ℕ, IfOk, List, [], ◌∷◌, ◌++◌, Result, Some, Vec, length}
 use Rattle.std.specs.Prelude.{slice_get, take, unwrap_or}
 use Rattle.std.specs.declared.alloc.Global.{Global}
 use Rattle.om_sights.specs.Regions.{parallel_tree, task_tree}
 use Rattle.om_sights.specs.declared.sites.BodyPart.{BodyPart}
 use Rattle.om_sights.specs.declared.sites.BodyPart.TheVariants as parts
 use Rattle.om_sights.specs.declared.sites.Site.{Site}
+use Rattle.om_resolved.specs.declared.resolved.ResolvedFunction.{ResolvedFunction}
 use Rattle.om_resolved.specs.declared.resolved.ResolvedPart.{ResolvedPart}
 use Rattle.om_resolved.specs.declared.resolved.ResolvedStatement.{ResolvedStatement}
 use Rattle.om_resolved.specs.ResolvedTree.{ResolvedFunctionTree, ResolvedStatementTree}
 use Rattle.om_resolved.specs.ResolvedView as view
-use Rattle.om_rows.specs.Bodies.{BodySite, BodyTree, FunctionBody, Numbers, all_regions, next_body, parts_regions}
-use Rattle.om_rows.specs.Bodies.{regions, variables_in}
+use Rattle.om_rows.specs.Bodies.{BodySite, BodyTree, FunctionBody, Numbers, all_regions, function_bodies, next_body}
+use Rattle.om_rows.specs.Bodies.{parts_regions, regions, variables_in}
 use Rattle.om_rows.specs.Numbering.{numbers_of}
 use Rattle.om_rows.specs.declared.numbers.Numbers as tables
 use Rattle.om_sights.specs.Trees.{part_trees, statement_trees}
@@ -89,7 +90,17 @@ region_bodies round part n s =
     record { function = f; tree = part_tree part; outer = site_variables round; numbers = n }
     ∷ regions f (variables_at f part) n s
 
+-- the bodies of a function are found, from these numbers on, unless memory runs out
+abbrev pub GivesBodies : {E : Type 0} → Result (Vec Site Global) E → tables.Numbers → ResolvedFunction → Type 0
+GivesBodies result numbers function =
+    IfOk result (λ sites. bodies_in [] sites.items ≡ function_bodies (numbers_of numbers) (view.function function))
+
 -- ---- a part that stands in an open body, from these numbers on
+
+-- a walk over it gives the numbers behind it, unless memory runs out
+abbrev pub ComesBehind : {X E : Type 0} → Result tables.Numbers E → (behind : Numbers → X → Numbers) → tables.Numbers → X
+    → Type 0
+ComesBehind result behind numbers x = IfOk result (λ after. numbers_of after ≡ behind (numbers_of numbers) x)
 
 -- the body of a region has been added, and those in it
 abbrev pub AddsBody : Site → BodyPart → tables.Numbers → ResolvedStatement → (old new : Vec Site Global) → Type 0

@@ -1,5 +1,5 @@
 -- What is promised of a walk over a tree: what it notes, and the numbers that it comes to.
-use Rattle.std.specs.Prelude.{◌≡◌, ◌+◌, ◌++◌, ℕ, List, Option, map}
+use Rattle.std.specs.Prelude.{◌≡◌, ◌+◌, ◌++◌, ℕ, List, Option, map, sum}
 use Rattle.std.specs.List.{flat_map}
 use Rattle.om_resolved.specs.declared.resolved.ResolvedClause.{ResolvedClause}
 use Rattle.om_resolved.specs.declared.resolved.ResolvedDeclarator.{ResolvedDeclarator}
@@ -13,10 +13,11 @@ use Rattle.om_resolved.specs.declared.resolved.ResolvedStatement.{ResolvedStatem
 use Rattle.om_resolved.specs.declared.resolved.ResolvedUpdate.{ResolvedUpdate}
 use Rattle.om_resolved.specs.ResolvedTree.{ResolvedStatementTree}
 use Rattle.om_resolved.specs.ResolvedView as view
-use Rattle.om_resolved.specs.Weights.{perhaps_weight, start_weight}
-use Rattle.om_rows.specs.Bodies.{Numbers, behind, behind_functions, first_numbers, next_body}
-use Rattle.om_rows.specs.Ends.{ends_from}
-use Rattle.om_rows.specs.Mentions.{Mention, all_mentioned, clause_mentioned, declarator_mentioned, format_mention}
+use Rattle.om_resolved.specs.Weights.{declarator_weight, function_weight, perhaps_weight, start_weight}
+use Rattle.om_rows.specs.Bodies.{Numbers, behind, behind_function, behind_functions, first_numbers, next_body}
+use Rattle.om_rows.specs.Ends.{all_region_ends, ends_from, function_ends, parts_region_ends, region_ends}
+use Rattle.om_rows.specs.Mentions.{Mention, all_mentioned, clause_mentioned, declarator_mentioned, expression_formats}
+use Rattle.om_rows.specs.Mentions.{format_mention}
 use Rattle.om_rows.specs.Mentions.{function_mentioned, lock_mention, loop_mentioned, mentioned, parts_mentioned}
 use Rattle.om_rows.specs.Mentions.{perhaps_mentioned, start_mentioned, update_mentioned}
 use Rattle.om_rows.specs.Numbering.{numbers_of}
@@ -66,10 +67,24 @@ by_parts parts A m = parts_mentioned m (part_trees parts)
 abbrev pub by_function : ResolvedFunction → (A : Type 0) → Mention A → List A
 by_function function A m = function_mentioned m (view.function function)
 
+-- the formats of an expression
+abbrev pub formats_in : ResolvedExpression → List (List ℕ)
+formats_in expression = expression_formats (view.expression expression)
+
+-- ---- weights
+
+-- the weight of declarations
+abbrev pub declarators_weight : List ResolvedDeclarator → ℕ
+declarators_weight declarators = sum (map declarator_weight (map view.declarator declarators))
+
 -- the weight of the head of a `for`
 abbrev pub head_weight : ResolvedHead → ℕ
 head_weight head = start_weight (view.start head.start)
     + (perhaps_weight (perhaps_tree head.condition) + perhaps_weight (perhaps_tree head.step))
+
+-- the weight of functions
+abbrev pub functions_weight : List ResolvedFunction → ℕ
+functions_weight functions = sum (map function_weight (map view.function functions))
 
 -- ---- a walk over a part with regions
 
@@ -86,6 +101,16 @@ abbrev pub AddsEnds : {X : Type 0} → (ends : Numbers → X → List Numbers) �
 AddsEnds ends x old new =
     map numbers_of new.ends.items ≡ map numbers_of old.ends.items ++ ends (numbers_of old.numbers) x
 
+-- those behind each body in a statement, in statements, and in the parts of a `sections`
+abbrev pub AddsRegionEnds : ResolvedStatement → Walk → Walk → Type 0
+AddsRegionEnds statement old new = AddsEnds region_ends (view.statement statement) old new
+
+abbrev pub AddsAllRegionEnds : List ResolvedStatement → Walk → Walk → Type 0
+AddsAllRegionEnds items old new = AddsEnds all_region_ends (statement_trees items) old new
+
+abbrev pub AddsPartsRegionEnds : List ResolvedPart → Walk → Walk → Type 0
+AddsPartsRegionEnds parts old new = AddsEnds parts_region_ends (part_trees parts) old new
+
 -- the numbers behind the body of a region, which is the next one
 abbrev pub behind_body : Numbers → ResolvedStatementTree → Numbers
 behind_body n s = behind (next_body n) s
@@ -101,7 +126,15 @@ abbrev pub HasLocks : ResolvedFunction → Walk → Walk → Type 0
 HasLocks function old new =
     new.found.locks ≡ noted old.found.locks (function_mentioned lock_mention (view.function function))
 
--- those of all functions of a program are
+-- it comes to the numbers behind a function
+abbrev pub PassesFunction : ResolvedFunction → Walk → Walk → Type 0
+PassesFunction function old new = Passes behind_function (view.function function) old new
+
+-- it adds the numbers behind each body of a function
+abbrev pub AddsFunctionEnds : ResolvedFunction → Walk → Walk → Type 0
+AddsFunctionEnds function old new = AddsEnds function_ends (view.function function) old new
+
+-- the formats of all functions of a program are noted, and their names of critical regions
 abbrev pub HaveFormats : List ResolvedFunction → Walk → Walk → Type 0
 HaveFormats functions old new =
     let sights = flat_map (function_mentioned format_mention) (map view.function functions) in

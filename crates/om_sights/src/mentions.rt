@@ -3,15 +3,15 @@
 
 ghost use Rattle.std.specs.Prelude.{◌≡◌, ◌<◌, ◌+◌, OnOk, length, map, set, sum};
 ghost use Rattle.om_resolved.specs.ResolvedView as view;
-ghost use Rattle.om_resolved.specs.Weights.{clause_weight, declarator_weight, expression_weight, loop_weight, parts_weight, perhaps_weight, start_weight, statement_weight, statements_weight, update_weight, values_weight};
-ghost use Rattle.om_rows.specs.Mentions.{expression_formats, values_formats};
+ghost use Rattle.om_resolved.specs.Weights.{clause_weight, expression_weight, loop_weight, parts_weight, perhaps_weight, start_weight, statement_weight, statements_weight, update_weight, values_weight};
+ghost use Rattle.om_rows.specs.Mentions.{values_formats};
 ghost use Rattle.om_rows.specs.Slots.{cells_of_length};
 ghost use Rattle.om_rows.specs.Bodies.{behind, behind_all, behind_parts};
-ghost use Rattle.om_rows.specs.Ends.{all_region_ends, body_ends, parts_region_ends, region_ends};
+ghost use Rattle.om_rows.specs.Ends.{body_ends};
 ghost use Rattle.om_sights.specs.Noted.{AreNoted, noted};
-ghost use Rattle.om_sights.specs.Room.{HasRoom, HasTextRoom, IsRoomFor};
+ghost use Rattle.om_sights.specs.Room.{HasRoom, HasRoomBehind, HasTextRoom};
 ghost use Rattle.om_sights.specs.Trees.{listed, part_trees, perhaps_tree, statement_trees};
-ghost use Rattle.om_sights.specs.Walks.{AddsEnds, Finds, Passes, behind_body, by_clause, by_clauses, by_declarators, by_head, by_loop, by_parts, by_perhaps, by_start, by_statement, by_statements, by_update, by_value, head_weight};
+ghost use Rattle.om_sights.specs.Walks.{AddsAllRegionEnds, AddsEnds, AddsPartsRegionEnds, AddsRegionEnds, Finds, Passes, behind_body, by_clause, by_clauses, by_declarators, by_head, by_loop, by_parts, by_perhaps, by_start, by_statement, by_statements, by_update, by_value, declarators_weight, formats_in, head_weight};
 
 use om_resolved::{
     ConstructKind, Made, ResolvedClause, ResolvedDeclarator, ResolvedExpression, ResolvedHead,
@@ -45,9 +45,8 @@ pub(crate) struct Walk {
 // Notes the formats of an expression, in the order of the text.
 #[cycle(expression)]
 fn note_expression(formats: &mut Texts, alloc: Global, expression: &ResolvedExpression) -> Made<()>
-    requires room { IsRoomFor (expression_weight (view.expression expression.now)) (length formats.old) }
-    ensures { let tree = view.expression expression.now in
-        OnOk result (formats.new ≡ noted formats.old (expression_formats tree)) }
+    requires room { HasRoomBehind (expression_weight (view.expression expression.now)) formats.old }
+    ensures { OnOk result (formats.new ≡ noted formats.old (formats_in expression.now)) }
 {
     match expression {
         ResolvedExpression::Constant(_)
@@ -89,7 +88,7 @@ fn note_expression(formats: &mut Texts, alloc: Global, expression: &ResolvedExpr
 // Notes the formats of the values of a call.
 #[cycle(expression)]
 fn note_values(formats: &mut Texts, alloc: Global, values: &[ResolvedExpression]) -> Made<()>
-    requires room { IsRoomFor (values_weight (listed values.now)) (length formats.old) }
+    requires room { HasRoomBehind (values_weight (listed values.now)) formats.old }
     ensures { OnOk result (formats.new ≡ noted formats.old (values_formats (listed values.now))) }
 {
     for value in values {
@@ -126,8 +125,7 @@ fn cells_of(length: Option<u32>) -> u32
 
 // Notes declared variables.
 fn note_declarators(found: &mut Mentions, declarators: &[ResolvedDeclarator]) -> Made<()>
-    requires room { let tree = map view.declarator declarators.now in
-        HasTextRoom (sum (map declarator_weight tree)) found.old }
+    requires room { HasTextRoom (declarators_weight declarators.now) found.old }
     ensures { OnOk result (AreNoted (by_declarators declarators.now) found.old found.new) }
 {
     for declarator in declarators {
@@ -244,7 +242,7 @@ fn note_region(walk: &mut Walk, body: &ResolvedStatement) -> Made<()>
 fn note_statement(walk: &mut Walk, statement: &ResolvedStatement) -> Made<()>
     requires room { HasRoom (statement_weight (view.statement statement.now)) walk.old }
     ensures behind { OnOk result (Passes behind (view.statement statement.now) walk.old walk.new) }
-    ensures ends { OnOk result (AddsEnds region_ends (view.statement statement.now) walk.old walk.new) }
+    ensures ends { OnOk result (AddsRegionEnds statement.now walk.old walk.new) }
     ensures noted { OnOk result (Finds (by_statement statement.now) walk.old walk.new) }
 {
     match statement {
@@ -332,8 +330,7 @@ fn note_statement(walk: &mut Walk, statement: &ResolvedStatement) -> Made<()>
 pub(crate) fn note_statements(walk: &mut Walk, items: &[ResolvedStatement]) -> Made<()>
     requires room { HasRoom (statements_weight (statement_trees items.now)) walk.old }
     ensures behind { OnOk result (Passes behind_all (statement_trees items.now) walk.old walk.new) }
-    ensures ends { OnOk result (AddsEnds all_region_ends (statement_trees items.now) walk.old
-        walk.new) }
+    ensures ends { OnOk result (AddsAllRegionEnds items.now walk.old walk.new) }
     ensures noted { OnOk result (Finds (by_statements items.now) walk.old walk.new) }
 {
     for item in items {
@@ -347,7 +344,7 @@ pub(crate) fn note_statements(walk: &mut Walk, items: &[ResolvedStatement]) -> M
 fn note_parts(walk: &mut Walk, parts: &[ResolvedPart]) -> Made<()>
     requires room { HasRoom (parts_weight (part_trees parts.now)) walk.old }
     ensures behind { OnOk result (Passes behind_parts (part_trees parts.now) walk.old walk.new) }
-    ensures ends { OnOk result (AddsEnds parts_region_ends (part_trees parts.now) walk.old walk.new) }
+    ensures ends { OnOk result (AddsPartsRegionEnds parts.now walk.old walk.new) }
     ensures noted { OnOk result (Finds (by_parts parts.now) walk.old walk.new) }
 {
     for part in parts {

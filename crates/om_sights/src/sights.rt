@@ -3,8 +3,8 @@
 ghost use Rattle.std.specs.Prelude.{◌≡◌, OnOk, IfOk, map};
 ghost use Rattle.om_resolved.specs.ResolvedView as view;
 ghost use Rattle.om_rows.specs.Bodies as bodies;
-ghost use Rattle.om_rows.specs.Slots.{clause_sights, declarator_sights, loop_sights, parameter_sight, parts_sights, region_clause_sights, start_sights, statement_sights, statements_sights};
-ghost use Rattle.om_sights.specs.Sighted.{Sees, SeesAll, head_sights};
+ghost use Rattle.om_rows.specs.Slots.{clause_sights, loop_sights, parameter_sight, parts_sights, region_clause_sights, start_sights, statements_sights};
+ghost use Rattle.om_sights.specs.Sighted.{Sees, clauses_sights, declarators_sights, head_sights, region_clauses_sights, sights_in, variables_of_region};
 ghost use Rattle.om_sights.specs.Trees.{part_trees, statement_trees};
 
 use om_resolved::uses::{
@@ -35,9 +35,7 @@ pub fn region_variables(
     clauses: &[ResolvedClause],
     body: &ResolvedStatement,
 ) -> Made<Variables>
-    ensures { let trees = map view.clause clauses.now in
-        IfOk result
-        (λ made. made ≡ bodies.region_variables trees (view.statement body.now)) }
+    ensures { IfOk result (λ made. made ≡ variables_of_region clauses.now body.now) }
 {
     let mut variables = Variables::new(alloc);
     see_region_clauses(&mut variables, clauses)?;
@@ -57,8 +55,7 @@ fn see_parameters(seen: &mut Variables, parameters: &[LocalVariable]) -> Made<()
 
 // Sees declared names, and after each what it begins as.
 fn see_declarators(seen: &mut Variables, declarators: &[ResolvedDeclarator]) -> Made<()>
-    ensures { OnOk result (SeesAll declarator_sights (map view.declarator declarators.now) seen.old
-        seen.new) }
+    ensures { OnOk result (Sees (declarators_sights declarators.now) seen.old seen.new) }
 {
     for declarator in declarators {
         seen.add(declarator.variable.at)?;
@@ -98,7 +95,7 @@ fn see_clause(seen: &mut Variables, clause: &ResolvedClause) -> Made<()>
 
 // Sees clauses of a construct in whose body they stand.
 fn see_clauses(seen: &mut Variables, clauses: &[ResolvedClause]) -> Made<()>
-    ensures { OnOk result (SeesAll clause_sights (map view.clause clauses.now) seen.old seen.new) }
+    ensures { OnOk result (Sees (clauses_sights clauses.now) seen.old seen.new) }
 {
     for clause in clauses {
         see_clause(seen, clause)?;
@@ -126,8 +123,7 @@ fn see_region_clause(seen: &mut Variables, clause: &ResolvedClause) -> Made<()>
 
 // Sees the clauses of a `parallel` or a `task`, in its body.
 fn see_region_clauses(seen: &mut Variables, clauses: &[ResolvedClause]) -> Made<()>
-    ensures { OnOk result (SeesAll region_clause_sights (map view.clause clauses.now) seen.old
-        seen.new) }
+    ensures { OnOk result (Sees (region_clauses_sights clauses.now) seen.old seen.new) }
 {
     for clause in clauses {
         see_region_clause(seen, clause)?;
@@ -156,7 +152,7 @@ fn see_head(seen: &mut Variables, head: &ResolvedHead) -> Made<()>
 // Sees a statement. The bodies of regions in it have slots of their own.
 #[cycle(statement)]
 fn see_statement(seen: &mut Variables, statement: &ResolvedStatement) -> Made<()>
-    ensures { OnOk result (Sees (statement_sights (view.statement statement.now)) seen.old seen.new) }
+    ensures { OnOk result (Sees (sights_in statement.now) seen.old seen.new) }
 {
     match statement {
         ResolvedStatement::Declaration { declarators, .. } => {

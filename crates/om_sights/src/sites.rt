@@ -1,14 +1,13 @@
 //! The bodies of a function: its own, and those of the regions in it.
 
-ghost use Rattle.std.specs.Prelude.{◌≡◌, ◌<◌, ◌+◌, [], OnOk, IfOk, length};
-ghost use Rattle.om_sights.specs.Sites.{AddsAllRegions, AddsBody, AddsPartsRegions, AddsRegions, IsOpen, bodies_in};
+ghost use Rattle.std.specs.Prelude.{◌≡◌, ◌<◌, ◌+◌, OnOk, length};
+ghost use Rattle.om_sights.specs.Sites.{AddsAllRegions, AddsBody, AddsPartsRegions, AddsRegions, ComesBehind, GivesBodies, IsOpen};
 ghost use Rattle.om_sights.specs.Room.{HasNumbers};
 ghost use Rattle.om_sights.specs.Trees.{part_trees, statement_trees};
 ghost use Rattle.om_sights.specs.Walks.{behind_body};
 ghost use Rattle.om_resolved.specs.ResolvedView as view;
 ghost use Rattle.om_resolved.specs.Weights.{function_weight, parts_weight, statement_weight, statements_weight};
 ghost use Rattle.om_rows.specs.Bodies as bodies;
-ghost use Rattle.om_rows.specs.Numbering.{numbers_of};
 
 use om_resolved::{Made, ResolvedFunction, ResolvedPart, ResolvedStatement};
 use om_rows::{Numbers, Region};
@@ -39,9 +38,7 @@ pub fn sites_of<'a>(
     numbers: Numbers,
 ) -> Made<Vec<Site<'a>>>
     requires room { HasNumbers (function_weight (view.function function.now)) numbers }
-    ensures { let tree = view.function function.now in
-        IfOk result (λ sites.
-        bodies_in [] sites.items ≡ bodies.function_bodies (numbers_of numbers) tree) }
+    ensures { GivesBodies result numbers function.now }
 {
     let mut sites = Vec::new(alloc);
     let numbers = numbers.next_body();
@@ -76,8 +73,7 @@ fn see_region<'a>(
 ) -> Made<Numbers>
     requires round { IsOpen round.now sites.old.items }
     requires room { HasNumbers (1 + statement_weight (view.statement body.now)) numbers }
-    ensures behind { IfOk result (λ behind. numbers_of behind
-        ≡ behind_body (numbers_of numbers) (view.statement body.now)) }
+    ensures behind { ComesBehind result behind_body numbers (view.statement body.now) }
     ensures sites { OnOk result (AddsBody round.now part.now numbers body.now sites.old sites.new) }
 {
     let inner = numbers.next_body();
@@ -102,8 +98,7 @@ fn see_statement<'a>(
 ) -> Made<Numbers>
     requires round { IsOpen round.now sites.old.items }
     requires room { HasNumbers (statement_weight (view.statement statement.now)) numbers }
-    ensures behind { IfOk result (λ behind. numbers_of behind
-        ≡ bodies.behind (numbers_of numbers) (view.statement statement.now)) }
+    ensures behind { ComesBehind result bodies.behind numbers (view.statement statement.now) }
     ensures sites { OnOk result (AddsRegions round.now numbers statement.now sites.old sites.new) }
 {
     match statement {
@@ -172,8 +167,7 @@ fn see_statements<'a>(
 ) -> Made<Numbers>
     requires round { IsOpen round.now sites.old.items }
     requires room { HasNumbers (statements_weight (statement_trees items.now)) numbers }
-    ensures behind { IfOk result (λ behind. numbers_of behind
-        ≡ bodies.behind_all (numbers_of numbers) (statement_trees items.now)) }
+    ensures behind { ComesBehind result bodies.behind_all numbers (statement_trees items.now) }
     ensures sites { OnOk result (AddsAllRegions round.now numbers items.now sites.old sites.new) }
 {
     let mut behind = numbers;
@@ -193,8 +187,7 @@ fn see_parts<'a>(
 ) -> Made<Numbers>
     requires round { IsOpen round.now sites.old.items }
     requires room { HasNumbers (parts_weight (part_trees parts.now)) numbers }
-    ensures behind { IfOk result (λ behind. numbers_of behind
-        ≡ bodies.behind_parts (numbers_of numbers) (part_trees parts.now)) }
+    ensures behind { ComesBehind result bodies.behind_parts numbers (part_trees parts.now) }
     ensures sites { OnOk result (AddsPartsRegions round.now numbers parts.now sites.old sites.new) }
 {
     let mut behind = numbers;

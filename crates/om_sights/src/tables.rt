@@ -1,16 +1,14 @@
 //! The tables of a program, found by one walk over its tree.
 
-ghost use Rattle.std.specs.Prelude.{◌≡◌, ◌++◌, ◌∷◌, [], OnOk, IfOk, map, sum};
-ghost use Rattle.std.specs.List.{AllZip};
+ghost use Rattle.std.specs.Prelude.{◌≡◌, [], OnOk, IfOk};
 ghost use Rattle.om_resolved.specs.ResolvedView as view;
 ghost use Rattle.om_resolved.specs.Weights.{HasSmallWeight, function_weight};
 ghost use Rattle.om_rows.specs.Bodies as bodies;
-ghost use Rattle.om_rows.specs.Ends.{function_ends};
-ghost use Rattle.om_sights.specs.Noted.{AddsCells};
+ghost use Rattle.om_rows.specs.Numbering.{numbers_of};
+ghost use Rattle.om_rows.specs.ProgramTables.{IsTablesOf};
+ghost use Rattle.om_sights.specs.Gathered.{AddsBodyNumber, AddsBodyNumbers, AddsCellsOf, HaveCells};
 ghost use Rattle.om_sights.specs.Room.{HasRoom};
-ghost use Rattle.om_sights.specs.Walks.{AddsEnds, Finds, HasFormats, HasLocks, HaveEnds, HaveFormats, HaveLocks, Passes, by_function, last_numbers};
-ghost use Rattle.om_rows.specs.Numbering.{function_numbers, numbers_of};
-ghost use Rattle.om_rows.specs.ProgramTables.{AreCellsOf, IsTablesOf};
+ghost use Rattle.om_sights.specs.Walks.{AddsFunctionEnds, Finds, HasFormats, HasLocks, HaveEnds, HaveFormats, HaveLocks, PassesFunction, by_function, functions_weight, last_numbers};
 
 use crate::mentions::{Mentions, Walk, note_statements, put_end};
 use om_resolved::{Made, Resolved, ResolvedFunction};
@@ -73,16 +71,13 @@ fn note_functions(made: &mut Functions, functions: &[ResolvedFunction]) -> Made<
     requires numbers { numbers_of made.old.walk.numbers ≡ bodies.first_numbers }
     requires empty { made.old.walk.found.extents ≡ [] }
     requires none { made.old.extents.items ≡ [] }
-    requires room { let trees = map view.function functions.now in
-        HasRoom (sum (map function_weight trees)) made.old.walk }
+    requires room { HasRoom (functions_weight functions.now) made.old.walk }
     ensures behind { OnOk result (numbers_of made.new.walk.numbers ≡ last_numbers functions.now) }
     ensures formats { OnOk result (HaveFormats functions.now made.old.walk made.new.walk) }
     ensures locks { OnOk result (HaveLocks functions.now made.old.walk made.new.walk) }
-    ensures bodies { OnOk result (made.new.bodies.items ≡ made.old.bodies.items
-        ++ function_numbers bodies.first_numbers (map view.function functions.now)) }
+    ensures bodies { OnOk result (AddsBodyNumbers functions.now made.old made.new) }
     ensures ends { OnOk result (HaveEnds functions.now made.old.walk made.new.walk) }
-    ensures cells { OnOk result
-        (AllZip AreCellsOf (map view.function functions.now) made.new.extents.items) }
+    ensures cells { OnOk result (HaveCells functions.now made.new) }
 {
     for function in functions {
         note_function(made, function)?;
@@ -94,17 +89,13 @@ fn note_functions(made: &mut Functions, functions: &[ResolvedFunction]) -> Made<
 fn note_function(made: &mut Functions, function: &ResolvedFunction) -> Made<()>
     requires empty { made.old.walk.found.extents ≡ [] }
     requires room { HasRoom (function_weight (view.function function.now)) made.old.walk }
-    ensures behind { OnOk result (Passes bodies.behind_function (view.function function.now)
-        made.old.walk made.new.walk) }
+    ensures behind { OnOk result (PassesFunction function.now made.old.walk made.new.walk) }
     ensures formats { OnOk result (HasFormats function.now made.old.walk made.new.walk) }
     ensures locks { OnOk result (HasLocks function.now made.old.walk made.new.walk) }
     ensures empty { OnOk result (made.new.walk.found.extents ≡ []) }
-    ensures bodies { OnOk result (made.new.bodies.items
-        ≡ made.old.bodies.items ++ made.old.walk.numbers.bodies ∷ []) }
-    ensures ends { OnOk result (AddsEnds function_ends (view.function function.now) made.old.walk
-        made.new.walk) }
-    ensures cells { let tree = view.function function.now in
-        OnOk result (AddsCells tree made.old.extents.items made.new.extents.items) }
+    ensures bodies { OnOk result (AddsBodyNumber made.old made.new) }
+    ensures ends { OnOk result (AddsFunctionEnds function.now made.old.walk made.new.walk) }
+    ensures cells { OnOk result (AddsCellsOf function.now made.old made.new) }
 {
     made.bodies.push(made.walk.numbers.bodies)?;
     note_body(&mut made.walk, function)?;
@@ -117,9 +108,8 @@ fn note_function(made: &mut Functions, function: &ResolvedFunction) -> Made<()>
 // Walks over the body of a function.
 fn note_body(walk: &mut Walk, function: &ResolvedFunction) -> Made<()>
     requires room { HasRoom (function_weight (view.function function.now)) walk.old }
-    ensures behind { OnOk result (Passes bodies.behind_function (view.function function.now)
-        walk.old walk.new) }
-    ensures ends { OnOk result (AddsEnds function_ends (view.function function.now) walk.old walk.new) }
+    ensures behind { OnOk result (PassesFunction function.now walk.old walk.new) }
+    ensures ends { OnOk result (AddsFunctionEnds function.now walk.old walk.new) }
     ensures noted { OnOk result (Finds (by_function function.now) walk.old walk.new) }
 {
     let inner = walk.numbers.next_body();
