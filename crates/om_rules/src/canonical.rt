@@ -1,10 +1,10 @@
 //! Canonical loops (OpenMP API 5.2, section 4.4.1), of the forms that are supported. That section also
 //! allows `!=`, the bound on the left of its comparison, and a step that is no constant.
 
-ghost use Rattle.std.specs.Prelude.{◌≡◌, ◌≤◌, option_map, map};
-ghost use Rattle.om_tree.specs.View.{view_declarator, view_expression, view_for_head, view_for_start, view_further, view_initializer, view_statement};
+ghost use Rattle.std.specs.Prelude.{◌≡◌, ◌≤◌, option_map};
+ghost use Rattle.om_tree.specs.View.{view_for_head, view_for_start, view_statement};
 ghost use Rattle.om_rules.specs.Loops as loops;
-ghost use Rattle.om_rules.specs.LoopViews.{tree_of, view_bound, view_loop, view_start};
+ghost use Rattle.om_rules.specs.LoopViews.{StartsAs, begun_by_declarators, begun_by_variable, tree_of, view_bound, view_loop};
 
 use crate::direction::{Direction, Step};
 use om_lexer::Span;
@@ -112,8 +112,7 @@ fn set_start<'a>(
     target: &'a Expression,
     value: &'a Expression,
 ) -> Option<LoopStart<'a>>
-    ensures { option_map view_start result
-        ≡ loops.set_start operator (tree_of target.now) (tree_of value.now) }
+    ensures { StartsAs result (loops.set_start operator (tree_of target.now) (tree_of value.now)) }
 {
     let AssignOperator::Set = operator else {
         return None;
@@ -128,7 +127,7 @@ fn set_start<'a>(
 
 // What an expression begins a loop with.
 fn assigned_start(expression: &Expression) -> Option<LoopStart<'_>>
-    ensures { option_map view_start result ≡ loops.assigned_start (tree_of expression.now) }
+    ensures { StartsAs result (loops.assigned_start (tree_of expression.now)) }
 {
     let Expression::Assign {
         target,
@@ -148,9 +147,7 @@ fn initialized_start<'a>(
     array: &Option<ArrayLength>,
     initializer: &'a Option<Initializer<Expression>>,
 ) -> Option<LoopStart<'a>>
-    ensures { option_map view_start result
-        ≡ loops.initialized_start variable.now array.now
-        (option_map (view_initializer view_expression) initializer.now) }
+    ensures { StartsAs result (begun_by_variable variable.now array.now initializer.now) }
 {
     let None = array else {
         return None;
@@ -168,9 +165,7 @@ fn declared_start<'a>(
     first: &'a Declarator<Expression>,
     rest: &[(Span, Declarator<Expression>)],
 ) -> Option<LoopStart<'a>>
-    ensures { option_map view_start result
-        ≡ loops.declared_start (view_declarator view_expression first.now)
-        (map (view_further view_expression) rest.now) }
+    ensures { StartsAs result (begun_by_declarators first.now rest.now) }
 {
     let [] = rest else {
         return None;
@@ -180,7 +175,7 @@ fn declared_start<'a>(
 
 // What a `for` begins its loop with.
 fn start_of(start: &ForStart) -> Option<LoopStart<'_>>
-    ensures { option_map view_start result ≡ loops.start_of (view_for_start start.now) }
+    ensures { StartsAs result (loops.start_of (view_for_start start.now)) }
 {
     match start {
         ForStart::Nothing(_) => None,

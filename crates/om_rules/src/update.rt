@@ -1,9 +1,9 @@
 //! The updates of `atomic`: target, operator, side and operand.
 
-ghost use Rattle.std.specs.Prelude.{◌≡◌, option_map};
+ghost use Rattle.std.specs.Prelude.{◌≡◌};
 ghost use Rattle.om_resolved.specs.ResolvedView as view;
-ghost use Rattle.om_rules.specs.Updates.{binary_operator, expression_side, expression_update, operation, other_operand, statement_side, step_operation, step_operator, update_of, updated, value_operation, value_side};
-ghost use Rattle.om_rules.specs.UpdateViews.{view_perhaps_operation, view_perhaps_update, view_operation};
+ghost use Rattle.om_rules.specs.Updates.{binary_operator, expression_side, operation, operation_of, statement_side, step_operation, step_operator, update_of, value_operation, value_side};
+ghost use Rattle.om_rules.specs.UpdateViews.{operand_beside, update_in, updated_by, view_operation, view_perhaps_operation, view_perhaps_update};
 ghost use Rattle.om_tree.specs.View.{view_expression, view_statement};
 
 use om_lexer::Span;
@@ -89,9 +89,7 @@ fn other_operand(
     left: &mut ResolvedExpression,
     right: &mut ResolvedExpression,
 ) -> ResolvedExpression
-    ensures { view.expression result
-        ≡ other_operand side (view.expression left.old)
-        (view.expression right.old) }
+    ensures { view.expression result ≡ operand_beside side left.old right.old }
 {
     match side {
         Side::Left => taken(right),
@@ -122,9 +120,7 @@ fn value_operation(side: Side, value: &mut ResolvedExpression) -> Option<Operati
 
 // `x op= e` with a target on the left.
 fn compound(operator: UpdateOperator, operand: ResolvedExpression) -> Operation
-    ensures { view_operation result
-        ≡ record
-        { operator = operator; side = Side.Left; operand = view.expression operand } }
+    ensures { view_operation result ≡ operation_of operator Side.Left (view.expression operand) }
 {
     Operation {
         operator,
@@ -175,8 +171,7 @@ fn updated(
     index: Option<ResolvedExpression>,
     found: Operation,
 ) -> ResolvedUpdate
-    ensures { view.update result
-        ≡ updated at variable (option_map view.expression index) (view_operation found) }
+    ensures { view.update result ≡ updated_by at variable index found }
 {
     ResolvedUpdate {
         at,
@@ -194,7 +189,7 @@ fn expression_update(
     side: Side,
     expression: &mut ResolvedExpression,
 ) -> Option<ResolvedUpdate>
-    ensures { view_perhaps_update result ≡ expression_update at side (view.expression expression.old) }
+    ensures { view_perhaps_update result ≡ update_in at side expression.old }
 {
     let (variable, index, found) = match expression {
         ResolvedExpression::Assign {
