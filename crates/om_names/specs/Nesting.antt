@@ -9,6 +9,7 @@ use Rattle.om_names.specs.declared.landmark.Landmark.{Landmark}
 use Rattle.om_names.specs.declared.landmark.Marks.{Marks}
 use Rattle.om_rules.specs.declared.region.Region.{Region}
 use Rattle.om_rules.specs.declared.region.RegionKind.{RegionKind}
+use Rattle.om_rules.specs.DirectiveRules as rules
 use Rattle.om_rules.specs.Scopes.{Enclosing, Scope, plain}
 use Rattle.om_rules.specs.Sharing.{asks_for_clauses, is_parallel, is_task, is_task_without, lacks_clause}
 use Rattle.om_names.specs.Landmarks.{marks_behind}
@@ -123,6 +124,14 @@ abbrev pub ChangedFor : (List Landmark → List Landmark) → (before now : List
 ChangedFor change before now names =
     (other : List ℕ) → seen_in now other ≡ (if list_any (bytes_eq other) names then change (seen_in before other)
     else seen_in before other)
+
+-- of a table, one more listing is noted of each of these names
+abbrev pub AddsListings : ℕ → Marks → (before now : List (List ℕ × List Landmark)) → List (List ℕ) → Type 0
+AddsListings inside all before now names = ChangedFor (with_listing inside all) before now names
+
+-- what a construct of this kind says of the variables round it, by what its clauses list
+abbrev pub region_listing : RegionKind → rules.Listed → Region
+region_listing kind listed = record { kind = kind; default = listed.default; shared = listed.shared }
 
 -- ---- each `parallel`
 

@@ -1,5 +1,7 @@
 -- Where names are declared, in the scopes round a place.
-use Rattle.std.specs.Prelude.{◌≡◌, ℕ, List, [], ◌∷◌, ◌++◌, Option, None, Some, if◌then◌else◌, length, nat_eq, reverse}
+use Rattle.std.specs.Prelude.{◌≡◌, ℕ, List, [], ◌∷◌, ◌++◌, MatchOption, Option, None, Some, Vec, if◌then◌else◌, length}
+use Rattle.std.specs.Prelude.{nat_eq, reverse}
+use Rattle.std.specs.declared.alloc.Global.{Global}
 use Rattle.std.specs.Map.{lookup}
 use Rattle.std.specs.Str.{bytes_eq}
 use Rattle.om_names.specs.declared.sightings.Sighting.{Sighting}
@@ -21,6 +23,10 @@ sightings (scope ∷ outer) name = with_sighting (length outer) (sightings outer
 abbrev pub Shows : List (List ℕ × List Sighting) → List Scope → Type 0
 Shows table scopes = (name : List ℕ) → seen_in table name ≡ sightings scopes name
 
+-- a table has those in the scopes round a scope, once it had those in that scope too
+abbrev pub ForgetsScope : Scope → (before now : List (List ℕ × List Sighting)) → Type 0
+ForgetsScope scope before now = (outer : List Scope) → Shows before (scope ∷ outer) → Shows now outer
+
 -- the scopes that tables of names hold, the innermost of which is the last table
 abbrev pub scopes_of : List Scope → List Scope
 scopes_of tables = reverse tables
@@ -28,6 +34,10 @@ scopes_of tables = reverse tables
 -- a name is the last that a scope declares, and no other one there; without it the scope is this
 abbrev pub IsLast : Scope → Scope → List ℕ → Type 0
 IsLast scope left name = (meaning : Meaning) × (scope ≡ left ++ (name, meaning) ∷ []) × (lookup (bytes_eq name) left ≡ None)
+
+-- the last name that a scope declares is taken out, if it declares one
+abbrev pub TakesLast : Option (Vec ℕ Global) → (scope left : Scope) → Type 0
+TakesLast taken scope left = MatchOption taken (scope ≡ []) (λ name. IsLast scope left name.items)
 
 -- how deep the scope is that declares a name; nothing is declared round the file scope
 abbrev pub depth_of : Option Sighting → ℕ

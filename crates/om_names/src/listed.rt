@@ -2,6 +2,7 @@
 
 ghost use Rattle.std.specs.Prelude.{◌≡◌, ◌++◌, [], ◌∷◌, false, OnOk, is_some};
 ghost use Rattle.om_rules.specs.DirectiveRules.{after_name, is_listed, nothing_listed, with_default};
+ghost use Rattle.om_names.specs.Nesting.{region_listing};
 ghost use Rattle.std.specs.Map.{keys_of, lookup};
 ghost use Rattle.std.specs.Str.{bytes_eq};
 
@@ -121,8 +122,7 @@ impl Listed {
     /// The copies, and what else a construct of this kind says of the variables round it.
     pub fn into_region(self, kind: RegionKind) -> (Table, Region)
         ensures copies { result.0 ≡ self.copies }
-        ensures region { result.1 ≡ record
-            { kind = kind; default = self.default; shared = self.shared } }
+        ensures region { result.1 ≡ region_listing kind self }
     {
         let Listed {
             default,

@@ -2,7 +2,7 @@
 //! clause for it, or copy it: however many there are, the innermost is found at once.
 
 ghost use Rattle.std.specs.Prelude.{OnOk};
-ghost use Rattle.om_names.specs.Nesting.{ChangedFor, with_listing};
+ghost use Rattle.om_names.specs.Nesting.{AddsListings, ChangedFor};
 ghost use Rattle.om_names.specs.Stacks.{without_innermost};
 
 use crate::landmark::{Landmark, Marks, marks_behind};
@@ -19,8 +19,7 @@ pub fn list(
     all: Marks,
     names: &Names,
 ) -> Result<(), AllocError>
-    ensures { OnOk result
-        (ChangedFor (with_listing inside all) listings.old listings.new names.now) }
+    ensures { OnOk result (AddsListings inside all listings.old listings.new names.now) }
 {
     for name in names.as_slice() {
         let text = name.as_slice();

@@ -1,8 +1,9 @@
 //! Uses of names: what a name has to be declared as, and the variable or the function that it means.
 
-ghost use Rattle.std.specs.Prelude.{◌≡◌, Some, IfOk};
+ghost use Rattle.std.specs.Prelude.{◌≡◌};
 ghost use Rattle.om_rules.specs.Checks.{ChecksExactly};
 ghost use Rattle.om_rules.specs.ExpressionRules.{array_breaches, call_breaches, is_array, is_copied_array, is_miscalled, is_printf, is_scalar, is_undeclared, misused_array_breaches, misused_scalar_breaches, scalar_breaches, undeclared_breaches, unlisted_breaches};
+ghost use Rattle.om_rules.specs.Outcomes.{Finds};
 ghost use Rattle.om_rules.specs.Resolution.{callee_named, variable_named, variable_of};
 
 use crate::refusal::refuse_if;
@@ -72,8 +73,7 @@ pub fn misuse(at: u32) -> SourceFault
 /// The variable of a name that is used as a scalar: S7, S9, S13.
 pub fn resolve_scalar(symbols: &Symbols, name: &Name) -> Result<Variable, SourceFault>
     ensures checked { ChecksExactly result (scalar_breaches symbols.now name.now) }
-    ensures resolved { IfOk result
-        (λ variable. variable_named symbols.now name.now ≡ Some variable) }
+    ensures resolved { Finds (λ found. found) result (variable_named symbols.now name.now) }
 {
     check_declared(symbols, name)?;
     let meaning = symbols.meaning_of(name.text.as_slice());
@@ -85,7 +85,7 @@ pub fn resolve_scalar(symbols: &Symbols, name: &Name) -> Result<Variable, Source
 // The variable of a name of this meaning that is used as a scalar at a place: S9.
 fn scalar_meant(meaning: Option<Meaning>, at: u32) -> Result<Variable, SourceFault>
     ensures checked { ChecksExactly result (misused_scalar_breaches meaning at) }
-    ensures resolved { IfOk result (λ variable. variable_of meaning ≡ Some variable) }
+    ensures resolved { Finds (λ found. found) result (variable_of meaning) }
 {
     match meaning {
         Some(Meaning::Variable(variable, Shape::Scalar)) => Ok(variable),
@@ -104,8 +104,7 @@ fn check_is_listed(symbols: &Symbols, name: &Name) -> Result<(), SourceFault>
 /// The variable of a name that is used as an array: S7, S9, S13.
 pub fn resolve_array(symbols: &Symbols, name: &Name) -> Result<Variable, SourceFault>
     ensures checked { ChecksExactly result (array_breaches symbols.now name.now) }
-    ensures resolved { IfOk result
-        (λ variable. variable_named symbols.now name.now ≡ Some variable) }
+    ensures resolved { Finds (λ found. found) result (variable_named symbols.now name.now) }
 {
     check_declared(symbols, name)?;
     let text = name.text.as_slice();
@@ -122,7 +121,7 @@ pub fn resolve_array(symbols: &Symbols, name: &Name) -> Result<Variable, SourceF
 // copy or not: S9.
 fn array_meant(meaning: Option<Meaning>, is_copied: bool, at: u32) -> Result<Variable, SourceFault>
     ensures checked { ChecksExactly result (misused_array_breaches meaning is_copied at) }
-    ensures resolved { IfOk result (λ variable. variable_of meaning ≡ Some variable) }
+    ensures resolved { Finds (λ found. found) result (variable_of meaning) }
 {
     if is_copied {
         return Err(misuse(at));
@@ -141,7 +140,7 @@ pub fn resolve_callee(
     count: usize,
 ) -> Result<usize, SourceFault>
     ensures checked { ChecksExactly result (call_breaches symbols.now for_value name.now count) }
-    ensures resolved { IfOk result (λ place. callee_named symbols.now name.now ≡ Some place) }
+    ensures resolved { Finds (λ found. found) result (callee_named symbols.now name.now) }
 {
     check_called(symbols, for_value, name, count)?;
     match symbols.definition_of(name.text.as_slice()) {

@@ -1,8 +1,7 @@
 //! Where names are declared: a look-up finds the innermost declaration at once, however deep a place is.
 
-ghost use Rattle.std.specs.Prelude.{◌≡◌, List, ◌∷◌};
-ghost use Rattle.om_rules.specs.Scopes.{Scope};
-ghost use Rattle.om_names.specs.Sightings.{Shows, depth_of, meaning_at};
+ghost use Rattle.std.specs.Prelude.{◌≡◌};
+ghost use Rattle.om_names.specs.Sightings.{ForgetsScope, depth_of, meaning_at};
 
 use crate::stacks::Stacks;
 use crate::table::Table;
@@ -42,7 +41,7 @@ pub fn meaning_at(sighting: Option<Sighting>, depth: usize) -> Option<Meaning>
 
 /// Forgets the declarations of the innermost scope.
 pub fn forget_scope(sightings: &mut Stacks<Sighting>, mut table: Table)
-    ensures { (outer : List Scope) → Shows sightings.old (table ∷ outer) → Shows sightings.new outer }
+    ensures { ForgetsScope table sightings.old sightings.new }
 {
     while let Some(name) = table.pop() {
         sightings.forget(name.as_slice());

@@ -1,8 +1,7 @@
 //! Names, each with a stack of items. The innermost of a name is found at once, however many stand round it.
 
-ghost use Rattle.std.specs.Prelude.{◌≡◌, ℕ, List, [], ◌∷◌, ◌++◌, OnOk, OnErr, if◌then◌else◌};
-ghost use Rattle.std.specs.Str.{bytes_eq};
-ghost use Rattle.om_names.specs.Stacks.{innermost_of, seen_in, without_innermost};
+ghost use Rattle.std.specs.Prelude.{◌≡◌, [], OnOk, OnErr};
+ghost use Rattle.om_names.specs.Stacks.{ChangedAt, Unchanged, innermost_of, seen_in, with_innermost, without_innermost};
 
 use std::alloc::{AllocError, Global};
 use std::collections::BTreeMap;
@@ -53,12 +52,8 @@ impl<T: Copy + Drop> Stacks<T> {
 
     /// Notes an item of a name, as its innermost. When out of memory, nothing changes.
     pub fn note(&mut self, alloc: Global, name: &[u8], item: T) -> Result<(), AllocError>
-        ensures noted { OnOk result
-            ((other : List ℕ) → seen_in self.new other
-            ≡ (if bytes_eq other name.now then seen_in self.old other ++ item
-            ∷ [] else seen_in self.old other)) }
-        ensures unchanged_on_error { OnErr result
-            ((other : List ℕ) → seen_in self.new other ≡ seen_in self.old other) }
+        ensures noted { OnOk result (ChangedAt (with_innermost item) self.old self.new name.now) }
+        ensures unchanged_on_error { OnErr result (Unchanged self.old self.new) }
     {
         match self.names.get_mut(name) {
             Some(seen) => {
@@ -76,10 +71,7 @@ impl<T: Copy + Drop> Stacks<T> {
 
     /// Forgets the innermost item of a name.
     pub fn forget(&mut self, name: &[u8])
-        ensures { (other : List ℕ) →
-            seen_in self.new other
-            ≡ (if bytes_eq other name.now then without_innermost (seen_in self.old other)
-            else seen_in self.old other) }
+        ensures { ChangedAt without_innermost self.old self.new name.now }
     {
         if let Some(seen) = self.names.get_mut(name) {
             let _innermost = seen.pop();

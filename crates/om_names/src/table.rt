@@ -1,11 +1,11 @@
 //! Tables of the names of one scope.
 
-ghost use Rattle.std.specs.Prelude.{◌≡◌, ◌<◌, ◌++◌, [], ◌∷◌, false, MatchOption, OnErr, OnOk, is_some, vec_len, vec_capacity};
+ghost use Rattle.std.specs.Prelude.{◌≡◌, ◌<◌, ◌++◌, [], ◌∷◌, false, OnErr, OnOk, is_some, vec_len, vec_capacity};
 ghost use Rattle.std.specs.List.{IsDistinct};
 ghost use Rattle.std.specs.Map.{keys_of, lookup};
 ghost use Rattle.std.specs.Str.{bytes_eq};
 ghost use Rattle.om_rules.specs.Scopes.{same_name, scope_of};
-ghost use Rattle.om_names.specs.Sightings.{IsLast};
+ghost use Rattle.om_names.specs.Sightings.{TakesLast};
 ghost use Rattle.om_names.specs.Stacks.{without_innermost};
 
 use om_rules::Meaning;
@@ -73,7 +73,7 @@ impl Table {
     /// Takes the last name out of a table.
     pub fn pop(&mut self) -> Option<Vec<u8>>
         ensures left { self.new ≡ without_innermost self.old }
-        ensures last { MatchOption result (self.old ≡ []) (λ name. IsLast self.old self.new name.items) }
+        ensures last { TakesLast result self.old self.new }
     {
         let (name, _) = self.bindings.pop()?;
         Some(name)
