@@ -180,7 +180,11 @@ primary-returns-in_err-inner t c = search rules
 
 pub call_after-returns : goal.call_after-returns
 unfolding call_after arguments_after within
-call_after-returns t c = rw
-    (sym c.in_default.ensures, c.in_ok-first.ensures, c.in_ok-arguments.ensures, c.in_ok-within-2.ensures,
-    sym (view_call c.args.name c.args.left c.in_ok-arguments.arguments c.in_ok-arguments.right))
+call_after-returns t c = rw (
+  sym c.in_default.ensures,
+  c.in_ok-first.ensures,
+  c.in_ok-arguments.ensures,
+  c.in_ok-within-2.ensures,
+  sym (view_call c.args.name c.args.left c.in_ok-arguments.arguments c.in_ok-arguments.right),
+)
     c.before-2.ensures
