@@ -3,11 +3,9 @@ use Rattle.std.proofs.Common.{◌≡◌, ℕ, suc, ◌+◌, ◌<◌, List, [], �
 use Rattle.std.proofs.Common.{refl, sym, ap, ◌∙◌, arith}
 use Rattle.om_lexer.specs.declared.fault.SourceFault.{SourceFault}
 use Rattle.om_lexer.specs.declared.token.Span.{Span}
-use Rattle.om_tree.specs.declared.tree.Expression.{Expression, fold-roll-Expression}
-use Rattle.om_tree.specs.declared.tree.Expression.TheOpen.{Expression-F}
-use Rattle.om_tree.specs.declared.tree.Expression.TheVariants as expressions
-use Rattle.om_tree.specs.View.{expression_layer, view_expression}
-use Rattle.om_tree.specs.Tree.{ExpressionTree, Call, ArgumentsTree, NoArguments, Argument, arguments}
+use Rattle.om_tree.specs.declared.tree.Expression.{Expression}
+use Rattle.om_tree.specs.View.{view_argument}
+use Rattle.om_tree.specs.Tree.{ExpressionTree, ArgumentsTree, NoArguments, Argument, arguments}
 use Rattle.om_rules.specs.ExpressionRules.{argument_breaches, argument_count, arguments_breaches, expression_breaches}
 use Rattle.om_rules.specs.ExpressionRules.{printed_breaches}
 use Rattle.om_rules.specs.Faults.{first_of}
@@ -16,7 +14,6 @@ use Rattle.om_rules.specs.Perhaps.{◌>>=◌}
 use Rattle.om_rules.specs.Resolution.{resolved_expression, resolved_printed, resolved_values}
 use Rattle.om_resolved.specs.ResolvedTree.{ResolvedExpressionTree, ValuesTree, NoValues, Value, values}
 use Rattle.om_rules.specs.Scopes.{Scopes}
-use Rattle.om_uses.specs.Views.{view_argument}
 use Rattle.om_rules.specs.InRow.{first_of_left}
 
 pub argument_count_is : (values : List (Option Span × Expression))
@@ -93,9 +90,6 @@ abbrev pub IsMade : Scopes → ArgumentsTree → List ResolvedExpressionTree →
 IsMade scopes all made left = resolved_values scopes all
     ≡ (resolved_values scopes left >>= λ rest. Some (before made rest))
 
-pub made_none : (scopes : Scopes) (all : ArgumentsTree) → IsMade scopes all [] all
-made_none scopes all = whole (resolved_values scopes all)
-
 next : (found : Option ValuesTree) (made : List ResolvedExpressionTree) (e : ResolvedExpressionTree)
     → ((found >>= λ rest. Some (Value e rest)) >>= λ rest. Some (before made rest))
     ≡ (found >>= λ rest. Some (before (made ++ e ∷ []) rest))
@@ -124,9 +118,6 @@ abbrev pub ArePrinted : Scopes → ArgumentsTree → ℕ → List ResolvedExpres
 ArePrinted scopes all place made left =
     (place ≡ 0 → resolved_printed scopes all ≡ (resolved_printed scopes left >>= λ rest. Some (before made rest)))
     × (0 < place → resolved_printed scopes all ≡ (resolved_values scopes left >>= λ rest. Some (before made rest)))
-
-pub printed_begin : (scopes : Scopes) (all : ArgumentsTree) → ArePrinted scopes all 0 [] all
-printed_begin scopes all = (λ first. whole (resolved_printed scopes all), λ above. absurd (omega (arith, above)))
 
 pub printed_format : (scopes : Scopes) (all : ArgumentsTree) (place : ℕ) (made : List ResolvedExpressionTree)
     (comma : Option Span) (e : ExpressionTree) (rest : ArgumentsTree)
@@ -161,9 +152,3 @@ printed_all scopes all left zero made none printed =
 printed_all scopes all left (suc place) made none printed =
     printed.1 (omega arith) ∙ ap (λ l. resolved_values scopes l >>= λ rest. Some (before made rest)) none
     ∙ ap Some (before_none made)
-
--- a call, as a tree
-pub view_call : (name : _) (left : _) (values : _) (right : _) → view_expression (expressions.Call name left values
-    right) ≡ Call name left (arguments (map view_argument values.items)) right
-view_call name left values right = ap view_expression (sym (expressions.rolls-Call name left values right))
-    ∙ fold-roll-Expression ExpressionTree expression_layer (Expression-F.Call name left values right)

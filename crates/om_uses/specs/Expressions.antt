@@ -8,7 +8,7 @@ use Rattle.om_pragma.specs.declared.name.Name as names
 use Rattle.om_tree.specs.declared.tree.AssignOperator.{AssignOperator}
 use Rattle.om_tree.specs.declared.tree.Expression.{Expression}
 use Rattle.om_tree.specs.declared.tree.PrefixOperator.{PrefixOperator}
-use Rattle.om_tree.specs.View.{view_expression}
+use Rattle.om_tree.specs.View.{view_arguments, view_expression}
 use Rattle.om_resolved.specs.declared.resolved.ResolvedExpression.{ResolvedExpression}
 use Rattle.om_resolved.specs.declared.resolved.UnaryOperator.{UnaryOperator}
 use Rattle.om_resolved.specs.declared.resolved.Variable.{Variable}
@@ -24,7 +24,7 @@ use Rattle.om_rules.specs.Scopes.{Scopes}
 use Rattle.om_uses.specs.declared.target.Target.{Target}
 use Rattle.om_uses.specs.Parts.{step_of, unary_of}
 use Rattle.om_uses.specs.TargetViews.{view_target}
-use Rattle.om_uses.specs.Views.{view_arguments, view_boxed, view_values}
+use Rattle.om_uses.specs.Views.{view_boxed, view_values}
 
 -- ---- operators and targets
 

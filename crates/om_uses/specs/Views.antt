@@ -1,11 +1,9 @@
 -- Views of parts of a tree that have none of their own, and what is promised of expressions by them.
 use Rattle.std.specs.Global.{Box}
-use Rattle.std.specs.Prelude.{Bool, List, Option, Result, Vec, map}
+use Rattle.std.specs.Prelude.{Bool, List, Result, Vec, map}
 use Rattle.std.specs.declared.alloc.Global.{Global}
 use Rattle.om_lexer.specs.declared.fault.SourceFault.{SourceFault}
-use Rattle.om_lexer.specs.declared.token.Span.{Span}
 use Rattle.om_tree.specs.declared.tree.Expression.{Expression}
-use Rattle.om_tree.specs.Tree.{ArgumentsTree, ExpressionTree, arguments}
 use Rattle.om_tree.specs.View.{view_expression}
 use Rattle.om_resolved.specs.declared.resolved.ResolvedExpression.{ResolvedExpression}
 use Rattle.om_resolved.specs.ResolvedTree as trees
@@ -18,14 +16,6 @@ use Rattle.om_rules.specs.Outcomes.{Finds}
 use Rattle.om_rules.specs.Resolution.{resolved_expression}
 use Rattle.om_rules.specs.Resolves.{Resolves}
 use Rattle.om_rules.specs.Scopes.{Scopes}
-
--- an argument behind its comma
-abbrev pub view_argument : Option Span × Expression → Option Span × ExpressionTree
-view_argument argument = (argument.0, view_expression argument.1)
-
--- the arguments of a call
-abbrev pub view_arguments : List (Option Span × Expression) → ArgumentsTree
-view_arguments values = arguments (map view_argument values)
 
 -- a resolved expression in a box
 abbrev pub view_boxed : Box ResolvedExpression → ResolvedExpressionTree

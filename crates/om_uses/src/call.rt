@@ -1,12 +1,12 @@
 //! Calls, beside their values: the format of a `printf`, and the function that is called.
 
 ghost use Rattle.std.specs.Prelude.{◌≡◌, Some, IfOk, option_map};
-ghost use Rattle.om_tree.specs.View.{view_expression};
+ghost use Rattle.om_tree.specs.View.{view_arguments, view_expression};
 ghost use Rattle.om_resolved.specs.ResolvedView as view;
 ghost use Rattle.om_rules.specs.ExpressionRules.{argument_count, is_print};
 ghost use Rattle.om_rules.specs.Resolution.{call_of, format_in, text_in};
 ghost use Rattle.om_uses.specs.Expressions.{ChecksFormat};
-ghost use Rattle.om_uses.specs.Views.{view_arguments, view_values};
+ghost use Rattle.om_uses.specs.Views.{view_values};
 
 use om_lexer::{FaultCode, SourceFault};
 use om_names::refuse_if;

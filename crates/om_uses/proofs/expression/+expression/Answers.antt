@@ -5,15 +5,15 @@ use Rattle.om_tree.specs.Tree.{arguments}
 use Rattle.om_rules.specs.ExpressionRules.{expression_breaches}
 use Rattle.om_rules.specs.Resolution.{resolved_expression}
 use Rattle.om_resolved.specs.ResolvedView as view
-use Rattle.om_uses.specs.Views.{view_argument}
 use Rattle.om_uses.proofs.Arguments.{arguments_refuse, arguments_step, made_all, made_step, printed_all, printed_behind}
-use Rattle.om_uses.proofs.Arguments.{printed_format, printed_made, printed_refuse, printed_step, view_call}
+use Rattle.om_uses.proofs.Arguments.{printed_format, printed_made, printed_refuse, printed_step}
 use Rattle.om_uses.proofs.Items.{drop-item, map-push}
 use Rattle.om_tree.specs.declared.tree.Expression.{fold-roll-Expression}
 use Rattle.om_tree.specs.declared.tree.Expression.TheVariants as expressions
 use Rattle.om_tree.specs.declared.tree.Expression.TheViews.{size-Expression, sized-Assign, sized-Binary}
 use Rattle.om_tree.specs.declared.tree.Expression.TheViews.{sized-Conditional}
-use Rattle.om_tree.specs.View.{view_expression}
+use Rattle.om_tree.specs.CallViews.{view_call}
+use Rattle.om_tree.specs.View.{view_expression, view_argument}
 use Rattle.om_resolved.specs.declared.resolved.ResolvedExpression.{fold-roll-ResolvedExpression}
 use Rattle.om_resolved.specs.declared.resolved.ResolvedExpression.TheVariants as made
 use Rattle.om_rules.specs.ExpressionRules.{argument_count, arguments_breaches, array_breaches, call_breaches}

@@ -1,8 +1,8 @@
 use Rattle.std.proofs.Common.{◌≡◌, ◌≤◌, map, drop}
+use Rattle.om_tree.specs.View.{view_argument}
 use Rattle.om_tree.specs.Tree.{arguments}
 use Rattle.om_rules.specs.ExpressionRules.{arguments_breaches, printed_breaches}
 use Rattle.om_resolved.specs.ResolvedView as view
-use Rattle.om_uses.specs.Views.{view_argument}
 use Rattle.om_uses.proofs.Arguments.{ArePrinted, IsMade}
 use Rattle.om_uses.proofs.expression.+expression.Given as goal
 
