@@ -50,7 +50,6 @@ fn cut_format(alloc: Global, cut: &mut Cut, format: &[u8]) -> Made<bool>
 }
 
 // Cuts what begins with a byte, and answers what is behind it; `None` where no format goes on so.
-#[tactic(auto, unfolding(om_resolved::specs::Formats::pieces_of), using(crate::proofs::Cutting::byte_or, crate::proofs::Cutting::not_this))]
 fn cut_next<'a>(alloc: Global, cut: &mut Cut, byte: u8, rest: &'a [u8]) -> Made<Option<&'a [u8]>>
     ensures same { IfOk result (λ left.
         cut_behind cut.old (byte ∷ rest.now) ≡ cut_left cut.new left) }
@@ -64,7 +63,6 @@ fn cut_next<'a>(alloc: Global, cut: &mut Cut, byte: u8, rest: &'a [u8]) -> Made<
 }
 
 // Cuts what begins behind a `%`.
-#[tactic(auto, unfolding(om_resolved::specs::Formats::converted), using(crate::proofs::Cutting::value_or, crate::proofs::Cutting::byte_or, crate::proofs::Cutting::not_this))]
 fn cut_converted<'a>(alloc: Global, cut: &mut Cut, rest: &'a [u8]) -> Made<Option<&'a [u8]>>
     ensures shorter { IfOk result (λ left. IfSome left (λ one. length one.now ≤ length rest.now)) }
     ensures same { IfOk result (λ left.

@@ -33,7 +33,6 @@ use om_uses::{add, boxed, boxed_expression, enter_loop, loop_fault};
 use std::alloc::Global;
 
 /// The items of a block.
-#[tactic(auto, unfolding(om_rules::specs::StatementRules::statements_breaches, om_rules::specs::StatementResolution::resolved_statements))]
 #[cycle(statement)]
 pub(crate) fn resolve_statements(
     alloc: Global,
@@ -54,7 +53,6 @@ pub(crate) fn resolve_statements(
 }
 
 // A statement, or a declaration in a block.
-#[tactic(auto, unfolding(om_rules::specs::StatementRules::statement_breaches, om_rules::specs::StatementResolution::resolved_statement, om_tree::specs::Formed::IsStatement, om_tree::specs::Sizes::HasForms))]
 #[cycle(statement)]
 fn resolve_statement(
     alloc: Global,
@@ -312,7 +310,6 @@ fn resolve_loop_construct(
 }
 
 // The body of a canonical loop.
-#[tactic(auto, unfolding(om_rules::specs::StatementRules::body_breaches, om_rules::specs::StatementResolution::resolved_repeated, om_tree::specs::Formed::IsStatement, om_tree::specs::Sizes::HasForms))]
 #[cycle(statement)]
 fn resolve_loop_body(
     alloc: Global,
@@ -375,7 +372,6 @@ fn resolve_sections(
 }
 
 // The parts of `sections`.
-#[tactic(auto, unfolding(om_rules::specs::StatementRules::parts_breaches, om_rules::specs::StatementResolution::resolved_parts))]
 #[cycle(statement)]
 fn resolve_parts(
     alloc: Global,
