@@ -1,5 +1,7 @@
-use Rattle.std.proofs.Common.{rules, refl, subst, sym, ◌<◌, length}
-use Rattle.om_book.specs.Books.{BookView}
+use Rattle.std.proofs.Common.{◌≡◌, ◌∙◌, ap, rules, refl, subst, sym, ◌<◌, length, List}
+use Rattle.om_undo.specs.Machines.{MachineView}
+use Rattle.om_journal.specs.Records.{JournalRecord}
+use Rattle.om_book.specs.Books.{BookView, machine_of, with_record}
 use Rattle.om_journal.specs.Runs.{reply_to}
 use Rattle.om_journal.specs.declared.command.Command.TheVariants as command
 use Rattle.om_journal.specs.Growing.{sound_next, sound_same}
@@ -17,4 +19,20 @@ invariant_of-self c =
           (reply_to c.self.inside.machine (command.Undo c.args.worker)) c.self.invariant room
           (search rules) refl (search rules)
       | in-Err w ↦ sound_same c.self.inside.machine _ _ journal _ c.self.invariant (search rules) (search rules)
+    ]
+
+pub returns-clause-recorded : goal.returns-clause-recorded
+returns-clause-recorded c =
+    let here : c.self.inside.machine ≡ machine_of c.args.self.now = c.self.invariant.left
+    ∙ ap machine_of c.self.view_is in
+    let behind : List JournalRecord → BookView = λ js. record { start = c.self.inside.start.value; journal = js } in
+    let asked = command.Undo c.args.worker in
+    elim c.match-append_undo.branch [
+      | in-Ok w ↦
+          rw w.result-is (ap behind w.in-Ok.ensures.journal
+          ∙ ap (λ (m : MachineView). with_record (behind c.self.inside.journal.items) c.args.seat asked
+          (reply_to m asked)) here
+          ∙ ap (λ (b : BookView). with_record b c.args.seat asked (reply_to (machine_of c.args.self.now) asked))
+          c.self.view_is)
+      | in-Err w ↦ rw w.result-is tt
     ]
