@@ -4,7 +4,7 @@ use Rattle.std.proofs.Common.{option_map, if◌then◌else◌, refl, sym, ap, �
 use Rattle.om_code.specs.declared.raw.Piece.TheVariants as pieces
 use Rattle.om_lower.specs.declared.texts.Cut.{Cut}
 use Rattle.om_lower.specs.Texts.{behind_cut, cut_behind, with_run}
-use Rattle.om_resolved.specs.Formats.{Piece, Value, pieces_of, with_byte}
+use Rattle.om_resolved.specs.Formats.{Piece, Value, pieces_of}
 
 on_option : {A B C : Type 0} (f : A → C) (g : B → C) (h : A → B) (x : Option A) → ((a : A) → g (h a) ≡ f a)
     → option_map g (option_map h x) ≡ option_map f x
@@ -19,18 +19,6 @@ pub value_or : (old new : Cut) (is : Bool) (some other : Option (List Piece)) �
 value_or old new true some other is same =
     on_option (behind_cut new) (behind_cut old) (λ pieces. Value ∷ pieces) some (λ rest. sym (same rest))
 value_or old new false some other is same = cc
-
-pub byte_or : (old new : Cut) (byte : ℕ) (is : Bool) (some other : Option (List Piece)) → is ≡ true
-    → ((rest : List Piece) → behind_cut new rest ≡ behind_cut old (with_byte byte rest))
-    → option_map (behind_cut old) (if is then option_map (with_byte byte) some else other) ≡ option_map
-    (behind_cut new) some
-byte_or old new byte true some other is same =
-    on_option (behind_cut new) (behind_cut old) (with_byte byte) some (λ rest. sym (same rest))
-byte_or old new byte false some other is same = cc
-
-pub not_this : {A : Type 0} (is : Bool) (some other : A) → is ≡ false → (if is then some else other) ≡ other
-not_this true some other is = cc
-not_this false some other is = refl
 
 nothing_left : (left : List ℕ) → length left ≡ 0 → left ≡ []
 nothing_left [] none = refl
