@@ -129,7 +129,6 @@ fn push_card(
 }
 
 /// Appends the box of a step, of a class.
-#[tactic(auto, unfolding(crate::specs::Marks::box_text))]
 pub(crate) fn push_box(
     text: &mut Vec<u8>,
     class: &[u8],

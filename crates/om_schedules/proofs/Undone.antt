@@ -103,23 +103,8 @@ taken_back s u ws w undone stand =
 abbrev pub AreBelow : List ℕ → ℕ → Type 0
 AreBelow ws n = (k : ℕ) → k < length ws → get_or ws k 0 < n
 
-pub more_below : (ws : List ℕ) (w n : ℕ) → AreBelow ws n → w < n → AreBelow (ws ++ w ∷ []) n
-more_below [] w n all h zero below = h
-more_below [] w n all h (suc k) below = absurd (omega (arith, below))
-more_below (v ∷ vs) w n all h zero below = all zero (omega arith)
-more_below (v ∷ vs) w n all h (suc k) below =
-    more_below vs w n (λ j within. all (suc j) (omega (arith, within))) h k (omega (arith, below))
-
-pub last_below : (ws : List ℕ) (w n : ℕ) → AreBelow (ws ++ w ∷ []) n → w < n
-last_below [] w n all = all zero (omega arith)
-last_below (v ∷ vs) w n all = last_below vs w n (λ j within. all (suc j) (omega (arith, within)))
-
 pub rest_below : (ws : List ℕ) (w n : ℕ) → AreBelow (ws ++ w ∷ []) n → AreBelow ws n
 rest_below [] w n all k within = absurd (omega (arith, within))
 rest_below (v ∷ vs) w n all zero within = all zero (omega arith)
 rest_below (v ∷ vs) w n all (suc k) within =
     rest_below vs w n (λ j below. all (suc j) (omega (arith, below))) k (omega (arith, within))
-
-pub none_left : (es : List Entry) → workers_of es ≡ [] → es ≡ []
-none_left [] h = refl
-none_left (e ∷ es) h = cc

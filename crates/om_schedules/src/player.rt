@@ -66,7 +66,6 @@ impl Player {
     }
 
     /// Makes a step, where it can be made and there is memory to note it.
-    #[tactic(auto, using(crate::proofs::Made::made_by_step, crate::proofs::Made::made_by_undo, crate::proofs::Undone::noted, crate::proofs::Undone::more_below))]
     pub(crate) fn attempt(&mut self, alloc: Global, label: &Label) -> Result<Attempt, AllocError> {
         if self.left == 0 || label.worker >= self.machine.workers() {
             return Ok(Attempt::Not);
@@ -162,7 +161,6 @@ impl Player {
     }
 
     /// Takes all steps back, to the start.
-    #[tactic(auto, using(crate::proofs::Made::made_by_undo, crate::proofs::Undone::last_below, crate::proofs::Undone::none_left))]
     pub(crate) fn rewind(&mut self)
         ensures { self.new.machine.history.entries ≡ [] }
     {
