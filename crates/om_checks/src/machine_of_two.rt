@@ -31,7 +31,6 @@ impl MachineOfTwo {
     }
 
     /// The step of a worker.
-    #[tactic(auto, using(crate::proofs::Made::made_after_step))]
     pub(crate) fn step(&mut self, alloc: Global, worker: u8) -> Result<StepReply, AllocError>
         requires { worker < 2 }
     {

@@ -64,7 +64,6 @@ impl<G: Gate + Drop + Send> Table<G> {
 }
 
 // Drives both seats of the session that is meant.
-#[tactic(auto, using(om_drive::specs::DistinctSeats::seats_differ, om_drive::specs::DistinctSeats::seats_count))]
 fn drive_in<L: Sitting + Send + Sync, G: Gate + Drop + Send, R: Threads + Wait + Sync>(
     rt: &R,
     alloc: Global,
@@ -109,7 +108,6 @@ fn drive_in<L: Sitting + Send + Sync, G: Gate + Drop + Send, R: Threads + Wait +
 }
 
 // Lets both workers of the session that is meant run freely.
-#[tactic(auto, using(om_drive::specs::DistinctSeats::seats_differ, om_drive::specs::DistinctSeats::seats_count))]
 fn free_in<L: Sitting + Send + Sync, G: Gate + Drop + Send, R: Threads + Wait + Sync>(
     errand: Errand<'_, R>,
     blank: Blank,

@@ -49,7 +49,6 @@ struct Told<'a> {
 }
 
 // Compares the answers to the orders of the session that is meant.
-#[tactic(auto, using(om_drive::specs::DistinctSeats::seats_count))]
 fn compared_in<L: Sitting, R: Wait>(
     rt: &R,
     alloc: Global,
