@@ -2,10 +2,10 @@ use Rattle.std.proofs.Common.{rules}
 use Rattle.om_draw.specs.Marks.{box_text}
 use Rattle.om_draw.proofs.marks.push_box.Goals as goal
 
-pub returns-then-is_small : goal.returns-then-is_small
+pub returns-then-scale : goal.returns-then-scale
 unfolding box_text
-returns-then-is_small c = search rules
+returns-then-scale c = search rules
 
-pub returns-else-is_small : goal.returns-else-is_small
+pub returns-else-scale : goal.returns-else-scale
 unfolding box_text
-returns-else-is_small c = search rules
+returns-else-scale c = search rules
