@@ -10,7 +10,6 @@ use Rattle.om_shell.specs.declared.fault.ShellFault.{ShellFault}
 use Rattle.om_shell.specs.Lines.{HasNoLineEnd}
 use Rattle.om_shell.specs.Progress.{AppendsPart, ReadFails}
 use Rattle.om_lines.specs.Tails.{IsNoted}
-pub use Rattle.om_lines.specs.Unended.{is_noted}
 use Rattle.om_notes.specs.Parts.{IsPart, announced, as_they_are, a_line, no_part, one_more}
 use Rattle.om_notes.specs.Passing.{Passed, PassesPart, BreaksPart, PassesAll, PassesBeginning}
 use Rattle.om_notes.specs.Passing.{GoesOn, BreaksOff}
@@ -251,9 +250,6 @@ pub never_begun : (l h : Option (List ℕ)) → PassesBeginning l l h h
 never_begun l h = part_broken l l h h h [] 0 (nothing_passed l h) (nothing_broken h [] 0)
 
 -- ---- loops
-
-pub goes_on_none : (a : Option (List ℕ)) (p : List ℕ) (due : ℕ) → GoesOn a a p p due due
-goes_on_none a p due = λ la lb h far. far
 
 pub goes_on_one : (a b c : Option (List ℕ)) (p q r : List ℕ) (m n k : ℕ) → GoesOn a b p q m n
     → PassesPart b c q r n k → GoesOn a c p r m k

@@ -18,7 +18,6 @@ use std::alloc::{AllocError, Global};
 use std::io::{Read, Write};
 
 // The line up to `end` as it is written, and how many bytes are due as they are behind it.
-#[tactic(auto, using(crate::proofs::PassLaws::is_noted))]
 fn answer(names: &Names<'_>, pending: &[u8], end: usize) -> Result<(Vec<u8>, usize), AllocError>
     requires within { end ≤ length pending.now }
     ensures text { IfOk result (λ r. IsNoted (take end pending.now) r.0.items) }
@@ -67,7 +66,6 @@ fn smaller(one: usize, other: usize) -> usize
 }
 
 // Passes pending bytes on that are due as they are.
-#[tactic(auto, using(crate::proofs::PassLaws::bytes_passed))]
 fn pass_bytes<W: Write>(waiting: &mut Waiting, writer: &mut W) -> Result<(), ShellFault>
     requires due { 0 < waiting.old.due }
     requires pending { 0 < length waiting.old.read.pending.items }
@@ -123,7 +121,6 @@ fn pass_part<W: Write>(
 }
 
 // Passes all parts on that are pending.
-#[tactic(auto, using(crate::proofs::PassLaws::goes_on_none, crate::proofs::PassLaws::goes_on_one))]
 fn pass_parts<W: Write>(
     names: &Names<'_>,
     waiting: &mut Waiting,
@@ -179,7 +176,6 @@ fn pass_all<R: Read, W: Write>(
 /// - `Read` (H3): a read failed, or 2^32 reads were made.
 /// - `Write` (H4): a write or a flush failed.
 /// - `Memory` (H5): there was no memory, in whatever part.
-#[tactic(auto, using(crate::proofs::PassLaws::never_begun))]
 pub fn annotate<R: Read, W: Write>(
     alloc: Global,
     source: &[u8],

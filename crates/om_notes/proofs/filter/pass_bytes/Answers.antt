@@ -1,6 +1,6 @@
 use Rattle.std.proofs.Common.{arith, rules, ◌≡◌, ◌≤◌, ◌+◌, ◌-◌, length}
 use Rattle.std.proofs.lemmas.Result.{err_from_is_err_and}
-use Rattle.om_notes.proofs.PassLaws.{bytes_broken}
+use Rattle.om_notes.proofs.PassLaws.{bytes_broken, bytes_passed}
 use Rattle.om_notes.proofs.filter.pass_bytes.Goals as goal
 
 pub returns-in_err-send-clause-broken_off : goal.returns-in_err-send-clause-broken_off
@@ -14,3 +14,6 @@ returns-in_err-send-clause-broken_off g c =
     let counted : due ≡ count + (due - count) = omega (arith, below) in
     let part = rw c.deref.ensures.value at c.in_err-send.ensures.begun_on_error in
     rw p.1 (bytes_broken _ _ pending count due (due - count) within counted part.1)
+
+pub returns-clause-passed : goal.returns-clause-passed
+returns-clause-passed g c = grind (arith, bytes_passed)
