@@ -48,7 +48,7 @@ IsRefusedLineOrAtomic tokens fault = IsRefusedLine tokens fault ⊎ IsBadAtomic 
 abbrev pub IfRefusedBy : FaultCode → Result units.Unit SourceFault → (SourceFault → Type 0) → Type 0
 IfRefusedBy code result IsSo = IfErr result (λ fault. fault.code ≡ code → IsSo fault)
 
--- memory ran out, or the code is one of those by which a source is refused
+-- memory ran out, or the code is one of those by which the parser refuses a source
 abbrev pub HasParserCode : SourceFault → Type 0
 HasParserCode fault = (fault ≡ no_memory) ⊎ (fault.code ≡ codes.Syntax) ⊎ (fault.code ≡ codes.TooDeep)
     ⊎ (fault.code ≡ codes.UnknownDirective) ⊎ (fault.code ≡ codes.BadClause)

@@ -1,4 +1,5 @@
--- For proofs: the trees of what the code makes.
+-- For proofs: the trees of what the code makes. What is read is so unless memory ran out; a refusal that reading gives
+-- is then the answer, and nothing else is.
 use Rattle.std.specs.Prelude.{Bool, List, [], Option, Result, Vec, map, option_map}
 use Rattle.std.specs.Global.{Box}
 use Rattle.std.specs.declared.alloc.Global.{Global}

@@ -1,4 +1,5 @@
--- For proofs: what the code makes, as trees, and the readers that its budgets name.
+-- For proofs: what the code makes, as trees, and the readers that its budgets name. What is read or made is so unless
+-- memory ran out; a refusal that reading gives is then the answer, and nothing else is.
 use Rattle.std.specs.Prelude.{◌≡◌, ℕ, ◌-◌, ◌⊎◌, Bool, Err, IfOk, List, None, Option, Result, Some, Vec, true, false}
 use Rattle.std.specs.Prelude.{length, map, option_map}
 use Rattle.std.specs.Global.{Box}
@@ -11,7 +12,6 @@ use Rattle.om_lexer.specs.declared.token.Span.{Span}
 use Rattle.om_lexer.specs.declared.token.Token.{Token}
 use Rattle.om_pragma.specs.declared.name.Name as names
 use Rattle.om_pragma.specs.declared.tree.Directive.{Directive}
-use Rattle.om_pragma.specs.Expressions.{map_directive, IsValue}
 use Rattle.om_parts.specs.declared.expression.Budget.{Budget}
 use Rattle.om_parts.specs.ExpressionReading.{Inside, arguments_at, behind, binary_at, binary_more, call_after, chain_at}
 use Rattle.om_parts.specs.ExpressionReading.{conditional_after, deeper, expression_after, expression_at, first_at}
@@ -65,7 +65,7 @@ abbrev pub MakesDeclarator : {I T : Type 0} → (I → T) → Result (Box (Decla
     → DeclaratorTree T → List Token → Type 0
 MakesDeclarator view = Makes (λ x. (view_declarator view x.0.value, x.1.now))
 
--- what was returned is the declarator of this name, perhaps with brackets, without an initializer
+-- what was returned is the declarator of this name, perhaps with brackets, without an initializer, unless memory ran out
 abbrev pub MakesUninitialized : {I T : Type 0} → (I → T) → Result (Box (Declarator I) × Bor (List Token)) SourceFault
     → names.Name → Option ArrayLength → List Token → Type 0
 MakesUninitialized view result name array rest = MakesDeclarator view result
@@ -79,17 +79,13 @@ ReadsFurther view = Reads (λ x. ((x.0, view_declarator view x.1.value), x.2.now
 
 -- ---- directives
 
--- what was returned is the directive that reading gives, with no tokens behind it
+-- what was returned is the directive that reading gives
 abbrev pub ReadsDirective : Result (Directive Expression) SourceFault → Outcome (Directive ExpressionTree) → Type 0
 ReadsDirective = Reads view_directive
 
--- it is the directive with this value in place of its own, if it has one
-abbrev pub IsFilled : {E F : Type 0} → Directive E → Option F → Directive F → Type 0
-IsFilled {E} {F} directive value d = (f : E → F) → IsValue f value → d ≡ map_directive f directive
-
 -- ---- expressions
 
--- an expression out of its box, as the operand of an operator stands in one
+-- an expression out of its box, as operands, arguments and values of clauses stand in one
 abbrev pub view_operand : Box Expression → ExpressionTree
 view_operand expression = view_expression expression.value
 
@@ -143,6 +139,7 @@ TakesText found taken = option_map (λ x. (x.0, x.1.now)) found ≡ taken
 abbrev pub expression_in : Budget → (may_assign : Bool) → Reader ExpressionTree
 expression_in b may_assign = expression_at b.beyond b.turns may_assign b.room
 
+-- an expression within this budget, and one that is no assignment
 abbrev pub whole_in : Budget → Reader ExpressionTree
 whole_in b = expression_in b true
 

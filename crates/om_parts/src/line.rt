@@ -1,13 +1,13 @@
 //! Directive lines, each with its expression (OpenMP API 5.2).
 
-ghost use Rattle.std.specs.Prelude.{◌≡◌, ◌≤◌, ◌⊎◌, Err, IfErr, IfOk, IfSome, length, option_map, option_to_list};
+ghost use Rattle.std.specs.Prelude.{◌≡◌, ◌≤◌, ◌⊎◌, Err, IfErr, IfOk, IfSome, length, option_map};
 ghost use Rattle.om_lexer.specs.Faults.{no_memory};
-ghost use Rattle.om_pragma.specs.Expressions.{expressions, with_tokens};
+ghost use Rattle.om_pragma.specs.Expressions.{expressions, map_directive, with_tokens, CanFill, IsFilled};
 ghost use Rattle.om_pragma.specs.Reading.{is_end, take_first, directive_at, expression_before};
 ghost use Rattle.om_pragma.specs.Refusals.{EndsOnce};
 ghost use Rattle.om_tree.specs.Limits.{accepted};
 ghost use Rattle.om_parts.specs.LineReading.{alone, clause_value, in_run, is_syntax, last_start, line_at, line_of, place_behind, run_of, sooner, with_value};
-ghost use Rattle.om_parts.specs.Made.{view_operand, IsFilled, ReadsBoxed, ReadsDirective};
+ghost use Rattle.om_parts.specs.Made.{view_operand, ReadsBoxed, ReadsDirective};
 ghost use Rattle.om_parts.specs.Reading.{Reads, ReadsAlways};
 ghost use Rattle.om_tree.specs.View.{view_directive};
 
@@ -114,8 +114,8 @@ fn filled<E: Drop, F: Drop>(
     directive: Directive<E>,
     value: Option<F>,
 ) -> Result<Directive<F>, SourceFault>
-    requires { length (expressions directive) ≤ length (option_to_list value) }
-    ensures made { IfOk result (IsFilled directive value) }
+    requires { CanFill value (expressions directive) }
+    ensures made { IfOk result (IsFilled map_directive value directive) }
     ensures refused { IfErr result (λ fault. fault ≡ no_memory) }
 {
     Ok(directive.with_expression(alloc, value)?)

@@ -35,7 +35,7 @@ use Rattle.om_journal.specs.declared.command.Command.TheVariants as call
 use Rattle.om_journal.specs.declared.command.Query.{Query}
 use Rattle.om_journal.specs.declared.reply.Reply.TheVariants as reply
 use Rattle.om_task.specs.Plans.{label_at}
-use Rattle.om_view.specs.Calls.{undo_reply_of, with_own_call, with_step}
+use Rattle.om_view.specs.Calls.{undo_reply_of, with_debugger_call, with_step}
 use Rattle.om_drive.specs.OwnCalls.{AreOwnCalls}
 use Rattle.om_view.specs.Freed.{SeatCall, AreOwn, records_by}
 use Rattle.om_view.specs.Runs.{after_move, can_step, move_among, move_of, moved_of, ran, run_within, said_by}
@@ -82,7 +82,7 @@ back_full (suc n) line worker b e = rw e refl
 abbrev undone_once : ℕ → BookView → Said
 undone_once worker b = record {
   text = undo_text b.start.program worker (undo_reply_of (machine_of b) worker);
-  book = with_own_call b (call.Undo worker);
+  book = with_debugger_call b (call.Undo worker);
 }
 
 pub back_stops : (further line worker : ℕ) (b : BookView) → is_full b ≡ false → goes_on further
@@ -94,7 +94,7 @@ back_stops (suc n) line worker b e h = rw (e, h) refl
 
 pub back_goes_on : (further line worker : ℕ) (b : BookView) → is_full b ≡ false → goes_on further
     (undoes_within line worker b) ≡ true
-    → back_within (further - 1) line worker (with_own_call b (call.Undo worker)) ≡ back_within further line worker b
+    → back_within (further - 1) line worker (with_debugger_call b (call.Undo worker)) ≡ back_within further line worker b
 unfolding back_within
 back_goes_on zero line worker b e h = cc
 back_goes_on (suc n) line worker b e h = let same : suc n - 1 ≡ n = omega arith in rw (same, e, h) refl
@@ -270,7 +270,7 @@ no_start law m worker (name ∷ names) elsewhere =
     ∙ no_start law m worker names elsewhere
 
 -- a question leaves the machine as it was
-pub looked_same : (b : BookView) (q : Query) → machine_of (with_own_call b (call.Look q)) ≡ machine_of b
+pub looked_same : (b : BookView) (q : Query) → machine_of (with_debugger_call b (call.Look q)) ≡ machine_of b
 looked_same b q = left_by-snoc b.start b.journal _
 
 -- the records of a free run

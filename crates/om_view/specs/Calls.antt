@@ -19,13 +19,13 @@ use Rattle.om_task.specs.Plans.{label_at}
 use Rattle.om_undo.specs.Machines.{MachineView, roll_reply, rules_for, state_in, step_reply}
 use Rattle.om_undo.specs.ReadyNames.{ready_names}
 
--- the book behind a call of the debugger's own seat
-abbrev pub with_own_call : BookView → Command → BookView
-with_own_call b c = with_call b 0 c
+-- the book behind a call of the debugger, which it makes through seat 0
+abbrev pub with_debugger_call : BookView → Command → BookView
+with_debugger_call b c = with_call b 0 c
 
 -- the book behind a step
 abbrev pub with_step : BookView → Label → BookView
-with_step b label = with_own_call b (call.Step label.worker label.choice)
+with_step b label = with_debugger_call b (call.Step label.worker label.choice)
 
 -- what a machine replies to an undo
 abbrev pub undo_reply_of : MachineView → ℕ → UndoReply
@@ -37,35 +37,35 @@ step_reply_at b worker choice = step_reply (machine_of b) (label_at worker choic
 
 -- the book behind a look at what an object holds
 abbrev pub with_value_look : BookView → Obj → BookView
-with_value_look b object = with_own_call b (call.Look (query.Value object))
+with_value_look b object = with_debugger_call b (call.Look (query.Value object))
 
--- whatever call was the last one in a book, this is the reply to it
+-- whatever call of the debugger was the last one in a book, this is the reply to it
 abbrev pub IsReplyTold : Reply → BookView → Type 0
-IsReplyTold reply now = (b : BookView) (c : Command) → now ≡ with_own_call b c → reply ≡ reply_to (machine_of b) c
+IsReplyTold reply now = (b : BookView) (c : Command) → now ≡ with_debugger_call b c → reply ≡ reply_to (machine_of b) c
 
--- where the last call was an undo, this is the reply to it
+-- where the debugger's last call was an undo, this is the reply to it
 abbrev pub IsUndoTold : UndoReply → BookView → Type 0
-IsUndoTold reply now = (b : BookView) (worker : ℕ) → now ≡ with_own_call b (call.Undo worker)
+IsUndoTold reply now = (b : BookView) (worker : ℕ) → now ≡ with_debugger_call b (call.Undo worker)
     → reply ≡ undo_reply_of (machine_of b) worker
 
--- where the last call was a roll, this is the reply to it
+-- where the debugger's last call was a roll, this is the reply to it
 abbrev pub IsRollTold : RollReply → BookView → Type 0
-IsRollTold reply now = (b : BookView) (serial : ℕ) → now ≡ with_own_call b (call.Roll serial)
+IsRollTold reply now = (b : BookView) (serial : ℕ) → now ≡ with_debugger_call b (call.Roll serial)
     → reply ≡ roll_reply (machine_of b) serial
 
--- where the last call was a look at an object, this is what the object holds
+-- where the debugger's last call was a look at an object, this is what the object holds
 abbrev pub IsValueTold : Val → BookView → Type 0
 IsValueTold value now = (b : BookView) (object : Obj) → now ≡ with_value_look b object
     → value ≡ state_in (machine_of b) object
 
--- where the last call was a look at the entries, these are the entries that stand
+-- where the debugger's last call was a look at the entries, these are the entries that stand
 abbrev pub AreEntriesTold : List Entry → BookView → Type 0
-AreEntriesTold entries now = (b : BookView) → now ≡ with_own_call b (call.Look query.Entries)
+AreEntriesTold entries now = (b : BookView) → now ≡ with_debugger_call b (call.Look query.Entries)
     → entries ≡ (machine_of b).history.entries
 
--- where the last call was a look at the tasks that are ready, these are their names
+-- where the debugger's last call was a look at the tasks that are ready, these are their names
 abbrev pub AreNamesTold : List (List ℕ) → BookView → Type 0
-AreNamesTold names now = (b : BookView) → now ≡ with_own_call b (call.Look query.Ready)
+AreNamesTold names now = (b : BookView) → now ≡ with_debugger_call b (call.Look query.Ready)
     → names ≡ ready_names (machine_of b)
 
 -- a command that is neither a step nor an undo

@@ -20,12 +20,12 @@ use Rattle.om_book.specs.Books.{BookView, machine_of}
 use Rattle.om_journal.specs.declared.command.Command.TheVariants as call
 use Rattle.om_journal.specs.declared.command.Query.{Query}
 use Rattle.om_journal.specs.declared.command.Query.TheVariants as query
-use Rattle.om_view.specs.Calls.{with_own_call}
+use Rattle.om_view.specs.Calls.{with_debugger_call}
 use Rattle.om_view.specs.Said.{Said, unless_full}
 
 -- a text for which the machine was asked a question
 abbrev pub looked : BookView → Query → List ℕ → Said
-looked b question text = unless_full b (record { text = text; book = with_own_call b (call.Look question) })
+looked b question text = unless_full b (record { text = text; book = with_debugger_call b (call.Look question) })
 
 -- a text by what an object holds
 abbrev pub looked_at : BookView → Obj → List ℕ → Said

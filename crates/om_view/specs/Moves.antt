@@ -5,17 +5,16 @@ use Rattle.om_values.specs.declared.step.Choice.TheVariants.{Next, Start}
 use Rattle.om_history.specs.declared.reply.StepReply.{StepReply}
 use Rattle.om_history.specs.declared.reply.UndoReply.{UndoReply}
 use Rattle.om_history.specs.declared.reply.UndoReply.TheVariants as undo_reply
-use Rattle.om_history.specs.Cones.{reply_to_roll}
 use Rattle.om_book.specs.Books.{BookView, machine_of}
 use Rattle.om_journal.specs.Runs.{is_step_made}
 use Rattle.om_journal.specs.declared.command.Command.TheVariants as call
 use Rattle.om_journal.specs.declared.reply.Reply.TheVariants as reply
 use Rattle.om_command.specs.Steps.{step_text, undo_text}
 use Rattle.om_command.specs.Lists.{roll_text}
-use Rattle.om_undo.specs.Machines.{MachineView, rules_for, step_reply}
+use Rattle.om_undo.specs.Machines.{MachineView, roll_reply, step_reply}
 use Rattle.om_view.specs.declared.moves.Stay.{Stay}
 use Rattle.om_task.specs.Plans.{label_at}
-use Rattle.om_view.specs.Calls.{undo_reply_of, with_own_call, with_step}
+use Rattle.om_view.specs.Calls.{undo_reply_of, with_debugger_call, with_step}
 use Rattle.om_view.specs.Looks.{line_at}
 use Rattle.om_view.specs.Said.{Said, unless_full}
 
@@ -39,7 +38,7 @@ start_said worker task b = step_said worker (Start task) b
 abbrev pub undo_said : ℕ → BookView → Said
 undo_said worker b = unless_full b (record {
   text = undo_text b.start.program worker (undo_reply_of (machine_of b) worker);
-  book = with_own_call b (call.Undo worker);
+  book = with_debugger_call b (call.Undo worker);
 })
 
 -- a worker's step is done and leaves it at a line
@@ -86,17 +85,17 @@ next_said most worker b = next_within most (line_at (machine_of b) worker) worke
 -- a worker's undo takes a step out and leaves it at a line
 abbrev pub undoes_within : ℕ → ℕ → BookView → Bool
 undoes_within line worker b = is_undone (undo_reply_of (machine_of b) worker)
-    && nat_eq (line_at (machine_of (with_own_call b (call.Undo worker))) worker) line
+    && nat_eq (line_at (machine_of (with_debugger_call b (call.Undo worker))) worker) line
 
 -- undos of a worker, while each takes a step out and leaves it at the line, and one more; so many before at most
 unfoldable pub back_within : ℕ → ℕ → ℕ → BookView → Said
 back_within zero line worker b = undo_said worker b
 back_within (suc further) line worker b =
     unless_full b (cond (undoes_within line worker b)
-    (back_within further line worker (with_own_call b (call.Undo worker)))
+    (back_within further line worker (with_debugger_call b (call.Undo worker)))
     (record {
       text = undo_text b.start.program worker (undo_reply_of (machine_of b) worker);
-      book = with_own_call b (call.Undo worker);
+      book = with_debugger_call b (call.Undo worker);
     }))
 
 -- what is said by the undos of a worker that is to leave its line
@@ -110,6 +109,6 @@ back_said most worker b = back_within most (line_at (machine_of b) worker) worke
 -- `roll S`
 abbrev pub roll_said : ℕ → BookView → Said
 roll_said serial b = unless_full b (record {
-  text = roll_text serial (reply_to_roll (rules_for (machine_of b)) (machine_of b).history serial);
-  book = with_own_call b (call.Roll serial);
+  text = roll_text serial (roll_reply (machine_of b) serial);
+  book = with_debugger_call b (call.Roll serial);
 })

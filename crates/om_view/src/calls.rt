@@ -9,7 +9,7 @@ ghost use Rattle.om_journal.specs.declared.command.Command.{Command as Asked};
 ghost use Rattle.om_journal.specs.declared.command.Query.TheVariants as query;
 ghost use Rattle.om_task.specs.Plans.{label_at};
 ghost use Rattle.om_undo.specs.Machines.{step_reply};
-ghost use Rattle.om_view.specs.Calls.{IsOther, AreEntriesTold, AreNamesTold, IsReplyTold, IsRollTold, IsUndoTold, IsValueTold, step_reply_at, with_own_call, with_step, with_value_look};
+ghost use Rattle.om_view.specs.Calls.{IsOther, AreEntriesTold, AreNamesTold, IsReplyTold, IsRollTold, IsUndoTold, IsValueTold, step_reply_at, with_debugger_call, with_step, with_value_look};
 
 use om_book::{Book, CallError};
 use om_foot::Name;
@@ -27,7 +27,7 @@ const SEAT: u8 = 0;
 pub(crate) fn call(alloc: Global, book: &mut Book, command: &Command) -> Result<(), AllocError>
     requires in_range { IsInRange book.old.start.workers command.now }
     requires room { records_of book.old < 200000 }
-    ensures { OnOk result (book.new ≡ with_own_call book.old command.now) }
+    ensures { OnOk result (book.new ≡ with_debugger_call book.old command.now) }
 {
     let Err(error) = book.call(alloc, SEAT, command) else {
         return Ok(());
@@ -42,7 +42,7 @@ pub(crate) fn call(alloc: Global, book: &mut Book, command: &Command) -> Result<
 pub(crate) fn undo(alloc: Global, book: &mut Book, worker: u8) -> Result<(), AllocError>
     requires in_range { worker < book.old.start.workers }
     requires room { records_of book.old < 200000 }
-    ensures { OnOk result (book.new ≡ with_own_call book.old (Command.Undo worker)) }
+    ensures { OnOk result (book.new ≡ with_debugger_call book.old (Command.Undo worker)) }
 {
     let Err(error) = book.undo(alloc, SEAT, worker) else {
         return Ok(());
@@ -90,7 +90,7 @@ pub(crate) fn step(
 
 // What the last call was answered.
 fn told(book: &Book) -> ReplyIn<'_>
-    requires { (b : BookView) × (c : Asked) × (book.now ≡ with_own_call b c) }
+    requires { (b : BookView) × (c : Asked) × (book.now ≡ with_debugger_call b c) }
     ensures { IsReplyTold (reply_in result) book.now }
 {
     book.last_reply()
@@ -98,7 +98,7 @@ fn told(book: &Book) -> ReplyIn<'_>
 
 // What the last call was answered, which was neither a step nor an undo.
 fn other_told(book: &Book) -> &Reply
-    requires { (b : BookView) × (c : Asked) × (book.now ≡ with_own_call b c) × IsOther c }
+    requires { (b : BookView) × (c : Asked) × (book.now ≡ with_debugger_call b c) × IsOther c }
     ensures { IsReplyTold result.now book.now }
 {
     match told(book) {
@@ -110,7 +110,7 @@ fn other_told(book: &Book) -> &Reply
 
 /// What the last call was answered, which was a worker's undo.
 pub(crate) fn undo_told(book: &Book) -> &KeptUndoReply
-    requires { (b : BookView) × (worker : ℕ) × (book.now ≡ with_own_call b (Command.Undo worker)) }
+    requires { (b : BookView) × (worker : ℕ) × (book.now ≡ with_debugger_call b (Command.Undo worker)) }
     ensures { IsUndoTold result.now book.now }
 {
     let reply = match told(book) {
@@ -126,7 +126,7 @@ pub(crate) fn undo_told(book: &Book) -> &KeptUndoReply
 
 /// What the last call was answered, which was a roll.
 pub(crate) fn roll_told(book: &Book) -> &RollReply
-    requires { (b : BookView) × (serial : ℕ) × (book.now ≡ with_own_call b (Command.Roll serial)) }
+    requires { (b : BookView) × (serial : ℕ) × (book.now ≡ with_debugger_call b (Command.Roll serial)) }
     ensures { IsRollTold result.now book.now }
 {
     let Reply::Roll(reply) = other_told(book) else {
@@ -148,7 +148,7 @@ pub(crate) fn value_told(book: &Book) -> &Val
 
 /// What the last call was answered, which was a look at the entries that stand.
 pub(crate) fn entries_told(book: &Book) -> &Seq<Entry>
-    requires { (b : BookView) × (book.now ≡ with_own_call b (Command.Look query.Entries)) }
+    requires { (b : BookView) × (book.now ≡ with_debugger_call b (Command.Look query.Entries)) }
     ensures { AreEntriesTold result.now book.now }
 {
     let Reply::Entries(entries) = other_told(book) else {
@@ -159,7 +159,7 @@ pub(crate) fn entries_told(book: &Book) -> &Seq<Entry>
 
 /// What the last call was answered, which was a look at the names of the tasks that are ready, ascending.
 pub(crate) fn names_told(book: &Book) -> &Seq<Name>
-    requires { (b : BookView) × (book.now ≡ with_own_call b (Command.Look query.Ready)) }
+    requires { (b : BookView) × (book.now ≡ with_debugger_call b (Command.Look query.Ready)) }
     ensures { AreNamesTold result.now book.now }
 {
     let Reply::Ready(names) = other_told(book) else {
