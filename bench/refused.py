@@ -9,7 +9,7 @@ INPUT is the standard input (the stored run, crates/ompback/stdin, if not given)
 loaded before the C library; it refuses the N-th call of one kind. Of each such run three things are wanted: that it ends,
 that it ends with status 3 and the right fault on standard error (or as the whole run does, where nothing was lost), and
 that what it wrote is a beginning of what the whole run writes.
-CASES is the program of cases, crates/om_cases/out/om_cases, and TITLE that of a section of its stdin. Each of its
+CASES is the program of cases, crates/gate_cases/out/gate_cases, and TITLE that of a section of its stdin. Each of its
 runs ends as the whole run does, or out of memory: an answer that changes in place of that is wrong.
 With --requests the library refuses nothing: it counts the requests between two answers. More than 20 of them are wrong.
 The last line counts the runs; the status is 1 where one of them is wrong.

@@ -3,7 +3,7 @@ use Rattle.std.specs.Prelude.{◌≡◌, ◌≤◌, ◌<◌, ◌+◌, ℕ, List,
 use Rattle.std.proofs.Common.{sym, ◌∙◌, subst, inl, inr, arith, add-one, drop, get_or, drop-cons}
 use Rattle.std.proofs.lemmas.Grind.{common_steps}
 use Rattle.om_book.specs.Standing.{Stands, Counts}
-use Rattle.om_journal.specs.Records.{JournalRecord}
+use Rattle.om_book_journal.specs.Records.{JournalRecord}
 use Rattle.om_book.specs.declared.receipt.Receipt.{Receipt}
 
 pub drop_first : (xs : List Receipt) (i : ℕ) (x : Receipt) → i < length xs → x ≡ get_or xs i x → drop i xs ≡ x

@@ -9,7 +9,7 @@ use Rattle.std.proofs.lemmas.List.Sums.{sum_by-cons}
 use Rattle.std.specs.List.{AllByRecursion}
 use Rattle.om_book.specs.Seats.{SeatView}
 use Rattle.om_book.specs.Standing.{Counts, CountsAll, calls_of, receipts_in, AllDiffer, IsSeat, Covers}
-use Rattle.om_journal.specs.Records.{JournalRecord}
+use Rattle.om_book_journal.specs.Records.{JournalRecord}
 use Rattle.om_book.specs.declared.receipt.Receipt.{Receipt}
 
 -- each receipt stands, from a place on

@@ -1,11 +1,11 @@
--- Matter of proofs, for om_view too: the reply of a record that is added to a book.
+-- Matter of proofs, for om_shell_debugger too: the reply of a record that is added to a book.
 use Rattle.std.specs.Prelude.{◌≡◌, ◌<◌, ◌+◌, ℕ, List, [], ◌∷◌, ◌++◌, length, option_map, refl, Some}
 use Rattle.std.proofs.Common.{sym, ◌-◌, ap, arith, length-append}
 use Rattle.std.proofs.lemmas.List.{get_or_push}
 use Rattle.std.proofs.lemmas.Option.{slice_get_read}
-use Rattle.om_journal.specs.declared.command.Command.{Command}
-use Rattle.om_journal.specs.declared.reply.Reply.{Reply}
-use Rattle.om_journal.specs.Records.{JournalRecord}
+use Rattle.om_book_journal.specs.declared.command.Command.{Command}
+use Rattle.om_book_journal.specs.declared.reply.Reply.{Reply}
+use Rattle.om_book_journal.specs.Records.{JournalRecord}
 use Rattle.om_book.specs.Books.{BookView, last_reply, records_of, with_record}
 
 -- there is a record then

@@ -4,7 +4,7 @@ use Rattle.std.specs.Prelude.{All, Vec, false}
 use Rattle.std.specs.declared.alloc.Global.{Global}
 use Rattle.om_book.specs.Seats.{SeatView, receipt_of}
 use Rattle.om_book.specs.declared.backing.Walk.{Walk}
-use Rattle.om_journal.specs.declared.reply.Reply.{Reply}
+use Rattle.om_book_journal.specs.declared.reply.Reply.{Reply}
 use Rattle.om_book.specs.declared.receipt.Receipt.{Receipt}
 use Rattle.om_book.specs.declared.order.Answer.{Answer}
 use Rattle.om_book.specs.declared.order.Order.{Order}

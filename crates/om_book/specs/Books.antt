@@ -2,17 +2,17 @@
 use Rattle.std.specs.Prelude.{◌≡◌, ◌+◌, ◌-◌, ℕ, Bool, nat_le, List, [], ◌∷◌, ◌++◌, length, take, slice_get}
 use Rattle.std.specs.Prelude.{Option, Vec, option_map}
 use Rattle.std.specs.declared.alloc.Global.{Global}
-use Rattle.om_history.specs.Runs.{History}
-use Rattle.om_history.specs.Commands.{run}
-use Rattle.om_values.specs.declared.step.Label.{Label}
+use Rattle.om_undo_history.specs.Runs.{History}
+use Rattle.om_undo_history.specs.Commands.{run}
+use Rattle.om_state.specs.declared.step.Label.{Label}
 use Rattle.om_undo.specs.Machines.{MachineView, rules_for}
-use Rattle.om_journal.specs.Runs.{fresh, reply_to, step_command}
-use Rattle.om_journal.specs.Journals.{left_by}
-use Rattle.om_journal.specs.Histories.{told_in}
-use Rattle.om_journal.specs.declared.command.Command.{Command}
-use Rattle.om_journal.specs.declared.command.Command.TheVariants as command
-use Rattle.om_journal.specs.declared.reply.Reply.{Reply}
-use Rattle.om_journal.specs.Records.{JournalRecord}
+use Rattle.om_book_journal.specs.Runs.{fresh, reply_to, step_command}
+use Rattle.om_book_journal.specs.Journals.{left_by}
+use Rattle.om_book_journal.specs.Histories.{told_in}
+use Rattle.om_book_journal.specs.declared.command.Command.{Command}
+use Rattle.om_book_journal.specs.declared.command.Command.TheVariants as command
+use Rattle.om_book_journal.specs.declared.reply.Reply.{Reply}
+use Rattle.om_book_journal.specs.Records.{JournalRecord}
 
 -- the machine at the opening, and the calls since
 pub record BookView : Type 0 where

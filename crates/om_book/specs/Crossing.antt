@@ -10,9 +10,9 @@ use Rattle.om_undo.specs.Names.{name_send, object_send}
 use Rattle.om_book.specs.Replies.{step_send, undo_send, roll_send, names_send, entries_send}
 use Rattle.om_undo.specs.Values.{value_send}
 use Rattle.om_book.specs.contracts.book.Book as book
-use Rattle.om_journal.specs.contracts.journal.JournalRecord as kept
-use Rattle.om_journal.specs.contracts.kept.KeptCommand as command
-use Rattle.om_journal.specs.contracts.reply.Reply as reply
+use Rattle.om_book_journal.specs.contracts.journal.JournalRecord as kept
+use Rattle.om_book_journal.specs.contracts.kept.KeptCommand as command
+use Rattle.om_book_journal.specs.contracts.reply.Reply as reply
 use Rattle.om_book.specs.declared.session.Sitting as sitting
 use Rattle.om_book.specs.contracts.receipt.Receipt as receipt
 use Rattle.om_book.specs.contracts.session.Desk as desk

@@ -3,10 +3,10 @@ use Rattle.std.proofs.Crossing.{crosses}
 use denote.Param.Send.{IsSend, sendable}
 use Rattle.om_seq.specs.contracts.Seq as seq
 use Rattle.om_foot.specs.contracts.name.Name as name
-use Rattle.om_values.specs.contracts.step.Entry as entry
-use Rattle.om_history.specs.contracts.reply.RollReply as roll
-use Rattle.om_history.specs.contracts.reply.StepReply as step
-use Rattle.om_journal.specs.contracts.kept.KeptUndoReply as undo
+use Rattle.om_state.specs.contracts.step.Entry as entry
+use Rattle.om_undo_history.specs.contracts.reply.RollReply as roll
+use Rattle.om_undo_history.specs.contracts.reply.StepReply as step
+use Rattle.om_book_journal.specs.contracts.kept.KeptUndoReply as undo
 use Rattle.om_undo.specs.Lists.{seq_send}
 use Rattle.om_undo.specs.Names.{name_send, object_send}
 

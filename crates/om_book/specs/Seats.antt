@@ -1,10 +1,10 @@
 -- What contracts see of a seat and of a session.
 use Rattle.std.specs.Prelude.{◌≡◌, ◌≤◌, ℕ, zero, suc, List, [], ◌∷◌, ◌++◌, length}
-use Rattle.om_journal.specs.Runs.{IsReply}
-use Rattle.om_journal.specs.Journals.{IsLegal}
+use Rattle.om_book_journal.specs.Runs.{IsReply}
+use Rattle.om_book_journal.specs.Journals.{IsLegal}
 use Rattle.om_book.specs.Books.{BookView, machine_of, records_of, IsGrown}
-use Rattle.om_journal.specs.declared.command.Command.{Command}
-use Rattle.om_journal.specs.declared.reply.Reply.{Reply}
+use Rattle.om_book_journal.specs.declared.command.Command.{Command}
+use Rattle.om_book_journal.specs.declared.reply.Reply.{Reply}
 use Rattle.om_book.specs.declared.receipt.Receipt.{Receipt}
 
 pub record SeatView : Type 0 where

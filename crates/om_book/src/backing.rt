@@ -1,4 +1,4 @@
-//! The comparison of answers with the receipts of their seats, in one walk. No command needs it: om_checks alone
+//! The comparison of answers with the receipts of their seats, in one walk. No command needs it: gate_checks alone
 //! drives seats.
 
 ghost use Rattle.std.specs.Prelude.{◌≡◌, ◌↔◌, ◌≤◌, IsTrue, IfSome, IfNone, Some, false, length, take, vec_len};
@@ -9,7 +9,7 @@ use crate::order::{Answer, Order};
 use crate::receipt::Receipt;
 use crate::rounds::{most_rounds, order_at};
 use crate::session::{Seat, Sitting};
-use om_journal::{Command, Reply};
+use om_book_journal::{Command, Reply};
 
 // Where the receipt of a call lies; it is looked for at `mark` first.
 fn found_at(

@@ -1,16 +1,16 @@
 //! The book: a machine beside the journal of all calls that it answered.
 
 ghost use Rattle.std.specs.Prelude.{◌≡◌, ◌<◌, ◌≤◌, ◌^◌, ◌++◌, ◌∷◌, [], ◌↔◌, IfOk, IfErr, OnOk, OnErr, drop, length, vec_capacity, Some};
-ghost use Rattle.om_journal.specs.Runs.{IsInRange, IsReply, after, fresh, reply_to, step_command};
-ghost use Rattle.om_journal.specs.Journals.{IsLegal, IsSound, done_in};
-ghost use Rattle.om_journal.specs.Records.{reply_in};
+ghost use Rattle.om_book_journal.specs.Runs.{IsInRange, IsReply, after, fresh, reply_to, step_command};
+ghost use Rattle.om_book_journal.specs.Journals.{IsLegal, IsSound, done_in};
+ghost use Rattle.om_book_journal.specs.Records.{reply_in};
 ghost use Rattle.om_book.specs.Books.{is_full, last_reply, machine_of, history_left, records_of, with_call, with_record};
 ghost use Rattle.om_book.specs.Books.{AddsCall, AddsRecord, AddsStep, AddsUndo};
 ghost use Rattle.om_undo.specs.Machines.{step_reply};
 
+use om_book_journal::replies::{done, done_thrice, let_go, undo};
+use om_book_journal::{Asked, Command, JournalRecord, Reply, ReplyIn, done_in};
 use om_code::Program;
-use om_journal::replies::{done, done_thrice, let_go, undo};
-use om_journal::{Asked, Command, JournalRecord, Reply, ReplyIn, done_in};
 use om_undo::{Machine, PlannedStep, StepReply};
 use std::alloc::{AllocError, Global};
 use std::marker::Model;
@@ -54,7 +54,7 @@ impl Drop for Book {
 
 impl Model for Book {
     ghost use Rattle.om_book.specs.Books.{BookView};
-    ghost use Rattle.om_journal.specs.Journals.{IsSound};
+    ghost use Rattle.om_book_journal.specs.Journals.{IsSound};
 
     ghost Value = { BookView };
 
@@ -213,7 +213,7 @@ impl Book {
         }
     }
 
-    /// Does what a seat's command asks, and adds its record to the journal. om_checks alone calls it.
+    /// Does what a seat's command asks, and adds its record to the journal. gate_checks alone calls it.
     ///
     /// Errors are `Full`, exactly where there are 200,000 records, and out of memory. They
     /// change nothing.

@@ -2,7 +2,7 @@
 //! under one lock; here are their receipts, orders and answers. An answer to an order is kept where a receipt
 //! of its seat backs it.
 //!
-//! The commands, replies and records of om_journal are at this root too.
+//! The commands, replies and records of om_book_journal are at this root too.
 #![tactic(auto)]
 
 mod backing;
@@ -16,7 +16,9 @@ mod session;
 pub use backing::{KeptAnswers, Rows, keep_backed};
 pub use book::{Book, CallError, MAX_RECORDS};
 pub use numbers::numbers_differ;
-pub use om_journal::{Command, JournalRecord, KeptCommand, KeptUndoReply, Query, Reply, ReplyIn};
+pub use om_book_journal::{
+    Command, JournalRecord, KeptCommand, KeptUndoReply, Query, Reply, ReplyIn,
+};
 pub use order::{Answer, Fault, Order};
 pub use receipt::Receipt;
 pub use rounds::{most_rounds, order_at};

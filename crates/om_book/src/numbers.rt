@@ -1,4 +1,4 @@
-//! The numbers of orders, round by round. No command needs it: om_checks alone drives seats.
+//! The numbers of orders, round by round. No command needs it: gate_checks alone drives seats.
 
 ghost use Rattle.std.specs.Prelude.{◌≡◌, ◌↔◌, ◌++◌, IsTrue, IfOk, OnOk};
 ghost use Rattle.std.specs.Ordering.{nat_cmp};

@@ -3,7 +3,7 @@
 ghost use Rattle.std.specs.Prelude.{◌↔◌, IsSome, IsOk};
 
 use crate::book::CallError;
-use om_journal::{Command, Reply};
+use om_book_journal::{Command, Reply};
 
 /// A call that a worker is told to make.
 #[derive(Clone, Copy)]

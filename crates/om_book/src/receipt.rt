@@ -4,7 +4,7 @@ ghost use Rattle.std.specs.Prelude.{◌≡◌, ◌≤◌, ◌↔◌, IsTrue, len
 ghost use Rattle.om_book.specs.Seats.{receipt_of};
 ghost use Rattle.om_book.specs.Standing.{Stands, Counts};
 
-use om_journal::{Command, JournalRecord, KeptCommand, Reply, Same};
+use om_book_journal::{Command, JournalRecord, KeptCommand, Reply, Same};
 use std::mem::size_of;
 
 /// A call of a seat that was answered.

@@ -1,4 +1,4 @@
-//! Rounds: in each, every list that still has an order gives its next. No command needs it: om_checks alone
+//! Rounds: in each, every list that still has an order gives its next. No command needs it: gate_checks alone
 //! drives seats.
 
 ghost use Rattle.std.specs.Prelude.{◌≡◌, slice_get};

@@ -1,14 +1,14 @@
 //! Sessions: seats that call one book, which lies under one lock.
 
 ghost use Rattle.std.specs.Prelude.{◌≡◌, ℕ, ◌<◌, ◌≤◌, ◌+◌, [], ◌↔◌, IfOk, IfErr, OnOk, OnErr, IsOk, length, vec_len, sum_by, ◌^◌};
-ghost use Rattle.om_journal.specs.Runs.{IsInRange};
+ghost use Rattle.om_book_journal.specs.Runs.{IsInRange};
 ghost use Rattle.om_book.specs.Books.{BookView, records_of, with_record, IsGrown};
 ghost use Rattle.om_book.specs.Seats.{GetsReceipt, IsAnsweredBy, IsAnsweredSince, seats_below};
 ghost use Rattle.om_book.specs.Standing.{CountsAll, CountsSince, CoversSince, AllDiffer, receipts_in};
 
 use crate::book::{Book, CallError};
 use crate::receipt::{Receipt, standing};
-use om_journal::{Command, JournalRecord, KeptCommand, Reply};
+use om_book_journal::{Command, JournalRecord, KeptCommand, Reply};
 use std::alloc::{AllocError, Global};
 use std::marker::{Brand, Model};
 use std::sync::ledger::{Ledger, Share};

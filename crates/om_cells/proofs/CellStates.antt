@@ -14,15 +14,15 @@ use Rattle.om_foot.specs.Footprint.{obj_eq}
 use Rattle.om_foot.specs.Objects.{obj_eq-true}
 use Rattle.om_foot.specs.declared.cells.SlotName.{SlotName}
 use Rattle.om_foot.specs.declared.cells.Cells.{Cells}
-use Rattle.om_values.specs.declared.runs.Was.{Was}
-use Rattle.om_values.specs.declared.runs.Was.TheVariants as was
-use Rattle.om_values.specs.declared.step.Update.{Update}
-use Rattle.om_values.specs.declared.step.Update.TheVariants.{Put}
-use Rattle.om_values.specs.declared.value.Val.{Val}
-use Rattle.om_values.specs.declared.value.Val.TheVariants as value
-use Rattle.om_values.specs.State.{State, with_value, updated, taken_back, undo_record}
+use Rattle.om_state.specs.declared.runs.Was.{Was}
+use Rattle.om_state.specs.declared.runs.Was.TheVariants as was
+use Rattle.om_state.specs.declared.step.Update.{Update}
+use Rattle.om_state.specs.declared.step.Update.TheVariants.{Put}
+use Rattle.om_state.specs.declared.value.Val.{Val}
+use Rattle.om_state.specs.declared.value.Val.TheVariants as value
+use Rattle.om_state.specs.State.{State, with_value, updated, taken_back, undo_record}
 use Rattle.om_foot.specs.Cells.{Spot, cell_at, spot_of, cell_access, cells_from, cells_of}
-use Rattle.om_values.specs.Runs.{puts_of, were_listed}
+use Rattle.om_state.specs.Runs.{puts_of, were_listed}
 use Rattle.om_cells.specs.Slots.{Slots, value_in, slot_value, kept_over, KeepsCells, olds}
 use Rattle.om_cells.specs.Stores.{lies_in}
 

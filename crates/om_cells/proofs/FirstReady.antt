@@ -6,12 +6,12 @@ use Rattle.std.specs.Ordering.{nat_cmp, is_eq, is_lt, is_le, ordering_reverse}
 use Rattle.std.specs.declared.cmp.Ordering.{Ordering}
 use Rattle.std.specs.declared.cmp.Ordering.TheVariants.{Less, Equal, Greater}
 use Rattle.std.specs.Cmp.Lexicographic.{slice_cmp, nat_list_cmp_total}
-use Rattle.om_values.specs.Ready.{IsNext, is_behind, is_from, is_the}
+use Rattle.om_state.specs.Ready.{IsNext, is_behind, is_from, is_the}
 use Rattle.om_cells.specs.Named.{Named, value_of, PutsOf}
 use Rattle.om_cells.specs.ReadyEntries.{is_ready_task, is_ready_in}
 use Rattle.om_foot.specs.declared.part.Part.{Part}
 use Rattle.om_foot.specs.declared.part.Part.TheVariants as part
-use Rattle.om_values.specs.declared.value.Val.{Val}
+use Rattle.om_state.specs.declared.value.Val.{Val}
 use Rattle.om_cells.proofs.PlaceLemmas.{same_name, same_part, name_is}
 
 -- where the value of one part is put, the tasks of other names stay as they are, and so do all where that part is no task

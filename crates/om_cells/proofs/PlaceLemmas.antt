@@ -16,7 +16,7 @@ use Rattle.om_foot.specs.Objects.{cmp-is_eq}
 use Rattle.om_foot.specs.Below.{same_list}
 use Rattle.om_foot.specs.declared.part.Part.{Part}
 use Rattle.om_foot.specs.contracts.part.PartOrd.TheImpl.{cmp-value}
-use Rattle.om_values.specs.declared.value.Val.{Val}
+use Rattle.om_state.specs.declared.value.Val.{Val}
 use Rattle.om_foot.specs.Parts.{name_of, part_of}
 use Rattle.om_cells.specs.Places.{Places, value_at, PutsAt, StaysAt}
 use Rattle.om_cells.specs.Named.{Named, value_among, value_of, PutsOf, StaysOf}

@@ -15,8 +15,8 @@ use Rattle.std.proofs.lemmas.List.Elements.{Contains-append_cases, Contains-push
 use Rattle.om_foot.specs.declared.part.Part.TheVariants as part
 use Rattle.om_cells.specs.Places.{Places, value_at}
 use Rattle.om_cells.specs.Named.{Named, value_among}
-use Rattle.om_values.specs.Ready.{AreAll, IsNext, is_behind, names_behind}
-use Rattle.om_values.specs.NextNames.{next_of_all}
+use Rattle.om_state.specs.Ready.{AreAll, IsNext, is_behind, names_behind}
+use Rattle.om_state.specs.NextNames.{next_of_all}
 use Rattle.om_cells.specs.ReadyEntries.{is_ready_task, is_ready_in, name_if_ready, names_ready}
 use Rattle.om_cells.proofs.PlaceLemmas.{same_name, name_is}
 

@@ -20,11 +20,11 @@ use Rattle.om_foot.specs.Objects.{obj_eq-true, cmp-is_eq}
 use Rattle.om_foot.specs.Below.{same_list, two_true, both_true}
 use Rattle.om_foot.specs.declared.cells.SlotName.{SlotName}
 use Rattle.om_foot.specs.declared.cells.Cells.{Cells}
-use Rattle.om_values.specs.declared.step.Update.{Update}
-use Rattle.om_values.specs.declared.step.Update.TheVariants.{Put}
-use Rattle.om_values.specs.declared.value.Val.{Val}
-use Rattle.om_values.specs.State.{State, with_value, updated}
-use Rattle.om_values.specs.Values.{default_of}
+use Rattle.om_state.specs.declared.step.Update.{Update}
+use Rattle.om_state.specs.declared.step.Update.TheVariants.{Put}
+use Rattle.om_state.specs.declared.value.Val.{Val}
+use Rattle.om_state.specs.State.{State, with_value, updated}
+use Rattle.om_state.specs.Values.{default_of}
 use Rattle.om_foot.specs.Cells.{Spot, cell_at, spot_of, cells_from, cells_of}
 use Rattle.om_cells.specs.Slots.{Slots, same_slot, values_in, value_among, value_in, slot_value}
 use Rattle.om_cells.specs.Slots.{value_with, kept_over, values_of, Replaces, PutsIn, unset, Grows, SlotsGrow, KeepsCells}

@@ -6,7 +6,7 @@ use Rattle.std.specs.Ordering.{nat_cmp}
 use Rattle.std.specs.Cmp.Lexicographic.{slice_cmp}
 use Rattle.om_foot.specs.declared.part.Part.{Part}
 use Rattle.om_foot.specs.contracts.part.PartOrd.TheImpl.{cmp-value}
-use Rattle.om_values.specs.declared.value.Val.{Val}
+use Rattle.om_state.specs.declared.value.Val.{Val}
 use Rattle.om_cells.specs.Places.{Places, value_at}
 
 -- the names that are known, with the places of each

@@ -4,7 +4,7 @@ use Rattle.std.specs.Map.{lookup}
 use Rattle.std.specs.BTreeMap.{is_at}
 use Rattle.om_foot.specs.declared.part.Part.{Part}
 use Rattle.om_foot.specs.contracts.part.PartOrd.TheImpl.{cmp-value}
-use Rattle.om_values.specs.declared.value.Val.{Val}
+use Rattle.om_state.specs.declared.value.Val.{Val}
 
 -- the parts at which a value is kept, with it
 abbrev pub Places : Type 0

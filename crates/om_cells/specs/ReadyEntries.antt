@@ -1,13 +1,13 @@
 -- Which tasks are ready among kept values.
 use Rattle.std.specs.Prelude.{Bool, Option, None, Some, option_to_list, unwrap_or, cond, ℕ, List, [], ◌∷◌, ◌++◌}
 use Rattle.om_foot.specs.declared.part.Part.TheVariants as part
-use Rattle.om_values.specs.declared.value.Val.{Val}
-use Rattle.om_values.specs.declared.value.Val.TheVariants as value
-use Rattle.om_values.specs.declared.value.Task.TheVariants as task
+use Rattle.om_state.specs.declared.value.Val.{Val}
+use Rattle.om_state.specs.declared.value.Val.TheVariants as value
+use Rattle.om_state.specs.declared.value.Task.TheVariants as task
 use Rattle.om_cells.specs.Named.{Named, value_of}
 use Rattle.om_cells.specs.Places.{Places, value_at}
-use Rattle.om_values.specs.Values.{task_in}
-use Rattle.om_values.specs.Ready.{is_ready}
+use Rattle.om_state.specs.Values.{task_in}
+use Rattle.om_state.specs.Ready.{is_ready}
 
 -- whether the task that is kept is ready
 abbrev pub is_ready_task : Option Val → Bool

@@ -9,12 +9,12 @@ use Rattle.om_foot.specs.Footprint.{obj_eq}
 use Rattle.om_foot.specs.contracts.cells.SlotNameOrd.TheImpl.{cmp-value}
 use Rattle.om_foot.specs.declared.cells.SlotName.{SlotName}
 use Rattle.om_foot.specs.declared.cells.Cells.{Cells}
-use Rattle.om_values.specs.declared.step.Update.{Update}
-use Rattle.om_values.specs.declared.step.Update.TheVariants.{Put}
-use Rattle.om_values.specs.declared.value.Val.{Val}
-use Rattle.om_values.specs.declared.value.Val.TheVariants as value
-use Rattle.om_values.specs.State.{State, with_value, updated}
-use Rattle.om_values.specs.Values.{default_of}
+use Rattle.om_state.specs.declared.step.Update.{Update}
+use Rattle.om_state.specs.declared.step.Update.TheVariants.{Put}
+use Rattle.om_state.specs.declared.value.Val.{Val}
+use Rattle.om_state.specs.declared.value.Val.TheVariants as value
+use Rattle.om_state.specs.State.{State, with_value, updated}
+use Rattle.om_state.specs.Values.{default_of}
 use Rattle.om_foot.specs.Cells.{Spot, cell_at, spot_of, cells_from}
 
 -- the slots that are kept, with the values of the first cells of each

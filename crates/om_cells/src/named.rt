@@ -9,15 +9,15 @@ ghost use Rattle.om_foot.specs.contracts.part.PartOrd.TheImpl.{cmp-value};
 ghost use Rattle.om_foot.specs.declared.part.Part.TheVariants as parts;
 ghost use Rattle.om_foot.specs.Parts.{part_of};
 ghost use Rattle.om_cells.specs.Named.{Named, places_of, value_of, PutsOf, StaysOf};
-ghost use Rattle.om_values.specs.Ready.{is_ready, is_from, is_the, AreAll, IsNext};
+ghost use Rattle.om_state.specs.Ready.{is_ready, is_from, is_the, AreAll, IsNext};
 ghost use Rattle.om_cells.specs.ReadyEntries.{is_ready_in, name_if_ready};
-ghost use Rattle.om_values.specs.Values.{task_in};
+ghost use Rattle.om_state.specs.Values.{task_in};
 
 use crate::place::Place;
 use crate::places::Places;
 use om_foot::part::Part;
 use om_foot::{Access, Name, SharedAccess, SlotName};
-use om_values::{Task, Val};
+use om_state::{Task, Val};
 use std::alloc::{AllocError, Global};
 use std::cmp::Ordering;
 use std::collections::BTreeMap;
@@ -38,7 +38,7 @@ pub struct Named {
 impl Model for Named {
     ghost use Rattle.std.specs.Prelude.{None};
     ghost use Rattle.om_cells.specs.Named.{Named};
-    ghost use Rattle.om_values.specs.Ready.{IsNext};
+    ghost use Rattle.om_state.specs.Ready.{IsNext};
     ghost use Rattle.om_cells.specs.ReadyEntries.{is_ready_in};
 
     ghost Value = { Named };

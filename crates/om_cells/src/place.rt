@@ -3,7 +3,7 @@
 ghost use Rattle.std.specs.Prelude.{◌≡◌};
 
 use om_foot::ObjectAccesses;
-use om_values::Val;
+use om_state::Val;
 use std::marker::Model;
 use std::mem;
 
@@ -18,7 +18,7 @@ pub struct Place {
 }
 
 impl Model for Place {
-    ghost use Rattle.om_values.specs.declared.value.Val.{Val};
+    ghost use Rattle.om_state.specs.declared.value.Val.{Val};
 
     ghost Value = { Val };
 

@@ -10,7 +10,7 @@ ghost use Rattle.om_cells.specs.Places.{value_at, PutsAt, StaysAt};
 use crate::place::Place;
 use om_foot::part::{Part, part_of};
 use om_foot::{Access, SharedAccess, SlotName};
-use om_values::Val;
+use om_state::Val;
 use std::alloc::{AllocError, Global};
 use std::collections::BTreeMap;
 use std::marker::Model;

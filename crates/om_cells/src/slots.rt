@@ -5,20 +5,20 @@ ghost use Rattle.std.specs.Prelude.{List};
 ghost use Rattle.std.specs.Option.{option_copied};
 ghost use Rattle.om_foot.specs.declared.object.Obj.{Obj};
 ghost use Rattle.om_foot.specs.declared.cells.SlotName.{SlotName};
-ghost use Rattle.om_values.specs.declared.step.Update.TheVariants as update;
-ghost use Rattle.om_values.specs.declared.value.Val.{Val};
-ghost use Rattle.om_values.specs.declared.value.Val.TheVariants as value;
+ghost use Rattle.om_state.specs.declared.step.Update.TheVariants as update;
+ghost use Rattle.om_state.specs.declared.value.Val.{Val};
+ghost use Rattle.om_state.specs.declared.value.Val.TheVariants as value;
 ghost use Rattle.om_foot.specs.Cells.{cell_at};
-ghost use Rattle.om_values.specs.Runs.{puts_of, was_puts, were_listed};
-ghost use Rattle.om_values.specs.State.{State, updated};
+ghost use Rattle.om_state.specs.Runs.{puts_of, was_puts, were_listed};
+ghost use Rattle.om_state.specs.State.{State, updated};
 ghost use Rattle.om_cells.specs.Slots.{value_among, values_in, value_in, slot_value, ResetsIn, values_of, ReplacesAll, PutsIn, Grows, SlotsGrow, HasCells, KeepsCells, Mirrors, Writes, WritesAll, olds};
 
 use om_code::frame::Cell;
 use om_foot::cells::spot_of;
 use om_foot::{Access, Cells, Obj, ObjectAccesses, SharedAccess, SharedCells, SlotName};
 use om_seq::Seq;
-use om_values::was::Noted;
-use om_values::{Run, Val, Was};
+use om_state::was::Noted;
+use om_state::{Run, Val, Was};
 use std::alloc::{AllocError, Global};
 use std::collections::BTreeMap;
 use std::marker::Model;
@@ -37,7 +37,7 @@ pub struct SlotPlace {
 
 impl Model for SlotPlace {
     ghost use Rattle.std.specs.Prelude.{List};
-    ghost use Rattle.om_values.specs.declared.value.Val.{Val};
+    ghost use Rattle.om_state.specs.declared.value.Val.{Val};
 
     ghost Value = { List Val };
 

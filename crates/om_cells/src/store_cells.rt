@@ -3,9 +3,9 @@
 ghost use Rattle.std.specs.Prelude.{◌≡◌, ◌≤◌, ◌∷◌, [], All, true, IfOk, OnOk, OnErr};
 ghost use Rattle.om_foot.specs.declared.object.Obj.{Obj};
 ghost use Rattle.om_foot.specs.Cells.{cells_of};
-ghost use Rattle.om_values.specs.declared.step.Update.TheVariants as update;
-ghost use Rattle.om_values.specs.Runs.{puts_of, was_puts, were_listed};
-ghost use Rattle.om_values.specs.State.{updated, taken_back, undo_record};
+ghost use Rattle.om_state.specs.declared.step.Update.TheVariants as update;
+ghost use Rattle.om_state.specs.Runs.{puts_of, was_puts, were_listed};
+ghost use Rattle.om_state.specs.State.{updated, taken_back, undo_record};
 ghost use Rattle.om_cells.specs.Slots.{KeepsCells, Leads, olds};
 ghost use Rattle.om_cells.specs.Stores.{LiesTogether, state_of, is_kept};
 
@@ -14,8 +14,8 @@ use crate::store::Store;
 use om_code::frame::Cell;
 use om_foot::{Cells, SharedCells};
 use om_seq::Seq;
-use om_values::was::Noted;
-use om_values::{Run, Val, Was};
+use om_state::was::Noted;
+use om_state::{Run, Val, Was};
 use std::alloc::{AllocError, Global};
 
 impl Store {

@@ -1,4 +1,4 @@
-//! Whether what a program names exists: a part of the validator, which om_checks alone calls.
+//! Whether what a program names exists: a part of the validator, which gate_checks alone calls.
 
 ghost use Rattle.std.specs.Prelude.{◌≡◌, ◌↔◌, ◌≤◌, ◌<◌, [], IsTrue, All, length};
 ghost use Rattle.om_code.specs.Validity.{HasTables, HasLength, IsKnown, IsGiven, NamesKnown, IsKnownPlace, IsKnownText, IsKnownBody, CanBegin, FitsOuter, HasNames, IsScopeOf, value_count};

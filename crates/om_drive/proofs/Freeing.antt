@@ -2,10 +2,10 @@
 use Rattle.std.specs.Prelude.{◌≡◌, ◌+◌, ℕ, List, [], ◌∷◌, ◌++◌, length}
 use Rattle.std.proofs.Common.{sym, ◌∙◌, ap, subst, arith, append-nil, take-append-drop}
 use Rattle.std.proofs.lemmas.List.{drop_all}
-use Rattle.om_journal.specs.Runs.{after}
-use Rattle.om_journal.specs.Journals.{IsLegal, left_by}
+use Rattle.om_book_journal.specs.Runs.{after}
+use Rattle.om_book_journal.specs.Journals.{IsLegal, left_by}
 use Rattle.om_book.specs.Books.{BookView, IsGrown, machine_of}
-use Rattle.om_journal.specs.Records.{JournalRecord}
+use Rattle.om_book_journal.specs.Records.{JournalRecord}
 use Rattle.om_undo.specs.Machines.{MachineView}
 use Rattle.om_drive.specs.FreeRuns.{GoesOn, gained, with_records}
 

@@ -6,11 +6,11 @@ use Rattle.std.proofs.Common.{◌∙◌, ap, subst, sym, arith, append-nil, inl,
 use Rattle.std.proofs.lemmas.Bool.Decides.{nat_tests}
 use Rattle.std.proofs.lemmas.List.{length-map, map-append}
 use Rattle.std.proofs.lemmas.List.Elements.{filter-append, recursion_from_All}
-use Rattle.om_values.specs.declared.step.Choice.{Choice}
-use Rattle.om_journal.specs.Records.{JournalRecord}
-use Rattle.om_journal.specs.declared.command.Command.TheVariants as command
-use Rattle.om_journal.specs.declared.command.Query.TheVariants as query
-use Rattle.om_journal.specs.declared.reply.Reply.{Reply}
+use Rattle.om_state.specs.declared.step.Choice.{Choice}
+use Rattle.om_book_journal.specs.Records.{JournalRecord}
+use Rattle.om_book_journal.specs.declared.command.Command.TheVariants as command
+use Rattle.om_book_journal.specs.declared.command.Query.TheVariants as query
+use Rattle.om_book_journal.specs.declared.reply.Reply.{Reply}
 use Rattle.om_book.specs.Seats.{SeatView, seats_below}
 use Rattle.om_book.specs.Standing.{calls_of, number_of, Covers, IsSeat}
 use Rattle.om_book.specs.declared.receipt.Receipt.{Receipt}

@@ -4,10 +4,10 @@ use Rattle.std.proofs.Common.{◌∙◌, ap, append_assoc, arith, sym}
 use Rattle.std.proofs.lemmas.List.{map-append}
 use Rattle.std.proofs.lemmas.List.Sums.{sum_by-append, sum_by-cons}
 use Rattle.om_book.specs.Seats.{SeatView}
-use Rattle.om_journal.specs.declared.command.Command.TheVariants as command
-use Rattle.om_journal.specs.declared.command.Query.{Query}
+use Rattle.om_book_journal.specs.declared.command.Command.TheVariants as command
+use Rattle.om_book_journal.specs.declared.command.Query.{Query}
 use Rattle.om_book.specs.declared.receipt.Receipt.{Receipt}
-use Rattle.om_journal.specs.declared.reply.Reply.{Reply}
+use Rattle.om_book_journal.specs.declared.reply.Reply.{Reply}
 use Rattle.om_drive.specs.Steps.{makes_step, steps_in, steps_of}
 
 one_more : (made : Bool) → cond made (suc 0) 0 ≡ 0 + cond made 1 0

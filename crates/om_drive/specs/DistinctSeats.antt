@@ -1,4 +1,4 @@
--- Matter of proofs, for om_checks too: the seats of a session are as many as it has parts, and differ.
+-- Matter of proofs, for gate_checks too: the seats of a session are as many as it has parts, and differ.
 use Rattle.std.specs.Prelude.{◌≡◌, ◌≢◌, ◌<◌, ℕ, zero, suc, List, [], ◌∷◌, ◌++◌, length, map, refl}
 use Rattle.std.specs.List.{AllByRecursion}
 use Rattle.std.proofs.Common.{sym, ◌∙◌, ap, subst, arith, length-append}

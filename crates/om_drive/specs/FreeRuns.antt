@@ -1,8 +1,8 @@
 -- What a free run adds to a book.
 use Rattle.std.specs.Prelude.{◌≡◌, List, ◌++◌, drop, length}
-use Rattle.om_journal.specs.Records.{JournalRecord}
+use Rattle.om_book_journal.specs.Records.{JournalRecord}
 use Rattle.om_book.specs.Books.{BookView, machine_of}
-use Rattle.om_journal.specs.Journals.{IsLegal}
+use Rattle.om_book_journal.specs.Journals.{IsLegal}
 
 -- the records that a book has gained
 abbrev pub gained : BookView → BookView → List JournalRecord

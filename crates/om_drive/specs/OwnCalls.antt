@@ -1,10 +1,10 @@
 -- The calls that a free run makes.
 use Rattle.std.specs.Prelude.{◌≡◌, ℕ, suc, Bool, true, false, not, nat_eq, filter, List, [], ◌∷◌, map}
 use Rattle.std.specs.List.{AllByRecursion}
-use Rattle.om_journal.specs.Records.{JournalRecord}
-use Rattle.om_journal.specs.declared.command.Command.{Command}
-use Rattle.om_journal.specs.declared.command.Command.TheVariants as command
-use Rattle.om_journal.specs.declared.command.Query.TheVariants as query
+use Rattle.om_book_journal.specs.Records.{JournalRecord}
+use Rattle.om_book_journal.specs.declared.command.Command.{Command}
+use Rattle.om_book_journal.specs.declared.command.Command.TheVariants as command
+use Rattle.om_book_journal.specs.declared.command.Query.TheVariants as query
 use Rattle.om_book.specs.Seats.{SeatView}
 use Rattle.om_book.specs.declared.receipt.Receipt.{Receipt}
 

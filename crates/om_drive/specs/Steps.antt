@@ -1,11 +1,11 @@
 -- The steps that calls made.
 use Rattle.std.specs.Prelude.{◌≡◌, ◌+◌, ℕ, suc, Bool, true, false, cond, List, [], ◌∷◌, sum_by}
-use Rattle.om_journal.specs.Runs.{is_step_made}
+use Rattle.om_book_journal.specs.Runs.{is_step_made}
 use Rattle.om_book.specs.Seats.{SeatView}
-use Rattle.om_journal.specs.declared.command.Command.{Command}
-use Rattle.om_journal.specs.declared.command.Command.TheVariants as command
+use Rattle.om_book_journal.specs.declared.command.Command.{Command}
+use Rattle.om_book_journal.specs.declared.command.Command.TheVariants as command
 use Rattle.om_book.specs.declared.receipt.Receipt.{Receipt}
-use Rattle.om_journal.specs.declared.reply.Reply.{Reply}
+use Rattle.om_book_journal.specs.declared.reply.Reply.{Reply}
 
 -- the call asked for a step, and it was made
 abbrev pub makes_step : Command → Reply → Bool

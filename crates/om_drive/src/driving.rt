@@ -1,4 +1,4 @@
-//! Workers in threads of their own, asked round by round. No command needs it: om_checks alone drives workers.
+//! Workers in threads of their own, asked round by round. No command needs it: gate_checks alone drives workers.
 
 ghost use Rattle.std.specs.Prelude.{◌≡◌, ◌≤◌, [], IfOk, IfErr, None, Some, length, vec_len, vec_capacity, map};
 ghost use Rattle.om_book.specs.Rounds.{numbers_of};

@@ -3,7 +3,7 @@
 ghost use Rattle.std.specs.Prelude.{◌≡◌, ◌≤◌, IfOk, IfErr, true, drop, length, vec_len};
 ghost use Rattle.om_book.specs.Books.{is_full};
 ghost use Rattle.om_book.specs.Seats.{seats_below};
-ghost use Rattle.om_journal.specs.Journals.{IsLegal, done_in};
+ghost use Rattle.om_book_journal.specs.Journals.{IsLegal, done_in};
 ghost use Rattle.om_drive.specs.FreeRuns.{GoesOn, gained};
 ghost use Rattle.om_drive.specs.OwnCalls.{AreOwnCalls};
 

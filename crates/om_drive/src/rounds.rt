@@ -1,5 +1,5 @@
 //! Rounds: in each, every list that still has an order gets its next one asked and answered. No command needs
-//! it: om_checks alone drives workers.
+//! it: gate_checks alone drives workers.
 
 ghost use Rattle.std.specs.Prelude.{◌≡◌, ℕ, ◌<◌, ◌≤◌, ◌+◌, ◌++◌, ◌∷◌, [], IfOk, OnOk, OnErr, None, length, vec_len, vec_capacity, take};
 ghost use Rattle.om_book.specs.Rounds.{listed, numbers_at, numbers_of};

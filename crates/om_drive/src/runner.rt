@@ -1,16 +1,16 @@
 //! A worker that runs freely: it makes its rounds over one debuggee, behind a gate.
 
 ghost use Rattle.std.specs.Prelude.{◌≡◌, ◌<◌, IfOk, OnErr};
-ghost use Rattle.om_journal.specs.Runs.{IsInRange};
+ghost use Rattle.om_book_journal.specs.Runs.{IsInRange};
 ghost use Rattle.om_drive.specs.OwnCalls.{KeepsOtherCalls};
 ghost use Rattle.om_drive.specs.Steps.{MakesSteps, NoStep, StepIf};
 
 use crate::worker::{Debuggee, Gate, says_yes};
 use om_book::{CallError, Command, Query, Reply};
 use om_foot::Name;
+use om_state::Blocked;
 use om_task::Choice;
 use om_undo::StepReply;
-use om_values::Blocked;
 use std::sync::Wait;
 
 /// A debuggee of which one worker is driven.

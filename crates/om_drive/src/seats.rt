@@ -1,4 +1,4 @@
-//! Drives over the seats of a session. No command needs it: om_checks alone drives seats.
+//! Drives over the seats of a session. No command needs it: gate_checks alone drives seats.
 
 ghost use Rattle.std.specs.Prelude.{◌≡◌, [], None, Some, IfOk, length, vec_len, map};
 ghost use Rattle.om_book.specs.Standing.{number_of};

@@ -1,8 +1,8 @@
 //! Workers: each answers orders over one debuggee, behind a gate. Free runs use `Gate` and `Debuggee`. No
-//! command starts a `Worker`, but om_checks does.
+//! command starts a `Worker`, but gate_checks does.
 
 ghost use Rattle.std.specs.Prelude.{◌≡◌, ℕ, ◌++◌, ◌∷◌, [], List, IfOk, OnErr, None, Some};
-ghost use Rattle.om_journal.specs.Runs.{IsInRange};
+ghost use Rattle.om_book_journal.specs.Runs.{IsInRange};
 ghost use Rattle.om_book.specs.declared.receipt.Receipt.{Receipt};
 ghost use Rattle.om_drive.specs.Calls.{AddsReceipt, Place, last_place_in};
 

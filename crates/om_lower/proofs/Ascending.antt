@@ -2,16 +2,16 @@
 use Rattle.std.proofs.Common.{◌≡◌, ◌<◌, ◌≤◌, ◌+◌, ◌-◌, ℕ, zero, suc, List, [], ◌∷◌, ◌++◌, Some, length, map, refl, sym}
 use Rattle.std.proofs.Common.{ap, subst, ◌∙◌, arith, length-append}
 use Rattle.std.specs.Prelude.{slice_get}
-use Rattle.om_statements.specs.declared.draft.PickList.{PickList}
-use Rattle.om_statements.specs.Settled.{ListsStand, number_of}
-use Rattle.om_statements.specs.Writing.{get_left, get_seam}
-use Rattle.om_resolved.specs.ResolvedTree.{ResolvedStatementTree, Declaration, Block, Empty, Expression, If, IfElse}
-use Rattle.om_resolved.specs.ResolvedTree.{While, Do, For, Return, Break, Continue, Parallel, Task, Loop, Sections}
-use Rattle.om_resolved.specs.ResolvedTree.{Construct, Update, StandAlone, ResolvedStatementsTree, NoStatements}
-use Rattle.om_resolved.specs.ResolvedTree.{Statement, ResolvedPartsTree, NoParts, Part, ResolvedFunctionTree}
-use Rattle.om_rows.specs.Bodies.{BodyTree, FunctionBody, Numbers, ParallelBody, TaskBody, behind, behind_all}
-use Rattle.om_rows.specs.Bodies.{behind_parts, next_body, next_pick}
-use Rattle.om_rows.specs.Picks.{all_own_picks, body_picks, own_picks, parts_own_picks}
+use Rattle.om_lower_emit.specs.declared.draft.PickList.{PickList}
+use Rattle.om_lower_emit.specs.Settled.{ListsStand, number_of}
+use Rattle.om_lower_emit.specs.Writing.{get_left, get_seam}
+use Rattle.om_scope_tree.specs.ResolvedTree.{ResolvedStatementTree, Declaration, Block, Empty, Expression, If, IfElse}
+use Rattle.om_scope_tree.specs.ResolvedTree.{While, Do, For, Return, Break, Continue, Parallel, Task, Loop, Sections}
+use Rattle.om_scope_tree.specs.ResolvedTree.{Construct, Update, StandAlone, ResolvedStatementsTree, NoStatements}
+use Rattle.om_scope_tree.specs.ResolvedTree.{Statement, ResolvedPartsTree, NoParts, Part, ResolvedFunctionTree}
+use Rattle.om_lower_rules.specs.Bodies.{BodyTree, FunctionBody, Numbers, ParallelBody, TaskBody, behind, behind_all}
+use Rattle.om_lower_rules.specs.Bodies.{behind_parts, next_body, next_pick}
+use Rattle.om_lower_rules.specs.Picks.{all_own_picks, body_picks, own_picks, parts_own_picks}
 
 -- numbers from a on, each above the one before it, and all below b
 abbrev pub Ascends : ℕ → List ℕ → ℕ → Type 0

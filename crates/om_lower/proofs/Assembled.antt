@@ -7,19 +7,19 @@ use Rattle.std.specs.Prelude.{OnOk, Result, Ok, Err}
 use Rattle.om_code.specs.declared.raw.Body.{Body}
 use Rattle.om_code.specs.declared.raw.Raw.{Raw}
 use Rattle.om_code.specs.Validity.{IsLow, IsValid}
-use Rattle.om_statements.specs.declared.draft.PickList.{PickList}
-use Rattle.om_statements.specs.Settled.{ListsStand}
+use Rattle.om_lower_emit.specs.declared.draft.PickList.{PickList}
+use Rattle.om_lower_emit.specs.Settled.{ListsStand}
 use Rattle.om_lower.specs.Heights.{AreLevel, AreLow, IsLevelBody}
 use Rattle.om_lower.specs.Limits.{AreWithin, IsWithin}
 use Rattle.om_lower.specs.Made.{AreFunctions, AreMade, IsLowered}
 use Rattle.om_lower.proofs.FunctionBodies.{side_by_side, within_functions}
-use Rattle.om_resolved.specs.Beside.{TreeCopiesBehind}
-use Rattle.om_resolved.specs.ResolvedTree.{ResolvedFunctionTree, ResolvedTree}
-use Rattle.om_resolved.specs.Whole.{IsWholeTree}
-use Rattle.om_rows.specs.Bodies.{BodySite, Numbers, behind_function, behind_functions, bodies_from, bodies_of}
-use Rattle.om_rows.specs.Bodies.{first_numbers, function_bodies, variables_of}
-use Rattle.om_rows.specs.Code.{IsBodyOf, IsCodeOf}
-use Rattle.om_rows.specs.Laws.{AreNumbered, BodyIsLevel, CodeIsValid}
+use Rattle.om_scope_tree.specs.Beside.{TreeCopiesBehind}
+use Rattle.om_scope_tree.specs.ResolvedTree.{ResolvedFunctionTree, ResolvedTree}
+use Rattle.om_scope_tree.specs.Whole.{IsWholeTree}
+use Rattle.om_lower_rules.specs.Bodies.{BodySite, Numbers, behind_function, behind_functions, bodies_from, bodies_of}
+use Rattle.om_lower_rules.specs.Bodies.{first_numbers, function_bodies, variables_of}
+use Rattle.om_lower_rules.specs.Code.{IsBodyOf, IsCodeOf}
+use Rattle.om_lower_rules.specs.Laws.{AreNumbered, BodyIsLevel, CodeIsValid}
 
 -- ---- levels
 

@@ -1,21 +1,21 @@
 -- The scopes of what is written before the statement of a loop, and before the parts of a `sections`.
 use Rattle.std.proofs.Common.{◌≡◌, ℕ, List, Option, Some, None, length, refl, sym, ap}
 use Rattle.om_code.specs.declared.instruction.Instr.{Instr}
-use Rattle.om_statements.specs.Drafts.{Written, Defines, Fresh, FreshList, Puts}
-use Rattle.om_statements.specs.Emits.{Writes, Emits, site}
-use Rattle.om_resolved.specs.ResolvedTree.{ResolvedClauseTree, ResolvedExpressionTree, ResolvedLoopTree, ResolvedStartTree}
-use Rattle.om_rows.specs.Expressions.{value}
-use Rattle.om_rows.specs.Rows.{Site, end, perhaps}
-use Rattle.om_rows.specs.Scopes.{Scoping, after, bounds_scopes, clause_scope, each_scope, for_head, instructions}
-use Rattle.om_rows.specs.Scopes.{loop_head, opens, sections_head, start_scopes, tested}
-use Rattle.om_rows.specs.Statements.{test}
-use Rattle.om_statements.specs.declared.spot.TurnLabels.{TurnLabels}
-use Rattle.om_statements.specs.declared.writing.ScopeStack.{ScopeStack}
-use Rattle.om_statements.specs.Scoped.{BeginsOneScope, ScopesStand}
-use Rattle.om_statements.specs.Scoping.{counted, stand_after, stand_before, stand_behind, stand_both, stand_opens}
-use Rattle.om_statements.specs.Scoping.{writes_as, writes_behind, writes_fresh, writes_here, writes_put}
-use Rattle.om_statements.specs.Stretches.{FreshTurn}
-use Rattle.om_rows.specs.Numbered.{Numbered}
+use Rattle.om_lower_emit.specs.Drafts.{Written, Defines, Fresh, FreshList, Puts}
+use Rattle.om_lower_emit.specs.Emits.{Writes, Emits, site}
+use Rattle.om_scope_tree.specs.ResolvedTree.{ResolvedClauseTree, ResolvedExpressionTree, ResolvedLoopTree, ResolvedStartTree}
+use Rattle.om_lower_rules.specs.Expressions.{value}
+use Rattle.om_lower_rules.specs.Rows.{Site, end, perhaps}
+use Rattle.om_lower_rules.specs.Scopes.{Scoping, after, bounds_scopes, clause_scope, each_scope, for_head, instructions}
+use Rattle.om_lower_rules.specs.Scopes.{loop_head, opens, sections_head, start_scopes, tested}
+use Rattle.om_lower_rules.specs.Statements.{test}
+use Rattle.om_lower_emit.specs.declared.spot.TurnLabels.{TurnLabels}
+use Rattle.om_lower_emit.specs.declared.writing.ScopeStack.{ScopeStack}
+use Rattle.om_lower_emit.specs.Scoped.{BeginsOneScope, ScopesStand}
+use Rattle.om_lower_emit.specs.Scoping.{counted, stand_after, stand_before, stand_behind, stand_both, stand_opens}
+use Rattle.om_lower_emit.specs.Scoping.{writes_as, writes_behind, writes_fresh, writes_here, writes_put}
+use Rattle.om_lower_emit.specs.Stretches.{FreshTurn}
+use Rattle.om_lower_rules.specs.Numbered.{Numbered}
 use Rattle.om_lower.proofs.PartsOpened.{grows_listed}
 
 -- the list of a PICK, and the labels of its parts

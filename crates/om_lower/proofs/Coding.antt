@@ -5,9 +5,9 @@ use Rattle.std.specs.Prelude.{Err, IfOk, Ok, Result}
 use Rattle.std.proofs.lemmas.List.{append_assoc, append-nil, map-append}
 use Rattle.std.specs.List.{flat_map}
 use Rattle.om_lower.specs.declared.body.Emitted.{Emitted}
-use Rattle.om_statements.specs.declared.draft.PickList.{PickList}
+use Rattle.om_lower_emit.specs.declared.draft.PickList.{PickList}
 use Rattle.om_lower.specs.Emitted.{FitsRow}
-use Rattle.om_statements.specs.Settled.{number_of}
+use Rattle.om_lower_emit.specs.Settled.{number_of}
 use Rattle.om_code.specs.declared.raw.Body.{Body}
 use Rattle.om_code.specs.declared.raw.Names as raws
 use Rattle.om_code.specs.declared.raw.Slot.{Slot}
@@ -21,16 +21,16 @@ use Rattle.om_lower.specs.Once.{site_picks}
 use Rattle.om_lower.proofs.Items.{take_pushed, zip_pushed}
 use Rattle.om_lower.proofs.SlotTables.{slots_same}
 use Rattle.om_lower.proofs.FunctionBodies.{next_numbers, pushed, stand_behind, stand_front, wider_functions, wider_made}
-use Rattle.om_resolved.specs.declared.resolved.Capture.{Capture}
-use Rattle.om_resolved.specs.ResolvedTree.{ResolvedFunctionTree, ResolvedTree}
-use Rattle.om_resolved.specs.Uses.{is_main_function}
-use Rattle.om_rows.specs.Bodies.{BodySite, Numbers, behind_function, behind_functions, bodies_from, first_numbers}
-use Rattle.om_rows.specs.Bodies.{function_bodies, variables_of}
-use Rattle.om_rows.specs.Code.{captures_of, given_of, slots_of}
-use Rattle.om_rows.specs.Scopes.{names_with}
-use Rattle.om_rows.specs.Mentions.{extents_of}
-use Rattle.om_rows.specs.Slots.{Extent, cells_in, slot_with}
-use Rattle.om_rows.specs.Numbered.{Numbered, numbered_in}
+use Rattle.om_scope_tree.specs.declared.resolved.Capture.{Capture}
+use Rattle.om_scope_tree.specs.ResolvedTree.{ResolvedFunctionTree, ResolvedTree}
+use Rattle.om_scope_tree.specs.Uses.{is_main_function}
+use Rattle.om_lower_rules.specs.Bodies.{BodySite, Numbers, behind_function, behind_functions, bodies_from, first_numbers}
+use Rattle.om_lower_rules.specs.Bodies.{function_bodies, variables_of}
+use Rattle.om_lower_rules.specs.Code.{captures_of, given_of, slots_of}
+use Rattle.om_lower_rules.specs.Scopes.{names_with}
+use Rattle.om_lower_rules.specs.Mentions.{extents_of}
+use Rattle.om_lower_rules.specs.Slots.{Extent, cells_in, slot_with}
+use Rattle.om_lower_rules.specs.Numbered.{Numbered, numbered_in}
 
 -- the code of a body, by whichever tables it was written
 pub fits_at : (tree : ResolvedTree) (b : BodySite) (names : Numbered) (variables : List ℕ) (main : Bool)

@@ -2,15 +2,15 @@
 use Rattle.std.proofs.Common.{◌≡◌, ℕ, ◌+◌, List, [], ◌∷◌, ◌++◌, refl, arith}
 use Rattle.std.specs.List.{flat_map}
 use Rattle.std.proofs.lemmas.Bool.Decides.{nat_tests}
-use Rattle.om_resolved.specs.ResolvedTree.{ResolvedStatementTree, Declaration, Block, Empty, Expression, If, IfElse}
-use Rattle.om_resolved.specs.ResolvedTree.{While, Do, For, Return, Break, Continue, Parallel, Task, Loop, Sections}
-use Rattle.om_resolved.specs.ResolvedTree.{Construct, Update, StandAlone, ResolvedStatementsTree, NoStatements}
-use Rattle.om_resolved.specs.ResolvedTree.{Statement, ResolvedPartsTree, NoParts, Part, ResolvedFunctionTree}
-use Rattle.om_rows.specs.Bodies.{Numbers, next_body, next_pick, behind, behind_all, behind_parts, behind_function}
-use Rattle.om_rows.specs.Bodies.{behind_functions, first_numbers, BodySite, ParallelBody, TaskBody, FunctionBody}
-use Rattle.om_rows.specs.Bodies.{region_variables, function_variables, regions, all_regions, parts_regions}
-use Rattle.om_rows.specs.Bodies.{function_bodies, bodies_from}
-use Rattle.om_rows.specs.Picks.{own_picks, all_own_picks, parts_own_picks}
+use Rattle.om_scope_tree.specs.ResolvedTree.{ResolvedStatementTree, Declaration, Block, Empty, Expression, If, IfElse}
+use Rattle.om_scope_tree.specs.ResolvedTree.{While, Do, For, Return, Break, Continue, Parallel, Task, Loop, Sections}
+use Rattle.om_scope_tree.specs.ResolvedTree.{Construct, Update, StandAlone, ResolvedStatementsTree, NoStatements}
+use Rattle.om_scope_tree.specs.ResolvedTree.{Statement, ResolvedPartsTree, NoParts, Part, ResolvedFunctionTree}
+use Rattle.om_lower_rules.specs.Bodies.{Numbers, next_body, next_pick, behind, behind_all, behind_parts, behind_function}
+use Rattle.om_lower_rules.specs.Bodies.{behind_functions, first_numbers, BodySite, ParallelBody, TaskBody, FunctionBody}
+use Rattle.om_lower_rules.specs.Bodies.{region_variables, function_variables, regions, all_regions, parts_regions}
+use Rattle.om_lower_rules.specs.Bodies.{function_bodies, bodies_from}
+use Rattle.om_lower_rules.specs.Picks.{own_picks, all_own_picks, parts_own_picks}
 use Rattle.om_lower.specs.Once.{count, below, site_picks, PicksOfFunctions}
 
 pub count-append : (k : ℕ) (xs ys : List ℕ) → count k (xs ++ ys) ≡ count k xs + count k ys

@@ -4,7 +4,7 @@ use Rattle.std.proofs.Common.{option_map, if◌then◌else◌, refl, sym, ap, �
 use Rattle.om_code.specs.declared.raw.Piece.TheVariants as pieces
 use Rattle.om_lower.specs.declared.texts.Cut.{Cut}
 use Rattle.om_lower.specs.Texts.{behind_cut, cut_behind, with_run}
-use Rattle.om_resolved.specs.Formats.{Piece, Value, pieces_of}
+use Rattle.om_scope_tree.specs.Formats.{Piece, Value, pieces_of}
 
 on_option : {A B C : Type 0} (f : A → C) (g : B → C) (h : A → B) (x : Option A) → ((a : A) → g (h a) ≡ f a)
     → option_map g (option_map h x) ≡ option_map f x

@@ -6,8 +6,8 @@ use Rattle.std.specs.List.{Contains}
 use Rattle.std.proofs.lemmas.Bool.Decides.{nat_tests}
 use Rattle.std.proofs.lemmas.List.{append_assoc, append-nil, length-set, map-append}
 use Rattle.std.proofs.lemmas.List.Elements.{Contains-push_cases}
-use Rattle.om_statements.specs.declared.draft.PickList.{PickList}
-use Rattle.om_statements.specs.Settled.{ListsStand, number_of}
+use Rattle.om_lower_emit.specs.declared.draft.PickList.{PickList}
+use Rattle.om_lower_emit.specs.Settled.{ListsStand, number_of}
 use Rattle.om_lower.specs.Once.{count, below, IsEachOnce}
 use Rattle.om_lower.proofs.Counting.{count-append}
 

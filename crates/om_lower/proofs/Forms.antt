@@ -1,30 +1,30 @@
 -- The row of each form, of what is written before its statement, of the statement, and of what is written behind it.
 use Rattle.std.proofs.Common.{◌≡◌, ℕ, List, Option, Some, None, Bool, map, length, sym, subst, arith}
 use Rattle.om_code.specs.declared.instruction.Comparison.{Comparison}
-use Rattle.om_statements.specs.declared.spot.LoopLabels.{LoopLabels}
-use Rattle.om_statements.specs.declared.spot.TurnLabels.{TurnLabels}
-use Rattle.om_statements.specs.Stretches.{Opens, Begins, BeginsTurn, construct_begin, construct_end}
-use Rattle.om_statements.specs.Stretches.{do_begin, do_end, else_begin, for_begin, for_end, loop_end, test_at}
-use Rattle.om_statements.specs.Stretches.{while_begin, worksharing_begin, worksharing_rest}
-use Rattle.om_statements.specs.Drafts.{Labels, Written, Defines}
-use Rattle.om_statements.specs.Emits.{Finished, Part, site, Goes, Emits}
+use Rattle.om_lower_emit.specs.declared.spot.LoopLabels.{LoopLabels}
+use Rattle.om_lower_emit.specs.declared.spot.TurnLabels.{TurnLabels}
+use Rattle.om_lower_emit.specs.Stretches.{Opens, Begins, BeginsTurn, construct_begin, construct_end}
+use Rattle.om_lower_emit.specs.Stretches.{do_begin, do_end, else_begin, for_begin, for_end, loop_end, test_at}
+use Rattle.om_lower_emit.specs.Stretches.{while_begin, worksharing_begin, worksharing_rest}
+use Rattle.om_lower_emit.specs.Drafts.{Labels, Written, Defines}
+use Rattle.om_lower_emit.specs.Emits.{Finished, Part, site, Goes, Emits}
 use Rattle.om_lexer.specs.declared.token.Span.{Span}
-use Rattle.om_resolved.specs.declared.resolved.ConstructKind.{ConstructKind}
-use Rattle.om_resolved.specs.declared.resolved.ConstructKind.TheVariants as constructs
-use Rattle.om_resolved.specs.declared.resolved.ResolvedClause.{ResolvedClause}
-use Rattle.om_resolved.specs.ResolvedView as view
-use Rattle.om_resolved.specs.ResolvedTree.{ResolvedExpressionTree, ResolvedClauseTree, ResolvedLoopTree}
-use Rattle.om_resolved.specs.ResolvedTree.{ResolvedStartTree, ResolvedStatementTree, If, IfElse, While, Do, For, Loop}
-use Rattle.om_resolved.specs.ResolvedTree.{Construct}
-use Rattle.om_rows.specs.Bodies.{Numbers, behind}
-use Rattle.om_rows.specs.Operators.{comparison_of}
-use Rattle.om_rows.specs.Rows.{Row, end, part, here, given}
-use Rattle.om_rows.specs.Statements.{closes, statement, construct_row, loop_rest, in_iteration}
-use Rattle.om_statements.specs.declared.spot.JumpLabels.{JumpLabels}
-use Rattle.om_statements.specs.Statements.{jumps_at, EmitsStatement}
-use Rattle.om_statements.specs.Going.{before_with, goes_place, goes_then, then_with, with_as, with_behind}
-use Rattle.om_rows.specs.Numbered.{Numbered}
-use Rattle.om_rows.specs.Picks.{own_picks}
+use Rattle.om_scope_tree.specs.declared.resolved.ConstructKind.{ConstructKind}
+use Rattle.om_scope_tree.specs.declared.resolved.ConstructKind.TheVariants as constructs
+use Rattle.om_scope_tree.specs.declared.resolved.ResolvedClause.{ResolvedClause}
+use Rattle.om_scope_tree.specs.ResolvedView as view
+use Rattle.om_scope_tree.specs.ResolvedTree.{ResolvedExpressionTree, ResolvedClauseTree, ResolvedLoopTree}
+use Rattle.om_scope_tree.specs.ResolvedTree.{ResolvedStartTree, ResolvedStatementTree, If, IfElse, While, Do, For, Loop}
+use Rattle.om_scope_tree.specs.ResolvedTree.{Construct}
+use Rattle.om_lower_rules.specs.Bodies.{Numbers, behind}
+use Rattle.om_lower_rules.specs.Operators.{comparison_of}
+use Rattle.om_lower_rules.specs.Rows.{Row, end, part, here, given}
+use Rattle.om_lower_rules.specs.Statements.{closes, statement, construct_row, loop_rest, in_iteration}
+use Rattle.om_lower_emit.specs.declared.spot.JumpLabels.{JumpLabels}
+use Rattle.om_lower_emit.specs.Statements.{jumps_at, EmitsStatement}
+use Rattle.om_lower_emit.specs.Going.{before_with, goes_place, goes_then, then_with, with_as, with_behind}
+use Rattle.om_lower_rules.specs.Numbered.{Numbered}
+use Rattle.om_lower_rules.specs.Picks.{own_picks}
 
 -- the code of a statement
 abbrev Written_as : Numbered → Numbers → ResolvedStatementTree → JumpLabels → Part

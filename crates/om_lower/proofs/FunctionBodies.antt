@@ -6,13 +6,13 @@ use Rattle.std.proofs.lemmas.List.Elements.{Contains-append_right}
 use Rattle.std.specs.List.{AllZip, flat_map}
 use Rattle.om_code.specs.declared.raw.Body.{Body}
 use Rattle.om_code.specs.Validity.{IsLow}
-use Rattle.om_statements.specs.declared.draft.PickList.{PickList}
-use Rattle.om_statements.specs.Settled.{ListsStand}
+use Rattle.om_lower_emit.specs.declared.draft.PickList.{PickList}
+use Rattle.om_lower_emit.specs.Settled.{ListsStand}
 use Rattle.om_lower.specs.Heights.{AreLow, IsHigh}
 use Rattle.om_lower.specs.Limits.{IsOver, IsWithin, high}
 use Rattle.om_lower.specs.Made.{AreFunctions, AreMade, IsMade}
-use Rattle.om_resolved.specs.ResolvedTree.{ResolvedFunctionTree, ResolvedTree}
-use Rattle.om_rows.specs.Bodies.{BodySite, Numbers, behind_function, behind_functions, bodies_from, function_bodies}
+use Rattle.om_scope_tree.specs.ResolvedTree.{ResolvedFunctionTree, ResolvedTree}
+use Rattle.om_lower_rules.specs.Bodies.{BodySite, Numbers, behind_function, behind_functions, bodies_from, function_bodies}
 
 some_same : {A : Type 0} (x y : A) → Some x ≡ Some y → x ≡ y
 some_same x y e = cc

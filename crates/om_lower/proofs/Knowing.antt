@@ -10,22 +10,22 @@ use Rattle.std.specs.List.{AllZip}
 use Rattle.om_lower.specs.Limits.{HasFewSlots}
 use Rattle.om_lower.specs.Ready.{IsListed, IsPlaced}
 use Rattle.om_lower.proofs.Items.{all_at, take_pushed}
-use Rattle.om_resolved.specs.ResolvedTree.{ResolvedStatementTree, Declaration, Block, Empty, Expression, If, IfElse}
-use Rattle.om_resolved.specs.ResolvedTree.{While, Do, For, Return, Break, Continue, Parallel, Task, Loop, Sections}
-use Rattle.om_resolved.specs.ResolvedTree.{Construct, Update, StandAlone, ResolvedStatementsTree, NoStatements}
-use Rattle.om_resolved.specs.ResolvedTree.{Statement, ResolvedPartsTree, NoParts, Part, ResolvedFunctionTree}
-use Rattle.om_resolved.specs.Weights.{function_weight, parts_weight, statement_weight, statements_weight}
-use Rattle.om_sights.specs.Weighed.{statement_few, statements_few}
-use Rattle.om_rows.specs.Bodies.{BodySite, BodyTree, FunctionBody, Numbers, ParallelBody, TaskBody, all_regions}
-use Rattle.om_rows.specs.Bodies.{behind, behind_all, behind_function, behind_functions, first_numbers}
-use Rattle.om_rows.specs.Bodies.{function_bodies, function_variables, next_body, next_pick, parts_regions}
-use Rattle.om_rows.specs.Bodies.{region_variables, regions, variables_of}
-use Rattle.om_rows.specs.Slots.{Extent}
-use Rattle.om_rows.specs.Positions.{StandsAt, all_regions_long, function_long, get_back, get_front, regions_long}
-use Rattle.om_rows.specs.Positions.{stands_back, stands_front, stands_head, stands_whole}
-use Rattle.om_rows.specs.Ends.{HasAllEnds, HasEnds, HasPartsEnds, IsKnown, KnownBodies, all_region_ends, ends_from}
-use Rattle.om_rows.specs.Ends.{function_ends, parts_region_ends, region_ends}
-use Rattle.om_rows.specs.ProgramTables.{AreCellsOf}
+use Rattle.om_scope_tree.specs.ResolvedTree.{ResolvedStatementTree, Declaration, Block, Empty, Expression, If, IfElse}
+use Rattle.om_scope_tree.specs.ResolvedTree.{While, Do, For, Return, Break, Continue, Parallel, Task, Loop, Sections}
+use Rattle.om_scope_tree.specs.ResolvedTree.{Construct, Update, StandAlone, ResolvedStatementsTree, NoStatements}
+use Rattle.om_scope_tree.specs.ResolvedTree.{Statement, ResolvedPartsTree, NoParts, Part, ResolvedFunctionTree}
+use Rattle.om_scope_tree.specs.Weights.{function_weight, parts_weight, statement_weight, statements_weight}
+use Rattle.om_lower_tables.specs.Weighed.{statement_few, statements_few}
+use Rattle.om_lower_rules.specs.Bodies.{BodySite, BodyTree, FunctionBody, Numbers, ParallelBody, TaskBody, all_regions}
+use Rattle.om_lower_rules.specs.Bodies.{behind, behind_all, behind_function, behind_functions, first_numbers}
+use Rattle.om_lower_rules.specs.Bodies.{function_bodies, function_variables, next_body, next_pick, parts_regions}
+use Rattle.om_lower_rules.specs.Bodies.{region_variables, regions, variables_of}
+use Rattle.om_lower_rules.specs.Slots.{Extent}
+use Rattle.om_lower_rules.specs.Positions.{StandsAt, all_regions_long, function_long, get_back, get_front, regions_long}
+use Rattle.om_lower_rules.specs.Positions.{stands_back, stands_front, stands_head, stands_whole}
+use Rattle.om_lower_rules.specs.Ends.{HasAllEnds, HasEnds, HasPartsEnds, IsKnown, KnownBodies, all_region_ends, ends_from}
+use Rattle.om_lower_rules.specs.Ends.{function_ends, parts_region_ends, region_ends}
+use Rattle.om_lower_rules.specs.ProgramTables.{AreCellsOf}
 
 -- ---- the numbers behind bodies
 

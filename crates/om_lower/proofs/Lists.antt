@@ -2,27 +2,27 @@
 use Rattle.std.proofs.Common.{◌≡◌, refl, Bool, ℕ, suc, ◌+◌, ◌<◌, ◌≤◌, List, ◌∷◌, map, get_or, drop, drop-cons, add-one}
 use Rattle.std.proofs.Common.{length, sym, ap, ◌∙◌, subst, arith}
 use Rattle.std.specs.Prelude.{Err, IfOk, Result}
-use Rattle.om_statements.specs.Drafts.{Written}
-use Rattle.om_statements.specs.Emits.{site}
-use Rattle.om_statements.specs.Writing.{goes_end}
-use Rattle.om_resolved.specs.declared.resolved.ResolvedStatement.{ResolvedStatement}
-use Rattle.om_resolved.specs.ResolvedTree as trees
-use Rattle.om_resolved.specs.ResolvedTree.{ResolvedStatementTree, ResolvedStatementsTree, NoStatements, Statement}
-use Rattle.om_resolved.specs.ResolvedView as view
-use Rattle.om_statements.specs.Stretches.{IsNoAtomic}
-use Rattle.om_resolved.specs.declared.resolved.ConstructKind.{ConstructKind}
-use Rattle.om_resolved.specs.declared.resolved.ConstructKind.TheVariants as constructs
-use Rattle.om_rows.specs.Bodies.{Numbers, behind, behind_all}
-use Rattle.om_rows.specs.Coded.{StatementsHaveCode}
-use Rattle.om_statements.specs.declared.spot.Spot.{Spot}
-use Rattle.om_rows.specs.Numbering.{numbers_of}
-use Rattle.om_rows.specs.Rows.{end}
-use Rattle.om_rows.specs.Statements.{statement, statements}
-use Rattle.om_statements.specs.declared.spot.JumpLabels.{JumpLabels}
-use Rattle.om_statements.specs.Statements.{jumps_at, EmitsStatement, GoesWith}
-use Rattle.om_statements.specs.Going.{then_with, with_none}
-use Rattle.om_rows.specs.Numbered.{Numbered}
-use Rattle.om_rows.specs.Picks.{own_picks, all_own_picks}
+use Rattle.om_lower_emit.specs.Drafts.{Written}
+use Rattle.om_lower_emit.specs.Emits.{site}
+use Rattle.om_lower_emit.specs.Writing.{goes_end}
+use Rattle.om_scope_tree.specs.declared.resolved.ResolvedStatement.{ResolvedStatement}
+use Rattle.om_scope_tree.specs.ResolvedTree as trees
+use Rattle.om_scope_tree.specs.ResolvedTree.{ResolvedStatementTree, ResolvedStatementsTree, NoStatements, Statement}
+use Rattle.om_scope_tree.specs.ResolvedView as view
+use Rattle.om_lower_emit.specs.Stretches.{IsNoAtomic}
+use Rattle.om_scope_tree.specs.declared.resolved.ConstructKind.{ConstructKind}
+use Rattle.om_scope_tree.specs.declared.resolved.ConstructKind.TheVariants as constructs
+use Rattle.om_lower_rules.specs.Bodies.{Numbers, behind, behind_all}
+use Rattle.om_lower_rules.specs.Coded.{StatementsHaveCode}
+use Rattle.om_lower_emit.specs.declared.spot.Spot.{Spot}
+use Rattle.om_lower_rules.specs.Numbering.{numbers_of}
+use Rattle.om_lower_rules.specs.Rows.{end}
+use Rattle.om_lower_rules.specs.Statements.{statement, statements}
+use Rattle.om_lower_emit.specs.declared.spot.JumpLabels.{JumpLabels}
+use Rattle.om_lower_emit.specs.Statements.{jumps_at, EmitsStatement, GoesWith}
+use Rattle.om_lower_emit.specs.Going.{then_with, with_none}
+use Rattle.om_lower_rules.specs.Numbered.{Numbered}
+use Rattle.om_lower_rules.specs.Picks.{own_picks, all_own_picks}
 
 -- whoever writes what is left, with the numbers there, has written all
 unfoldable pub Onward : (k : ℕ) → Numbered → JumpLabels → (first now : Numbers) → (all left : ResolvedStatementsTree)

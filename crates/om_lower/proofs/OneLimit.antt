@@ -1,12 +1,12 @@
 -- A tree keeps the limits on bodies or passes one, since each body has one code and one set of ways.
 use Rattle.std.proofs.Common.{◌≡◌, List, [], ◌∷◌, ◌++◌, length, All, Any, sym, ap, subst, ◌∙◌, arith}
 use Rattle.om_lexer.specs.declared.fault.FaultCode.TheVariants.{TooMany}
-use Rattle.om_resolved.specs.ResolvedTree.{ResolvedFunctionTree, ResolvedTree}
-use Rattle.om_resolved.specs.Uses.{is_main_function}
-use Rattle.om_rows.specs.Bodies.{BodySite, Numbers, behind_function, behind_functions, bodies_from, first_numbers}
-use Rattle.om_rows.specs.Bodies.{function_bodies, variables_of}
-use Rattle.om_rows.specs.Laws.{OneBodyCode}
-use Rattle.om_rows.specs.Numbered.{numbered_in}
+use Rattle.om_scope_tree.specs.ResolvedTree.{ResolvedFunctionTree, ResolvedTree}
+use Rattle.om_scope_tree.specs.Uses.{is_main_function}
+use Rattle.om_lower_rules.specs.Bodies.{BodySite, Numbers, behind_function, behind_functions, bodies_from, first_numbers}
+use Rattle.om_lower_rules.specs.Bodies.{function_bodies, variables_of}
+use Rattle.om_lower_rules.specs.Laws.{OneBodyCode}
+use Rattle.om_lower_rules.specs.Numbered.{numbered_in}
 use Rattle.om_lower.specs.Laws.{OneTooMany, WithinIsNotTooMany}
 use Rattle.om_lower.specs.Limits.{IsWithin, IsOver, many_slots, many_cells, long, high}
 use Rattle.om_lower.proofs.FunctionBodies.{all_behind, all_front}

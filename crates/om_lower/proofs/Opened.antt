@@ -3,21 +3,21 @@ use Rattle.std.proofs.Common.{◌≡◌, ℕ, ◌+◌, ◌<◌, ◌≤◌, List,
 use Rattle.std.specs.Prelude.{slice_get}
 use Rattle.om_code.specs.declared.instruction.Instr.TheVariants as i
 use Rattle.om_code.specs.declared.instruction.Comparison.{Comparison}
-use Rattle.om_statements.specs.declared.spot.LoopLabels.{LoopLabels}
-use Rattle.om_statements.specs.declared.spot.TurnLabels.{TurnLabels}
-use Rattle.om_statements.specs.Going.{free_emits, free_within}
-use Rattle.om_statements.specs.Stretches.{Parts, Opens, Begins, BeginsTurn, FreshTurn, bounds_row, do_begin, else_begin}
-use Rattle.om_statements.specs.Stretches.{loop_end, sections_begin, worksharing_begin}
-use Rattle.om_statements.specs.Drafts.{Labels, Written, Puts, Fresh, Defines}
-use Rattle.om_statements.specs.Emits.{Finished, Part, site, Goes, Emits}
-use Rattle.om_statements.specs.Writing.{define_length, free_define, free_fresh, free_new, free_put, fresh_length, goes_as}
-use Rattle.om_statements.specs.Writing.{goes_end, goes_fresh, goes_here, goes_less, goes_part, goes_put}
-use Rattle.om_resolved.specs.ResolvedTree.{ResolvedClauseTree, ResolvedLoopTree}
-use Rattle.om_rows.specs.Operators.{comparison_of, form_with}
-use Rattle.om_rows.specs.Rows.{end, ins, part, here, ◌▸◌}
-use Rattle.om_rows.specs.Slots.{slot}
-use Rattle.om_rows.specs.Statements.{starts}
-use Rattle.om_rows.specs.Numbered.{Numbered}
+use Rattle.om_lower_emit.specs.declared.spot.LoopLabels.{LoopLabels}
+use Rattle.om_lower_emit.specs.declared.spot.TurnLabels.{TurnLabels}
+use Rattle.om_lower_emit.specs.Going.{free_emits, free_within}
+use Rattle.om_lower_emit.specs.Stretches.{Parts, Opens, Begins, BeginsTurn, FreshTurn, bounds_row, do_begin, else_begin}
+use Rattle.om_lower_emit.specs.Stretches.{loop_end, sections_begin, worksharing_begin}
+use Rattle.om_lower_emit.specs.Drafts.{Labels, Written, Puts, Fresh, Defines}
+use Rattle.om_lower_emit.specs.Emits.{Finished, Part, site, Goes, Emits}
+use Rattle.om_lower_emit.specs.Writing.{define_length, free_define, free_fresh, free_new, free_put, fresh_length, goes_as}
+use Rattle.om_lower_emit.specs.Writing.{goes_end, goes_fresh, goes_here, goes_less, goes_part, goes_put}
+use Rattle.om_scope_tree.specs.ResolvedTree.{ResolvedClauseTree, ResolvedLoopTree}
+use Rattle.om_lower_rules.specs.Operators.{comparison_of, form_with}
+use Rattle.om_lower_rules.specs.Rows.{end, ins, part, here, ◌▸◌}
+use Rattle.om_lower_rules.specs.Slots.{slot}
+use Rattle.om_lower_rules.specs.Statements.{starts}
+use Rattle.om_lower_rules.specs.Numbered.{Numbered}
 
 abbrev IsFree : ℕ → Written → Type 0
 IsFree label d = slice_get d.places label ≡ Some None

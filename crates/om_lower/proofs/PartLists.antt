@@ -3,31 +3,31 @@ use Rattle.std.proofs.Common.{◌≡◌, refl, ℕ, suc, ◌+◌, ◌<◌, ◌�
 use Rattle.std.proofs.Common.{add-one, length, sym, ap, ◌∙◌, subst, arith}
 use Rattle.std.specs.Prelude.{slice_get}
 use Rattle.om_code.specs.declared.instruction.Instr.TheVariants as i
-use Rattle.om_statements.specs.Drafts.{Labels, Written, Defines, Puts}
-use Rattle.om_statements.specs.Emits.{Finished, Goes, site}
-use Rattle.om_statements.specs.Writing.{free_define, goes_end, goes_put}
-use Rattle.om_resolved.specs.declared.resolved.ResolvedClause.{ResolvedClause}
-use Rattle.om_resolved.specs.declared.resolved.ResolvedStatement.{ResolvedStatement}
-use Rattle.om_resolved.specs.declared.resolved.ResolvedPart.{ResolvedPart, out-ResolvedPart, fold_out-ResolvedPart}
-use Rattle.om_resolved.specs.ResolvedTree as trees
-use Rattle.om_resolved.specs.ResolvedTree.{ResolvedPartsTree, ResolvedStatementTree, ResolvedStatementsTree, NoParts}
-use Rattle.om_resolved.specs.ResolvedTree.{Part}
-use Rattle.om_resolved.specs.ResolvedView.{part_layer, statement_layer}
-use Rattle.om_resolved.specs.ResolvedView as view
-use Rattle.om_rows.specs.Bodies.{Numbers, behind_all, behind_parts}
-use Rattle.om_rows.specs.Coded.{PartsHaveCode}
-use Rattle.om_rows.specs.Rows.{end, here, ins, part}
-use Rattle.om_rows.specs.Statements.{nowhere, parts, statements}
+use Rattle.om_lower_emit.specs.Drafts.{Labels, Written, Defines, Puts}
+use Rattle.om_lower_emit.specs.Emits.{Finished, Goes, site}
+use Rattle.om_lower_emit.specs.Writing.{free_define, goes_end, goes_put}
+use Rattle.om_scope_tree.specs.declared.resolved.ResolvedClause.{ResolvedClause}
+use Rattle.om_scope_tree.specs.declared.resolved.ResolvedStatement.{ResolvedStatement}
+use Rattle.om_scope_tree.specs.declared.resolved.ResolvedPart.{ResolvedPart, out-ResolvedPart, fold_out-ResolvedPart}
+use Rattle.om_scope_tree.specs.ResolvedTree as trees
+use Rattle.om_scope_tree.specs.ResolvedTree.{ResolvedPartsTree, ResolvedStatementTree, ResolvedStatementsTree, NoParts}
+use Rattle.om_scope_tree.specs.ResolvedTree.{Part}
+use Rattle.om_scope_tree.specs.ResolvedView.{part_layer, statement_layer}
+use Rattle.om_scope_tree.specs.ResolvedView as view
+use Rattle.om_lower_rules.specs.Bodies.{Numbers, behind_all, behind_parts}
+use Rattle.om_lower_rules.specs.Coded.{PartsHaveCode}
+use Rattle.om_lower_rules.specs.Rows.{end, here, ins, part}
+use Rattle.om_lower_rules.specs.Statements.{nowhere, parts, statements}
 use Rattle.om_lower.specs.declared.worksharing.PartsSpot.{PartsSpot}
-use Rattle.om_statements.specs.declared.spot.JumpLabels.{JumpLabels}
-use Rattle.om_statements.specs.declared.spot.Spot.{Spot}
-use Rattle.om_statements.specs.Statements.{EmitsStatements}
+use Rattle.om_lower_emit.specs.declared.spot.JumpLabels.{JumpLabels}
+use Rattle.om_lower_emit.specs.declared.spot.Spot.{Spot}
+use Rattle.om_lower_emit.specs.Statements.{EmitsStatements}
 use Rattle.om_lower.specs.Parts.{AreFree, EmitsParts, GoesParts, OpensParts, part_head, part_labels}
-use Rattle.om_statements.specs.Going.{before_with, free_with, free_within, goes_place, then_with, with_as, with_none}
-use Rattle.om_rows.specs.declared.numbers.Numbers as tables
-use Rattle.om_rows.specs.Numbered.{Numbered}
-use Rattle.om_rows.specs.Numbering.{numbers_of}
-use Rattle.om_rows.specs.Picks.{all_own_picks, parts_own_picks}
+use Rattle.om_lower_emit.specs.Going.{before_with, free_with, free_within, goes_place, then_with, with_as, with_none}
+use Rattle.om_lower_rules.specs.declared.numbers.Numbers as tables
+use Rattle.om_lower_rules.specs.Numbered.{Numbered}
+use Rattle.om_lower_rules.specs.Numbering.{numbers_of}
+use Rattle.om_lower_rules.specs.Picks.{all_own_picks, parts_own_picks}
 
 abbrev no_jumps : JumpLabels
 no_jumps = record { over = None; next = None }

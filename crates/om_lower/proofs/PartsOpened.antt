@@ -4,19 +4,19 @@ use Rattle.std.proofs.Common.{refl, sym, ap, ◌∙◌, subst, arith, length-app
 use Rattle.std.specs.Prelude.{slice_get}
 use Rattle.std.proofs.lemmas.List.{map-append}
 use Rattle.std.proofs.lemmas.Option.{slice_get_within}
-use Rattle.om_statements.specs.declared.spot.LoopLabels.{LoopLabels}
-use Rattle.om_statements.specs.Stretches.{Begins, sections_begin}
-use Rattle.om_statements.specs.declared.draft.Pick.{Pick}
-use Rattle.om_statements.specs.Drafts.{Labels, Written, FreshList, labels_from, unplaced}
-use Rattle.om_statements.specs.Emits.{Finished, Grows}
-use Rattle.om_statements.specs.Writing.{fits_back, get_left, get_seam, grows_on}
-use Rattle.om_rows.specs.Bodies.{next_pick}
+use Rattle.om_lower_emit.specs.declared.spot.LoopLabels.{LoopLabels}
+use Rattle.om_lower_emit.specs.Stretches.{Begins, sections_begin}
+use Rattle.om_lower_emit.specs.declared.draft.Pick.{Pick}
+use Rattle.om_lower_emit.specs.Drafts.{Labels, Written, FreshList, labels_from, unplaced}
+use Rattle.om_lower_emit.specs.Emits.{Finished, Grows}
+use Rattle.om_lower_emit.specs.Writing.{fits_back, get_left, get_seam, grows_on}
+use Rattle.om_lower_rules.specs.Bodies.{next_pick}
 use Rattle.om_lower.specs.declared.worksharing.PartsSpot.{PartsSpot}
-use Rattle.om_statements.specs.Statements.{pick_number}
+use Rattle.om_lower_emit.specs.Statements.{pick_number}
 use Rattle.om_lower.specs.Parts.{AreFree, OpensParts, PartHead}
-use Rattle.om_statements.specs.Going.{free_within}
-use Rattle.om_rows.specs.Numbered.{Numbered}
-use Rattle.om_rows.specs.Numbering.{numbers_of}
+use Rattle.om_lower_emit.specs.Going.{free_within}
+use Rattle.om_lower_rules.specs.Numbered.{Numbered}
+use Rattle.om_lower_rules.specs.Numbering.{numbers_of}
 
 -- ---- labels
 

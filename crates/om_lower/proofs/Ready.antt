@@ -7,17 +7,17 @@ use Rattle.om_lower.specs.Made.{IsNext, next_function, next_numbers}
 use Rattle.om_lower.specs.Ready.{IsPlaced, IsReady}
 use Rattle.om_lower.proofs.Knowing.{Room, placed_by}
 use Rattle.om_lower.proofs.Rounds.{IsRound, round_function}
-use Rattle.om_resolved.specs.ResolvedTree.{ResolvedFunctionTree}
-use Rattle.om_resolved.specs.Weights.{function_weight}
-use Rattle.om_rows.specs.Numbering.{numbers_of}
-use Rattle.om_rows.specs.declared.numbers.Numbers as numbers
-use Rattle.om_sights.specs.Room.{HasNumbers, IsRoomFor}
-use Rattle.om_rows.specs.Bodies.{BodySite, Numbers, function_bodies, variables_of}
-use Rattle.om_rows.specs.Coded.{BodyHasCode}
-use Rattle.om_rows.specs.Slots.{Extent}
-use Rattle.om_rows.specs.Ends.{KnownBodies}
-use Rattle.om_rows.specs.declared.tables.Tables.{Tables}
-use Rattle.om_rows.specs.ProgramTables.{AreCellsOf, ends_in, known_of}
+use Rattle.om_scope_tree.specs.ResolvedTree.{ResolvedFunctionTree}
+use Rattle.om_scope_tree.specs.Weights.{function_weight}
+use Rattle.om_lower_rules.specs.Numbering.{numbers_of}
+use Rattle.om_lower_rules.specs.declared.numbers.Numbers as numbers
+use Rattle.om_lower_tables.specs.Room.{HasNumbers, IsRoomFor}
+use Rattle.om_lower_rules.specs.Bodies.{BodySite, Numbers, function_bodies, variables_of}
+use Rattle.om_lower_rules.specs.Coded.{BodyHasCode}
+use Rattle.om_lower_rules.specs.Slots.{Extent}
+use Rattle.om_lower_rules.specs.Ends.{KnownBodies}
+use Rattle.om_lower_rules.specs.declared.tables.Tables.{Tables}
+use Rattle.om_lower_rules.specs.ProgramTables.{AreCellsOf, ends_in, known_of}
 
 -- a body has code
 abbrev HasCode : BodySite → Type 0

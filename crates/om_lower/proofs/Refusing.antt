@@ -2,16 +2,16 @@
 use Rattle.std.proofs.Common.{◌≡◌, ◌<◌, ◌≤◌, inl, inr, ℕ, zero, suc, Bool, true, false, List, [], ◌∷◌, ◌++◌, Some, All}
 use Rattle.std.proofs.Common.{Any, length, take, drop, slice_get, refl, sym, ap, subst, ◌∙◌, arith}
 use Rattle.om_code.specs.declared.raw.Body.{Body}
-use Rattle.om_statements.specs.declared.draft.PickList.{PickList}
-use Rattle.om_statements.specs.Settled.{ListsStand}
+use Rattle.om_lower_emit.specs.declared.draft.PickList.{PickList}
+use Rattle.om_lower_emit.specs.Settled.{ListsStand}
 use Rattle.om_lower.specs.Heights.{AreLow, IsFirst}
 use Rattle.om_lower.specs.Limits.{IsOver, IsTooMany, IsWithin}
 use Rattle.om_lower.specs.Made.{AreFunctions, IsLowered, IsOverAt, StopsUnless}
 use Rattle.om_lower.specs.Refusals.{too_many}
 use Rattle.om_lower.proofs.FunctionBodies.{first_functions, made_at, over_high, within_functions}
-use Rattle.om_resolved.specs.ResolvedTree.{ResolvedFunctionTree, ResolvedTree}
-use Rattle.om_rows.specs.Bodies.{Numbers, behind_function, behind_functions, bodies_from, first_numbers}
-use Rattle.om_rows.specs.Bodies.{function_bodies}
+use Rattle.om_scope_tree.specs.ResolvedTree.{ResolvedFunctionTree, ResolvedTree}
+use Rattle.om_lower_rules.specs.Bodies.{Numbers, behind_function, behind_functions, bodies_from, first_numbers}
+use Rattle.om_lower_rules.specs.Bodies.{function_bodies}
 
 parted : {A : Type 0} (xs : List A) (k : ℕ) (x : A) → slice_get xs k ≡ Some x
     → xs ≡ take k xs ++ x ∷ drop (suc k) xs

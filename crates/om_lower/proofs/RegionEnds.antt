@@ -1,14 +1,14 @@
 -- The numbers behind the regions in a statement are those behind the regions in its parts.
 use Rattle.std.proofs.Common.{◌≡◌, ◌<◌, List, map, sym, ap, ◌∙◌, subst}
-use Rattle.om_resolved.specs.declared.resolved.ResolvedStatement.{ResolvedStatement}
-use Rattle.om_resolved.specs.declared.resolved.ResolvedStatement.TheVariants as v
-use Rattle.om_resolved.specs.ResolvedTree as trees
-use Rattle.om_resolved.specs.ResolvedTree.{ResolvedPartsTree, ResolvedStatementTree, ResolvedStatementsTree}
-use Rattle.om_resolved.specs.ResolvedView as view
-use Rattle.om_rows.specs.Bodies.{Numbers, behind, behind_all, next_body, next_pick, region_variables}
-use Rattle.om_statements.specs.declared.spot.Spot.{Spot}
-use Rattle.om_rows.specs.Ends.{HasAllEnds, HasEnds, HasPartsEnds, IsKnown, KnownBodies}
-use Rattle.om_rows.specs.Numbering.{numbers_of}
+use Rattle.om_scope_tree.specs.declared.resolved.ResolvedStatement.{ResolvedStatement}
+use Rattle.om_scope_tree.specs.declared.resolved.ResolvedStatement.TheVariants as v
+use Rattle.om_scope_tree.specs.ResolvedTree as trees
+use Rattle.om_scope_tree.specs.ResolvedTree.{ResolvedPartsTree, ResolvedStatementTree, ResolvedStatementsTree}
+use Rattle.om_scope_tree.specs.ResolvedView as view
+use Rattle.om_lower_rules.specs.Bodies.{Numbers, behind, behind_all, next_body, next_pick, region_variables}
+use Rattle.om_lower_emit.specs.declared.spot.Spot.{Spot}
+use Rattle.om_lower_rules.specs.Ends.{HasAllEnds, HasEnds, HasPartsEnds, IsKnown, KnownBodies}
+use Rattle.om_lower_rules.specs.Numbering.{numbers_of}
 use Rattle.om_lower.proofs.Views.{view_construct, view_do, view_for, view_if, view_if_else, view_loop}
 use Rattle.om_lower.proofs.Views.{view_parallel, view_sections, view_task, view_while}
 

@@ -3,24 +3,24 @@ use Rattle.std.proofs.Common.{◌≡◌, ◌≤◌, ℕ, List, [], ◌∷◌, Bo
 use Rattle.std.proofs.Common.{if◌then◌else◌}
 use Rattle.std.specs.Prelude.{is_some}
 use Rattle.std.proofs.lemmas.List.{length-append, length-map}
-use Rattle.om_statements.specs.Stretches.{fork_row, spawn_row}
-use Rattle.om_statements.specs.Drafts.{Written}
-use Rattle.om_statements.specs.Emits.{EmitsRow, site}
+use Rattle.om_lower_emit.specs.Stretches.{fork_row, spawn_row}
+use Rattle.om_lower_emit.specs.Drafts.{Written}
+use Rattle.om_lower_emit.specs.Emits.{EmitsRow, site}
 use Rattle.om_lexer.specs.declared.token.Span.{Span}
-use Rattle.om_resolved.specs.declared.resolved.Capture.{Capture}
-use Rattle.om_resolved.specs.ResolvedTree.{ResolvedClauseTree, ResolvedStatementTree, Parallel, Task}
-use Rattle.om_rows.specs.Bodies.{Numbers}
-use Rattle.om_rows.specs.Expressions.{value}
-use Rattle.om_rows.specs.Rows.{each, perhaps}
-use Rattle.om_rows.specs.Slots as rows
-use Rattle.om_rows.specs.Slots.{by_slots, first_copy_at}
-use Rattle.om_rows.specs.Statements.{clause_value, given_copies, load_original}
-use Rattle.om_statements.specs.declared.spot.JumpLabels.{JumpLabels}
-use Rattle.om_statements.specs.Statements.{EmitsStatement}
-use Rattle.om_statements.specs.Going.{goes_then, with_none}
-use Rattle.om_rows.specs.declared.copies.FirstCopy.{FirstCopy}
-use Rattle.om_rows.specs.Copies.{first_copies_of, first_copy}
-use Rattle.om_rows.specs.Numbered.{Numbered}
+use Rattle.om_scope_tree.specs.declared.resolved.Capture.{Capture}
+use Rattle.om_scope_tree.specs.ResolvedTree.{ResolvedClauseTree, ResolvedStatementTree, Parallel, Task}
+use Rattle.om_lower_rules.specs.Bodies.{Numbers}
+use Rattle.om_lower_rules.specs.Expressions.{value}
+use Rattle.om_lower_rules.specs.Rows.{each, perhaps}
+use Rattle.om_lower_rules.specs.Slots as rows
+use Rattle.om_lower_rules.specs.Slots.{by_slots, first_copy_at}
+use Rattle.om_lower_rules.specs.Statements.{clause_value, given_copies, load_original}
+use Rattle.om_lower_emit.specs.declared.spot.JumpLabels.{JumpLabels}
+use Rattle.om_lower_emit.specs.Statements.{EmitsStatement}
+use Rattle.om_lower_emit.specs.Going.{goes_then, with_none}
+use Rattle.om_lower_rules.specs.declared.copies.FirstCopy.{FirstCopy}
+use Rattle.om_lower_rules.specs.Copies.{first_copies_of, first_copy}
+use Rattle.om_lower_rules.specs.Numbered.{Numbered}
 
 -- how many copies were loaded
 pub counted : (copies : List FirstCopy) (given : List rows.FirstCopy) (values : ℕ) → first_copies_of copies ≡ given

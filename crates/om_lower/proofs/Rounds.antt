@@ -3,13 +3,13 @@ use Rattle.std.proofs.Common.{◌≡◌, ◌≤◌, ℕ, List, [], All, length, 
 use Rattle.std.proofs.lemmas.List.Elements.{All-nil, All-cons, All-head, All-tail, All-append}
 use Rattle.om_lower.specs.Limits.{HasFewSlots}
 use Rattle.om_lower.proofs.FunctionBodies.{all_behind, all_front}
-use Rattle.om_resolved.specs.ResolvedTree.{ResolvedStatementTree, Declaration, Block, Empty, Expression, If, IfElse}
-use Rattle.om_resolved.specs.ResolvedTree.{While, Do, For, Return, Break, Continue, Parallel, Task, Loop, Sections}
-use Rattle.om_resolved.specs.ResolvedTree.{Construct, Update, StandAlone, ResolvedStatementsTree, NoStatements}
-use Rattle.om_resolved.specs.ResolvedTree.{Statement, ResolvedPartsTree, NoParts, Part, ResolvedFunctionTree}
-use Rattle.om_rows.specs.Bodies.{BodySite, FunctionBody, Numbers, ParallelBody, TaskBody, all_regions, behind}
-use Rattle.om_rows.specs.Bodies.{behind_all, function_bodies, function_variables, next_body, next_pick, parts_regions}
-use Rattle.om_rows.specs.Bodies.{region_variables, regions}
+use Rattle.om_scope_tree.specs.ResolvedTree.{ResolvedStatementTree, Declaration, Block, Empty, Expression, If, IfElse}
+use Rattle.om_scope_tree.specs.ResolvedTree.{While, Do, For, Return, Break, Continue, Parallel, Task, Loop, Sections}
+use Rattle.om_scope_tree.specs.ResolvedTree.{Construct, Update, StandAlone, ResolvedStatementsTree, NoStatements}
+use Rattle.om_scope_tree.specs.ResolvedTree.{Statement, ResolvedPartsTree, NoParts, Part, ResolvedFunctionTree}
+use Rattle.om_lower_rules.specs.Bodies.{BodySite, FunctionBody, Numbers, ParallelBody, TaskBody, all_regions, behind}
+use Rattle.om_lower_rules.specs.Bodies.{behind_all, function_bodies, function_variables, next_body, next_pick, parts_regions}
+use Rattle.om_lower_rules.specs.Bodies.{region_variables, regions}
 
 -- a body of this function, with few slots in the body round it
 abbrev pub IsRound : ResolvedFunctionTree → BodySite → Type 0

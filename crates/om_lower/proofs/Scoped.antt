@@ -1,41 +1,41 @@
 -- The scopes of each statement: of what is written before the statement in it, of that, and of what comes behind.
 use Rattle.std.proofs.Common.{◌≡◌, ℕ, ◌≤◌, List, Option, Bool, length, map, sym, subst}
 use Rattle.om_code.specs.declared.instruction.Instr.{Instr}
-use Rattle.om_statements.specs.Drafts.{Labels, Written, Defines, Puts}
-use Rattle.om_statements.specs.Emits.{Finished, Writes, Goes, Emits, site}
+use Rattle.om_lower_emit.specs.Drafts.{Labels, Written, Defines, Puts}
+use Rattle.om_lower_emit.specs.Emits.{Finished, Writes, Goes, Emits, site}
 use Rattle.om_lexer.specs.declared.token.Span.{Span}
-use Rattle.om_resolved.specs.declared.resolved.ConstructKind.{ConstructKind}
-use Rattle.om_resolved.specs.declared.resolved.ConstructKind.TheVariants as constructs
-use Rattle.om_resolved.specs.ResolvedTree.{ResolvedExpressionTree, ResolvedClauseTree}
-use Rattle.om_resolved.specs.ResolvedTree.{ResolvedLoopTree, ResolvedStartTree, ResolvedStatementTree, If, IfElse, While}
-use Rattle.om_resolved.specs.declared.resolved.ResolvedClause.{ResolvedClause}
-use Rattle.om_resolved.specs.declared.resolved.ResolvedPart.{ResolvedPart}
-use Rattle.om_resolved.specs.ResolvedTree as trees
-use Rattle.om_resolved.specs.ResolvedTree.{Do, For, Loop, Sections, Construct, ResolvedPartsTree}
-use Rattle.om_resolved.specs.ResolvedView as view
-use Rattle.om_resolved.specs.ResolvedTree.{ResolvedStatementsTree}
-use Rattle.om_rows.specs.Bodies.{Numbers}
-use Rattle.om_rows.specs.Expressions.{effect}
-use Rattle.om_rows.specs.Rows.{Site, Row, end, part, ◌▸◌, perhaps}
-use Rattle.om_rows.specs.Scopes as rows
-use Rattle.om_rows.specs.Scopes.{Scoping, plain, after, before, both, block, instructions, tested}
-use Rattle.om_rows.specs.Scopes.{stands, construct_head}
-use Rattle.om_rows.specs.Scopes.{construct_scopes, loop_head, sections_head, for_head, scopes, all_scopes}
-use Rattle.om_rows.specs.Scopes.{part_scopes}
-use Rattle.om_rows.specs.Statements.{closes, statement}
-use Rattle.om_statements.specs.declared.spot.JumpLabels.{JumpLabels}
-use Rattle.om_statements.specs.declared.spot.LoopLabels.{LoopLabels}
-use Rattle.om_statements.specs.declared.spot.TurnLabels.{TurnLabels}
-use Rattle.om_statements.specs.declared.writing.ScopeStack.{ScopeStack}
-use Rattle.om_statements.specs.Statements.{jumps_at}
-use Rattle.om_statements.specs.Going.{writes_then}
-use Rattle.om_statements.specs.Scoped.{EndsScopes, ScopesStand}
-use Rattle.om_statements.specs.Scoping.{stand_after, stand_ahead, stand_before, stand_behind, stand_block}
-use Rattle.om_statements.specs.Scoping.{stand_both, stand_plain, writes_as, writes_behind}
-use Rattle.om_statements.specs.Scoping.{ScopesOn, scopes_end, scopes_next, writes_here, writes_put}
-use Rattle.om_statements.specs.Stretches.{Begins, BeginsTurn, Opens, construct_end, do_begin, do_end}
-use Rattle.om_statements.specs.Stretches.{else_begin, for_end, IsNoAtomic, loop_end, test_at, while_begin}
-use Rattle.om_rows.specs.Numbered.{Numbered}
+use Rattle.om_scope_tree.specs.declared.resolved.ConstructKind.{ConstructKind}
+use Rattle.om_scope_tree.specs.declared.resolved.ConstructKind.TheVariants as constructs
+use Rattle.om_scope_tree.specs.ResolvedTree.{ResolvedExpressionTree, ResolvedClauseTree}
+use Rattle.om_scope_tree.specs.ResolvedTree.{ResolvedLoopTree, ResolvedStartTree, ResolvedStatementTree, If, IfElse, While}
+use Rattle.om_scope_tree.specs.declared.resolved.ResolvedClause.{ResolvedClause}
+use Rattle.om_scope_tree.specs.declared.resolved.ResolvedPart.{ResolvedPart}
+use Rattle.om_scope_tree.specs.ResolvedTree as trees
+use Rattle.om_scope_tree.specs.ResolvedTree.{Do, For, Loop, Sections, Construct, ResolvedPartsTree}
+use Rattle.om_scope_tree.specs.ResolvedView as view
+use Rattle.om_scope_tree.specs.ResolvedTree.{ResolvedStatementsTree}
+use Rattle.om_lower_rules.specs.Bodies.{Numbers}
+use Rattle.om_lower_rules.specs.Expressions.{effect}
+use Rattle.om_lower_rules.specs.Rows.{Site, Row, end, part, ◌▸◌, perhaps}
+use Rattle.om_lower_rules.specs.Scopes as rows
+use Rattle.om_lower_rules.specs.Scopes.{Scoping, plain, after, before, both, block, instructions, tested}
+use Rattle.om_lower_rules.specs.Scopes.{stands, construct_head}
+use Rattle.om_lower_rules.specs.Scopes.{construct_scopes, loop_head, sections_head, for_head, scopes, all_scopes}
+use Rattle.om_lower_rules.specs.Scopes.{part_scopes}
+use Rattle.om_lower_rules.specs.Statements.{closes, statement}
+use Rattle.om_lower_emit.specs.declared.spot.JumpLabels.{JumpLabels}
+use Rattle.om_lower_emit.specs.declared.spot.LoopLabels.{LoopLabels}
+use Rattle.om_lower_emit.specs.declared.spot.TurnLabels.{TurnLabels}
+use Rattle.om_lower_emit.specs.declared.writing.ScopeStack.{ScopeStack}
+use Rattle.om_lower_emit.specs.Statements.{jumps_at}
+use Rattle.om_lower_emit.specs.Going.{writes_then}
+use Rattle.om_lower_emit.specs.Scoped.{EndsScopes, ScopesStand}
+use Rattle.om_lower_emit.specs.Scoping.{stand_after, stand_ahead, stand_before, stand_behind, stand_block}
+use Rattle.om_lower_emit.specs.Scoping.{stand_both, stand_plain, writes_as, writes_behind}
+use Rattle.om_lower_emit.specs.Scoping.{ScopesOn, scopes_end, scopes_next, writes_here, writes_put}
+use Rattle.om_lower_emit.specs.Stretches.{Begins, BeginsTurn, Opens, construct_end, do_begin, do_end}
+use Rattle.om_lower_emit.specs.Stretches.{else_begin, for_end, IsNoAtomic, loop_end, test_at, while_begin}
+use Rattle.om_lower_rules.specs.Numbered.{Numbered}
 
 module _ (names : Numbered) where
   abbrev Stand : (Site → Scoping) → Written → ScopeStack → Written → ScopeStack → Type 0

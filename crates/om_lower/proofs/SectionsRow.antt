@@ -4,25 +4,25 @@ use Rattle.std.proofs.Common.{refl, sym, ap, ◌∙◌, subst, arith}
 use Rattle.std.specs.Prelude.{slice_get}
 use Rattle.std.proofs.lemmas.List.{length-map}
 use Rattle.om_code.specs.declared.instruction.Instr.TheVariants as i
-use Rattle.om_statements.specs.Drafts.{Labels, Written, Defines, labels_from}
-use Rattle.om_statements.specs.Emits.{Finished, Goes, site, Emits}
+use Rattle.om_lower_emit.specs.Drafts.{Labels, Written, Defines, labels_from}
+use Rattle.om_lower_emit.specs.Emits.{Finished, Goes, site, Emits}
 use Rattle.om_lexer.specs.declared.token.Span.{Span}
-use Rattle.om_resolved.specs.declared.resolved.ResolvedPart.{ResolvedPart}
-use Rattle.om_resolved.specs.ResolvedTree as trees
-use Rattle.om_resolved.specs.ResolvedTree.{ResolvedClauseTree, ResolvedPartsTree, Sections}
-use Rattle.om_resolved.specs.ResolvedView as view
-use Rattle.om_rows.specs.Bodies.{Numbers, next_pick}
-use Rattle.om_rows.specs.Rows.{end, here, part}
-use Rattle.om_rows.specs.Statements.{closes, parts}
+use Rattle.om_scope_tree.specs.declared.resolved.ResolvedPart.{ResolvedPart}
+use Rattle.om_scope_tree.specs.ResolvedTree as trees
+use Rattle.om_scope_tree.specs.ResolvedTree.{ResolvedClauseTree, ResolvedPartsTree, Sections}
+use Rattle.om_scope_tree.specs.ResolvedView as view
+use Rattle.om_lower_rules.specs.Bodies.{Numbers, next_pick}
+use Rattle.om_lower_rules.specs.Rows.{end, here, part}
+use Rattle.om_lower_rules.specs.Statements.{closes, parts}
 use Rattle.om_lower.specs.declared.worksharing.PartsSpot.{PartsSpot}
-use Rattle.om_statements.specs.declared.spot.JumpLabels.{JumpLabels}
-use Rattle.om_statements.specs.Statements.{EmitsStatement, GoesWith}
+use Rattle.om_lower_emit.specs.declared.spot.JumpLabels.{JumpLabels}
+use Rattle.om_lower_emit.specs.Statements.{EmitsStatement, GoesWith}
 use Rattle.om_lower.specs.Parts.{EmitsParts, GoesParts, OpensParts, PartHead, head_row}
 use Rattle.om_lower.specs.Parts.{part_labels}
-use Rattle.om_statements.specs.Going.{goes_place, goes_then, then_with, with_as, with_behind}
-use Rattle.om_rows.specs.Numbered.{Numbered}
-use Rattle.om_rows.specs.Numbering.{numbers_of}
-use Rattle.om_rows.specs.Picks.{parts_own_picks}
+use Rattle.om_lower_emit.specs.Going.{goes_place, goes_then, then_with, with_as, with_behind}
+use Rattle.om_lower_rules.specs.Numbered.{Numbered}
+use Rattle.om_lower_rules.specs.Numbering.{numbers_of}
+use Rattle.om_lower_rules.specs.Picks.{parts_own_picks}
 
 labels_length : (first count : ℕ) → length (labels_from first count) ≡ count
 labels_length first zero = refl

@@ -7,19 +7,19 @@ use Rattle.std.proofs.lemmas.Option.{slice_get_within}
 use Rattle.om_lower.proofs.Ascending.{body_table}
 use Rattle.om_lower.specs.declared.body.Emitted.{Emitted}
 use Rattle.om_lower.specs.Emitted.{EmitsBody, FitsRow, HasLists, HasRow, HasScopesRow}
-use Rattle.om_statements.specs.declared.draft.Pick.{Pick}
-use Rattle.om_statements.specs.Drafts.{Labels, Written, known, nothing, place_in, settled, settled_code}
-use Rattle.om_statements.specs.Emits.{Finished, Fits}
-use Rattle.om_statements.specs.Settled.{ListsStand, number_of, settled_list, settled_lists}
-use Rattle.om_resolved.specs.ResolvedTree.{ResolvedFunctionTree}
-use Rattle.om_rows.specs.Bodies.{BodyTree, FunctionBody, Numbers, ParallelBody, TaskBody}
-use Rattle.om_rows.specs.Code.{body_row}
-use Rattle.om_rows.specs.Rows.{Site}
-use Rattle.om_rows.specs.Scopes.{Found, body_scopes}
-use Rattle.om_statements.specs.declared.writing.ScopeStack.{ScopeStack}
-use Rattle.om_statements.specs.Statements.{pick_number}
-use Rattle.om_statements.specs.Scoped.{AreInside, ScopesStand}
-use Rattle.om_rows.specs.Numbered.{Numbered, site_with}
+use Rattle.om_lower_emit.specs.declared.draft.Pick.{Pick}
+use Rattle.om_lower_emit.specs.Drafts.{Labels, Written, known, nothing, place_in, settled, settled_code}
+use Rattle.om_lower_emit.specs.Emits.{Finished, Fits}
+use Rattle.om_lower_emit.specs.Settled.{ListsStand, number_of, settled_list, settled_lists}
+use Rattle.om_scope_tree.specs.ResolvedTree.{ResolvedFunctionTree}
+use Rattle.om_lower_rules.specs.Bodies.{BodyTree, FunctionBody, Numbers, ParallelBody, TaskBody}
+use Rattle.om_lower_rules.specs.Code.{body_row}
+use Rattle.om_lower_rules.specs.Rows.{Site}
+use Rattle.om_lower_rules.specs.Scopes.{Found, body_scopes}
+use Rattle.om_lower_emit.specs.declared.writing.ScopeStack.{ScopeStack}
+use Rattle.om_lower_emit.specs.Statements.{pick_number}
+use Rattle.om_lower_emit.specs.Scoped.{AreInside, ScopesStand}
+use Rattle.om_lower_rules.specs.Numbered.{Numbered, site_with}
 
 get_map : {A B : Type 0} → (f : A → B) (xs : List A) (k : ℕ) (x : A) → slice_get xs k ≡ Some x
     → slice_get (map f xs) k ≡ Some (f x)

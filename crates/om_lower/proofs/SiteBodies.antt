@@ -4,10 +4,10 @@ use Rattle.std.proofs.Common.{slice_get, get_or, refl, ap, subst, sym, ◌∙◌
 use Rattle.om_lower.specs.declared.bodies.Bodies.{Bodies}
 use Rattle.om_lower.specs.Made.{AddsBody}
 use Rattle.om_lower.proofs.Items.{all_taken, item_get, take_pushed}
-use Rattle.om_resolved.specs.ResolvedTree.{ResolvedTree}
-use Rattle.om_rows.specs.Bodies.{BodySite}
-use Rattle.om_sights.specs.declared.sites.Site.{Site}
-use Rattle.om_sights.specs.Sites.{bodies_in, body_in, body_round, round_behind, round_with}
+use Rattle.om_scope_tree.specs.ResolvedTree.{ResolvedTree}
+use Rattle.om_lower_rules.specs.Bodies.{BodySite}
+use Rattle.om_lower_tables.specs.declared.sites.Site.{Site}
+use Rattle.om_lower_tables.specs.Sites.{bodies_in, body_in, body_round, round_behind, round_with}
 
 behind_append : (round : List (List ℕ)) (xs ys : List Site)
     → round_behind round (xs ++ ys) ≡ round_behind (round_behind round xs) ys

@@ -1,7 +1,7 @@
 -- The slots of a frame.
 use Rattle.std.proofs.Common.{◌≡◌, ℕ, List, [], ◌∷◌, map, refl, ap, ◌∙◌}
-use Rattle.om_resolved.specs.declared.resolved.Capture.{Capture}
-use Rattle.om_rows.specs.Slots.{Extent, cells_in, slot_with, source_of}
+use Rattle.om_scope_tree.specs.declared.resolved.Capture.{Capture}
+use Rattle.om_lower_rules.specs.Slots.{Extent, cells_in, slot_with, source_of}
 
 -- two tables in which each variable has as many cells
 pub slots_same : (one other : List Extent) (outer : List ℕ) (captures : List Capture) (variables : List ℕ)

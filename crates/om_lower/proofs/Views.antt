@@ -1,12 +1,12 @@
 -- What a statement with a statement in it is as a tree.
 use Rattle.std.proofs.Common.{◌≡◌, map, option_map, sym, ap, ◌∙◌}
-use Rattle.om_resolved.specs.declared.resolved.ResolvedStatement.{fold-roll-ResolvedStatement}
-use Rattle.om_resolved.specs.declared.resolved.ResolvedStatement.TheOpen.{ResolvedStatement-F}
-use Rattle.om_resolved.specs.declared.resolved.ResolvedStatement.TheVariants as v
-use Rattle.om_resolved.specs.ResolvedTree as trees
-use Rattle.om_resolved.specs.ResolvedTree.{ResolvedStatementTree, ResolvedStatementsTree}
-use Rattle.om_resolved.specs.ResolvedView.{part_layer, statement_layer}
-use Rattle.om_resolved.specs.ResolvedView as view
+use Rattle.om_scope_tree.specs.declared.resolved.ResolvedStatement.{fold-roll-ResolvedStatement}
+use Rattle.om_scope_tree.specs.declared.resolved.ResolvedStatement.TheOpen.{ResolvedStatement-F}
+use Rattle.om_scope_tree.specs.declared.resolved.ResolvedStatement.TheVariants as v
+use Rattle.om_scope_tree.specs.ResolvedTree as trees
+use Rattle.om_scope_tree.specs.ResolvedTree.{ResolvedStatementTree, ResolvedStatementsTree}
+use Rattle.om_scope_tree.specs.ResolvedView.{part_layer, statement_layer}
+use Rattle.om_scope_tree.specs.ResolvedView as view
 
 pub view_if : (at : _) (c : _) (s : _) → view.statement (v.If at c s)
     ≡ trees.If at (view.expression c) (view.statement s.value)

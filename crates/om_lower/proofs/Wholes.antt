@@ -4,29 +4,29 @@ use Rattle.om_lower.specs.Emitted.{EmitsBody, EmitsRegion}
 use Rattle.om_code.specs.declared.instruction.Barrier.TheVariants as barriers
 use Rattle.om_code.specs.declared.instruction.Instr.{Instr}
 use Rattle.om_code.specs.declared.instruction.Instr.TheVariants as i
-use Rattle.om_statements.specs.Drafts.{Labels, Puts, Written}
-use Rattle.om_statements.specs.Emits.{Emits, EmitsRow, Finished, Goes, Part, site}
-use Rattle.om_statements.specs.Writing.{goes_end, goes_put}
+use Rattle.om_lower_emit.specs.Drafts.{Labels, Puts, Written}
+use Rattle.om_lower_emit.specs.Emits.{Emits, EmitsRow, Finished, Goes, Part, site}
+use Rattle.om_lower_emit.specs.Writing.{goes_end, goes_put}
 use Rattle.om_lexer.specs.declared.token.Span.{Span}
-use Rattle.om_resolved.specs.declared.resolved.Capture.{Capture}
-use Rattle.om_resolved.specs.ResolvedTree.{ResolvedClauseTree, ResolvedFunctionTree, ResolvedStatementTree}
-use Rattle.om_resolved.specs.ResolvedTree.{ResolvedStatementsTree}
-use Rattle.om_rows.specs.Bodies.{FunctionBody, ParallelBody, TaskBody}
-use Rattle.om_rows.specs.Rows.{end, ins, part}
-use Rattle.om_rows.specs.Statements.{last_instruction, nowhere, reduction_starts, reductions, statement, statements}
-use Rattle.om_statements.specs.declared.spot.JumpLabels.{JumpLabels}
-use Rattle.om_statements.specs.declared.spot.Spot.{Spot}
-use Rattle.om_statements.specs.Statements.{EmitsStatement, EmitsStatements, EmitsWith}
-use Rattle.om_resolved.specs.declared.resolved.LocalVariable.{LocalVariable}
-use Rattle.om_rows.specs.Scopes.{after, all_scopes, before, block, body_scopes, both, each_scope, instructions}
-use Rattle.om_rows.specs.Scopes.{parameter_scope, scopes, task_scope, team_scope}
-use Rattle.om_statements.specs.declared.writing.ScopeStack.{ScopeStack}
-use Rattle.om_statements.specs.Going.{before_with, goes_then, with_as, with_behind, writes_then}
-use Rattle.om_statements.specs.Scoped.{EndsScopes, ScopesStand}
-use Rattle.om_statements.specs.Scoping.{stand_after, stand_before, stand_block, stand_both, writes_as, writes_put}
-use Rattle.om_rows.specs.declared.numbers.Numbers as tables
-use Rattle.om_rows.specs.Numbered.{Numbered}
-use Rattle.om_rows.specs.Numbering.{numbers_of}
+use Rattle.om_scope_tree.specs.declared.resolved.Capture.{Capture}
+use Rattle.om_scope_tree.specs.ResolvedTree.{ResolvedClauseTree, ResolvedFunctionTree, ResolvedStatementTree}
+use Rattle.om_scope_tree.specs.ResolvedTree.{ResolvedStatementsTree}
+use Rattle.om_lower_rules.specs.Bodies.{FunctionBody, ParallelBody, TaskBody}
+use Rattle.om_lower_rules.specs.Rows.{end, ins, part}
+use Rattle.om_lower_rules.specs.Statements.{last_instruction, nowhere, reduction_starts, reductions, statement, statements}
+use Rattle.om_lower_emit.specs.declared.spot.JumpLabels.{JumpLabels}
+use Rattle.om_lower_emit.specs.declared.spot.Spot.{Spot}
+use Rattle.om_lower_emit.specs.Statements.{EmitsStatement, EmitsStatements, EmitsWith}
+use Rattle.om_scope_tree.specs.declared.resolved.LocalVariable.{LocalVariable}
+use Rattle.om_lower_rules.specs.Scopes.{after, all_scopes, before, block, body_scopes, both, each_scope, instructions}
+use Rattle.om_lower_rules.specs.Scopes.{parameter_scope, scopes, task_scope, team_scope}
+use Rattle.om_lower_emit.specs.declared.writing.ScopeStack.{ScopeStack}
+use Rattle.om_lower_emit.specs.Going.{before_with, goes_then, with_as, with_behind, writes_then}
+use Rattle.om_lower_emit.specs.Scoped.{EndsScopes, ScopesStand}
+use Rattle.om_lower_emit.specs.Scoping.{stand_after, stand_before, stand_block, stand_both, writes_as, writes_put}
+use Rattle.om_lower_rules.specs.declared.numbers.Numbers as tables
+use Rattle.om_lower_rules.specs.Numbered.{Numbered}
+use Rattle.om_lower_rules.specs.Numbering.{numbers_of}
 
 -- outside of loops
 abbrev no_jumps : JumpLabels

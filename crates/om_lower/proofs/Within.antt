@@ -4,21 +4,21 @@ use Rattle.std.proofs.Common.{◌≡◌, ◌≤◌, ◌<◌, ℕ, ◌+◌, ◌*�
 use Rattle.std.proofs.Common.{◌∙◌, subst, arith}
 use denote.Param.Weighed.{at_most, most}
 use Rattle.std.specs.Prelude.{is_some}
-use Rattle.om_statements.specs.declared.spot.Spot.{Spot}
-use Rattle.om_statements.specs.Stretches.{IsNoAtomic}
-use Rattle.om_resolved.specs.declared.resolved.ConstructKind.{ConstructKind}
-use Rattle.om_resolved.specs.declared.resolved.ResolvedPart.{ResolvedPart}
-use Rattle.om_resolved.specs.declared.resolved.ResolvedStatement.{ResolvedStatement}
-use Rattle.om_resolved.specs.declared.resolved.ResolvedStatement.TheVariants as v
-use Rattle.om_resolved.specs.declared.resolved.ResolvedStatement.TheViews.{size-ResolvedPart, size-ResolvedStatement}
-use Rattle.om_resolved.specs.declared.resolved.ResolvedStatement.TheViews.{sized-Block, sized-Sections}
-use Rattle.om_resolved.specs.ResolvedTree as trees
-use Rattle.om_resolved.specs.ResolvedView as view
-use Rattle.om_rows.specs.Bodies.{Numbers, behind, next_pick}
-use Rattle.om_rows.specs.Coded.{PartsHaveCode, StatementHasCode, StatementsHaveCode}
-use Rattle.om_rows.specs.declared.numbers.Numbers as tables
-use Rattle.om_rows.specs.Ends.{HasAllEnds, HasEnds, HasPartsEnds, KnownBodies}
-use Rattle.om_rows.specs.Numbering.{numbers_of}
+use Rattle.om_lower_emit.specs.declared.spot.Spot.{Spot}
+use Rattle.om_lower_emit.specs.Stretches.{IsNoAtomic}
+use Rattle.om_scope_tree.specs.declared.resolved.ConstructKind.{ConstructKind}
+use Rattle.om_scope_tree.specs.declared.resolved.ResolvedPart.{ResolvedPart}
+use Rattle.om_scope_tree.specs.declared.resolved.ResolvedStatement.{ResolvedStatement}
+use Rattle.om_scope_tree.specs.declared.resolved.ResolvedStatement.TheVariants as v
+use Rattle.om_scope_tree.specs.declared.resolved.ResolvedStatement.TheViews.{size-ResolvedPart, size-ResolvedStatement}
+use Rattle.om_scope_tree.specs.declared.resolved.ResolvedStatement.TheViews.{sized-Block, sized-Sections}
+use Rattle.om_scope_tree.specs.ResolvedTree as trees
+use Rattle.om_scope_tree.specs.ResolvedView as view
+use Rattle.om_lower_rules.specs.Bodies.{Numbers, behind, next_pick}
+use Rattle.om_lower_rules.specs.Coded.{PartsHaveCode, StatementHasCode, StatementsHaveCode}
+use Rattle.om_lower_rules.specs.declared.numbers.Numbers as tables
+use Rattle.om_lower_rules.specs.Ends.{HasAllEnds, HasEnds, HasPartsEnds, KnownBodies}
+use Rattle.om_lower_rules.specs.Numbering.{numbers_of}
 use Rattle.om_lower.proofs.Inside.{code_at, construct_code, construct_inside, do_code, do_inside, else_inside, sections_code}
 use Rattle.om_lower.proofs.Inside.{for_code, for_inside, if_code, if_else_code, if_inside, loop_code, loop_inside}
 use Rattle.om_lower.proofs.Inside.{then_inside, while_code, while_inside}

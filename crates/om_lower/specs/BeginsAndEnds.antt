@@ -1,25 +1,25 @@
 -- What is promised of the heads and the ends of `if`, of loops and of worksharing constructs.
 use Rattle.std.specs.Prelude.{ℕ, Bool, IfOk, List, Option, Result, map, option_map}
-use Rattle.om_statements.specs.declared.here.Here.{Here}
-use Rattle.om_statements.specs.Drafts.{Written}
-use Rattle.om_statements.specs.Emits.{Appends, names_at}
+use Rattle.om_lower_emit.specs.declared.here.Here.{Here}
+use Rattle.om_lower_emit.specs.Drafts.{Written}
+use Rattle.om_lower_emit.specs.Emits.{Appends, names_at}
 use Rattle.om_lower.specs.Parts.{OpensParts, part_head}
 use Rattle.om_lower.specs.declared.worksharing.PartsSpot.{PartsSpot}
 use Rattle.om_lower.specs.declared.worksharing.SectionsHead.{SectionsHead}
-use Rattle.om_resolved.specs.declared.resolved.ResolvedClause.{ResolvedClause}
-use Rattle.om_resolved.specs.declared.resolved.ResolvedExpression.{ResolvedExpression}
-use Rattle.om_resolved.specs.declared.resolved.ResolvedLoop.{ResolvedLoop}
-use Rattle.om_resolved.specs.declared.resolved.ResolvedStart.{ResolvedStart}
-use Rattle.om_resolved.specs.ResolvedView as view
-use Rattle.om_rows.specs.Numbered.{Numbered}
-use Rattle.om_rows.specs.Scopes.{for_head, loop_head, sections_head}
-use Rattle.om_rows.specs.Statements.{closes}
-use Rattle.om_statements.specs.Scoped.{AppendsScopes}
-use Rattle.om_statements.specs.Stretches.{AppendsEnd, AppendsHead, Begins, BeginsTurn, Ends, Opens, do_end, else_begin}
-use Rattle.om_statements.specs.Stretches.{for_begin, for_end, loop_end, test_at, while_begin, worksharing_begin}
-use Rattle.om_statements.specs.declared.spot.LoopLabels.{LoopLabels}
-use Rattle.om_statements.specs.declared.spot.TurnLabels.{TurnLabels}
-use Rattle.om_statements.specs.declared.writing.Writing.{Writing}
+use Rattle.om_scope_tree.specs.declared.resolved.ResolvedClause.{ResolvedClause}
+use Rattle.om_scope_tree.specs.declared.resolved.ResolvedExpression.{ResolvedExpression}
+use Rattle.om_scope_tree.specs.declared.resolved.ResolvedLoop.{ResolvedLoop}
+use Rattle.om_scope_tree.specs.declared.resolved.ResolvedStart.{ResolvedStart}
+use Rattle.om_scope_tree.specs.ResolvedView as view
+use Rattle.om_lower_rules.specs.Numbered.{Numbered}
+use Rattle.om_lower_rules.specs.Scopes.{for_head, loop_head, sections_head}
+use Rattle.om_lower_rules.specs.Statements.{closes}
+use Rattle.om_lower_emit.specs.Scoped.{AppendsScopes}
+use Rattle.om_lower_emit.specs.Stretches.{AppendsEnd, AppendsHead, Begins, BeginsTurn, Ends, Opens, do_end, else_begin}
+use Rattle.om_lower_emit.specs.Stretches.{for_begin, for_end, loop_end, test_at, while_begin, worksharing_begin}
+use Rattle.om_lower_emit.specs.declared.spot.LoopLabels.{LoopLabels}
+use Rattle.om_lower_emit.specs.declared.spot.TurnLabels.{TurnLabels}
+use Rattle.om_lower_emit.specs.declared.writing.Writing.{Writing}
 
 -- ---- each is written where `here` or a line says, unless memory runs out
 

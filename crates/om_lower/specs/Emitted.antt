@@ -2,31 +2,31 @@
 use Rattle.std.specs.Prelude.{◌≡◌, ◌<◌, ◌≤◌, ℕ, List, [], OnOk, Option, None, Result, Some, length, map}
 use Rattle.om_code.specs.declared.raw.Line.{Line}
 use Rattle.om_lower.specs.declared.body.Emitted.{Emitted}
-use Rattle.om_statements.specs.Drafts.{Written}
-use Rattle.om_statements.specs.Emits.{site}
-use Rattle.om_statements.specs.Settled.{ListsStand, number_of}
-use Rattle.om_resolved.specs.declared.resolved.ResolvedFunction.{ResolvedFunction}
-use Rattle.om_resolved.specs.ResolvedTree.{ResolvedFunctionTree}
-use Rattle.om_resolved.specs.ResolvedView as view
-use Rattle.om_rows.specs.Bodies.{BodyTree, FunctionBody, Numbers}
-use Rattle.om_rows.specs.BodyTables.{numbered_by}
-use Rattle.om_rows.specs.Code.{body_row}
-use Rattle.om_rows.specs.Coded.{BodyHasCode}
-use Rattle.om_rows.specs.Ends.{HasBodyEnds}
-use Rattle.om_rows.specs.Numbering.{numbers_of}
-use Rattle.om_rows.specs.ProgramTables.{known_in}
-use Rattle.om_rows.specs.Scopes.{body_scopes}
-use Rattle.om_rows.specs.declared.body.BodyTables.{BodyTables}
-use Rattle.om_rows.specs.declared.copies.Region.{Region}
-use Rattle.om_rows.specs.declared.numbers.Numbers as tables
-use Rattle.om_sights.specs.Regions.{parallel_tree, task_tree}
-use Rattle.om_sights.specs.Sites.{body_in}
-use Rattle.om_sights.specs.declared.sites.Site.{Site}
-use Rattle.om_statements.specs.declared.writing.Writing.{Writing}
-use Rattle.om_statements.specs.Statements.{EmitsWith}
-use Rattle.om_statements.specs.Scoped.{AreInside, EmitsScopes}
-use Rattle.om_rows.specs.Numbered.{Numbered, site_with}
-use Rattle.om_rows.specs.Picks.{body_picks}
+use Rattle.om_lower_emit.specs.Drafts.{Written}
+use Rattle.om_lower_emit.specs.Emits.{site}
+use Rattle.om_lower_emit.specs.Settled.{ListsStand, number_of}
+use Rattle.om_scope_tree.specs.declared.resolved.ResolvedFunction.{ResolvedFunction}
+use Rattle.om_scope_tree.specs.ResolvedTree.{ResolvedFunctionTree}
+use Rattle.om_scope_tree.specs.ResolvedView as view
+use Rattle.om_lower_rules.specs.Bodies.{BodyTree, FunctionBody, Numbers}
+use Rattle.om_lower_rules.specs.BodyTables.{numbered_by}
+use Rattle.om_lower_rules.specs.Code.{body_row}
+use Rattle.om_lower_rules.specs.Coded.{BodyHasCode}
+use Rattle.om_lower_rules.specs.Ends.{HasBodyEnds}
+use Rattle.om_lower_rules.specs.Numbering.{numbers_of}
+use Rattle.om_lower_rules.specs.ProgramTables.{known_in}
+use Rattle.om_lower_rules.specs.Scopes.{body_scopes}
+use Rattle.om_lower_rules.specs.declared.body.BodyTables.{BodyTables}
+use Rattle.om_lower_rules.specs.declared.copies.Region.{Region}
+use Rattle.om_lower_rules.specs.declared.numbers.Numbers as tables
+use Rattle.om_lower_tables.specs.Regions.{parallel_tree, task_tree}
+use Rattle.om_lower_tables.specs.Sites.{body_in}
+use Rattle.om_lower_tables.specs.declared.sites.Site.{Site}
+use Rattle.om_lower_emit.specs.declared.writing.Writing.{Writing}
+use Rattle.om_lower_emit.specs.Statements.{EmitsWith}
+use Rattle.om_lower_emit.specs.Scoped.{AreInside, EmitsScopes}
+use Rattle.om_lower_rules.specs.Numbered.{Numbered, site_with}
+use Rattle.om_lower_rules.specs.Picks.{body_picks}
 
 -- the row of a body stands in its code, wherever its lists of PICK stand in the program
 abbrev pub HasRow : Numbered → Numbers → ResolvedFunctionTree → BodyTree → Emitted → Type 0

@@ -2,10 +2,10 @@
 use Rattle.std.specs.Prelude.{◌≡◌, ◌<◌, ◌≤◌, ◌⊎◌, ℕ, List, Option, None, Some, length, map}
 use Rattle.om_code.specs.declared.raw.Slot.{Slot}
 use Rattle.om_lower.specs.Limits.{frame_cells}
-use Rattle.om_resolved.specs.declared.resolved.Capture.{Capture}
-use Rattle.om_rows.specs.Bodies.{BodySite, variables_of}
-use Rattle.om_rows.specs.Code.{slots_of}
-use Rattle.om_rows.specs.Slots.{Extent, slot_with}
+use Rattle.om_scope_tree.specs.declared.resolved.Capture.{Capture}
+use Rattle.om_lower_rules.specs.Bodies.{BodySite, variables_of}
+use Rattle.om_lower_rules.specs.Code.{slots_of}
+use Rattle.om_lower_rules.specs.Slots.{Extent, slot_with}
 
 -- these slots, at most 256 of them with at most 4,096 cells, or none where a limit is passed
 abbrev pub FitsFrame : (variables : List ℕ) → (slots : List Slot) → Option (List Slot) → Type 0

@@ -2,7 +2,7 @@
 use Rattle.std.specs.Prelude.{◌≡◌, ◌≤◌, ◌<◌, ℕ, List, Option, None, Some, All, Any, slice_get, take, length}
 use Rattle.om_code.specs.declared.raw.Body.{Body}
 use Rattle.om_code.specs.Validity.{IsLow}
-use Rattle.om_rows.specs.Laws.{IsLevel}
+use Rattle.om_lower_rules.specs.Laws.{IsLevel}
 
 -- level code of at most 65,536 instructions
 pub record IsLevelBody (picks : List (List ℕ)) (body : Body) : Type 0 where

@@ -7,17 +7,17 @@ use Rattle.om_lower.specs.declared.input.Known.{Known}
 use Rattle.om_lower.specs.declared.input.SeenBody.{SeenBody}
 use Rattle.om_lower.specs.Made.{AddsBody}
 use Rattle.om_lower.specs.Ready.{IsReady}
-use Rattle.om_resolved.specs.Beside.{TreeCopiesBehind}
-use Rattle.om_resolved.specs.ResolvedTree.{ResolvedTree}
-use Rattle.om_resolved.specs.ResolvedView as view
-use Rattle.om_resolved.specs.Weights.{HasSmallWeight}
-use Rattle.om_resolved.specs.Whole.{IsWholeTree}
-use Rattle.om_rows.specs.Bodies.{BodySite, variables_of}
-use Rattle.om_rows.specs.Coded.{TreeHasCode}
-use Rattle.om_rows.specs.Ends.{KnownBodies}
-use Rattle.om_rows.specs.ProgramTables.{IsTablesOf, known_of}
-use Rattle.om_sights.specs.declared.sites.Site.{Site}
-use Rattle.om_sights.specs.Sites.{body_in, body_round}
+use Rattle.om_scope_tree.specs.Beside.{TreeCopiesBehind}
+use Rattle.om_scope_tree.specs.ResolvedTree.{ResolvedTree}
+use Rattle.om_scope_tree.specs.ResolvedView as view
+use Rattle.om_scope_tree.specs.Weights.{HasSmallWeight}
+use Rattle.om_scope_tree.specs.Whole.{IsWholeTree}
+use Rattle.om_lower_rules.specs.Bodies.{BodySite, variables_of}
+use Rattle.om_lower_rules.specs.Coded.{TreeHasCode}
+use Rattle.om_lower_rules.specs.Ends.{KnownBodies}
+use Rattle.om_lower_rules.specs.ProgramTables.{IsTablesOf, known_of}
+use Rattle.om_lower_tables.specs.declared.sites.Site.{Site}
+use Rattle.om_lower_tables.specs.Sites.{body_in, body_round}
 
 abbrev pub tree_of : Input → ResolvedTree
 tree_of input = view.resolved input.resolved.now

@@ -1,7 +1,7 @@
 -- No tree keeps the limits on bodies and passes one, and it has at most one fault by such a limit.
 use Rattle.std.specs.Prelude.{◌≡◌}
 use Rattle.om_lexer.specs.declared.fault.SourceFault.{SourceFault}
-use Rattle.om_resolved.specs.ResolvedTree.{ResolvedTree}
+use Rattle.om_scope_tree.specs.ResolvedTree.{ResolvedTree}
 use Rattle.om_lower.specs.Limits.{AreWithin, IsTooMany}
 
 -- No tree does both.

@@ -7,14 +7,14 @@ use Rattle.om_code.specs.declared.raw.Source.TheVariants.{Own, Outer}
 use Rattle.om_code.specs.Validity.{IsLow}
 use Rattle.om_lexer.specs.declared.fault.FaultCode.TheVariants.{TooMany}
 use Rattle.om_lexer.specs.declared.fault.SourceFault.{SourceFault}
-use Rattle.om_resolved.specs.ResolvedTree.{ResolvedFunctionTree, ResolvedTree}
-use Rattle.om_resolved.specs.Uses.{is_main_function}
-use Rattle.om_rows.specs.Bodies.{BodySite, behind_functions, bodies_from, bodies_of, first_numbers, function_bodies}
-use Rattle.om_rows.specs.Bodies.{variables_of}
-use Rattle.om_rows.specs.Code.{body_row, slots_of}
-use Rattle.om_rows.specs.declared.scope.VariableScope.{VariableScope}
-use Rattle.om_rows.specs.Scopes.{body_scopes}
-use Rattle.om_rows.specs.Numbered.{numbered_in, site_with}
+use Rattle.om_scope_tree.specs.ResolvedTree.{ResolvedFunctionTree, ResolvedTree}
+use Rattle.om_scope_tree.specs.Uses.{is_main_function}
+use Rattle.om_lower_rules.specs.Bodies.{BodySite, behind_functions, bodies_from, bodies_of, first_numbers, function_bodies}
+use Rattle.om_lower_rules.specs.Bodies.{variables_of}
+use Rattle.om_lower_rules.specs.Code.{body_row, slots_of}
+use Rattle.om_lower_rules.specs.declared.scope.VariableScope.{VariableScope}
+use Rattle.om_lower_rules.specs.Scopes.{body_scopes}
+use Rattle.om_lower_rules.specs.Numbered.{numbered_in, site_with}
 
 -- the cells that a frame has of its own for a slot
 abbrev pub cells_at : Source → (cells : ℕ) → ℕ

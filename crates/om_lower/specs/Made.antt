@@ -8,8 +8,8 @@ use Rattle.om_lower.specs.Emitted.{FitsRow}
 use Rattle.om_code.specs.declared.raw.Body.{Body}
 use Rattle.om_code.specs.declared.raw.Line.{Line}
 use Rattle.om_code.specs.declared.raw.Names.{Names}
-use Rattle.om_statements.specs.declared.draft.PickList.{PickList}
-use Rattle.om_statements.specs.Settled.{ListsStand, number_of}
+use Rattle.om_lower_emit.specs.declared.draft.PickList.{PickList}
+use Rattle.om_lower_emit.specs.Settled.{ListsStand, number_of}
 use Rattle.om_lower.specs.declared.bodies.Bodies.{Bodies}
 use Rattle.om_lower.specs.declared.functions.Lowered.{Lowered}
 use Rattle.om_lower.specs.declared.functions.Next.{Next}
@@ -17,23 +17,23 @@ use Rattle.om_lower.specs.declared.functions.Placed.{Placed}
 use Rattle.om_lower.specs.Heights.{AreLow, IsFirst}
 use Rattle.om_lower.specs.Limits.{AreScopesAt, HasRoom, IsCodeAt, IsOver}
 use Rattle.om_lower.specs.Once.{site_picks}
-use Rattle.om_rows.specs.declared.scope.VariableScope.{VariableScope}
-use Rattle.om_resolved.specs.ResolvedTree.{ResolvedFunctionTree, ResolvedTree}
-use Rattle.om_resolved.specs.Weights.{function_weight}
-use Rattle.om_sights.specs.Room.{HasNumbers}
-use Rattle.om_rows.specs.Bodies.{BodySite, Numbers, behind_function, behind_functions, bodies_from, first_numbers}
-use Rattle.om_rows.specs.Bodies.{function_bodies, variables_of}
-use Rattle.om_rows.specs.Code.{given_of, slots_of}
-use Rattle.om_rows.specs.Coded.{BodyHasCode}
-use Rattle.om_rows.specs.Scopes.{names_with}
-use Rattle.om_rows.specs.Positions.{StandsAt}
-use Rattle.om_resolved.specs.ResolvedView as view
-use Rattle.om_resolved.specs.Uses.{is_main_function}
-use Rattle.om_rows.specs.Numbered.{numbered_in}
-use Rattle.om_rows.specs.declared.tables.Tables.{Tables}
-use Rattle.om_rows.specs.Ends.{function_ends}
-use Rattle.om_rows.specs.Numbering.{numbers_of}
-use Rattle.om_rows.specs.ProgramTables.{AreCellsOf, ends_in}
+use Rattle.om_lower_rules.specs.declared.scope.VariableScope.{VariableScope}
+use Rattle.om_scope_tree.specs.ResolvedTree.{ResolvedFunctionTree, ResolvedTree}
+use Rattle.om_scope_tree.specs.Weights.{function_weight}
+use Rattle.om_lower_tables.specs.Room.{HasNumbers}
+use Rattle.om_lower_rules.specs.Bodies.{BodySite, Numbers, behind_function, behind_functions, bodies_from, first_numbers}
+use Rattle.om_lower_rules.specs.Bodies.{function_bodies, variables_of}
+use Rattle.om_lower_rules.specs.Code.{given_of, slots_of}
+use Rattle.om_lower_rules.specs.Coded.{BodyHasCode}
+use Rattle.om_lower_rules.specs.Scopes.{names_with}
+use Rattle.om_lower_rules.specs.Positions.{StandsAt}
+use Rattle.om_scope_tree.specs.ResolvedView as view
+use Rattle.om_scope_tree.specs.Uses.{is_main_function}
+use Rattle.om_lower_rules.specs.Numbered.{numbered_in}
+use Rattle.om_lower_rules.specs.declared.tables.Tables.{Tables}
+use Rattle.om_lower_rules.specs.Ends.{function_ends}
+use Rattle.om_lower_rules.specs.Numbering.{numbers_of}
+use Rattle.om_lower_rules.specs.ProgramTables.{AreCellsOf, ends_in}
 
 -- what names mean in a body, by its scopes, in every program that has these lists of PICK
 pub record AreNames (tree : ResolvedTree) (lists : List PickList) (b : BodySite) (code : List Line) (names : Names)

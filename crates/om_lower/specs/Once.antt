@@ -1,9 +1,9 @@
 -- Each number below a limit stands once.
 use Rattle.std.specs.Prelude.{◌≡◌, ◌+◌, ℕ, List, [], ◌∷◌, if◌then◌else◌, nat_eq, nat_lt}
 use Rattle.std.specs.List.{flat_map}
-use Rattle.om_resolved.specs.ResolvedTree.{ResolvedFunctionTree}
-use Rattle.om_rows.specs.Bodies.{BodySite, behind_functions, bodies_from, first_numbers}
-use Rattle.om_rows.specs.Picks.{body_picks}
+use Rattle.om_scope_tree.specs.ResolvedTree.{ResolvedFunctionTree}
+use Rattle.om_lower_rules.specs.Bodies.{BodySite, behind_functions, bodies_from, first_numbers}
+use Rattle.om_lower_rules.specs.Picks.{body_picks}
 
 -- how often a number stands among others
 abbrev pub count : ℕ → List ℕ → ℕ

@@ -1,18 +1,18 @@
 -- What is promised of the begin of a `sections`, and of its parts.
 use Rattle.std.specs.Prelude.{◌≡◌, ◌<◌, ◌≤◌, ℕ, ◌+◌, ◌^◌, List, [], ◌∷◌, None, Some, length, map, slice_get}
-use Rattle.om_statements.specs.Stretches.{sections_begin}
-use Rattle.om_statements.specs.Drafts.{Written, labels_from}
-use Rattle.om_statements.specs.Emits as emits
-use Rattle.om_statements.specs.Emits.{site}
-use Rattle.om_resolved.specs.ResolvedTree.{ResolvedClauseTree, ResolvedPartsTree, NoParts, Part}
-use Rattle.om_rows.specs.Bodies.{Numbers, next_pick}
-use Rattle.om_rows.specs.Statements.{parts}
+use Rattle.om_lower_emit.specs.Stretches.{sections_begin}
+use Rattle.om_lower_emit.specs.Drafts.{Written, labels_from}
+use Rattle.om_lower_emit.specs.Emits as emits
+use Rattle.om_lower_emit.specs.Emits.{site}
+use Rattle.om_scope_tree.specs.ResolvedTree.{ResolvedClauseTree, ResolvedPartsTree, NoParts, Part}
+use Rattle.om_lower_rules.specs.Bodies.{Numbers, next_pick}
+use Rattle.om_lower_rules.specs.Statements.{parts}
 use Rattle.om_lower.specs.declared.worksharing.PartsSpot.{PartsSpot}
-use Rattle.om_statements.specs.Statements.{GoesWith}
-use Rattle.om_rows.specs.declared.numbers.Numbers as tables
-use Rattle.om_rows.specs.Numbered.{Numbered}
-use Rattle.om_rows.specs.Numbering.{numbers_of}
-use Rattle.om_rows.specs.Picks.{parts_own_picks}
+use Rattle.om_lower_emit.specs.Statements.{GoesWith}
+use Rattle.om_lower_rules.specs.declared.numbers.Numbers as tables
+use Rattle.om_lower_rules.specs.Numbered.{Numbered}
+use Rattle.om_lower_rules.specs.Numbering.{numbers_of}
+use Rattle.om_lower_rules.specs.Picks.{parts_own_picks}
 
 -- ---- the begin
 

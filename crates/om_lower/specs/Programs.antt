@@ -3,10 +3,10 @@ use Rattle.std.specs.Prelude.{◌≡◌, ℕ, Any, IfSome, List, Option, option_
 use Rattle.std.specs.List.{flat_map}
 use Rattle.om_code.specs.declared.raw.Body.{Body}
 use Rattle.om_code.specs.declared.raw.Piece.{Piece}
-use Rattle.om_resolved.specs.ResolvedTree.{ResolvedTree}
-use Rattle.om_resolved.specs.Uses.{is_main_function}
-use Rattle.om_rows.specs.Bodies.{called_body}
-use Rattle.om_rows.specs.Mentions.{IsTextOf}
+use Rattle.om_scope_tree.specs.ResolvedTree.{ResolvedTree}
+use Rattle.om_scope_tree.specs.Uses.{is_main_function}
+use Rattle.om_lower_rules.specs.Bodies.{called_body}
+use Rattle.om_lower_rules.specs.Mentions.{IsTextOf}
 
 -- the bodies of functions, one behind the other
 abbrev pub flattened : List (List Body) → List Body

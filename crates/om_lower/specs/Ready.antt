@@ -1,11 +1,11 @@
 -- What is known of a body that is lowered next.
 use Rattle.std.specs.Prelude.{◌≡◌, ◌≤◌, ◌-◌, ℕ, List, Some, length, slice_get}
 use Rattle.om_lower.specs.Limits.{HasFewSlots}
-use Rattle.om_rows.specs.Bodies.{BodySite, variables_of}
-use Rattle.om_rows.specs.Coded.{BodyHasCode}
-use Rattle.om_rows.specs.Mentions.{extents_of}
-use Rattle.om_rows.specs.Slots.{Extent, cells_in}
-use Rattle.om_rows.specs.Ends.{HasBodyEnds, KnownBodies}
+use Rattle.om_lower_rules.specs.Bodies.{BodySite, variables_of}
+use Rattle.om_lower_rules.specs.Coded.{BodyHasCode}
+use Rattle.om_lower_rules.specs.Mentions.{extents_of}
+use Rattle.om_lower_rules.specs.Slots.{Extent, cells_in}
+use Rattle.om_lower_rules.specs.Ends.{HasBodyEnds, KnownBodies}
 
 -- the variables of a body stand in a table of those of bodies, at its number: the one before those at its begin
 pub record IsListed (slots : List (List ℕ)) (b : BodySite) : Type 0 where

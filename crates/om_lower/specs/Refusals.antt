@@ -4,7 +4,7 @@ use Rattle.om_lexer.specs.Faults.{no_memory}
 use Rattle.om_lexer.specs.declared.fault.FaultCode.TheVariants.{TooMany}
 use Rattle.om_lexer.specs.declared.fault.SourceFault.{SourceFault}
 use Rattle.om_lower.specs.Limits.{IsTooMany}
-use Rattle.om_resolved.specs.ResolvedTree.{ResolvedFunctionTree, ResolvedTree}
+use Rattle.om_scope_tree.specs.ResolvedTree.{ResolvedFunctionTree, ResolvedTree}
 
 -- S11 at the function's name
 abbrev pub too_many : ResolvedFunctionTree → SourceFault

@@ -1,29 +1,29 @@
 -- What is promised of what stands in the place of a `parallel` or a `task`.
 use Rattle.std.specs.Prelude.{◌≡◌, ℕ, List, IfOk, OnOk, Result, map}
-use Rattle.om_resolved.specs.declared.resolved.ResolvedClause.{ResolvedClause}
-use Rattle.om_resolved.specs.ResolvedTree.{ResolvedClauseTree, ResolvedStatementTree}
-use Rattle.om_resolved.specs.ResolvedTree as trees
-use Rattle.om_resolved.specs.ResolvedView as view
-use Rattle.om_rows.specs.Bodies as rows
-use Rattle.om_rows.specs.BodyTables.{numbered_by}
-use Rattle.om_rows.specs.Copies.{first_copies_of}
-use Rattle.om_rows.specs.Ends.{IsKnown}
-use Rattle.om_rows.specs.Expressions.{value}
-use Rattle.om_rows.specs.Numbering.{numbers_of}
-use Rattle.om_rows.specs.ProgramTables.{known_in}
-use Rattle.om_rows.specs.Slots.{FirstCopy}
-use Rattle.om_rows.specs.Rows.{each, perhaps}
-use Rattle.om_rows.specs.Statements.{given_copies, load_original}
-use Rattle.om_rows.specs.declared.body.BodyTables.{BodyTables}
-use Rattle.om_rows.specs.declared.numbers.Numbers.{Numbers}
-use Rattle.om_rows.specs.declared.copies.FirstCopy as copies
-use Rattle.om_rows.specs.declared.copies.Region.{Region}
-use Rattle.om_statements.specs.Drafts.{Written}
-use Rattle.om_statements.specs.declared.here.Here.{Here}
-use Rattle.om_statements.specs.Emits.{Appends, EmitsRow}
-use Rattle.om_statements.specs.Statements.{EmitsStatement}
-use Rattle.om_statements.specs.Stretches.{value_in}
-use Rattle.om_statements.specs.declared.spot.JumpLabels.{JumpLabels}
+use Rattle.om_scope_tree.specs.declared.resolved.ResolvedClause.{ResolvedClause}
+use Rattle.om_scope_tree.specs.ResolvedTree.{ResolvedClauseTree, ResolvedStatementTree}
+use Rattle.om_scope_tree.specs.ResolvedTree as trees
+use Rattle.om_scope_tree.specs.ResolvedView as view
+use Rattle.om_lower_rules.specs.Bodies as rows
+use Rattle.om_lower_rules.specs.BodyTables.{numbered_by}
+use Rattle.om_lower_rules.specs.Copies.{first_copies_of}
+use Rattle.om_lower_rules.specs.Ends.{IsKnown}
+use Rattle.om_lower_rules.specs.Expressions.{value}
+use Rattle.om_lower_rules.specs.Numbering.{numbers_of}
+use Rattle.om_lower_rules.specs.ProgramTables.{known_in}
+use Rattle.om_lower_rules.specs.Slots.{FirstCopy}
+use Rattle.om_lower_rules.specs.Rows.{each, perhaps}
+use Rattle.om_lower_rules.specs.Statements.{given_copies, load_original}
+use Rattle.om_lower_rules.specs.declared.body.BodyTables.{BodyTables}
+use Rattle.om_lower_rules.specs.declared.numbers.Numbers.{Numbers}
+use Rattle.om_lower_rules.specs.declared.copies.FirstCopy as copies
+use Rattle.om_lower_rules.specs.declared.copies.Region.{Region}
+use Rattle.om_lower_emit.specs.Drafts.{Written}
+use Rattle.om_lower_emit.specs.declared.here.Here.{Here}
+use Rattle.om_lower_emit.specs.Emits.{Appends, EmitsRow}
+use Rattle.om_lower_emit.specs.Statements.{EmitsStatement}
+use Rattle.om_lower_emit.specs.Stretches.{value_in}
+use Rattle.om_lower_emit.specs.declared.spot.JumpLabels.{JumpLabels}
 
 abbrev pub clauses_of : Region → List ResolvedClauseTree
 clauses_of region = map view.clause region.clauses.now

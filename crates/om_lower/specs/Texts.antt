@@ -4,8 +4,8 @@ use denote.Ref.{Bor}
 use Rattle.om_code.specs.declared.raw.Piece as texts
 use Rattle.om_code.specs.declared.raw.Piece.TheVariants as pieces
 use Rattle.om_lower.specs.declared.texts.Cut.{Cut}
-use Rattle.om_resolved.specs.Formats.{Piece, converted, pieces_of}
-use Rattle.om_rows.specs.Mentions.{text_piece}
+use Rattle.om_scope_tree.specs.Formats.{Piece, converted, pieces_of}
+use Rattle.om_lower_rules.specs.Mentions.{text_piece}
 
 -- a format as PRINT writes it, if it is one
 abbrev pub text_of : List ℕ → Option (List texts.Piece)

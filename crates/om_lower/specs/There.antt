@@ -9,24 +9,24 @@
 use Rattle.std.specs.Prelude.{◌≡◌, List, IfOk, OnOk, Result, is_some}
 use Rattle.om_lower.specs.Parts.{EmitsParts}
 use Rattle.om_lower.specs.declared.worksharing.PartsSpot.{PartsSpot}
-use Rattle.om_resolved.specs.declared.resolved.ResolvedPart.{ResolvedPart}
-use Rattle.om_resolved.specs.declared.resolved.ResolvedStatement.{ResolvedStatement}
-use Rattle.om_resolved.specs.ResolvedView as view
-use Rattle.om_rows.specs.Bodies as rows
-use Rattle.om_rows.specs.BodyTables.{numbered_by}
-use Rattle.om_rows.specs.Coded.{StatementHasCode, StatementsHaveCode}
-use Rattle.om_rows.specs.Ends.{HasAllEnds, HasEnds, HasPartsEnds}
-use Rattle.om_rows.specs.Numbering.{numbers_of}
-use Rattle.om_rows.specs.ProgramTables.{known_in}
-use Rattle.om_rows.specs.Rows.{Site}
-use Rattle.om_rows.specs.Scopes.{Scoping, all_scopes, block, part_scopes, scopes}
-use Rattle.om_rows.specs.declared.body.BodyTables.{BodyTables}
-use Rattle.om_rows.specs.declared.numbers.Numbers.{Numbers}
-use Rattle.om_sights.specs.Trees.{part_trees, statement_trees}
-use Rattle.om_statements.specs.Statements.{EmitsStatement, EmitsStatements}
-use Rattle.om_statements.specs.Scoped.{EmitsScopes}
-use Rattle.om_statements.specs.declared.spot.Spot.{Spot}
-use Rattle.om_statements.specs.declared.writing.Writing.{Writing}
+use Rattle.om_scope_tree.specs.declared.resolved.ResolvedPart.{ResolvedPart}
+use Rattle.om_scope_tree.specs.declared.resolved.ResolvedStatement.{ResolvedStatement}
+use Rattle.om_scope_tree.specs.ResolvedView as view
+use Rattle.om_lower_rules.specs.Bodies as rows
+use Rattle.om_lower_rules.specs.BodyTables.{numbered_by}
+use Rattle.om_lower_rules.specs.Coded.{StatementHasCode, StatementsHaveCode}
+use Rattle.om_lower_rules.specs.Ends.{HasAllEnds, HasEnds, HasPartsEnds}
+use Rattle.om_lower_rules.specs.Numbering.{numbers_of}
+use Rattle.om_lower_rules.specs.ProgramTables.{known_in}
+use Rattle.om_lower_rules.specs.Rows.{Site}
+use Rattle.om_lower_rules.specs.Scopes.{Scoping, all_scopes, block, part_scopes, scopes}
+use Rattle.om_lower_rules.specs.declared.body.BodyTables.{BodyTables}
+use Rattle.om_lower_rules.specs.declared.numbers.Numbers.{Numbers}
+use Rattle.om_lower_tables.specs.Trees.{part_trees, statement_trees}
+use Rattle.om_lower_emit.specs.Statements.{EmitsStatement, EmitsStatements}
+use Rattle.om_lower_emit.specs.Scoped.{EmitsScopes}
+use Rattle.om_lower_emit.specs.declared.spot.Spot.{Spot}
+use Rattle.om_lower_emit.specs.declared.writing.Writing.{Writing}
 
 -- ---- a statement
 

@@ -23,27 +23,27 @@ pub use Rattle.om_lower.specs.There.{HavePartsEndsThere, ScopesOf, ScopesOfAll, 
 pub use Rattle.om_lower.specs.BeginsAndEnds.{BeginsElse, BeginsFor, BeginsIf, BeginsSharedLoop, BeginsParts, BeginsWhile}
 pub use Rattle.om_lower.specs.BeginsAndEnds.{EndsDo, EndsFor, EndsLoop, EndsWorksharing, ScopesFor, ScopesSharedLoop}
 pub use Rattle.om_lower.specs.BeginsAndEnds.{ScopesParts}
-pub use Rattle.om_statements.specs.Drafts.{settled_code}
-pub use Rattle.om_statements.specs.Settled.{ListsStand, number_of, settled_lists}
-pub use Rattle.om_resolved.specs.Beside.{TreeAtomicsAssign, TreeCopiesBehind}
-pub use Rattle.om_resolved.specs.Formats.{pieces_of}
-pub use Rattle.om_resolved.specs.Uses.{is_main_function}
-pub use Rattle.om_resolved.specs.Weights.{HasSmallWeight}
-pub use Rattle.om_resolved.specs.Whole.{IsWholeTree}
-pub use Rattle.om_rows.specs.Bodies.{FunctionBody, variables_of}
-pub use Rattle.om_rows.specs.Code.{IsCodeOf, captures_of, given_of, global_of}
-pub use Rattle.om_rows.specs.Coded.{BodyHasCode, PartsHaveCode, StatementHasCode}
-pub use Rattle.om_rows.specs.Coded.{EffectHasCode, LoopHasCode, StartHasCode, ValueHasCode}
-pub use Rattle.om_rows.specs.Copies.{GivesSlots, copied_variables}
-pub use Rattle.om_rows.specs.Ends.{HasEnds}
-pub use Rattle.om_rows.specs.MeaningLaws.{KeepsMeaning}
-pub use Rattle.om_rows.specs.Mentions.{IsTextOf}
-pub use Rattle.om_rows.specs.Numbering.{numbers_of}
-pub use Rattle.om_rows.specs.Operators.{comparison_of, form_with, schedule_in}
-pub use Rattle.om_rows.specs.ProgramTables.{ends_in, known_in}
-pub use Rattle.om_rows.specs.Scopes.{names_with, scope_in, slot_among}
-pub use Rattle.om_sights.specs.Regions.{statement_of}
-pub use Rattle.om_sights.specs.Sites.{bodies_in, body_in, body_round, innermost, part_tree, round_with, site_variables}
-pub use Rattle.om_sights.specs.Trees.{part_trees}
-pub use Rattle.om_statements.specs.Scoped.{AreInside, IsInside}
-pub use Rattle.om_statements.specs.Stretches.{BeginsTurn, FreshTurn, do_begin, value_in}
+pub use Rattle.om_lower_emit.specs.Drafts.{settled_code}
+pub use Rattle.om_lower_emit.specs.Settled.{ListsStand, number_of, settled_lists}
+pub use Rattle.om_scope_tree.specs.Beside.{TreeAtomicsAssign, TreeCopiesBehind}
+pub use Rattle.om_scope_tree.specs.Formats.{pieces_of}
+pub use Rattle.om_scope_tree.specs.Uses.{is_main_function}
+pub use Rattle.om_scope_tree.specs.Weights.{HasSmallWeight}
+pub use Rattle.om_scope_tree.specs.Whole.{IsWholeTree}
+pub use Rattle.om_lower_rules.specs.Bodies.{FunctionBody, variables_of}
+pub use Rattle.om_lower_rules.specs.Code.{IsCodeOf, captures_of, given_of, global_of}
+pub use Rattle.om_lower_rules.specs.Coded.{BodyHasCode, PartsHaveCode, StatementHasCode}
+pub use Rattle.om_lower_rules.specs.Coded.{EffectHasCode, LoopHasCode, StartHasCode, ValueHasCode}
+pub use Rattle.om_lower_rules.specs.Copies.{GivesSlots, copied_variables}
+pub use Rattle.om_lower_rules.specs.Ends.{HasEnds}
+pub use Rattle.om_lower_rules.specs.MeaningLaws.{KeepsMeaning}
+pub use Rattle.om_lower_rules.specs.Mentions.{IsTextOf}
+pub use Rattle.om_lower_rules.specs.Numbering.{numbers_of}
+pub use Rattle.om_lower_rules.specs.Operators.{comparison_of, form_with, schedule_in}
+pub use Rattle.om_lower_rules.specs.ProgramTables.{ends_in, known_in}
+pub use Rattle.om_lower_rules.specs.Scopes.{names_with, scope_in, slot_among}
+pub use Rattle.om_lower_tables.specs.Regions.{statement_of}
+pub use Rattle.om_lower_tables.specs.Sites.{bodies_in, body_in, body_round, innermost, part_tree, round_with, site_variables}
+pub use Rattle.om_lower_tables.specs.Trees.{part_trees}
+pub use Rattle.om_lower_emit.specs.Scoped.{AreInside, IsInside}
+pub use Rattle.om_lower_emit.specs.Stretches.{BeginsTurn, FreshTurn, do_begin, value_in}

@@ -15,12 +15,12 @@ use crate::input::{Known, SeenBody};
 use crate::names::names_with;
 use om_code::Body;
 use om_code::raw::Slot;
-use om_resolved::{Capture, Made};
-use om_rows::{BodyTables, Region, Variables, copy_slots, given_copies, parameter_slots};
+use om_lower_emit::Done;
+use om_lower_emit::draft::PickList;
+use om_lower_rules::{BodyTables, Region, Variables, copy_slots, given_copies, parameter_slots};
+use om_lower_tables::{BodyPart, Site, function_variables, region_variables};
+use om_scope_tree::{Capture, Made};
 use om_seq::Seq;
-use om_sights::{BodyPart, Site, function_variables, region_variables};
-use om_statements::Done;
-use om_statements::draft::PickList;
 use std::alloc::Global;
 
 /// Adds the variables of these bodies behind those of other ones; false where a body has more than 256 slots.

@@ -6,23 +6,23 @@ ghost use Rattle.om_lower.specs.Words.{HasSiteEnds, StatementHasCode, WritesOwnB
 ghost use Rattle.om_lower.specs.Words.{WritesParallelBody, WritesParallelScopes, WritesSiteBody, WritesSiteScopes};
 ghost use Rattle.om_lower.specs.Words.{WritesTaskBody, WritesTaskScopes, known_in, numbers_of, settled_code};
 ghost use Rattle.om_lower.specs.Words.{settled_lists, statement_of};
-ghost use Rattle.om_resolved.specs.ResolvedView as view;
+ghost use Rattle.om_scope_tree.specs.ResolvedView as view;
 
 use crate::functions::INSTRUCTION_LIMIT;
 use crate::statement::{inner, statements};
 use om_code::Instr;
 use om_code::instruction::Barrier;
 use om_code::raw::Line;
-use om_resolved::{Made, ResolvedFunction};
-use om_rows::{BodyTables, Numbers, Region, VariableScope};
+use om_lower_emit::clause::{parameters, reduction_starts, reductions, task_copies};
+use om_lower_emit::declaration::last_instruction;
+use om_lower_emit::draft::PickList;
+use om_lower_emit::spot::Spot;
+use om_lower_emit::writing::Writing;
+use om_lower_emit::{Done, Here};
+use om_lower_rules::{BodyTables, Numbers, Region, VariableScope};
+use om_lower_tables::{BodyPart, Site};
+use om_scope_tree::{Made, ResolvedFunction};
 use om_seq::Seq;
-use om_sights::{BodyPart, Site};
-use om_statements::clause::{parameters, reduction_starts, reductions, task_copies};
-use om_statements::declaration::last_instruction;
-use om_statements::draft::PickList;
-use om_statements::spot::Spot;
-use om_statements::writing::Writing;
-use om_statements::{Done, Here};
 use std::alloc::Global;
 
 /// The code of a body, the lists of the PICKs in it, and the scopes of names, the innermost first.

@@ -4,8 +4,8 @@ ghost use Rattle.std.specs.Prelude.{◌≡◌, ◌≤◌, IfOk, length};
 ghost use Rattle.om_lower.specs.Words.{FitsVariables, frame_cells, own_cells};
 
 use om_code::raw::{Slot, Source};
-use om_resolved::{Capture, Made};
-use om_rows::{Extents, Variables, slots_with};
+use om_lower_rules::{Extents, Variables, slots_with};
+use om_scope_tree::{Capture, Made};
 use om_seq::Seq;
 use std::alloc::Global;
 

@@ -4,17 +4,17 @@ ghost use Rattle.std.specs.Prelude.{◌≡◌, ◌<◌, ◌∷◌, [], All, IfOk
 ghost use Rattle.om_lower.specs.Words.{AddsAllVariables, AddsNext, AreGathered, IsInput, IsNext, IsPut, IsReadyIn};
 ghost use Rattle.om_lower.specs.Words.{PutsBodies, PutsLists, bodies_in, ends_in, is_main_function, known_tree};
 ghost use Rattle.om_lower.specs.Words.{next_bodies, numbers_of, tree_of};
-ghost use Rattle.om_resolved.specs.ResolvedView as view;
+ghost use Rattle.om_scope_tree.specs.ResolvedView as view;
 
 use crate::bodies::{Bodies, add_sites, add_slots, put_both};
 use crate::input::{Input, Known};
 use om_code::Body;
-use om_resolved::{Made, ResolvedFunction};
-use om_rows::{Extents, Numbers, Tables, Variables};
+use om_lower_emit::Done;
+use om_lower_emit::draft::PickList;
+use om_lower_rules::{Extents, Numbers, Tables, Variables};
+use om_lower_tables::{Site, sites_of};
+use om_scope_tree::{Made, ResolvedFunction};
 use om_seq::Seq;
-use om_sights::{Site, sites_of};
-use om_statements::Done;
-use om_statements::draft::PickList;
 
 /// How many instructions a body may have.
 pub const INSTRUCTION_LIMIT: usize = 65_536;

@@ -6,7 +6,7 @@ ghost use Rattle.om_lower.specs.Heights.{AreLevel, AreLow, IsFirstHigh, IsHigh, 
 
 use om_code::height::check_heights;
 use om_code::{Body, CodeFault};
-use om_resolved::Made;
+use om_scope_tree::Made;
 use om_seq::Seq;
 use std::alloc::{AllocError, Global};
 

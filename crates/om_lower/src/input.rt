@@ -1,8 +1,8 @@
 //! What is lowered: a program, and a body of it.
 
-use om_resolved::Resolved;
-use om_rows::{Extents, Tables, Variables};
-use om_sights::Site;
+use om_lower_rules::{Extents, Tables, Variables};
+use om_lower_tables::Site;
+use om_scope_tree::Resolved;
 use std::alloc::Global;
 
 /// A program that is lowered: its tree, and the tables of that.

@@ -3,7 +3,7 @@
 ghost use Rattle.om_lower.specs.Laws.{OneTooMany, WithinIsNotTooMany};
 ghost use Rattle.om_lower.specs.Once.{PicksOfFunctions};
 
-use om_rows::laws::one_body_code;
+use om_lower_rules::laws::one_body_code;
 
 /// Each number below the one behind all functions is that of a list of one body, and only once.
 pub fn each_once()

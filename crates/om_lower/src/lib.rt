@@ -1,6 +1,6 @@
 //! Lowering: a resolved tree to its code.
 //!
-//! What a program still knows of its source is answered by om_lookup, whose calls stand here too.
+//! What a program still knows of its source is answered by om_code_places, whose calls stand here too.
 #![tactic(auto)]
 
 mod bodies;
@@ -21,4 +21,4 @@ pub mod texts;
 mod worksharing;
 
 pub use lowering::lower;
-pub use om_lookup::{Var, global_named, line_of, variable_at};
+pub use om_code_places::{Var, global_named, line_of, variable_at};

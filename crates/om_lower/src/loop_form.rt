@@ -2,12 +2,12 @@
 
 ghost use Rattle.std.specs.Prelude.{◌≡◌};
 ghost use Rattle.om_lower.specs.Words.{comparison_of, form_with, schedule_in};
-ghost use Rattle.om_resolved.specs.ResolvedView as view;
+ghost use Rattle.om_scope_tree.specs.ResolvedView as view;
 
 use om_code::instruction::{Comparison, LoopForm, Schedule};
+use om_parser_tree::BinaryOperator;
 use om_pragma::ScheduleKind;
-use om_resolved::{ResolvedLoop, ResolvedSchedule};
-use om_tree::BinaryOperator;
+use om_scope_tree::{ResolvedLoop, ResolvedSchedule};
 
 /// The comparison of a canonical loop (OpenMP API 5.2, section 4.4.1), whose `!=` is unsupported.
 pub(crate) fn comparison_of(operator: BinaryOperator) -> Option<Comparison>

@@ -4,7 +4,7 @@ ghost use Rattle.std.specs.Prelude.{◌≡◌, ◌<◌, IfErr, IfOk, OnOk, lengt
 ghost use Rattle.om_lower.specs.Words.{ArePlaced, AreWithin, HasSmallWeight, IsCodeOf, IsEachOnce, IsIndexIn};
 ghost use Rattle.om_lower.specs.Words.{IsInput, IsOverIn, IsRefusal, IsWholeTree, KeepsMeaning, ListsStand};
 ghost use Rattle.om_lower.specs.Words.{TreeAtomicsAssign, TreeCopiesBehind, number_of, too_many, tree_of};
-ghost use Rattle.om_resolved.specs.ResolvedView as view;
+ghost use Rattle.om_scope_tree.specs.ResolvedView as view;
 
 use crate::functions::{Lowered, Placed, lower_functions};
 use crate::heights::first_high;
@@ -13,19 +13,19 @@ use crate::laws::each_once;
 use crate::program::program_of;
 use om_code::Program;
 use om_lexer::{FaultCode, SourceFault};
-use om_resolved::{Made, Resolved, ResolvedFunction};
-use om_rows::laws::{body_is_level, whole_has_code};
-use om_rows::meaning::serial_meaning;
+use om_lower_emit::draft::PickList;
+use om_lower_rules::laws::{body_is_level, whole_has_code};
+use om_lower_rules::meaning::serial_meaning;
+use om_lower_tables::tables_of;
+use om_scope_tree::{Made, Resolved, ResolvedFunction};
 use om_seq::Seq;
-use om_sights::tables_of;
-use om_statements::draft::PickList;
 use std::alloc::Global;
 
 /// The program whose bodies are the code of the tree's functions.
 ///
 /// The tree is whole, each `atomic` that reads or writes is about an assignment, each copy stands behind where
 /// its region begins, and numbers of 32 bits are enough for its parts: `om_scope::resolve` and the laws of
-/// om_rules give that.
+/// om_scope_rules give that.
 ///
 /// The body of each function without directives, and without calls but `printf`, does what the function
 /// means. It ends with its value, its globals and its output exactly where the meaning does, and faults

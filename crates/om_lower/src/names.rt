@@ -4,8 +4,8 @@ ghost use Rattle.std.specs.Prelude.{◌≡◌, ◌≤◌, ◌<◌, IfOk, IfSome,
 ghost use Rattle.om_lower.specs.Words.{AreInside, IsInside, names_with, scope_in, slot_among};
 
 use om_code::raw::{Names, Scope};
-use om_resolved::Made;
-use om_rows::{VariableScope, Variables};
+use om_lower_rules::{VariableScope, Variables};
+use om_scope_tree::Made;
 use om_seq::Seq;
 use std::alloc::Global;
 

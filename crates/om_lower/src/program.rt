@@ -5,7 +5,7 @@ ghost use Rattle.std.specs.List.{AllZip};
 ghost use Rattle.om_lower.specs.Words.{AreLow, HasMain, IsCodeOf, IsInput, IsLowered, IsTextAt, IsTextOf};
 ghost use Rattle.om_lower.specs.Words.{flattened, global_of, is_main_function, main_body, no_memory, pieces_of};
 ghost use Rattle.om_lower.specs.Words.{tree_of};
-ghost use Rattle.om_resolved.specs.ResolvedView as view;
+ghost use Rattle.om_scope_tree.specs.ResolvedView as view;
 
 use crate::functions::{Placed, is_main};
 use crate::input::Input;
@@ -13,9 +13,9 @@ use crate::texts::text_of;
 use om_code::raw::{self, Piece};
 use om_code::{Body, Program, Raw};
 use om_lexer::SourceFault;
-use om_resolved::{GlobalVariable, Made, Resolved, ResolvedFunction};
-use om_rows::laws::code_is_valid;
-use om_rows::{BodyTables, Texts, Variables};
+use om_lower_rules::laws::code_is_valid;
+use om_lower_rules::{BodyTables, Texts, Variables};
+use om_scope_tree::{GlobalVariable, Made, Resolved, ResolvedFunction};
 use om_seq::Seq;
 use std::alloc::Global;
 

@@ -6,11 +6,11 @@ ghost use Rattle.om_lower.specs.Regions.{LoadsOriginals, given_to, parallel_of, 
 ghost use Rattle.om_lower.specs.Words.{GivesBehind, ValueHasCode, value_in};
 
 use om_code::Instr;
-use om_resolved::{Made, ResolvedClause};
-use om_rows::{BodyTables, FirstCopy, Numbers, Region, Variables, given_copies};
-use om_statements::clause::clause_value;
-use om_statements::draft::Draft;
-use om_statements::{Done, Here, value};
+use om_lower_emit::clause::clause_value;
+use om_lower_emit::draft::Draft;
+use om_lower_emit::{Done, Here, value};
+use om_lower_rules::{BodyTables, FirstCopy, Numbers, Region, Variables, given_copies};
+use om_scope_tree::{Made, ResolvedClause};
 use std::alloc::Global;
 
 /// Writes what stands in the place of a `parallel`, and gives the numbers behind it. Its body gets

@@ -4,14 +4,14 @@ ghost use Rattle.std.specs.Prelude.{◌≡◌, ◌<◌, IfOk, IfSome, None, OnOk
 ghost use Rattle.om_lower.specs.Words.{BeginsElse, BeginsFor, BeginsIf, BeginsTurn, BeginsWhile, EffectHasCode};
 ghost use Rattle.om_lower.specs.Words.{EndsDo, EndsFor, EndsLoop, FreshTurn, ScopesFor, StartHasCode};
 ghost use Rattle.om_lower.specs.Words.{ValueHasCode, do_begin};
-ghost use Rattle.om_resolved.specs.ResolvedView as view;
+ghost use Rattle.om_scope_tree.specs.ResolvedView as view;
 
-use om_resolved::{Made, ResolvedExpression, ResolvedStart};
-use om_statements::declaration::{perhaps_effect, perhaps_test, start, test};
-use om_statements::draft::{Draft, Jump};
-use om_statements::spot::{LoopLabels, TurnLabels};
-use om_statements::writing::Writing;
-use om_statements::{Done, Here};
+use om_lower_emit::declaration::{perhaps_effect, perhaps_test, start, test};
+use om_lower_emit::draft::{Draft, Jump};
+use om_lower_emit::spot::{LoopLabels, TurnLabels};
+use om_lower_emit::writing::Writing;
+use om_lower_emit::{Done, Here};
+use om_scope_tree::{Made, ResolvedExpression, ResolvedStart};
 
 /// Writes the head of a `while` (C17 6.8.5.1).
 pub(crate) fn begin_while(

@@ -5,7 +5,7 @@ ghost use Rattle.om_lower.specs.Words.{AreFree, EmitsAllThere, EmitsPartsThere, 
 ghost use Rattle.om_lower.specs.Words.{GivesBehind, GivesPartsBehind, HasCodeThere, HasEndsThere, HaveCodeThere};
 ghost use Rattle.om_lower.specs.Words.{HaveEndsThere, HavePartsEndsThere, PartsHaveCode, ScopesOf, ScopesOfAll};
 ghost use Rattle.om_lower.specs.Words.{ScopesOfBlock, ScopesOfParts, part_trees};
-ghost use Rattle.om_resolved.specs.ResolvedView as view;
+ghost use Rattle.om_scope_tree.specs.ResolvedView as view;
 
 use crate::region::{parallel, task};
 use crate::repeated::{
@@ -14,16 +14,16 @@ use crate::repeated::{
 use crate::worksharing::{
     PartsSpot, SectionsHead, begin_parts, begin_worksharing, end_worksharing,
 };
-use om_resolved::{ConstructKind, Made, ResolvedHead, ResolvedPart, ResolvedStatement};
-use om_rows::{BodyTables, Numbers, Region};
-use om_statements::Here;
-use om_statements::alone::{assignment, jump, stand_alone, update};
-use om_statements::construct::{begin_construct, end_construct};
-use om_statements::declaration::{declarators, returned};
-use om_statements::draft::Jump;
-use om_statements::spot::Spot;
-use om_statements::unused::effect;
-use om_statements::writing::Writing;
+use om_lower_emit::Here;
+use om_lower_emit::alone::{assignment, jump, stand_alone, update};
+use om_lower_emit::construct::{begin_construct, end_construct};
+use om_lower_emit::declaration::{declarators, returned};
+use om_lower_emit::draft::Jump;
+use om_lower_emit::spot::Spot;
+use om_lower_emit::unused::effect;
+use om_lower_emit::writing::Writing;
+use om_lower_rules::{BodyTables, Numbers, Region};
+use om_scope_tree::{ConstructKind, Made, ResolvedHead, ResolvedPart, ResolvedStatement};
 use std::alloc::Global;
 
 /// Writes the code of a statement, and gives the numbers behind it.

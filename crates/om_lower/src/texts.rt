@@ -3,12 +3,12 @@
 ghost use Rattle.std.specs.Prelude.{◌≡◌, ◌∷◌, ◌≤◌, [], OnOk, IfOk, IfSome, length};
 ghost use Rattle.om_lower.specs.Texts.{CutsFrom, behind_cut, converted_behind, cut_behind, cut_left, cut_pieces};
 ghost use Rattle.om_lower.specs.Texts.{text_of};
-ghost use Rattle.om_resolved.specs.Formats as formats;
+ghost use Rattle.om_scope_tree.specs.Formats as formats;
 
 use om_code::raw::Piece;
-use om_resolved::Made;
+use om_lower_emit::Done;
+use om_scope_tree::Made;
 use om_seq::Seq;
-use om_statements::Done;
 use std::alloc::Global;
 
 // The pieces that were cut, and the bytes behind them that no piece has yet.

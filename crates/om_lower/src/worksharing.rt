@@ -2,18 +2,18 @@
 
 ghost use Rattle.std.specs.Prelude.{◌<◌, ◌≤◌, length};
 ghost use Rattle.om_lower.specs.Words.{BeginsSharedLoop, BeginsParts, EndsWorksharing, LoopHasCode, ScopesSharedLoop, ScopesParts};
-ghost use Rattle.om_resolved.specs.ResolvedView as view;
+ghost use Rattle.om_scope_tree.specs.ResolvedView as view;
 
 use crate::loop_form::{comparison_of, form_with};
 use om_code::Instr;
-use om_resolved::{Made, ResolvedClause, ResolvedLoop, ResolvedPart};
-use om_rows::Numbers;
-use om_statements::alone::worksharing_end;
-use om_statements::clause::{reductions, starts};
-use om_statements::draft::{Draft, Jump};
-use om_statements::spot::LoopLabels;
-use om_statements::writing::Writing;
-use om_statements::{Done, Here, value};
+use om_lower_emit::alone::worksharing_end;
+use om_lower_emit::clause::{reductions, starts};
+use om_lower_emit::draft::{Draft, Jump};
+use om_lower_emit::spot::LoopLabels;
+use om_lower_emit::writing::Writing;
+use om_lower_emit::{Done, Here, value};
+use om_lower_rules::Numbers;
+use om_scope_tree::{Made, ResolvedClause, ResolvedLoop, ResolvedPart};
 use std::alloc::Global;
 
 /// A `sections`, where it stands: the numbers of the next body and of its own list of PICK.

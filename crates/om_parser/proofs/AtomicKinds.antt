@@ -11,8 +11,8 @@ use Rattle.om_pragma.specs.Expressions.{map_clause, map_item, map_directive}
 use Rattle.om_pragma.specs.Questions.{atomic_kind}
 use Rattle.om_pragma.specs.Spelling.{kind_of}
 use Rattle.om_pragma.specs.Table.{same_clause}
-use Rattle.om_tree.specs.declared.tree.Expression.{Expression}
-use Rattle.om_tree.specs.View.{view_expression, view_directive}
+use Rattle.om_parser_tree.specs.declared.tree.Expression.{Expression}
+use Rattle.om_parser_tree.specs.View.{view_expression, view_directive}
 
 kind_mapped : {E F : Type 0} (f : E → F) (c : Clause E) → kind_of (map_clause f c) ≡ kind_of c
 kind_mapped f (clauses.Value k s v) = refl

@@ -10,12 +10,12 @@ use Rattle.om_lexer.specs.declared.token.TokenKind.{TokenKind}
 use Rattle.om_lexer.specs.declared.token.TokenKind.TheVariants as kinds
 use Rattle.om_parser.specs.declared.start.Start.TheVariants as starts
 use Rattle.om_parser.specs.StatementReading.{start_of}
-use Rattle.om_tree.specs.declared.tree.PrefixOperator.{PrefixOperator}
-use Rattle.om_tree.specs.declared.tree.PrefixOperator.TheVariants as prefixes
-use Rattle.om_tree.specs.Formed.{IsExpression}
-use Rattle.om_tree.specs.Spelling.{token, mark, name, number, prefix_mark, expression_spelling}
-use Rattle.om_tree.specs.Tree.{ExpressionTree, Name, Constant, Paren, Index, Call, Prefix, Postfix, Binary, Conditional}
-use Rattle.om_tree.specs.Tree.{Assign}
+use Rattle.om_parser_tree.specs.declared.tree.PrefixOperator.{PrefixOperator}
+use Rattle.om_parser_tree.specs.declared.tree.PrefixOperator.TheVariants as prefixes
+use Rattle.om_parser_tree.specs.Formed.{IsExpression}
+use Rattle.om_parser_tree.specs.Spelling.{token, mark, name, number, prefix_mark, expression_spelling}
+use Rattle.om_parser_tree.specs.Tree.{ExpressionTree, Name, Constant, Paren, Index, Call, Prefix, Postfix, Binary, Conditional}
+use Rattle.om_parser_tree.specs.Tree.{Assign}
 
 -- a token that begins an expression stands first
 pub record StartsExpression (ts : List Token) : Type 0 where

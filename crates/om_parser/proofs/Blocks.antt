@@ -1,9 +1,9 @@
 -- What is read of the block of a function, by the laws of its parts.
-use Rattle.om_parts.specs.Laws.{PartsAreSound, PartsAreReadAgain, PartsStopSo}
-use Rattle.om_parts.specs.PartReading.{parts}
+use Rattle.om_parser_parts.specs.Laws.{PartsAreSound, PartsAreReadAgain, PartsStopSo}
+use Rattle.om_parser_parts.specs.PartReading.{parts}
 use Rattle.om_parser.specs.Laws.{BlocksAreSound, BlocksAreReadAgain, BlocksAreLocal, BlocksStopSo}
 use Rattle.om_parser.specs.StatementReading.{block_at}
-use Rattle.om_parts.specs.Local.{PartsAreLocal}
+use Rattle.om_parser_parts.specs.Local.{PartsAreLocal}
 use Rattle.om_parser.proofs.StatementsLocal.{function_block_local}
 use Rattle.om_parser.proofs.StatementSound.{function_block_sound}
 use Rattle.om_parser.proofs.StatementComplete.{function_block_again}

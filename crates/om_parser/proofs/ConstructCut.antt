@@ -19,25 +19,25 @@ use Rattle.om_pragma.specs.Table.{EachBehind, IsDirective}
 use Rattle.om_pragma.specs.Words.{directive_word}
 use Rattle.om_parser.specs.declared.construct.LineStart.{LineStart}
 use Rattle.om_parser.specs.declared.construct.LineStart.TheVariants as lines
-use Rattle.om_tree.specs.AtomicForms.{has_atomic_form}
-use Rattle.om_parts.specs.PartReading.{LineReader}
+use Rattle.om_parser_tree.specs.AtomicForms.{has_atomic_form}
+use Rattle.om_parser_parts.specs.PartReading.{LineReader}
 use Rattle.om_parser.specs.ConstructReading.{PartsReader, line_start, from_word, misplaced, unknown_line}
 use Rattle.om_parser.specs.ConstructReading.{stand_alone_at, item_of, part_item_at, bad_atomic, atomic_of}
 use Rattle.om_parser.specs.ConstructReading.{atomic_after, constructed_after, sections_after, construct_after}
 use Rattle.om_parser.specs.ConstructReading.{construct_at, line_of}
 use Rattle.om_parser.specs.BlockFaults.{IsStopped}
-use Rattle.om_tree.specs.Formed.{IsLine, IsConstruct, IsStatement, IsBody, IsSection, AreParts}
-use Rattle.om_tree.specs.Limits.{Limits}
-use Rattle.om_tree.specs.Places.{Place, Behind, Either, AtDepth, AtBrace, IsOverInside, IsOverInParts}
-use Rattle.om_tree.specs.Places.{IsOverInStatement}
-use Rattle.om_parts.specs.Reading.{Reader}
-use Rattle.om_tree.specs.Spelling.{token, mark, expression_spelling, statement_spelling}
-use Rattle.om_tree.specs.Spelling.{part_spelling}
-use Rattle.om_tree.specs.Tree.{ExpressionTree, StatementTree, Empty, Construct, Sections, NoStatements, Statement}
-use Rattle.om_tree.specs.Tree.{PartsTree, PartTree}
-use Rattle.om_parts.specs.Outcomes.{ok, bind_err, after_front, err_is}
+use Rattle.om_parser_tree.specs.Formed.{IsLine, IsConstruct, IsStatement, IsBody, IsSection, AreParts}
+use Rattle.om_parser_tree.specs.Limits.{Limits}
+use Rattle.om_parser_tree.specs.Places.{Place, Behind, Either, AtDepth, AtBrace, IsOverInside, IsOverInParts}
+use Rattle.om_parser_tree.specs.Places.{IsOverInStatement}
+use Rattle.om_parser_parts.specs.Reading.{Reader}
+use Rattle.om_parser_tree.specs.Spelling.{token, mark, expression_spelling, statement_spelling}
+use Rattle.om_parser_tree.specs.Spelling.{part_spelling}
+use Rattle.om_parser_tree.specs.Tree.{ExpressionTree, StatementTree, Empty, Construct, Sections, NoStatements, Statement}
+use Rattle.om_parser_tree.specs.Tree.{PartsTree, PartTree}
+use Rattle.om_parser_parts.specs.Outcomes.{ok, bind_err, after_front, err_is}
 use Rattle.om_parser.proofs.LineStarts.{start_of_directive, line_start_is}
-use Rattle.om_parts.specs.Laws.{IsSound, IsWholeLine, Stops, IsLineCut}
+use Rattle.om_parser_parts.specs.Laws.{IsSound, IsWholeLine, Stops, IsLineCut}
 use Rattle.om_parser.proofs.StatementParts.{IsStatementSound, braces_spelling}
 use Rattle.om_parser.specs.Stopped.{syntax_plain, within_larger}
 

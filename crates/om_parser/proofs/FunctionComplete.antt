@@ -6,20 +6,20 @@ use Rattle.om_lexer.specs.declared.token.Punctuator.TheVariants as punctuators
 use Rattle.om_lexer.specs.declared.token.Span.{Span}
 use Rattle.om_lexer.specs.declared.token.Token.{Token}
 use Rattle.om_pragma.specs.declared.name.Name as names
-use Rattle.om_tree.specs.declared.tree.Parameter.{Parameter}
+use Rattle.om_parser_tree.specs.declared.tree.Parameter.{Parameter}
 use Rattle.om_parser.specs.FunctionReading.{parameter_at, further_parameter_at, listed_at, parameters_at, head_after}
 use Rattle.om_parser.specs.FunctionReading.{named_parameter, named_further, named_parameters, named_head}
-use Rattle.om_parts.specs.Reading.{Outcome, take, same_mark, same_word, take_mark, take_word, take_name}
-use Rattle.om_parts.specs.Repetition.{optional, until}
-use Rattle.om_tree.specs.Spelling.{mark, word, perhaps, behind_comma, parameter_spelling, parameters_spelling}
-use Rattle.om_tree.specs.Spelling.{given_name}
-use Rattle.om_tree.specs.Tree.{ParametersTree, NoParameters, Void, Listed, HeadTree}
-use Rattle.om_parts.specs.Outcomes.{ok}
-use Rattle.om_parts.specs.Again.{take_mark_again, take_word_again, mark_again, word_again}
-use Rattle.om_parts.specs.Laws.{IsAnswer}
+use Rattle.om_parser_parts.specs.Reading.{Outcome, take, same_mark, same_word, take_mark, take_word, take_name}
+use Rattle.om_parser_parts.specs.Repetition.{optional, until}
+use Rattle.om_parser_tree.specs.Spelling.{mark, word, perhaps, behind_comma, parameter_spelling, parameters_spelling}
+use Rattle.om_parser_tree.specs.Spelling.{given_name}
+use Rattle.om_parser_tree.specs.Tree.{ParametersTree, NoParameters, Void, Listed, HeadTree}
+use Rattle.om_parser_parts.specs.Outcomes.{ok}
+use Rattle.om_parser_parts.specs.Again.{take_mark_again, take_word_again, mark_again, word_again}
+use Rattle.om_parser_parts.specs.Laws.{IsAnswer}
 use Rattle.om_parser.proofs.FunctionSound.{further_parameter_some}
-use Rattle.om_parts.specs.ItemsSound.{IsAny}
-use Rattle.om_parts.specs.ItemsComplete.{all_any, AreAgain, until_again}
+use Rattle.om_parser_parts.specs.ItemsSound.{IsAny}
+use Rattle.om_parser_parts.specs.ItemsComplete.{all_any, AreAgain, until_again}
 
 -- what stands behind a parameter: a comma or the right parenthesis
 data EndsParameter : List Token → Type 0 where

@@ -5,15 +5,15 @@ use Rattle.om_lexer.specs.declared.token.Punctuator.TheVariants as punctuators
 use Rattle.om_lexer.specs.declared.token.Span.{Span}
 use Rattle.om_lexer.specs.declared.token.Token.{Token}
 use Rattle.om_pragma.specs.declared.name.Name as names
-use Rattle.om_tree.specs.declared.tree.Parameter.{Parameter}
-use Rattle.om_tree.specs.declared.tree.ResultType.{ResultType}
+use Rattle.om_parser_tree.specs.declared.tree.Parameter.{Parameter}
+use Rattle.om_parser_tree.specs.declared.tree.ResultType.{ResultType}
 use Rattle.om_parser.specs.FunctionReading.{parameter_at, further_parameter_at, listed_at, parameters_at, head_after}
 use Rattle.om_parser.specs.FunctionReading.{named_parameter, named_further, named_parameters, named_head}
-use Rattle.om_parts.specs.Local.{pair, triple, done, bind, either, alike, mark_taker, word_taker, name_taker}
-use Rattle.om_parts.specs.Local.{mark_local, word_local, until_local}
-use Rattle.om_parts.specs.Reading.{◌>>=◌, Outcome, choose, known, syntax, take_mark, take_word, take_name, mark_at, word_at}
-use Rattle.om_parts.specs.Repetition.{optional, until}
-use Rattle.om_tree.specs.Tree.{ParametersTree, NoParameters, Void, Listed, HeadTree}
+use Rattle.om_parser_parts.specs.Local.{pair, triple, done, bind, either, alike, mark_taker, word_taker, name_taker}
+use Rattle.om_parser_parts.specs.Local.{mark_local, word_local, until_local}
+use Rattle.om_parser_parts.specs.Reading.{◌>>=◌, Outcome, choose, known, syntax, take_mark, take_word, take_name, mark_at, word_at}
+use Rattle.om_parser_parts.specs.Repetition.{optional, until}
+use Rattle.om_parser_tree.specs.Tree.{ParametersTree, NoParameters, Void, Listed, HeadTree}
 use Rattle.om_parser.proofs.FunctionSound.{further_parameter_shorter}
 use Rattle.om_parser.proofs.ItemLocal.{lined}
 use Rattle.om_parser.proofs.StatementLocal.{IsNear}

@@ -5,13 +5,13 @@ use Rattle.om_lexer.specs.declared.token.Punctuator.TheVariants as punctuators
 use Rattle.om_lexer.specs.declared.token.Span.{Span}
 use Rattle.om_lexer.specs.declared.token.Token.{Token}
 use Rattle.om_pragma.specs.declared.name.Name as names
-use Rattle.om_tree.specs.declared.tree.Parameter.{Parameter}
-use Rattle.om_tree.specs.declared.tree.ResultType.{ResultType}
-use Rattle.om_tree.specs.Tree.{ParametersTree, NoParameters, Void, Listed, HeadTree}
+use Rattle.om_parser_tree.specs.declared.tree.Parameter.{Parameter}
+use Rattle.om_parser_tree.specs.declared.tree.ResultType.{ResultType}
+use Rattle.om_parser_tree.specs.Tree.{ParametersTree, NoParameters, Void, Listed, HeadTree}
 use Rattle.om_parser.specs.FunctionReading.{parameter_at, further_parameter_at, listed_at, parameters_at, head_after}
 use Rattle.om_parser.specs.FunctionReading.{named_parameter, named_further, named_parameters, named_head}
-use Rattle.om_parts.specs.Reading.{known, take_mark, mark_at, word_at}
-use Rattle.om_parts.specs.Repetition.{until}
+use Rattle.om_parser_parts.specs.Reading.{known, take_mark, mark_at, word_at}
+use Rattle.om_parser_parts.specs.Repetition.{until}
 use Rattle.om_parser.specs.Stopped.{IsPlain, ok_plain, known_plain, bind_plain, choose_plain, until_plain}
 
 parameter_plain : (ts : List Token) → IsPlain (parameter_at ts)

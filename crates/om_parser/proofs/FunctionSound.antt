@@ -7,20 +7,20 @@ use Rattle.om_lexer.specs.declared.token.Punctuator.TheVariants as punctuators
 use Rattle.om_lexer.specs.declared.token.Span.{Span}
 use Rattle.om_lexer.specs.declared.token.Token.{Token}
 use Rattle.om_pragma.specs.declared.name.Name as names
-use Rattle.om_tree.specs.declared.tree.Parameter.{Parameter}
-use Rattle.om_tree.specs.declared.tree.ResultType.{ResultType}
+use Rattle.om_parser_tree.specs.declared.tree.Parameter.{Parameter}
+use Rattle.om_parser_tree.specs.declared.tree.ResultType.{ResultType}
 use Rattle.om_parser.specs.FunctionReading.{parameter_at, further_parameter_at, listed_at, parameters_at, head_after}
 use Rattle.om_parser.specs.FunctionReading.{named_parameter, named_further, named_parameters, named_head}
-use Rattle.om_parts.specs.Reading.{known, take_mark, take_word, take_name, mark_at, word_at}
-use Rattle.om_parts.specs.Repetition.{optional, until}
-use Rattle.om_tree.specs.Spelling.{mark, word, name, perhaps, behind_comma, result_spelling, parameter_spelling}
-use Rattle.om_tree.specs.Spelling.{given_name, parameters_spelling, head_spelling, definition_spelling}
-use Rattle.om_tree.specs.Spelling.{prototype_spelling}
-use Rattle.om_tree.specs.Tree.{ParametersTree, NoParameters, Void, Listed, HeadTree}
-use Rattle.om_parts.specs.Outcomes.{ok, ok_is, some, known_ok, bind_ok, choose_cases, after_front, after_token}
-use Rattle.om_parts.specs.Taken.{take_mark_is, take_word_is, take_name_is, mark_at_is, word_at_is}
-use Rattle.om_parts.specs.Laws.{IsRead, IsSound}
-use Rattle.om_parts.specs.ItemsSound.{IsAny, until_sound}
+use Rattle.om_parser_parts.specs.Reading.{known, take_mark, take_word, take_name, mark_at, word_at}
+use Rattle.om_parser_parts.specs.Repetition.{optional, until}
+use Rattle.om_parser_tree.specs.Spelling.{mark, word, name, perhaps, behind_comma, result_spelling, parameter_spelling}
+use Rattle.om_parser_tree.specs.Spelling.{given_name, parameters_spelling, head_spelling, definition_spelling}
+use Rattle.om_parser_tree.specs.Spelling.{prototype_spelling}
+use Rattle.om_parser_tree.specs.Tree.{ParametersTree, NoParameters, Void, Listed, HeadTree}
+use Rattle.om_parser_parts.specs.Outcomes.{ok, ok_is, some, known_ok, bind_ok, choose_cases, after_front, after_token}
+use Rattle.om_parser_parts.specs.Taken.{take_mark_is, take_word_is, take_name_is, mark_at_is, word_at_is}
+use Rattle.om_parser_parts.specs.Laws.{IsRead, IsSound}
+use Rattle.om_parser_parts.specs.ItemsSound.{IsAny, until_sound}
 
 -- a token that may stand there
 optional_is : {A : Type 0} (spell : A → List Token) (found : Option (A × List Token)) (ts : List Token)

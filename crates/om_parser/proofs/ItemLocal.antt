@@ -9,11 +9,11 @@ use Rattle.om_lexer.specs.declared.token.Token.{Token}
 use Rattle.om_lexer.specs.declared.token.TokenKind.{TokenKind}
 use Rattle.om_lexer.specs.declared.token.TokenKind.TheVariants as kinds
 use Rattle.om_parser.specs.ConstructReading.{line_start}
-use Rattle.om_parts.specs.Halting.{Unended, IsElsewhere}
-use Rattle.om_parts.specs.Local.{Measure, pair, SameRoom, Suffices, IsHalt, IsLocalAt}
-use Rattle.om_parts.specs.Local.{unended_both, elsewhere_behind}
-use Rattle.om_parts.specs.Reading.{Reader}
-use Rattle.om_tree.specs.Spelling.{token}
+use Rattle.om_parser_parts.specs.Halting.{Unended, IsElsewhere}
+use Rattle.om_parser_parts.specs.Local.{Measure, pair, SameRoom, Suffices, IsHalt, IsLocalAt}
+use Rattle.om_parser_parts.specs.Local.{unended_both, elsewhere_behind}
+use Rattle.om_parser_parts.specs.Reading.{Reader}
+use Rattle.om_parser_tree.specs.Spelling.{token}
 
 -- a measure for readers that read lines
 abbrev pub lined : ℕ → Measure

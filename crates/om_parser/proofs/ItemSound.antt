@@ -12,19 +12,19 @@ use Rattle.om_parser.specs.declared.start.Start.{Start}
 use Rattle.om_parser.specs.declared.start.Start.TheVariants as starts
 use Rattle.om_parser.specs.ConstructReading.{line_start, misplaced, unknown_line, stand_alone_at, item_of, part_item_at, is_section_line, ends_part, ends_parts, section_of, part_at}
 use Rattle.om_parser.specs.OneOrMore.{one_or_more}
-use Rattle.om_parts.specs.Reading.{Reader, choose, take_mark, take_word, mark_at, word_at}
-use Rattle.om_tree.specs.Spelling.{mark, word, perhaps, expression_spelling, condition_spelling, for_start_spelling, for_head_spelling, statement_spelling, statements_spelling, parts_spelling, part_spelling, section_spelling}
-use Rattle.om_tree.specs.Formed.{IsForHead, ends_open, IsStatement, IsSection, IsOptionalSection}
-use Rattle.om_tree.specs.Limits.{Limits}
-use Rattle.om_tree.specs.Sizes.{HasForms, section_longest, section_nesting}
-use Rattle.om_parts.specs.PartReading.{Parts}
+use Rattle.om_parser_parts.specs.Reading.{Reader, choose, take_mark, take_word, mark_at, word_at}
+use Rattle.om_parser_tree.specs.Spelling.{mark, word, perhaps, expression_spelling, condition_spelling, for_start_spelling, for_head_spelling, statement_spelling, statements_spelling, parts_spelling, part_spelling, section_spelling}
+use Rattle.om_parser_tree.specs.Formed.{IsForHead, ends_open, IsStatement, IsSection, IsOptionalSection}
+use Rattle.om_parser_tree.specs.Limits.{Limits}
+use Rattle.om_parser_tree.specs.Sizes.{HasForms, section_longest, section_nesting}
+use Rattle.om_parser_parts.specs.PartReading.{Parts}
 use Rattle.om_parser.specs.StatementReading.{condition_at, optional_before, for_start_at, for_head_after, OpeningTree, OpensIf, OpensWhile, OpensFor, with_body, opening_of, else_after, behind_body, body_after, headed_of, do_end, do_after, block_item_at, block_items_after, parts_after}
-use Rattle.om_tree.specs.Tree.{ExpressionTree, ConditionTree, Nothing, StartExpression, ForHeadTree, StatementTree, PartsTree, PartTree, statements}
-use Rattle.om_tree.specs.Tree as trees
-use Rattle.om_parts.specs.Laws.{IsRead, IsSound, IsWhole, ArePartsSound}
-use Rattle.om_parts.specs.Outcomes.{ok, ok_is, some, bind_ok, choose_cases, after_front, after_token}
-use Rattle.om_parts.specs.Taken.{take_mark_is, take_word_is, mark_at_is, word_at_is}
-use Rattle.om_parts.specs.ItemsSound.{until_sound}
+use Rattle.om_parser_tree.specs.Tree.{ExpressionTree, ConditionTree, Nothing, StartExpression, ForHeadTree, StatementTree, PartsTree, PartTree, statements}
+use Rattle.om_parser_tree.specs.Tree as trees
+use Rattle.om_parser_parts.specs.Laws.{IsRead, IsSound, IsWhole, ArePartsSound}
+use Rattle.om_parser_parts.specs.Outcomes.{ok, ok_is, some, bind_ok, choose_cases, after_front, after_token}
+use Rattle.om_parser_parts.specs.Taken.{take_mark_is, take_word_is, mark_at_is, word_at_is}
+use Rattle.om_parser_parts.specs.ItemsSound.{until_sound}
 use Rattle.om_parser.proofs.OneOrMore.{several_sound}
 use Rattle.om_parser.proofs.StatementParts.{IsWholeOptional, IsWholeStart, IsWholeHead, optional_spelling, opening_spelling, IsWholeOpening, IsGood, IsGoodBody, IsGoodPartItem, are_good, IsGoodPart, good_part, are_good_parts, body_is_part, statements_flat, parts_flat, IsStatementRead, IsStatementSound, AreItemsRead, braces_spelling, AreGoodBraces, Whole, alone_named, section_named}
 

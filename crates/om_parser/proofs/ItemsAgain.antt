@@ -11,24 +11,24 @@ use Rattle.om_pragma.specs.Questions.{is_stand_alone}
 use Rattle.om_pragma.specs.Spelling.{directive_spelling, opening_spelling as line_opening}
 use Rattle.om_parser.specs.declared.construct.LineStart.{LineStart}
 use Rattle.om_parser.specs.declared.construct.LineStart.TheVariants as lines
-use Rattle.om_parts.specs.PartReading.{Parts}
+use Rattle.om_parser_parts.specs.PartReading.{Parts}
 use Rattle.om_parser.specs.ConstructReading.{line_start, item_of, part_item_at, is_section_line, at_section, ends_part}
 use Rattle.om_parser.specs.ConstructReading.{ends_parts, section_of, part_at}
-use Rattle.om_parts.specs.Reading.{Reader, take, same_word, take_mark, take_word}
+use Rattle.om_parser_parts.specs.Reading.{Reader, take, same_word, take_mark, take_word}
 use Rattle.om_parser.specs.OneOrMore.{one_or_more}
-use Rattle.om_tree.specs.Spelling.{expression_spelling, declaration_spelling, statement_spelling, statements_spelling}
-use Rattle.om_tree.specs.Spelling.{part_spelling, section_spelling}
-use Rattle.om_tree.specs.Formed.{IsBody, IsPartItem, IsLine, AreSome, IsStatement, IsLocalDeclaration}
-use Rattle.om_tree.specs.Formed.{IsSection, IsOptionalSection, ArePartItems}
-use Rattle.om_tree.specs.Limits.{Limits}
-use Rattle.om_tree.specs.Sizes.{HasForms, HasRoom, HaveRoom, section_longest, section_nesting}
+use Rattle.om_parser_tree.specs.Spelling.{expression_spelling, declaration_spelling, statement_spelling, statements_spelling}
+use Rattle.om_parser_tree.specs.Spelling.{part_spelling, section_spelling}
+use Rattle.om_parser_tree.specs.Formed.{IsBody, IsPartItem, IsLine, AreSome, IsStatement, IsLocalDeclaration}
+use Rattle.om_parser_tree.specs.Formed.{IsSection, IsOptionalSection, ArePartItems}
+use Rattle.om_parser_tree.specs.Limits.{Limits}
+use Rattle.om_parser_tree.specs.Sizes.{HasForms, HasRoom, HaveRoom, section_longest, section_nesting}
 use Rattle.om_parser.specs.StatementReading.{block_item_at}
-use Rattle.om_tree.specs.Tree.{ExpressionTree, DeclarationTree, StatementTree, StatementsTree, LocalDeclaration}
-use Rattle.om_tree.specs.Tree.{StandAlone, NoStatements, Statement, PartsTree, NoParts, Part, PartTree}
-use Rattle.om_parts.specs.Laws.{IsAnswer, declaration_tail, ArePartsAgain}
-use Rattle.om_parts.specs.Outcomes.{ok, some}
-use Rattle.om_parts.specs.Again.{take_word_again, bind_answer}
-use Rattle.om_parts.specs.ItemsComplete.{AreAgain}
+use Rattle.om_parser_tree.specs.Tree.{ExpressionTree, DeclarationTree, StatementTree, StatementsTree, LocalDeclaration}
+use Rattle.om_parser_tree.specs.Tree.{StandAlone, NoStatements, Statement, PartsTree, NoParts, Part, PartTree}
+use Rattle.om_parser_parts.specs.Laws.{IsAnswer, declaration_tail, ArePartsAgain}
+use Rattle.om_parser_parts.specs.Outcomes.{ok, some}
+use Rattle.om_parser_parts.specs.Again.{take_word_again, bind_answer}
+use Rattle.om_parser_parts.specs.ItemsComplete.{AreAgain}
 use Rattle.om_parser.proofs.OneOrMore.{AreSeveralAgain, several_again}
 use Rattle.om_parser.proofs.StatementParts.{PartsHaveRoom}
 use Rattle.om_parser.proofs.Shorter.{statement_some, part_some}

@@ -15,14 +15,14 @@ use Rattle.om_parser.specs.declared.construct.LineStart.{LineStart}
 use Rattle.om_parser.specs.declared.construct.LineStart.TheVariants as lines
 use Rattle.om_parser.specs.ConstructReading.{line_start, is_section_line}
 use Rattle.om_parser.specs.ConstructReading.{at_section, ends_part, ends_parts}
-use Rattle.om_parts.specs.Again.{take_mark_again}
-use Rattle.om_parts.specs.Halting.{IsElsewhere}
-use Rattle.om_parts.specs.Local.{Suffices, IsHalt}
-use Rattle.om_parts.specs.Local.{no_more}
-use Rattle.om_parts.specs.Outcomes.{ok, some, ok_is, err_is, bind_ok, bind_err}
-use Rattle.om_parts.specs.Reading.{◌>>=◌, choose, Outcome, Reader, syntax, take, take_mark}
-use Rattle.om_parts.specs.Reading.{mark_of, mark_at, known}
-use Rattle.om_tree.specs.Spelling.{token, mark}
+use Rattle.om_parser_parts.specs.Again.{take_mark_again}
+use Rattle.om_parser_parts.specs.Halting.{IsElsewhere}
+use Rattle.om_parser_parts.specs.Local.{Suffices, IsHalt}
+use Rattle.om_parser_parts.specs.Local.{no_more}
+use Rattle.om_parser_parts.specs.Outcomes.{ok, some, ok_is, err_is, bind_ok, bind_err}
+use Rattle.om_parser_parts.specs.Reading.{◌>>=◌, choose, Outcome, Reader, syntax, take, take_mark}
+use Rattle.om_parser_parts.specs.Reading.{mark_of, mark_at, known}
+use Rattle.om_parser_tree.specs.Spelling.{token, mark}
 use Rattle.om_parser.proofs.ItemLocal.{lined, Decided, Test, yes, IsGiven, IsGivenAt, IsItemAt}
 use Rattle.om_parser.proofs.ItemLocal.{behind}
 use Rattle.om_parser.proofs.SeveralLocal.{HangsOnStart, both}

@@ -10,18 +10,18 @@ use Rattle.om_lexer.specs.declared.token.Token.{Token}
 use Rattle.om_parser.specs.declared.start.Start.{Start}
 use Rattle.om_parser.specs.declared.start.Start.TheVariants as starts
 use Rattle.om_parser.specs.BlockFaults.{IsStopped}
-use Rattle.om_parts.specs.Reading.{Reader, choose, take_mark, take_word, mark_at, word_at}
-use Rattle.om_parts.specs.Repetition.{until}
-use Rattle.om_tree.specs.Spelling.{mark, word, perhaps, expression_spelling, local_spelling, condition_spelling, for_start_spelling, for_head_spelling, statement_spelling, statements_spelling, block_spelling}
-use Rattle.om_tree.specs.Formed.{IsOptional, IsForStart, IsForHead, ends_open, IsStatement, AreStatements, AreSome, IsExpression}
-use Rattle.om_tree.specs.Limits.{Limits}
-use Rattle.om_tree.specs.Places.{Place, in_parentheses, Behind, InOptional, InCondition, InForStart, InForHead, IsOverInside, IsOverInItems, IsOverInStatement, IsOverInBlock}
-use Rattle.om_parts.specs.PartReading.{Parts}
+use Rattle.om_parser_parts.specs.Reading.{Reader, choose, take_mark, take_word, mark_at, word_at}
+use Rattle.om_parser_parts.specs.Repetition.{until}
+use Rattle.om_parser_tree.specs.Spelling.{mark, word, perhaps, expression_spelling, local_spelling, condition_spelling, for_start_spelling, for_head_spelling, statement_spelling, statements_spelling, block_spelling}
+use Rattle.om_parser_tree.specs.Formed.{IsOptional, IsForStart, IsForHead, ends_open, IsStatement, AreStatements, AreSome, IsExpression}
+use Rattle.om_parser_tree.specs.Limits.{Limits}
+use Rattle.om_parser_tree.specs.Places.{Place, in_parentheses, Behind, InOptional, InCondition, InForStart, InForHead, IsOverInside, IsOverInItems, IsOverInStatement, IsOverInBlock}
+use Rattle.om_parser_parts.specs.PartReading.{Parts}
 use Rattle.om_parser.specs.StatementReading.{condition_at, optional_before, for_start_at, for_head_after, OpeningTree, OpensIf, OpensWhile, OpensFor, with_body, opening_of, else_after, behind_body, body_after, headed_of, do_end, do_after, block_item_at}
-use Rattle.om_tree.specs.Tree.{ExpressionTree, Constant, ConditionTree, ForStartTree, Nothing, StartExpression, StartDeclaration, ForHeadTree, StatementTree, StatementsTree, LocalDeclaration, Empty, IfElse, Do, NoStatements, Statement, statements}
-use Rattle.om_parts.specs.Outcomes.{some, bind_err, choose_cases, after_front}
-use Rattle.om_parts.specs.Taken.{take_word_is, mark_at_is, word_at_is}
-use Rattle.om_parts.specs.Laws.{ArePartsSound, Stops, IsExpressionCut, ArePartsCut}
+use Rattle.om_parser_tree.specs.Tree.{ExpressionTree, Constant, ConditionTree, ForStartTree, Nothing, StartExpression, StartDeclaration, ForHeadTree, StatementTree, StatementsTree, LocalDeclaration, Empty, IfElse, Do, NoStatements, Statement, statements}
+use Rattle.om_parser_parts.specs.Outcomes.{some, bind_err, choose_cases, after_front}
+use Rattle.om_parser_parts.specs.Taken.{take_word_is, mark_at_is, word_at_is}
+use Rattle.om_parser_parts.specs.Laws.{ArePartsSound, Stops, IsExpressionCut, ArePartsCut}
 use Rattle.om_parser.proofs.ItemSound.{with_body_spelled, block_item_sound_with}
 use Rattle.om_parser.proofs.StatementParts.{optional_spelling, opening_spelling, IsWholeOpening, Whole, IsStatementSound}
 use Rattle.om_parser.proofs.ItemSound as sounds

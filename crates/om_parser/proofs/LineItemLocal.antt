@@ -12,15 +12,15 @@ use Rattle.om_pragma.specs.declared.tree.Directive.{Directive}
 use Rattle.om_pragma.specs.Spelling.{directive_spelling, opening_spelling, name_spelling, item_spelling}
 use Rattle.om_parser.specs.declared.construct.LineStart.TheVariants as lines
 use Rattle.om_parser.specs.ConstructReading.{line_start, from_word}
-use Rattle.om_parts.specs.Halting.{Unended}
-use Rattle.om_parts.specs.Laws.{ArePartsSound}
-use Rattle.om_parts.specs.Local.{Suffices, ArePartsLocal}
-use Rattle.om_parts.specs.Outcomes.{ok, err_is}
-use Rattle.om_parts.specs.PartReading.{Parts}
-use Rattle.om_parts.specs.Reading.{Outcome, Reader, syntax}
-use Rattle.om_tree.specs.Limits.{Limits}
-use Rattle.om_tree.specs.Spelling.{token, expression_spelling}
-use Rattle.om_tree.specs.Tree.{ExpressionTree}
+use Rattle.om_parser_parts.specs.Halting.{Unended}
+use Rattle.om_parser_parts.specs.Laws.{ArePartsSound}
+use Rattle.om_parser_parts.specs.Local.{Suffices, ArePartsLocal}
+use Rattle.om_parser_parts.specs.Outcomes.{ok, err_is}
+use Rattle.om_parser_parts.specs.PartReading.{Parts}
+use Rattle.om_parser_parts.specs.Reading.{Outcome, Reader, syntax}
+use Rattle.om_parser_tree.specs.Limits.{Limits}
+use Rattle.om_parser_tree.specs.Spelling.{token, expression_spelling}
+use Rattle.om_parser_tree.specs.Tree.{ExpressionTree}
 use Rattle.om_parser.proofs.ItemLocal.{lined, Decided, Test, IsGivenAt, IsItemAt, behind}
 use Rattle.om_parser.proofs.LineStarts.{line_start_is}
 

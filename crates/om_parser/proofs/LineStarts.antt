@@ -11,8 +11,8 @@ use Rattle.om_pragma.specs.Spelling.{token, item_spelling, name_spelling, openin
 use Rattle.om_parser.specs.declared.construct.LineStart.{LineStart}
 use Rattle.om_pragma.specs.Words.{same_keyword}
 use Rattle.om_parser.specs.ConstructReading.{start_of_kind, word_start, line_start}
-use Rattle.om_tree.specs.Spelling.{expression_spelling}
-use Rattle.om_tree.specs.Tree.{ExpressionTree}
+use Rattle.om_parser_tree.specs.Spelling.{expression_spelling}
+use Rattle.om_parser_tree.specs.Tree.{ExpressionTree}
 
 abbrev pub start_of_directive : DirectiveName → LineStart
 start_of_directive name = start_of_kind (directive_kind name)

@@ -7,12 +7,12 @@ use Rattle.std.proofs.lemmas.List.Elements.{All-nil, All-cons, All-head, All-tai
 use Rattle.om_lexer.specs.Faults.{no_memory}
 use Rattle.om_lexer.specs.declared.fault.SourceFault.{SourceFault}
 use Rattle.om_lexer.specs.declared.token.Token.{Token}
-use Rattle.om_parts.specs.Laws.{IsAnswer}
-use Rattle.om_parts.specs.Reading.{◌>>=◌, Outcome, Reader}
-use Rattle.om_parts.specs.Again.{bind_answer}
-use Rattle.om_parts.specs.ItemsComplete.{items_length}
+use Rattle.om_parser_parts.specs.Laws.{IsAnswer}
+use Rattle.om_parser_parts.specs.Reading.{◌>>=◌, Outcome, Reader}
+use Rattle.om_parser_parts.specs.Again.{bind_answer}
+use Rattle.om_parser_parts.specs.ItemsComplete.{items_length}
 use Rattle.om_parser.specs.OneOrMore.{one_or_more}
-use Rattle.om_parts.specs.Outcomes.{ok, ok_is, bind_ok, either_way, after_front}
+use Rattle.om_parser_parts.specs.Outcomes.{ok, ok_is, bind_ok, either_way, after_front}
 
 -- ---- as a loop reads them
 

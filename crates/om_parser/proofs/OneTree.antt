@@ -1,15 +1,15 @@
 -- One unit at most has these tokens.
 use Rattle.std.proofs.Common.{◌≡◌, ◌+◌, ◌≤◌, List, [], ◌∷◌, false, refl, sym, ap, subst, ◌∙◌, arith, inl, inr, All}
 use Rattle.std.proofs.lemmas.List.Elements.{All-nil, All-cons, All-weaker}
-use Rattle.om_tree.specs.Formed.{IsUnit}
-use Rattle.om_tree.specs.Limits.{Limits}
-use Rattle.om_tree.specs.Sizes.{longest_of, brackets_of, blocks_of, height_of, HaveForms}
-use Rattle.om_tree.specs.Spelling.{unit_spelling}
-use Rattle.om_tree.specs.Tree.{ItemTree, Declaration, Prototype, Function, UnitTree, statements}
+use Rattle.om_parser_tree.specs.Formed.{IsUnit}
+use Rattle.om_parser_tree.specs.Limits.{Limits}
+use Rattle.om_parser_tree.specs.Sizes.{longest_of, brackets_of, blocks_of, height_of, HaveForms}
+use Rattle.om_parser_tree.specs.Spelling.{unit_spelling}
+use Rattle.om_parser_tree.specs.Tree.{ItemTree, Declaration, Prototype, Function, UnitTree, statements}
 use Rattle.om_parser.specs.UnitReading.{unit_at}
-use Rattle.om_parts.specs.Laws.{GlobalsAreReadAgain}
+use Rattle.om_parser_parts.specs.Laws.{GlobalsAreReadAgain}
 use Rattle.om_parser.specs.Laws.{BlocksAreReadAgain, UncheckedHaveForms}
-use Rattle.om_parts.specs.Outcomes.{ok, ok_is}
+use Rattle.om_parser_parts.specs.Outcomes.{ok, ok_is}
 use Rattle.om_parser.proofs.Forms.{IsKeptItem}
 use Rattle.om_parser.proofs.UnitComplete.{unit_again}
 

@@ -10,19 +10,19 @@ use Rattle.om_pragma.specs.declared.tree.Directive.{Directive}
 use Rattle.om_pragma.specs.Questions.{is_sections, is_atomic, atomic_kind}
 use Rattle.om_pragma.specs.Spelling.{directive_spelling, opening_spelling as line_opening}
 use Rattle.om_parser.specs.declared.start.Start.TheVariants as starts
-use Rattle.om_tree.specs.AtomicForms.{has_atomic_form}
-use Rattle.om_parts.specs.PartReading.{Parts}
+use Rattle.om_parser_tree.specs.AtomicForms.{has_atomic_form}
+use Rattle.om_parser_parts.specs.PartReading.{Parts}
 use Rattle.om_parser.specs.ConstructReading.{PartsReader, line_start, stand_alone_at, bad_atomic, atomic_of, atomic_after, constructed_after, construct_after, construct_at, line_of}
-use Rattle.om_parts.specs.Reading.{Reader, take, same_mark, same_word, take_mark, take_word}
-use Rattle.om_tree.specs.Spelling.{mark, word, perhaps, expression_spelling, declaration_spelling, condition_spelling, for_start_spelling, for_head_spelling, statement_spelling, parts_spelling}
-use Rattle.om_tree.specs.Formed.{IsOptional, IsForStart, IsForHead, ends_open, IsBody, IsPartItem, IsLine, IsConstruct, IsStatement, IsExpression}
-use Rattle.om_tree.specs.Limits.{Limits}
-use Rattle.om_tree.specs.Sizes.{Where, HasForms, HasRoom, for_start_extent, for_start_nesting}
+use Rattle.om_parser_parts.specs.Reading.{Reader, take, same_mark, same_word, take_mark, take_word}
+use Rattle.om_parser_tree.specs.Spelling.{mark, word, perhaps, expression_spelling, declaration_spelling, condition_spelling, for_start_spelling, for_head_spelling, statement_spelling, parts_spelling}
+use Rattle.om_parser_tree.specs.Formed.{IsOptional, IsForStart, IsForHead, ends_open, IsBody, IsPartItem, IsLine, IsConstruct, IsStatement, IsExpression}
+use Rattle.om_parser_tree.specs.Limits.{Limits}
+use Rattle.om_parser_tree.specs.Sizes.{Where, HasForms, HasRoom, for_start_extent, for_start_nesting}
 use Rattle.om_parser.specs.StatementReading.{condition_at, optional_before, for_start_at, for_head_after, OpeningTree, OpensIf, OpensWhile, OpensFor, opening_of, return_after, jump_after, expression_statement_at, else_after, behind_body, body_after, headed_of, do_end, do_after}
-use Rattle.om_tree.specs.Tree.{ExpressionTree, ConditionTree, ForStartTree, Nothing, StartExpression, StartDeclaration, ForHeadTree, StatementTree, LocalDeclaration, Block, Empty, Expression, If, IfElse, While, Do, For, Return, Break, Continue, Construct, StandAlone, Sections}
-use Rattle.om_parts.specs.Laws.{IsAnswer, Keeps, IsEnd, IsExpressionAgain, declaration_tail, ArePartsAgain}
-use Rattle.om_parts.specs.Outcomes.{ok}
-use Rattle.om_parts.specs.Again.{take_mark_again, take_word_again, mark_again, word_again, bind_answer}
+use Rattle.om_parser_tree.specs.Tree.{ExpressionTree, ConditionTree, ForStartTree, Nothing, StartExpression, StartDeclaration, ForHeadTree, StatementTree, LocalDeclaration, Block, Empty, Expression, If, IfElse, While, Do, For, Return, Break, Continue, Construct, StandAlone, Sections}
+use Rattle.om_parser_parts.specs.Laws.{IsAnswer, Keeps, IsEnd, IsExpressionAgain, declaration_tail, ArePartsAgain}
+use Rattle.om_parser_parts.specs.Outcomes.{ok}
+use Rattle.om_parser_parts.specs.Again.{take_mark_again, take_word_again, mark_again, word_again, bind_answer}
 use Rattle.om_parser.proofs.UnaskedForms.{no_forms}
 use Rattle.om_parser.proofs.StatementParts.{optional_spelling}
 use Rattle.om_parser.proofs.Begins.{expression_starts}

@@ -6,19 +6,19 @@ use Rattle.om_lexer.specs.Faults.{no_memory}
 use Rattle.om_lexer.specs.declared.fault.FaultCode.TheVariants as codes
 use Rattle.om_lexer.specs.declared.fault.SourceFault.{SourceFault}
 use Rattle.om_lexer.specs.declared.token.Token.{Token}
-use Rattle.om_tree.specs.declared.tree.Unit as units
+use Rattle.om_parser_tree.specs.declared.tree.Unit as units
 use Rattle.om_parser.specs.Faults.{IsBadAtomic}
-use Rattle.om_tree.specs.Limits.{accepted}
+use Rattle.om_parser_tree.specs.Limits.{accepted}
 use Rattle.om_parser.specs.LineFaults.{IsRefusedLine}
-use Rattle.om_tree.specs.Sizes.{IsItemWithin, IsWithinLimits, HasItemForms, AtomicsHaveForms}
+use Rattle.om_parser_tree.specs.Sizes.{IsItemWithin, IsWithinLimits, HasItemForms, AtomicsHaveForms}
 use Rattle.om_parser.specs.Parsing.{IsTreeOf, IsTreeOrMemory, IsLimitPassed}
 use Rattle.om_parser.specs.Refusals.{refusal_of, refused}
-use Rattle.om_parts.specs.Reading.{Reads}
-use Rattle.om_tree.specs.Tree.{UnitTree}
+use Rattle.om_parser_parts.specs.Reading.{Reads}
+use Rattle.om_parser_tree.specs.Tree.{UnitTree}
 use Rattle.om_parser.specs.UnitReading.{unit_at}
-use Rattle.om_tree.specs.View.{view_unit}
-use Rattle.om_parts.specs.Outcomes.{ok, ok_is, err_is}
-use Rattle.om_parts.specs.Laws.{IsAnswer, GlobalsAreReadAgain}
+use Rattle.om_parser_tree.specs.View.{view_unit}
+use Rattle.om_parser_parts.specs.Outcomes.{ok, ok_is, err_is}
+use Rattle.om_parser_parts.specs.Laws.{IsAnswer, GlobalsAreReadAgain}
 use Rattle.om_parser.specs.Laws.{BlocksAreReadAgain}
 use Rattle.om_parser.proofs.Forms.{IsKeptItem}
 use Rattle.om_parser.proofs.Given.{ReadingLaws}

@@ -6,27 +6,27 @@ use Rattle.om_lexer.specs.declared.fault.SourceFault.{SourceFault}
 use Rattle.om_lexer.specs.declared.token.Span.{Span}
 use Rattle.om_lexer.specs.declared.token.Token.{Token}
 use Rattle.om_pragma.specs.declared.tree.Directive.{Directive}
-use Rattle.om_parts.specs.Laws.{ArePartsSound, Stops, ArePartsCut}
-use Rattle.om_parts.specs.PartReading.{Parts}
-use Rattle.om_parts.specs.Reading.{Reader}
+use Rattle.om_parser_parts.specs.Laws.{ArePartsSound, Stops, ArePartsCut}
+use Rattle.om_parser_parts.specs.PartReading.{Parts}
+use Rattle.om_parser_parts.specs.Reading.{Reader}
 use Rattle.om_parser.specs.ConstructReading.{line_start, part_item_at, ends_part, ends_parts, section_of, part_at}
 use Rattle.om_parser.specs.declared.construct.LineStart.{LineStart}
 use Rattle.om_parser.specs.declared.construct.LineStart.TheVariants as lines
 use Rattle.om_parser.specs.BlockFaults.{IsStopped}
 use Rattle.om_parser.specs.OneOrMore.{one_or_more}
-use Rattle.om_parts.specs.Outcomes.{bind_err, either_way}
+use Rattle.om_parser_parts.specs.Outcomes.{bind_err, either_way}
 use Rattle.om_parser.specs.Stopped.{syntax_plain, within_larger}
 use Rattle.om_parser.proofs.ConstructCut.{IsStatementStopped, IsStatementCut, part_item_cut, any_section_formed}
 use Rattle.om_parser.proofs.ConstructCut.{any_part, any_part_rest, any_part_spelled, line_stopped_in}
 use Rattle.om_parser.proofs.ItemSound.{NamesSection, section_sound, stands, part_item_sound_with, part_sound_with}
 use Rattle.om_parser.proofs.StatementParts.{IsStatementSound, body_is_part}
-use Rattle.om_tree.specs.Formed.{IsSection, IsStatement, AreSome, ArePartItems, AreFurtherParts}
-use Rattle.om_tree.specs.Limits.{Limits}
-use Rattle.om_tree.specs.Places.{Place, Behind, IsOverInside, IsOverInItems, IsOverInParts}
-use Rattle.om_tree.specs.Spelling.{statement_spelling, statements_spelling, section_spelling, part_spelling}
-use Rattle.om_tree.specs.Spelling.{parts_spelling}
-use Rattle.om_tree.specs.Tree.{ExpressionTree, StatementTree, StatementsTree, NoStatements, Statement, PartsTree}
-use Rattle.om_tree.specs.Tree.{NoParts, Part, PartTree}
+use Rattle.om_parser_tree.specs.Formed.{IsSection, IsStatement, AreSome, ArePartItems, AreFurtherParts}
+use Rattle.om_parser_tree.specs.Limits.{Limits}
+use Rattle.om_parser_tree.specs.Places.{Place, Behind, IsOverInside, IsOverInItems, IsOverInParts}
+use Rattle.om_parser_tree.specs.Spelling.{statement_spelling, statements_spelling, section_spelling, part_spelling}
+use Rattle.om_parser_tree.specs.Spelling.{parts_spelling}
+use Rattle.om_parser_tree.specs.Tree.{ExpressionTree, StatementTree, StatementsTree, NoStatements, Statement, PartsTree}
+use Rattle.om_parser_tree.specs.Tree.{NoParts, Part, PartTree}
 
 abbrev MaySection : Type 1
 MaySection = Option (Directive ExpressionTree) → Type 0

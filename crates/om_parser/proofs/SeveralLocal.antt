@@ -5,10 +5,10 @@ use Rattle.std.specs.Prelude.{◌&&◌}
 use Rattle.om_lexer.specs.declared.fault.FaultCode.TheVariants as codes
 use Rattle.om_lexer.specs.declared.fault.SourceFault.{SourceFault}
 use Rattle.om_lexer.specs.declared.token.Token.{Token}
-use Rattle.om_parts.specs.Halting.{IsElsewhere}
-use Rattle.om_parts.specs.Local.{Measure, Suffices, SameRoom, IsHalt, Consumes, bind_same, unended_both, elsewhere_behind, room_before}
-use Rattle.om_parts.specs.Outcomes.{ok, ok_is, bind_ok, bind_err, either_way}
-use Rattle.om_parts.specs.Reading.{◌>>=◌, Outcome, Reader}
+use Rattle.om_parser_parts.specs.Halting.{IsElsewhere}
+use Rattle.om_parser_parts.specs.Local.{Measure, Suffices, SameRoom, IsHalt, Consumes, bind_same, unended_both, elsewhere_behind, room_before}
+use Rattle.om_parser_parts.specs.Outcomes.{ok, ok_is, bind_ok, bind_err, either_way}
+use Rattle.om_parser_parts.specs.Reading.{◌>>=◌, Outcome, Reader}
 use Rattle.om_parser.specs.OneOrMore.{one_or_more}
 use Rattle.om_parser.proofs.ItemLocal.{lined, Decided, decided_more, Test, IsGiven, IsItemAt}
 

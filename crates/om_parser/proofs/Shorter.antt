@@ -5,21 +5,21 @@ use Rattle.om_lexer.specs.declared.token.Span.{Span}
 use Rattle.om_lexer.specs.declared.token.Token.{Token}
 use Rattle.om_pragma.specs.declared.tree.Directive.{Directive}
 use Rattle.om_pragma.specs.Spelling.{opening_spelling, directive_spelling}
-use Rattle.om_tree.specs.Formed.{AreSome, IsStatement, ArePartItems}
-use Rattle.om_tree.specs.Limits.{Limits}
-use Rattle.om_parts.specs.Reading.{take_mark}
-use Rattle.om_tree.specs.Spelling.{mark, expression_spelling, for_head_spelling, declaration_spelling}
-use Rattle.om_tree.specs.Spelling.{statement_spelling, statements_spelling, parts_spelling, part_spelling}
-use Rattle.om_tree.specs.Spelling.{section_spelling}
-use Rattle.om_parts.specs.PartReading.{Parts}
+use Rattle.om_parser_tree.specs.Formed.{AreSome, IsStatement, ArePartItems}
+use Rattle.om_parser_tree.specs.Limits.{Limits}
+use Rattle.om_parser_parts.specs.Reading.{take_mark}
+use Rattle.om_parser_tree.specs.Spelling.{mark, expression_spelling, for_head_spelling, declaration_spelling}
+use Rattle.om_parser_tree.specs.Spelling.{statement_spelling, statements_spelling, parts_spelling, part_spelling}
+use Rattle.om_parser_tree.specs.Spelling.{section_spelling}
+use Rattle.om_parser_parts.specs.PartReading.{Parts}
 use Rattle.om_parser.specs.ConstructReading.{part_at, part_item_at}
 use Rattle.om_parser.specs.StatementReading.{block_item_at, statement_at}
-use Rattle.om_tree.specs.Tree.{ExpressionTree, StatementTree, LocalDeclaration, Block, Empty, Expression, If, IfElse}
-use Rattle.om_tree.specs.Tree.{While, Do, For, Return, Break, Continue, Construct, StandAlone, Sections}
-use Rattle.om_tree.specs.Tree.{StatementsTree, NoStatements, Statement, PartTree}
-use Rattle.om_parts.specs.Outcomes.{ok, some}
-use Rattle.om_parts.specs.Taken.{take_mark_is}
-use Rattle.om_parts.specs.Laws.{ArePartsSound}
+use Rattle.om_parser_tree.specs.Tree.{ExpressionTree, StatementTree, LocalDeclaration, Block, Empty, Expression, If, IfElse}
+use Rattle.om_parser_tree.specs.Tree.{While, Do, For, Return, Break, Continue, Construct, StandAlone, Sections}
+use Rattle.om_parser_tree.specs.Tree.{StatementsTree, NoStatements, Statement, PartTree}
+use Rattle.om_parser_parts.specs.Outcomes.{ok, some}
+use Rattle.om_parser_parts.specs.Taken.{take_mark_is}
+use Rattle.om_parser_parts.specs.Laws.{ArePartsSound}
 use Rattle.om_parser.proofs.StatementSound.{block_item_sound, part_item_sound, part_sound}
 
 pub brace_shorter : (ts : List Token) (s : Span) (us : List Token) → take_mark punctuators.CloseBrace ts

@@ -4,10 +4,10 @@ use Rattle.std.proofs.Common.{subst, ◌∙◌, arith, Bool, Result}
 use Rattle.om_lexer.specs.declared.fault.SourceFault.{SourceFault}
 use Rattle.om_lexer.specs.declared.token.Token.{Token}
 use Rattle.om_parser.specs.declared.start.Start.TheVariants as starts
-use Rattle.om_parts.specs.Reading.{Reads}
-use Rattle.om_parts.specs.PartReading.{Parts}
+use Rattle.om_parser_parts.specs.Reading.{Reads}
+use Rattle.om_parser_parts.specs.PartReading.{Parts}
 use Rattle.om_parser.specs.StatementReading.{start_of, block_after, statement_of, statement_at}
-use Rattle.om_tree.specs.Tree.{StatementTree}
+use Rattle.om_parser_tree.specs.Tree.{StatementTree}
 
 block_started : (p : Parts) (checked : Bool) (room blocks_left : ℕ) (t : Token) (ts : List Token) → start_of t.kind
     ≡ starts.Block → statement_at p checked (suc room) blocks_left (t ∷ ts)

@@ -8,22 +8,22 @@ use Rattle.om_lexer.specs.declared.token.Token.{Token}
 use Rattle.om_pragma.specs.declared.tree.Directive.{Directive}
 use Rattle.om_pragma.specs.Questions.{is_sections}
 use Rattle.om_pragma.specs.Spelling.{directive_spelling, opening_spelling as line_opening}
-use Rattle.om_parts.specs.PartReading.{Parts}
+use Rattle.om_parser_parts.specs.PartReading.{Parts}
 use Rattle.om_parser.specs.ConstructReading.{line_start, ends_part, ends_parts, part_at, sections_after, construct_after, construct_at, line_of}
-use Rattle.om_parts.specs.Reading.{◌>>=◌, Reader, take_mark}
+use Rattle.om_parser_parts.specs.Reading.{◌>>=◌, Reader, take_mark}
 use Rattle.om_parser.specs.OneOrMore.{one_or_more}
-use Rattle.om_tree.specs.Spelling.{mark, expression_spelling, for_head_spelling, statement_spelling, statements_spelling, block_spelling, parts_spelling, part_spelling}
-use Rattle.om_tree.specs.Formed.{IsBody, IsLine, IsStatement, AreStatements}
-use Rattle.om_tree.specs.Formed.{IsSection, IsOptionalSection, ArePartItems, AreFurtherParts}
-use Rattle.om_tree.specs.Limits.{Limits}
-use Rattle.om_tree.specs.Sizes.{HasForms, HasRoom, HaveRoom}
+use Rattle.om_parser_tree.specs.Spelling.{mark, expression_spelling, for_head_spelling, statement_spelling, statements_spelling, block_spelling, parts_spelling, part_spelling}
+use Rattle.om_parser_tree.specs.Formed.{IsBody, IsLine, IsStatement, AreStatements}
+use Rattle.om_parser_tree.specs.Formed.{IsSection, IsOptionalSection, ArePartItems, AreFurtherParts}
+use Rattle.om_parser_tree.specs.Limits.{Limits}
+use Rattle.om_parser_tree.specs.Sizes.{HasForms, HasRoom, HaveRoom}
 use Rattle.om_parser.specs.StatementReading.{expression_statement_at, block_item_at, items_at, block_items_after, block_after, parts_after, simple_of, statement_of, no_room, statement_at, parts_at, block_with}
-use Rattle.om_tree.specs.Tree.{ExpressionTree, StatementTree, StatementsTree, LocalDeclaration, Block, Empty, Expression, If, IfElse, While, Do, For, Return, Break, Continue, Construct, StandAlone, Sections, NoStatements, Statement, statements, BlockTree, PartsTree, NoParts, Part, PartTree}
+use Rattle.om_parser_tree.specs.Tree.{ExpressionTree, StatementTree, StatementsTree, LocalDeclaration, Block, Empty, Expression, If, IfElse, While, Do, For, Return, Break, Continue, Construct, StandAlone, Sections, NoStatements, Statement, statements, BlockTree, PartsTree, NoParts, Part, PartTree}
 use Rattle.om_parser.specs.Laws.{IsKeptBlock}
-use Rattle.om_parts.specs.Laws.{IsAnswer, ArePartsAgain}
-use Rattle.om_parts.specs.Outcomes.{ok}
-use Rattle.om_parts.specs.Again.{take_mark_again, mark_again, deep_at, bind_answer, narrower}
-use Rattle.om_parts.specs.ItemsComplete.{until_again}
+use Rattle.om_parser_parts.specs.Laws.{IsAnswer, ArePartsAgain}
+use Rattle.om_parser_parts.specs.Outcomes.{ok}
+use Rattle.om_parser_parts.specs.Again.{take_mark_again, mark_again, deep_at, bind_answer, narrower}
+use Rattle.om_parser_parts.specs.ItemsComplete.{until_again}
 use Rattle.om_parser.proofs.OneOrMore.{several_again}
 use Rattle.om_parser.proofs.StatementParts.{statements_flat, PartsHaveRoom}
 use Rattle.om_parser.proofs.Shorter.{part_some}

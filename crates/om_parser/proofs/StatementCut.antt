@@ -14,23 +14,23 @@ use Rattle.om_parser.specs.declared.start.Start.TheVariants as starts
 use Rattle.om_parser.specs.ConstructReading.{PartsReader, line_start, ends_parts, part_at}
 use Rattle.om_parser.specs.OneOrMore.{one_or_more}
 use Rattle.om_parser.specs.BlockFaults.{IsStopped}
-use Rattle.om_parts.specs.Reading.{Reader, too_deep, mark_at}
-use Rattle.om_tree.specs.Spelling.{token, mark, word, condition_spelling, for_start_spelling, for_head_spelling}
-use Rattle.om_tree.specs.Spelling.{statement_spelling, block_spelling}
-use Rattle.om_tree.specs.Formed.{IsForHead, IsStatement, AreStatements, IsOptionalSection, AreParts}
-use Rattle.om_tree.specs.Limits.{Limits}
-use Rattle.om_tree.specs.Places.{Either, AtDepth, AtBrace, IsOverInside, IsOverInItems, IsOverInStatement}
-use Rattle.om_tree.specs.Places.{IsOverInBlock}
-use Rattle.om_parts.specs.PartReading.{Parts}
+use Rattle.om_parser_parts.specs.Reading.{Reader, too_deep, mark_at}
+use Rattle.om_parser_tree.specs.Spelling.{token, mark, word, condition_spelling, for_start_spelling, for_head_spelling}
+use Rattle.om_parser_tree.specs.Spelling.{statement_spelling, block_spelling}
+use Rattle.om_parser_tree.specs.Formed.{IsForHead, IsStatement, AreStatements, IsOptionalSection, AreParts}
+use Rattle.om_parser_tree.specs.Limits.{Limits}
+use Rattle.om_parser_tree.specs.Places.{Either, AtDepth, AtBrace, IsOverInside, IsOverInItems, IsOverInStatement}
+use Rattle.om_parser_tree.specs.Places.{IsOverInBlock}
+use Rattle.om_parser_parts.specs.PartReading.{Parts}
 use Rattle.om_parser.specs.StatementReading.{start_of, optional_before, return_after, jump_after}
 use Rattle.om_parser.specs.StatementReading.{expression_statement_at, block_items_after, block_after}
 use Rattle.om_parser.specs.StatementReading.{parts_after, simple_of, statement_of, no_room}
 use Rattle.om_parser.specs.StatementReading.{statement_at, parts_at, block_with}
-use Rattle.om_tree.specs.Tree.{StatementTree, StatementsTree, Block, Empty, Expression, If, While, Do, For, Return}
-use Rattle.om_tree.specs.Tree.{Break, Continue, Construct, NoStatements, Statement, statements, BlockTree, PartsTree, NoParts, Part}
-use Rattle.om_parts.specs.Outcomes.{bind_err, err_is}
-use Rattle.om_parts.specs.Taken.{mark_at_is}
-use Rattle.om_parts.specs.Laws.{ArePartsSound, Stops, ArePartsCut}
+use Rattle.om_parser_tree.specs.Tree.{StatementTree, StatementsTree, Block, Empty, Expression, If, While, Do, For, Return}
+use Rattle.om_parser_tree.specs.Tree.{Break, Continue, Construct, NoStatements, Statement, statements, BlockTree, PartsTree, NoParts, Part}
+use Rattle.om_parser_parts.specs.Outcomes.{bind_err, err_is}
+use Rattle.om_parser_parts.specs.Taken.{mark_at_is}
+use Rattle.om_parser_parts.specs.Laws.{ArePartsSound, Stops, ArePartsCut}
 use Rattle.om_parser.proofs.StatementSound.{statement_sound}
 use Rattle.om_parser.proofs.StatementParts.{IsOf, is_of_start, braces_spelling, IsStatementSound}
 use Rattle.om_parser.proofs.StatementTokens.{list_of, statements_of, list_flat}

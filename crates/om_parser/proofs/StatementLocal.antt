@@ -23,16 +23,16 @@ use Rattle.om_parser.specs.StatementReading.{condition_at, optional_before, for_
 use Rattle.om_parser.specs.StatementReading.{OpeningTree, OpensIf, OpensWhile, OpensFor, opening_of, return_after}
 use Rattle.om_parser.specs.StatementReading.{jump_after, expression_statement_at, else_after, behind_body, body_after}
 use Rattle.om_parser.specs.StatementReading.{headed_of, do_end, do_after}
-use Rattle.om_parts.specs.Local.{Measure, Form, Family, pair, IsLocal, ArePartsLocal, done, bind, either}
-use Rattle.om_parts.specs.Local.{stuck, mark_taker, word_taker, mark_local, word_local}
-use Rattle.om_parts.specs.Outcomes.{err_is}
-use Rattle.om_parts.specs.PartReading.{Parts}
-use Rattle.om_parts.specs.Reading.{choose, Reader, take_mark, take_word, mark_at}
-use Rattle.om_parts.specs.Reading.{word_at}
-use Rattle.om_tree.specs.AtomicForms.{has_atomic_form}
-use Rattle.om_tree.specs.Tree.{ExpressionTree, ConditionTree, Nothing, StartExpression, StartDeclaration, StatementTree}
-use Rattle.om_tree.specs.Tree.{Expression, If, IfElse, While, Do, For, Return}
-use Rattle.om_tree.specs.Tree.{Construct, StandAlone, Sections, statements}
+use Rattle.om_parser_parts.specs.Local.{Measure, Form, Family, pair, IsLocal, ArePartsLocal, done, bind, either}
+use Rattle.om_parser_parts.specs.Local.{stuck, mark_taker, word_taker, mark_local, word_local}
+use Rattle.om_parser_parts.specs.Outcomes.{err_is}
+use Rattle.om_parser_parts.specs.PartReading.{Parts}
+use Rattle.om_parser_parts.specs.Reading.{choose, Reader, take_mark, take_word, mark_at}
+use Rattle.om_parser_parts.specs.Reading.{word_at}
+use Rattle.om_parser_tree.specs.AtomicForms.{has_atomic_form}
+use Rattle.om_parser_tree.specs.Tree.{ExpressionTree, ConditionTree, Nothing, StartExpression, StartDeclaration, StatementTree}
+use Rattle.om_parser_tree.specs.Tree.{Expression, If, IfElse, While, Do, For, Return}
+use Rattle.om_parser_tree.specs.Tree.{Construct, StandAlone, Sections, statements}
 use Rattle.om_parser.proofs.ItemLocal.{lined}
 
 -- a reader of statements that looks no further

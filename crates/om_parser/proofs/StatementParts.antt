@@ -20,23 +20,23 @@ use Rattle.om_parser.specs.declared.construct.LineStart.TheVariants as lines
 use Rattle.om_parser.specs.declared.start.Start.{Start}
 use Rattle.om_parser.specs.declared.start.Start.TheVariants as starts
 use Rattle.om_parser.specs.ConstructReading.{line_start, PartsReader}
-use Rattle.om_parts.specs.Reading.{Outcome, Reader, take_word}
-use Rattle.om_tree.specs.Spelling.{token, mark, word, perhaps, expression_spelling, condition_spelling}
-use Rattle.om_tree.specs.Spelling.{for_head_spelling, statement_spelling, statements_spelling, parts_spelling}
-use Rattle.om_tree.specs.Spelling.{part_spelling}
-use Rattle.om_tree.specs.Formed.{IsOptional, IsForStart, ends_open, IsBody, IsPartItem, IsSection, IsOptionalSection}
-use Rattle.om_tree.specs.Formed.{AreSome, IsStatement, AreStatements, ArePartItems, AreFurtherParts, AreParts}
-use Rattle.om_tree.specs.Limits.{Limits}
-use Rattle.om_tree.specs.Sizes.{longest_of, brackets_of, blocks_of, height_of, HasForms, HaveForms, HasRoom, HaveRoom}
-use Rattle.om_tree.specs.Sizes.{section_longest, section_nesting, longest_of_parts, brackets_of_parts}
-use Rattle.om_tree.specs.Sizes.{blocks_of_parts, height_of_parts, PartsHaveForms}
-use Rattle.om_tree.specs.Sizes.{optional_extent, optional_nesting, for_start_extent, for_start_nesting}
+use Rattle.om_parser_parts.specs.Reading.{Outcome, Reader, take_word}
+use Rattle.om_parser_tree.specs.Spelling.{token, mark, word, perhaps, expression_spelling, condition_spelling}
+use Rattle.om_parser_tree.specs.Spelling.{for_head_spelling, statement_spelling, statements_spelling, parts_spelling}
+use Rattle.om_parser_tree.specs.Spelling.{part_spelling}
+use Rattle.om_parser_tree.specs.Formed.{IsOptional, IsForStart, ends_open, IsBody, IsPartItem, IsSection, IsOptionalSection}
+use Rattle.om_parser_tree.specs.Formed.{AreSome, IsStatement, AreStatements, ArePartItems, AreFurtherParts, AreParts}
+use Rattle.om_parser_tree.specs.Limits.{Limits}
+use Rattle.om_parser_tree.specs.Sizes.{longest_of, brackets_of, blocks_of, height_of, HasForms, HaveForms, HasRoom, HaveRoom}
+use Rattle.om_parser_tree.specs.Sizes.{section_longest, section_nesting, longest_of_parts, brackets_of_parts}
+use Rattle.om_parser_tree.specs.Sizes.{blocks_of_parts, height_of_parts, PartsHaveForms}
+use Rattle.om_parser_tree.specs.Sizes.{optional_extent, optional_nesting, for_start_extent, for_start_nesting}
 use Rattle.om_parser.specs.StatementReading.{start_of, OpeningTree, OpensIf, OpensWhile, OpensFor}
-use Rattle.om_tree.specs.Tree.{ExpressionTree, ForStartTree, ForHeadTree, StatementTree, StatementsTree}
-use Rattle.om_tree.specs.Tree.{LocalDeclaration, statements, PartsTree, NoParts, Part, PartTree}
-use Rattle.om_tree.specs.Tree as trees
-use Rattle.om_parts.specs.Laws.{IsSound, IsWhole}
-use Rattle.om_parts.specs.Outcomes.{ok}
+use Rattle.om_parser_tree.specs.Tree.{ExpressionTree, ForStartTree, ForHeadTree, StatementTree, StatementsTree}
+use Rattle.om_parser_tree.specs.Tree.{LocalDeclaration, statements, PartsTree, NoParts, Part, PartTree}
+use Rattle.om_parser_tree.specs.Tree as trees
+use Rattle.om_parser_parts.specs.Laws.{IsSound, IsWhole}
+use Rattle.om_parser_parts.specs.Outcomes.{ok}
 use Rattle.om_parser.proofs.OneOrMore.{FirstAndMore, each_of}
 use Rattle.om_parser.proofs.LineStarts.{line_start_is, start_of_directive}
 

@@ -14,25 +14,25 @@ use Rattle.om_parser.specs.declared.construct.LineStart.{LineStart}
 use Rattle.om_parser.specs.declared.construct.LineStart.TheVariants as lines
 use Rattle.om_parser.specs.declared.start.Start.{Start}
 use Rattle.om_parser.specs.declared.start.Start.TheVariants as starts
-use Rattle.om_tree.specs.AtomicForms.{has_atomic_form}
+use Rattle.om_parser_tree.specs.AtomicForms.{has_atomic_form}
 use Rattle.om_parser.specs.ConstructReading.{line_start, misplaced, unknown_line, bad_atomic, atomic_of, atomic_after}
 use Rattle.om_parser.specs.ConstructReading.{constructed_after, PartsReader, sections_after, construct_after}
 use Rattle.om_parser.specs.ConstructReading.{construct_at, line_of, part_at, part_item_at}
-use Rattle.om_parts.specs.Reading.{Reader, mark_at}
-use Rattle.om_tree.specs.Spelling.{token, mark, word, expression_spelling, statement_spelling, block_spelling}
-use Rattle.om_tree.specs.Spelling.{part_spelling}
-use Rattle.om_tree.specs.Formed.{IsBody, IsConstruct, IsStatement, IsOptionalSection}
-use Rattle.om_tree.specs.Limits.{Limits}
-use Rattle.om_tree.specs.Sizes.{longest, brackets, blocks, height, Where, HasForms}
-use Rattle.om_parts.specs.PartReading.{Parts}
+use Rattle.om_parser_parts.specs.Reading.{Reader, mark_at}
+use Rattle.om_parser_tree.specs.Spelling.{token, mark, word, expression_spelling, statement_spelling, block_spelling}
+use Rattle.om_parser_tree.specs.Spelling.{part_spelling}
+use Rattle.om_parser_tree.specs.Formed.{IsBody, IsConstruct, IsStatement, IsOptionalSection}
+use Rattle.om_parser_tree.specs.Limits.{Limits}
+use Rattle.om_parser_tree.specs.Sizes.{longest, brackets, blocks, height, Where, HasForms}
+use Rattle.om_parser_parts.specs.PartReading.{Parts}
 use Rattle.om_parser.specs.StatementReading.{start_of, optional_before, return_after, jump_after}
 use Rattle.om_parser.specs.StatementReading.{expression_statement_at, block_item_at, block_items_after}
 use Rattle.om_parser.specs.StatementReading.{block_after, simple_of, statement_of, no_room, statement_at, parts_at}
 use Rattle.om_parser.specs.StatementReading.{block_with}
-use Rattle.om_tree.specs.Tree.{ExpressionTree, StatementTree, Empty, Expression, Return, Break, Continue, Construct}
-use Rattle.om_parts.specs.Laws.{IsWholeLine, IsRead, IsSound, ArePartsSound}
-use Rattle.om_parts.specs.Outcomes.{ok, ok_is, bind_ok, either_way, after_front, after_token}
-use Rattle.om_parts.specs.Taken.{mark_at_is}
+use Rattle.om_parser_tree.specs.Tree.{ExpressionTree, StatementTree, Empty, Expression, Return, Break, Continue, Construct}
+use Rattle.om_parser_parts.specs.Laws.{IsWholeLine, IsRead, IsSound, ArePartsSound}
+use Rattle.om_parser_parts.specs.Outcomes.{ok, ok_is, bind_ok, either_way, after_front, after_token}
+use Rattle.om_parser_parts.specs.Taken.{mark_at_is}
 use Rattle.om_parser.proofs.StatementParts.{IsOf, is_of_start, IsGood, IsGoodBody, IsGoodPartItem, IsGoodPart, statements_flat}
 use Rattle.om_parser.proofs.StatementParts.{IsStatementRead}
 use Rattle.om_parser.proofs.StatementParts.{IsStatementSound, braces_spelling, AreGoodBraces, AreBracesSound}

@@ -20,18 +20,18 @@ use Rattle.om_parser.specs.declared.construct.LineStart.TheVariants as lines
 use Rattle.om_parser.specs.declared.start.Start.{Start}
 use Rattle.om_parser.specs.declared.start.Start.TheVariants as starts
 use Rattle.om_parser.specs.ConstructReading.{line_start}
-use Rattle.om_parts.specs.Reading.{take, take_mark, take_word}
-use Rattle.om_tree.specs.Spelling.{token, mark, word, perhaps, expression_spelling, condition_spelling}
-use Rattle.om_tree.specs.Spelling.{for_start_spelling, statement_spelling, statements_spelling, parts_spelling}
-use Rattle.om_tree.specs.Spelling.{part_spelling}
-use Rattle.om_tree.specs.Formed.{IsForHead, IsExpression}
-use Rattle.om_tree.specs.Limits.{Limits}
-use Rattle.om_tree.specs.Sizes.{optional_extent, optional_nesting, for_start_extent, for_start_nesting}
+use Rattle.om_parser_parts.specs.Reading.{take, take_mark, take_word}
+use Rattle.om_parser_tree.specs.Spelling.{token, mark, word, perhaps, expression_spelling, condition_spelling}
+use Rattle.om_parser_tree.specs.Spelling.{for_start_spelling, statement_spelling, statements_spelling, parts_spelling}
+use Rattle.om_parser_tree.specs.Spelling.{part_spelling}
+use Rattle.om_parser_tree.specs.Formed.{IsForHead, IsExpression}
+use Rattle.om_parser_tree.specs.Limits.{Limits}
+use Rattle.om_parser_tree.specs.Sizes.{optional_extent, optional_nesting, for_start_extent, for_start_nesting}
 use Rattle.om_parser.specs.StatementReading.{start_of, OpeningTree, OpensIf, OpensWhile, OpensFor}
-use Rattle.om_tree.specs.Tree.{ExpressionTree, ForHeadTree, StatementTree, StatementsTree, NoStatements, Statement}
-use Rattle.om_tree.specs.Tree.{statements, PartsTree, NoParts, Part, PartTree, parts}
-use Rattle.om_parts.specs.Laws.{Keeps, IsEnd}
-use Rattle.om_parts.specs.Taken.{take_mark_is, take_word_is}
+use Rattle.om_parser_tree.specs.Tree.{ExpressionTree, ForHeadTree, StatementTree, StatementsTree, NoStatements, Statement}
+use Rattle.om_parser_tree.specs.Tree.{statements, PartsTree, NoParts, Part, PartTree, parts}
+use Rattle.om_parser_parts.specs.Laws.{Keeps, IsEnd}
+use Rattle.om_parser_parts.specs.Taken.{take_mark_is, take_word_is}
 use Rattle.om_parser.proofs.LineStarts.{start_of_directive, line_start_is}
 use Rattle.om_parser.proofs.Begins.{StartsExpression}
 

@@ -25,22 +25,22 @@ use Rattle.om_parser.specs.StatementReading.{start_of, expression_statement_at}
 use Rattle.om_parser.specs.StatementReading.{block_item_at, items_at, block_items_after, block_after}
 use Rattle.om_parser.specs.StatementReading.{parts_after, simple_of, statement_of, no_room, statement_at, parts_at}
 use Rattle.om_parser.specs.StatementReading.{block_with}
-use Rattle.om_parts.specs.Again.{mark_again}
-use Rattle.om_parts.specs.Halting.{IsElsewhere}
-use Rattle.om_parts.specs.Laws.{ArePartsSound}
-use Rattle.om_parts.specs.Local.{pair, triple, Suffices, IsHalt, IsTaken, IsLocal, ArePartsLocal, done}
-use Rattle.om_parts.specs.Local.{bind, either, deep, stuck, mark_taker, word_taker, mark_local, until_local, unended_one}
-use Rattle.om_parts.specs.Local.{unended_both, room_before, Consumes}
-use Rattle.om_parts.specs.Outcomes.{ok_is, bind_ok, bind_err}
-use Rattle.om_parts.specs.PartReading.{Parts}
-use Rattle.om_parts.specs.Reading.{◌>>=◌, Outcome, Reader, syntax, too_deep, take_mark, take_word}
-use Rattle.om_parts.specs.Reading.{mark_at, known}
-use Rattle.om_parts.specs.Taken.{mark_at_is}
-use Rattle.om_tree.specs.Limits.{Limits}
-use Rattle.om_tree.specs.Spelling.{token, mark, statement_spelling}
-use Rattle.om_tree.specs.Tree.{ExpressionTree, StatementTree, LocalDeclaration, Block, Empty, Return, Break, Continue}
-use Rattle.om_tree.specs.Tree.{StandAlone, PartTree, statements}
-use Rattle.om_tree.specs.Tree as trees
+use Rattle.om_parser_parts.specs.Again.{mark_again}
+use Rattle.om_parser_parts.specs.Halting.{IsElsewhere}
+use Rattle.om_parser_parts.specs.Laws.{ArePartsSound}
+use Rattle.om_parser_parts.specs.Local.{pair, triple, Suffices, IsHalt, IsTaken, IsLocal, ArePartsLocal, done}
+use Rattle.om_parser_parts.specs.Local.{bind, either, deep, stuck, mark_taker, word_taker, mark_local, until_local, unended_one}
+use Rattle.om_parser_parts.specs.Local.{unended_both, room_before, Consumes}
+use Rattle.om_parser_parts.specs.Outcomes.{ok_is, bind_ok, bind_err}
+use Rattle.om_parser_parts.specs.PartReading.{Parts}
+use Rattle.om_parser_parts.specs.Reading.{◌>>=◌, Outcome, Reader, syntax, too_deep, take_mark, take_word}
+use Rattle.om_parser_parts.specs.Reading.{mark_at, known}
+use Rattle.om_parser_parts.specs.Taken.{mark_at_is}
+use Rattle.om_parser_tree.specs.Limits.{Limits}
+use Rattle.om_parser_tree.specs.Spelling.{token, mark, statement_spelling}
+use Rattle.om_parser_tree.specs.Tree.{ExpressionTree, StatementTree, LocalDeclaration, Block, Empty, Return, Break, Continue}
+use Rattle.om_parser_tree.specs.Tree.{StandAlone, PartTree, statements}
+use Rattle.om_parser_tree.specs.Tree as trees
 use Rattle.om_parser.proofs.ItemLocal.{lined, yes, IsItemAt, given_of, given_item}
 use Rattle.om_parser.proofs.ItemLocal.{local_of, token_decided, behind, alike_item, item_of_local}
 use Rattle.om_parser.proofs.LineItemLocal.{by_line, misplaced_item, refused_item, spelled}

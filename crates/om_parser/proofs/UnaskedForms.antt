@@ -2,11 +2,11 @@
 use Rattle.std.proofs.Common.{◌≡◌, Bool, true, false, refl}
 use Rattle.std.specs.Prelude.{not, ◌||◌}
 use Rattle.om_pragma.specs.Questions.{is_atomic, atomic_kind}
-use Rattle.om_tree.specs.AtomicForms.{has_atomic_form}
-use Rattle.om_tree.specs.Sizes.{Where, HasForms, HaveForms, PartsHaveForms}
-use Rattle.om_tree.specs.Tree.{StatementTree, StatementsTree, LocalDeclaration, Block, Empty, Expression, If, IfElse}
-use Rattle.om_tree.specs.Tree.{While, Do, For, Return, Break, Continue, Construct, StandAlone, Sections}
-use Rattle.om_tree.specs.Tree.{NoStatements, Statement, PartsTree, NoParts, Part}
+use Rattle.om_parser_tree.specs.AtomicForms.{has_atomic_form}
+use Rattle.om_parser_tree.specs.Sizes.{Where, HasForms, HaveForms, PartsHaveForms}
+use Rattle.om_parser_tree.specs.Tree.{StatementTree, StatementsTree, LocalDeclaration, Block, Empty, Expression, If, IfElse}
+use Rattle.om_parser_tree.specs.Tree.{While, Do, For, Return, Break, Continue, Construct, StandAlone, Sections}
+use Rattle.om_parser_tree.specs.Tree.{NoStatements, Statement, PartsTree, NoParts, Part}
 
 -- the one of two that is asked, where both hold
 where_both : (b : Bool) (First Second : Type 0) → First → Second → Where b First Second

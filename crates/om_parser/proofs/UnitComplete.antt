@@ -7,27 +7,27 @@ use Rattle.om_lexer.specs.declared.token.Punctuator.TheVariants as punctuators
 use Rattle.om_lexer.specs.declared.token.Span.{Span}
 use Rattle.om_lexer.specs.declared.token.Token.{Token}
 use Rattle.om_lexer.specs.declared.token.TokenKind.TheVariants as kinds
-use Rattle.om_tree.specs.declared.tree.ResultType.{ResultType}
-use Rattle.om_tree.specs.declared.tree.ResultType.TheVariants as results
-use Rattle.om_tree.specs.declared.tree.SignedNumber.{SignedNumber}
+use Rattle.om_parser_tree.specs.declared.tree.ResultType.{ResultType}
+use Rattle.om_parser_tree.specs.declared.tree.ResultType.TheVariants as results
+use Rattle.om_parser_tree.specs.declared.tree.SignedNumber.{SignedNumber}
 use Rattle.om_pragma.specs.declared.name.Name as names
-use Rattle.om_tree.specs.Formed.{IsGlobalDeclaration, IsFunction, IsItem, IsUnit}
-use Rattle.om_tree.specs.Limits.{Limits}
-use Rattle.om_parts.specs.Reading.{take, same_mark, take_mark}
-use Rattle.om_parts.specs.Repetition.{until}
-use Rattle.om_tree.specs.Spelling.{token, mark, name, block_spelling, declarator_spelling, declaration_spelling}
-use Rattle.om_tree.specs.Spelling.{given_name, parameters_spelling, perhaps, head_spelling, prototype_spelling}
-use Rattle.om_tree.specs.Spelling.{item_spelling, unit_spelling}
+use Rattle.om_parser_tree.specs.Formed.{IsGlobalDeclaration, IsFunction, IsItem, IsUnit}
+use Rattle.om_parser_tree.specs.Limits.{Limits}
+use Rattle.om_parser_parts.specs.Reading.{take, same_mark, take_mark}
+use Rattle.om_parser_parts.specs.Repetition.{until}
+use Rattle.om_parser_tree.specs.Spelling.{token, mark, name, block_spelling, declarator_spelling, declaration_spelling}
+use Rattle.om_parser_tree.specs.Spelling.{given_name, parameters_spelling, perhaps, head_spelling, prototype_spelling}
+use Rattle.om_parser_tree.specs.Spelling.{item_spelling, unit_spelling}
 use Rattle.om_parser.specs.StatementReading.{block_at}
-use Rattle.om_tree.specs.Tree.{DeclarationTree, HeadTree, FunctionTree, ItemTree, Declaration, Prototype, Function}
-use Rattle.om_tree.specs.Tree.{UnitTree}
+use Rattle.om_parser_tree.specs.Tree.{DeclarationTree, HeadTree, FunctionTree, ItemTree, Declaration, Prototype, Function}
+use Rattle.om_parser_tree.specs.Tree.{UnitTree}
 use Rattle.om_parser.specs.UnitReading.{function_after, prototype_after, void_after, int_after, item_at, take_end}
 use Rattle.om_parser.specs.UnitReading.{unit_at}
-use Rattle.om_parts.specs.Again.{take_mark_again, take_word_again, mark_again, word_again, name_again, bind_answer}
-use Rattle.om_parts.specs.Laws.{IsAnswer, GlobalsAreReadAgain}
+use Rattle.om_parser_parts.specs.Again.{take_mark_again, take_word_again, mark_again, word_again, name_again, bind_answer}
+use Rattle.om_parser_parts.specs.Laws.{IsAnswer, GlobalsAreReadAgain}
 use Rattle.om_parser.specs.Laws.{BlocksAreReadAgain}
-use Rattle.om_parts.specs.Outcomes.{ok}
-use Rattle.om_parts.specs.ItemsComplete.{AreAgain, until_again}
+use Rattle.om_parser_parts.specs.Outcomes.{ok}
+use Rattle.om_parser_parts.specs.ItemsComplete.{AreAgain, until_again}
 use Rattle.om_parser.proofs.Forms.{IsKeptItem}
 use Rattle.om_parser.proofs.FunctionSound.{named_head_is}
 use Rattle.om_parser.proofs.FunctionComplete.{head_again, int_is_no_void, unasked_head, named_head_again}

@@ -12,28 +12,28 @@ use Rattle.om_lexer.specs.declared.token.Span.{Span}
 use Rattle.om_lexer.specs.declared.token.Token.{Token}
 use Rattle.om_lexer.specs.declared.token.TokenKind.TheVariants as kinds
 use Rattle.om_pragma.specs.declared.name.Name as names
-use Rattle.om_tree.specs.declared.tree.ResultType.{ResultType}
-use Rattle.om_tree.specs.declared.tree.ResultType.TheVariants as results
+use Rattle.om_parser_tree.specs.declared.tree.ResultType.{ResultType}
+use Rattle.om_parser_tree.specs.declared.tree.ResultType.TheVariants as results
 use Rattle.om_parser.specs.BlockFaults.{IsStopped}
-use Rattle.om_tree.specs.Formed.{IsFunction, IsItem, IsUnit}
+use Rattle.om_parser_tree.specs.Formed.{IsFunction, IsItem, IsUnit}
 use Rattle.om_parser.specs.FunctionReading.{head_after, named_head}
-use Rattle.om_tree.specs.Limits.{Limits}
-use Rattle.om_parts.specs.PartReading.{global_at}
+use Rattle.om_parser_tree.specs.Limits.{Limits}
+use Rattle.om_parser_parts.specs.PartReading.{global_at}
 use Rattle.om_parser.proofs.Given.{ReadingLaws}
 use Rattle.om_parser.specs.StatementReading.{block_at}
-use Rattle.om_tree.specs.Places.{IsOverInItem, IsOverInUnitItems, IsOverInUnit}
-use Rattle.om_parts.specs.Reading.{take_mark, take_word, mark_at, word_at, name_at}
-use Rattle.om_parts.specs.Repetition.{until}
-use Rattle.om_tree.specs.Spelling.{token, mark, word, name, result_spelling, block_spelling, definition_spelling}
-use Rattle.om_tree.specs.Spelling.{item_spelling, prototype_spelling, unit_spelling}
-use Rattle.om_tree.specs.Tree.{HeadTree, Function}
+use Rattle.om_parser_tree.specs.Places.{IsOverInItem, IsOverInUnitItems, IsOverInUnit}
+use Rattle.om_parser_parts.specs.Reading.{take_mark, take_word, mark_at, word_at, name_at}
+use Rattle.om_parser_parts.specs.Repetition.{until}
+use Rattle.om_parser_tree.specs.Spelling.{token, mark, word, name, result_spelling, block_spelling, definition_spelling}
+use Rattle.om_parser_tree.specs.Spelling.{item_spelling, prototype_spelling, unit_spelling}
+use Rattle.om_parser_tree.specs.Tree.{HeadTree, Function}
 use Rattle.om_parser.specs.UnitReading.{function_after, prototype_after, void_after, int_after, item_at, take_end}
 use Rattle.om_parser.specs.UnitReading.{unit_at}
-use Rattle.om_parts.specs.Outcomes.{bind_err, choose_cases}
-use Rattle.om_parts.specs.Taken.{take_mark_is, take_word_is, mark_at_is, word_at_is, name_at_is}
+use Rattle.om_parser_parts.specs.Outcomes.{bind_err, choose_cases}
+use Rattle.om_parser_parts.specs.Taken.{take_mark_is, take_word_is, mark_at_is, word_at_is, name_at_is}
 use Rattle.om_parser.proofs.FunctionSound.{head_sound, named_head_is}
 use Rattle.om_parser.proofs.UnitSound.{item_sound}
-use Rattle.om_parts.specs.Laws.{Stops}
+use Rattle.om_parser_parts.specs.Laws.{Stops}
 use Rattle.om_parser.specs.Stopped.{IsPlain, syntax_plain, known_plain, bind_plain, within_larger}
 use Rattle.om_parser.proofs.FunctionPlain.{head_plain, named_head_plain}
 

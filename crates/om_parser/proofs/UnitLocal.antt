@@ -14,26 +14,26 @@ use Rattle.om_lexer.specs.declared.token.Token.{Token}
 use Rattle.om_lexer.specs.declared.token.TokenKind.{TokenKind}
 use Rattle.om_lexer.specs.declared.token.TokenKind.TheVariants as kinds
 use Rattle.om_pragma.specs.declared.name.Name as names
-use Rattle.om_tree.specs.declared.tree.ResultType.{ResultType}
-use Rattle.om_tree.specs.declared.tree.ResultType.TheVariants as results
+use Rattle.om_parser_tree.specs.declared.tree.ResultType.{ResultType}
+use Rattle.om_parser_tree.specs.declared.tree.ResultType.TheVariants as results
 use Rattle.om_parser.specs.FunctionReading.{head_after, named_head}
 use Rattle.om_parser.specs.Halts.{IsHalted, IsSyntaxHalt}
 use Rattle.om_parser.specs.Laws.{BlocksAreLocal, BlocksAreReadAgain, BlocksAreSound}
 use Rattle.om_parser.specs.Refusals.{refusal_of, refused}
 use Rattle.om_parser.specs.StatementReading.{block_at}
 use Rattle.om_parser.specs.UnitReading.{function_after, prototype_after, void_after, int_after, item_at, take_end, unit_at}
-use Rattle.om_parts.specs.Halting.{Unended, IsElsewhere}
-use Rattle.om_parts.specs.Laws.{GlobalsAreReadAgain, GlobalsAreSound}
-use Rattle.om_parts.specs.Local.{pair, GlobalsAreLocal, Consumes, done, bind, either, alike, stuck}
-use Rattle.om_parts.specs.Local.{mark_taker, word_taker, mark_local, word_local, name_local, bind_same, taken_again}
-use Rattle.om_parts.specs.Local.{free_room, elsewhere_behind}
-use Rattle.om_parts.specs.Outcomes.{ok, some, err_is, bind_err, choose_cases}
-use Rattle.om_parts.specs.PartReading.{global_at}
-use Rattle.om_parts.specs.Reading.{◌>>=◌, choose, Outcome, Reader, syntax, take_mark, take_word, mark_at, word_at, name_at}
-use Rattle.om_parts.specs.Repetition.{until}
-use Rattle.om_tree.specs.Limits.{Limits, accepted}
-use Rattle.om_tree.specs.Spelling.{token}
-use Rattle.om_tree.specs.Tree.{HeadTree, ItemTree, Declaration, Prototype, Function, UnitTree}
+use Rattle.om_parser_parts.specs.Halting.{Unended, IsElsewhere}
+use Rattle.om_parser_parts.specs.Laws.{GlobalsAreReadAgain, GlobalsAreSound}
+use Rattle.om_parser_parts.specs.Local.{pair, GlobalsAreLocal, Consumes, done, bind, either, alike, stuck}
+use Rattle.om_parser_parts.specs.Local.{mark_taker, word_taker, mark_local, word_local, name_local, bind_same, taken_again}
+use Rattle.om_parser_parts.specs.Local.{free_room, elsewhere_behind}
+use Rattle.om_parser_parts.specs.Outcomes.{ok, some, err_is, bind_err, choose_cases}
+use Rattle.om_parser_parts.specs.PartReading.{global_at}
+use Rattle.om_parser_parts.specs.Reading.{◌>>=◌, choose, Outcome, Reader, syntax, take_mark, take_word, mark_at, word_at, name_at}
+use Rattle.om_parser_parts.specs.Repetition.{until}
+use Rattle.om_parser_tree.specs.Limits.{Limits, accepted}
+use Rattle.om_parser_tree.specs.Spelling.{token}
+use Rattle.om_parser_tree.specs.Tree.{HeadTree, ItemTree, Declaration, Prototype, Function, UnitTree}
 use Rattle.om_parser.proofs.FunctionLocal.{IsAsked, head_asked, head_local}
 use Rattle.om_parser.proofs.ItemLocal.{lined}
 use Rattle.om_parser.proofs.StatementLocal.{IsNear}

@@ -6,13 +6,13 @@ use Rattle.om_lexer.specs.declared.fault.SourceFault.{SourceFault}
 use Rattle.om_lexer.specs.declared.token.Token.{Token}
 use Rattle.om_pragma.specs.Refusals.{IsWordFault}
 use Rattle.om_parser.specs.Faults.{IsBadAtomic}
-use Rattle.om_tree.specs.Formed.{IsUnit}
-use Rattle.om_tree.specs.Limits.{Limits}
-use Rattle.om_parts.specs.WrongLines.{IsWrongLine}
+use Rattle.om_parser_tree.specs.Formed.{IsUnit}
+use Rattle.om_parser_tree.specs.Limits.{Limits}
+use Rattle.om_parser_parts.specs.WrongLines.{IsWrongLine}
 use Rattle.om_parser.specs.BlockLineFaults.{IsLineFault}
 use Rattle.om_parser.specs.LineFaults.{IsPassedInLine, IsRefusedLine}
-use Rattle.om_tree.specs.Places.{IsOverInUnit, IsPassed}
-use Rattle.om_tree.specs.Spelling.{unit_spelling}
+use Rattle.om_parser_tree.specs.Places.{IsOverInUnit, IsPassed}
+use Rattle.om_parser_tree.specs.Spelling.{unit_spelling}
 use Rattle.om_parser.specs.UnitReading.{unit_at}
 use Rattle.om_parser.proofs.Given.{ReadingLaws}
 use Rattle.om_parser.proofs.UnitCut.{unit_cut}

@@ -11,26 +11,26 @@ use Rattle.om_lexer.specs.declared.token.Token.{Token}
 use Rattle.om_lexer.specs.declared.token.TokenKind.{TokenKind}
 use Rattle.om_lexer.specs.declared.token.TokenKind.TheVariants as kinds
 use Rattle.om_pragma.specs.declared.name.Name as names
-use Rattle.om_tree.specs.declared.tree.ResultType.{ResultType}
-use Rattle.om_tree.specs.declared.tree.ResultType.TheVariants as results
-use Rattle.om_tree.specs.Formed.{IsFunction, IsItem, IsUnit}
+use Rattle.om_parser_tree.specs.declared.tree.ResultType.{ResultType}
+use Rattle.om_parser_tree.specs.declared.tree.ResultType.TheVariants as results
+use Rattle.om_parser_tree.specs.Formed.{IsFunction, IsItem, IsUnit}
 use Rattle.om_parser.specs.FunctionReading.{head_after, named_head}
-use Rattle.om_tree.specs.Limits.{Limits}
-use Rattle.om_parts.specs.Reading.{Reader, take_mark, take_word, mark_at, word_at, name_at}
-use Rattle.om_parts.specs.Repetition.{until}
-use Rattle.om_tree.specs.Spelling.{token, mark, word, name, result_spelling, block_spelling, declaration_spelling}
-use Rattle.om_tree.specs.Spelling.{definition_spelling, given_name, head_spelling, item_spelling, perhaps}
-use Rattle.om_tree.specs.Spelling.{prototype_spelling, unit_spelling}
-use Rattle.om_parts.specs.PartReading.{global_at}
+use Rattle.om_parser_tree.specs.Limits.{Limits}
+use Rattle.om_parser_parts.specs.Reading.{Reader, take_mark, take_word, mark_at, word_at, name_at}
+use Rattle.om_parser_parts.specs.Repetition.{until}
+use Rattle.om_parser_tree.specs.Spelling.{token, mark, word, name, result_spelling, block_spelling, declaration_spelling}
+use Rattle.om_parser_tree.specs.Spelling.{definition_spelling, given_name, head_spelling, item_spelling, perhaps}
+use Rattle.om_parser_tree.specs.Spelling.{prototype_spelling, unit_spelling}
+use Rattle.om_parser_parts.specs.PartReading.{global_at}
 use Rattle.om_parser.specs.StatementReading.{block_at}
-use Rattle.om_tree.specs.Tree.{HeadTree, ItemTree, Declaration, Prototype, Function, UnitTree}
+use Rattle.om_parser_tree.specs.Tree.{HeadTree, ItemTree, Declaration, Prototype, Function, UnitTree}
 use Rattle.om_parser.specs.UnitReading.{function_after, prototype_after, void_after, int_after, item_at, end_of}
 use Rattle.om_parser.specs.UnitReading.{take_end, unit_at}
-use Rattle.om_parts.specs.Outcomes.{ok, ok_is, some, some_is, bind_ok, choose_cases, after_front}
-use Rattle.om_parts.specs.Taken.{take_mark_is, take_word_is, mark_at_is, word_at_is, name_at_is}
-use Rattle.om_parts.specs.Laws.{IsRead, IsSound, GlobalsAreSound}
+use Rattle.om_parser_parts.specs.Outcomes.{ok, ok_is, some, some_is, bind_ok, choose_cases, after_front}
+use Rattle.om_parser_parts.specs.Taken.{take_mark_is, take_word_is, mark_at_is, word_at_is, name_at_is}
+use Rattle.om_parser_parts.specs.Laws.{IsRead, IsSound, GlobalsAreSound}
 use Rattle.om_parser.specs.Laws.{BlocksAreSound}
-use Rattle.om_parts.specs.ItemsSound.{until_sound}
+use Rattle.om_parser_parts.specs.ItemsSound.{until_sound}
 use Rattle.om_parser.proofs.Forms.{IsKeptItem}
 use Rattle.om_parser.proofs.FunctionSound.{head_sound, named_head_is}
 

@@ -5,13 +5,13 @@ use Rattle.om_lexer.specs.declared.fault.SourceFault.{SourceFault}
 use Rattle.om_lexer.specs.declared.token.Token.{Token}
 use Rattle.om_pragma.specs.declared.tree.Directive.{Directive}
 use Rattle.om_pragma.specs.Questions.{is_atomic, atomic_kind, word_span}
-use Rattle.om_tree.specs.AtomicForms.{has_atomic_form}
-use Rattle.om_tree.specs.Formed.{IsLine, IsStatement, IsBody}
-use Rattle.om_tree.specs.Limits.{Limits}
+use Rattle.om_parser_tree.specs.AtomicForms.{has_atomic_form}
+use Rattle.om_parser_tree.specs.Formed.{IsLine, IsStatement, IsBody}
+use Rattle.om_parser_tree.specs.Limits.{Limits}
 use Rattle.om_parser.specs.BlockLineFaults.{IsLineFault}
-use Rattle.om_tree.specs.Places.{Place, IsPassed}
-use Rattle.om_tree.specs.Spelling.{statement_spelling}
-use Rattle.om_tree.specs.Tree.{ExpressionTree, StatementTree, Construct}
+use Rattle.om_parser_tree.specs.Places.{Place, IsPassed}
+use Rattle.om_parser_tree.specs.Spelling.{statement_spelling}
+use Rattle.om_parser_tree.specs.Tree.{ExpressionTree, StatementTree, Construct}
 
 -- The tokens have an `atomic` with its word at this place, and its statement is none of its forms (OpenMP 5.2
 -- section 4.3.1.3).

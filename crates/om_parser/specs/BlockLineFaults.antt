@@ -4,9 +4,9 @@ use Rattle.om_lexer.specs.declared.fault.SourceFault.{SourceFault}
 use Rattle.om_lexer.specs.declared.token.Span.{Span}
 use Rattle.om_lexer.specs.declared.token.Token.{Token}
 use Rattle.om_lexer.specs.declared.token.TokenKind.TheVariants as kinds
-use Rattle.om_parts.specs.WrongLines.{IsOneLine, IsWrongLine}
-use Rattle.om_tree.specs.Limits.{Limits}
-use Rattle.om_tree.specs.Spelling.{token}
+use Rattle.om_parser_parts.specs.WrongLines.{IsOneLine, IsWrongLine}
+use Rattle.om_parser_tree.specs.Limits.{Limits}
+use Rattle.om_parser_tree.specs.Spelling.{token}
 
 -- Some of the tokens are a whole line, where one may stand: some well-formed part begins with the tokens before the
 -- line, and goes on with the beginning of one.

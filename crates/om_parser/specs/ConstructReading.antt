@@ -15,12 +15,12 @@ use Rattle.om_pragma.specs.Questions.{is_sections, is_atomic, word_span, atomic_
 use Rattle.om_pragma.specs.Words.{begun_by}
 use Rattle.om_parser.specs.declared.construct.LineStart.{LineStart}
 use Rattle.om_parser.specs.declared.construct.LineStart.TheVariants as lines
-use Rattle.om_tree.specs.AtomicForms.{has_atomic_form}
-use Rattle.om_parts.specs.PartReading.{LineReader}
-use Rattle.om_parts.specs.Reading.{◌>>=◌, choose, Outcome, Reader, syntax, take_mark}
+use Rattle.om_parser_tree.specs.AtomicForms.{has_atomic_form}
+use Rattle.om_parser_parts.specs.PartReading.{LineReader}
+use Rattle.om_parser_parts.specs.Reading.{◌>>=◌, choose, Outcome, Reader, syntax, take_mark}
 use Rattle.om_parser.specs.OneOrMore.{one_or_more}
-use Rattle.om_tree.specs.Tree.{ExpressionTree, StatementTree, Construct, StandAlone, Sections, PartsTree, PartTree}
-use Rattle.om_tree.specs.Tree.{statements}
+use Rattle.om_parser_tree.specs.Tree.{ExpressionTree, StatementTree, Construct, StandAlone, Sections, PartsTree, PartTree}
+use Rattle.om_parser_tree.specs.Tree.{statements}
 
 -- ---- which directive a line is, by its first word
 

@@ -5,12 +5,12 @@ use Rattle.om_lexer.specs.declared.token.Punctuator.TheVariants as punctuators
 use Rattle.om_lexer.specs.declared.token.Span.{Span}
 use Rattle.om_lexer.specs.declared.token.Token.{Token}
 use Rattle.om_pragma.specs.declared.name.Name as names
-use Rattle.om_tree.specs.declared.tree.Parameter.{Parameter}
-use Rattle.om_tree.specs.declared.tree.ResultType.{ResultType}
-use Rattle.om_parts.specs.Reading.{◌>>=◌, choose, known, Outcome, Reader, take_mark, take_word, take_name, mark_at}
-use Rattle.om_parts.specs.Reading.{word_at}
-use Rattle.om_parts.specs.Repetition.{optional, until}
-use Rattle.om_tree.specs.Tree.{ParametersTree, NoParameters, Void, Listed, HeadTree}
+use Rattle.om_parser_tree.specs.declared.tree.Parameter.{Parameter}
+use Rattle.om_parser_tree.specs.declared.tree.ResultType.{ResultType}
+use Rattle.om_parser_parts.specs.Reading.{◌>>=◌, choose, known, Outcome, Reader, take_mark, take_word, take_name, mark_at}
+use Rattle.om_parser_parts.specs.Reading.{word_at}
+use Rattle.om_parser_parts.specs.Repetition.{optional, until}
+use Rattle.om_parser_tree.specs.Tree.{ParametersTree, NoParameters, Void, Listed, HeadTree}
 
 -- `int` and a name, where one stands (C17 6.7.6.3)
 unfoldable pub parameter_at : Reader (Parameter (Option names.Name))

@@ -2,10 +2,10 @@
 use Rattle.std.specs.Prelude.{◌≡◌, ◌≢◌, ℕ, List, ◌∷◌, ◌++◌, ◌⊎◌}
 use Rattle.om_lexer.specs.declared.fault.SourceFault.{SourceFault}
 use Rattle.om_lexer.specs.declared.token.Token.{Token}
-use Rattle.om_parts.specs.Halting.{IsStopInLine}
-use Rattle.om_tree.specs.Formed.{IsUnit}
-use Rattle.om_tree.specs.Spelling.{unit_spelling}
-use Rattle.om_tree.specs.Tree.{UnitTree}
+use Rattle.om_parser_parts.specs.Halting.{IsStopInLine}
+use Rattle.om_parser_tree.specs.Formed.{IsUnit}
+use Rattle.om_parser_tree.specs.Spelling.{unit_spelling}
+use Rattle.om_parser_tree.specs.Tree.{UnitTree}
 
 -- A token starts at this place, and no well-formed unit of any size begins with the tokens up to it and with it.
 pub record IsHalted (tokens : List Token) (place : ℕ) : Type 0 where

@@ -2,16 +2,16 @@
 use Rattle.std.specs.Prelude.{◌≡◌, ℕ, ◌≤◌, List, ◌++◌, Err, false, true}
 use Rattle.om_lexer.specs.declared.fault.SourceFault.{SourceFault}
 use Rattle.om_lexer.specs.declared.token.Token.{Token}
-use Rattle.om_parts.specs.Laws.{IsAnswer, IsSound, Stops}
-use Rattle.om_parts.specs.Local.{IsLocal, pair}
+use Rattle.om_parser_parts.specs.Laws.{IsAnswer, IsSound, Stops}
+use Rattle.om_parser_parts.specs.Local.{IsLocal, pair}
 use Rattle.om_parser.specs.BlockFaults.{IsStopped}
 use Rattle.om_parser.specs.StatementReading.{block_at}
-use Rattle.om_tree.specs.Formed.{AreStatements}
-use Rattle.om_tree.specs.Limits.{Limits}
-use Rattle.om_tree.specs.Places.{IsOverInBlock}
-use Rattle.om_tree.specs.Sizes.{HasBlockRoom, HaveForms}
-use Rattle.om_tree.specs.Spelling.{block_spelling}
-use Rattle.om_tree.specs.Tree.{BlockTree, StatementsTree, statements}
+use Rattle.om_parser_tree.specs.Formed.{AreStatements}
+use Rattle.om_parser_tree.specs.Limits.{Limits}
+use Rattle.om_parser_tree.specs.Places.{IsOverInBlock}
+use Rattle.om_parser_tree.specs.Sizes.{HasBlockRoom, HaveForms}
+use Rattle.om_parser_tree.specs.Spelling.{block_spelling}
+use Rattle.om_parser_tree.specs.Tree.{BlockTree, StatementsTree, statements}
 
 -- a block of a function that is well-formed and keeps the limits
 pub record IsGoodBlock (l : Limits) (room blocks_left : ℕ) (b : BlockTree) : Type 0 where

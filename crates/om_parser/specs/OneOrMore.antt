@@ -1,7 +1,7 @@
 -- For proofs: reading one item, and more of them as long as they do not end.
 use Rattle.std.specs.Prelude.{ℕ, zero, suc, List, [], ◌∷◌, Ok, Err, Bool, if◌then◌else◌}
 use Rattle.om_lexer.specs.declared.token.Token.{Token}
-use Rattle.om_parts.specs.Reading.{◌>>=◌, Outcome, Reader, syntax}
+use Rattle.om_parser_parts.specs.Reading.{◌>>=◌, Outcome, Reader, syntax}
 
 -- items up to one behind which they end, one at least and at most so many
 unfoldable pub one_or_more : {A : Type 0} → (ends : List Token → Bool) → Reader A → ℕ → List Token

@@ -5,16 +5,16 @@ use Rattle.om_lexer.specs.declared.fault.FaultCode.TheVariants as codes
 use Rattle.om_lexer.specs.declared.fault.SourceFault.{SourceFault}
 use Rattle.om_lexer.specs.Faults.{no_memory}
 use Rattle.om_lexer.specs.declared.token.Token.{Token}
-use Rattle.om_tree.specs.declared.tree.Unit as units
-use Rattle.om_tree.specs.Formed.{IsUnit}
-use Rattle.om_tree.specs.Limits.{accepted}
+use Rattle.om_parser_tree.specs.declared.tree.Unit as units
+use Rattle.om_parser_tree.specs.Formed.{IsUnit}
+use Rattle.om_parser_tree.specs.Limits.{accepted}
 use Rattle.om_parser.specs.Faults.{IsBadAtomic}
 use Rattle.om_parser.specs.LineFaults.{IsPassedInLine, IsRefusedLine}
-use Rattle.om_tree.specs.Places.{IsPassed, IsOverInUnit}
-use Rattle.om_tree.specs.Sizes.{AtomicsHaveForms, IsWithinLimits}
-use Rattle.om_tree.specs.Spelling.{unit_spelling}
-use Rattle.om_tree.specs.Tree.{UnitTree}
-use Rattle.om_tree.specs.View.{view_unit}
+use Rattle.om_parser_tree.specs.Places.{IsPassed, IsOverInUnit}
+use Rattle.om_parser_tree.specs.Sizes.{AtomicsHaveForms, IsWithinLimits}
+use Rattle.om_parser_tree.specs.Spelling.{unit_spelling}
+use Rattle.om_parser_tree.specs.Tree.{UnitTree}
+use Rattle.om_parser_tree.specs.View.{view_unit}
 
 -- a well-formed tree of these tokens
 pub record IsTreeOf (tokens : List Token) (u : UnitTree) : Type 0 where

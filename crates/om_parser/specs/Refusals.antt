@@ -4,10 +4,10 @@ use Rattle.std.specs.Prelude.{◌≡◌, ◌⊎◌, List, Option, Some, None, Ok
 use Rattle.om_lexer.specs.Faults.{no_memory}
 use Rattle.om_lexer.specs.declared.fault.SourceFault.{SourceFault}
 use Rattle.om_lexer.specs.declared.token.Token.{Token}
-use Rattle.om_parts.specs.Reading.{Outcome}
+use Rattle.om_parser_parts.specs.Reading.{Outcome}
 use Rattle.om_parser.specs.UnitReading.{unit_at}
-use Rattle.om_tree.specs.Limits.{accepted}
-use Rattle.om_tree.specs.Tree.{UnitTree}
+use Rattle.om_parser_tree.specs.Limits.{accepted}
+use Rattle.om_parser_tree.specs.Tree.{UnitTree}
 
 -- why nothing was read
 abbrev pub refused : Outcome UnitTree → Option SourceFault

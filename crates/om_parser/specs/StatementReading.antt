@@ -8,22 +8,22 @@ use Rattle.om_lexer.specs.declared.token.Span.{Span}
 use Rattle.om_lexer.specs.declared.token.Token.{Token}
 use Rattle.om_lexer.specs.declared.token.TokenKind.{TokenKind}
 use Rattle.om_lexer.specs.declared.token.TokenKind.TheVariants as kinds
-use Rattle.om_tree.specs.Limits.{Limits, accepted}
+use Rattle.om_parser_tree.specs.Limits.{Limits, accepted}
 use Rattle.om_parser.specs.declared.statement.Room.{Room}
-use Rattle.om_parts.specs.PartReading.{Parts, parts}
+use Rattle.om_parser_parts.specs.PartReading.{Parts, parts}
 use Rattle.om_pragma.specs.declared.tree.Directive.{Directive}
 use Rattle.om_parser.specs.ConstructReading.{PartsReader, ends_part, ends_parts, line_start, part_at, part_item_at}
 use Rattle.om_parser.specs.ConstructReading.{atomic_after, construct_at, constructed_after, line_of, sections_after}
 use Rattle.om_parser.specs.OneOrMore.{one_or_more}
 use Rattle.om_parser.specs.declared.start.Start.{Start}
 use Rattle.om_parser.specs.declared.start.Start.TheVariants as starts
-use Rattle.om_parts.specs.Reading.{◌>>=◌, choose, Outcome, Reader, syntax, too_deep, take_mark, take_word, mark_at}
-use Rattle.om_parts.specs.Reading.{word_at}
-use Rattle.om_parts.specs.Repetition.{until}
-use Rattle.om_tree.specs.Tree.{ExpressionTree, ConditionTree, ForStartTree, Nothing, StartExpression, StartDeclaration}
-use Rattle.om_tree.specs.Tree.{ForHeadTree, StatementTree, LocalDeclaration, Block, Empty, Expression, If, IfElse}
-use Rattle.om_tree.specs.Tree.{While, Do, For, Return, Break, Continue, statements, BlockTree, PartTree}
-use Rattle.om_tree.specs.Tree as trees
+use Rattle.om_parser_parts.specs.Reading.{◌>>=◌, choose, Outcome, Reader, syntax, too_deep, take_mark, take_word, mark_at}
+use Rattle.om_parser_parts.specs.Reading.{word_at}
+use Rattle.om_parser_parts.specs.Repetition.{until}
+use Rattle.om_parser_tree.specs.Tree.{ExpressionTree, ConditionTree, ForStartTree, Nothing, StartExpression, StartDeclaration}
+use Rattle.om_parser_tree.specs.Tree.{ForHeadTree, StatementTree, LocalDeclaration, Block, Empty, Expression, If, IfElse}
+use Rattle.om_parser_tree.specs.Tree.{While, Do, For, Return, Break, Continue, statements, BlockTree, PartTree}
+use Rattle.om_parser_tree.specs.Tree as trees
 
 -- ---- what a first token begins
 

@@ -13,18 +13,18 @@ use Rattle.om_parser.specs.declared.statement.Room.{Room}
 use Rattle.om_pragma.specs.declared.tree.Directive.{Directive}
 use Rattle.om_parser.specs.ConstructReading.{atomic_of}
 use Rattle.om_parser.specs.StatementReading.{OpeningTree, OpensIf, OpensWhile, OpensFor, behind_body, statement_in}
-use Rattle.om_parts.specs.Made.{view_operand, ReadsOne}
-use Rattle.om_parts.specs.Reading.{Outcome, Reader, Reads}
-use Rattle.om_tree.specs.declared.tree.Expression.{Expression}
-use Rattle.om_tree.specs.declared.tree.Item.{Item}
-use Rattle.om_tree.specs.declared.tree.Parameters.{Parameters}
-use Rattle.om_tree.specs.declared.tree.Part.{Part}
-use Rattle.om_tree.specs.declared.tree.Statement.{Statement}
-use Rattle.om_tree.specs.Making.{MadeStatement}
-use Rattle.om_tree.specs.Tree as trees
-use Rattle.om_tree.specs.Tree.{ExpressionTree, ItemTree, ParametersTree, PartsTree, StatementTree}
-use Rattle.om_tree.specs.View.{view_condition, view_for_head, view_inner, view_item, view_line, view_parameters}
-use Rattle.om_tree.specs.View.{view_part, view_statement}
+use Rattle.om_parser_parts.specs.Made.{view_operand, ReadsOne}
+use Rattle.om_parser_parts.specs.Reading.{Outcome, Reader, Reads}
+use Rattle.om_parser_tree.specs.declared.tree.Expression.{Expression}
+use Rattle.om_parser_tree.specs.declared.tree.Item.{Item}
+use Rattle.om_parser_tree.specs.declared.tree.Parameters.{Parameters}
+use Rattle.om_parser_tree.specs.declared.tree.Part.{Part}
+use Rattle.om_parser_tree.specs.declared.tree.Statement.{Statement}
+use Rattle.om_parser_tree.specs.Making.{MadeStatement}
+use Rattle.om_parser_tree.specs.Tree as trees
+use Rattle.om_parser_tree.specs.Tree.{ExpressionTree, ItemTree, ParametersTree, PartsTree, StatementTree}
+use Rattle.om_parser_tree.specs.View.{view_condition, view_for_head, view_inner, view_item, view_line, view_parameters}
+use Rattle.om_parser_tree.specs.View.{view_part, view_statement}
 
 -- the tree of an opening
 abbrev pub view_opening : Opening → OpeningTree

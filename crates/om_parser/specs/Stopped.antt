@@ -7,14 +7,14 @@ use Rattle.om_lexer.specs.declared.token.Punctuator.{Punctuator}
 use Rattle.om_lexer.specs.declared.token.Span.{Span}
 use Rattle.om_lexer.specs.declared.token.Token.{Token}
 use Rattle.om_parser.specs.BlockFaults.{IsBadAtomic, IsStopped}
-use Rattle.om_tree.specs.Limits.{Limits}
+use Rattle.om_parser_tree.specs.Limits.{Limits}
 use Rattle.om_parser.specs.BlockLineFaults.{IsLineFault}
-use Rattle.om_tree.specs.Places.{Place, IsPassed}
-use Rattle.om_parts.specs.Reading.{◌>>=◌, Outcome, Reader, choose, syntax, known, mark_at, word_at}
-use Rattle.om_parts.specs.Repetition.{until}
-use Rattle.om_parts.specs.Loops.{Ender}
-use Rattle.om_parts.specs.Outcomes.{ok, err_is}
-use Rattle.om_parts.specs.Laws.{Stops}
+use Rattle.om_parser_tree.specs.Places.{Place, IsPassed}
+use Rattle.om_parser_parts.specs.Reading.{◌>>=◌, Outcome, Reader, choose, syntax, known, mark_at, word_at}
+use Rattle.om_parser_parts.specs.Repetition.{until}
+use Rattle.om_parser_parts.specs.Loops.{Ender}
+use Rattle.om_parser_parts.specs.Outcomes.{ok, err_is}
+use Rattle.om_parser_parts.specs.Laws.{Stops}
 
 -- a reader that is refused by syntax alone
 abbrev pub IsPlain : {A : Type 0} → Outcome A → Type 0

@@ -7,16 +7,16 @@ use Rattle.om_lexer.specs.declared.token.Token.{Token}
 use Rattle.om_lexer.specs.declared.token.TokenKind.{TokenKind}
 use Rattle.om_lexer.specs.declared.token.TokenKind.TheVariants as kinds
 use Rattle.om_pragma.specs.declared.name.Name as names
-use Rattle.om_tree.specs.declared.tree.ResultType.{ResultType}
-use Rattle.om_tree.specs.declared.tree.ResultType.TheVariants as results
-use Rattle.om_parts.specs.PartReading.{global_at}
+use Rattle.om_parser_tree.specs.declared.tree.ResultType.{ResultType}
+use Rattle.om_parser_tree.specs.declared.tree.ResultType.TheVariants as results
+use Rattle.om_parser_parts.specs.PartReading.{global_at}
 use Rattle.om_parser.specs.FunctionReading.{head_after, named_head}
-use Rattle.om_tree.specs.Limits.{Limits}
-use Rattle.om_parts.specs.Reading.{◌>>=◌, choose, Outcome, Reader, take_mark, take_word, mark_at, word_at}
-use Rattle.om_parts.specs.Reading.{name_at}
-use Rattle.om_parts.specs.Repetition.{until}
+use Rattle.om_parser_tree.specs.Limits.{Limits}
+use Rattle.om_parser_parts.specs.Reading.{◌>>=◌, choose, Outcome, Reader, take_mark, take_word, mark_at, word_at}
+use Rattle.om_parser_parts.specs.Reading.{name_at}
+use Rattle.om_parser_parts.specs.Repetition.{until}
 use Rattle.om_parser.specs.StatementReading.{block_at}
-use Rattle.om_tree.specs.Tree.{HeadTree, ItemTree, Declaration, Prototype, Function, UnitTree}
+use Rattle.om_parser_tree.specs.Tree.{HeadTree, ItemTree, Declaration, Prototype, Function, UnitTree}
 
 -- ---- functions
 

@@ -2,10 +2,10 @@
 
 ghost use Rattle.std.specs.Prelude.{◌≡◌};
 ghost use Rattle.om_parser.specs.ConstructReading.{at_section, ends_part, from_word, line_start, start_of_kind, start_of_line, word_start};
-ghost use Rattle.om_parts.specs.Reading.{syntax};
+ghost use Rattle.om_parser_parts.specs.Reading.{syntax};
 
 use om_lexer::{Punctuator, SourceFault, Token, TokenKind};
-use om_parts::front::{syntax, take_mark};
+use om_parser_parts::front::{syntax, take_mark};
 use om_pragma::{DirectiveKind, begun_by};
 
 /// What stands first, where a directive line may.

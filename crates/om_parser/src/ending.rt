@@ -1,25 +1,25 @@
 //! What ends a statement behind the statement in it: of a `do`, its condition, and of an `atomic`, the test
 //! of its form.
 //!
-//! As with `om_tree::assembly`, none of these may be inlined into the functions of the recursion, so that
+//! As with `om_parser_tree::assembly`, none of these may be inlined into the functions of the recursion, so that
 //! their frames stay small.
 
 ghost use Rattle.std.specs.Prelude.{◌≡◌};
 ghost use Rattle.om_parser.specs.StatementReading.{do_end};
 ghost use Rattle.om_parser.specs.StatementView.{atomic_with, ReadsStatement};
-ghost use Rattle.om_parts.specs.PartReading.{parts};
+ghost use Rattle.om_parser_parts.specs.PartReading.{parts};
 ghost use Rattle.om_pragma.specs.Questions.{atomic_kind};
-ghost use Rattle.om_tree.specs.AtomicForms.{has_atomic_form};
-ghost use Rattle.om_tree.specs.Limits.{accepted};
-ghost use Rattle.om_tree.specs.View.{view_directive, view_inner, view_statement};
+ghost use Rattle.om_parser_tree.specs.AtomicForms.{has_atomic_form};
+ghost use Rattle.om_parser_tree.specs.Limits.{accepted};
+ghost use Rattle.om_parser_tree.specs.View.{view_directive, view_inner, view_statement};
 
 use crate::opening::condition;
 use om_lexer::{FaultCode, Keyword, Punctuator, SourceFault, Span, Token};
-use om_parts::front::{mark, word};
+use om_parser_parts::front::{mark, word};
+use om_parser_tree::assembly::construct_of;
+use om_parser_tree::boxed::boxed_before;
+use om_parser_tree::{Expression, Statement, has_atomic_form};
 use om_pragma::Directive;
-use om_tree::assembly::construct_of;
-use om_tree::boxed::boxed_before;
-use om_tree::{Expression, Statement, has_atomic_form};
 use std::alloc::Global;
 
 /// The rest of a `do` behind its body, and the tokens behind it.

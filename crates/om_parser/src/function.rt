@@ -3,16 +3,16 @@
 ghost use Rattle.std.specs.Prelude.{Ok};
 ghost use Rattle.om_parser.specs.FunctionReading.{parameter_at, further_parameter_at, further_parameters_at, listed_at, parameters_at, head_after, named_parameter, named_further, named_parameters, named_head};
 ghost use Rattle.om_parser.specs.StatementView.{ReadsParameters};
-ghost use Rattle.om_parts.specs.Made.{ReadsBoxed};
-ghost use Rattle.om_parts.specs.Reading.{take_name, Reads, ReadsAlways};
-ghost use Rattle.om_parts.specs.Repetition.{optional};
-ghost use Rattle.om_tree.specs.View.{view_parameters, view_head};
+ghost use Rattle.om_parser_parts.specs.Made.{ReadsBoxed};
+ghost use Rattle.om_parser_parts.specs.Reading.{take_name, Reads, ReadsAlways};
+ghost use Rattle.om_parser_parts.specs.Repetition.{optional};
+ghost use Rattle.om_parser_tree.specs.View.{view_parameters, view_head};
 
 use om_lexer::{Keyword, Punctuator, SourceFault, Span, Token, TokenKind};
-use om_parts::front::{mark, name, syntax, take_mark, take_word, word};
+use om_parser_parts::front::{mark, name, syntax, take_mark, take_word, word};
+use om_parser_tree::boxed::{boxed, boxed_before};
+use om_parser_tree::{FunctionHead, Parameter, Parameters, ResultType};
 use om_pragma::Name;
-use om_tree::boxed::{boxed, boxed_before};
-use om_tree::{FunctionHead, Parameter, Parameters, ResultType};
 use std::alloc::Global;
 
 /// The rest of a function's head, of which all up to the left parenthesis is taken.

@@ -2,7 +2,9 @@
 
 ghost use Rattle.om_parser.specs.Laws.{BlocksAreLocal, BlocksAreReadAgain, BlocksAreSound, BlocksStopSo, UncheckedHaveForms};
 
-use om_parts::laws::{parts_are_local, parts_are_read_again, parts_are_sound, parts_stop_so};
+use om_parser_parts::laws::{
+    parts_are_local, parts_are_read_again, parts_are_sound, parts_stop_so,
+};
 
 /// A block that is read is well-formed, keeps the limits, and has the tokens that were read.
 pub fn blocks_are_sound()

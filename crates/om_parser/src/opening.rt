@@ -3,17 +3,17 @@
 ghost use Rattle.std.specs.Prelude.{◌≡◌, option_map};
 ghost use Rattle.om_parser.specs.StatementReading.{condition_at, for_head_after, for_start_at, opening_of, optional_before, start_with};
 ghost use Rattle.om_parser.specs.StatementView.{view_opening, ReadsOptional};
-ghost use Rattle.om_parts.specs.Made.{view_operand, ReadsBoxed, ReadsOne};
-ghost use Rattle.om_parts.specs.PartReading.{parts};
-ghost use Rattle.om_tree.specs.Limits.{accepted};
-ghost use Rattle.om_tree.specs.View.{view_condition, view_for_head, view_for_start};
+ghost use Rattle.om_parser_parts.specs.Made.{view_operand, ReadsBoxed, ReadsOne};
+ghost use Rattle.om_parser_parts.specs.PartReading.{parts};
+ghost use Rattle.om_parser_tree.specs.Limits.{accepted};
+ghost use Rattle.om_parser_tree.specs.View.{view_condition, view_for_head, view_for_start};
 
 use crate::start::Start;
 use om_lexer::{Keyword, Punctuator, SourceFault, Span, Token};
-use om_parts::front::{mark, syntax, take_mark, take_word};
-use om_parts::part::{enclosed, enclosed_declaration};
-use om_tree::boxed::boxed_before;
-use om_tree::{Condition, Expression, ForHead, ForStart};
+use om_parser_parts::front::{mark, syntax, take_mark, take_word};
+use om_parser_parts::part::{enclosed, enclosed_declaration};
+use om_parser_tree::boxed::boxed_before;
+use om_parser_tree::{Condition, Expression, ForHead, ForStart};
 use std::alloc::Global;
 
 /// What an `if`, a `while` or a `for` has before its body.

@@ -4,20 +4,20 @@ ghost use Rattle.std.specs.Prelude.{option_map};
 ghost use Rattle.om_parser.specs.ConstructReading.{section_at, stand_alone_at, unknown_line};
 ghost use Rattle.om_parser.specs.StatementReading.{expression_statement_at, jump_after, local_item_after, return_after, simple_of};
 ghost use Rattle.om_parser.specs.StatementView.{ReadsStatement};
-ghost use Rattle.om_parts.specs.Made.{ReadsOne};
-ghost use Rattle.om_parts.specs.PartReading.{parts};
-ghost use Rattle.om_tree.specs.Limits.{accepted};
-ghost use Rattle.om_tree.specs.Tree as trees;
-ghost use Rattle.om_tree.specs.View.{view_line};
+ghost use Rattle.om_parser_parts.specs.Made.{ReadsOne};
+ghost use Rattle.om_parser_parts.specs.PartReading.{parts};
+ghost use Rattle.om_parser_tree.specs.Limits.{accepted};
+ghost use Rattle.om_parser_tree.specs.Tree as trees;
+ghost use Rattle.om_parser_tree.specs.View.{view_line};
 
 use crate::construct::{LineStart, line_start, misplaced};
 use crate::start::Start;
 use om_lexer::{Punctuator, SourceFault, Span, Token};
-use om_parts::front::{mark, syntax, take_mark};
-use om_parts::part::{declaration, directive_line, expression};
+use om_parser_parts::front::{mark, syntax, take_mark};
+use om_parser_parts::part::{declaration, directive_line, expression};
+use om_parser_tree::boxed::{boxed, boxed_before};
+use om_parser_tree::{Expression, Statement};
 use om_pragma::Directive;
-use om_tree::boxed::{boxed, boxed_before};
-use om_tree::{Expression, Statement};
 use std::alloc::Global;
 
 /// A statement of this start that has no statement in it, of which the first token is taken,

@@ -4,7 +4,7 @@ ghost use Rattle.std.specs.Prelude.{◌≡◌, Err};
 ghost use Rattle.om_parser.specs.StatementReading.{no_room, start_of, start_of_mark, start_of_word};
 
 use om_lexer::{Keyword, Punctuator, SourceFault, Span, Token, TokenKind};
-use om_parts::front::{syntax, too_deep};
+use om_parser_parts::front::{syntax, too_deep};
 
 /// Which statement a token begins.
 #[derive(Clone, Copy)]

@@ -4,11 +4,11 @@ ghost use Rattle.std.specs.Prelude.{◌≡◌, option_map};
 ghost use Rattle.om_lexer.specs.declared.token.Keyword.TheVariants.{Else};
 ghost use Rattle.om_parser.specs.StatementReading.{atomic_in, block_at, block_in, block_item_in, construct_in, constructed_in, directive_in, do_after, every_part_in, headed_in, items_in, part_in, part_item_in, part_items_in, parts_in, sections_in, statement_in};
 ghost use Rattle.om_parser.specs.StatementView.{behind_body_in, ReadsBraces, ReadsStatement};
-ghost use Rattle.om_parts.specs.Made.{ReadsEach, ReadsOne, ReadsUntil};
-ghost use Rattle.om_parts.specs.PartReading.{parts};
-ghost use Rattle.om_parts.specs.Reading.{take_word};
-ghost use Rattle.om_tree.specs.Limits.{accepted};
-ghost use Rattle.om_tree.specs.View.{view_block, view_line, view_part, view_statement};
+ghost use Rattle.om_parser_parts.specs.Made.{ReadsEach, ReadsOne, ReadsUntil};
+ghost use Rattle.om_parser_parts.specs.PartReading.{parts};
+ghost use Rattle.om_parser_parts.specs.Reading.{take_word};
+ghost use Rattle.om_parser_tree.specs.Limits.{accepted};
+ghost use Rattle.om_parser_tree.specs.View.{view_block, view_line, view_part, view_statement};
 
 use crate::construct::{LineStart, at_section, ends_part, line_start, misplaced};
 use crate::ending::{atomic_of, do_end};
@@ -16,14 +16,14 @@ use crate::opening::{Opening, opening_after};
 use crate::simple::{declaration_item, section, simple, stand_alone, unknown_line};
 use crate::start::{Start, no_room, start_of};
 use om_lexer::{Keyword, Punctuator, SourceFault, Span, Token};
-use om_parts::front::{mark, syntax, take_mark, take_word, too_deep};
-use om_parts::laws::parts_are_sound;
-use om_parts::part::directive_line;
-use om_pragma::Directive;
-use om_tree::assembly::{
+use om_parser_parts::front::{mark, syntax, take_mark, take_word, too_deep};
+use om_parser_parts::laws::parts_are_sound;
+use om_parser_parts::part::directive_line;
+use om_parser_tree::assembly::{
     Branches, block_of, construct_of, for_of, if_else_of, if_of, sections_of, while_of,
 };
-use om_tree::{BLOCK_LIMIT, Block, Expression, Part, STATEMENT_LIMIT, Statement};
+use om_parser_tree::{BLOCK_LIMIT, Block, Expression, Part, STATEMENT_LIMIT, Statement};
+use om_pragma::Directive;
 use std::alloc::Global;
 
 /// What may still stand in one another.

@@ -5,29 +5,29 @@ ghost use Rattle.om_lexer.specs.Order.{AreWhole};
 ghost use Rattle.om_lexer.specs.declared.fault.SourceFault.{SourceFault};
 ghost use Rattle.om_lexer.specs.declared.fault.FaultCode.TheVariants.{BadClause, Syntax, TooDeep, UnknownDirective};
 ghost use Rattle.om_lexer.specs.declared.token.Token.{Token};
-ghost use Rattle.om_tree.specs.Formed.{IsUnit};
-ghost use Rattle.om_tree.specs.Limits.{accepted};
+ghost use Rattle.om_parser_tree.specs.Formed.{IsUnit};
+ghost use Rattle.om_parser_tree.specs.Limits.{accepted};
 ghost use Rattle.om_parser.specs.LineFaults.{IsRefusedLine};
-ghost use Rattle.om_tree.specs.Sizes.{AtomicsHaveForms, IsWithinLimits};
+ghost use Rattle.om_parser_tree.specs.Sizes.{AtomicsHaveForms, IsWithinLimits};
 ghost use Rattle.om_parser.specs.Parsing.{ForEachAccepted, HasNoTree, HasParserCode, IfRefusedBy, IsRefusedLineOrAtomic, IsTreeOf, IsTreeOrMemory, PassesALimit};
 ghost use Rattle.om_parser.specs.Halts.{IsSyntaxHalt};
 ghost use Rattle.om_parser.specs.Refusals.{refusal_of, IsRefusalOrMemory};
 ghost use Rattle.om_parser.specs.StatementView.{ReadsItem, ReadsToEnd};
-ghost use Rattle.om_parts.specs.Reading.{Reads};
-ghost use Rattle.om_tree.specs.Spelling.{unit_spelling};
-ghost use Rattle.om_tree.specs.Tree.{UnitTree};
+ghost use Rattle.om_parser_parts.specs.Reading.{Reads};
+ghost use Rattle.om_parser_tree.specs.Spelling.{unit_spelling};
+ghost use Rattle.om_parser_tree.specs.Tree.{UnitTree};
 ghost use Rattle.om_parser.specs.UnitReading.{function_after, prototype_after, void_after, int_after, item_at, items_to_end, take_end, unit_at};
-ghost use Rattle.om_tree.specs.View.{view_head, view_unit};
+ghost use Rattle.om_parser_tree.specs.View.{view_head, view_unit};
 
 use crate::function::{head_after, named_head};
 use crate::laws::{blocks_are_local, blocks_are_read_again, blocks_are_sound, blocks_stop_so};
 use crate::statement::block;
 use om_lexer::{Keyword, Punctuator, SourceFault, Span, Token, TokenKind};
-use om_parts::front::{mark, name, take_mark, take_word, word};
-use om_parts::laws::{globals, parts_are_local};
-use om_parts::part::global_declaration;
+use om_parser_parts::front::{mark, name, take_mark, take_word, word};
+use om_parser_parts::laws::{globals, parts_are_local};
+use om_parser_parts::part::global_declaration;
+use om_parser_tree::{Function, FunctionHead, Item, ResultType, Unit};
 use om_pragma::Name;
-use om_tree::{Function, FunctionHead, Item, ResultType, Unit};
 use std::alloc::Global;
 
 /// How many bytes of stack a thread should have that parses, and works with what is found.
@@ -55,7 +55,7 @@ pub const STACK_SIZE: usize = 256 << 20;
 /// - S16: at this token an expression has more than `TOKEN_LIMIT` tokens, parentheses nest deeper
 ///   than `NESTING_LIMIT` (those of a clause count) or blocks deeper than `BLOCK_LIMIT`, or a
 ///   statement begins round which more than `STATEMENT_LIMIT` stand (the braces of `sections` are
-///   one). These limits are those of `om_tree`.
+///   one). These limits are those of `om_parser_tree`.
 ///
 /// S5, and S6 of a clause, are of whole lines, and what stands before such a line begins a
 /// well-formed unit that goes on with a line there. So do the tokens up to that of an S16, the

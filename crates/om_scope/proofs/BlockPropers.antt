@@ -1,13 +1,13 @@
 -- Items of proper statements, one after the other.
 use Rattle.std.proofs.Common.{◌≡◌, ◌≤◌, ◌<◌, ℕ, ◌+◌, ◌*◌, List, length, map, drop, get_or, subst, sym}
 use denote.Param.Weighed.{at_most, most}
-use Rattle.om_tree.specs.declared.tree.Part.{Part}
-use Rattle.om_tree.specs.declared.tree.Statement.{Statement}
-use Rattle.om_tree.specs.Formed.{AreStatements}
-use Rattle.om_tree.specs.Sizes.{HaveForms}
-use Rattle.om_tree.specs.Tree.{PartsTree, StatementsTree, parts, statements}
-use Rattle.om_tree.specs.View.{view_part, view_statement}
-use Rattle.om_rules.specs.Proper.{AreProper, AreProperParts, IsProper}
+use Rattle.om_parser_tree.specs.declared.tree.Part.{Part}
+use Rattle.om_parser_tree.specs.declared.tree.Statement.{Statement}
+use Rattle.om_parser_tree.specs.Formed.{AreStatements}
+use Rattle.om_parser_tree.specs.Sizes.{HaveForms}
+use Rattle.om_parser_tree.specs.Tree.{PartsTree, StatementsTree, parts, statements}
+use Rattle.om_parser_tree.specs.View.{view_part, view_statement}
+use Rattle.om_scope_rules.specs.Proper.{AreProper, AreProperParts, IsProper}
 use Rattle.om_scope.specs.Items.{drop-item}
 
 -- an item is no larger than the largest one; `size` is the one by which the call of the loop's function is measured

@@ -1,21 +1,21 @@
 -- What a block declares is forgotten behind it.
 use Rattle.std.proofs.Common.{◌≡◌, ℕ, ◌+◌, List, [], ◌∷◌, ◌++◌, Option, None, Some, refl, ap, ◌∙◌}
 use Rattle.om_lexer.specs.declared.fault.SourceFault.{SourceFault}
-use Rattle.om_tree.specs.Tree.{ForStartTree, Nothing, StartExpression, StartDeclaration, StatementTree}
-use Rattle.om_tree.specs.Tree.{StatementsTree, NoStatements}
-use Rattle.om_tree.specs.Tree.{Statement, PartsTree, Part, PartTree}
-use Rattle.om_rules.specs.declared.flow.Flow.{Flow}
-use Rattle.om_rules.specs.declared.region.Region.{Region}
-use Rattle.om_rules.specs.Faults.{first_of}
-use Rattle.om_rules.specs.Outcomes.{Refuses}
-use Rattle.om_rules.specs.Scopes.{Scope, Scopes, inside, outside, plain, within, declarators_of}
-use Rattle.om_rules.specs.Perhaps.{◌>>=◌}
-use Rattle.om_resolved.specs.ResolvedTree as resolved
-use Rattle.om_resolved.specs.ResolvedTree.{ResolvedStatementTree, ResolvedStatementsTree}
-use Rattle.om_rules.specs.StatementResolution.{resolved_statement, resolved_statements}
-use Rattle.om_rules.specs.StatementRules.{after_for_start, after_statement, after_statements, part_breaches}
-use Rattle.om_rules.specs.StatementRules.{parts_breaches, statement_breaches, statements_breaches}
-use Rattle.om_rules.specs.InRow.{first_of_left}
+use Rattle.om_parser_tree.specs.Tree.{ForStartTree, Nothing, StartExpression, StartDeclaration, StatementTree}
+use Rattle.om_parser_tree.specs.Tree.{StatementsTree, NoStatements}
+use Rattle.om_parser_tree.specs.Tree.{Statement, PartsTree, Part, PartTree}
+use Rattle.om_scope_rules.specs.declared.flow.Flow.{Flow}
+use Rattle.om_scope_rules.specs.declared.region.Region.{Region}
+use Rattle.om_scope_rules.specs.Faults.{first_of}
+use Rattle.om_scope_rules.specs.Outcomes.{Refuses}
+use Rattle.om_scope_rules.specs.Scopes.{Scope, Scopes, inside, outside, plain, within, declarators_of}
+use Rattle.om_scope_rules.specs.Perhaps.{◌>>=◌}
+use Rattle.om_scope_tree.specs.ResolvedTree as resolved
+use Rattle.om_scope_tree.specs.ResolvedTree.{ResolvedStatementTree, ResolvedStatementsTree}
+use Rattle.om_scope_rules.specs.StatementResolution.{resolved_statement, resolved_statements}
+use Rattle.om_scope_rules.specs.StatementRules.{after_for_start, after_statement, after_statements, part_breaches}
+use Rattle.om_scope_rules.specs.StatementRules.{parts_breaches, statement_breaches, statements_breaches}
+use Rattle.om_scope_rules.specs.InRow.{first_of_left}
 use Rattle.om_scope.specs.Within.{locals_within, statement_within, statements_within}
 use Rattle.om_scope.proofs.Statements.{Made, made_step, made_whole}
 

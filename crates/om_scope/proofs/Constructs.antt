@@ -1,12 +1,12 @@
 -- Statements that the program takes apart, as trees.
 use Rattle.std.proofs.Common.{◌≡◌, map, sym, ap, ◌∙◌}
-use Rattle.om_tree.specs.declared.tree.Statement.{fold-roll-Statement}
-use Rattle.om_tree.specs.declared.tree.Statement.TheOpen.{Statement-F}
-use Rattle.om_tree.specs.declared.tree.Statement.TheVariants as statements
-use Rattle.om_tree.specs.Tree as trees
-use Rattle.om_tree.specs.Tree.{StatementTree, PartTree, Construct, If, IfElse, While, Do}
-use Rattle.om_tree.specs.View.{part_layer, statement_layer, view_condition, view_directive, view_for_head, view_part}
-use Rattle.om_tree.specs.View.{view_statement}
+use Rattle.om_parser_tree.specs.declared.tree.Statement.{fold-roll-Statement}
+use Rattle.om_parser_tree.specs.declared.tree.Statement.TheOpen.{Statement-F}
+use Rattle.om_parser_tree.specs.declared.tree.Statement.TheVariants as statements
+use Rattle.om_parser_tree.specs.Tree as trees
+use Rattle.om_parser_tree.specs.Tree.{StatementTree, PartTree, Construct, If, IfElse, While, Do}
+use Rattle.om_parser_tree.specs.View.{part_layer, statement_layer, view_condition, view_directive, view_for_head, view_part}
+use Rattle.om_parser_tree.specs.View.{view_statement}
 
 pub view_construct : (d : _) (s : _) → view_statement (statements.Construct d s)
     ≡ Construct (view_directive d.value) (view_statement s.value)

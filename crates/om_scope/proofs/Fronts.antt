@@ -1,16 +1,16 @@
 -- The first breach of the first two of three parts.
 use Rattle.std.proofs.Common.{◌≡◌, List, [], ◌∷◌, ◌++◌, Some}
 use Rattle.om_lexer.specs.declared.fault.SourceFault.{SourceFault}
-use Rattle.om_tree.specs.Tree.{ExpressionTree, StatementTree}
+use Rattle.om_parser_tree.specs.Tree.{ExpressionTree, StatementTree}
 use Rattle.om_pragma.specs.declared.tree.Directive.{Directive}
-use Rattle.om_rules.specs.declared.flow.Flow.{Flow}
-use Rattle.om_rules.specs.DirectiveRules.{constructing, directive_breaches, in_construct}
-use Rattle.om_rules.specs.Faults.{first_of}
-use Rattle.om_rules.specs.Loops.{Loop}
-use Rattle.om_rules.specs.Outcomes.{Refuses}
-use Rattle.om_rules.specs.Scopes.{Scopes}
-use Rattle.om_rules.specs.StatementRules.{body_breaches, found_breaches, loop_construct_breaches, round_bounds}
-use Rattle.om_rules.specs.InRow.{first_of_left}
+use Rattle.om_scope_rules.specs.declared.flow.Flow.{Flow}
+use Rattle.om_scope_rules.specs.DirectiveRules.{constructing, directive_breaches, in_construct}
+use Rattle.om_scope_rules.specs.Faults.{first_of}
+use Rattle.om_scope_rules.specs.Loops.{Loop}
+use Rattle.om_scope_rules.specs.Outcomes.{Refuses}
+use Rattle.om_scope_rules.specs.Scopes.{Scopes}
+use Rattle.om_scope_rules.specs.StatementRules.{body_breaches, found_breaches, loop_construct_breaches, round_bounds}
+use Rattle.om_scope_rules.specs.InRow.{first_of_left}
 
 first_of_front : (xs ys zs : List SourceFault) (fault : SourceFault) → first_of (xs ++ ys) ≡ Some fault
     → first_of (xs ++ (ys ++ zs)) ≡ Some fault

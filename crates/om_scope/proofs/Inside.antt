@@ -1,17 +1,17 @@
 -- What stands in a proper statement is smaller than it, and proper. This is what the call for it needs.
 use Rattle.std.proofs.Common.{◌≡◌, ◌<◌, true, List, map, ap, arith}
 use denote.Param.Weighed.{most}
-use Rattle.om_tree.specs.declared.tree.Part.{Part}
-use Rattle.om_tree.specs.declared.tree.Statement.{Statement}
-use Rattle.om_tree.specs.declared.tree.Statement.TheVariants as v
-use Rattle.om_tree.specs.declared.tree.Statement.TheViews.{size-Part, size-Statement, sized-Block, sized-Do}
-use Rattle.om_tree.specs.declared.tree.Statement.TheViews.{sized-For, sized-If, sized-IfElse, sized-Sections}
-use Rattle.om_tree.specs.declared.tree.Statement.TheViews.{sized-While}
-use Rattle.om_tree.specs.Formed.{AreParts, IsStatement}
-use Rattle.om_tree.specs.Sizes.{HasForms, PartsHaveForms}
-use Rattle.om_tree.specs.Tree.{parts, statements}
-use Rattle.om_tree.specs.View.{view_part, view_statement}
-use Rattle.om_rules.specs.Proper.{AreProper, IsProper}
+use Rattle.om_parser_tree.specs.declared.tree.Part.{Part}
+use Rattle.om_parser_tree.specs.declared.tree.Statement.{Statement}
+use Rattle.om_parser_tree.specs.declared.tree.Statement.TheVariants as v
+use Rattle.om_parser_tree.specs.declared.tree.Statement.TheViews.{size-Part, size-Statement, sized-Block, sized-Do}
+use Rattle.om_parser_tree.specs.declared.tree.Statement.TheViews.{sized-For, sized-If, sized-IfElse, sized-Sections}
+use Rattle.om_parser_tree.specs.declared.tree.Statement.TheViews.{sized-While}
+use Rattle.om_parser_tree.specs.Formed.{AreParts, IsStatement}
+use Rattle.om_parser_tree.specs.Sizes.{HasForms, PartsHaveForms}
+use Rattle.om_parser_tree.specs.Tree.{parts, statements}
+use Rattle.om_parser_tree.specs.View.{view_part, view_statement}
+use Rattle.om_scope_rules.specs.Proper.{AreProper, IsProper}
 use Rattle.om_scope.proofs.Constructs.{view_block, view_do, view_for, view_if, view_if_else, view_sections, view_while}
 
 abbrev pub Inside : (tree s : Statement) → Type 0

@@ -1,11 +1,11 @@
 -- Resolved parts of `sections`, as a loop makes them.
 use Rattle.std.proofs.Common.{◌≡◌, ℕ, List, [], ◌∷◌, ◌++◌, Option, Some, refl, sym, ap, ◌∙◌}
-use Rattle.om_tree.specs.Tree.{PartsTree, PartTree}
-use Rattle.om_tree.specs.Tree as trees
-use Rattle.om_resolved.specs.ResolvedTree.{ResolvedStatementsTree, ResolvedPartsTree, NoParts, Part, parts}
-use Rattle.om_rules.specs.Perhaps.{◌>>=◌}
-use Rattle.om_rules.specs.Scopes.{Scopes, inside}
-use Rattle.om_rules.specs.StatementResolution.{resolved_parts, resolved_statements}
+use Rattle.om_parser_tree.specs.Tree.{PartsTree, PartTree}
+use Rattle.om_parser_tree.specs.Tree as trees
+use Rattle.om_scope_tree.specs.ResolvedTree.{ResolvedStatementsTree, ResolvedPartsTree, NoParts, Part, parts}
+use Rattle.om_scope_rules.specs.Perhaps.{◌>>=◌}
+use Rattle.om_scope_rules.specs.Scopes.{Scopes, inside}
+use Rattle.om_scope_rules.specs.StatementResolution.{resolved_parts, resolved_statements}
 
 -- these parts before those
 abbrev pub before : List ResolvedStatementsTree → ResolvedPartsTree → ResolvedPartsTree

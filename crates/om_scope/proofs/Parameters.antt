@@ -1,15 +1,15 @@
 -- What a function's head declares is forgotten behind it.
 use Rattle.std.proofs.Common.{◌≡◌, List, [], ◌∷◌, ◌++◌, Option, None, Some, refl, ap, ◌∙◌}
-use Rattle.om_tree.specs.Tree.{StatementTree}
+use Rattle.om_parser_tree.specs.Tree.{StatementTree}
 use Rattle.om_pragma.specs.declared.name.Name as names
-use Rattle.om_tree.specs.declared.tree.Parameter.{Parameter}
-use Rattle.om_resolved.specs.declared.resolved.Variable.TheVariants as variables
-use Rattle.om_rules.specs.declared.meaning.Meaning.TheVariants as meanings
-use Rattle.om_rules.specs.declared.region.Region.{Region}
-use Rattle.om_resolved.specs.declared.resolved.Shape.TheVariants as shapes
-use Rattle.om_rules.specs.Scopes.{Scope, Scopes, inside, outside, plain, within}
-use Rattle.om_rules.specs.Scopes.{after_optional_name, after_optionals, after_parameters}
-use Rattle.om_rules.specs.StatementRules.{after_statements}
+use Rattle.om_parser_tree.specs.declared.tree.Parameter.{Parameter}
+use Rattle.om_scope_tree.specs.declared.resolved.Variable.TheVariants as variables
+use Rattle.om_scope_rules.specs.declared.meaning.Meaning.TheVariants as meanings
+use Rattle.om_scope_rules.specs.declared.region.Region.{Region}
+use Rattle.om_scope_tree.specs.declared.resolved.Shape.TheVariants as shapes
+use Rattle.om_scope_rules.specs.Scopes.{Scope, Scopes, inside, outside, plain, within}
+use Rattle.om_scope_rules.specs.Scopes.{after_optional_name, after_optionals, after_parameters}
+use Rattle.om_scope_rules.specs.StatementRules.{after_statements}
 use Rattle.om_scope.specs.Within.{StaysWithin, statements_within}
 
 -- what a name that is declared leaves in the innermost scope

@@ -1,12 +1,12 @@
 -- The items of a proper source, one by one.
 use Rattle.std.proofs.Common.{◌≡◌, ◌<◌, ℕ, zero, suc, List, [], ◌∷◌, All, length, map, get_or, subst, sym, arith}
 use Rattle.std.proofs.lemmas.List.Elements.{All-head, All-tail}
-use Rattle.om_tree.specs.declared.tree.Item.{Item}
-use Rattle.om_tree.specs.Formed.{IsUnit}
-use Rattle.om_tree.specs.Sizes.{AtomicsHaveForms}
-use Rattle.om_tree.specs.Tree.{UnitTree}
-use Rattle.om_tree.specs.View.{view_item}
-use Rattle.om_rules.specs.Proper.{IsProperItem}
+use Rattle.om_parser_tree.specs.declared.tree.Item.{Item}
+use Rattle.om_parser_tree.specs.Formed.{IsUnit}
+use Rattle.om_parser_tree.specs.Sizes.{AtomicsHaveForms}
+use Rattle.om_parser_tree.specs.Tree.{UnitTree}
+use Rattle.om_parser_tree.specs.View.{view_item}
+use Rattle.om_scope_rules.specs.Proper.{IsProperItem}
 
 pub unit_proper : (unit : UnitTree) → IsUnit unit → AtomicsHaveForms unit → All IsProperItem unit.items
 unfolding IsUnit AtomicsHaveForms

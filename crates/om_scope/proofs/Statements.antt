@@ -1,8 +1,8 @@
 -- Resolved statements, as a loop makes them.
 use Rattle.std.proofs.Common.{◌≡◌, List, [], ◌∷◌, ◌++◌, Option, None, Some, refl, sym, ap, ◌∙◌}
-use Rattle.om_rules.specs.Perhaps.{◌>>=◌}
-use Rattle.om_resolved.specs.ResolvedTree as resolved
-use Rattle.om_resolved.specs.ResolvedTree.{ResolvedStatementTree, ResolvedStatementsTree, NoStatements, Statement}
+use Rattle.om_scope_rules.specs.Perhaps.{◌>>=◌}
+use Rattle.om_scope_tree.specs.ResolvedTree as resolved
+use Rattle.om_scope_tree.specs.ResolvedTree.{ResolvedStatementTree, ResolvedStatementsTree, NoStatements, Statement}
 
 -- these statements before those
 abbrev pub before : List ResolvedStatementTree → ResolvedStatementsTree → ResolvedStatementsTree

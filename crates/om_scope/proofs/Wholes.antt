@@ -1,13 +1,13 @@
 -- The resolution of a whole source, once its items are resolved.
 use Rattle.std.proofs.Common.{◌≡◌, List, [], ◌++◌, Option, Some, sym, ap, ◌∙◌}
 use Rattle.std.specs.List.{flat_map}
-use Rattle.om_tree.specs.Tree.{ItemTree}
-use Rattle.om_resolved.specs.declared.resolved.GlobalVariable.{GlobalVariable}
-use Rattle.om_rules.specs.Perhaps.{◌>>=◌, all_along}
-use Rattle.om_resolved.specs.ResolvedTree.{ResolvedFunctionTree, ResolvedTree}
-use Rattle.om_rules.specs.Scopes.{Scopes, after_item, definitions_of, file_scope}
-use Rattle.om_rules.specs.UnitResolution.{globals_of, item_functions, items_resolution}
-use Rattle.om_rules.specs.InRow.{made_and, nothing_made}
+use Rattle.om_parser_tree.specs.Tree.{ItemTree}
+use Rattle.om_scope_tree.specs.declared.resolved.GlobalVariable.{GlobalVariable}
+use Rattle.om_scope_rules.specs.Perhaps.{◌>>=◌, all_along}
+use Rattle.om_scope_tree.specs.ResolvedTree.{ResolvedFunctionTree, ResolvedTree}
+use Rattle.om_scope_rules.specs.Scopes.{Scopes, after_item, definitions_of, file_scope}
+use Rattle.om_scope_rules.specs.UnitResolution.{globals_of, item_functions, items_resolution}
+use Rattle.om_scope_rules.specs.InRow.{made_and, nothing_made}
 
 abbrev whole : List GlobalVariable → List ResolvedFunctionTree → Option ResolvedTree
 whole globals functions = Some (record { globals = globals; functions = functions })

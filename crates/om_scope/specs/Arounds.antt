@@ -7,26 +7,26 @@ use Rattle.om_lexer.specs.declared.token.Span.{Span}
 use Rattle.om_pragma.specs.declared.name.Name as names
 use Rattle.om_pragma.specs.declared.tree.AtomicKind.{AtomicKind}
 use Rattle.om_pragma.specs.declared.tree.Directive.{Directive}
-use Rattle.om_tree.specs.declared.tree.Expression.{Expression}
-use Rattle.om_tree.specs.View.{view_directive}
+use Rattle.om_parser_tree.specs.declared.tree.Expression.{Expression}
+use Rattle.om_parser_tree.specs.View.{view_directive}
 use Rattle.om_scope.specs.declared.assembly.Around.{Around}
 use Rattle.om_scope.specs.declared.assembly.Around.TheVariants as arounds
 use Rattle.om_scope.specs.declared.assembly.Setting.{Setting}
-use Rattle.om_resolved.specs.declared.resolved.ConstructKind.TheVariants as kinds
-use Rattle.om_resolved.specs.declared.resolved.ResolvedClause.{ResolvedClause}
-use Rattle.om_resolved.specs.declared.resolved.ResolvedLoop.{ResolvedLoop}
-use Rattle.om_resolved.specs.declared.resolved.ResolvedPart.{ResolvedPart}
-use Rattle.om_resolved.specs.declared.resolved.ResolvedStatement.{ResolvedStatement}
-use Rattle.om_resolved.specs.declared.resolved.Side.{Side}
-use Rattle.om_resolved.specs.ResolvedTree as resolved
-use Rattle.om_resolved.specs.ResolvedTree.{ResolvedClauseTree, ResolvedStatementTree}
-use Rattle.om_resolved.specs.ResolvedView as view
-use Rattle.om_rules.specs.Resolves.{Resolves}
-use Rattle.om_rules.specs.StatementResolution.{atomic_of, construct_of, critical_name, loop_construct_of, parallel_of}
-use Rattle.om_rules.specs.StatementResolution.{sections_construct_of, task_of, with_update}
-use Rattle.om_rules.specs.Updates.{update_of}
+use Rattle.om_scope_tree.specs.declared.resolved.ConstructKind.TheVariants as kinds
+use Rattle.om_scope_tree.specs.declared.resolved.ResolvedClause.{ResolvedClause}
+use Rattle.om_scope_tree.specs.declared.resolved.ResolvedLoop.{ResolvedLoop}
+use Rattle.om_scope_tree.specs.declared.resolved.ResolvedPart.{ResolvedPart}
+use Rattle.om_scope_tree.specs.declared.resolved.ResolvedStatement.{ResolvedStatement}
+use Rattle.om_scope_tree.specs.declared.resolved.Side.{Side}
+use Rattle.om_scope_tree.specs.ResolvedTree as resolved
+use Rattle.om_scope_tree.specs.ResolvedTree.{ResolvedClauseTree, ResolvedStatementTree}
+use Rattle.om_scope_tree.specs.ResolvedView as view
+use Rattle.om_scope_rules.specs.Resolves.{Resolves}
+use Rattle.om_scope_rules.specs.StatementResolution.{atomic_of, construct_of, critical_name, loop_construct_of, parallel_of}
+use Rattle.om_scope_rules.specs.StatementResolution.{sections_construct_of, task_of, with_update}
+use Rattle.om_scope_rules.specs.Updates.{update_of}
 use Rattle.om_scope.specs.Resolving.{view_body, view_clauses, view_parts}
-use Rattle.om_uses.specs.Bounds.{view_repeated}
+use Rattle.om_scope_parts.specs.Bounds.{view_repeated}
 
 -- a statement with what a construct puts round it; an update takes the place of one that is an update
 abbrev pub with_around : Around → Span → List ResolvedClauseTree → ResolvedStatementTree

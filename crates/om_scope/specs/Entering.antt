@@ -4,23 +4,23 @@ use Rattle.std.specs.Prelude.{◌≡◌, ◌++◌, [], OnOk, Result, Vec}
 use Rattle.std.specs.declared.alloc.Global.{Global}
 use Rattle.om_lexer.specs.declared.fault.SourceFault.{SourceFault}
 use Rattle.om_pragma.specs.declared.tree.Directive.{Directive}
-use Rattle.om_tree.specs.declared.tree.Expression.{Expression}
-use Rattle.om_tree.specs.View.{view_directive}
-use Rattle.om_resolved.specs.declared.resolved.ResolvedClause.{ResolvedClause}
-use Rattle.om_resolved.specs.declared.resolved.ResolvedLoop.{ResolvedLoop}
-use Rattle.om_rules.specs.declared.flow.Flow.{Flow}
-use Rattle.om_rules.specs.declared.region.RegionKind.{RegionKind}
-use Rattle.om_rules.specs.Checks.{Checks}
-use Rattle.om_rules.specs.DirectiveRules.{Listed, directive_breaches, in_kind, traits_of}
-use Rattle.om_rules.specs.Loops.{Loop}
-use Rattle.om_rules.specs.Outcomes.{Finds}
-use Rattle.om_rules.specs.Resolves.{Resolves}
-use Rattle.om_rules.specs.Scopes.{Scopes}
-use Rattle.om_rules.specs.StatementResolution.{resolved_clauses, resolved_loop, schedule_of}
-use Rattle.om_rules.specs.StatementRules.{found_breaches, round_bounds}
+use Rattle.om_parser_tree.specs.declared.tree.Expression.{Expression}
+use Rattle.om_parser_tree.specs.View.{view_directive}
+use Rattle.om_scope_tree.specs.declared.resolved.ResolvedClause.{ResolvedClause}
+use Rattle.om_scope_tree.specs.declared.resolved.ResolvedLoop.{ResolvedLoop}
+use Rattle.om_scope_rules.specs.declared.flow.Flow.{Flow}
+use Rattle.om_scope_rules.specs.declared.region.RegionKind.{RegionKind}
+use Rattle.om_scope_rules.specs.Checks.{Checks}
+use Rattle.om_scope_rules.specs.DirectiveRules.{Listed, directive_breaches, in_kind, traits_of}
+use Rattle.om_scope_rules.specs.Loops.{Loop}
+use Rattle.om_scope_rules.specs.Outcomes.{Finds}
+use Rattle.om_scope_rules.specs.Resolves.{Resolves}
+use Rattle.om_scope_rules.specs.Scopes.{Scopes}
+use Rattle.om_scope_rules.specs.StatementResolution.{resolved_clauses, resolved_loop, schedule_of}
+use Rattle.om_scope_rules.specs.StatementRules.{found_breaches, round_bounds}
 use Rattle.om_scope.specs.Parts.{round_listed}
 use Rattle.om_scope.specs.Resolving.{view_clauses}
-use Rattle.om_uses.specs.Bounds.{ResolvesLoop, view_repeated}
+use Rattle.om_scope_parts.specs.Bounds.{ResolvesLoop, view_repeated}
 
 -- the kind of the region that a directive begins
 abbrev pub region_of : Directive Expression → RegionKind

@@ -4,20 +4,20 @@ use Rattle.std.specs.declared.alloc.Global.{Global}
 use Rattle.om_lexer.specs.declared.fault.SourceFault.{SourceFault}
 use Rattle.om_lexer.specs.declared.token.Span.{Span}
 use Rattle.om_pragma.specs.declared.name.Name as names
-use Rattle.om_tree.specs.declared.tree.Parameter.{Parameter}
-use Rattle.om_tree.specs.declared.tree.Parameters.{Parameters}
-use Rattle.om_tree.specs.Tree.{FunctionTree}
-use Rattle.om_resolved.specs.declared.resolved.LocalVariable.{LocalVariable}
-use Rattle.om_resolved.specs.declared.resolved.ResolvedFunction.{ResolvedFunction}
-use Rattle.om_resolved.specs.declared.resolved.ResolvedStatement.{ResolvedStatement}
-use Rattle.om_resolved.specs.ResolvedView as view
-use Rattle.om_rules.specs.Checks.{Checks}
-use Rattle.om_rules.specs.Faults.{breaches_along}
-use Rattle.om_rules.specs.Resolves.{Appends, Resolves}
-use Rattle.om_rules.specs.Scopes.{Scopes, after_optionals, after_parameters}
-use Rattle.om_rules.specs.UnitResolution.{parameter_variable, resolved_function, resolved_inside}
-use Rattle.om_rules.specs.UnitRules.{body_breaches, function_breaches, next_optional, next_parameter, optional_breaches}
-use Rattle.om_rules.specs.UnitRules.{optionals_breaches, parameter_breaches, parameters_breaches}
+use Rattle.om_parser_tree.specs.declared.tree.Parameter.{Parameter}
+use Rattle.om_parser_tree.specs.declared.tree.Parameters.{Parameters}
+use Rattle.om_parser_tree.specs.Tree.{FunctionTree}
+use Rattle.om_scope_tree.specs.declared.resolved.LocalVariable.{LocalVariable}
+use Rattle.om_scope_tree.specs.declared.resolved.ResolvedFunction.{ResolvedFunction}
+use Rattle.om_scope_tree.specs.declared.resolved.ResolvedStatement.{ResolvedStatement}
+use Rattle.om_scope_tree.specs.ResolvedView as view
+use Rattle.om_scope_rules.specs.Checks.{Checks}
+use Rattle.om_scope_rules.specs.Faults.{breaches_along}
+use Rattle.om_scope_rules.specs.Resolves.{Appends, Resolves}
+use Rattle.om_scope_rules.specs.Scopes.{Scopes, after_optionals, after_parameters}
+use Rattle.om_scope_rules.specs.UnitResolution.{parameter_variable, resolved_function, resolved_inside}
+use Rattle.om_scope_rules.specs.UnitRules.{body_breaches, function_breaches, next_optional, next_parameter, optional_breaches}
+use Rattle.om_scope_rules.specs.UnitRules.{optionals_breaches, parameter_breaches, parameters_breaches}
 use Rattle.om_scope.specs.Resolving.{further_parameters, parameters_in, view_items}
 
 -- ---- the parameters of a definition, `Further` where they stand behind the first

@@ -1,17 +1,17 @@
 -- Parts of statements that have a function of their own.
 use Rattle.std.specs.Prelude.{Option, Some, if◌then◌else◌}
 use Rattle.om_lexer.specs.declared.token.Span.{Span}
-use Rattle.om_tree.specs.Tree.{ExpressionTree, DeclarationTree}
-use Rattle.om_rules.specs.declared.region.RegionKind.{RegionKind}
-use Rattle.om_rules.specs.DirectiveRules.{Listed, in_kind}
-use Rattle.om_rules.specs.Perhaps.{◌>>=◌}
-use Rattle.om_rules.specs.Places.{expression_first}
-use Rattle.om_rules.specs.Resolution.{resolved_expression}
-use Rattle.om_resolved.specs.ResolvedTree as resolved
-use Rattle.om_resolved.specs.ResolvedTree.{ResolvedStatementTree}
-use Rattle.om_rules.specs.Scopes.{Scopes, declarators_of}
-use Rattle.om_rules.specs.Sharing.{is_parallel}
-use Rattle.om_rules.specs.StatementResolution.{resolved_declarators, resolved_perhaps}
+use Rattle.om_parser_tree.specs.Tree.{ExpressionTree, DeclarationTree}
+use Rattle.om_scope_rules.specs.declared.region.RegionKind.{RegionKind}
+use Rattle.om_scope_rules.specs.DirectiveRules.{Listed, in_kind}
+use Rattle.om_scope_rules.specs.Perhaps.{◌>>=◌}
+use Rattle.om_scope_rules.specs.Places.{expression_first}
+use Rattle.om_scope_rules.specs.Resolution.{resolved_expression}
+use Rattle.om_scope_tree.specs.ResolvedTree as resolved
+use Rattle.om_scope_tree.specs.ResolvedTree.{ResolvedStatementTree}
+use Rattle.om_scope_rules.specs.Scopes.{Scopes, declarators_of}
+use Rattle.om_scope_rules.specs.Sharing.{is_parallel}
+use Rattle.om_scope_rules.specs.StatementResolution.{resolved_declarators, resolved_perhaps}
 
 -- of a declaration in a block
 abbrev pub resolved_declaration : Scopes → DeclarationTree ExpressionTree → Option ResolvedStatementTree

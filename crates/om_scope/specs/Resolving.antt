@@ -6,39 +6,39 @@ use Rattle.om_lexer.specs.declared.fault.SourceFault.{SourceFault}
 use Rattle.om_lexer.specs.declared.token.Span.{Span}
 use Rattle.om_pragma.specs.declared.name.Name as names
 use Rattle.om_pragma.specs.declared.tree.Directive.{Directive}
-use Rattle.om_tree.specs.declared.tree.Expression.{Expression}
-use Rattle.om_tree.specs.declared.tree.ForStart.{ForStart}
-use Rattle.om_tree.specs.declared.tree.FunctionHead.{FunctionHead}
-use Rattle.om_tree.specs.declared.tree.Parameter.{Parameter}
-use Rattle.om_tree.specs.declared.tree.Parameters.{Parameters}
-use Rattle.om_tree.specs.declared.tree.Part.{Part}
-use Rattle.om_tree.specs.declared.tree.Statement.{Statement}
-use Rattle.om_tree.specs.Tree as trees
-use Rattle.om_tree.specs.Tree.{ExpressionTree, ForHeadTree, PartsTree, StatementsTree}
-use Rattle.om_tree.specs.View.{view_directive, view_expression, view_for_start, view_head, view_parameters, view_part}
-use Rattle.om_tree.specs.View.{view_statement}
-use Rattle.om_resolved.specs.declared.resolved.ResolvedClause.{ResolvedClause}
-use Rattle.om_resolved.specs.declared.resolved.ResolvedExpression.{ResolvedExpression}
-use Rattle.om_resolved.specs.declared.resolved.ResolvedHead.{ResolvedHead}
-use Rattle.om_resolved.specs.declared.resolved.ResolvedPart.{ResolvedPart}
-use Rattle.om_resolved.specs.declared.resolved.ResolvedStatement.{ResolvedStatement}
-use Rattle.om_resolved.specs.ResolvedTree as resolved
-use Rattle.om_resolved.specs.ResolvedTree.{ResolvedClauseTree, ResolvedPartsTree, ResolvedStatementTree}
-use Rattle.om_resolved.specs.ResolvedTree.{ResolvedStatementsTree}
-use Rattle.om_resolved.specs.ResolvedView as view
-use Rattle.om_rules.specs.declared.flow.Flow.{Flow}
-use Rattle.om_rules.specs.Checks.{Checks}
-use Rattle.om_rules.specs.DirectiveRules.{in_construct}
-use Rattle.om_rules.specs.Outcomes.{Finds}
-use Rattle.om_rules.specs.Proper.{IsProper}
-use Rattle.om_rules.specs.Resolves.{Resolves}
-use Rattle.om_rules.specs.Scopes.{Scopes, after_function, after_prototype, parameters_of}
-use Rattle.om_rules.specs.StatementResolution.{resolved_perhaps, resolved_start, resolved_statement}
-use Rattle.om_rules.specs.StatementResolution.{resolved_statements}
-use Rattle.om_rules.specs.StatementRules.{after_for_start, after_statement, after_statements}
-use Rattle.om_rules.specs.StatementRules.{for_start_breaches, for_turn_breaches, statement_breaches}
-use Rattle.om_rules.specs.StatementRules.{statements_breaches}
-use Rattle.om_uses.specs.Views.{view_boxed}
+use Rattle.om_parser_tree.specs.declared.tree.Expression.{Expression}
+use Rattle.om_parser_tree.specs.declared.tree.ForStart.{ForStart}
+use Rattle.om_parser_tree.specs.declared.tree.FunctionHead.{FunctionHead}
+use Rattle.om_parser_tree.specs.declared.tree.Parameter.{Parameter}
+use Rattle.om_parser_tree.specs.declared.tree.Parameters.{Parameters}
+use Rattle.om_parser_tree.specs.declared.tree.Part.{Part}
+use Rattle.om_parser_tree.specs.declared.tree.Statement.{Statement}
+use Rattle.om_parser_tree.specs.Tree as trees
+use Rattle.om_parser_tree.specs.Tree.{ExpressionTree, ForHeadTree, PartsTree, StatementsTree}
+use Rattle.om_parser_tree.specs.View.{view_directive, view_expression, view_for_start, view_head, view_parameters, view_part}
+use Rattle.om_parser_tree.specs.View.{view_statement}
+use Rattle.om_scope_tree.specs.declared.resolved.ResolvedClause.{ResolvedClause}
+use Rattle.om_scope_tree.specs.declared.resolved.ResolvedExpression.{ResolvedExpression}
+use Rattle.om_scope_tree.specs.declared.resolved.ResolvedHead.{ResolvedHead}
+use Rattle.om_scope_tree.specs.declared.resolved.ResolvedPart.{ResolvedPart}
+use Rattle.om_scope_tree.specs.declared.resolved.ResolvedStatement.{ResolvedStatement}
+use Rattle.om_scope_tree.specs.ResolvedTree as resolved
+use Rattle.om_scope_tree.specs.ResolvedTree.{ResolvedClauseTree, ResolvedPartsTree, ResolvedStatementTree}
+use Rattle.om_scope_tree.specs.ResolvedTree.{ResolvedStatementsTree}
+use Rattle.om_scope_tree.specs.ResolvedView as view
+use Rattle.om_scope_rules.specs.declared.flow.Flow.{Flow}
+use Rattle.om_scope_rules.specs.Checks.{Checks}
+use Rattle.om_scope_rules.specs.DirectiveRules.{in_construct}
+use Rattle.om_scope_rules.specs.Outcomes.{Finds}
+use Rattle.om_scope_rules.specs.Proper.{IsProper}
+use Rattle.om_scope_rules.specs.Resolves.{Resolves}
+use Rattle.om_scope_rules.specs.Scopes.{Scopes, after_function, after_prototype, parameters_of}
+use Rattle.om_scope_rules.specs.StatementResolution.{resolved_perhaps, resolved_start, resolved_statement}
+use Rattle.om_scope_rules.specs.StatementResolution.{resolved_statements}
+use Rattle.om_scope_rules.specs.StatementRules.{after_for_start, after_statement, after_statements}
+use Rattle.om_scope_rules.specs.StatementRules.{for_start_breaches, for_turn_breaches, statement_breaches}
+use Rattle.om_scope_rules.specs.StatementRules.{statements_breaches}
+use Rattle.om_scope_parts.specs.Views.{view_boxed}
 
 -- ---- trees
 

@@ -5,27 +5,27 @@ use Rattle.std.specs.Prelude.{◌≡◌, ◌++◌, false, Bool, Option, Result, 
 use Rattle.om_lexer.specs.declared.fault.SourceFault.{SourceFault}
 use Rattle.om_lexer.specs.declared.token.Span.{Span}
 use Rattle.om_pragma.specs.declared.tree.Directive.{Directive}
-use Rattle.om_tree.specs.declared.tree.Expression.{Expression}
-use Rattle.om_tree.specs.Tree.{DeclarationTree, ExpressionTree, ForStartTree}
-use Rattle.om_tree.specs.View.{view_directive, view_expression}
-use Rattle.om_resolved.specs.declared.resolved.ResolvedExpression.{ResolvedExpression}
-use Rattle.om_resolved.specs.declared.resolved.ResolvedHead.{ResolvedHead}
-use Rattle.om_resolved.specs.declared.resolved.ResolvedStart.{ResolvedStart}
-use Rattle.om_resolved.specs.declared.resolved.ResolvedStatement.{ResolvedStatement}
-use Rattle.om_resolved.specs.ResolvedTree as resolved
-use Rattle.om_resolved.specs.ResolvedTree.{ResolvedExpressionTree}
-use Rattle.om_resolved.specs.ResolvedView as view
-use Rattle.om_rules.specs.declared.flow.Flow.{Flow}
-use Rattle.om_rules.specs.DirectiveRules.{flush_breaches}
-use Rattle.om_rules.specs.ExpressionRules.{expression_breaches}
-use Rattle.om_rules.specs.Resolves.{Resolves}
-use Rattle.om_rules.specs.Scopes.{Scopes, declarators_of}
-use Rattle.om_rules.specs.StatementResolution.{resolved_alone, resolved_perhaps, resolved_start}
-use Rattle.om_rules.specs.StatementRules.{for_start_breaches, jump_breaches, locals_breaches, perhaps_breaches}
-use Rattle.om_rules.specs.StatementRules.{return_breaches, stand_alone_breaches}
+use Rattle.om_parser_tree.specs.declared.tree.Expression.{Expression}
+use Rattle.om_parser_tree.specs.Tree.{DeclarationTree, ExpressionTree, ForStartTree}
+use Rattle.om_parser_tree.specs.View.{view_directive, view_expression}
+use Rattle.om_scope_tree.specs.declared.resolved.ResolvedExpression.{ResolvedExpression}
+use Rattle.om_scope_tree.specs.declared.resolved.ResolvedHead.{ResolvedHead}
+use Rattle.om_scope_tree.specs.declared.resolved.ResolvedStart.{ResolvedStart}
+use Rattle.om_scope_tree.specs.declared.resolved.ResolvedStatement.{ResolvedStatement}
+use Rattle.om_scope_tree.specs.ResolvedTree as resolved
+use Rattle.om_scope_tree.specs.ResolvedTree.{ResolvedExpressionTree}
+use Rattle.om_scope_tree.specs.ResolvedView as view
+use Rattle.om_scope_rules.specs.declared.flow.Flow.{Flow}
+use Rattle.om_scope_rules.specs.DirectiveRules.{flush_breaches}
+use Rattle.om_scope_rules.specs.ExpressionRules.{expression_breaches}
+use Rattle.om_scope_rules.specs.Resolves.{Resolves}
+use Rattle.om_scope_rules.specs.Scopes.{Scopes, declarators_of}
+use Rattle.om_scope_rules.specs.StatementResolution.{resolved_alone, resolved_perhaps, resolved_start}
+use Rattle.om_scope_rules.specs.StatementRules.{for_start_breaches, jump_breaches, locals_breaches, perhaps_breaches}
+use Rattle.om_scope_rules.specs.StatementRules.{return_breaches, stand_alone_breaches}
 use Rattle.om_scope.specs.Parts.{resolved_declaration, resolved_effect, resolved_return}
 use Rattle.om_scope.specs.Resolving.{view_body}
-use Rattle.om_uses.specs.Views.{view_boxed}
+use Rattle.om_scope_parts.specs.Views.{view_boxed}
 
 -- ---- the parts of a `for`
 

@@ -5,24 +5,24 @@ use Rattle.std.specs.Prelude.{ℕ, List, Result, Some, Vec}
 use Rattle.std.specs.declared.alloc.Global.{Global}
 use Rattle.om_lexer.specs.declared.fault.SourceFault.{SourceFault}
 use Rattle.om_pragma.specs.declared.tree.Directive.{Directive}
-use Rattle.om_tree.specs.declared.tree.Expression.{Expression}
-use Rattle.om_tree.specs.declared.tree.ForHead.{ForHead}
-use Rattle.om_tree.specs.declared.tree.Part.{Part}
-use Rattle.om_tree.specs.declared.tree.Statement.{Statement}
-use Rattle.om_tree.specs.View.{view_directive, view_for_head, view_part, view_statement}
-use Rattle.om_resolved.specs.declared.resolved.ResolvedPart.{ResolvedPart}
-use Rattle.om_resolved.specs.declared.resolved.ResolvedStatement.{ResolvedStatement}
-use Rattle.om_resolved.specs.ResolvedView as view
-use Rattle.om_rules.specs.declared.flow.Flow.{Flow}
-use Rattle.om_rules.specs.Loops.{Loop, loop_in}
-use Rattle.om_rules.specs.Resolves.{Resolves}
-use Rattle.om_rules.specs.Scopes.{Scopes, inside}
-use Rattle.om_rules.specs.StatementResolution.{resolved_construct, resolved_for, resolved_loop_construct}
-use Rattle.om_rules.specs.StatementResolution.{resolved_parts, resolved_plain_construct, resolved_repeated}
-use Rattle.om_rules.specs.StatementResolution.{resolved_sections, resolved_statements}
-use Rattle.om_rules.specs.StatementRules.{body_breaches, construct_breaches, continuing, for_breaches, in_loop}
-use Rattle.om_rules.specs.StatementRules.{loop_construct_breaches, part_breaches, parts_breaches}
-use Rattle.om_rules.specs.StatementRules.{plain_construct_breaches, sections_construct_breaches}
+use Rattle.om_parser_tree.specs.declared.tree.Expression.{Expression}
+use Rattle.om_parser_tree.specs.declared.tree.ForHead.{ForHead}
+use Rattle.om_parser_tree.specs.declared.tree.Part.{Part}
+use Rattle.om_parser_tree.specs.declared.tree.Statement.{Statement}
+use Rattle.om_parser_tree.specs.View.{view_directive, view_for_head, view_part, view_statement}
+use Rattle.om_scope_tree.specs.declared.resolved.ResolvedPart.{ResolvedPart}
+use Rattle.om_scope_tree.specs.declared.resolved.ResolvedStatement.{ResolvedStatement}
+use Rattle.om_scope_tree.specs.ResolvedView as view
+use Rattle.om_scope_rules.specs.declared.flow.Flow.{Flow}
+use Rattle.om_scope_rules.specs.Loops.{Loop, loop_in}
+use Rattle.om_scope_rules.specs.Resolves.{Resolves}
+use Rattle.om_scope_rules.specs.Scopes.{Scopes, inside}
+use Rattle.om_scope_rules.specs.StatementResolution.{resolved_construct, resolved_for, resolved_loop_construct}
+use Rattle.om_scope_rules.specs.StatementResolution.{resolved_parts, resolved_plain_construct, resolved_repeated}
+use Rattle.om_scope_rules.specs.StatementResolution.{resolved_sections, resolved_statements}
+use Rattle.om_scope_rules.specs.StatementRules.{body_breaches, construct_breaches, continuing, for_breaches, in_loop}
+use Rattle.om_scope_rules.specs.StatementRules.{loop_construct_breaches, part_breaches, parts_breaches}
+use Rattle.om_scope_rules.specs.StatementRules.{plain_construct_breaches, sections_construct_breaches}
 use Rattle.om_scope.specs.Resolving.{ResolvesStatement, part_trees, view_body, view_parts}
 
 -- a `for`

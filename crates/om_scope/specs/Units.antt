@@ -3,18 +3,18 @@ use Rattle.std.specs.Prelude.{List, Result, Vec, map}
 use Rattle.std.specs.List.{flat_map}
 use Rattle.std.specs.declared.alloc.Global.{Global}
 use Rattle.om_lexer.specs.declared.fault.SourceFault.{SourceFault}
-use Rattle.om_tree.specs.declared.tree.Item.{Item}
-use Rattle.om_tree.specs.Tree.{ItemTree}
-use Rattle.om_tree.specs.View.{view_item}
-use Rattle.om_resolved.specs.declared.resolved.GlobalVariable.{GlobalVariable}
-use Rattle.om_resolved.specs.declared.resolved.Resolved as wholes
-use Rattle.om_resolved.specs.declared.resolved.ResolvedFunction.{ResolvedFunction}
-use Rattle.om_resolved.specs.ResolvedView as view
-use Rattle.om_rules.specs.Perhaps.{all_along}
-use Rattle.om_rules.specs.Resolves.{Adds, Appends, Resolves}
-use Rattle.om_rules.specs.Scopes.{Scopes, after_item, definitions_of, file_scope}
-use Rattle.om_rules.specs.UnitResolution.{globals_of, item_functions, items_resolution}
-use Rattle.om_rules.specs.UnitRules.{items_breaches}
+use Rattle.om_parser_tree.specs.declared.tree.Item.{Item}
+use Rattle.om_parser_tree.specs.Tree.{ItemTree}
+use Rattle.om_parser_tree.specs.View.{view_item}
+use Rattle.om_scope_tree.specs.declared.resolved.GlobalVariable.{GlobalVariable}
+use Rattle.om_scope_tree.specs.declared.resolved.Resolved as wholes
+use Rattle.om_scope_tree.specs.declared.resolved.ResolvedFunction.{ResolvedFunction}
+use Rattle.om_scope_tree.specs.ResolvedView as view
+use Rattle.om_scope_rules.specs.Perhaps.{all_along}
+use Rattle.om_scope_rules.specs.Resolves.{Adds, Appends, Resolves}
+use Rattle.om_scope_rules.specs.Scopes.{Scopes, after_item, definitions_of, file_scope}
+use Rattle.om_scope_rules.specs.UnitResolution.{globals_of, item_functions, items_resolution}
+use Rattle.om_scope_rules.specs.UnitRules.{items_breaches}
 
 -- the function that an item defines, if it defines one, stands behind those before it, unless something is refused
 abbrev pub AddsFunctionOf : {T : Type 0} → Result T SourceFault → Scopes → Vec ResolvedFunction Global

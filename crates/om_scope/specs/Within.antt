@@ -1,13 +1,13 @@
 -- For proofs: what is declared in a construct or block stays within it.
 use Rattle.std.proofs.Common.{◌≡◌, List, [], ◌∷◌, ◌++◌, refl, ap, ◌∙◌}
-use Rattle.om_tree.specs.Tree.{DeclaratorTree, ExpressionTree, StatementTree}
-use Rattle.om_tree.specs.Tree.{LocalDeclaration, Block, Empty, Expression, If, IfElse, While, Do, For, Return, Break}
-use Rattle.om_tree.specs.Tree.{Continue, Construct, StandAlone, Sections}
-use Rattle.om_resolved.specs.declared.resolved.Variable.TheVariants as variables
-use Rattle.om_rules.specs.declared.meaning.Meaning.TheVariants as meanings
-use Rattle.om_rules.specs.declared.region.Region.{Region}
-use Rattle.om_rules.specs.Scopes.{Scope, Scopes, within, declarators_of, shape_of, after_locals}
-use Rattle.om_rules.specs.StatementRules.{after_statement, after_statements}
+use Rattle.om_parser_tree.specs.Tree.{DeclaratorTree, ExpressionTree, StatementTree}
+use Rattle.om_parser_tree.specs.Tree.{LocalDeclaration, Block, Empty, Expression, If, IfElse, While, Do, For, Return, Break}
+use Rattle.om_parser_tree.specs.Tree.{Continue, Construct, StandAlone, Sections}
+use Rattle.om_scope_tree.specs.declared.resolved.Variable.TheVariants as variables
+use Rattle.om_scope_rules.specs.declared.meaning.Meaning.TheVariants as meanings
+use Rattle.om_scope_rules.specs.declared.region.Region.{Region}
+use Rattle.om_scope_rules.specs.Scopes.{Scope, Scopes, within, declarators_of, shape_of, after_locals}
+use Rattle.om_scope_rules.specs.StatementRules.{after_statement, after_statements}
 
 -- in the same construct or block still
 abbrev pub StaysWithin : Region → Scopes → Scopes → Type 0

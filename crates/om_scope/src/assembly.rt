@@ -1,30 +1,30 @@
 //! Constructs, put together of their clauses and their statement.
 
 ghost use Rattle.std.specs.Prelude.{◌≡◌, [], IfOk, IsSome, map};
-ghost use Rattle.om_tree.specs.View.{view_directive, view_expression};
+ghost use Rattle.om_parser_tree.specs.View.{view_directive, view_expression};
 ghost use Rattle.om_pragma.specs.Expressions.{map_clause, map_item};
 ghost use Rattle.om_pragma.specs.Questions.{atomic_kind};
-ghost use Rattle.om_rules.specs.Checks.{Checks};
+ghost use Rattle.om_scope_rules.specs.Checks.{Checks};
 ghost use Rattle.om_scope.specs.Arounds.{IsLoop, IsLoopConstruct, IsParallel, IsSections, IsSectionsConstruct, IsTree};
 ghost use Rattle.om_scope.specs.Arounds.{Makes, MakesAtomic, MakesConstruct, MakesParallel, MakesTask};
 ghost use Rattle.om_scope.specs.Arounds.{construct_round, critical_around, with_around};
-ghost use Rattle.om_rules.specs.StatementResolution.{clause_schedule, critical_name, has_default, has_nowait, schedule_in, schedule_of, with_update};
-ghost use Rattle.om_rules.specs.Updates.{update_of};
+ghost use Rattle.om_scope_rules.specs.StatementResolution.{clause_schedule, critical_name, has_default, has_nowait, schedule_in, schedule_of, with_update};
+ghost use Rattle.om_scope_rules.specs.Updates.{update_of};
 ghost use Rattle.om_scope.specs.Resolving.{view_body, view_clauses};
 
 use om_lexer::{SourceFault, Span};
-use om_names::{is_parallel, traits_of};
+use om_parser_tree::{Expression, Name};
 use om_pragma::{
     AtomicKind, Clause, ClauseItem, ClauseKind, Directive, DirectiveName, Schedule, ScheduleKind,
 };
-use om_resolved::{
+use om_scope_parts::copy_of;
+use om_scope_rules::update_of;
+use om_scope_symbols::{is_parallel, traits_of};
+use om_scope_tree::{
     Capture, ConstructKind, ResolvedClause, ResolvedLoop, ResolvedPart, ResolvedSchedule,
     ResolvedStatement, Side, TaskSharing, captures_of_parallel, captures_of_task,
 };
-use om_rules::update_of;
 use om_seq::Seq;
-use om_tree::{Expression, Name};
-use om_uses::copy_of;
 use std::alloc::{AllocError, Global};
 
 // Whether a directive is `nowait`.

@@ -1,20 +1,20 @@
 //! Constructs, as they are entered: behind their clauses, and the bounds of their loop.
 
 ghost use Rattle.std.specs.Prelude.{◌≡◌, OnOk};
-ghost use Rattle.om_rules.specs.LoopViews.{view_loop};
-ghost use Rattle.om_rules.specs.DirectiveRules.{in_kind};
+ghost use Rattle.om_scope_rules.specs.LoopViews.{view_loop};
+ghost use Rattle.om_scope_rules.specs.DirectiveRules.{in_kind};
 ghost use Rattle.om_scope.specs.Entering.{ChecksEntering, EntersListed, FindsClauses, FindsLoop, IsAllowed, IsBounded};
 ghost use Rattle.om_scope.specs.Entering.{ResolvesClausesOf, ResolvesRound};
 ghost use Rattle.om_scope.specs.Resolving.{EntersConstruct};
 
 use crate::assembly::schedule_of;
 use om_lexer::SourceFault;
-use om_names::{Listed, Symbols, is_parallel, traits_of};
+use om_parser_tree::Expression;
 use om_pragma::Directive;
-use om_resolved::{ResolvedClause, ResolvedLoop};
-use om_rules::{Flow, Loop, RegionKind};
-use om_tree::Expression;
-use om_uses::{resolve_directive, resolve_loop};
+use om_scope_parts::{resolve_directive, resolve_loop};
+use om_scope_rules::{Flow, Loop, RegionKind};
+use om_scope_symbols::{Listed, Symbols, is_parallel, traits_of};
+use om_scope_tree::{ResolvedClause, ResolvedLoop};
 use std::alloc::{AllocError, Global};
 
 /// Enters a construct, after its clauses.

@@ -1,14 +1,14 @@
 //! Functions: their rules, and their variables.
 
 ghost use Rattle.std.specs.Prelude.{◌≡◌, ◌<◌, OnOk, length};
-ghost use Rattle.om_tree.specs.Tree.{statements};
-ghost use Rattle.om_tree.specs.View.{view_function, view_head};
-ghost use Rattle.om_rules.specs.Checks.{Checks, ChecksExactly};
-ghost use Rattle.om_rules.specs.Proper.{AreProper};
-ghost use Rattle.om_rules.specs.Scopes.{after_optional, after_parameter, returns_value, signature_eq, signature_of, with_local};
-ghost use Rattle.om_rules.specs.UnitRules.{definition_breaches, flow_of, head_breaches, is_other_main, is_redeclared, optional_breaches, parameter_breaches, prototype_breaches};
-ghost use Rattle.om_rules.specs.StatementRules.{redeclared_breaches};
-ghost use Rattle.om_resolved.specs.declared.resolved.Shape.TheVariants.{Scalar};
+ghost use Rattle.om_parser_tree.specs.Tree.{statements};
+ghost use Rattle.om_parser_tree.specs.View.{view_function, view_head};
+ghost use Rattle.om_scope_rules.specs.Checks.{Checks, ChecksExactly};
+ghost use Rattle.om_scope_rules.specs.Proper.{AreProper};
+ghost use Rattle.om_scope_rules.specs.Scopes.{after_optional, after_parameter, returns_value, signature_eq, signature_of, with_local};
+ghost use Rattle.om_scope_rules.specs.UnitRules.{definition_breaches, flow_of, head_breaches, is_other_main, is_redeclared, optional_breaches, parameter_breaches, prototype_breaches};
+ghost use Rattle.om_scope_rules.specs.StatementRules.{redeclared_breaches};
+ghost use Rattle.om_scope_tree.specs.declared.resolved.Shape.TheVariants.{Scalar};
 ghost use Rattle.om_scope.specs.Parameters.{AppendsFurtherParameters, AppendsParameter, AppendsParameters};
 ghost use Rattle.om_scope.specs.Parameters.{ChecksFurtherOptionals, ChecksFurtherParameters, ChecksOptionals};
 ghost use Rattle.om_scope.specs.Parameters.{ChecksParameters, DeclaresFurtherOptionals, DeclaresFurtherParameters};
@@ -17,12 +17,12 @@ ghost use Rattle.om_scope.specs.Resolving.{DeclaresHead, DefinesHead, parameters
 
 use crate::statement::resolve_statements;
 use om_lexer::{FaultCode, SourceFault, Span};
-use om_names::Symbols;
-use om_resolved::{LocalVariable, ResolvedFunction, ResolvedStatement, Shape};
-use om_rules::{FUNCTION_LIMIT, Flow, Meaning, PARAMETER_LIMIT, Signature, head_first};
+use om_parser_tree::{Function, FunctionHead, Name, Parameter, Parameters, ResultType};
+use om_scope_parts::{check_new, copy_of, local_of, refuse_if};
+use om_scope_rules::{FUNCTION_LIMIT, Flow, Meaning, PARAMETER_LIMIT, Signature, head_first};
+use om_scope_symbols::Symbols;
+use om_scope_tree::{LocalVariable, ResolvedFunction, ResolvedStatement, Shape};
 use om_seq::Seq;
-use om_tree::{Function, FunctionHead, Name, Parameter, Parameters, ResultType};
-use om_uses::{check_new, copy_of, local_of, refuse_if};
 use std::alloc::{AllocError, Global};
 
 // Whether a function returns an `int`.

@@ -1,19 +1,19 @@
 //! What a `for` has before its body (C17 6.8.5.3).
 
 ghost use Rattle.std.specs.Prelude.{◌≡◌, [], IfOk, option_map};
-ghost use Rattle.om_tree.specs.View.{view_for_head, view_for_start};
-ghost use Rattle.om_rules.specs.Checks.{Checks};
-ghost use Rattle.om_rules.specs.StatementRules.{continuing, looping};
+ghost use Rattle.om_parser_tree.specs.View.{view_for_head, view_for_start};
+ghost use Rattle.om_scope_rules.specs.Checks.{Checks};
+ghost use Rattle.om_scope_rules.specs.StatementRules.{continuing, looping};
 ghost use Rattle.om_scope.specs.Resolving.{GoesBehindStart, ResolvesHead, ResolvesTurn};
 ghost use Rattle.om_scope.specs.Simple.{IsFor, ResolvesPerhaps, ResolvesStart, head_condition, head_step};
-ghost use Rattle.om_uses.specs.Views.{view_boxed};
+ghost use Rattle.om_scope_parts.specs.Views.{view_boxed};
 
 use om_lexer::{SourceFault, Span};
-use om_names::Symbols;
-use om_resolved::{ResolvedExpression, ResolvedHead, ResolvedStart, ResolvedStatement};
-use om_rules::Flow;
-use om_tree::{Expression, ForHead, ForStart};
-use om_uses::{boxed, boxed_expression, resolve_locals, unboxed};
+use om_parser_tree::{Expression, ForHead, ForStart};
+use om_scope_parts::{boxed, boxed_expression, resolve_locals, unboxed};
+use om_scope_rules::Flow;
+use om_scope_symbols::Symbols;
+use om_scope_tree::{ResolvedExpression, ResolvedHead, ResolvedStart, ResolvedStatement};
 use std::alloc::Global;
 
 /// What a `for` has before its body: what it begins with, its condition and its step.

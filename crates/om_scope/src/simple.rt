@@ -2,24 +2,24 @@
 
 ghost use Rattle.std.specs.Prelude.{◌≡◌, true};
 ghost use Rattle.om_pragma.specs.Questions.{is_stand_alone};
-ghost use Rattle.om_tree.specs.View.{view_local};
-ghost use Rattle.om_rules.specs.Checks.{Checks, ChecksExactly};
-ghost use Rattle.om_rules.specs.StatementRules.{jump_breaches, section_breaches};
+ghost use Rattle.om_parser_tree.specs.View.{view_local};
+ghost use Rattle.om_scope_rules.specs.Checks.{Checks, ChecksExactly};
+ghost use Rattle.om_scope_rules.specs.StatementRules.{jump_breaches, section_breaches};
 ghost use Rattle.om_scope.specs.Resolving.{perhaps_tree};
 ghost use Rattle.om_scope.specs.Simple.{ResolvesAlone, ResolvesDeclaration, ResolvesEffect, ResolvesReturn};
 ghost use Rattle.om_scope.specs.Simple.{ResolvesReturned, ResolvesStandAlone, section_tree};
-ghost use Rattle.om_uses.specs.Declares.{DeclaresLocals, locals_in};
+ghost use Rattle.om_scope_parts.specs.Declares.{DeclaresLocals, locals_in};
 
 use om_lexer::{FaultCode, SourceFault, Span};
-use om_names::Symbols;
+use om_parser_tree::{Declaration, Expression};
 use om_pragma::{Directive, DirectiveName};
-use om_resolved::{ResolvedExpression, ResolvedStatement, StandAlone};
-use om_rules::{Flow, SECTION_LIMIT, expression_first};
-use om_tree::{Declaration, Expression};
-use om_uses::{
+use om_scope_parts::{
     boxed_expression, misplaced, refuse_if, resolve_directive, resolve_flush, resolve_locals,
     unboxed,
 };
+use om_scope_rules::{Flow, SECTION_LIMIT, expression_first};
+use om_scope_symbols::Symbols;
+use om_scope_tree::{ResolvedExpression, ResolvedStatement, StandAlone};
 use std::alloc::Global;
 
 /// A declaration in a block.

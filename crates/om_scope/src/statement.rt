@@ -1,15 +1,15 @@
 //! Statements: their rules, and the variables of their names.
 
 ghost use Rattle.std.specs.Prelude.{◌≡◌, true, false, OnOk, is_some};
-ghost use Rattle.om_tree.specs.Formed.{AreParts};
-ghost use Rattle.om_tree.specs.Sizes.{PartsHaveForms};
-ghost use Rattle.om_tree.specs.View.{view_part, view_statement};
-ghost use Rattle.om_resolved.specs.ResolvedView as view;
-ghost use Rattle.om_rules.specs.LoopViews.{view_loop};
-ghost use Rattle.om_rules.specs.DirectiveRules.{traits_of};
-ghost use Rattle.om_rules.specs.Loops.{loop_in};
-ghost use Rattle.om_rules.specs.Proper.{AreProper, AreProperParts, IsProper};
-ghost use Rattle.om_rules.specs.Scopes.{inside};
+ghost use Rattle.om_parser_tree.specs.Formed.{AreParts};
+ghost use Rattle.om_parser_tree.specs.Sizes.{PartsHaveForms};
+ghost use Rattle.om_parser_tree.specs.View.{view_part, view_statement};
+ghost use Rattle.om_scope_tree.specs.ResolvedView as view;
+ghost use Rattle.om_scope_rules.specs.LoopViews.{view_loop};
+ghost use Rattle.om_scope_rules.specs.DirectiveRules.{traits_of};
+ghost use Rattle.om_scope_rules.specs.Loops.{loop_in};
+ghost use Rattle.om_scope_rules.specs.Proper.{AreProper, AreProperParts, IsProper};
+ghost use Rattle.om_scope_rules.specs.Scopes.{inside};
 ghost use Rattle.om_scope.specs.Resolving.{GoesBehind, GoesBehindItems, IsProperConstruct, ResolvesItems, ResolvesStatement};
 ghost use Rattle.om_scope.specs.Resolving.{item_trees, part_trees, view_body};
 ghost use Rattle.om_scope.specs.Statements.{ResolvesConstruct, ResolvesFor, ResolvesLoopBody, ResolvesLoopConstruct};
@@ -24,12 +24,12 @@ use crate::simple::{
     resolve_stand_alone,
 };
 use om_lexer::SourceFault;
-use om_names::{Symbols, constructing, traits_of};
+use om_parser_tree::{Expression, ForHead, Part, Statement};
 use om_pragma::Directive;
-use om_resolved::{ResolvedPart, ResolvedStatement};
-use om_rules::{Flow, Loop, loop_in, statement_side, statement_start};
-use om_tree::{Expression, ForHead, Part, Statement};
-use om_uses::{add, boxed, boxed_expression, enter_loop, loop_fault};
+use om_scope_parts::{add, boxed, boxed_expression, enter_loop, loop_fault};
+use om_scope_rules::{Flow, Loop, loop_in, statement_side, statement_start};
+use om_scope_symbols::{Symbols, constructing, traits_of};
+use om_scope_tree::{ResolvedPart, ResolvedStatement};
 use std::alloc::Global;
 
 /// The items of a block.

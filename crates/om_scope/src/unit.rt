@@ -2,32 +2,32 @@
 
 ghost use Rattle.std.specs.Prelude.{◌≡◌, [], All, OnOk, IfOk, IfErr, map};
 ghost use Rattle.std.specs.List.{list_any};
-ghost use Rattle.om_tree.specs.Formed.{IsUnit};
-ghost use Rattle.om_tree.specs.Sizes.{AtomicsHaveForms};
-ghost use Rattle.om_tree.specs.View.{view_item, view_unit};
-ghost use Rattle.om_rules.specs.Breaches.{breaches_of, is_main, main_breaches};
-ghost use Rattle.om_rules.specs.Checks.{Checks, ChecksExactly};
-ghost use Rattle.om_rules.specs.Outcomes.{Finds, Refuses};
-ghost use Rattle.om_rules.specs.Resolves.{Appends};
-ghost use Rattle.om_rules.specs.Proper.{IsProperItem};
-ghost use Rattle.om_resolved.specs.ResolvedView as view;
-ghost use Rattle.om_rules.specs.Scopes.{after_definition, after_item, definitions_of, nothing_declared};
-ghost use Rattle.om_rules.specs.UnitResolution.{globals_of, resolution_of};
-ghost use Rattle.om_rules.specs.UnitRules.{item_breaches, items_breaches};
-ghost use Rattle.om_resolved.specs.Beside.{TreeAtomicsAssign};
-ghost use Rattle.om_resolved.specs.Uses.{IsResolved};
-ghost use Rattle.om_resolved.specs.Whole.{IsWholeTree};
+ghost use Rattle.om_parser_tree.specs.Formed.{IsUnit};
+ghost use Rattle.om_parser_tree.specs.Sizes.{AtomicsHaveForms};
+ghost use Rattle.om_parser_tree.specs.View.{view_item, view_unit};
+ghost use Rattle.om_scope_rules.specs.Breaches.{breaches_of, is_main, main_breaches};
+ghost use Rattle.om_scope_rules.specs.Checks.{Checks, ChecksExactly};
+ghost use Rattle.om_scope_rules.specs.Outcomes.{Finds, Refuses};
+ghost use Rattle.om_scope_rules.specs.Resolves.{Appends};
+ghost use Rattle.om_scope_rules.specs.Proper.{IsProperItem};
+ghost use Rattle.om_scope_tree.specs.ResolvedView as view;
+ghost use Rattle.om_scope_rules.specs.Scopes.{after_definition, after_item, definitions_of, nothing_declared};
+ghost use Rattle.om_scope_rules.specs.UnitResolution.{globals_of, resolution_of};
+ghost use Rattle.om_scope_rules.specs.UnitRules.{item_breaches, items_breaches};
+ghost use Rattle.om_scope_tree.specs.Beside.{TreeAtomicsAssign};
+ghost use Rattle.om_scope_tree.specs.Uses.{IsResolved};
+ghost use Rattle.om_scope_tree.specs.Whole.{IsWholeTree};
 ghost use Rattle.om_scope.specs.Units.{AddsFunctionOf, AddsFunctions, AppendsGlobalsOf, ResolvesSource};
 
 use crate::function::{check_prototype, resolve_function};
 use om_lexer::{FaultCode, SourceFault};
-use om_names::{Symbols, add_predeclared};
-use om_resolved::{GlobalVariable, Resolved, ResolvedFunction};
-use om_rules::Names;
-use om_rules::laws::{atomics_assign, unbroken_trees_are_resolved, unbroken_trees_are_whole};
+use om_parser_tree::{Item, Unit};
+use om_scope_parts::{add, declare_globals};
+use om_scope_rules::Names;
+use om_scope_rules::laws::{atomics_assign, unbroken_trees_are_resolved, unbroken_trees_are_whole};
+use om_scope_symbols::{Symbols, add_predeclared};
+use om_scope_tree::{GlobalVariable, Resolved, ResolvedFunction};
 use om_seq::Seq;
-use om_tree::{Item, Unit};
-use om_uses::{add, declare_globals};
 use std::alloc::{AllocError, Global};
 
 // Adds the function that an item defines.

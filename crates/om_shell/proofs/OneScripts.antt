@@ -4,11 +4,11 @@ use Rattle.std.specs.List.{AllByRecursion}
 use Rattle.std.proofs.Common.{◌∙◌, ap, sym}
 use Rattle.om_lexer.specs.declared.fault.SourceFault.{SourceFault}
 use Rattle.om_code.specs.declared.raw.Raw.{Raw}
-use Rattle.om_view.specs.declared.debugger.Debugger.{Debugger}
-use Rattle.om_view.specs.Freed.{FreeRun}
-use Rattle.om_view.specs.Views.{Answer, answered, opened}
-use Rattle.om_view.specs.Answering.{answered_same, none_behind}
-use Rattle.om_front.specs.Laws.{OneVerdict}
+use Rattle.om_shell_debugger.specs.declared.debugger.Debugger.{Debugger}
+use Rattle.om_shell_debugger.specs.Freed.{FreeRun}
+use Rattle.om_shell_debugger.specs.Views.{Answer, answered, opened}
+use Rattle.om_shell_debugger.specs.Answering.{answered_same, none_behind}
+use Rattle.om_frontend.specs.Laws.{OneVerdict}
 use Rattle.om_shell.specs.Laws.{AsksNoFreeRun, OneScript}
 use Rattle.om_shell.specs.Script.{source_of, commands_of, transcript_of}
 use Rattle.om_shell.specs.Sessions.{after_answer, session}

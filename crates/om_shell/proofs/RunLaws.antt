@@ -6,8 +6,8 @@ use Rattle.std.proofs.KnownBytes.{Appends-nil, Consumes-trans}
 use Rattle.om_lexer.specs.declared.fault.SourceFault.{SourceFault}
 use Rattle.om_code.specs.declared.raw.Raw.{Raw}
 use Rattle.om_book.specs.Books.{BookView}
-use Rattle.om_view.specs.declared.debugger.Debugger.{Debugger}
-use Rattle.om_view.specs.Freed.{FreeRun}
+use Rattle.om_shell_debugger.specs.declared.debugger.Debugger.{Debugger}
+use Rattle.om_shell_debugger.specs.Freed.{FreeRun}
 use Rattle.om_shell.specs.declared.fault.ShellFault.{ShellFault}
 use Rattle.om_shell.specs.declared.fault.ShellFault.TheVariants.{Read, Memory}
 use Rattle.om_shell.specs.Ends.{RunsToEnd, BreaksOffRun, WritesScript}
@@ -17,7 +17,7 @@ use Rattle.om_shell.specs.Script.{book_of, source_of, script_by, transcript_of}
 use Rattle.om_shell.specs.Serving.{due_for, Serves, BreaksOffServing, ServesAlone, ServesAlonePart, BreaksOffAlone}
 use Rattle.om_shell.specs.Source.{IsMarked, IsUnmarked, ReadsNoMark}
 use Rattle.om_shell.specs.Transcript.{Transcript}
-use Rattle.om_front.specs.Verdict.{IsVerdict}
+use Rattle.om_frontend.specs.Verdict.{IsVerdict}
 use Rattle.om_shell.proofs.Advances.{Done_then, Breaks_then}
 
 -- reading a source up to behind the mark's line

@@ -7,15 +7,15 @@ use Rattle.om_lexer.specs.declared.fault.SourceFault.{SourceFault}
 use Rattle.om_lexer.specs.Faults.{no_memory}
 use Rattle.om_code.specs.declared.raw.Raw.{Raw}
 use Rattle.om_book.specs.Books.{BookView}
-use Rattle.om_view.specs.declared.debugger.Debugger.{Debugger}
-use Rattle.om_view.specs.Freed.{FreeRun}
+use Rattle.om_shell_debugger.specs.declared.debugger.Debugger.{Debugger}
+use Rattle.om_shell_debugger.specs.Freed.{FreeRun}
 use Rattle.om_shell.specs.declared.fault.ShellFault.{ShellFault}
 use Rattle.om_shell.specs.declared.fault.ShellFault.TheVariants.{Read}
 use Rattle.om_shell.specs.Places.{refusal_text}
 use Rattle.om_shell.specs.Progress.{Moment, moment_of, AppendsPart, BreaksOff}
 use Rattle.om_shell.specs.Sessions.{due}
-use Rattle.om_view.specs.Views.{opened}
-use Rattle.om_front.specs.Verdict.{IsProgramOf, IsRefused}
+use Rattle.om_shell_debugger.specs.Views.{opened}
+use Rattle.om_frontend.specs.Verdict.{IsProgramOf, IsRefused}
 use Rattle.om_shell.specs.Serving.{due_for, DoneWith, Serves, ServesPart, IsUntouched, ServesAlone, BreaksOffAlone}
 use Rattle.om_shell.proofs.Advances.{Advance_none, Breaks_after, Done_unread}
 

@@ -4,15 +4,15 @@ use Rattle.std.specs.Io.KnownBytes.{Consumes, Appends, IsAtEnd}
 use Rattle.om_lexer.specs.declared.fault.SourceFault.{SourceFault}
 use Rattle.om_code.specs.declared.raw.Raw.{Raw}
 use Rattle.om_book.specs.Books.{BookView}
-use Rattle.om_view.specs.declared.debugger.Debugger.{Debugger}
-use Rattle.om_view.specs.Freed.{FreeRun}
+use Rattle.om_shell_debugger.specs.declared.debugger.Debugger.{Debugger}
+use Rattle.om_shell_debugger.specs.Freed.{FreeRun}
 use Rattle.om_shell.specs.declared.fault.ShellFault.{ShellFault}
 use Rattle.om_shell.specs.declared.fault.ShellFault.TheVariants.{Read}
 use Rattle.om_shell.specs.Lines.{parts_of, has_mark}
 use Rattle.om_shell.specs.Progress.{Moment, IsBeginning, AnswersWholeLines}
 use Rattle.om_shell.specs.Script.{book_of, source_of, script_by, IsScript}
 use Rattle.om_shell.specs.Transcript.{Transcript}
-use Rattle.om_front.specs.Verdict.{IsVerdict}
+use Rattle.om_frontend.specs.Verdict.{IsVerdict}
 
 -- the status of a run that came to its end: 0, or 1 for a source that is refused (`Outcomes.status_of` is that of
 -- the program)

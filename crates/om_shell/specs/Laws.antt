@@ -1,12 +1,12 @@
 -- Laws of scripts.
 use Rattle.std.specs.Prelude.{◌≡◌, ℕ, List, [], Option, None, Result}
 use Rattle.std.specs.List.{AllByRecursion}
-use Rattle.om_command.specs.Commands.{request_of}
+use Rattle.om_shell_commands.specs.Commands.{request_of}
 use Rattle.om_lexer.specs.declared.fault.SourceFault.{SourceFault}
 use Rattle.om_code.specs.declared.raw.Raw.{Raw}
-use Rattle.om_view.specs.declared.debugger.Debugger.{Debugger}
-use Rattle.om_view.specs.Freed.{FreeRun}
-use Rattle.om_view.specs.Views.{rounds_asked}
+use Rattle.om_shell_debugger.specs.declared.debugger.Debugger.{Debugger}
+use Rattle.om_shell_debugger.specs.Freed.{FreeRun}
+use Rattle.om_shell_debugger.specs.Views.{rounds_asked}
 use Rattle.om_shell.specs.Script.{commands_of, script_by, IsScript}
 use Rattle.om_shell.specs.Transcript.{Transcript}
 

@@ -7,12 +7,12 @@ use Rattle.om_shell.specs.Lines.{parts_of, source_in, commands_in}
 use Rattle.om_shell.specs.Places.{refusal_text}
 use Rattle.om_shell.specs.Sessions.{session}
 use Rattle.om_shell.specs.Transcript.{Transcript}
-use Rattle.om_front.specs.Verdict.{IsVerdict}
+use Rattle.om_frontend.specs.Verdict.{IsVerdict}
 use Rattle.om_code.specs.declared.raw.Raw.{Raw}
 use Rattle.om_book.specs.Books.{BookView}
-use Rattle.om_view.specs.declared.debugger.Debugger.{Debugger}
-use Rattle.om_view.specs.Freed.{FreeRun}
-use Rattle.om_view.specs.Views.{opened}
+use Rattle.om_shell_debugger.specs.declared.debugger.Debugger.{Debugger}
+use Rattle.om_shell_debugger.specs.Freed.{FreeRun}
+use Rattle.om_shell_debugger.specs.Views.{opened}
 
 -- the source of a run: it is handed in, or stands in front of the mark's line
 abbrev pub source_of : Option (List ℕ) → List ℕ → List ℕ

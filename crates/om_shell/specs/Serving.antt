@@ -5,15 +5,15 @@ use Rattle.std.specs.Str.Lines.{lines}
 use Rattle.om_lexer.specs.declared.fault.SourceFault.{SourceFault}
 use Rattle.om_code.specs.declared.raw.Raw.{Raw}
 use Rattle.om_book.specs.Books.{BookView}
-use Rattle.om_view.specs.declared.debugger.Debugger.{Debugger}
-use Rattle.om_view.specs.Freed.{FreeRun}
+use Rattle.om_shell_debugger.specs.declared.debugger.Debugger.{Debugger}
+use Rattle.om_shell_debugger.specs.Freed.{FreeRun}
 use Rattle.om_shell.specs.declared.fault.ShellFault.{ShellFault}
 use Rattle.om_shell.specs.declared.fault.ShellFault.TheVariants.{Read}
 use Rattle.om_shell.specs.Ends.{status_of}
 use Rattle.om_shell.specs.Progress.{Moment, AppendsPart, BreaksOff, IsDone}
 use Rattle.om_shell.specs.Script.{book_of, transcript_of}
 use Rattle.om_shell.specs.Transcript.{Transcript}
-use Rattle.om_front.specs.Verdict.{IsVerdict}
+use Rattle.om_frontend.specs.Verdict.{IsVerdict}
 
 -- what is due for the bytes behind a source
 abbrev pub due_for : Result Raw SourceFault → ℕ → List FreeRun → List ℕ → List ℕ → Transcript Debugger

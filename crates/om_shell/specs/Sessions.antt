@@ -4,9 +4,9 @@ use Rattle.std.specs.Str.Lines.{lines}
 use Rattle.om_shell.specs.Batch.{Answers}
 use Rattle.om_shell.specs.Progress.{Moment, Advance}
 use Rattle.om_shell.specs.Transcript.{Transcript, after_text}
-use Rattle.om_view.specs.declared.debugger.Debugger.{Debugger}
-use Rattle.om_view.specs.Freed.{FreeRun}
-use Rattle.om_view.specs.Views.{Answer, answered}
+use Rattle.om_shell_debugger.specs.declared.debugger.Debugger.{Debugger}
+use Rattle.om_shell_debugger.specs.Freed.{FreeRun}
+use Rattle.om_shell_debugger.specs.Views.{Answer, answered}
 
 -- nothing more is written
 abbrev pub over : Debugger → Transcript Debugger

@@ -4,7 +4,7 @@ ghost use Rattle.om_shell.specs.Lines.{HasNoLineEnd};
 ghost use Rattle.om_shell.specs.Progress.{BreaksOff, IsDone, moment_of};
 ghost use Rattle.om_shell.specs.Batch.{AnswersPart};
 ghost use Rattle.om_shell.specs.Sessions.{due, AnswersBatch};
-ghost use Rattle.om_view.specs.Freed.{FreeRun};
+ghost use Rattle.om_shell_debugger.specs.Freed.{FreeRun};
 
 use crate::fault::ShellFault;
 use crate::input::Input;

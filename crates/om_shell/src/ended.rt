@@ -18,7 +18,7 @@ pub struct Ended {
 }
 
 impl Ended {
-    /// The exit status alone. om_cases alone calls it.
+    /// The exit status alone. gate_cases alone calls it.
     pub fn into_status(self) -> u8
         ensures { result ≡ self.status }
     {

@@ -2,7 +2,7 @@
 
 ghost use Rattle.om_shell.specs.Laws.{OneScript, OneScriptByVerdict};
 
-use om_front::laws::one_verdict;
+use om_frontend::laws::one_verdict;
 
 /// Where no command is a free run, what is written is decided by the bytes that are read: they decide the
 /// verdict on the source, and with it the script.

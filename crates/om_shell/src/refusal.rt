@@ -3,8 +3,8 @@ ghost use Rattle.std.specs.Prelude.{◌≡◌, ◌++◌, decimal, codes, OnOk};
 ghost use Rattle.om_shell.specs.Places.{refusal_text};
 
 use crate::place::{column_behind, front_of, line_behind};
-use om_command::push_number;
 use om_lexer::SourceFault;
+use om_shell_commands::push_number;
 use std::alloc::AllocError;
 
 fn push_place(text: &mut Vec<u8>, line: usize, column: usize) -> Result<(), AllocError>

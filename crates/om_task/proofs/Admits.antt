@@ -6,7 +6,7 @@ use Rattle.std.proofs.lemmas.Option.{get_or_from_slice_get, slice_get_within}
 use Rattle.om_foot.specs.Names.{IsDescendant, is_below}
 use Rattle.om_foot.specs.Below.{below_to, below_from}
 use Rattle.om_code.specs.declared.raw.Raw.{Raw}
-use Rattle.om_values.specs.declared.control.Context.{Context}
+use Rattle.om_state.specs.declared.control.Context.{Context}
 use Rattle.om_task.specs.Rules.{admits_on, admits_all}
 
 same_test : (x y : Bool) → (x ≡ true → y ≡ true) → (y ≡ true → x ≡ true) → x ≡ y

@@ -2,14 +2,14 @@
 -- than before, puts no count, and adds at most one.
 use Rattle.std.proofs.Common.{ℕ, ◌+◌, ◌≤◌, pos, List, [], ◌∷◌}
 use Rattle.std.specs.Prelude.{neg_ℤ, ◌≤ℤ◌}
-use Rattle.om_values.specs.declared.edit.Edit.{Edit}
-use Rattle.om_values.specs.declared.edit.Edit.TheVariants.{BeginFrame, BeginContext, CountBirth, CountRegion, CountPhase}
-use Rattle.om_values.specs.declared.step.Update.{Update}
-use Rattle.om_values.specs.declared.step.Update.TheVariants.{Put, Add}
-use Rattle.om_values.specs.declared.value.Val.{Val}
-use Rattle.om_steps.specs.declared.row.Row.{Row}
-use Rattle.om_steps.specs.declared.row.Row.TheVariants.{Goes}
-use Rattle.om_steps.specs.Rows.{Asked}
+use Rattle.om_state.specs.declared.edit.Edit.{Edit}
+use Rattle.om_state.specs.declared.edit.Edit.TheVariants.{BeginFrame, BeginContext, CountBirth, CountRegion, CountPhase}
+use Rattle.om_state.specs.declared.step.Update.{Update}
+use Rattle.om_state.specs.declared.step.Update.TheVariants.{Put, Add}
+use Rattle.om_state.specs.declared.value.Val.{Val}
+use Rattle.om_team_serial.specs.declared.row.Row.{Row}
+use Rattle.om_team_serial.specs.declared.row.Row.TheVariants.{Goes}
+use Rattle.om_team_serial.specs.Rows.{Asked}
 use Rattle.om_team.specs.Counters.{IsWithin, ValueWithin}
 use Rattle.om_task.specs.Steps.{IsNoCount, AddOnce}
 

@@ -4,22 +4,22 @@ use Rattle.om_code.specs.declared.raw.Raw.{Raw}
 use Rattle.om_code.specs.Places.{instruction_at}
 use Rattle.om_foot.specs.declared.object.Obj.{Obj}
 use Rattle.om_foot.specs.declared.object.Obj.TheVariants as obj
-use Rattle.om_values.specs.declared.control.Context.{Context}
-use Rattle.om_values.specs.declared.control.Control as controls
-use Rattle.om_values.specs.declared.control.Control.TheVariants.{Idle, Running, Faulted, Ended}
-use Rattle.om_values.specs.declared.edit.Edit.TheVariants.{Fail}
-use Rattle.om_values.specs.declared.step.Label.{Label}
-use Rattle.om_values.specs.declared.step.Outcome.TheVariants.{Updates}
-use Rattle.om_values.specs.declared.step.Update.{Update}
-use Rattle.om_values.specs.declared.step.Update.TheVariants.{Keep, Put, Add, Append, Cut}
-use Rattle.om_values.specs.declared.value.Task as tasks
-use Rattle.om_values.specs.declared.value.Task.TheVariants as task
-use Rattle.om_values.specs.declared.value.Val.{Val}
-use Rattle.om_values.specs.declared.value.Val.TheVariants as value
-use Rattle.om_values.specs.Edits.{changed}
-use Rattle.om_values.specs.Values.{control_in}
-use Rattle.om_steps.specs.declared.row.Row.{Row}
-use Rattle.om_steps.specs.declared.row.Row.TheVariants as row
+use Rattle.om_state.specs.declared.control.Context.{Context}
+use Rattle.om_state.specs.declared.control.Control as controls
+use Rattle.om_state.specs.declared.control.Control.TheVariants.{Idle, Running, Faulted, Ended}
+use Rattle.om_state.specs.declared.edit.Edit.TheVariants.{Fail}
+use Rattle.om_state.specs.declared.step.Label.{Label}
+use Rattle.om_state.specs.declared.step.Outcome.TheVariants.{Updates}
+use Rattle.om_state.specs.declared.step.Update.{Update}
+use Rattle.om_state.specs.declared.step.Update.TheVariants.{Keep, Put, Add, Append, Cut}
+use Rattle.om_state.specs.declared.value.Task as tasks
+use Rattle.om_state.specs.declared.value.Task.TheVariants as task
+use Rattle.om_state.specs.declared.value.Val.{Val}
+use Rattle.om_state.specs.declared.value.Val.TheVariants as value
+use Rattle.om_state.specs.Edits.{changed}
+use Rattle.om_state.specs.Values.{control_in}
+use Rattle.om_team_serial.specs.declared.row.Row.{Row}
+use Rattle.om_team_serial.specs.declared.row.Row.TheVariants as row
 use Rattle.om_team.specs.Counters.{IsWithin, AreWithin, ControlWithin, TaskWithin, ValueWithin}
 use Rattle.om_task.specs.Laws.{CalmRules}
 use Rattle.om_team.specs.Sites.{site}

@@ -11,16 +11,16 @@ use Rattle.om_code.specs.declared.instruction.Reduction.{Reduction}
 use Rattle.om_code.specs.declared.serial.Turn.{Turn}
 use Rattle.om_code.specs.declared.serial.Turn.TheVariants as turn
 use Rattle.om_code.specs.Arithmetic.{combine}
-use Rattle.om_values.specs.declared.control.Context.{Context}
-use Rattle.om_values.specs.declared.step.Update.{Update}
-use Rattle.om_values.specs.declared.step.Update.TheVariants.{Keep, Put, Add, Append, Cut}
-use Rattle.om_values.specs.declared.value.Val.{Val}
-use Rattle.om_values.specs.declared.value.Val.TheVariants as value
-use Rattle.om_steps.specs.declared.row.Row.{Row}
-use Rattle.om_steps.specs.declared.row.Row.TheVariants.{Goes, Faults, Blocked, Lacks}
-use Rattle.om_steps.specs.Objects.{puts, deaths}
-use Rattle.om_steps.specs.SerialRows.{row_of, unsets, put_combined, reduced}
-use Rattle.om_share.specs.Rows.{kept, departed, left}
+use Rattle.om_state.specs.declared.control.Context.{Context}
+use Rattle.om_state.specs.declared.step.Update.{Update}
+use Rattle.om_state.specs.declared.step.Update.TheVariants.{Keep, Put, Add, Append, Cut}
+use Rattle.om_state.specs.declared.value.Val.{Val}
+use Rattle.om_state.specs.declared.value.Val.TheVariants as value
+use Rattle.om_team_serial.specs.declared.row.Row.{Row}
+use Rattle.om_team_serial.specs.declared.row.Row.TheVariants.{Goes, Faults, Blocked, Lacks}
+use Rattle.om_team_serial.specs.Objects.{puts, deaths}
+use Rattle.om_team_serial.specs.SerialRows.{row_of, unsets, put_combined, reduced}
+use Rattle.om_team_worksharing.specs.Rows.{kept, departed, left}
 use Rattle.om_team.specs.Teams.{member_puts}
 use Rattle.om_task.specs.Tasks.{additions}
 use Rattle.om_task.specs.Shapes.{is_cell, IsCell, PutsCell, PutCells}

@@ -1,8 +1,8 @@
 -- Additions to counts.
 use Rattle.std.proofs.Common.{◌≡◌, sym, ◌∙◌, ap, ℕ, ℤ, List, [], ◌∷◌, ◌++◌, Option, Some, append_assoc}
 use Rattle.std.specs.Prelude.{Result, Ok, Err, OnOk}
-use Rattle.om_values.specs.declared.step.Update.{Update}
-use Rattle.om_values.specs.declared.step.Update.TheVariants.{Add}
+use Rattle.om_state.specs.declared.step.Update.{Update}
+use Rattle.om_state.specs.declared.step.Update.TheVariants.{Add}
 use Rattle.om_task.specs.Tasks.{additions}
 
 three : (us a b new : List Update) (u : Update) → a ≡ us ++ u ∷ [] → b ≡ a ++ u ∷ [] → new ≡ b ++ u ∷ [] → new ≡ us

@@ -4,17 +4,17 @@ use Rattle.std.specs.Prelude.{slice_get}
 use Rattle.om_foot.specs.Names.{above}
 use Rattle.om_foot.specs.declared.footprint.Access.{Access}
 use Rattle.om_code.specs.declared.raw.Slot.{Slot}
-use Rattle.om_values.specs.declared.control.Context.{Context}
-use Rattle.om_values.specs.declared.control.Kind.{Kind}
-use Rattle.om_values.specs.declared.control.Kind.TheVariants as kind
-use Rattle.om_values.specs.declared.control.Stack.{Stack}
-use Rattle.om_values.specs.declared.edit.Edit.TheVariants.{EndContext}
-use Rattle.om_values.specs.State.{State}
-use Rattle.om_steps.specs.declared.row.Answer.{Answer}
-use Rattle.om_steps.specs.declared.row.Row.{Row}
-use Rattle.om_steps.specs.declared.row.Row.TheVariants.{Goes}
-use Rattle.om_steps.specs.Objects.{own_cells}
-use Rattle.om_steps.specs.Rows.{Asked, answered}
+use Rattle.om_state.specs.declared.control.Context.{Context}
+use Rattle.om_state.specs.declared.control.Kind.{Kind}
+use Rattle.om_state.specs.declared.control.Kind.TheVariants as kind
+use Rattle.om_state.specs.declared.control.Stack.{Stack}
+use Rattle.om_state.specs.declared.edit.Edit.TheVariants.{EndContext}
+use Rattle.om_state.specs.State.{State}
+use Rattle.om_team_serial.specs.declared.row.Answer.{Answer}
+use Rattle.om_team_serial.specs.declared.row.Row.{Row}
+use Rattle.om_team_serial.specs.declared.row.Row.TheVariants.{Goes}
+use Rattle.om_team_serial.specs.Objects.{own_cells}
+use Rattle.om_team_serial.specs.Rows.{Asked, answered}
 use Rattle.om_task.specs.Rows.{ended_names, ended_updates, ended_row, end_row_of, task_end_row}
 
 abbrev pub answer_of : List Access → Row → Answer

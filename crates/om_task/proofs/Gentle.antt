@@ -4,19 +4,19 @@ use Rattle.std.proofs.Common.{List, [], ◌∷◌, ◌++◌, replicate}
 use Rattle.std.proofs.lemmas.Int.{ints}
 use Rattle.om_foot.specs.declared.footprint.Access.{Access}
 use Rattle.om_code.specs.declared.raw.Slot.{Slot}
-use Rattle.om_values.specs.declared.control.Home.{Home}
-use Rattle.om_values.specs.declared.control.Home.TheVariants.{Own, Elsewhere}
-use Rattle.om_values.specs.declared.control.Context.{Context}
-use Rattle.om_values.specs.declared.control.Frame.{Frame}
-use Rattle.om_values.specs.declared.control.Team.{Team}
-use Rattle.om_values.specs.declared.step.Update.{Update}
-use Rattle.om_values.specs.declared.step.Update.TheVariants.{Keep, Add}
-use Rattle.om_values.specs.declared.value.Val.{Val}
-use Rattle.om_steps.specs.declared.row.Row.{Row}
-use Rattle.om_steps.specs.declared.row.Row.TheVariants.{Lacks}
-use Rattle.om_steps.specs.Rows.{Asked, decided}
-use Rattle.om_steps.specs.Objects.{slot_cells, given_cells, own_slot, own_from, home_at, puts, deaths}
-use Rattle.om_share.specs.Barriers.{arrivals}
+use Rattle.om_state.specs.declared.control.Home.{Home}
+use Rattle.om_state.specs.declared.control.Home.TheVariants.{Own, Elsewhere}
+use Rattle.om_state.specs.declared.control.Context.{Context}
+use Rattle.om_state.specs.declared.control.Frame.{Frame}
+use Rattle.om_state.specs.declared.control.Team.{Team}
+use Rattle.om_state.specs.declared.step.Update.{Update}
+use Rattle.om_state.specs.declared.step.Update.TheVariants.{Keep, Add}
+use Rattle.om_state.specs.declared.value.Val.{Val}
+use Rattle.om_team_serial.specs.declared.row.Row.{Row}
+use Rattle.om_team_serial.specs.declared.row.Row.TheVariants.{Lacks}
+use Rattle.om_team_serial.specs.Rows.{Asked, decided}
+use Rattle.om_team_serial.specs.Objects.{slot_cells, given_cells, own_slot, own_from, home_at, puts, deaths}
+use Rattle.om_team_worksharing.specs.Barriers.{arrivals}
 use Rattle.om_team.specs.Teams.{workers_from, member_cells, member_controls, member_puts, member}
 use Rattle.om_team.specs.Counters.{IsWithin}
 use Rattle.om_task.specs.Steps.{is_add, AddOnce}

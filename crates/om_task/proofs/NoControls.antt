@@ -7,20 +7,20 @@ use Rattle.om_foot.specs.declared.footprint.Mode.TheVariants as mode
 use Rattle.om_code.specs.declared.instruction.Place.{Place}
 use Rattle.om_code.specs.declared.instruction.Place.TheVariants as place
 use Rattle.om_code.specs.declared.raw.Slot.{Slot}
-use Rattle.om_values.specs.declared.control.Context.{Context}
-use Rattle.om_values.specs.declared.control.Home.{Home}
-use Rattle.om_values.specs.declared.control.Home.TheVariants.{Own, Elsewhere}
-use Rattle.om_values.specs.declared.control.Team.{Team}
-use Rattle.om_values.specs.declared.step.Update.{Update}
-use Rattle.om_values.specs.declared.step.Update.TheVariants.{Keep, Put, Add, Append, Cut}
-use Rattle.om_values.specs.declared.value.Val.{Val}
-use Rattle.om_values.specs.declared.value.Val.TheVariants as value
-use Rattle.om_values.specs.Homes.{cell_of}
-use Rattle.om_steps.specs.declared.row.Row.{Row}
-use Rattle.om_steps.specs.declared.row.Row.TheVariants.{Goes, Faults, Blocked, Lacks}
-use Rattle.om_steps.specs.Rows.{Asked, decided}
-use Rattle.om_steps.specs.Objects.{object_of, slot_cells, given_cells, own_slot, own_from, own_cells, home_at, events}
-use Rattle.om_share.specs.Barriers.{arrivals, barrier}
+use Rattle.om_state.specs.declared.control.Context.{Context}
+use Rattle.om_state.specs.declared.control.Home.{Home}
+use Rattle.om_state.specs.declared.control.Home.TheVariants.{Own, Elsewhere}
+use Rattle.om_state.specs.declared.control.Team.{Team}
+use Rattle.om_state.specs.declared.step.Update.{Update}
+use Rattle.om_state.specs.declared.step.Update.TheVariants.{Keep, Put, Add, Append, Cut}
+use Rattle.om_state.specs.declared.value.Val.{Val}
+use Rattle.om_state.specs.declared.value.Val.TheVariants as value
+use Rattle.om_state.specs.Homes.{cell_of}
+use Rattle.om_team_serial.specs.declared.row.Row.{Row}
+use Rattle.om_team_serial.specs.declared.row.Row.TheVariants.{Goes, Faults, Blocked, Lacks}
+use Rattle.om_team_serial.specs.Rows.{Asked, decided}
+use Rattle.om_team_serial.specs.Objects.{object_of, slot_cells, given_cells, own_slot, own_from, own_cells, home_at, events}
+use Rattle.om_team_worksharing.specs.Barriers.{arrivals, barrier}
 use Rattle.om_team.specs.Teams.{member_cells}
 use Rattle.om_task.specs.Tasks.{counts}
 use Rattle.om_task.specs.Shapes.{is_trailed, IsControl, IsShapedAt, AreShaped}

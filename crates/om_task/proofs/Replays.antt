@@ -7,25 +7,25 @@ use Rattle.om_foot.specs.declared.object.Obj.TheVariants as obj
 use Rattle.om_foot.specs.declared.footprint.Access.{Access}
 use Rattle.om_foot.specs.declared.footprint.Mode.{Mode}
 use Rattle.om_foot.specs.declared.footprint.Mode.TheVariants as mode
-use Rattle.om_values.specs.declared.control.Control as controls
-use Rattle.om_values.specs.declared.control.Control.TheVariants.{Idle, Running}
-use Rattle.om_values.specs.declared.edit.Edit.TheVariants.{Fail}
-use Rattle.om_values.specs.declared.step.Label.{Label}
-use Rattle.om_values.specs.declared.step.Tail.{Tail}
-use Rattle.om_values.specs.declared.step.Tail.TheVariants as tail
-use Rattle.om_values.specs.declared.step.Update.{Update}
-use Rattle.om_values.specs.declared.step.Update.TheVariants.{Keep, Put, Add, Append, Cut}
-use Rattle.om_values.specs.declared.value.Task as tasks
-use Rattle.om_values.specs.declared.value.Task.TheVariants as task
-use Rattle.om_values.specs.declared.value.Val.{Val}
-use Rattle.om_values.specs.declared.value.Val.TheVariants as value
-use Rattle.om_values.specs.Edits.{changed}
-use Rattle.om_values.specs.Rules.{step_at, next_state, state_after_outcome, and_then, replay_from}
-use Rattle.om_values.specs.State.{State, values_read, value_after, state_after, updated}
-use Rattle.om_values.specs.Values.{control_in, value_plus, value_with}
+use Rattle.om_state.specs.declared.control.Control as controls
+use Rattle.om_state.specs.declared.control.Control.TheVariants.{Idle, Running}
+use Rattle.om_state.specs.declared.edit.Edit.TheVariants.{Fail}
+use Rattle.om_state.specs.declared.step.Label.{Label}
+use Rattle.om_state.specs.declared.step.Tail.{Tail}
+use Rattle.om_state.specs.declared.step.Tail.TheVariants as tail
+use Rattle.om_state.specs.declared.step.Update.{Update}
+use Rattle.om_state.specs.declared.step.Update.TheVariants.{Keep, Put, Add, Append, Cut}
+use Rattle.om_state.specs.declared.value.Task as tasks
+use Rattle.om_state.specs.declared.value.Task.TheVariants as task
+use Rattle.om_state.specs.declared.value.Val.{Val}
+use Rattle.om_state.specs.declared.value.Val.TheVariants as value
+use Rattle.om_state.specs.Edits.{changed}
+use Rattle.om_state.specs.Rules.{step_at, next_state, state_after_outcome, and_then, replay_from}
+use Rattle.om_state.specs.State.{State, values_read, value_after, state_after, updated}
+use Rattle.om_state.specs.Values.{control_in, value_plus, value_with}
 use Rattle.std.specs.Prelude.{ℤ, if◌then◌else◌, nat_eq}
-use Rattle.om_steps.specs.declared.row.Row.{Row}
-use Rattle.om_steps.specs.declared.row.Row.TheVariants as row
+use Rattle.om_team_serial.specs.declared.row.Row.{Row}
+use Rattle.om_team_serial.specs.declared.row.Row.TheVariants as row
 use Rattle.om_team.specs.Counters.{ControlWithin, TaskWithin, ValueWithin, StateWithin}
 use Rattle.om_task.specs.Laws.{LowCounters}
 use Rattle.om_task.specs.Rules.{rules_of, start_of, first_context, further_in, row_in, outcome_after}

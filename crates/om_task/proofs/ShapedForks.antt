@@ -6,14 +6,14 @@ use Rattle.std.specs.Prelude.{nat_lt}
 use Rattle.om_foot.specs.declared.footprint.Access.{Access}
 use Rattle.om_code.specs.declared.frame.Fault.TheVariants as fault
 use Rattle.om_code.specs.declared.raw.Body.{Body}
-use Rattle.om_values.specs.declared.control.Context.{Context}
-use Rattle.om_values.specs.declared.control.Frame.{Frame}
-use Rattle.om_values.specs.declared.control.Team.{Team}
-use Rattle.om_values.specs.declared.step.Update.{Update}
-use Rattle.om_steps.specs.declared.row.Launch.{Launch}
-use Rattle.om_steps.specs.declared.row.Row.TheVariants.{Faults, Lacks}
-use Rattle.om_steps.specs.Begins.{first_frame}
-use Rattle.om_steps.specs.Objects.{events, homes_in}
+use Rattle.om_state.specs.declared.control.Context.{Context}
+use Rattle.om_state.specs.declared.control.Frame.{Frame}
+use Rattle.om_state.specs.declared.control.Team.{Team}
+use Rattle.om_state.specs.declared.step.Update.{Update}
+use Rattle.om_team_serial.specs.declared.row.Launch.{Launch}
+use Rattle.om_team_serial.specs.declared.row.Row.TheVariants.{Faults, Lacks}
+use Rattle.om_team_serial.specs.Begins.{first_frame}
+use Rattle.om_team_serial.specs.Objects.{events, homes_in}
 use Rattle.om_team.specs.Teams.{first_busy, member_cells, member_controls, workers_from}
 use Rattle.om_team.specs.Rows.{forked, team_row, team_of, named_row, sized_row, fork_row}
 use Rattle.om_task.specs.Shapes.{AreShaped, PutCells}

@@ -8,19 +8,19 @@ use Rattle.om_code.specs.declared.instruction.Place.TheVariants.{Slot}
 use Rattle.om_code.specs.declared.instruction.Schedule.{Schedule}
 use Rattle.om_code.specs.declared.instruction.Schedule.TheVariants as schedule
 use Rattle.om_events.specs.declared.event.Record.{Record}
-use Rattle.om_values.specs.declared.control.Context.{Context}
-use Rattle.om_values.specs.declared.control.Construct.{Construct}
-use Rattle.om_values.specs.declared.control.Construct.TheVariants as construct
-use Rattle.om_values.specs.declared.control.Share.{Share}
-use Rattle.om_values.specs.declared.edit.Edit.{Edit}
-use Rattle.om_values.specs.OpenShares.{is_loop, value_of}
-use Rattle.om_steps.specs.declared.row.Row.TheVariants.{Faults, Lacks}
-use Rattle.om_steps.specs.Rows.{goes}
-use Rattle.om_steps.specs.Objects.{is_misplaced}
-use Rattle.om_share.specs.Rows.{recorded, open_row, loop_row, loop_of, sections_row, static_row, dynamic_row, chunk_row}
-use Rattle.om_share.specs.Rows.{grab_row, value_row, iteration_row, iterate_row, is_masked, is_critical}
-use Rattle.om_share.specs.Rows.{is_right_form, pick_row, single_row, end_worksharing_row, filtered_row, masked_row}
-use Rattle.om_share.specs.Rows.{end_masked_row, ask_critical_row, enter_critical_row, leave_critical_row}
+use Rattle.om_state.specs.declared.control.Context.{Context}
+use Rattle.om_state.specs.declared.control.Construct.{Construct}
+use Rattle.om_state.specs.declared.control.Construct.TheVariants as construct
+use Rattle.om_state.specs.declared.control.Share.{Share}
+use Rattle.om_state.specs.declared.edit.Edit.{Edit}
+use Rattle.om_state.specs.OpenShares.{is_loop, value_of}
+use Rattle.om_team_serial.specs.declared.row.Row.TheVariants.{Faults, Lacks}
+use Rattle.om_team_serial.specs.Rows.{goes}
+use Rattle.om_team_serial.specs.Objects.{is_misplaced}
+use Rattle.om_team_worksharing.specs.Rows.{recorded, open_row, loop_row, loop_of, sections_row, static_row, dynamic_row, chunk_row}
+use Rattle.om_team_worksharing.specs.Rows.{grab_row, value_row, iteration_row, iterate_row, is_masked, is_critical}
+use Rattle.om_team_worksharing.specs.Rows.{is_right_form, pick_row, single_row, end_worksharing_row, filtered_row, masked_row}
+use Rattle.om_team_worksharing.specs.Rows.{end_masked_row, ask_critical_row, enter_critical_row, leave_critical_row}
 use Rattle.om_task.proofs.NoControls.{AskedShaped, object_none, of_cells, apart, by_control, if_asked}
 
 -- a row that appends one event record alone

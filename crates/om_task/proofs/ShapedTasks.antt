@@ -20,21 +20,21 @@ use Rattle.om_code.specs.declared.serial.Turn.{Turn}
 use Rattle.om_code.specs.Frames.{act}
 use Rattle.om_code.specs.Printing.{ints_on}
 use Rattle.om_events.specs.declared.kind.TaskStatus as statuses
-use Rattle.om_values.specs.declared.control.Context.{Context}
-use Rattle.om_values.specs.declared.control.Frame.{Frame}
-use Rattle.om_values.specs.declared.control.Kind.{Kind}
-use Rattle.om_values.specs.declared.control.Kind.TheVariants as kind
-use Rattle.om_values.specs.declared.control.Stack.{Stack}
-use Rattle.om_steps.specs.declared.row.Launch.{Launch}
-use Rattle.om_steps.specs.declared.row.Row.TheVariants.{Faults, Lacks}
-use Rattle.om_values.specs.Values.{cell_in}
-use Rattle.om_steps.specs.Objects.{own_cells, innermost, puts, deaths}
-use Rattle.om_steps.specs.Rows.{first_of, rest_of}
-use Rattle.om_steps.specs.SerialRows.{touch_row, serial_row, slots_in, number_row, call_row, return_row, reduce_row}
-use Rattle.om_steps.specs.SerialRows.{unsets, cells_of_slot}
-use Rattle.om_share.specs.Barriers.{is_open}
+use Rattle.om_state.specs.declared.control.Context.{Context}
+use Rattle.om_state.specs.declared.control.Frame.{Frame}
+use Rattle.om_state.specs.declared.control.Kind.{Kind}
+use Rattle.om_state.specs.declared.control.Kind.TheVariants as kind
+use Rattle.om_state.specs.declared.control.Stack.{Stack}
+use Rattle.om_team_serial.specs.declared.row.Launch.{Launch}
+use Rattle.om_team_serial.specs.declared.row.Row.TheVariants.{Faults, Lacks}
+use Rattle.om_state.specs.Values.{cell_in}
+use Rattle.om_team_serial.specs.Objects.{own_cells, innermost, puts, deaths}
+use Rattle.om_team_serial.specs.Rows.{first_of, rest_of}
+use Rattle.om_team_serial.specs.SerialRows.{touch_row, serial_row, slots_in, number_row, call_row, return_row, reduce_row}
+use Rattle.om_team_serial.specs.SerialRows.{unsets, cells_of_slot}
+use Rattle.om_team_worksharing.specs.Barriers.{is_open}
 use Rattle.om_team.specs.Rows.{begin_row, value_of, finished_row, finish_row}
-use Rattle.om_share.specs.Rows.{reached_row, is_misplaced_barrier, arrive_row, depart_row, left_row, leave_row}
+use Rattle.om_team_worksharing.specs.Rows.{reached_row, is_misplaced_barrier, arrive_row, depart_row, left_row, leave_row}
 use Rattle.om_task.specs.declared.task_start.Starting.{Starting}
 use Rattle.om_task.specs.declared.task.Making.{Making}
 use Rattle.om_task.specs.Tasks.{born, group_of, innermost_group}

@@ -1,18 +1,18 @@
 -- The rules of every program are shaped.
 use Rattle.std.proofs.Common.{◌≡◌, subst, List, [], ◌∷◌}
 use Rattle.om_foot.specs.declared.footprint.Access.{Access}
-use Rattle.om_values.specs.declared.control.Control as controls
-use Rattle.om_values.specs.declared.edit.Edit.TheVariants.{Fail}
-use Rattle.om_values.specs.declared.step.Label.{Label}
-use Rattle.om_values.specs.declared.step.Outcome.TheVariants.{Updates}
-use Rattle.om_values.specs.declared.step.Update.{Update}
-use Rattle.om_values.specs.declared.step.Update.TheVariants.{Put}
-use Rattle.om_values.specs.declared.value.Val.TheVariants as value
-use Rattle.om_values.specs.Edits.{changed}
-use Rattle.om_values.specs.Rules.{control_access}
-use Rattle.om_values.specs.Values.{control_in}
-use Rattle.om_steps.specs.declared.row.Row.{Row}
-use Rattle.om_steps.specs.declared.row.Row.TheVariants as row
+use Rattle.om_state.specs.declared.control.Control as controls
+use Rattle.om_state.specs.declared.edit.Edit.TheVariants.{Fail}
+use Rattle.om_state.specs.declared.step.Label.{Label}
+use Rattle.om_state.specs.declared.step.Outcome.TheVariants.{Updates}
+use Rattle.om_state.specs.declared.step.Update.{Update}
+use Rattle.om_state.specs.declared.step.Update.TheVariants.{Put}
+use Rattle.om_state.specs.declared.value.Val.TheVariants as value
+use Rattle.om_state.specs.Edits.{changed}
+use Rattle.om_state.specs.Rules.{control_access}
+use Rattle.om_state.specs.Values.{control_in}
+use Rattle.om_team_serial.specs.declared.row.Row.{Row}
+use Rattle.om_team_serial.specs.declared.row.Row.TheVariants as row
 use Rattle.om_task.specs.Rules.{further_in, row_in, outcome_after}
 use Rattle.om_task.specs.Shapes.{AreShaped, PutCells, ShapedRules}
 use Rattle.om_task.proofs.CellPuts.{RowPutsCells}

@@ -8,26 +8,26 @@ use Rattle.om_code.specs.declared.instruction.LoopForm.{LoopForm}
 use Rattle.om_code.specs.declared.instruction.Schedule.{Schedule}
 use Rattle.om_code.specs.declared.instruction.Schedule.TheVariants as schedule
 use Rattle.om_events.specs.declared.event.Record.{Record}
-use Rattle.om_values.specs.declared.control.Context.{Context}
-use Rattle.om_values.specs.declared.control.Construct.{Construct}
-use Rattle.om_values.specs.declared.control.Construct.TheVariants as construct
-use Rattle.om_values.specs.declared.control.Share.{Share}
-use Rattle.om_values.specs.declared.edit.Edit.{Edit}
-use Rattle.om_values.specs.declared.edit.Edit.TheVariants.{Go, Open, Close}
-use Rattle.om_values.specs.declared.value.Val.{Val}
-use Rattle.om_values.specs.OpenShares.{is_loop, value_of}
-use Rattle.om_values.specs.Values.{number_in, holder_in}
-use Rattle.om_steps.specs.declared.row.Row.TheVariants.{Faults}
-use Rattle.om_steps.specs.Rows.{goes, first_of}
-use Rattle.om_steps.specs.Objects.{is_misplaced}
-use Rattle.om_share.specs.declared.chunk.Chunk.{Chunk}
-use Rattle.om_share.specs.Chunks.{static_chunk, chunk_within}
-use Rattle.om_share.specs.Rows.{edits, begun, recorded, open_row, loop_row, loop_of, sections_row, taken_row, given_row}
-use Rattle.om_share.specs.Rows.{static_row, dynamic_row, chunk_row, grab_row, value_row, iteration_row}
-use Rattle.om_share.specs.Rows.{iterate_row, section_row, is_section, is_masked, is_critical}
-use Rattle.om_share.specs.Rows.{is_right_form, pick_row, chosen_row, single_row, end_worksharing_row, filtered_row}
-use Rattle.om_share.specs.Rows.{masked_row, end_masked_row, ask_critical_row, lock_row, enter_critical_row}
-use Rattle.om_share.specs.Rows.{leave_critical_row}
+use Rattle.om_state.specs.declared.control.Context.{Context}
+use Rattle.om_state.specs.declared.control.Construct.{Construct}
+use Rattle.om_state.specs.declared.control.Construct.TheVariants as construct
+use Rattle.om_state.specs.declared.control.Share.{Share}
+use Rattle.om_state.specs.declared.edit.Edit.{Edit}
+use Rattle.om_state.specs.declared.edit.Edit.TheVariants.{Go, Open, Close}
+use Rattle.om_state.specs.declared.value.Val.{Val}
+use Rattle.om_state.specs.OpenShares.{is_loop, value_of}
+use Rattle.om_state.specs.Values.{number_in, holder_in}
+use Rattle.om_team_serial.specs.declared.row.Row.TheVariants.{Faults}
+use Rattle.om_team_serial.specs.Rows.{goes, first_of}
+use Rattle.om_team_serial.specs.Objects.{is_misplaced}
+use Rattle.om_team_worksharing.specs.declared.chunk.Chunk.{Chunk}
+use Rattle.om_team_worksharing.specs.Chunks.{static_chunk, chunk_within}
+use Rattle.om_team_worksharing.specs.Rows.{edits, begun, recorded, open_row, loop_row, loop_of, sections_row, taken_row, given_row}
+use Rattle.om_team_worksharing.specs.Rows.{static_row, dynamic_row, chunk_row, grab_row, value_row, iteration_row}
+use Rattle.om_team_worksharing.specs.Rows.{iterate_row, section_row, is_section, is_masked, is_critical}
+use Rattle.om_team_worksharing.specs.Rows.{is_right_form, pick_row, chosen_row, single_row, end_worksharing_row, filtered_row}
+use Rattle.om_team_worksharing.specs.Rows.{masked_row, end_masked_row, ask_critical_row, lock_row, enter_critical_row}
+use Rattle.om_team_worksharing.specs.Rows.{leave_critical_row}
 use Rattle.om_task.proofs.Bounds.{counts, BeginWithin, RowWithin, AskedWithin}
 use Rattle.om_task.proofs.Gentle.{lacks, by_control, plain, if_row, if_asked}
 

@@ -11,15 +11,15 @@ use Rattle.om_events.specs.declared.event.Record.TheVariants as event_record
 use Rattle.om_events.specs.declared.kind.Thread.TheVariants as thread
 use Rattle.om_foot.specs.declared.object.Obj.{Obj}
 use Rattle.om_foot.specs.declared.object.Obj.TheVariants as obj
-use Rattle.om_values.specs.declared.control.Control.{Control}
-use Rattle.om_values.specs.declared.control.Control.TheVariants.{Idle}
-use Rattle.om_values.specs.declared.value.Val.{Val}
-use Rattle.om_values.specs.declared.value.Val.TheVariants as value
+use Rattle.om_state.specs.declared.control.Control.{Control}
+use Rattle.om_state.specs.declared.control.Control.TheVariants.{Idle}
+use Rattle.om_state.specs.declared.value.Val.{Val}
+use Rattle.om_state.specs.declared.value.Val.TheVariants as value
 use Rattle.std.proofs.Math.Dec.{eqb-zero-suc, eqb-suc-zero}
 use Rattle.std.proofs.lemmas.Bool.Decides.{nat_tests}
 use Rattle.std.proofs.lemmas.List.{take_all}
-use Rattle.om_values.specs.Values.{default_of}
-use Rattle.om_values.specs.State.{State, with_value}
+use Rattle.om_state.specs.Values.{default_of}
+use Rattle.om_state.specs.State.{State, with_value}
 use Rattle.om_task.specs.Rules.{start_of, first_control, first_records, initial_in}
 
 -- the start of a program with its first n globals alone, and one worker

@@ -5,18 +5,18 @@ use Rattle.om_foot.specs.declared.object.Obj.TheVariants as obj
 use Rattle.om_code.specs.declared.raw.Raw.{Raw}
 use Rattle.om_code.specs.Places.{instruction_at}
 use Rattle.om_events.specs.declared.kind.TaskStatus.{TaskStatus}
-use Rattle.om_values.specs.declared.control.Context.{Context}
-use Rattle.om_values.specs.declared.control.Control as controls
-use Rattle.om_values.specs.declared.control.Control.TheVariants.{Idle, Running, Faulted}
-use Rattle.om_values.specs.declared.control.Control.TheVariants as control
-use Rattle.om_values.specs.declared.step.Choice.TheVariants.{Start}
-use Rattle.om_values.specs.declared.step.Label.{Label}
-use Rattle.om_values.specs.declared.step.Outcome.TheVariants.{Updates}
-use Rattle.om_values.specs.declared.step.Update.{Update}
-use Rattle.om_values.specs.declared.value.Val.{Val}
-use Rattle.om_values.specs.Rules.{step_at}
-use Rattle.om_values.specs.State.{values_read}
-use Rattle.om_values.specs.Values.{control_in}
+use Rattle.om_state.specs.declared.control.Context.{Context}
+use Rattle.om_state.specs.declared.control.Control as controls
+use Rattle.om_state.specs.declared.control.Control.TheVariants.{Idle, Running, Faulted}
+use Rattle.om_state.specs.declared.control.Control.TheVariants as control
+use Rattle.om_state.specs.declared.step.Choice.TheVariants.{Start}
+use Rattle.om_state.specs.declared.step.Label.{Label}
+use Rattle.om_state.specs.declared.step.Outcome.TheVariants.{Updates}
+use Rattle.om_state.specs.declared.step.Update.{Update}
+use Rattle.om_state.specs.declared.value.Val.{Val}
+use Rattle.om_state.specs.Rules.{step_at}
+use Rattle.om_state.specs.State.{values_read}
+use Rattle.om_state.specs.Values.{control_in}
 use Rattle.om_task.specs.Rows.{started_row}
 use Rattle.om_task.specs.Laws.{StartsAtSchedulingPoints}
 use Rattle.om_task.specs.Rules.{further_in, is_at_scheduling_point, leaving, outcome_after, row_in}

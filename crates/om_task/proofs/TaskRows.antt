@@ -26,33 +26,33 @@ use Rattle.om_code.specs.Arithmetic.{combine}
 use Rattle.om_code.specs.Frames.{act}
 use Rattle.om_code.specs.Printing.{ints_on}
 use Rattle.om_events.specs.declared.kind.TaskStatus as statuses
-use Rattle.om_values.specs.declared.control.Context.{Context}
-use Rattle.om_values.specs.declared.control.Frame.{Frame}
-use Rattle.om_values.specs.declared.control.Kind.{Kind}
-use Rattle.om_values.specs.declared.control.Kind.TheVariants as kind
-use Rattle.om_values.specs.declared.control.Stack.{Stack}
-use Rattle.om_values.specs.declared.control.Team.{Team}
-use Rattle.om_values.specs.declared.step.Update.{Update}
-use Rattle.om_values.specs.declared.value.Ready.{Ready}
-use Rattle.om_values.specs.declared.value.Task as tasks
-use Rattle.om_values.specs.declared.value.Task.TheVariants as task
-use Rattle.om_values.specs.declared.value.Val.{Val}
-use Rattle.om_values.specs.declared.value.Val.TheVariants as value
-use Rattle.om_values.specs.Values.{cell_in, task_in, count_in}
-use Rattle.om_steps.specs.declared.row.Launch.{Launch}
-use Rattle.om_steps.specs.declared.row.Row.TheVariants.{Faults}
-use Rattle.om_steps.specs.Rows.{first_of, rest_of}
-use Rattle.om_steps.specs.Objects.{own_cells, deaths, puts, events, given_cells, innermost}
-use Rattle.om_steps.specs.SerialRows.{put_of, row_of, unsets, cells_of_slot, touch_row, serial_row, slots_in, number_row}
-use Rattle.om_steps.specs.SerialRows.{call_row, return_row, put_combined, reduced, reduce_row}
-use Rattle.om_share.specs.Barriers.{barrier, is_open}
+use Rattle.om_state.specs.declared.control.Context.{Context}
+use Rattle.om_state.specs.declared.control.Frame.{Frame}
+use Rattle.om_state.specs.declared.control.Kind.{Kind}
+use Rattle.om_state.specs.declared.control.Kind.TheVariants as kind
+use Rattle.om_state.specs.declared.control.Stack.{Stack}
+use Rattle.om_state.specs.declared.control.Team.{Team}
+use Rattle.om_state.specs.declared.step.Update.{Update}
+use Rattle.om_state.specs.declared.value.Ready.{Ready}
+use Rattle.om_state.specs.declared.value.Task as tasks
+use Rattle.om_state.specs.declared.value.Task.TheVariants as task
+use Rattle.om_state.specs.declared.value.Val.{Val}
+use Rattle.om_state.specs.declared.value.Val.TheVariants as value
+use Rattle.om_state.specs.Values.{cell_in, task_in, count_in}
+use Rattle.om_team_serial.specs.declared.row.Launch.{Launch}
+use Rattle.om_team_serial.specs.declared.row.Row.TheVariants.{Faults}
+use Rattle.om_team_serial.specs.Rows.{first_of, rest_of}
+use Rattle.om_team_serial.specs.Objects.{own_cells, deaths, puts, events, given_cells, innermost}
+use Rattle.om_team_serial.specs.SerialRows.{put_of, row_of, unsets, cells_of_slot, touch_row, serial_row, slots_in, number_row}
+use Rattle.om_team_serial.specs.SerialRows.{call_row, return_row, put_combined, reduced, reduce_row}
+use Rattle.om_team_worksharing.specs.Barriers.{barrier, is_open}
 use Rattle.om_team.specs.Teams.{first_busy, member_controls, member_puts}
 use Rattle.om_team.specs.Rows.{forked, team_row, team_of, named_row, sized_row, fork_row, begin_row}
-use Rattle.om_share.specs.Rows.{reached_row}
-use Rattle.om_share.specs.Rows.{is_misplaced_barrier, arrive_row, kept, departed, depart_row, left, left_row, leave_row}
+use Rattle.om_team_worksharing.specs.Rows.{reached_row}
+use Rattle.om_team_worksharing.specs.Rows.{is_misplaced_barrier, arrive_row, kept, departed, depart_row, left, left_row, leave_row}
 use Rattle.om_task.specs.declared.task_start.Starting.{Starting}
 use Rattle.om_task.specs.declared.task.Making.{Making}
-use Rattle.om_steps.specs.Rows.{is_zero}
+use Rattle.om_team_serial.specs.Rows.{is_zero}
 use Rattle.om_task.specs.Tasks.{born, group_of, innermost_group, counts, additions, task_context}
 use Rattle.om_task.specs.Rows.{made_row, given_row, spawn_row, ended_row, end_row_of, task_end_row, wait_begin_row}
 use Rattle.om_task.specs.Rows.{waited, wait_end_row, task_yield_row, opened_row, group_begin_row, closed, closed_row}

@@ -7,14 +7,14 @@ use Rattle.om_code.specs.declared.raw.Raw.{Raw}
 use Rattle.om_code.specs.Frames.{int_at}
 use Rattle.om_code.specs.Places.{instruction_at}
 use Rattle.om_code.specs.Printing.{ints_on}
-use Rattle.om_values.specs.declared.control.Control as controls
-use Rattle.om_values.specs.declared.control.Control.TheVariants.{Idle, Running, Faulted, Ended}
-use Rattle.om_values.specs.declared.step.Choice.{Choice}
-use Rattle.om_values.specs.declared.step.Choice.TheVariants.{Next, Start}
-use Rattle.om_values.specs.declared.step.Label.{Label}
-use Rattle.om_values.specs.declared.value.Val.{Val}
-use Rattle.om_steps.specs.Objects.{innermost}
-use Rattle.om_share.specs.Rows.{share_in}
+use Rattle.om_state.specs.declared.control.Control as controls
+use Rattle.om_state.specs.declared.control.Control.TheVariants.{Idle, Running, Faulted, Ended}
+use Rattle.om_state.specs.declared.step.Choice.{Choice}
+use Rattle.om_state.specs.declared.step.Choice.TheVariants.{Next, Start}
+use Rattle.om_state.specs.declared.step.Label.{Label}
+use Rattle.om_state.specs.declared.value.Val.{Val}
+use Rattle.om_team_serial.specs.Objects.{innermost}
+use Rattle.om_team_worksharing.specs.Rows.{share_in}
 use Rattle.om_team.specs.Counters.{IsWithin, ControlWithin}
 use Rattle.om_team.specs.Sites.{site}
 use Rattle.om_task.specs.Rules.{choice_row, next_row, leaving, admits_all, row_in}

@@ -8,29 +8,29 @@ use Rattle.om_code.specs.declared.instruction.Instr.{Instr}
 use Rattle.om_code.specs.declared.raw.Body.{Body}
 use Rattle.om_code.specs.declared.raw.Raw.{Raw}
 use Rattle.om_code.specs.Places.{instruction_at}
-use Rattle.om_values.specs.declared.control.Construct.TheVariants as construct
-use Rattle.om_values.specs.declared.control.Context.{Context}
-use Rattle.om_values.specs.declared.control.Frame.{Frame}
-use Rattle.om_values.specs.declared.control.Kind.TheVariants as kind
-use Rattle.om_values.specs.declared.control.Stack.{Stack}
-use Rattle.om_values.specs.declared.edit.Edit.{Edit}
-use Rattle.om_values.specs.declared.edit.Edit.TheVariants.{Go, BeginContext, EndContext, Open, CountBirth}
-use Rattle.om_values.specs.declared.step.Update.{Update}
-use Rattle.om_values.specs.declared.step.Update.TheVariants.{Put}
-use Rattle.om_values.specs.declared.value.Ready.{Ready}
-use Rattle.om_values.specs.declared.value.Task as tasks
-use Rattle.om_values.specs.declared.value.Task.TheVariants as task
-use Rattle.om_values.specs.declared.value.Val.TheVariants as value
-use Rattle.om_values.specs.State.{State, with_value}
-use Rattle.om_values.specs.Values.{task_in}
-use Rattle.om_live.specs.declared.control.Context as live
-use Rattle.om_live.specs.declared.store.Store.{Store}
-use Rattle.om_live.specs.Plain.{plain_held}
-use Rattle.om_live.specs.Stores.{state_of}
-use Rattle.om_steps.specs.declared.row.Row.{Row}
-use Rattle.om_steps.specs.declared.row.Row.TheVariants.{Goes}
-use Rattle.om_steps.specs.Rows.{Asked}
-use Rattle.om_steps.specs.Begins.{new_context}
+use Rattle.om_state.specs.declared.control.Construct.TheVariants as construct
+use Rattle.om_state.specs.declared.control.Context.{Context}
+use Rattle.om_state.specs.declared.control.Frame.{Frame}
+use Rattle.om_state.specs.declared.control.Kind.TheVariants as kind
+use Rattle.om_state.specs.declared.control.Stack.{Stack}
+use Rattle.om_state.specs.declared.edit.Edit.{Edit}
+use Rattle.om_state.specs.declared.edit.Edit.TheVariants.{Go, BeginContext, EndContext, Open, CountBirth}
+use Rattle.om_state.specs.declared.step.Update.{Update}
+use Rattle.om_state.specs.declared.step.Update.TheVariants.{Put}
+use Rattle.om_state.specs.declared.value.Ready.{Ready}
+use Rattle.om_state.specs.declared.value.Task as tasks
+use Rattle.om_state.specs.declared.value.Task.TheVariants as task
+use Rattle.om_state.specs.declared.value.Val.TheVariants as value
+use Rattle.om_state.specs.State.{State, with_value}
+use Rattle.om_state.specs.Values.{task_in}
+use Rattle.om_memory.specs.declared.control.Context as live
+use Rattle.om_memory.specs.declared.memory.Memory.{Memory}
+use Rattle.om_memory.specs.Plain.{plain_held}
+use Rattle.om_memory.specs.Memories.{state_of}
+use Rattle.om_team_serial.specs.declared.row.Row.{Row}
+use Rattle.om_team_serial.specs.declared.row.Row.TheVariants.{Goes}
+use Rattle.om_team_serial.specs.Rows.{Asked}
+use Rattle.om_team_serial.specs.Begins.{new_context}
 use Rattle.om_task.specs.declared.task.Making.{Making}
 use Rattle.om_task.specs.Rows.{made_row, ended_updates}
 use Rattle.om_task.specs.Rules.{first_control, admits_all}
@@ -78,5 +78,5 @@ abbrev pub born_row : Making → Body → Context → List ℤ → Asked
 born_row m body c ns = made_row m body c ns (born c)
 
 -- the task of a name
-abbrev pub task_at : Store → List ℕ → tasks.Task
+abbrev pub task_at : Memory → List ℕ → tasks.Task
 task_at store name = task_in (state_of store (obj.Task name))

@@ -1,16 +1,16 @@
 -- What is true of the runs of every program.
 use Rattle.std.specs.Prelude.{◌≡◌, ℕ, ◌≤◌, ℤ, pos, true, Some, List, ◌∷◌, length}
 use Rattle.om_code.specs.declared.raw.Raw.{Raw}
-use Rattle.om_values.specs.declared.control.Context.{Context}
-use Rattle.om_values.specs.declared.step.Choice.TheVariants.{Start}
-use Rattle.om_values.specs.declared.step.Label.{Label}
-use Rattle.om_values.specs.declared.step.Outcome.TheVariants.{Updates}
-use Rattle.om_values.specs.declared.step.Update.{Update}
-use Rattle.om_values.specs.declared.value.Val.{Val}
-use Rattle.om_values.specs.declared.value.Val.TheVariants.{Count}
-use Rattle.om_values.specs.Rules.{Rules, replay, step_at, control_access}
-use Rattle.om_values.specs.State.{State}
-use Rattle.om_values.specs.Values.{control_in}
+use Rattle.om_state.specs.declared.control.Context.{Context}
+use Rattle.om_state.specs.declared.step.Choice.TheVariants.{Start}
+use Rattle.om_state.specs.declared.step.Label.{Label}
+use Rattle.om_state.specs.declared.step.Outcome.TheVariants.{Updates}
+use Rattle.om_state.specs.declared.step.Update.{Update}
+use Rattle.om_state.specs.declared.value.Val.{Val}
+use Rattle.om_state.specs.declared.value.Val.TheVariants.{Count}
+use Rattle.om_state.specs.Rules.{Rules, replay, step_at, control_access}
+use Rattle.om_state.specs.State.{State}
+use Rattle.om_state.specs.Values.{control_in}
 use Rattle.om_foot.specs.Names.{above}
 use Rattle.om_foot.specs.declared.object.Obj.{Obj}
 use Rattle.om_foot.specs.declared.object.Obj.TheVariants as obj

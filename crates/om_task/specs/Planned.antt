@@ -5,17 +5,17 @@ use Rattle.om_foot.specs.declared.footprint.Mode.TheVariants as mode
 use Rattle.om_foot.specs.declared.object.Obj.TheVariants as obj
 use Rattle.om_code.specs.declared.raw.Raw.{Raw}
 use Rattle.om_code.specs.Places.{instruction_at}
-use Rattle.om_values.specs.declared.control.Control as plain_controls
-use Rattle.om_values.specs.declared.step.Label.{Label}
-use Rattle.om_values.specs.declared.step.Step.{Step}
-use Rattle.om_live.specs.declared.control.Control.{Control}
-use Rattle.om_live.specs.declared.control.Stack.{Stack}
-use Rattle.om_live.specs.declared.store.Store.{Store}
-use Rattle.om_live.specs.Plain.{plain_control, plain_stack}
-use Rattle.om_live.specs.Stores.{state_of}
-use Rattle.om_steps.specs.declared.row.Answer.{Answer}
-use Rattle.om_steps.specs.declared.row.Row.{Row}
-use Rattle.om_steps.specs.Rows.{Asked}
+use Rattle.om_state.specs.declared.control.Control as plain_controls
+use Rattle.om_state.specs.declared.step.Label.{Label}
+use Rattle.om_state.specs.declared.step.Step.{Step}
+use Rattle.om_memory.specs.declared.control.Control.{Control}
+use Rattle.om_memory.specs.declared.control.Stack.{Stack}
+use Rattle.om_memory.specs.declared.memory.Memory.{Memory}
+use Rattle.om_memory.specs.Plain.{plain_control, plain_stack}
+use Rattle.om_memory.specs.Memories.{state_of}
+use Rattle.om_team_serial.specs.declared.row.Answer.{Answer}
+use Rattle.om_team_serial.specs.declared.row.Row.{Row}
+use Rattle.om_team_serial.specs.Rows.{Asked}
 use Rattle.om_team.specs.Sites.{site}
 use Rattle.om_task.specs.declared.planned.Plan.{Plan}
 use Rattle.om_task.specs.Plans.{answer_in, step_by, StandsFor}
@@ -31,7 +31,7 @@ abbrev pub choice_asked : Raw → ℕ → Label → Stack → Asked
 choice_asked program workers l stack = asked (site program workers l.worker (plain_stack stack)) l.choice
 
 -- what it names and what comes of it at a store, where the worker has this control
-abbrev pub answer_by : Raw → ℕ → Label → Store → Control → Answer
+abbrev pub answer_by : Raw → ℕ → Label → Memory → Control → Answer
 answer_by program workers l store control = answer_in program workers (state_of store) l (plain_control control)
 
 -- the step of a worker that names this besides its control, by its row and its line
@@ -47,6 +47,6 @@ abbrev pub Plans : {E : Type 0} → Result Plan E → plain_controls.Control →
 Plans result c step = IfOk result (λ plan. StandsFor plan c step)
 
 -- a function plans the step of a choice at a store, where the worker has this control
-abbrev pub PlansBy : {E : Type 0} → Result Plan E → Raw → ℕ → Label → Store → Control → Type 0
+abbrev pub PlansBy : {E : Type 0} → Result Plan E → Raw → ℕ → Label → Memory → Control → Type 0
 PlansBy result program workers l store control = Plans result (plain_control control) (step_by program l
     (plain_control control) (answer_by program workers l store control))

@@ -3,19 +3,19 @@ use Rattle.std.specs.Prelude.{◌≡◌, ℕ, List, ◌∷◌}
 use Rattle.om_foot.specs.declared.footprint.Access.{Access}
 use Rattle.om_foot.specs.declared.object.Obj.TheVariants as obj
 use Rattle.om_code.specs.declared.raw.Raw.{Raw}
-use Rattle.om_values.specs.declared.control.Control.{Control}
-use Rattle.om_values.specs.declared.step.Choice.{Choice}
-use Rattle.om_values.specs.declared.step.Label.{Label}
-use Rattle.om_values.specs.declared.step.Outcome.TheVariants as outcome
-use Rattle.om_values.specs.declared.step.Step.{Step}
-use Rattle.om_values.specs.Changes.{step_of}
-use Rattle.om_values.specs.Edits.{HaveRoom}
-use Rattle.om_values.specs.Rules.{control_access}
-use Rattle.om_values.specs.Values.{control_in}
-use Rattle.om_values.specs.State.{State, values_read}
-use Rattle.om_steps.specs.declared.row.Answer.{Answer}
-use Rattle.om_steps.specs.declared.row.Row.{Row}
-use Rattle.om_steps.specs.declared.row.Row.TheVariants.{Goes}
+use Rattle.om_state.specs.declared.control.Control.{Control}
+use Rattle.om_state.specs.declared.step.Choice.{Choice}
+use Rattle.om_state.specs.declared.step.Label.{Label}
+use Rattle.om_state.specs.declared.step.Outcome.TheVariants as outcome
+use Rattle.om_state.specs.declared.step.Step.{Step}
+use Rattle.om_state.specs.Changes.{step_of}
+use Rattle.om_state.specs.Edits.{HaveRoom}
+use Rattle.om_state.specs.Rules.{control_access}
+use Rattle.om_state.specs.Values.{control_in}
+use Rattle.om_state.specs.State.{State, values_read}
+use Rattle.om_team_serial.specs.declared.row.Answer.{Answer}
+use Rattle.om_team_serial.specs.declared.row.Row.{Row}
+use Rattle.om_team_serial.specs.declared.row.Row.TheVariants.{Goes}
 use Rattle.om_task.specs.declared.planned.Plan.{Plan}
 use Rattle.om_task.specs.declared.planned.Plan.TheVariants as plan
 use Rattle.om_task.specs.Rules.{further_in, row_in, outcome_after, line_in}

@@ -17,24 +17,24 @@ use Rattle.om_events.specs.declared.kind.Sync as syncs
 use Rattle.om_events.specs.declared.kind.Sync.TheVariants as sync
 use Rattle.om_events.specs.declared.kind.TaskStatus as statuses
 use Rattle.om_events.specs.declared.kind.TaskStatus.TheVariants as status
-use Rattle.om_values.specs.declared.control.Context.{Context}
-use Rattle.om_values.specs.declared.control.Construct.TheVariants as construct
-use Rattle.om_values.specs.declared.control.Kind.{Kind}
-use Rattle.om_values.specs.declared.control.Kind.TheVariants as kind
-use Rattle.om_values.specs.declared.control.Stack.{Stack}
-use Rattle.om_values.specs.declared.edit.Edit.TheVariants.{Go, BeginContext, EndContext, Open, Close, CountBirth}
-use Rattle.om_values.specs.declared.step.Blocked.TheVariants as blocked
-use Rattle.om_values.specs.declared.step.Update.{Update}
-use Rattle.om_values.specs.declared.step.Update.TheVariants.{Put, Keep}
-use Rattle.om_values.specs.declared.value.Ready.{Ready}
-use Rattle.om_values.specs.declared.value.Task as tasks
-use Rattle.om_values.specs.declared.value.Task.TheVariants as task
-use Rattle.om_values.specs.declared.value.Val.TheVariants as value
-use Rattle.om_values.specs.Values.{task_in, count_in}
-use Rattle.om_steps.specs.declared.row.Row.{Row}
-use Rattle.om_steps.specs.declared.row.Row.TheVariants.{Goes, Faults, Blocked, Lacks}
-use Rattle.om_steps.specs.Rows.{Asked, decided, goes, first_of, is_zero}
-use Rattle.om_steps.specs.Objects.{read, write, events, event, given_cells, own_cells, puts, deaths, innermost}
+use Rattle.om_state.specs.declared.control.Context.{Context}
+use Rattle.om_state.specs.declared.control.Construct.TheVariants as construct
+use Rattle.om_state.specs.declared.control.Kind.{Kind}
+use Rattle.om_state.specs.declared.control.Kind.TheVariants as kind
+use Rattle.om_state.specs.declared.control.Stack.{Stack}
+use Rattle.om_state.specs.declared.edit.Edit.TheVariants.{Go, BeginContext, EndContext, Open, Close, CountBirth}
+use Rattle.om_state.specs.declared.step.Blocked.TheVariants as blocked
+use Rattle.om_state.specs.declared.step.Update.{Update}
+use Rattle.om_state.specs.declared.step.Update.TheVariants.{Put, Keep}
+use Rattle.om_state.specs.declared.value.Ready.{Ready}
+use Rattle.om_state.specs.declared.value.Task as tasks
+use Rattle.om_state.specs.declared.value.Task.TheVariants as task
+use Rattle.om_state.specs.declared.value.Val.TheVariants as value
+use Rattle.om_state.specs.Values.{task_in, count_in}
+use Rattle.om_team_serial.specs.declared.row.Row.{Row}
+use Rattle.om_team_serial.specs.declared.row.Row.TheVariants.{Goes, Faults, Blocked, Lacks}
+use Rattle.om_team_serial.specs.Rows.{Asked, decided, goes, first_of, is_zero}
+use Rattle.om_team_serial.specs.Objects.{read, write, events, event, given_cells, own_cells, puts, deaths, innermost}
 use Rattle.om_task.specs.declared.task.Making.{Making}
 use Rattle.om_task.specs.declared.task_start.Starting.{Starting}
 use Rattle.om_task.specs.Tasks.{born, group_of, innermost_group, counts, additions, ready_of, task_context}

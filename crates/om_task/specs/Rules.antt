@@ -17,31 +17,31 @@ use Rattle.om_events.specs.declared.kind.Thread.TheVariants as thread
 use Rattle.om_events.specs.declared.kind.TaskFlag.TheVariants as flag
 use Rattle.om_events.specs.declared.kind.TaskStatus as statuses
 use Rattle.om_events.specs.declared.kind.TaskStatus.TheVariants as status
-use Rattle.om_values.specs.declared.control.Context.{Context}
-use Rattle.om_values.specs.declared.control.Stack.{Stack}
-use Rattle.om_values.specs.declared.control.Kind.TheVariants as kind
-use Rattle.om_values.specs.declared.control.Control as controls
-use Rattle.om_values.specs.declared.control.Control.TheVariants.{Idle, Running, Faulted}
-use Rattle.om_values.specs.declared.edit.Edit.TheVariants.{Fail}
-use Rattle.om_values.specs.declared.step.Label.{Label}
-use Rattle.om_values.specs.declared.step.Choice.{Choice}
-use Rattle.om_values.specs.declared.step.Choice.TheVariants.{Next, Start}
-use Rattle.om_values.specs.declared.step.Blocked.TheVariants as blocked
-use Rattle.om_values.specs.declared.step.Outcome.{Outcome}
-use Rattle.om_values.specs.declared.step.Outcome.TheVariants.{Updates, Blocked, Ended}
-use Rattle.om_values.specs.declared.step.Update.TheVariants.{Put}
-use Rattle.om_values.specs.declared.value.Val.{Val}
-use Rattle.om_values.specs.declared.value.Val.TheVariants as value
-use Rattle.om_values.specs.Edits.{changed}
-use Rattle.om_values.specs.Values.{default_of, control_in}
-use Rattle.om_values.specs.State.{State}
-use Rattle.om_values.specs.Rules.{Rules}
-use Rattle.om_steps.specs.declared.row.Row.{Row}
-use Rattle.om_steps.specs.declared.row.Row.TheVariants as row
-use Rattle.om_steps.specs.Rows.{Asked, decided}
-use Rattle.om_steps.specs.Objects.{homes_for}
+use Rattle.om_state.specs.declared.control.Context.{Context}
+use Rattle.om_state.specs.declared.control.Stack.{Stack}
+use Rattle.om_state.specs.declared.control.Kind.TheVariants as kind
+use Rattle.om_state.specs.declared.control.Control as controls
+use Rattle.om_state.specs.declared.control.Control.TheVariants.{Idle, Running, Faulted}
+use Rattle.om_state.specs.declared.edit.Edit.TheVariants.{Fail}
+use Rattle.om_state.specs.declared.step.Label.{Label}
+use Rattle.om_state.specs.declared.step.Choice.{Choice}
+use Rattle.om_state.specs.declared.step.Choice.TheVariants.{Next, Start}
+use Rattle.om_state.specs.declared.step.Blocked.TheVariants as blocked
+use Rattle.om_state.specs.declared.step.Outcome.{Outcome}
+use Rattle.om_state.specs.declared.step.Outcome.TheVariants.{Updates, Blocked, Ended}
+use Rattle.om_state.specs.declared.step.Update.TheVariants.{Put}
+use Rattle.om_state.specs.declared.value.Val.{Val}
+use Rattle.om_state.specs.declared.value.Val.TheVariants as value
+use Rattle.om_state.specs.Edits.{changed}
+use Rattle.om_state.specs.Values.{default_of, control_in}
+use Rattle.om_state.specs.State.{State}
+use Rattle.om_state.specs.Rules.{Rules}
+use Rattle.om_team_serial.specs.declared.row.Row.{Row}
+use Rattle.om_team_serial.specs.declared.row.Row.TheVariants as row
+use Rattle.om_team_serial.specs.Rows.{Asked, decided}
+use Rattle.om_team_serial.specs.Objects.{homes_for}
 use Rattle.om_task.specs.Rows.{start_row}
-use Rattle.om_steps.specs.Begins.{first_frame, new_context}
+use Rattle.om_team_serial.specs.Begins.{first_frame, new_context}
 use Rattle.om_team.specs.Sites.{Site, site, body_of}
 use Rattle.om_task.specs.Table.{row_of}
 

@@ -6,17 +6,17 @@ use Rattle.om_foot.specs.declared.footprint.Mode.{Mode}
 use Rattle.om_foot.specs.declared.footprint.Mode.TheVariants as mode
 use Rattle.om_foot.specs.declared.footprint.Access.{Access}
 use Rattle.om_code.specs.declared.raw.Raw.{Raw}
-use Rattle.om_values.specs.declared.step.Label.{Label}
-use Rattle.om_values.specs.declared.step.Outcome.TheVariants.{Updates}
-use Rattle.om_values.specs.declared.step.Update.{Update}
-use Rattle.om_values.specs.declared.step.Update.TheVariants.{Put}
-use Rattle.om_values.specs.declared.value.Val.{Val}
-use Rattle.om_values.specs.declared.value.Val.TheVariants as value
-use Rattle.om_values.specs.Rules.{Rules, control_access}
+use Rattle.om_state.specs.declared.step.Label.{Label}
+use Rattle.om_state.specs.declared.step.Outcome.TheVariants.{Updates}
+use Rattle.om_state.specs.declared.step.Update.{Update}
+use Rattle.om_state.specs.declared.step.Update.TheVariants.{Put}
+use Rattle.om_state.specs.declared.value.Val.{Val}
+use Rattle.om_state.specs.declared.value.Val.TheVariants as value
+use Rattle.om_state.specs.Rules.{Rules, control_access}
 use Rattle.om_task.specs.Rules.{rules_of}
 
--- the first of the next four is that of om_live Stores, by cases; the others are those of om_history Shapes once
--- more, since neither om_task nor om_history depends on the other
+-- the first of the next four is that of om_memory Stores, by cases; the others are those of om_undo_history Shapes once
+-- more, since neither om_task nor om_undo_history depends on the other
 
 -- whether an object is a worker's control
 abbrev pub is_trailed : Obj → Bool

@@ -2,8 +2,8 @@
 use Rattle.std.specs.Prelude.{if◌then◌else◌}
 use Rattle.om_code.specs.declared.instruction.Instr.{Instr}
 use Rattle.om_code.specs.declared.instruction.Instr.TheVariants as i
-use Rattle.om_steps.specs.declared.row.Row.TheVariants.{Lacks}
-use Rattle.om_steps.specs.Rows.{Asked, decided}
+use Rattle.om_team_serial.specs.declared.row.Row.TheVariants.{Lacks}
+use Rattle.om_team_serial.specs.Rows.{Asked, decided}
 use Rattle.om_task.specs.Rows.{spawn_row, task_end_row, wait_begin_row, wait_end_row, task_yield_row, group_begin_row}
 use Rattle.om_task.specs.Rows.{group_end_row}
 use Rattle.om_team.specs.Sites.{Site, context, next, slots, line, launch, body_of}

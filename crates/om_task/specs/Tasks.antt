@@ -4,14 +4,14 @@ use Rattle.om_foot.specs.Names.{name_of}
 use Rattle.om_foot.specs.declared.object.Obj.TheVariants as obj
 use Rattle.om_foot.specs.declared.footprint.Access.{Access}
 use Rattle.om_code.specs.declared.raw.Body.{Body}
-use Rattle.om_values.specs.declared.control.Context.{Context}
-use Rattle.om_values.specs.declared.control.Construct.{Construct}
-use Rattle.om_values.specs.declared.control.Kind.TheVariants as kind
-use Rattle.om_values.specs.declared.step.Update.{Update}
-use Rattle.om_values.specs.declared.step.Update.TheVariants.{Add}
-use Rattle.om_values.specs.declared.value.Ready.{Ready}
-use Rattle.om_steps.specs.Objects.{add, homes_in, group_name, group_in}
-use Rattle.om_steps.specs.Begins.{first_frame, new_context}
+use Rattle.om_state.specs.declared.control.Context.{Context}
+use Rattle.om_state.specs.declared.control.Construct.{Construct}
+use Rattle.om_state.specs.declared.control.Kind.TheVariants as kind
+use Rattle.om_state.specs.declared.step.Update.{Update}
+use Rattle.om_state.specs.declared.step.Update.TheVariants.{Add}
+use Rattle.om_state.specs.declared.value.Ready.{Ready}
+use Rattle.om_team_serial.specs.Objects.{add, homes_in, group_name, group_in}
+use Rattle.om_team_serial.specs.Begins.{first_frame, new_context}
 use Rattle.om_task.specs.declared.task.Making.{Making}
 
 -- the name of what is born next of a context's task, unless it has more than 64 numbers

@@ -2,14 +2,14 @@
 
 ghost use Rattle.std.specs.Prelude.{◌≡◌, map, option_map};
 ghost use Rattle.om_foot.specs.Names.{is_below};
-ghost use Rattle.om_live.specs.Plain.{plain_context, plain_held, plain_stack};
+ghost use Rattle.om_memory.specs.Plain.{plain_context, plain_held, plain_stack};
 ghost use Rattle.om_task.specs.Contexts.{instruction_on, admits_stack, held_at};
 ghost use Rattle.om_task.specs.Rules.{leaving, departs, admits_on, admits_all};
 
 use om_code::{Instr, Program};
 use om_events::TaskStatus;
 use om_foot::{Name, is_descendant};
-use om_live::{Context, Stack, Tape};
+use om_memory::{Context, Stack, Tape};
 
 /// The instruction at which a context stands.
 pub(crate) fn instruction(program: &Program, context: &Context) -> Option<Instr>

@@ -2,14 +2,14 @@
 
 ghost use Rattle.std.specs.Prelude.{◌≡◌, ◌++◌, ◌∷◌, [], OnOk};
 ghost use Rattle.om_foot.specs.declared.object.Obj.TheVariants as obj;
-ghost use Rattle.om_live.specs.Plain.{plain_context};
-ghost use Rattle.om_steps.specs.Objects.{add};
+ghost use Rattle.om_memory.specs.Plain.{plain_context};
+ghost use Rattle.om_team_serial.specs.Objects.{add};
 ghost use Rattle.om_task.specs.Tasks.{group_count, counts, additions};
 
 use om_foot::{Mode, Name, Names, Obj};
-use om_live::Context;
-use om_steps::names::name;
-use om_values::{Puts, Update};
+use om_memory::Context;
+use om_state::{Puts, Update};
+use om_team_serial::names::name;
 use std::alloc::AllocError;
 
 // Appends the count of a task group, where there is a group.

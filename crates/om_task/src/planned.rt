@@ -1,6 +1,6 @@
 //! Plans: what comes of a worker's choice.
 
-use om_values::{Blocked, Change};
+use om_state::{Blocked, Change};
 
 /// What comes of a worker's choice: the plan of its step.
 #[derive(Drop)]

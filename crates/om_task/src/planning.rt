@@ -3,13 +3,13 @@
 
 ghost use Rattle.std.specs.Prelude.{◌≡◌, ◌≤◌, ◌^◌, IfOk};
 ghost use Rattle.om_foot.specs.declared.object.Obj.TheVariants as obj;
-ghost use Rattle.om_values.specs.declared.control.Control as controls;
-ghost use Rattle.om_values.specs.Rules.{step_at};
-ghost use Rattle.om_values.specs.Values.{control_in};
-ghost use Rattle.om_live.specs.Plain.{plain_control, plain_stack};
-ghost use Rattle.om_live.specs.Stores.{state_of};
+ghost use Rattle.om_state.specs.declared.control.Control as controls;
+ghost use Rattle.om_state.specs.Rules.{step_at};
+ghost use Rattle.om_state.specs.Values.{control_in};
+ghost use Rattle.om_memory.specs.Plain.{plain_control, plain_stack};
+ghost use Rattle.om_memory.specs.Memories.{state_of};
 ghost use Rattle.om_team.specs.Counters.{IsWithin, ControlWithin, StateWithin};
-ghost use Rattle.om_steps.specs.Answers.{Gives, AnswersAt};
+ghost use Rattle.om_team_serial.specs.Answers.{Gives, AnswersAt};
 ghost use Rattle.om_task.specs.Planned.{next_asked, choice_asked, answer_by, row_step, Plans, PlansBy};
 ghost use Rattle.om_task.specs.Plans.{label_at, RowHasRoom, names_of, effect_at, StandsFor, PlanHasRoom};
 ghost use Rattle.om_task.specs.Rules.{is_at_scheduling_point, line_in, rules_of};
@@ -20,13 +20,13 @@ use crate::table::answer;
 use crate::task_start::{Starting, start};
 use om_code::Program;
 use om_foot::{Access, Names};
-use om_live::{Control, Stack, Store};
+use om_memory::{Control, Memory, Stack};
 use om_seq::Seq;
-use om_steps::{Answer, Row};
+use om_state::{Blocked, Change, Choice, Edit, Footprint, Label, Puts};
 use om_team::Doing;
 use om_team::answers::footprint;
 use om_team::table::instruction_of;
-use om_values::{Blocked, Change, Choice, Edit, Footprint, Label, Puts};
+use om_team_serial::{Answer, Row};
 use std::alloc::{AllocError, Global};
 
 /// A choice of one of so many workers. A choice is large, so it stays where it is.
@@ -46,7 +46,7 @@ pub struct Planning<'a> {
 fn next_answer(
     alloc: Global,
     program: &Program,
-    store: &Store,
+    store: &Memory,
     stack: &Stack,
     planning: &Planning<'_>,
 ) -> Result<Answer, AllocError>
@@ -69,7 +69,7 @@ fn next_answer(
 fn choice_answer(
     alloc: Global,
     program: &Program,
-    store: &Store,
+    store: &Memory,
     stack: &Stack,
     planning: &Planning<'_>,
 ) -> Result<Answer, AllocError>
@@ -95,7 +95,7 @@ fn choice_answer(
 fn control_answer(
     alloc: Global,
     program: &Program,
-    store: &Store,
+    store: &Memory,
     control: &Control,
     planning: &Planning<'_>,
 ) -> Result<Answer, AllocError>
@@ -158,7 +158,7 @@ pub fn is_at_scheduling_point(program: &Program, control: &Control) -> bool
 fn control_plan(
     alloc: Global,
     program: &Program,
-    store: &Store,
+    store: &Memory,
     control: &Control,
     planning: &Planning<'_>,
 ) -> Result<Plan, AllocError>
@@ -193,7 +193,7 @@ pub fn names(
         workers,
         choice: &label.choice,
     };
-    let store = &Store::new(alloc);
+    let store = &Memory::new(alloc);
     let Answer { names, row } = control_answer(alloc, program, store, control, planning)?;
     drop(row);
     footprint(label.worker, names.into_seq()?)
@@ -203,7 +203,7 @@ pub fn names(
 fn control_row(
     alloc: Global,
     program: &Program,
-    store: &Store,
+    store: &Memory,
     control: &Control,
     planning: &Planning<'_>,
 ) -> Result<Row, AllocError>
@@ -226,7 +226,7 @@ fn control_row(
 pub fn effect(
     alloc: Global,
     program: &Program,
-    store: &Store,
+    store: &Memory,
     workers: u8,
     label: &Label,
 ) -> Result<Row, AllocError>
@@ -250,7 +250,7 @@ pub fn effect(
 pub fn plan_by(
     alloc: Global,
     program: &Program,
-    store: &Store,
+    store: &Memory,
     planning: &Planning<'_>,
 ) -> Result<Plan, AllocError>
     requires { StateWithin (2 ^ 63) (state_of store.now) }
@@ -275,7 +275,7 @@ pub fn plan_by(
 pub fn plan(
     alloc: Global,
     program: &Program,
-    store: &Store,
+    store: &Memory,
     workers: u8,
     label: &Label,
 ) -> Result<Plan, AllocError>

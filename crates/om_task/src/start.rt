@@ -4,10 +4,10 @@ ghost use Rattle.std.specs.Prelude.{◌≡◌, ◌≤◌, IfOk, OnOk, [], ◌∷
 ghost use Rattle.om_code.specs.declared.frame.Cell.TheVariants as cells;
 ghost use Rattle.om_events.specs.declared.kind.Thread.TheVariants as thread;
 ghost use Rattle.om_events.specs.declared.event.Record.TheVariants as event_record;
-ghost use Rattle.om_values.specs.declared.value.Val.TheVariants as value;
-ghost use Rattle.om_live.specs.Stores.{state_of};
+ghost use Rattle.om_state.specs.declared.value.Val.TheVariants as value;
+ghost use Rattle.om_memory.specs.Memories.{state_of};
 ghost use Rattle.om_team.specs.Sites.{body_of};
-ghost use Rattle.om_steps.specs.Answers.{Gives};
+ghost use Rattle.om_team_serial.specs.Answers.{Gives};
 ghost use Rattle.om_task.specs.Contexts.{initial_context, initial_begun};
 ghost use Rattle.om_task.specs.Rules.{first_context, first_control, first_records, initial_in, start_of};
 
@@ -16,11 +16,11 @@ use om_code::raw::GlobalVariable;
 use om_code::{Body, Program};
 use om_events::{Endpoint, Record, TaskFlag, Thread};
 use om_foot::{Name, Obj, Shared};
-use om_live::Store;
+use om_memory::Memory;
 use om_seq::Seq;
-use om_steps::begin::{first_frame, in_no_group, new_context};
-use om_steps::names::homes_for;
-use om_values::{Context, Control, Frame, Kind, SharedPile, Stack, Team, Val};
+use om_state::{Context, Control, Frame, Kind, SharedPile, Stack, Team, Val};
+use om_team_serial::begin::{first_frame, in_no_group, new_context};
+use om_team_serial::names::homes_for;
 use std::alloc::{AllocError, Global};
 
 // The body of `main`.
@@ -121,7 +121,7 @@ fn initial_value(global: &GlobalVariable) -> Val
 }
 
 // Puts the control of the worker that runs the initial task. Its only error is out of memory.
-fn begin_initial(alloc: Global, store: &mut Store, program: &Program) -> Result<(), AllocError>
+fn begin_initial(alloc: Global, store: &mut Memory, program: &Program) -> Result<(), AllocError>
     ensures { OnOk result (state_of store.new ≡ initial_begun program.now (state_of store.old)) }
 {
     let control = first_control(alloc, program)?;
@@ -131,10 +131,10 @@ fn begin_initial(alloc: Global, store: &mut Store, program: &Program) -> Result<
 }
 
 // The store in which a program starts with one worker. Its only error is out of memory.
-fn with_globals(alloc: Global, program: &Program) -> Result<Store, AllocError>
+fn with_globals(alloc: Global, program: &Program) -> Result<Memory, AllocError>
     ensures { IfOk result (λ store. state_of store ≡ start_of program.now 1) }
 {
-    let mut store = Store::new(alloc);
+    let mut store = Memory::new(alloc);
     begin_initial(alloc, &mut store, program)?;
     store.create(alloc, &Obj::Events(0), initial_records(alloc)?)?;
     for (number, global) in program.globals().iter().enumerate() {
@@ -147,7 +147,7 @@ fn with_globals(alloc: Global, program: &Program) -> Result<Store, AllocError>
 
 /// The store in which a program starts with so many workers, 1 to 32. Its only error is out of
 /// memory.
-pub fn started(alloc: Global, program: &Program, workers: u8) -> Result<Store, AllocError>
+pub fn started(alloc: Global, program: &Program, workers: u8) -> Result<Memory, AllocError>
     requires { 1 ≤ workers }
     ensures { IfOk result (λ store. state_of store ≡ start_of program.now workers) }
 {

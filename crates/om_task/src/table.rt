@@ -1,24 +1,24 @@
 //! The whole table: the rows of tasks beside all others.
 
-ghost use Rattle.om_live.specs.Plain.{plain_stack};
+ghost use Rattle.om_memory.specs.Plain.{plain_stack};
 ghost use Rattle.om_team.specs.Ready.{IsReady};
-ghost use Rattle.om_steps.specs.Answers.{AnswersAt};
+ghost use Rattle.om_team_serial.specs.Answers.{AnswersAt};
 ghost use Rattle.om_team.specs.Doings.{asked_by};
 ghost use Rattle.om_task.specs.Table.{task_row, row_of};
 
 use crate::task::{Making, spawn, task_end, task_yield};
 use crate::wait::{group_begin, group_end, wait_begin, wait_end};
 use om_code::{Instr, Program};
-use om_live::{Context, Stack, Store};
-use om_steps::{Answer, Row};
+use om_memory::{Context, Memory, Stack};
 use om_team::Doing;
 use om_team::table::{is_of_tasks, launch, slots};
+use om_team_serial::{Answer, Row};
 use std::alloc::{AllocError, Global};
 
 // Tasks and task groups.
 fn task_answer(
     alloc: Global,
-    store: &Store,
+    store: &Memory,
     program: &Program,
     stack: &Stack,
     doing: Doing,
@@ -53,7 +53,7 @@ fn task_answer(
 /// Nothing changes. The only error is out of memory.
 pub(crate) fn answer(
     alloc: Global,
-    store: &Store,
+    store: &Memory,
     program: &Program,
     stack: &Stack,
     doing: Doing,

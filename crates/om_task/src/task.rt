@@ -2,8 +2,8 @@
 
 ghost use Rattle.std.specs.Prelude.{◌≡◌, ◌+◌, ◌<◌, ◌≤◌, ◌^◌, ◌++◌, OnOk, length, option_map};
 ghost use Rattle.om_foot.specs.Names.{above};
-ghost use Rattle.om_live.specs.Plain.{plain_context, plain_stack};
-ghost use Rattle.om_steps.specs.Answers.{Gives, Answers};
+ghost use Rattle.om_memory.specs.Plain.{plain_context, plain_stack};
+ghost use Rattle.om_team_serial.specs.Answers.{Gives, Answers};
 ghost use Rattle.om_task.specs.Contexts.{born_row, held_at, ending, ready_put};
 ghost use Rattle.om_task.specs.Tasks.{group_of, ready_of};
 ghost use Rattle.om_task.specs.Rows.{made_names, values_given, spawn_row, ended_names, ended_updates, task_end_row, task_yield_row};
@@ -15,15 +15,15 @@ use om_code::print::ints_on;
 use om_code::raw::Slot;
 use om_events::{Record, TaskStatus};
 use om_foot::{Mode, Name, Names, Obj, Shared};
-use om_live::{Context, Stack, Tape};
+use om_memory::{Context, Stack, Tape};
 use om_seq::Seq;
-use om_steps::names::{
+use om_state::{Edit, Kind, Puts, Ready, Task, Update, Val};
+use om_team_serial::names::{
     group_of, homes_in, name_events, name_given, name_one, operands_of, own_cells,
 };
-use om_steps::parts::{go_and, one_put};
-use om_steps::updates::{put_deaths, put_event, put_ints};
-use om_steps::{Answer, Launch, Row};
-use om_values::{Edit, Kind, Puts, Ready, Task, Update, Val};
+use om_team_serial::parts::{go_and, one_put};
+use om_team_serial::updates::{put_deaths, put_event, put_ints};
+use om_team_serial::{Answer, Launch, Row};
 use std::alloc::{AllocError, Global};
 
 /// How a task is made.

@@ -1,20 +1,20 @@
 //! The row of the choice to start a task.
 
 ghost use Rattle.std.specs.Prelude.{◌≡◌, IfOk, option_map};
-ghost use Rattle.om_live.specs.Plain.{plain_context};
-ghost use Rattle.om_steps.specs.Answers.{Gives, AnswersAt};
+ghost use Rattle.om_memory.specs.Plain.{plain_context};
+ghost use Rattle.om_team_serial.specs.Answers.{Gives, AnswersAt};
 ghost use Rattle.om_task.specs.Contexts.{beginning, task_at};
 ghost use Rattle.om_task.specs.Tasks.{task_context};
 ghost use Rattle.om_task.specs.Rows.{begun_updates, ready_for, start_row};
 
 use om_events::{Record, TaskStatus};
 use om_foot::{Mode, Name, Obj, Shared};
-use om_live::{Context, Store};
+use om_memory::{Context, Memory};
 use om_seq::Seq;
-use om_steps::begin::{Standing, first_frame, new_context};
-use om_steps::parts::{name_with_events, update_with_event};
-use om_steps::{Answer, Row};
-use om_values::{Blocked, Context as PlainContext, Edit, Kind, Puts, Ready, Task, Update, Val};
+use om_state::{Blocked, Context as PlainContext, Edit, Kind, Puts, Ready, Task, Update, Val};
+use om_team_serial::begin::{Standing, first_frame, new_context};
+use om_team_serial::parts::{name_with_events, update_with_event};
+use om_team_serial::{Answer, Row};
 use std::alloc::{AllocError, Global};
 
 /// Where a task is to be started.
@@ -97,7 +97,7 @@ fn beginning(
 }
 
 // What a task waits with, where it is ready and of this team.
-fn ready_for<'a>(store: &'a Store, name: &Name, team: &Name) -> Option<&'a Ready>
+fn ready_for<'a>(store: &'a Memory, name: &Name, team: &Name) -> Option<&'a Ready>
     ensures { option_map (λ r. r.now) result ≡ ready_for team.now (task_at store.now name.now) }
 {
     let Task::Ready(ready) = store.task(name)? else {
@@ -116,7 +116,7 @@ fn ready_for<'a>(store: &'a Store, name: &Name, team: &Name) -> Option<&'a Ready
 /// The only error is out of memory.
 pub fn start(
     alloc: Global,
-    store: &Store,
+    store: &Memory,
     starting: &Starting,
     name: &Name,
     on: &Context,

@@ -1,9 +1,9 @@
 //! The rows that wait for tasks.
 
 ghost use Rattle.std.specs.Prelude.{◌≡◌, ◌+◌, ◌<◌, ◌^◌};
-ghost use Rattle.om_live.specs.Plain.{plain_context};
-ghost use Rattle.om_steps.specs.Objects.{innermost};
-ghost use Rattle.om_steps.specs.Answers.{Gives, Answers, AnswersAt};
+ghost use Rattle.om_memory.specs.Plain.{plain_context};
+ghost use Rattle.om_team_serial.specs.Objects.{innermost};
+ghost use Rattle.om_team_serial.specs.Answers.{Gives, Answers, AnswersAt};
 ghost use Rattle.om_task.specs.Contexts.{opening};
 ghost use Rattle.om_task.specs.Tasks.{innermost_group};
 ghost use Rattle.om_task.specs.Rows.{sync_event, wait_begin_row, waited, wait_end_row, group_begin_row, closed, group_end_row};
@@ -11,13 +11,15 @@ ghost use Rattle.om_task.specs.Rows.{sync_event, wait_begin_row, waited, wait_en
 use om_code::frame::Fault;
 use om_events::{Endpoint, Record, Sync};
 use om_foot::{Mode, Name, Obj, Shared};
-use om_live::{Context, Store};
+use om_memory::{Context, Memory};
 use om_seq::Seq;
-use om_steps::counts::is_zero;
-use om_steps::names::innermost;
-use om_steps::parts::{go_and, go_and_then, go_on, name_with_events, recorded, update_with_event};
-use om_steps::{Answer, Row};
-use om_values::{Blocked, Construct, Edit, Update};
+use om_state::{Blocked, Construct, Edit, Update};
+use om_team_serial::counts::is_zero;
+use om_team_serial::names::innermost;
+use om_team_serial::parts::{
+    go_and, go_and_then, go_on, name_with_events, recorded, update_with_event,
+};
+use om_team_serial::{Answer, Row};
 use std::alloc::{AllocError, Global};
 
 // What a context's task records where it begins and ends to wait.
@@ -65,7 +67,7 @@ fn waited(alloc: Global, to: u32, context: &Context, is_over: bool) -> Result<Ro
 /// The only error is out of memory.
 pub fn wait_end(
     alloc: Global,
-    store: &Store,
+    store: &Memory,
     worker: u8,
     to: u32,
     context: &Context,
@@ -136,7 +138,7 @@ fn innermost_group(context: &Context) -> Option<Name>
 /// The only error is out of memory.
 pub fn group_end(
     alloc: Global,
-    store: &Store,
+    store: &Memory,
     worker: u8,
     to: u32,
     context: &Context,

@@ -3,15 +3,15 @@ use Rattle.std.proofs.Common.{◌≡◌, refl, sym, ◌∙◌, ap, ℕ, ℤ, zer
 use Rattle.std.proofs.Common.{if◌then◌else◌, Some, append_assoc}
 use Rattle.om_foot.specs.declared.object.Obj.TheVariants as obj
 use Rattle.om_foot.specs.declared.footprint.Access.{Access}
-use Rattle.om_values.specs.declared.control.Control.TheVariants as control
-use Rattle.om_values.specs.declared.control.Frame.{Frame}
-use Rattle.om_values.specs.declared.control.Team.{Team}
-use Rattle.om_values.specs.declared.step.Update.{Update}
-use Rattle.om_values.specs.declared.step.Update.TheVariants.{Put}
-use Rattle.om_values.specs.declared.value.Val.TheVariants as value
-use Rattle.om_values.specs.State.{State, values_read}
-use Rattle.om_values.specs.Values.{control_in, is_idle}
-use Rattle.om_steps.specs.Objects.{write, given_cells, puts}
+use Rattle.om_state.specs.declared.control.Control.TheVariants as control
+use Rattle.om_state.specs.declared.control.Frame.{Frame}
+use Rattle.om_state.specs.declared.control.Team.{Team}
+use Rattle.om_state.specs.declared.step.Update.{Update}
+use Rattle.om_state.specs.declared.step.Update.TheVariants.{Put}
+use Rattle.om_state.specs.declared.value.Val.TheVariants as value
+use Rattle.om_state.specs.State.{State, values_read}
+use Rattle.om_state.specs.Values.{control_in, is_idle}
+use Rattle.om_team_serial.specs.Objects.{write, given_cells, puts}
 use Rattle.om_team.specs.Teams.{workers_from, first_busy, busy_in, member, member_cells, member_controls, member_puts}
 
 one_less : (n size : ℕ) → n < size → size - n ≡ suc (size - (n + 1))

@@ -9,7 +9,7 @@ use Rattle.om_code.specs.declared.raw.Line.{Line}
 use Rattle.om_code.specs.declared.raw.Raw.{Raw}
 use Rattle.om_code.specs.Places.{instruction_at, slots_of}
 use Rattle.om_code.specs.Validity.{IsValid, IsValidBody, NamesKnown}
-use Rattle.om_values.specs.declared.control.Stack.{Stack}
+use Rattle.om_state.specs.declared.control.Stack.{Stack}
 use Rattle.om_team.specs.Counters.{IsWithin}
 use Rattle.om_team.specs.Ready.{IsReady}
 

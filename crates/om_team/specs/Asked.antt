@@ -6,19 +6,19 @@ use Rattle.om_foot.specs.declared.object.Obj.TheVariants as obj
 use Rattle.om_code.specs.declared.instruction.Instr.{Instr}
 use Rattle.om_code.specs.declared.raw.Raw.{Raw}
 use Rattle.om_code.specs.Places.{instruction_at}
-use Rattle.om_values.specs.declared.control.Control as controls
-use Rattle.om_values.specs.declared.control.Control.TheVariants.{Idle, Running, Faulted, Ended}
-use Rattle.om_values.specs.declared.step.Label.{Label}
-use Rattle.om_values.specs.declared.step.Choice.{Choice}
-use Rattle.om_values.specs.declared.step.Choice.TheVariants.{Next, Start}
-use Rattle.om_values.specs.declared.step.Blocked.TheVariants as blocked
-use Rattle.om_values.specs.Rules.{control_access}
-use Rattle.om_values.specs.State.{State}
-use Rattle.om_values.specs.Values.{control_in}
-use Rattle.om_steps.specs.declared.row.Answer.{Answer}
-use Rattle.om_steps.specs.declared.row.Row.{Row}
-use Rattle.om_steps.specs.declared.row.Row.TheVariants.{Blocked, Lacks}
-use Rattle.om_steps.specs.Rows.{Asked, answered, decided}
+use Rattle.om_state.specs.declared.control.Control as controls
+use Rattle.om_state.specs.declared.control.Control.TheVariants.{Idle, Running, Faulted, Ended}
+use Rattle.om_state.specs.declared.step.Label.{Label}
+use Rattle.om_state.specs.declared.step.Choice.{Choice}
+use Rattle.om_state.specs.declared.step.Choice.TheVariants.{Next, Start}
+use Rattle.om_state.specs.declared.step.Blocked.TheVariants as blocked
+use Rattle.om_state.specs.Rules.{control_access}
+use Rattle.om_state.specs.State.{State}
+use Rattle.om_state.specs.Values.{control_in}
+use Rattle.om_team_serial.specs.declared.row.Answer.{Answer}
+use Rattle.om_team_serial.specs.declared.row.Row.{Row}
+use Rattle.om_team_serial.specs.declared.row.Row.TheVariants.{Blocked, Lacks}
+use Rattle.om_team_serial.specs.Rows.{Asked, answered, decided}
 use Rattle.om_team.specs.Sites.{Site, site}
 use Rattle.om_team.specs.Table.{is_of_tasks, row_of}
 

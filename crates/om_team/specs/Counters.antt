@@ -1,14 +1,14 @@
 -- How high the numbers are that contexts count up.
 use Rattle.std.specs.Prelude.{ℕ, ◌+◌, ◌≤◌, List, [], ◌∷◌}
 use Rattle.om_foot.specs.declared.object.Obj.{Obj}
-use Rattle.om_values.specs.declared.control.Context.{Context}
-use Rattle.om_values.specs.declared.control.Control as controls
-use Rattle.om_values.specs.declared.control.Control.TheVariants.{Idle, Running, Faulted, Ended}
-use Rattle.om_values.specs.declared.value.Task as tasks
-use Rattle.om_values.specs.declared.value.Task.TheVariants as task
-use Rattle.om_values.specs.declared.value.Val.{Val}
-use Rattle.om_values.specs.declared.value.Val.TheVariants as value
-use Rattle.om_values.specs.State.{State}
+use Rattle.om_state.specs.declared.control.Context.{Context}
+use Rattle.om_state.specs.declared.control.Control as controls
+use Rattle.om_state.specs.declared.control.Control.TheVariants.{Idle, Running, Faulted, Ended}
+use Rattle.om_state.specs.declared.value.Task as tasks
+use Rattle.om_state.specs.declared.value.Task.TheVariants as task
+use Rattle.om_state.specs.declared.value.Val.{Val}
+use Rattle.om_state.specs.declared.value.Val.TheVariants as value
+use Rattle.om_state.specs.State.{State}
 
 -- a context has counted no more than n of each; it began with one frame
 pub record IsWithin (n : ℕ) (c : Context) : Type 0 where

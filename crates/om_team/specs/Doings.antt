@@ -1,9 +1,9 @@
 -- What a worker asks that carries out an instruction.
 use Rattle.om_code.specs.declared.instruction.Instr.{Instr}
 use Rattle.om_code.specs.declared.raw.Raw.{Raw}
-use Rattle.om_live.specs.declared.control.Stack.{Stack}
-use Rattle.om_live.specs.Plain.{plain_stack}
-use Rattle.om_steps.specs.Rows.{Asked}
+use Rattle.om_memory.specs.declared.control.Stack.{Stack}
+use Rattle.om_memory.specs.Plain.{plain_stack}
+use Rattle.om_team_serial.specs.Rows.{Asked}
 use Rattle.om_team.specs.declared.doing.Doing.{Doing}
 use Rattle.om_team.specs.Sites.{Site, site}
 

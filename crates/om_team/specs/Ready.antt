@@ -4,7 +4,7 @@ use Rattle.om_code.specs.declared.instruction.Instr.{Instr}
 use Rattle.om_code.specs.declared.raw.Raw.{Raw}
 use Rattle.om_code.specs.Places.{slots_of}
 use Rattle.om_code.specs.Validity.{NamesKnown}
-use Rattle.om_values.specs.declared.control.Stack.{Stack}
+use Rattle.om_state.specs.declared.control.Stack.{Stack}
 
 -- what the instruction names exists, and the numbers that it counts up have room
 pub record IsReady (program : Raw) (stack : Stack) (instr : Instr) : Type 0 where

@@ -5,9 +5,9 @@ use Rattle.om_code.specs.declared.raw.Body.{Body}
 use Rattle.om_code.specs.declared.raw.Slot.{Slot}
 use Rattle.om_code.specs.declared.frame.Operand.{Operand}
 use Rattle.om_code.specs.Places.{slots_of, line_at, no_body}
-use Rattle.om_values.specs.declared.control.Stack.{Stack}
-use Rattle.om_values.specs.declared.control.Context.{Context}
-use Rattle.om_steps.specs.declared.row.Launch.{Launch}
+use Rattle.om_state.specs.declared.control.Stack.{Stack}
+use Rattle.om_state.specs.declared.control.Context.{Context}
+use Rattle.om_team_serial.specs.declared.row.Launch.{Launch}
 
 -- a worker of so many, which runs a stack of a program
 pub record Site : Type 0 where

@@ -5,15 +5,15 @@ use Rattle.om_code.specs.declared.instruction.Instr.{Instr}
 use Rattle.om_code.specs.declared.instruction.Instr.TheVariants as i
 use Rattle.om_code.specs.Frames.{int_at}
 use Rattle.om_code.specs.Printing.{ints_on}
-use Rattle.om_steps.specs.declared.row.Row.TheVariants.{Lacks}
-use Rattle.om_steps.specs.Rows.{Asked, decided}
-use Rattle.om_steps.specs.Objects.{innermost}
-use Rattle.om_steps.specs.SerialRows.{serial_row, number_row, call_row, return_row, reduce_row}
+use Rattle.om_team_serial.specs.declared.row.Row.TheVariants.{Lacks}
+use Rattle.om_team_serial.specs.Rows.{Asked, decided}
+use Rattle.om_team_serial.specs.Objects.{innermost}
+use Rattle.om_team_serial.specs.SerialRows.{serial_row, number_row, call_row, return_row, reduce_row}
 use Rattle.om_team.specs.Rows.{fork_row, begin_row, finish_row}
-use Rattle.om_share.specs.Rows.{arrive_row, depart_row, leave_row}
-use Rattle.om_share.specs.Rows.{share_in, loop_row, sections_row, grab_row, iterate_row, pick_row, single_row}
-use Rattle.om_share.specs.Rows.{end_worksharing_row, masked_row, end_masked_row, ask_critical_row, enter_critical_row}
-use Rattle.om_share.specs.Rows.{leave_critical_row}
+use Rattle.om_team_worksharing.specs.Rows.{arrive_row, depart_row, leave_row}
+use Rattle.om_team_worksharing.specs.Rows.{share_in, loop_row, sections_row, grab_row, iterate_row, pick_row, single_row}
+use Rattle.om_team_worksharing.specs.Rows.{end_worksharing_row, masked_row, end_masked_row, ask_critical_row, enter_critical_row}
+use Rattle.om_team_worksharing.specs.Rows.{leave_critical_row}
 use Rattle.om_team.specs.Sites.{Site, context, operands, next, slots, launch, body_of, lock_of, targets_of}
 
 -- whether an instruction is one of tasks and task groups, whose rows stand elsewhere

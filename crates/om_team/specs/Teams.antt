@@ -2,19 +2,19 @@
 use Rattle.std.specs.Prelude.{ℕ, zero, suc, ◌+◌, ℤ, nat_lt, if◌then◌else◌, min, Option, None, Some, List, [], ◌∷◌, ◌++◌}
 use Rattle.om_foot.specs.declared.object.Obj.TheVariants as obj
 use Rattle.om_foot.specs.declared.footprint.Access.{Access}
-use Rattle.om_values.specs.declared.control.Frame.{Frame}
-use Rattle.om_values.specs.declared.control.Team.{Team}
-use Rattle.om_values.specs.declared.control.Context.{Context}
-use Rattle.om_values.specs.declared.control.Kind.TheVariants as kind
-use Rattle.om_values.specs.declared.control.Control.TheVariants as control
-use Rattle.om_values.specs.declared.step.Update.{Update}
-use Rattle.om_values.specs.declared.step.Update.TheVariants.{Put}
-use Rattle.om_values.specs.declared.value.Val.{Val}
-use Rattle.om_values.specs.declared.value.Val.TheVariants as value
-use Rattle.om_values.specs.State.{State}
-use Rattle.om_values.specs.Values.{control_in, is_idle}
-use Rattle.om_steps.specs.Objects.{write, given_cells, puts}
-use Rattle.om_steps.specs.Begins.{new_context}
+use Rattle.om_state.specs.declared.control.Frame.{Frame}
+use Rattle.om_state.specs.declared.control.Team.{Team}
+use Rattle.om_state.specs.declared.control.Context.{Context}
+use Rattle.om_state.specs.declared.control.Kind.TheVariants as kind
+use Rattle.om_state.specs.declared.control.Control.TheVariants as control
+use Rattle.om_state.specs.declared.step.Update.{Update}
+use Rattle.om_state.specs.declared.step.Update.TheVariants.{Put}
+use Rattle.om_state.specs.declared.value.Val.{Val}
+use Rattle.om_state.specs.declared.value.Val.TheVariants as value
+use Rattle.om_state.specs.State.{State}
+use Rattle.om_state.specs.Values.{control_in, is_idle}
+use Rattle.om_team_serial.specs.Objects.{write, given_cells, puts}
+use Rattle.om_team_serial.specs.Begins.{new_context}
 
 -- a member of a team, at the start of its region's body
 abbrev pub member : Team → Frame → Context

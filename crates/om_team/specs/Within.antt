@@ -1,11 +1,11 @@
 -- Matter of proofs, for om_task: a control that is read of a state with low counters has low counters.
 use Rattle.std.proofs.Common.{◌≡◌, sym, subst, ℕ}
 use Rattle.om_foot.specs.declared.object.Obj.TheVariants as obj
-use Rattle.om_values.specs.declared.control.Control as controls
-use Rattle.om_values.specs.declared.value.Val.{Val}
-use Rattle.om_values.specs.declared.value.Val.TheVariants as value
-use Rattle.om_values.specs.State.{State}
-use Rattle.om_values.specs.Values.{control_in}
+use Rattle.om_state.specs.declared.control.Control as controls
+use Rattle.om_state.specs.declared.value.Val.{Val}
+use Rattle.om_state.specs.declared.value.Val.TheVariants as value
+use Rattle.om_state.specs.State.{State}
+use Rattle.om_state.specs.Values.{control_in}
 use Rattle.om_team.specs.Counters.{ControlWithin, ValueWithin, StateWithin}
 
 control_read : (n : ℕ) (v : Val) → ValueWithin n v → ControlWithin n (control_in v)

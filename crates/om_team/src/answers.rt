@@ -3,9 +3,9 @@
 
 ghost use Rattle.std.specs.Prelude.{◌∷◌, ◌≤◌, ◌^◌, Some};
 ghost use Rattle.om_code.specs.Places.{instruction_at};
-ghost use Rattle.om_live.specs.Plain.{plain_control, plain_stack};
-ghost use Rattle.om_live.specs.Stores.{state_of};
-ghost use Rattle.om_steps.specs.Answers.{Gives};
+ghost use Rattle.om_memory.specs.Plain.{plain_control, plain_stack};
+ghost use Rattle.om_memory.specs.Memories.{state_of};
+ghost use Rattle.om_team_serial.specs.Answers.{Gives};
 ghost use Rattle.om_team.specs.Asked.{next_asked, choice_asked, asked_in, answer_in, names_in, row_in, effect_at};
 ghost use Rattle.om_team.specs.Counters.{IsWithin, ControlWithin, StateWithin};
 ghost use Rattle.om_team.specs.Sites.{site};
@@ -14,10 +14,10 @@ use crate::doing::Doing;
 use crate::table::{answer, instruction_of, is_of_tasks};
 use om_code::Program;
 use om_foot::{Access, Mode, Obj};
-use om_live::{Control, Stack, Store};
+use om_memory::{Control, Memory, Stack};
 use om_seq::Seq;
-use om_steps::{Answer, Row};
-use om_values::{Blocked, Choice, Label};
+use om_state::{Blocked, Choice, Label};
+use om_team_serial::{Answer, Row};
 use std::alloc::{AllocError, Global};
 
 // A choice of one of so many workers.
@@ -49,7 +49,7 @@ pub fn footprint(worker: u8, names: Seq<Access>) -> Result<Seq<Access>, AllocErr
 fn next_answer(
     alloc: Global,
     program: &Program,
-    store: &Store,
+    store: &Memory,
     stack: &Stack,
     planning: &Planning<'_>,
 ) -> Result<Option<Answer>, AllocError>
@@ -77,7 +77,7 @@ fn next_answer(
 fn choice_answer(
     alloc: Global,
     program: &Program,
-    store: &Store,
+    store: &Memory,
     stack: &Stack,
     planning: &Planning<'_>,
 ) -> Result<Option<Answer>, AllocError>
@@ -96,7 +96,7 @@ fn choice_answer(
 fn control_answer(
     alloc: Global,
     program: &Program,
-    store: &Store,
+    store: &Memory,
     control: &Control,
     planning: &Planning<'_>,
 ) -> Result<Option<Answer>, AllocError>
@@ -130,7 +130,7 @@ pub fn names(
         (plain_control control.now))) }
 {
     let planning = &Planning { label, workers };
-    let store = &Store::new(alloc);
+    let store = &Memory::new(alloc);
     let Some(answer) = control_answer(alloc, program, store, control, planning)? else {
         return Ok(None);
     };
@@ -143,7 +143,7 @@ pub fn names(
 fn control_row(
     alloc: Global,
     program: &Program,
-    store: &Store,
+    store: &Memory,
     control: &Control,
     planning: &Planning<'_>,
 ) -> Result<Option<Row>, AllocError>
@@ -169,7 +169,7 @@ fn control_row(
 pub fn effect(
     alloc: Global,
     program: &Program,
-    store: &Store,
+    store: &Memory,
     workers: u8,
     label: &Label,
 ) -> Result<Option<Row>, AllocError>

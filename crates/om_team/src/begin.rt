@@ -1,15 +1,15 @@
 //! BEGIN: a member's task begins.
 
 ghost use Rattle.std.specs.Prelude.{[]};
-ghost use Rattle.om_live.specs.Plain.{plain_context};
-ghost use Rattle.om_steps.specs.Answers.{Gives};
+ghost use Rattle.om_memory.specs.Plain.{plain_context};
+ghost use Rattle.om_team_serial.specs.Answers.{Gives};
 ghost use Rattle.om_team.specs.Rows.{begin_row};
 
 use om_events::Record;
 use om_events::kind::{Endpoint, TaskFlag};
-use om_live::Context;
-use om_steps::parts::{go_on, recorded};
-use om_steps::{Answer, At};
+use om_memory::Context;
+use om_team_serial::parts::{go_on, recorded};
+use om_team_serial::{Answer, At};
 use std::alloc::{AllocError, Global};
 
 /// BEGIN: the begin of a member's task is recorded. The only error is out of memory.

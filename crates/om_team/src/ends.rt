@@ -1,20 +1,20 @@
 //! FIN: the end of the program.
 
 ghost use Rattle.std.specs.Prelude.{◌≡◌};
-ghost use Rattle.om_live.specs.Plain.{plain_context};
-ghost use Rattle.om_steps.specs.Answers.{Gives, AnswersAt};
+ghost use Rattle.om_memory.specs.Plain.{plain_context};
+ghost use Rattle.om_team_serial.specs.Answers.{Gives, AnswersAt};
 ghost use Rattle.om_team.specs.Rows.{value_of, finished, finish_row};
 
 use om_code::serial::int_at;
 use om_events::{Endpoint, Record, TaskFlag};
 use om_foot::{Mode, Name, Obj, Shared};
-use om_live::{Context, Store};
+use om_memory::{Context, Memory};
 use om_seq::Seq;
-use om_steps::counts::is_zero;
-use om_steps::names::operands_of;
-use om_steps::parts::{name_with_events, update_with_event};
-use om_steps::{Answer, Row};
-use om_values::{Blocked, Edit, Kind, Update};
+use om_state::{Blocked, Edit, Kind, Update};
+use om_team_serial::counts::is_zero;
+use om_team_serial::names::operands_of;
+use om_team_serial::parts::{name_with_events, update_with_event};
+use om_team_serial::{Answer, Row};
 use std::alloc::{AllocError, Global};
 
 // What comes of an initial task that is at its end, with this value.
@@ -53,7 +53,7 @@ fn value_of(context: &Context, has_value: bool) -> Option<i32>
 /// The only error is out of memory.
 pub fn finish(
     alloc: Global,
-    store: &Store,
+    store: &Memory,
     worker: u8,
     context: &Context,
     has_value: bool,

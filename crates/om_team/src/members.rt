@@ -1,19 +1,19 @@
 //! The members of a team: the workers that they need, and what they begin with.
 
 ghost use Rattle.std.specs.Prelude.{◌≡◌, ◌++◌, ◌∷◌, [], ◌-◌, ◌<◌, ◌≤◌, OnOk, length};
-ghost use Rattle.om_live.specs.Stores.{state_of};
-ghost use Rattle.om_values.specs.declared.value.Val.TheVariants as value;
-ghost use Rattle.om_steps.specs.Answers.{Gives};
+ghost use Rattle.om_memory.specs.Memories.{state_of};
+ghost use Rattle.om_state.specs.declared.value.Val.TheVariants as value;
+ghost use Rattle.om_team_serial.specs.Answers.{Gives};
 ghost use Rattle.om_team.specs.Teams.{member, workers_from, busy_in, member_controls, member_cells, member_puts};
 
 use om_foot::{Mode, Name, Names, Obj};
-use om_live::Store;
-use om_steps::begin::{in_no_group, new_context};
-use om_steps::names::{name, name_given};
-use om_steps::updates::put_ints;
-use om_values::{
+use om_memory::Memory;
+use om_state::{
     Context, Control, Frame, Kind, Puts, SharedControl, SharedPile, Stack, Team, Update, Val,
 };
+use om_team_serial::begin::{in_no_group, new_context};
+use om_team_serial::names::{name, name_given};
+use om_team_serial::updates::put_ints;
 use std::alloc::{AllocError, Global};
 
 // The name of the task of a team's member.
@@ -38,7 +38,7 @@ pub(crate) fn name_workers(names: &mut Names, size: u8) -> Result<(), AllocError
 }
 
 /// The first of the workers that a team of this size needs that isn't idle.
-pub(crate) fn busy(store: &Store, size: u8) -> Option<u8>
+pub(crate) fn busy(store: &Memory, size: u8) -> Option<u8>
     ensures { result ≡ busy_in (state_of store.now) 1 (size - 1) }
 {
     for worker in 1..size {

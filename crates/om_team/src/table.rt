@@ -1,10 +1,10 @@
 //! The table of all instructions but those of tasks: each with its row.
 
 ghost use Rattle.std.specs.Prelude.{◌≡◌, ◌<◌, ◌+◌, ◌^◌, IfSome};
-ghost use Rattle.om_live.specs.Plain.{plain_stack};
+ghost use Rattle.om_memory.specs.Plain.{plain_stack};
 ghost use Rattle.om_code.specs.Places.{instruction_at, slots_of};
-ghost use Rattle.om_steps.specs.SerialRows.{serial_row};
-ghost use Rattle.om_steps.specs.Answers.{AnswersAt};
+ghost use Rattle.om_team_serial.specs.SerialRows.{serial_row};
+ghost use Rattle.om_team_serial.specs.Answers.{AnswersAt};
 ghost use Rattle.om_team.specs.Counters.{IsWithin};
 ghost use Rattle.om_team.specs.Ready.{IsReady};
 ghost use Rattle.om_team.specs.Doings.{asked_by};
@@ -20,13 +20,13 @@ use om_code::print::ints_on;
 use om_code::raw::Slot;
 use om_code::serial::int_at;
 use om_code::{Instr, Program};
-use om_live::{Context, Stack, Store};
-use om_share::{
+use om_memory::{Context, Memory, Stack};
+use om_team_serial::names::operands_of;
+use om_team_serial::{Answer, At, Combining, Launch, Row};
+use om_team_worksharing::{
     Bounds, Branch, arrive, ask_critical, depart, end_masked, end_worksharing, enter_critical,
     grab, iterate, leave, leave_critical, masked, open_loop, open_sections, pick, single,
 };
-use om_steps::names::operands_of;
-use om_steps::{Answer, At, Combining, Launch, Row};
 use std::alloc::{AllocError, Global};
 
 /// The instruction at which a stack stands, with what its row relies on; `None` where there is none.
@@ -86,7 +86,7 @@ pub fn slots<'a>(program: &'a Program, stack: &Stack) -> &'a [Slot]
 // Calls, returns, reductions and the numbers of threads.
 fn frame_answer(
     alloc: Global,
-    store: &Store,
+    store: &Memory,
     program: &Program,
     stack: &Stack,
     doing: Doing,
@@ -97,20 +97,20 @@ fn frame_answer(
     let context: &Context = &stack.top;
     let operands = &operands_of(context);
     match doing.instruction {
-        Instr::ThreadNumber => om_steps::number(alloc, context, context.team.get().number),
-        Instr::TeamSize => om_steps::number(alloc, context, context.team.get().size),
+        Instr::ThreadNumber => om_team_serial::number(alloc, context, context.team.get().number),
+        Instr::TeamSize => om_team_serial::number(alloc, context, context.team.get().size),
         Instr::Call { body, values } => {
             let ints = ints_on(alloc, usize::from(values), operands)?;
             let launch = launch(stack, u32::from(values), body);
-            om_steps::call(alloc, launch, program.body(body), context, ints)
+            om_team_serial::call(alloc, launch, program.body(body), context, ints)
         }
         Instr::Return => {
             let value = int_at(operands, 0).map(Operand::Int);
-            om_steps::give_back(alloc, context, slots(program, stack), value)
+            om_team_serial::give_back(alloc, context, slots(program, stack), value)
         }
         Instr::ReturnNothing => {
             let value = Some(Operand::NoValue);
-            om_steps::give_back(alloc, context, slots(program, stack), value)
+            om_team_serial::give_back(alloc, context, slots(program, stack), value)
         }
         Instr::Reduce {
             reduction,
@@ -123,7 +123,7 @@ fn frame_answer(
                 copy,
                 original,
             };
-            om_steps::reduce(alloc, store, context, combining)
+            om_team_serial::reduce(alloc, store, context, combining)
         }
         _ => Ok(Answer::decided(alloc, Row::Lacks)),
     }
@@ -132,7 +132,7 @@ fn frame_answer(
 // The instructions of the frame machine that go on in their frame.
 fn serial_answer(
     alloc: Global,
-    store: &Store,
+    store: &Memory,
     program: &Program,
     stack: &Stack,
     doing: Doing,
@@ -142,13 +142,13 @@ fn serial_answer(
         doing.instruction) store.now }
 {
     let raw = program.raw();
-    om_steps::serial(alloc, raw, store, &stack.top, doing.instruction)
+    om_team_serial::serial(alloc, raw, store, &stack.top, doing.instruction)
 }
 
 // Parallel regions and barriers, and the end of the program.
 fn team_answer(
     alloc: Global,
-    store: &Store,
+    store: &Memory,
     program: &Program,
     stack: &Stack,
     doing: Doing,
@@ -210,7 +210,7 @@ fn lock_name(program: &Program, lock: u32) -> &[u8]
 // Worksharing regions.
 fn share_answer(
     alloc: Global,
-    store: &Store,
+    store: &Memory,
     program: &Program,
     stack: &Stack,
     doing: Doing,
@@ -248,7 +248,7 @@ fn share_answer(
 // Masked and critical regions.
 fn region_answer(
     alloc: Global,
-    store: &Store,
+    store: &Memory,
     program: &Program,
     stack: &Stack,
     doing: Doing,
@@ -283,7 +283,7 @@ fn region_answer(
 /// Nothing changes. The only error is out of memory.
 pub fn answer(
     alloc: Global,
-    store: &Store,
+    store: &Memory,
     program: &Program,
     stack: &Stack,
     doing: Doing,

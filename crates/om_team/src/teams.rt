@@ -1,13 +1,13 @@
 //! FORK: a team is made.
 
 ghost use Rattle.std.specs.Prelude.{◌≡◌, ◌++◌, ◌∷◌, [], ◌+◌, ◌-◌, ◌<◌, ◌≤◌, ◌^◌, IfOk, IfSome, length, None};
-ghost use Rattle.om_live.specs.Plain.{plain_context};
+ghost use Rattle.om_memory.specs.Plain.{plain_context};
 ghost use Rattle.om_code.specs.Frames.{int_at};
 ghost use Rattle.om_code.specs.Printing.{ints_on};
-ghost use Rattle.om_steps.specs.Objects.{events, homes_in};
+ghost use Rattle.om_team_serial.specs.Objects.{events, homes_in};
 ghost use Rattle.om_team.specs.Teams.{member, workers_from, member_cells, size_of, level_of};
-ghost use Rattle.om_steps.specs.Begins.{first_frame};
-ghost use Rattle.om_steps.specs.Answers.{Gives, AnswersAt};
+ghost use Rattle.om_team_serial.specs.Begins.{first_frame};
+ghost use Rattle.om_team_serial.specs.Answers.{Gives, AnswersAt};
 ghost use Rattle.om_team.specs.Rows.{team_updates, forked, team_row, team_of, named_row, sized_row, fork_row};
 
 use crate::members::{busy, member, name_members, name_workers, put_given, put_members};
@@ -17,14 +17,14 @@ use om_code::print::ints_on;
 use om_code::serial::int_at;
 use om_events::Record;
 use om_foot::{Name, Names, Shared};
-use om_live::{Context, Store};
+use om_memory::{Context, Memory};
 use om_seq::Seq;
-use om_steps::begin::first_frame;
-use om_steps::names::{homes_in, name_events, operands_of};
-use om_steps::parts::go_and_then;
-use om_steps::updates::put_event;
-use om_steps::{Answer, Launch, Row};
-use om_values::{Blocked, Edit, Frame, Puts, Team, Update};
+use om_state::{Blocked, Edit, Frame, Puts, Team, Update};
+use om_team_serial::begin::first_frame;
+use om_team_serial::names::{homes_in, name_events, operands_of};
+use om_team_serial::parts::go_and_then;
+use om_team_serial::updates::put_event;
+use om_team_serial::{Answer, Launch, Row};
 use std::alloc::{AllocError, Global};
 
 /// A worker that carries out a FORK.
@@ -189,7 +189,7 @@ fn forked(
 // The answer of a FORK that makes this team.
 fn team_answer(
     alloc: Global,
-    store: &Store,
+    store: &Memory,
     forking: &Forking<'_>,
     team: &Team,
     values: &[i32],
@@ -209,7 +209,7 @@ fn team_answer(
 // The answer of a FORK with a size that can be asked for.
 fn named(
     alloc: Global,
-    store: &Store,
+    store: &Memory,
     forking: &Forking<'_>,
     asked: Option<u32>,
     values: &[i32],
@@ -230,7 +230,7 @@ fn named(
 // The answer of a FORK with the number of threads that is asked for, where that is an int.
 fn sized_answer(
     alloc: Global,
-    store: &Store,
+    store: &Memory,
     forking: &Forking<'_>,
     size: Option<i32>,
     values: &[i32],
@@ -257,7 +257,7 @@ fn sized_answer(
 /// only error is out of memory.
 pub fn fork(
     alloc: Global,
-    store: &Store,
+    store: &Memory,
     forking: &Forking<'_>,
     sized: bool,
     values: u16,

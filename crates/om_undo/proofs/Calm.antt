@@ -6,14 +6,14 @@ use Rattle.om_foot.specs.declared.footprint.Mode.{Mode}
 use Rattle.om_foot.specs.declared.footprint.Mode.TheVariants as mode
 use Rattle.om_foot.specs.declared.footprint.Access.{Access}
 use Rattle.om_foot.specs.Footprint.{obj_eq}
-use Rattle.om_values.specs.declared.step.Update.{Update}
-use Rattle.om_values.specs.declared.step.Update.TheVariants as update
-use Rattle.om_values.specs.declared.value.Val.{Val}
-use Rattle.om_values.specs.declared.value.Val.TheVariants as value
-use Rattle.om_values.specs.declared.value.Val.TheVariants.{Count}
-use Rattle.om_values.specs.Rules.{Rules, control_access}
+use Rattle.om_state.specs.declared.step.Update.{Update}
+use Rattle.om_state.specs.declared.step.Update.TheVariants as update
+use Rattle.om_state.specs.declared.value.Val.{Val}
+use Rattle.om_state.specs.declared.value.Val.TheVariants as value
+use Rattle.om_state.specs.declared.value.Val.TheVariants.{Count}
+use Rattle.om_state.specs.Rules.{Rules, control_access}
 use Rattle.om_task.specs.Laws.{IsCalm}
-use Rattle.om_history.specs.Bounds.{IsSmall, is_addition, adds_to, IsSteadyAt, AreSteady, IsSteady}
+use Rattle.om_undo_history.specs.Bounds.{IsSmall, is_addition, adds_to, IsSteadyAt, AreSteady, IsSteady}
 use Rattle.om_task.specs.Steps.{is_add, adds_at, AddOnce, IsNoCount, IsModest, AreModest}
 
 none_further : (here same more rest added : Bool) → (here ≡ true → added ≡ true) → cond added (cond same true more)

@@ -3,28 +3,28 @@ use Rattle.std.proofs.Common.{◌≡◌, ap, sym, ◌∙◌, subst, ◌+◌, ℕ
 use Rattle.std.specs.Prelude.{unwrap_or, Result, Ok, Err, IfOk, OnOk, OnErr}
 use Rattle.std.specs.Global.{Box}
 use Rattle.om_foot.specs.declared.object.Obj.TheVariants as obj
-use Rattle.om_values.specs.declared.step.Blocked.{Blocked}
-use Rattle.om_values.specs.declared.step.Change.{Change}
-use Rattle.om_values.specs.declared.step.Choice.{Choice}
-use Rattle.om_values.specs.declared.step.Label.{Label}
-use Rattle.om_values.specs.declared.step.Outcome.{Outcome}
-use Rattle.om_values.specs.declared.step.Outcome.TheVariants as outcome
-use Rattle.om_values.specs.declared.step.Step.{Step}
-use Rattle.om_values.specs.Edits.{HaveRoom}
-use Rattle.om_values.specs.Rules.{Rules, step_at}
-use Rattle.om_values.specs.State.{State}
-use Rattle.om_values.specs.Values.{control_in}
+use Rattle.om_state.specs.declared.step.Blocked.{Blocked}
+use Rattle.om_state.specs.declared.step.Change.{Change}
+use Rattle.om_state.specs.declared.step.Choice.{Choice}
+use Rattle.om_state.specs.declared.step.Label.{Label}
+use Rattle.om_state.specs.declared.step.Outcome.{Outcome}
+use Rattle.om_state.specs.declared.step.Outcome.TheVariants as outcome
+use Rattle.om_state.specs.declared.step.Step.{Step}
+use Rattle.om_state.specs.Edits.{HaveRoom}
+use Rattle.om_state.specs.Rules.{Rules, step_at}
+use Rattle.om_state.specs.State.{State}
+use Rattle.om_state.specs.Values.{control_in}
 use Rattle.om_task.specs.declared.planned.Plan.{Plan}
 use Rattle.om_task.specs.declared.planned.Plan.TheVariants as plan
 use Rattle.om_task.specs.Plans.{PlanHasRoom}
-use Rattle.om_history.specs.declared.history.History as kept
-use Rattle.om_history.specs.declared.reply.StepReply.{StepReply}
-use Rattle.om_history.specs.declared.reply.StepReply.TheVariants as step_reply
-use Rattle.om_history.specs.Choices.{choice_of, label_by}
-use Rattle.om_history.specs.Runs.{entry_for, reply_for, history_with, reply_to_step, after_step}
-use Rattle.om_history.specs.Runs.{state_of_entries}
-use Rattle.om_history.specs.Pasts.{past_in, history_in, IsHeld, IsPlanned, IsReplay, Stays, step_for}
-use Rattle.om_history.specs.Replayed.{ReplaysTo-replay}
+use Rattle.om_undo_history.specs.declared.history.History as kept
+use Rattle.om_undo_history.specs.declared.reply.StepReply.{StepReply}
+use Rattle.om_undo_history.specs.declared.reply.StepReply.TheVariants as step_reply
+use Rattle.om_undo_history.specs.Choices.{choice_of, label_by}
+use Rattle.om_undo_history.specs.Runs.{entry_for, reply_for, history_with, reply_to_step, after_step}
+use Rattle.om_undo_history.specs.Runs.{state_of_entries}
+use Rattle.om_undo_history.specs.Pasts.{past_in, history_in, IsHeld, IsPlanned, IsReplay, Stays, step_for}
+use Rattle.om_undo_history.specs.Replayed.{ReplaysTo-replay}
 use Rattle.om_code.specs.declared.raw.Raw.{Raw}
 use Rattle.om_task.specs.Rules.{rules_of}
 use Rattle.om_undo.specs.Machines.{IsPlan, MachineView, PlansAt, RepliesToPlan, TakesPlan, rules_for, state_in}

@@ -4,13 +4,13 @@ use Rattle.std.proofs.Common.{◌∷◌, ℕ, ◌⊎◌, inl, ⊎_elim, arith}
 use Rattle.std.specs.Prelude.{Contains, map, unwrap_or}
 use Rattle.std.specs.List.Sorted.{IsStrictlySortedBy}
 use Rattle.om_foot.specs.declared.object.Obj.TheVariants as obj
-use Rattle.om_values.specs.declared.step.Label.{Label}
-use Rattle.om_values.specs.State.{State}
-use Rattle.om_values.specs.Ready.{is_ready, AreReady}
-use Rattle.om_values.specs.Rules.{Rules, replay_from}
-use Rattle.om_values.specs.Values.{task_in}
-use Rattle.om_history.specs.Laws.{steps_from}
-use Rattle.om_history.specs.Runs.{label_of}
+use Rattle.om_state.specs.declared.step.Label.{Label}
+use Rattle.om_state.specs.State.{State}
+use Rattle.om_state.specs.Ready.{is_ready, AreReady}
+use Rattle.om_state.specs.Rules.{Rules, replay_from}
+use Rattle.om_state.specs.Values.{task_in}
+use Rattle.om_undo_history.specs.Laws.{steps_from}
+use Rattle.om_undo_history.specs.Runs.{label_of}
 use Rattle.om_undo.specs.Machines.{MachineView, rules_for, state_in}
 use Rattle.om_undo.specs.ReadyNames.{inserted, ready_among, ready_names, tasks_of}
 use Rattle.om_undo.proofs.Inserted.{Ascend, inserted_ascends, inserted_has, inserted_there, inserted_keeps}

@@ -5,14 +5,14 @@ use Rattle.om_foot.specs.declared.object.Obj.TheVariants as obj
 use Rattle.om_foot.specs.declared.footprint.Mode.{Mode}
 use Rattle.om_foot.specs.declared.footprint.Mode.TheVariants as mode
 use Rattle.om_foot.specs.declared.footprint.Access.{Access}
-use Rattle.om_values.specs.declared.step.Update.{Update}
-use Rattle.om_values.specs.declared.step.Update.TheVariants as update
-use Rattle.om_values.specs.declared.value.Val.{Val}
-use Rattle.om_values.specs.declared.value.Val.TheVariants as value
-use Rattle.om_values.specs.Rules.{Rules, control_access}
-use Rattle.om_live.specs.Stores.{is_trailed}
+use Rattle.om_state.specs.declared.step.Update.{Update}
+use Rattle.om_state.specs.declared.step.Update.TheVariants as update
+use Rattle.om_state.specs.declared.value.Val.{Val}
+use Rattle.om_state.specs.declared.value.Val.TheVariants as value
+use Rattle.om_state.specs.Rules.{Rules, control_access}
+use Rattle.om_memory.specs.Memories.{is_trailed}
 use Rattle.om_task.specs.Shapes as rows
-use Rattle.om_history.specs.Shapes.{IsControl, IsShapedAt, AreShaped, IsShaped}
+use Rattle.om_undo_history.specs.Shapes.{IsControl, IsShapedAt, AreShaped, IsShaped}
 
 same_objects : (q : Obj) → rows.is_trailed q ≡ is_trailed q
 same_objects (obj.Control w) = refl

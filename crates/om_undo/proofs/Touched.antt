@@ -7,14 +7,14 @@ use Rattle.om_foot.specs.declared.object.Obj.{Obj}
 use Rattle.om_foot.specs.declared.object.Obj.TheVariants as obj
 use Rattle.om_foot.specs.declared.footprint.Access.{Access}
 use Rattle.om_foot.specs.Footprint.{obj_eq}
-use Rattle.om_values.specs.declared.step.Label.{Label}
-use Rattle.om_values.specs.declared.step.Outcome.{Outcome}
-use Rattle.om_values.specs.declared.step.Outcome.TheVariants as outcome
-use Rattle.om_values.specs.declared.step.Update.{Update}
-use Rattle.om_values.specs.declared.value.Val.{Val}
-use Rattle.om_values.specs.State.{State, state_after, updated, value_after}
-use Rattle.om_values.specs.Rules.{Rules, step_at, state_after_outcome, next_state, and_then, replay_from}
-use Rattle.om_history.specs.Laws.{steps_from, steps_then}
+use Rattle.om_state.specs.declared.step.Label.{Label}
+use Rattle.om_state.specs.declared.step.Outcome.{Outcome}
+use Rattle.om_state.specs.declared.step.Outcome.TheVariants as outcome
+use Rattle.om_state.specs.declared.step.Update.{Update}
+use Rattle.om_state.specs.declared.value.Val.{Val}
+use Rattle.om_state.specs.State.{State, state_after, updated, value_after}
+use Rattle.om_state.specs.Rules.{Rules, step_at, state_after_outcome, next_state, and_then, replay_from}
+use Rattle.om_undo_history.specs.Laws.{steps_from, steps_then}
 use Rattle.om_undo.specs.ReadyNames.{with_task, tasks_in, tasks_of}
 use Rattle.om_undo.proofs.Inserted.{stands_first, stands_behind}
 

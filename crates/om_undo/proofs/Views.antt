@@ -2,10 +2,10 @@
 use Rattle.std.proofs.Common.{◌≡◌, sym, ◌∙◌, ap, ℕ, Some}
 use Rattle.std.specs.Prelude.{map, unwrap_or}
 use Rattle.om_code.specs.declared.raw.Raw.{Raw}
-use Rattle.om_values.specs.State.{State}
-use Rattle.om_values.specs.Rules.{Rules, replay}
+use Rattle.om_state.specs.State.{State}
+use Rattle.om_state.specs.Rules.{Rules, replay}
 use Rattle.om_task.specs.Rules.{rules_of}
-use Rattle.om_history.specs.Runs.{History, label_of}
+use Rattle.om_undo_history.specs.Runs.{History, label_of}
 use Rattle.om_undo.specs.Machines.{MachineView, rules_for, state_in}
 
 abbrev pub view_of : Raw → ℕ → History → MachineView

@@ -2,14 +2,14 @@
 use Rattle.std.specs.Prelude.{◌≡◌, ℕ, Some, Option, List, map}
 use Rattle.om_code.specs.declared.raw.Raw.{Raw}
 use Rattle.om_code.specs.declared.frame.Fault.{Fault}
-use Rattle.om_values.specs.declared.step.Label.{Label}
-use Rattle.om_values.specs.Rules.{replay}
+use Rattle.om_state.specs.declared.step.Label.{Label}
+use Rattle.om_state.specs.Rules.{replay}
 use Rattle.om_task.specs.Rules.{rules_of}
-use Rattle.om_history.specs.declared.reply.StepReply.TheVariants.{Done}
-use Rattle.om_history.specs.Runs.{History, no_history, label_of, state_of_entries, reply_to_step, Undoes}
-use Rattle.om_history.specs.Commands.{Command, run}
-use Rattle.om_history.specs.Undos.{UndoReplies}
-use Rattle.om_history.specs.Leaves.{Leaves}
+use Rattle.om_undo_history.specs.declared.reply.StepReply.TheVariants.{Done}
+use Rattle.om_undo_history.specs.Runs.{History, no_history, label_of, state_of_entries, reply_to_step, Undoes}
+use Rattle.om_undo_history.specs.Commands.{Command, run}
+use Rattle.om_undo_history.specs.Undos.{UndoReplies}
+use Rattle.om_undo_history.specs.Leaves.{Leaves}
 
 -- the history of a program with so many workers after steps, undos and rolls, by any workers in any interleaving
 abbrev pub history_after : Raw → ℕ → List Command → History
@@ -32,7 +32,7 @@ pub record Headline (program : Raw) (workers : ℕ) : Type 0 where
       → UndoReplies (rules_of program workers) (history_after program workers commands) worker
   -- a step that is made adds its entry behind the others. An undo that is done takes out its worker's last entry
   -- and no other. A step or an undo that is not done changes nothing. Of rolls nothing is said here: each is a list
-  -- of such undos (`RollIsUndos` of om_history)
+  -- of such undos (`RollIsUndos` of om_undo_history)
   pub commands_leave_the_other_steps : (commands : List Command)
       → Leaves (rules_of program workers) (history_after program workers commands)
 

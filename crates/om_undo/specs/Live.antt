@@ -2,16 +2,16 @@
 use Rattle.std.proofs.Crossing.{crosses}
 use denote.RattleType.{RattleType}
 use denote.Param.Send.{IsSend, sendable}
-use Rattle.om_values.specs.contracts.control.Construct as construct
+use Rattle.om_state.specs.contracts.control.Construct as construct
 use Rattle.om_foot.specs.contracts.shared.Shared as shared
-use Rattle.om_live.specs.contracts.control.Context as context
-use Rattle.om_live.specs.contracts.control.Control as control
-use Rattle.om_live.specs.contracts.control.Frame as frame
-use Rattle.om_live.specs.contracts.control.Inverse as inverse
-use Rattle.om_live.specs.contracts.control.Stack as stack
-use Rattle.om_live.specs.contracts.log.Log as log
-use Rattle.om_live.specs.contracts.tape.Tape as tape
-use Rattle.om_live.specs.contracts.trail.Trail as trail
+use Rattle.om_memory.specs.contracts.control.Context as context
+use Rattle.om_memory.specs.contracts.control.Control as control
+use Rattle.om_memory.specs.contracts.control.Frame as frame
+use Rattle.om_memory.specs.contracts.control.Inverse as inverse
+use Rattle.om_memory.specs.contracts.control.Stack as stack
+use Rattle.om_memory.specs.contracts.log.Log as log
+use Rattle.om_memory.specs.contracts.tape.Tape as tape
+use Rattle.om_memory.specs.contracts.trail.Trail as trail
 use Rattle.om_undo.specs.Shared.{shared_send}
 use Rattle.om_undo.specs.Values.{homes_send, names_send, teams_send, groups_send, construct_send, construct_sync}
 

@@ -2,23 +2,23 @@
 use Rattle.std.specs.Prelude.{◌≡◌, ℕ, ◌≤◌, Some, List, map}
 use Rattle.om_code.specs.declared.raw.Raw.{Raw}
 use Rattle.om_foot.specs.declared.object.Obj.TheVariants as obj
-use Rattle.om_values.specs.State.{State}
-use Rattle.om_values.specs.Values.{control_in}
-use Rattle.om_values.specs.declared.control.Control.{Control}
-use Rattle.om_values.specs.declared.step.Label.{Label}
-use Rattle.om_values.specs.Rules.{Rules, step_at, replay}
+use Rattle.om_state.specs.State.{State}
+use Rattle.om_state.specs.Values.{control_in}
+use Rattle.om_state.specs.declared.control.Control.{Control}
+use Rattle.om_state.specs.declared.step.Label.{Label}
+use Rattle.om_state.specs.Rules.{Rules, step_at, replay}
 use Rattle.om_task.specs.declared.planned.Plan.{Plan}
 use Rattle.om_task.specs.Plans.{StandsFor, PlanHasRoom}
 use Rattle.om_task.specs.Rules.{rules_of}
-use Rattle.om_history.specs.declared.history.History as kept
-use Rattle.om_history.specs.declared.reply.StepReply.{StepReply}
-use Rattle.om_history.specs.declared.reply.RollReply.{RollReply}
-use Rattle.om_history.specs.declared.reply.Taken.{Taken}
-use Rattle.om_history.specs.Runs.{History, no_history, label_of, state_of_entries}
-use Rattle.om_history.specs.Runs.{reply_to_step, after_step, after_undo}
-use Rattle.om_history.specs.Cones.{taken_by_roll, reply_to_roll, after_roll}
-use Rattle.om_history.specs.Commands.{TakesCone}
-use Rattle.om_history.specs.Pasts.{past_in, history_in, IsHeld}
+use Rattle.om_undo_history.specs.declared.history.History as kept
+use Rattle.om_undo_history.specs.declared.reply.StepReply.{StepReply}
+use Rattle.om_undo_history.specs.declared.reply.RollReply.{RollReply}
+use Rattle.om_undo_history.specs.declared.reply.Taken.{Taken}
+use Rattle.om_undo_history.specs.Runs.{History, no_history, label_of, state_of_entries}
+use Rattle.om_undo_history.specs.Runs.{reply_to_step, after_step, after_undo}
+use Rattle.om_undo_history.specs.Cones.{taken_by_roll, reply_to_roll, after_roll}
+use Rattle.om_undo_history.specs.Commands.{TakesCone}
+use Rattle.om_undo_history.specs.Pasts.{past_in, history_in, IsHeld}
 
 -- a machine's program, its number of workers, and its history
 pub record MachineView : Type 0 where

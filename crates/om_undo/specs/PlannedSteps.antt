@@ -1,12 +1,12 @@
 -- What contracts see of a planned step, and what is true of its fields.
 use Rattle.std.specs.Prelude.{Bool, true, false}
 use Rattle.om_foot.specs.declared.object.Obj.TheVariants as obj
-use Rattle.om_values.specs.Values.{control_in}
-use Rattle.om_values.specs.declared.step.Label.{Label}
+use Rattle.om_state.specs.Values.{control_in}
+use Rattle.om_state.specs.declared.step.Label.{Label}
 use Rattle.om_task.specs.declared.planned.Plan.{Plan}
 use Rattle.om_task.specs.Plans.{PlanHasRoom}
-use Rattle.om_history.specs.declared.reply.StepReply.{StepReply}
-use Rattle.om_history.specs.declared.reply.StepReply.TheVariants as step_reply
+use Rattle.om_undo_history.specs.declared.reply.StepReply.{StepReply}
+use Rattle.om_undo_history.specs.declared.reply.StepReply.TheVariants as step_reply
 use Rattle.om_undo.specs.Machines.{MachineView, PlansAt, rules_for, state_in}
 
 -- the machine at which a step was planned, and its label

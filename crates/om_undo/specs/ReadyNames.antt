@@ -7,12 +7,12 @@ use Rattle.std.specs.declared.cmp.Ordering.TheVariants.{Less, Equal, Greater}
 use Rattle.om_foot.specs.declared.object.Obj.{Obj}
 use Rattle.om_foot.specs.declared.object.Obj.TheVariants as object
 use Rattle.om_foot.specs.declared.footprint.Access.{Access}
-use Rattle.om_values.specs.declared.step.Step.{Step}
-use Rattle.om_values.specs.Ready.{is_ready}
-use Rattle.om_values.specs.State.{State}
-use Rattle.om_values.specs.Values.{task_in}
-use Rattle.om_history.specs.Laws.{steps_from}
-use Rattle.om_history.specs.Runs.{label_of}
+use Rattle.om_state.specs.declared.step.Step.{Step}
+use Rattle.om_state.specs.Ready.{is_ready}
+use Rattle.om_state.specs.State.{State}
+use Rattle.om_state.specs.Values.{task_in}
+use Rattle.om_undo_history.specs.Laws.{steps_from}
+use Rattle.om_undo_history.specs.Runs.{label_of}
 use Rattle.om_undo.specs.Machines.{MachineView, rules_for, state_in}
 
 -- the name of an object that is a task, in front of others

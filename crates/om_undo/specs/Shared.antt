@@ -6,8 +6,8 @@ use denote.Param.Send.{IsSend, IsSync, recorded_send, recorded_sync, sendable, s
 use denote.Param.Send.{view_sync}
 use Rattle.om_seq.specs.contracts.pile.Pile as pile
 use Rattle.om_foot.specs.contracts.shared.Shared as shared
-use Rattle.om_values.specs.contracts.shared_pile.SharedPile as stack
-use Rattle.om_values.specs.contracts.shared_pile.SharedPile.TheInside as inside
+use Rattle.om_state.specs.contracts.shared_pile.SharedPile as stack
+use Rattle.om_state.specs.contracts.shared_pile.SharedPile.TheInside as inside
 use Rattle.om_undo.specs.Lists.{pile_send, pile_sync}
 
 module _ (T : RattleType) (s : IsSend T) (y : IsSync T) where

@@ -4,20 +4,20 @@ use Rattle.std.specs.contracts.option.Option as option
 use Rattle.om_seq.specs.contracts.Seq as seq
 use Rattle.om_foot.specs.contracts.name.Name as name
 use Rattle.om_events.specs.contracts.event.Record as event
-use Rattle.om_values.specs.contracts.control.Construct as construct
-use Rattle.om_values.specs.contracts.control.Context as context
-use Rattle.om_values.specs.contracts.control.Control as control
-use Rattle.om_values.specs.contracts.control.Frame as frame
-use Rattle.om_values.specs.contracts.control.Home as home
-use Rattle.om_values.specs.contracts.control.Team as team
-use Rattle.om_values.specs.contracts.open_share.OpenShare as open_share
-use Rattle.om_values.specs.contracts.shared_team.SharedTeam as shared_team
+use Rattle.om_state.specs.contracts.control.Construct as construct
+use Rattle.om_state.specs.contracts.control.Context as context
+use Rattle.om_state.specs.contracts.control.Control as control
+use Rattle.om_state.specs.contracts.control.Frame as frame
+use Rattle.om_state.specs.contracts.control.Home as home
+use Rattle.om_state.specs.contracts.control.Team as team
+use Rattle.om_state.specs.contracts.open_share.OpenShare as open_share
+use Rattle.om_state.specs.contracts.shared_team.SharedTeam as shared_team
 use Rattle.om_foot.specs.contracts.shared.Shared as shared
-use Rattle.om_values.specs.contracts.shared_control.SharedControl as shared_control
-use Rattle.om_values.specs.contracts.shared_pile.SharedPile as stack
-use Rattle.om_values.specs.contracts.step.Update as update
-use Rattle.om_values.specs.contracts.value.Ready as ready
-use Rattle.om_values.specs.contracts.value.Val as value
+use Rattle.om_state.specs.contracts.shared_control.SharedControl as shared_control
+use Rattle.om_state.specs.contracts.shared_pile.SharedPile as stack
+use Rattle.om_state.specs.contracts.step.Update as update
+use Rattle.om_state.specs.contracts.value.Ready as ready
+use Rattle.om_state.specs.contracts.value.Val as value
 use Rattle.om_undo.specs.Lists.{seq_send, seq_sync, pile_send, pile_sync}
 use Rattle.om_undo.specs.Names.{name_send, name_sync}
 use Rattle.om_undo.specs.Shared.{shared_send, shared_sync, stack_send, stack_sync}

@@ -6,5 +6,5 @@ pub mod laws;
 pub mod machine;
 
 pub use machine::{Machine, PlannedStep};
-pub use om_history::{RollReply, StepReply, Taken, UndoReply};
-pub use om_values::Entry;
+pub use om_state::Entry;
+pub use om_undo_history::{RollReply, StepReply, Taken, UndoReply};

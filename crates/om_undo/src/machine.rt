@@ -2,15 +2,15 @@
 
 ghost use Rattle.std.specs.Prelude.{◌≡◌, ◌<◌, ◌≤◌, ◌^◌, ℕ, IfOk, OnOk, OnErr, IsNone, IfSome, ◌↔◌, Some};
 ghost use Rattle.std.specs.Option.{option_copied};
-ghost use Rattle.om_values.specs.Ready.{first_behind, AreReady};
-ghost use Rattle.om_values.specs.Rules.{Rules, replay};
-ghost use Rattle.om_live.specs.Stores.{plain_or_idle};
+ghost use Rattle.om_state.specs.Ready.{first_behind, AreReady};
+ghost use Rattle.om_state.specs.Rules.{Rules, replay};
+ghost use Rattle.om_memory.specs.Memories.{plain_or_idle};
 ghost use Rattle.om_task.specs.Plans.{label_at};
 ghost use Rattle.om_task.specs.Rules.{rules_of, line_in, is_at_scheduling_point};
-ghost use Rattle.om_history.specs.Choices.{choice_of, label_by};
-ghost use Rattle.om_history.specs.Runs.{reply_to_step, reply_to_undo};
-ghost use Rattle.om_history.specs.Commands.{IsRun, IsGone, Rise};
-ghost use Rattle.om_history.specs.Pasts.{past_in, IsHeld, Stays};
+ghost use Rattle.om_undo_history.specs.Choices.{choice_of, label_by};
+ghost use Rattle.om_undo_history.specs.Runs.{reply_to_step, reply_to_undo};
+ghost use Rattle.om_undo_history.specs.Commands.{IsRun, IsGone, Rise};
+ghost use Rattle.om_undo_history.specs.Pasts.{past_in, IsHeld, Stays};
 ghost use Rattle.om_undo.specs.Headline.{Headline};
 ghost use Rattle.om_undo.specs.Machines.{rules_for, state_in, control_at, at_start, step_reply, with_step, with_undo, rolled_from, roll_reply, with_roll, TakesOut, TakesItsCone, StateIsReplay, IsPlan, RepliesToPlan, RepliesToWorker, TakesPlan};
 ghost use Rattle.om_undo.specs.PlannedSteps.{is_made, planned_at};
@@ -19,14 +19,14 @@ ghost use Rattle.om_undo.specs.ReadyNames.{ready_names};
 use crate::laws::{headline, shaped_rules, steady_rules};
 use om_code::Program;
 use om_foot::{Name, Obj};
-use om_history::choice::start_of;
-use om_history::{History, RollReply, StepReply, Taken, UndoReply};
-use om_live::Control;
+use om_memory::Control;
+use om_state::{Entry, Label, Val};
 use om_task::laws::low_counters;
 use om_task::planning::{Planning, is_at_scheduling_point, line, plan_by};
 use om_task::start::started;
 use om_task::{Choice, Plan};
-use om_values::{Entry, Label, Val};
+use om_undo_history::choice::start_of;
+use om_undo_history::{History, RollReply, StepReply, Taken, UndoReply};
 use std::alloc::{AllocError, Global};
 use std::marker::Model;
 use std::snapshot::Snapshot;
@@ -60,7 +60,7 @@ impl Model for Machine {
 
     ghost Value = { MachineView };
 
-    ghost use Rattle.om_history.specs.Pasts.{history_in};
+    ghost use Rattle.om_undo_history.specs.Pasts.{history_in};
     ghost use Rattle.om_undo.specs.Machines.{IsSound};
 
     ghost view = { λ m. record { program = m.program; workers = m.workers; history = history_in m.history } };
@@ -82,7 +82,7 @@ pub struct PlannedStep {
 }
 
 impl Model for PlannedStep {
-    ghost use Rattle.om_history.specs.Choices.{label_by};
+    ghost use Rattle.om_undo_history.specs.Choices.{label_by};
     ghost use Rattle.om_undo.specs.PlannedSteps.{PlannedView, IsPlanAt};
 
     ghost Value = { PlannedView };

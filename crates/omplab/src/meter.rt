@@ -1,6 +1,6 @@
 //! How far a hunt is, on standard error.
 
-use om_hunt::Progress;
+use lab_hunt::Progress;
 use std::rt::Runtime;
 
 // How many lines a hunt writes at most, in about.

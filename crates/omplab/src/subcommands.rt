@@ -3,11 +3,11 @@
 ghost use Rattle.std.specs.Prelude.{◌<◌, ◌≤◌};
 
 use crate::meter::Meter;
-use om_draw::{Page, page};
-use om_hunt::{Aims, Hunted, push_report};
-use om_notes::annotate;
-use om_report::report;
-use om_script::{Script, ScriptFault, cone, script};
+use lab_check::report;
+use lab_draw::{Page, page};
+use lab_hunt::{Aims, Hunted, push_report};
+use lab_notes::annotate;
+use lab_script::{Script, ScriptFault, cone, script};
 use om_shell::{Options, ShellFault, send};
 use std::alloc::{AllocError, Global};
 use std::io::{Read, Write};
@@ -109,7 +109,7 @@ pub(crate) fn hunt<H: Runtime + Threads + Wait + Sync, W: Write>(
     };
     let mut meter = Meter::new(host.rt, host.is_watched);
     let source = options.source.unwrap_or(&[]);
-    let hunted = om_hunt::hunt(host.rt, host.alloc, source, &aims, &mut meter);
+    let hunted = lab_hunt::hunt(host.rt, host.alloc, source, &aims, &mut meter);
     meter.end();
     match hunted {
         Ok(Hunted::Refused(_)) => check(host.alloc, search.file, options, writer),

@@ -1,6 +1,6 @@
 use Rattle.std.proofs.Common.{sym, ap, ◌∙◌}
-use Rattle.om_journal.specs.Runs.{reply_to}
-use Rattle.om_journal.specs.declared.reply.Reply.TheVariants as reply
+use Rattle.om_book_journal.specs.Runs.{reply_to}
+use Rattle.om_book_journal.specs.declared.reply.Reply.TheVariants as reply
 use Rattle.om_book.proofs.book.append_step.Goals as goal
 
 -- With an answer here, the prover refuses a mistake in this function without a search for further ones.

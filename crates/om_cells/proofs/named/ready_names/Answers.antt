@@ -3,7 +3,7 @@ use Rattle.std.proofs.Common.{◌∙◌, sym, ap, subst, ◌++◌, List, ℕ}
 use Rattle.std.proofs.lemmas.List.{append-nil}
 use Rattle.std.proofs.lemmas.Map.Views.{All-found}
 use Rattle.std.specs.Cmp.Lexicographic.{nat_list_cmp_total}
-use Rattle.om_values.specs.Ready.{AreAll}
+use Rattle.om_state.specs.Ready.{AreAll}
 use Rattle.om_cells.specs.ReadyEntries.{is_ready_in, names_ready}
 use Rattle.om_cells.proofs.ReadyLemmas.{are_ready}
 use Rattle.om_cells.proofs.named.ready_names.Goals as goal

@@ -1,7 +1,7 @@
 use Rattle.std.proofs.Common.{◌≡◌, ◌++◌, ◌-◌, List}
 use Rattle.om_foot.specs.declared.cells.SlotName.{SlotName}
-use Rattle.om_values.specs.declared.value.Val.{Val}
-use Rattle.om_values.specs.State.{State}
+use Rattle.om_state.specs.declared.value.Val.{Val}
+use Rattle.om_state.specs.State.{State}
 use Rattle.om_cells.specs.Slots.{Mirrors, olds}
 use Rattle.om_cells.proofs.slots.noted.Given as goal
 

@@ -1,7 +1,7 @@
 use Rattle.std.proofs.Common.{◌∙◌, sym, subst}
 use Rattle.om_cells.specs.Slots.{Leads}
 use Rattle.om_cells.proofs.SlotLemmas.{leads_then}
-use Rattle.om_values.specs.RunPuts.{puts_more}
+use Rattle.om_state.specs.RunPuts.{puts_more}
 use Rattle.om_cells.proofs.slots.put_run.Goals as goal
 
 pub loop-turn-preserved : goal.loop-turn-preserved

@@ -1,5 +1,5 @@
 use Rattle.std.proofs.Common.{◌≡◌, ◌≤◌, length}
-use Rattle.om_values.specs.Runs.{puts_of}
+use Rattle.om_state.specs.Runs.{puts_of}
 use Rattle.om_cells.specs.Slots.{Writes}
 use Rattle.om_cells.proofs.slots.put_run.Given as goal
 

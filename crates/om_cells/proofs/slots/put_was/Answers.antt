@@ -1,8 +1,8 @@
 use Rattle.std.proofs.Common.{◌∙◌, sym, ap, arith, ◌-◌}
 use Rattle.std.proofs.lemmas.List.{nil_from_length}
-use Rattle.om_values.specs.State.{updated}
+use Rattle.om_state.specs.State.{updated}
 use Rattle.om_foot.specs.Cells.{cells_from}
-use Rattle.om_values.specs.Runs.{were_listed}
+use Rattle.om_state.specs.Runs.{were_listed}
 use Rattle.om_cells.proofs.SlotLemmas.{no_updates}
 use Rattle.om_cells.proofs.slots.put_was.Goals as goal
 

@@ -1,10 +1,10 @@
 use Rattle.std.proofs.Common.{◌≡◌, ◌≤◌, ◌-◌, length, List}
 use Rattle.std.specs.Vec.Iter.{into_iter_items}
 use Rattle.om_foot.specs.declared.cells.SlotName.{SlotName}
-use Rattle.om_values.specs.declared.value.Val.{Val}
-use Rattle.om_values.specs.State.{State, updated}
+use Rattle.om_state.specs.declared.value.Val.{Val}
+use Rattle.om_state.specs.State.{State, updated}
 use Rattle.om_foot.specs.Cells.{cells_from}
-use Rattle.om_values.specs.Runs.{were_listed}
+use Rattle.om_state.specs.Runs.{were_listed}
 use Rattle.om_cells.specs.Slots.{Mirrors}
 use Rattle.om_cells.proofs.slots.put_was.Given as goal
 

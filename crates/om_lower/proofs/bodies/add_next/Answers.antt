@@ -1,5 +1,5 @@
 use Rattle.std.proofs.Common.{ap, subst, sym, ◌∙◌}
-use Rattle.om_sights.specs.Sites.{body_in, innermost}
+use Rattle.om_lower_tables.specs.Sites.{body_in, innermost}
 use Rattle.om_lower.specs.Inputs.{known_bodies, tree_of}
 use Rattle.om_lower.specs.Ready.{IsReady}
 use Rattle.om_lower.proofs.Knowing.{round_pushed, round_seen}

@@ -3,7 +3,7 @@ use Rattle.om_lower.specs.Inputs.{known_bodies, tree_of}
 use Rattle.om_lower.specs.Limits.{IsOver}
 use Rattle.om_lower.specs.Made.{AddsBody, AreListsOf, AreMade}
 use Rattle.om_lower.specs.Ready.{IsReady}
-use Rattle.om_sights.specs.Sites.{bodies_in, body_round, round_behind, round_with}
+use Rattle.om_lower_tables.specs.Sites.{bodies_in, body_round, round_behind, round_with}
 use Rattle.om_lower.proofs.Items.{all_at, any_at}
 use Rattle.om_lower.proofs.Coding.{body_added, none_made}
 use Rattle.om_lower.proofs.SiteBodies.{adds_round, none_behind, round_next, site_at, taken_bodies}

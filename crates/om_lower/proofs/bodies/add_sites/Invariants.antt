@@ -1,7 +1,7 @@
 use Rattle.std.proofs.Common.{◌≡◌, [], map, take}
 use Rattle.om_lower.specs.Inputs.{tree_of}
 use Rattle.om_lower.specs.Made.{AreListsOf, AreMade}
-use Rattle.om_sights.specs.Sites.{bodies_in, round_behind}
+use Rattle.om_lower_tables.specs.Sites.{bodies_in, round_behind}
 use Rattle.om_lower.proofs.bodies.add_sites.Given as goal
 
 abbrev pub invariant-loop-site : goal.invariant-loop-site

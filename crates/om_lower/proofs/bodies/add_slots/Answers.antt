@@ -1,10 +1,10 @@
 use Rattle.std.proofs.Common.{◌++◌, [], ap, map, subst, take, ◌∙◌}
 use Rattle.om_lower.specs.Limits.{HasFewSlots, HasManySlots, HasSlots}
-use Rattle.om_sights.specs.Sites.{bodies_in, body_in, body_round, round_behind}
+use Rattle.om_lower_tables.specs.Sites.{bodies_in, body_in, body_round, round_behind}
 use Rattle.om_lower.proofs.Items.{all_next_at, any_at}
 use Rattle.om_lower.proofs.Knowing.{slots_next}
 use Rattle.om_lower.proofs.SiteBodies.{all_bodies, site_at, taken_bodies}
-use Rattle.om_rows.specs.Bodies.{variables_of}
+use Rattle.om_lower_rules.specs.Bodies.{variables_of}
 use Rattle.om_lower.proofs.bodies.add_slots.Goals as goal
 
 pub returns-then-not-branch-clause-many : goal.returns-then-not-branch-clause-many

@@ -1,9 +1,9 @@
 use Rattle.std.proofs.Common.{◌≡◌, ◌≤◌, None, Option, Some, length, refl, sym, ap, subst, ◌∙◌}
 use Rattle.om_lower.specs.Inputs.{seen_body, seen_tree}
 use Rattle.om_lower.specs.Made.{FitsCode}
-use Rattle.om_rows.specs.Scopes.{names_with}
+use Rattle.om_lower_rules.specs.Scopes.{names_with}
 use Rattle.om_lower.proofs.Coding.{made_body, over_code}
-use Rattle.om_statements.specs.Scoping.{inside_more}
+use Rattle.om_lower_emit.specs.Scoping.{inside_more}
 use Rattle.om_lower.proofs.bodies.add_with.Goals as goal
 
 -- what is nothing that is there is not there

@@ -2,9 +2,9 @@ use Rattle.std.proofs.Common.{map, ap, subst, ◌∙◌}
 use Rattle.std.proofs.lemmas.Result.{IfOk-weaker}
 use Rattle.om_lower.specs.Frames.{FitsFrame}
 use Rattle.om_lower.specs.Inputs.{seen_body}
-use Rattle.om_rows.specs.Code.{captures_of, slots_of}
-use Rattle.om_rows.specs.Mentions.{extents_of}
-use Rattle.om_rows.specs.Slots.{slot_with}
+use Rattle.om_lower_rules.specs.Code.{captures_of, slots_of}
+use Rattle.om_lower_rules.specs.Mentions.{extents_of}
+use Rattle.om_lower_rules.specs.Slots.{slot_with}
 use Rattle.om_lower.proofs.SlotTables.{slots_same}
 use Rattle.om_lower.proofs.bodies.frame_in.Goals as goal
 

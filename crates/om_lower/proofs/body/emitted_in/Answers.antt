@@ -1,8 +1,8 @@
 use Rattle.std.specs.Prelude.{[]}
 use Rattle.std.proofs.Common.{arith}
 use Rattle.om_lower.proofs.Settled.{long_row, short_row}
-use Rattle.om_sights.specs.Sites.{body_in}
-use Rattle.om_rows.specs.BodyTables.{numbered_by}
+use Rattle.om_lower_tables.specs.Sites.{body_in}
+use Rattle.om_lower_rules.specs.BodyTables.{numbered_by}
 use Rattle.om_lower.proofs.body.emitted_in.Goals as goal
 
 pub returns-then-place-gt-INSTRUCTION_LIMIT : goal.returns-then-place-gt-INSTRUCTION_LIMIT

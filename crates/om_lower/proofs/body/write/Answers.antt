@@ -2,10 +2,10 @@ use Rattle.std.proofs.Common.{[], sym, subst}
 use Rattle.std.proofs.lemmas.Result.{on_ok_weaker}
 use Rattle.std.specs.Prelude.{OnOk}
 use Rattle.om_lower.specs.Emitted.{EmitsBody}
-use Rattle.om_sights.specs.Sites.{body_in, part_tree}
-use Rattle.om_rows.specs.Scopes.{body_scopes}
-use Rattle.om_statements.specs.Scoped.{EmitsScopes}
-use Rattle.om_rows.specs.BodyTables.{numbered_by}
+use Rattle.om_lower_tables.specs.Sites.{body_in, part_tree}
+use Rattle.om_lower_rules.specs.Scopes.{body_scopes}
+use Rattle.om_lower_emit.specs.Scoped.{EmitsScopes}
+use Rattle.om_lower_rules.specs.BodyTables.{numbered_by}
 use Rattle.om_lower.proofs.body.write.Goals as goal
 
 pub returns-in-Function-clause-code : goal.returns-in-Function-clause-code

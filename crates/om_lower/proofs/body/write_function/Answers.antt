@@ -1,10 +1,10 @@
 use Rattle.std.proofs.Common.{ap}
 use Rattle.std.proofs.lemmas.Result.{on_ok_weaker}
 use Rattle.om_lower.proofs.Wholes.{function_emits, function_scopes}
-use Rattle.om_resolved.specs.ResolvedTree as trees
-use Rattle.om_resolved.specs.ResolvedView as view
+use Rattle.om_scope_tree.specs.ResolvedTree as trees
+use Rattle.om_scope_tree.specs.ResolvedView as view
 use Rattle.std.specs.Prelude.{map}
-use Rattle.om_rows.specs.BodyTables.{numbered_by}
+use Rattle.om_lower_rules.specs.BodyTables.{numbered_by}
 use Rattle.om_lower.proofs.body.write_function.Goals as goal
 
 pub returns-clause-code : goal.returns-clause-code

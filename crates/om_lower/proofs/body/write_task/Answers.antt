@@ -1,8 +1,8 @@
 use Rattle.std.specs.Prelude.{map}
 use Rattle.std.proofs.lemmas.Result.{on_ok_weaker}
 use Rattle.om_lower.proofs.Wholes.{task_emits, task_scopes}
-use Rattle.om_resolved.specs.ResolvedView as view
-use Rattle.om_rows.specs.BodyTables.{numbered_by}
+use Rattle.om_scope_tree.specs.ResolvedView as view
+use Rattle.om_lower_rules.specs.BodyTables.{numbered_by}
 use Rattle.om_lower.proofs.body.write_task.Goals as goal
 
 pub returns-clause-code : goal.returns-clause-code

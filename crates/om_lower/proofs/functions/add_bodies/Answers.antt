@@ -1,7 +1,7 @@
 use Rattle.std.proofs.Common.{[]}
 use Rattle.om_lower.specs.Inputs.{tree_of}
 use Rattle.om_lower.specs.Made.{next_function, next_numbers}
-use Rattle.om_sights.specs.Sites.{bodies_in}
+use Rattle.om_lower_tables.specs.Sites.{bodies_in}
 use Rattle.om_lower.proofs.Coding.{function_put}
 use Rattle.om_lower.proofs.functions.add_bodies.Goals as goal
 

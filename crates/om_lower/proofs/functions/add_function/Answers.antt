@@ -1,5 +1,5 @@
 use Rattle.std.proofs.Common.{[], ap, ◌∙◌}
-use Rattle.om_sights.specs.Sites.{bodies_in}
+use Rattle.om_lower_tables.specs.Sites.{bodies_in}
 use Rattle.om_lower.proofs.Ready.{next_ready}
 use Rattle.om_lower.proofs.functions.add_function.Goals as goal
 

@@ -1,15 +1,15 @@
 use Rattle.std.proofs.Common.{◌≡◌, All, Some, ap, arith, map, slice_get, subst, sym, ◌∙◌}
 use Rattle.om_lower.specs.Inputs.{tree_of}
 use Rattle.om_lower.specs.Made.{AddsFunction}
-use Rattle.om_resolved.specs.ResolvedView as view
-use Rattle.om_resolved.specs.ResolvedTree.{ResolvedFunctionTree}
-use Rattle.om_resolved.specs.Weights.{function_weight}
-use Rattle.om_sights.specs.Room.{HasNumbers, IsRoomFor}
-use Rattle.om_rows.specs.declared.numbers.Numbers as numbers
-use Rattle.om_rows.specs.Bodies.{first_numbers, function_bodies}
-use Rattle.om_rows.specs.Coded.{BodyHasCode}
-use Rattle.om_rows.specs.Numbering.{numbers_of}
-use Rattle.om_rows.specs.ProgramTables.{AreCellsOf, ends_in}
+use Rattle.om_scope_tree.specs.ResolvedView as view
+use Rattle.om_scope_tree.specs.ResolvedTree.{ResolvedFunctionTree}
+use Rattle.om_scope_tree.specs.Weights.{function_weight}
+use Rattle.om_lower_tables.specs.Room.{HasNumbers, IsRoomFor}
+use Rattle.om_lower_rules.specs.declared.numbers.Numbers as numbers
+use Rattle.om_lower_rules.specs.Bodies.{first_numbers, function_bodies}
+use Rattle.om_lower_rules.specs.Coded.{BodyHasCode}
+use Rattle.om_lower_rules.specs.Numbering.{numbers_of}
+use Rattle.om_lower_rules.specs.ProgramTables.{AreCellsOf, ends_in}
 use Rattle.om_lower.proofs.Coding.{function_added, stopped_at}
 use Rattle.om_lower.proofs.FunctionBodies.{function_holds}
 use Rattle.om_lower.proofs.Items.{item_at}

@@ -1,7 +1,7 @@
 use Rattle.std.proofs.Common.{◌≡◌, length}
 use Rattle.om_lower.specs.Inputs.{tree_of}
 use Rattle.om_lower.proofs.Coding.{IsBehind}
-use Rattle.om_rows.specs.Numbering.{numbers_of}
+use Rattle.om_lower_rules.specs.Numbering.{numbers_of}
 use Rattle.om_lower.proofs.functions.add_functions.Given as goal
 
 -- the variables of all bodies behind which it stands are there

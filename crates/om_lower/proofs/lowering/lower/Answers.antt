@@ -1,5 +1,5 @@
 use Rattle.std.proofs.lemmas.Result.{IfOk-weaker}
-use Rattle.om_resolved.specs.ResolvedView as view
+use Rattle.om_scope_tree.specs.ResolvedView as view
 use Rattle.om_lower.proofs.lowering.lower.Goals as goal
 
 pub lower_input-requires : goal.lower_input-requires

@@ -1,7 +1,7 @@
 use Rattle.std.proofs.Common.{All, sym, subst}
 use Rattle.om_lower.specs.Inputs.{tree_of}
 use Rattle.om_lower.specs.Heights.{AreLevel}
-use Rattle.om_rows.specs.Bodies.{first_numbers}
+use Rattle.om_lower_rules.specs.Bodies.{first_numbers}
 use Rattle.om_lower.proofs.Assembled.{level_functions}
 use Rattle.om_lower.proofs.lowering.over_at.Goals as goal
 

@@ -2,7 +2,7 @@ use Rattle.std.proofs.Common.{◌≡◌, ◌<◌, IfSome, Some, length, map, sli
 use Rattle.om_lower.specs.Inputs.{tree_of}
 use Rattle.om_lower.specs.Limits.{IsTooMany}
 use Rattle.om_lower.specs.Made.{IsOverAt}
-use Rattle.om_resolved.specs.ResolvedView as view
+use Rattle.om_scope_tree.specs.ResolvedView as view
 use Rattle.om_lower.proofs.Items.{item_at}
 use Rattle.om_lower.proofs.Refusing.{refused}
 use Rattle.om_lower.proofs.lowering.within_limits.Goals as goal

@@ -1,8 +1,8 @@
 use Rattle.std.proofs.Common.{◌≡◌, List, [], ◌∷◌, ◌++◌, map, ap, sym, subst, ◌∙◌}
 use Rattle.std.proofs.lemmas.List.{append_assoc}
 use Rattle.std.proofs.lemmas.List.Elements.{All-tail}
-use Rattle.om_rows.specs.Scopes.{scope_in}
-use Rattle.om_statements.specs.Scoped.{AreInside, IsInside}
+use Rattle.om_lower_rules.specs.Scopes.{scope_in}
+use Rattle.om_lower_emit.specs.Scoped.{AreInside, IsInside}
 use Rattle.om_lower.proofs.names.scopes_in.Goals as goal
 
 -- one more is mapped

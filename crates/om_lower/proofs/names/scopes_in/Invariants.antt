@@ -1,6 +1,6 @@
 use Rattle.std.proofs.Common.{◌≡◌, ◌++◌, map}
-use Rattle.om_rows.specs.Scopes.{scope_in}
-use Rattle.om_statements.specs.Scoped.{AreInside}
+use Rattle.om_lower_rules.specs.Scopes.{scope_in}
+use Rattle.om_lower_emit.specs.Scoped.{AreInside}
 use Rattle.om_lower.proofs.names.scopes_in.Given as goal
 
 -- with what is left of the list the scopes are all

@@ -1,4 +1,4 @@
-use Rattle.om_rows.specs.Scopes.{slot_among}
+use Rattle.om_lower_rules.specs.Scopes.{slot_among}
 use Rattle.om_lower.proofs.NamesMapped.{mapped_next}
 use Rattle.om_lower.proofs.names.slots_among.Goals as goal
 

@@ -1,5 +1,5 @@
 use Rattle.std.proofs.Common.{◌≡◌, ◌++◌, map, drop}
-use Rattle.om_rows.specs.Scopes.{slot_among}
+use Rattle.om_lower_rules.specs.Scopes.{slot_among}
 use Rattle.om_lower.proofs.names.slots_among.Given as goal
 
 abbrev pub invariant-loop-variable : goal.invariant-loop-variable

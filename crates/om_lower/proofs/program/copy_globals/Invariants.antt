@@ -1,5 +1,5 @@
 use Rattle.std.proofs.Common.{◌≡◌, take, map}
-use Rattle.om_rows.specs.Code.{global_of}
+use Rattle.om_lower_rules.specs.Code.{global_of}
 use Rattle.om_lower.proofs.program.copy_globals.Given as goal
 
 abbrev pub invariant-loop-global : goal.invariant-loop-global

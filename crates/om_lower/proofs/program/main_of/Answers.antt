@@ -1,7 +1,7 @@
 use Rattle.std.proofs.Common.{sym, ap, ◌∙◌}
 use Rattle.std.specs.Prelude.{position}
-use Rattle.om_resolved.specs.ResolvedView as view
-use Rattle.om_resolved.specs.Uses.{is_main_function}
+use Rattle.om_scope_tree.specs.ResolvedView as view
+use Rattle.om_scope_tree.specs.Uses.{is_main_function}
 use Rattle.om_lower.proofs.Searches.{position_map, position_none}
 use Rattle.std.proofs.Common.{rules}
 use Rattle.om_lower.proofs.program.main_of.Goals as goal

@@ -2,9 +2,9 @@ use Rattle.std.proofs.Common.{map, sym, ap, subst, ◌∙◌}
 use Rattle.std.specs.List.{AllZip}
 use Rattle.om_lower.specs.Inputs.{tree_of}
 use Rattle.om_lower.specs.Made.{AreMade}
-use Rattle.om_rows.specs.Bodies.{bodies_of}
-use Rattle.om_rows.specs.Code.{global_of}
-use Rattle.om_rows.specs.Mentions.{IsTextOf}
+use Rattle.om_lower_rules.specs.Bodies.{bodies_of}
+use Rattle.om_lower_rules.specs.Code.{global_of}
+use Rattle.om_lower_rules.specs.Mentions.{IsTextOf}
 use Rattle.om_lower.proofs.Assembled.{all_lists, made_bodies, side_by_side_in}
 use Rattle.om_lower.proofs.program.raw_of.Goals as goal
 

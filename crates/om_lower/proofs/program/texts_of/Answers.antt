@@ -1,5 +1,5 @@
 use Rattle.std.proofs.Common.{◌<◌, subst}
-use Rattle.om_rows.specs.Mentions.{IsTextOf}
+use Rattle.om_lower_rules.specs.Mentions.{IsTextOf}
 use Rattle.om_lower.proofs.Items.{zip_in}
 use Rattle.om_lower.proofs.program.texts_of.Goals as goal
 

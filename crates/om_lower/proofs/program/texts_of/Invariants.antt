@@ -1,6 +1,6 @@
 use Rattle.std.proofs.Common.{take}
 use Rattle.std.specs.List.{AllZip}
-use Rattle.om_rows.specs.Mentions.{IsTextOf}
+use Rattle.om_lower_rules.specs.Mentions.{IsTextOf}
 use Rattle.om_lower.proofs.program.texts_of.Given as goal
 
 abbrev pub invariant-loop-number : goal.invariant-loop-number

@@ -1,8 +1,8 @@
 use Rattle.std.proofs.Common.{ap, arith, map, ◌∙◌}
-use Rattle.om_resolved.specs.ResolvedView as view
-use Rattle.om_rows.specs.Slots.{by_slots, first_copies}
-use Rattle.om_rows.specs.BodyTables.{numbered_by}
-use Rattle.om_rows.specs.Copies.{first_copies_of}
+use Rattle.om_scope_tree.specs.ResolvedView as view
+use Rattle.om_lower_rules.specs.Slots.{by_slots, first_copies}
+use Rattle.om_lower_rules.specs.BodyTables.{numbered_by}
+use Rattle.om_lower_rules.specs.Copies.{first_copies_of}
 use Rattle.om_lower.proofs.Regions.{count_few, counted, given_loaded}
 use Rattle.om_lower.proofs.region.load_given.Goals as goal
 

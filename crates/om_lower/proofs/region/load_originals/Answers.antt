@@ -1,10 +1,10 @@
 use Rattle.std.proofs.Common.{ap}
 use Rattle.om_code.specs.declared.instruction.Instr.TheVariants as i
-use Rattle.om_statements.specs.Emits.{names_at}
+use Rattle.om_lower_emit.specs.Emits.{names_at}
 use Rattle.std.proofs.lemmas.List.{drop_all}
-use Rattle.om_statements.specs.Writing.{emits_one}
-use Rattle.om_statements.specs.Each.{begin_each, end_each, got, next_each}
-use Rattle.om_statements.specs.Going.{puts_is}
+use Rattle.om_lower_emit.specs.Writing.{emits_one}
+use Rattle.om_lower_emit.specs.Each.{begin_each, end_each, got, next_each}
+use Rattle.om_lower_emit.specs.Going.{puts_is}
 use Rattle.om_lower.proofs.region.load_originals.Goals as goal
 
 pub loop-copy-init : goal.loop-copy-init

@@ -1,8 +1,8 @@
 use Rattle.std.proofs.Common.{drop, length}
-use Rattle.om_rows.specs.Statements.{load_original}
-use Rattle.om_statements.specs.Emits.{names_at}
-use Rattle.om_rows.specs.Copies.{first_copy}
-use Rattle.om_statements.specs.Each.{GoesOn}
+use Rattle.om_lower_rules.specs.Statements.{load_original}
+use Rattle.om_lower_emit.specs.Emits.{names_at}
+use Rattle.om_lower_rules.specs.Copies.{first_copy}
+use Rattle.om_lower_emit.specs.Each.{GoesOn}
 use Rattle.om_lower.proofs.region.load_originals.Given as goal
 
 abbrev pub invariant-loop-copy : goal.invariant-loop-copy

@@ -1,8 +1,8 @@
 use Rattle.std.specs.Prelude.{map}
-use Rattle.om_resolved.specs.ResolvedView as view
-use Rattle.om_rows.specs.BodyTables.{numbered_by}
-use Rattle.om_rows.specs.Numbering.{numbers_of}
-use Rattle.om_statements.specs.Writing.{emits_one}
+use Rattle.om_scope_tree.specs.ResolvedView as view
+use Rattle.om_lower_rules.specs.BodyTables.{numbered_by}
+use Rattle.om_lower_rules.specs.Numbering.{numbers_of}
+use Rattle.om_lower_emit.specs.Writing.{emits_one}
 use Rattle.om_lower.proofs.Regions.{emits_task}
 use Rattle.om_lower.proofs.region.task.Goals as goal
 

@@ -1,8 +1,8 @@
 use Rattle.std.proofs.Common.{option_map}
-use Rattle.om_resolved.specs.ResolvedView as view
+use Rattle.om_scope_tree.specs.ResolvedView as view
 use Rattle.om_lower.proofs.Opened.{begins_turn}
 use Rattle.om_lower.proofs.Begun.{for_begins}
-use Rattle.om_statements.specs.Emits.{names_at}
+use Rattle.om_lower_emit.specs.Emits.{names_at}
 use Rattle.om_lower.proofs.repeated.begin_for.Goals as goal
 
 pub returns-clause-code : goal.returns-clause-code

@@ -1,4 +1,4 @@
-use Rattle.om_statements.specs.Going.{begins}
+use Rattle.om_lower_emit.specs.Going.{begins}
 use Rattle.om_lower.proofs.repeated.begin_if.Goals as goal
 
 pub returns : goal.returns

@@ -1,4 +1,4 @@
-use Rattle.om_statements.specs.Emits.{names_at}
+use Rattle.om_lower_emit.specs.Emits.{names_at}
 use Rattle.om_lower.proofs.Opened.{ends_turn}
 use Rattle.om_lower.proofs.repeated.end_for.Goals as goal
 

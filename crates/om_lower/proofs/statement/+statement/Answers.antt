@@ -2,20 +2,20 @@ use Rattle.std.proofs.Common.{◌≡◌, ◌≤◌, ◌+◌, ◌^◌, List, arit
 use denote.Param.Weighed.{most}
 use Rattle.std.proofs.lemmas.List.{drop_all}
 use Rattle.std.proofs.lemmas.Result.{err_from_is_err_and}
-use Rattle.om_statements.specs.Drafts.{Written}
-use Rattle.om_statements.specs.Writing.{goes_end}
+use Rattle.om_lower_emit.specs.Drafts.{Written}
+use Rattle.om_lower_emit.specs.Writing.{goes_end}
 use Rattle.om_lexer.specs.declared.token.Span.{Span}
-use Rattle.om_resolved.specs.declared.resolved.ResolvedPart.{out-ResolvedPart}
-use Rattle.om_resolved.specs.declared.resolved.ResolvedStatement.{ResolvedStatement}
-use Rattle.om_resolved.specs.declared.resolved.ResolvedStatement.TheVariants as v
-use Rattle.om_resolved.specs.declared.resolved.ResolvedStatement.TheViews.{size-ResolvedStatement, size_is-ResolvedPart}
-use Rattle.om_resolved.specs.ResolvedTree as trees
-use Rattle.om_resolved.specs.ResolvedView as view
-use Rattle.om_rows.specs.Bodies as rows
-use Rattle.om_rows.specs.BodyTables.{numbered_by}
-use Rattle.om_rows.specs.Numbered.{Numbered}
-use Rattle.om_rows.specs.Numbering.{numbers_of}
-use Rattle.om_statements.specs.Going.{free_with, with_none}
+use Rattle.om_scope_tree.specs.declared.resolved.ResolvedPart.{out-ResolvedPart}
+use Rattle.om_scope_tree.specs.declared.resolved.ResolvedStatement.{ResolvedStatement}
+use Rattle.om_scope_tree.specs.declared.resolved.ResolvedStatement.TheVariants as v
+use Rattle.om_scope_tree.specs.declared.resolved.ResolvedStatement.TheViews.{size-ResolvedStatement, size_is-ResolvedPart}
+use Rattle.om_scope_tree.specs.ResolvedTree as trees
+use Rattle.om_scope_tree.specs.ResolvedView as view
+use Rattle.om_lower_rules.specs.Bodies as rows
+use Rattle.om_lower_rules.specs.BodyTables.{numbered_by}
+use Rattle.om_lower_rules.specs.Numbered.{Numbered}
+use Rattle.om_lower_rules.specs.Numbering.{numbers_of}
+use Rattle.om_lower_emit.specs.Going.{free_with, with_none}
 use Rattle.om_lower.proofs.Lists.{left_item, left_next, no_atomic, numbers_are, onward_begin, onward_done, spot_is}
 use Rattle.om_lower.proofs.Lists.{nothing_on_error, statement_is}
 use Rattle.om_lower.proofs.RegionEnds.{sections_ends}
@@ -34,17 +34,17 @@ use Rattle.om_lower.proofs.Inside.{atomic_ends, code_here, if_code, if_else_code
 use Rattle.om_lower.proofs.Inside.{while_code}
 use Rattle.om_lower.proofs.Within.{block_within, construct_within, do_within, else_within, for_within, if_within}
 use Rattle.om_lower.proofs.Within.{loop_within, parts_within, then_within, while_within, with_depth}
-use Rattle.om_rows.specs.Scopes.{all_scopes, scopes}
-use Rattle.om_rows.specs.Statements.{assignment_row}
-use Rattle.om_statements.specs.declared.spot.JumpLabels.{JumpLabels}
+use Rattle.om_lower_rules.specs.Scopes.{all_scopes, scopes}
+use Rattle.om_lower_rules.specs.Statements.{assignment_row}
+use Rattle.om_lower_emit.specs.declared.spot.JumpLabels.{JumpLabels}
 use Rattle.om_lower.proofs.Scoped.{all_scopes_done, all_scopes_next, alone, construct_scopes_clauses}
 use Rattle.om_lower.proofs.Scoped.{construct_stands, do_scopes, for_scopes, if_else_scopes, if_scopes, loop_scopes}
 use Rattle.om_lower.proofs.Scoped.{loop_scopes_clauses, part_scopes_are, part_scopes_done, part_scopes_next}
 use Rattle.om_lower.proofs.Scoped.{part_stands, scopes_are, sections_scopes, sections_scopes_clauses, while_scopes}
-use Rattle.om_statements.specs.declared.writing.ScopeStack.{ScopeStack}
+use Rattle.om_lower_emit.specs.declared.writing.ScopeStack.{ScopeStack}
 use Rattle.om_lower.specs.Parts.{AreFree}
-use Rattle.om_statements.specs.Scoped.{ScopesStand}
-use Rattle.om_statements.specs.Scoping.{scopes_begin, stand_block, stand_plain}
+use Rattle.om_lower_emit.specs.Scoped.{ScopesStand}
+use Rattle.om_lower_emit.specs.Scoping.{scopes_begin, stand_block, stand_plain}
 use Rattle.om_lower.proofs.statement.+statement.Goals as goal
 
 pub statement-define-requires-in-IfElse : goal.statement-define-requires-in-IfElse

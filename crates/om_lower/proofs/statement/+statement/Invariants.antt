@@ -1,16 +1,16 @@
 use Rattle.std.proofs.Common.{◌≡◌, ◌+◌, drop, length, map}
 use Rattle.std.specs.Prelude.{is_some}
-use Rattle.om_resolved.specs.ResolvedTree as trees
-use Rattle.om_resolved.specs.ResolvedView as view
-use Rattle.om_rows.specs.Bodies as rows
-use Rattle.om_rows.specs.Coded.{PartsHaveCode, StatementsHaveCode}
-use Rattle.om_rows.specs.BodyTables.{numbered_by}
-use Rattle.om_rows.specs.Ends.{HasAllEnds, HasPartsEnds}
-use Rattle.om_rows.specs.Numbering.{numbers_of}
-use Rattle.om_rows.specs.ProgramTables.{known_in}
-use Rattle.om_rows.specs.Scopes.{all_scopes, part_scopes}
+use Rattle.om_scope_tree.specs.ResolvedTree as trees
+use Rattle.om_scope_tree.specs.ResolvedView as view
+use Rattle.om_lower_rules.specs.Bodies as rows
+use Rattle.om_lower_rules.specs.Coded.{PartsHaveCode, StatementsHaveCode}
+use Rattle.om_lower_rules.specs.BodyTables.{numbered_by}
+use Rattle.om_lower_rules.specs.Ends.{HasAllEnds, HasPartsEnds}
+use Rattle.om_lower_rules.specs.Numbering.{numbers_of}
+use Rattle.om_lower_rules.specs.ProgramTables.{known_in}
+use Rattle.om_lower_rules.specs.Scopes.{all_scopes, part_scopes}
 use Rattle.om_lower.specs.Parts.{AreFree}
-use Rattle.om_statements.specs.Scoping.{ScopesOn}
+use Rattle.om_lower_emit.specs.Scoping.{ScopesOn}
 use Rattle.om_lower.proofs.Lists.{Onward}
 use Rattle.om_lower.proofs.PartLists.{OnwardParts}
 use Rattle.om_lower.proofs.statement.+statement.Given as goal

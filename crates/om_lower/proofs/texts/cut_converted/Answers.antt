@@ -1,6 +1,6 @@
 use Rattle.std.proofs.Common.{rules, arith}
 use Rattle.std.proofs.lemmas.Grind.{common_steps}
-use Rattle.om_resolved.specs.Formats.{converted}
+use Rattle.om_scope_tree.specs.Formats.{converted}
 use Rattle.om_lower.proofs.Cutting.{value_or}
 use Rattle.om_lower.proofs.texts.cut_converted.Goals as goal
 

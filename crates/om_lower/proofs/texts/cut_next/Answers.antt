@@ -1,5 +1,5 @@
 use Rattle.std.proofs.Common.{rules}
-use Rattle.om_resolved.specs.Formats.{pieces_of}
+use Rattle.om_scope_tree.specs.Formats.{pieces_of}
 use Rattle.om_lower.proofs.texts.cut_next.Goals as goal
 
 pub returns-then-byte-eq37-clause-same : goal.returns-then-byte-eq37-clause-same

@@ -1,13 +1,13 @@
 use Rattle.std.proofs.Common.{length, refl, map}
-use Rattle.om_resolved.specs.ResolvedView as view
+use Rattle.om_scope_tree.specs.ResolvedView as view
 use Rattle.om_lower.proofs.Opened.{begins_sections}
 use Rattle.om_lower.proofs.PartsOpened.{opens_parts}
-use Rattle.om_statements.specs.declared.spot.LoopLabels.{LoopLabels}
+use Rattle.om_lower_emit.specs.declared.spot.LoopLabels.{LoopLabels}
 use Rattle.om_lower.specs.Parts.{part_head}
-use Rattle.om_statements.specs.Emits.{names_at}
-use Rattle.om_rows.specs.Scopes.{sections_head}
+use Rattle.om_lower_emit.specs.Emits.{names_at}
+use Rattle.om_lower_rules.specs.Scopes.{sections_head}
 use Rattle.om_lower.proofs.Begun.{sections_begin, writes_list}
-use Rattle.om_statements.specs.Scoping.{stand_ahead}
+use Rattle.om_lower_emit.specs.Scoping.{stand_ahead}
 use Rattle.om_lower.proofs.worksharing.begin_parts.Goals as goal
 
 pub returns-clause-code : goal.returns-clause-code

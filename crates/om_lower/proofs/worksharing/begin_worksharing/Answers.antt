@@ -1,9 +1,9 @@
 use Rattle.std.proofs.Common.{◌∙◌, ap, map, sym}
 use Rattle.om_code.specs.declared.instruction.Instr.TheVariants as i
-use Rattle.om_resolved.specs.ResolvedView as view
-use Rattle.om_statements.specs.Emits.{names_at}
-use Rattle.om_statements.specs.Writing.{emits_then}
-use Rattle.om_statements.specs.Going.{puts_is}
+use Rattle.om_scope_tree.specs.ResolvedView as view
+use Rattle.om_lower_emit.specs.Emits.{names_at}
+use Rattle.om_lower_emit.specs.Writing.{emits_then}
+use Rattle.om_lower_emit.specs.Going.{puts_is}
 use Rattle.om_lower.proofs.Opened.{begins_worksharing}
 use Rattle.om_lower.proofs.Begun.{bounds_stand, loop_begins}
 use Rattle.om_lower.proofs.worksharing.begin_worksharing.Goals as goal

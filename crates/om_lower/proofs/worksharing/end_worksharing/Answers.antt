@@ -1,5 +1,5 @@
-use Rattle.om_statements.specs.Emits.{names_at}
-use Rattle.om_statements.specs.Writing.{emits_then}
+use Rattle.om_lower_emit.specs.Emits.{names_at}
+use Rattle.om_lower_emit.specs.Writing.{emits_then}
 use Rattle.om_lower.proofs.worksharing.end_worksharing.Goals as goal
 
 pub returns : goal.returns

@@ -2,11 +2,11 @@ use Rattle.std.proofs.Common.{◌≡◌, [], ◌∷◌, ◌++◌, length, sym}
 use Rattle.std.proofs.lemmas.Result.{err_from_is_err_and}
 use Rattle.om_lexer.specs.declared.token.Punctuator.TheVariants.{CloseParen}
 use Rattle.om_parser.specs.FunctionReading.{further_parameter_at}
-use Rattle.om_parts.specs.Reading.{take_mark}
-use Rattle.om_parts.specs.Repetition.{until}
+use Rattle.om_parser_parts.specs.Reading.{take_mark}
+use Rattle.om_parser_parts.specs.Repetition.{until}
 use Rattle.om_parser.proofs.FunctionSound.{further_parameter_shorter}
-use Rattle.om_parts.specs.Loops.{until_begins, until_ends, until_fails, until_goes_on}
-use Rattle.om_parts.specs.Taken.{mark_shorter}
+use Rattle.om_parser_parts.specs.Loops.{until_begins, until_ends, until_fails, until_goes_on}
+use Rattle.om_parser_parts.specs.Taken.{mark_shorter}
 use Rattle.om_parser.proofs.function.further_parameters.Goals as goal
 
 pub parameters-init : goal.parameters-init

@@ -1,9 +1,9 @@
 use Rattle.std.proofs.Common.{length}
 use Rattle.om_lexer.specs.declared.token.Punctuator.TheVariants.{CloseParen}
 use Rattle.om_parser.specs.FunctionReading.{further_parameter_at}
-use Rattle.om_parts.specs.Reading.{take_mark}
-use Rattle.om_parts.specs.Repetition.{until}
-use Rattle.om_parts.specs.Loops.{GoesOn}
+use Rattle.om_parser_parts.specs.Reading.{take_mark}
+use Rattle.om_parser_parts.specs.Repetition.{until}
+use Rattle.om_parser_parts.specs.Loops.{GoesOn}
 use Rattle.om_parser.proofs.function.further_parameters.Given as goal
 
 abbrev pub invariant-parameters : goal.invariant-parameters

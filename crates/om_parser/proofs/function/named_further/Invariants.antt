@@ -1,6 +1,6 @@
 use Rattle.std.proofs.Common.{◌≡◌, ◌++◌, length, drop, Ok}
 use Rattle.om_parser.specs.FunctionReading.{named_further}
-use Rattle.om_parts.specs.Reading.{◌>>=◌}
+use Rattle.om_parser_parts.specs.Reading.{◌>>=◌}
 use Rattle.om_parser.proofs.function.named_further.Given as goal
 
 abbrev pub invariant-loop-comma : goal.invariant-loop-comma

@@ -10,14 +10,14 @@ use Rattle.om_parser.specs.OneOrMore.{one_or_more}
 use Rattle.om_parser.specs.StatementReading.{block_item_at, statement_at, behind_body, else_after, block_after}
 use Rattle.om_parser.specs.StatementReading.{block_items_after, parts_at, parts_after, do_after, statement_of}
 use Rattle.om_parser.specs.StatementReading.{headed_of, body_after}
-use Rattle.om_parts.specs.Loops.{until_begins, until_ends, until_fails, until_goes_on}
-use Rattle.om_parts.specs.PartReading.{parts}
-use Rattle.om_parts.specs.Reading.{take_mark}
-use Rattle.om_parts.specs.Repetition.{until}
-use Rattle.om_tree.specs.Limits.{accepted}
-use Rattle.om_tree.specs.Tree.{PartTree, StatementTree}
-use Rattle.om_tree.specs.View.{part_layer, statement_layer, view_part, view_statement}
-use Rattle.om_tree.specs.declared.tree.Part.{fold-roll-Part}
+use Rattle.om_parser_parts.specs.Loops.{until_begins, until_ends, until_fails, until_goes_on}
+use Rattle.om_parser_parts.specs.PartReading.{parts}
+use Rattle.om_parser_parts.specs.Reading.{take_mark}
+use Rattle.om_parser_parts.specs.Repetition.{until}
+use Rattle.om_parser_tree.specs.Limits.{accepted}
+use Rattle.om_parser_tree.specs.Tree.{PartTree, StatementTree}
+use Rattle.om_parser_tree.specs.View.{part_layer, statement_layer, view_part, view_statement}
+use Rattle.om_parser_tree.specs.declared.tree.Part.{fold-roll-Part}
 use Rattle.om_parser.proofs.OneOrMore.{more_begins, more_ends, more_fails, more_goes_on}
 use Rattle.om_parser.proofs.Shorter.{brace_shorter, block_item_shorter, part_item_shorter, part_shorter}
 use Rattle.om_parser.proofs.Started.{block_statement}

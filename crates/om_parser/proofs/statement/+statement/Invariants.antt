@@ -1,14 +1,14 @@
 use Rattle.std.proofs.Common.{◌+◌, ◌*◌, length, map}
 use Rattle.om_lexer.specs.declared.token.Punctuator.TheVariants.{CloseBrace}
-use Rattle.om_tree.specs.Limits.{accepted}
-use Rattle.om_parts.specs.PartReading.{parts}
-use Rattle.om_parts.specs.Reading.{take_mark}
-use Rattle.om_parts.specs.Repetition.{until}
+use Rattle.om_parser_tree.specs.Limits.{accepted}
+use Rattle.om_parser_parts.specs.PartReading.{parts}
+use Rattle.om_parser_parts.specs.Reading.{take_mark}
+use Rattle.om_parser_parts.specs.Repetition.{until}
 use Rattle.om_parser.specs.ConstructReading.{ends_part, ends_parts, part_at, part_item_at}
 use Rattle.om_parser.specs.OneOrMore.{one_or_more}
 use Rattle.om_parser.specs.StatementReading.{block_item_at, statement_at}
-use Rattle.om_tree.specs.View.{view_part, view_statement}
-use Rattle.om_parts.specs.Loops.{GoesOn}
+use Rattle.om_parser_tree.specs.View.{view_part, view_statement}
+use Rattle.om_parser_parts.specs.Loops.{GoesOn}
 use Rattle.om_parser.proofs.OneOrMore.{MoreLeft}
 use Rattle.om_parser.proofs.statement.+statement.Given as goal
 

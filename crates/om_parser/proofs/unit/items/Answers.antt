@@ -1,11 +1,11 @@
 use Rattle.std.proofs.Common.{◌≡◌, [], ◌∷◌, ◌++◌, length, map, sym, arith}
 use Rattle.std.proofs.lemmas.Result.{err_from_is_err_and}
 use Rattle.std.proofs.lemmas.List.{map_push}
-use Rattle.om_tree.specs.Limits.{accepted}
-use Rattle.om_parts.specs.Repetition.{until}
+use Rattle.om_parser_tree.specs.Limits.{accepted}
+use Rattle.om_parser_parts.specs.Repetition.{until}
 use Rattle.om_parser.specs.UnitReading.{take_end, item_at}
-use Rattle.om_tree.specs.View.{view_item}
-use Rattle.om_parts.specs.Loops.{until_begins, until_ends, until_fails, until_goes_on}
+use Rattle.om_parser_tree.specs.View.{view_item}
+use Rattle.om_parser_parts.specs.Loops.{until_begins, until_ends, until_fails, until_goes_on}
 use Rattle.om_parser.proofs.UnitSound.{end_shorter, item_shorter}
 use Rattle.om_parser.proofs.unit.items.Goals as goal
 

@@ -1,6 +1,6 @@
 use Rattle.std.proofs.Common.{refl}
-use Rattle.om_resolved.specs.declared.resolved.ResolvedStatement.{fold-roll-ResolvedStatement}
-use Rattle.om_resolved.specs.declared.resolved.ResolvedStatement.TheVariants as made
+use Rattle.om_scope_tree.specs.declared.resolved.ResolvedStatement.{fold-roll-ResolvedStatement}
+use Rattle.om_scope_tree.specs.declared.resolved.ResolvedStatement.TheVariants as made
 use Rattle.om_scope.proofs.assembly.parallel_of.Goals as goal
 
 pub returns-clause-made : goal.returns-clause-made

@@ -1,8 +1,8 @@
 use Rattle.std.proofs.Common.{ap, ◌∙◌}
-use Rattle.om_tree.specs.View.{view_head}
-use Rattle.om_rules.specs.Scopes.{after_optionals, outside, parameters_of}
+use Rattle.om_parser_tree.specs.View.{view_head}
+use Rattle.om_scope_rules.specs.Scopes.{after_optionals, outside, parameters_of}
 use Rattle.std.proofs.lemmas.Result.{err_from_is_err_and}
-use Rattle.om_rules.specs.InRow.{first_of_left}
+use Rattle.om_scope_rules.specs.InRow.{first_of_left}
 use Rattle.om_scope.proofs.Parameters.{prototype_outside}
 use Rattle.om_scope.proofs.function.check_prototype.Goals as goal
 

@@ -1,7 +1,7 @@
 use Rattle.std.proofs.Common.{map, ap, ◌∙◌}
 use Rattle.std.proofs.lemmas.Result.{err_from_is_err_and}
-use Rattle.om_rules.specs.Faults.{first_of}
-use Rattle.om_rules.specs.InRow.{first_of_left}
+use Rattle.om_scope_rules.specs.Faults.{first_of}
+use Rattle.om_scope_rules.specs.InRow.{first_of_left}
 use Rattle.om_scope.specs.Items.{drop-item}
 use Rattle.om_scope.proofs.function.declare_further_optionals.Goals as goal
 

@@ -1,7 +1,7 @@
 use Rattle.std.proofs.Common.{◌≡◌, ◌≤◌, map, drop}
-use Rattle.om_rules.specs.Scopes.{after_optionals}
-use Rattle.om_rules.specs.Faults.{breaches_along}
-use Rattle.om_rules.specs.UnitRules.{next_optional, optional_breaches}
+use Rattle.om_scope_rules.specs.Scopes.{after_optionals}
+use Rattle.om_scope_rules.specs.Faults.{breaches_along}
+use Rattle.om_scope_rules.specs.UnitRules.{next_optional, optional_breaches}
 use Rattle.om_scope.proofs.function.declare_further_optionals.Given as goal
 
 abbrev pub invariant-loop-further : goal.invariant-loop-further

@@ -1,8 +1,8 @@
 use Rattle.std.proofs.Common.{map, ap, sym, ◌∙◌}
 use Rattle.std.proofs.lemmas.List.{append-nil, drop_all}
 use Rattle.std.proofs.lemmas.Result.{err_from_is_err_and}
-use Rattle.om_rules.specs.Faults.{first_of}
-use Rattle.om_rules.specs.InRow.{first_of_left}
+use Rattle.om_scope_rules.specs.Faults.{first_of}
+use Rattle.om_scope_rules.specs.InRow.{first_of_left}
 use Rattle.om_scope.specs.Items.{drop-item}
 use Rattle.om_scope.proofs.function.declare_further_parameters.Goals as goal
 

@@ -1,8 +1,8 @@
 use Rattle.std.proofs.Common.{◌≡◌, ◌≤◌, ◌++◌, map, drop}
-use Rattle.om_rules.specs.Scopes.{after_parameters}
-use Rattle.om_rules.specs.Faults.{breaches_along}
-use Rattle.om_rules.specs.UnitResolution.{parameter_variable}
-use Rattle.om_rules.specs.UnitRules.{next_parameter, parameter_breaches}
+use Rattle.om_scope_rules.specs.Scopes.{after_parameters}
+use Rattle.om_scope_rules.specs.Faults.{breaches_along}
+use Rattle.om_scope_rules.specs.UnitResolution.{parameter_variable}
+use Rattle.om_scope_rules.specs.UnitRules.{next_parameter, parameter_breaches}
 use Rattle.om_scope.proofs.function.declare_further_parameters.Given as goal
 
 abbrev pub invariant-loop-further : goal.invariant-loop-further

@@ -1,6 +1,6 @@
 use Rattle.std.proofs.lemmas.Result.{err_from_is_err_and}
-use Rattle.om_rules.specs.InRow.{first_of_left}
-use Rattle.om_rules.specs.Resolves.{refuses}
+use Rattle.om_scope_rules.specs.InRow.{first_of_left}
+use Rattle.om_scope_rules.specs.Resolves.{refuses}
 use Rattle.om_scope.proofs.function.resolve_function.Goals as goal
 
 pub returns-in_err-begin_definition-clause-found : goal.returns-in_err-begin_definition-clause-found

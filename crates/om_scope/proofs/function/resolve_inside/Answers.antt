@@ -1,7 +1,7 @@
 use Rattle.std.proofs.Common.{ap, ◌∙◌, map}
-use Rattle.om_tree.specs.View.{view_head, view_statement}
-use Rattle.om_rules.specs.Scopes.{after_parameters, outside, parameters_of}
-use Rattle.om_rules.specs.StatementRules.{after_statements}
+use Rattle.om_parser_tree.specs.View.{view_head, view_statement}
+use Rattle.om_scope_rules.specs.Scopes.{after_parameters, outside, parameters_of}
+use Rattle.om_scope_rules.specs.StatementRules.{after_statements}
 use Rattle.om_scope.proofs.Parameters.{function_outside}
 use Rattle.om_scope.proofs.function.resolve_inside.Goals as goal
 

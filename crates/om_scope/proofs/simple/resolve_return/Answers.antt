@@ -1,7 +1,7 @@
 use Rattle.std.proofs.Common.{refl}
-use Rattle.om_resolved.specs.declared.resolved.ResolvedStatement.{fold-roll-ResolvedStatement}
-use Rattle.om_resolved.specs.declared.resolved.ResolvedStatement.TheVariants as made
-use Rattle.om_rules.specs.InRow.{both_whole}
+use Rattle.om_scope_tree.specs.declared.resolved.ResolvedStatement.{fold-roll-ResolvedStatement}
+use Rattle.om_scope_tree.specs.declared.resolved.ResolvedStatement.TheVariants as made
+use Rattle.om_scope_rules.specs.InRow.{both_whole}
 use Rattle.om_scope.proofs.simple.resolve_return.Goals as goal
 
 pub returns : goal.returns

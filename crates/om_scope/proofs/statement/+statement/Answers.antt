@@ -3,16 +3,16 @@ use Rattle.std.proofs.Common.{arith, rules}
 use Rattle.std.specs.Prelude.{is_some}
 use Rattle.std.proofs.lemmas.List.{drop_all}
 use Rattle.std.proofs.lemmas.Result.{err_from_is_err_and}
-use Rattle.om_tree.specs.declared.tree.Statement.TheViews.{size-Statement, sized-Construct}
-use Rattle.om_tree.specs.View.{view_directive, view_for_start, view_part, view_statement}
-use Rattle.om_rules.specs.LoopViews.{view_loop}
-use Rattle.om_rules.specs.Loops.{loop_in}
-use Rattle.om_resolved.specs.ResolvedView as view
-use Rattle.om_rules.specs.ProperConstructs.{construct_there, parts_proper, proper_inside}
-use Rattle.om_rules.specs.Scopes.{inside, outside}
-use Rattle.om_rules.specs.StatementResolution.{resolved_statement}
-use Rattle.om_rules.specs.StatementRules.{after_for_start, after_statement, after_statements, parts_breaches}
-use Rattle.om_rules.specs.StatementRules.{statement_breaches, statements_breaches}
+use Rattle.om_parser_tree.specs.declared.tree.Statement.TheViews.{size-Statement, sized-Construct}
+use Rattle.om_parser_tree.specs.View.{view_directive, view_for_start, view_part, view_statement}
+use Rattle.om_scope_rules.specs.LoopViews.{view_loop}
+use Rattle.om_scope_rules.specs.Loops.{loop_in}
+use Rattle.om_scope_tree.specs.ResolvedView as view
+use Rattle.om_scope_rules.specs.ProperConstructs.{construct_there, parts_proper, proper_inside}
+use Rattle.om_scope_rules.specs.Scopes.{inside, outside}
+use Rattle.om_scope_rules.specs.StatementResolution.{resolved_statement}
+use Rattle.om_scope_rules.specs.StatementRules.{after_for_start, after_statement, after_statements, parts_breaches}
+use Rattle.om_scope_rules.specs.StatementRules.{statement_breaches, statements_breaches}
 use Rattle.om_scope.proofs.Blocks.{block_outside, body_outside, construct_outside, for_outside, parts_refuse}
 use Rattle.om_scope.proofs.Blocks.{parts_step, statements_made, statements_refuse, statements_step, statements_whole}
 use Rattle.om_scope.proofs.Constructs.{view_construct, view_do, view_if, view_if_else, view_while}
@@ -21,13 +21,13 @@ use Rattle.om_scope.proofs.Fronts.{bounds_refuse}
 use Rattle.om_scope.proofs.Inside.{block_inside, do_inside, else_inside, for_inside, if_inside, sections_inside}
 use Rattle.om_scope.proofs.Inside.{then_inside, while_inside}
 use Rattle.om_scope.proofs.MadeParts.{parts_made, parts_whole}
-use Rattle.om_rules.specs.InRow.{both_whole, first_refuses, second_refuses}
+use Rattle.om_scope_rules.specs.InRow.{both_whole, first_refuses, second_refuses}
 use Rattle.om_scope.proofs.BlockPropers.{left_parts_proper, left_proper, with_depth}
 use Rattle.om_scope.specs.Items.{drop-item, length-map}
 use Rattle.om_scope.specs.Pushes.{map-push}
-use Rattle.om_rules.specs.Resolves.{refuses}
-use Rattle.om_resolved.specs.declared.resolved.ResolvedStatement.{fold-roll-ResolvedStatement}
-use Rattle.om_resolved.specs.declared.resolved.ResolvedStatement.TheVariants as made
+use Rattle.om_scope_rules.specs.Resolves.{refuses}
+use Rattle.om_scope_tree.specs.declared.resolved.ResolvedStatement.{fold-roll-ResolvedStatement}
+use Rattle.om_scope_tree.specs.declared.resolved.ResolvedStatement.TheVariants as made
 use Rattle.om_scope.proofs.statement.+statement.Goals as goal
 
 pub resolve_statement-returns-in-Construct-clause-found : goal.resolve_statement-returns-in-Construct-clause-found

@@ -1,10 +1,10 @@
 use Rattle.std.proofs.Common.{◌≡◌, length, map, drop}
-use Rattle.om_tree.specs.Tree.{parts, statements}
-use Rattle.om_tree.specs.View.{view_part, view_statement}
-use Rattle.om_resolved.specs.ResolvedView as view
-use Rattle.om_rules.specs.Proper.{AreProper, AreProperParts}
-use Rattle.om_rules.specs.StatementResolution.{resolved_parts, resolved_statements}
-use Rattle.om_rules.specs.StatementRules.{after_statements, parts_breaches, statements_breaches}
+use Rattle.om_parser_tree.specs.Tree.{parts, statements}
+use Rattle.om_parser_tree.specs.View.{view_part, view_statement}
+use Rattle.om_scope_tree.specs.ResolvedView as view
+use Rattle.om_scope_rules.specs.Proper.{AreProper, AreProperParts}
+use Rattle.om_scope_rules.specs.StatementResolution.{resolved_parts, resolved_statements}
+use Rattle.om_scope_rules.specs.StatementRules.{after_statements, parts_breaches, statements_breaches}
 use Rattle.om_scope.proofs.MadeParts.{MadeParts}
 use Rattle.om_scope.proofs.Statements.{Made}
 use Rattle.om_scope.proofs.statement.+statement.Given as goal

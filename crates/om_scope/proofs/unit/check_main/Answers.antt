@@ -1,6 +1,6 @@
 use Rattle.std.proofs.Common.{refl}
-use Rattle.om_tree.specs.View.{view_item}
-use Rattle.om_rules.specs.Breaches.{is_main}
+use Rattle.om_parser_tree.specs.View.{view_item}
+use Rattle.om_scope_rules.specs.Breaches.{is_main}
 use Rattle.om_scope.proofs.Items.{list_any-map}
 use Rattle.om_scope.proofs.unit.check_main.Goals as goal
 

@@ -1,11 +1,11 @@
 use Rattle.std.proofs.Common.{refl, subst}
 use Rattle.std.specs.Prelude.{IfSome, IsSomeAnd}
-use Rattle.om_tree.specs.View.{view_unit}
-use Rattle.om_resolved.specs.Beside.{TreeAtomicsAssign}
-use Rattle.om_resolved.specs.ResolvedView as view
-use Rattle.om_resolved.specs.Whole.{IsWholeTree}
-use Rattle.om_rules.specs.Breaches.{breaches_of}
-use Rattle.om_rules.specs.UnitResolution.{resolution_of}
+use Rattle.om_parser_tree.specs.View.{view_unit}
+use Rattle.om_scope_tree.specs.Beside.{TreeAtomicsAssign}
+use Rattle.om_scope_tree.specs.ResolvedView as view
+use Rattle.om_scope_tree.specs.Whole.{IsWholeTree}
+use Rattle.om_scope_rules.specs.Breaches.{breaches_of}
+use Rattle.om_scope_rules.specs.UnitResolution.{resolution_of}
 use Rattle.om_scope.proofs.Propers.{unit_proper}
 use Rattle.om_scope.proofs.unit.resolve.Goals as goal
 

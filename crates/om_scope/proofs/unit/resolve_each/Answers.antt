@@ -2,16 +2,16 @@ use Rattle.std.proofs.Common.{◌+◌, ◌++◌, Some, map, drop, ap, sym, refl,
 use Rattle.std.specs.List.{flat_map}
 use Rattle.std.proofs.lemmas.List.{append-nil, drop_all}
 use Rattle.std.proofs.lemmas.Result.{err_from_is_err_and}
-use Rattle.om_tree.specs.View.{view_item}
-use Rattle.om_resolved.specs.ResolvedView as view
-use Rattle.om_rules.specs.Perhaps.{all_along}
-use Rattle.om_rules.specs.Scopes.{after_item}
-use Rattle.om_rules.specs.UnitResolution.{globals_of, item_functions}
-use Rattle.om_rules.specs.UnitRules.{item_breaches}
-use Rattle.om_rules.specs.InRow.{all_along-step, made_and, unbroken-begin, unbroken-refuse, unbroken-step}
+use Rattle.om_parser_tree.specs.View.{view_item}
+use Rattle.om_scope_tree.specs.ResolvedView as view
+use Rattle.om_scope_rules.specs.Perhaps.{all_along}
+use Rattle.om_scope_rules.specs.Scopes.{after_item}
+use Rattle.om_scope_rules.specs.UnitResolution.{globals_of, item_functions}
+use Rattle.om_scope_rules.specs.UnitRules.{item_breaches}
+use Rattle.om_scope_rules.specs.InRow.{all_along-step, made_and, unbroken-begin, unbroken-refuse, unbroken-step}
 use Rattle.om_scope.specs.Items.{drop-item}
 use Rattle.om_scope.proofs.Propers.{item_proper}
-use Rattle.om_rules.specs.InRow.{row_whole}
+use Rattle.om_scope_rules.specs.InRow.{row_whole}
 use Rattle.om_scope.proofs.unit.resolve_each.Goals as goal
 
 pub resolve_item-requires : goal.resolve_item-requires

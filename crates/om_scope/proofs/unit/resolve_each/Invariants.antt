@@ -1,12 +1,12 @@
 use Rattle.std.proofs.Common.{◌≡◌, ◌++◌, map, drop}
 use Rattle.std.specs.List.{flat_map}
-use Rattle.om_tree.specs.View.{view_item}
-use Rattle.om_rules.specs.Perhaps.{all_along}
-use Rattle.om_resolved.specs.ResolvedView as view
-use Rattle.om_rules.specs.Scopes.{after_item}
-use Rattle.om_rules.specs.UnitResolution.{globals_of, item_functions}
-use Rattle.om_rules.specs.UnitRules.{item_breaches}
-use Rattle.om_rules.specs.InRow.{Unbroken, made_and}
+use Rattle.om_parser_tree.specs.View.{view_item}
+use Rattle.om_scope_rules.specs.Perhaps.{all_along}
+use Rattle.om_scope_tree.specs.ResolvedView as view
+use Rattle.om_scope_rules.specs.Scopes.{after_item}
+use Rattle.om_scope_rules.specs.UnitResolution.{globals_of, item_functions}
+use Rattle.om_scope_rules.specs.UnitRules.{item_breaches}
+use Rattle.om_scope_rules.specs.InRow.{Unbroken, made_and}
 use Rattle.om_scope.proofs.unit.resolve_each.Given as goal
 
 abbrev pub invariant-loop-item : goal.invariant-loop-item

@@ -1,7 +1,7 @@
 use Rattle.std.proofs.Common.{map, ap, ◌∙◌}
-use Rattle.om_tree.specs.View.{view_item}
-use Rattle.om_resolved.specs.ResolvedView as view
-use Rattle.om_rules.specs.Scopes.{file_scope}
+use Rattle.om_parser_tree.specs.View.{view_item}
+use Rattle.om_scope_tree.specs.ResolvedView as view
+use Rattle.om_scope_rules.specs.Scopes.{file_scope}
 use Rattle.om_scope.proofs.Wholes.{whole_made}
 use Rattle.om_scope.proofs.unit.resolve_from.Goals as goal
 

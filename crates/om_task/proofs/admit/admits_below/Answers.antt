@@ -1,6 +1,6 @@
 use Rattle.std.proofs.Common.{◌∙◌, ap, sym}
 use Rattle.std.specs.Prelude.{map, option_map}
-use Rattle.om_live.specs.Plain.{plain_context, plain_held}
+use Rattle.om_memory.specs.Plain.{plain_context, plain_held}
 use Rattle.om_task.proofs.Admits.{admits_none, admits_more}
 use Rattle.om_task.proofs.admit.admits_below.Goals as goal
 

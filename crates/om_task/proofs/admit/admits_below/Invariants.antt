@@ -1,6 +1,6 @@
 use Rattle.std.proofs.Common.{◌≡◌, drop}
 use Rattle.std.specs.Prelude.{map}
-use Rattle.om_live.specs.Plain.{plain_held}
+use Rattle.om_memory.specs.Plain.{plain_held}
 use Rattle.om_task.specs.Rules.{admits_all}
 use Rattle.om_task.proofs.admit.admits_below.Given as goal
 

@@ -1,6 +1,6 @@
-use Rattle.om_values.specs.declared.step.Label.{Label}
-use Rattle.om_live.specs.Plain.{plain_control}
-use Rattle.om_live.specs.Stores.{state_of}
+use Rattle.om_state.specs.declared.step.Label.{Label}
+use Rattle.om_memory.specs.Plain.{plain_control}
+use Rattle.om_memory.specs.Memories.{state_of}
 use Rattle.om_task.proofs.Plans.{room_in, stands_for}
 use Rattle.om_task.specs.Plans.{answer_in, label_at}
 use Rattle.om_task.proofs.planning.control_plan.Goals as goal

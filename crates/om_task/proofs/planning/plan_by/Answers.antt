@@ -1,6 +1,6 @@
-use Rattle.om_values.specs.declared.control.Control.TheVariants.{Idle}
-use Rattle.om_live.specs.Plain.{plain_control}
-use Rattle.om_live.specs.Stores.{state_of}
+use Rattle.om_state.specs.declared.control.Control.TheVariants.{Idle}
+use Rattle.om_memory.specs.Plain.{plain_control}
+use Rattle.om_memory.specs.Memories.{state_of}
 use Rattle.om_task.specs.Plans.{label_at}
 use Rattle.om_task.proofs.Plans.{plan_for, room_for}
 use Rattle.om_task.proofs.planning.plan_by.Goals as goal

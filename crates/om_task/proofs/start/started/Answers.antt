@@ -2,9 +2,9 @@ use Rattle.std.proofs.Common.{◌∙◌, ap, arith, [], ◌∷◌}
 use Rattle.om_events.specs.declared.event.Record.TheVariants as event_record
 use Rattle.om_events.specs.declared.kind.Thread.TheVariants as thread
 use Rattle.om_foot.specs.declared.object.Obj.TheVariants as obj
-use Rattle.om_values.specs.declared.value.Val.TheVariants as value
-use Rattle.om_values.specs.State.{with_value}
-use Rattle.om_live.specs.Stores.{state_of}
+use Rattle.om_state.specs.declared.value.Val.TheVariants as value
+use Rattle.om_state.specs.State.{with_value}
+use Rattle.om_memory.specs.Memories.{state_of}
 use Rattle.om_task.proofs.Starting.{worker-next}
 use Rattle.om_task.proofs.start.started.Goals as goal
 

@@ -1,5 +1,5 @@
 use Rattle.std.proofs.Common.{◌≡◌}
-use Rattle.om_live.specs.Stores.{state_of}
+use Rattle.om_memory.specs.Memories.{state_of}
 use Rattle.om_task.specs.Rules.{start_of}
 use Rattle.om_task.proofs.start.started.Given as goal
 

@@ -1,8 +1,8 @@
 use Rattle.std.proofs.Common.{◌≡◌, ◌∙◌, sym, ap, add-one, arith, length, subst, ◌<◌, ℕ, get_or, Some}
 use Rattle.om_code.specs.declared.raw.GlobalVariable.{GlobalVariable}
 use Rattle.om_foot.specs.declared.object.Obj.TheVariants as obj
-use Rattle.om_values.specs.declared.value.Val.TheVariants as value
-use Rattle.om_values.specs.State.{with_value}
+use Rattle.om_state.specs.declared.value.Val.TheVariants as value
+use Rattle.om_state.specs.State.{with_value}
 use Rattle.om_task.specs.Rules.{initial_in, first_control, first_records}
 use Rattle.om_task.proofs.Starting.{start_below, start-none, start-more, int}
 use Rattle.om_task.proofs.start.with_globals.Goals as goal

@@ -1,9 +1,9 @@
 use Rattle.std.proofs.Common.{◌∙◌, ◌+◌, ap, sym}
 use Rattle.om_code.specs.Places.{line_at}
-use Rattle.om_live.specs.Plain.{plain_context, plain_stack}
-use Rattle.om_live.specs.Stores.{state_of}
-use Rattle.om_live.specs.declared.control.Context.{Context}
-use Rattle.om_live.specs.declared.control.Frame.{Frame}
+use Rattle.om_memory.specs.Plain.{plain_context, plain_stack}
+use Rattle.om_memory.specs.Memories.{state_of}
+use Rattle.om_memory.specs.declared.control.Context.{Context}
+use Rattle.om_memory.specs.declared.control.Frame.{Frame}
 use Rattle.om_task.specs.Rows.{spawn_row, wait_begin_row, task_yield_row}
 use Rattle.om_team.specs.Sites.{site}
 use Rattle.om_team.specs.AtStates.{to_same}

@@ -1,5 +1,5 @@
 use Rattle.std.proofs.Common.{rules}
-use Rattle.om_live.specs.Plain.{plain_context, plain_stack}
+use Rattle.om_memory.specs.Plain.{plain_context, plain_stack}
 use Rattle.om_task.proofs.Ending.{ended_at}
 use Rattle.om_task.proofs.task.task_end.Goals as goal
 

@@ -1,5 +1,5 @@
 use Rattle.std.proofs.Common.{◌≡◌, ◌-◌}
-use Rattle.om_live.specs.Stores.{state_of}
+use Rattle.om_memory.specs.Memories.{state_of}
 use Rattle.om_team.specs.Teams.{busy_in}
 use Rattle.om_team.proofs.members.busy.Given as goal
 

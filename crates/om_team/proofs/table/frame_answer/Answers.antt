@@ -2,11 +2,11 @@ use Rattle.std.proofs.Common.{◌∙◌, ◌+◌, ap, sym}
 use Rattle.std.specs.Prelude.{unwrap_or}
 use Rattle.om_code.specs.Places.{no_body}
 use Rattle.om_code.specs.Printing.{ints_on}
-use Rattle.om_live.specs.Plain.{plain_context, plain_stack}
-use Rattle.om_live.specs.Stores.{state_of}
-use Rattle.om_values.specs.declared.control.Team.{Team}
-use Rattle.om_live.specs.declared.control.Context.{Context}
-use Rattle.om_steps.specs.SerialRows.{call_row, number_row}
+use Rattle.om_memory.specs.Plain.{plain_context, plain_stack}
+use Rattle.om_memory.specs.Memories.{state_of}
+use Rattle.om_state.specs.declared.control.Team.{Team}
+use Rattle.om_memory.specs.declared.control.Context.{Context}
+use Rattle.om_team_serial.specs.SerialRows.{call_row, number_row}
 use Rattle.om_team.specs.Sites.{site}
 use Rattle.om_team.specs.Table.{frame_row}
 use Rattle.om_team.specs.AtStates.{to_same}

@@ -2,9 +2,9 @@ use Rattle.std.proofs.Common.{◌∙◌, ap, subst}
 use Rattle.std.specs.Prelude.{IfSome}
 use Rattle.om_code.specs.Places.{instruction_at, slots_of}
 use Rattle.om_code.specs.Validity.{NamesKnown}
-use Rattle.om_live.specs.Plain.{plain_stack}
-use Rattle.om_live.specs.declared.control.Context.{Context}
-use Rattle.om_live.specs.declared.control.Frame.{Frame}
+use Rattle.om_memory.specs.Plain.{plain_stack}
+use Rattle.om_memory.specs.declared.control.Context.{Context}
+use Rattle.om_memory.specs.declared.control.Frame.{Frame}
 use Rattle.om_team.proofs.Ready.{ready_if}
 use Rattle.om_team.proofs.table.instruction_of.Goals as goal
 

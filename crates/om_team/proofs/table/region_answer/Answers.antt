@@ -1,9 +1,9 @@
 use Rattle.std.proofs.Common.{◌∙◌, ◌+◌, ap, sym}
-use Rattle.om_live.specs.Plain.{plain_context, plain_stack}
-use Rattle.om_live.specs.Stores.{state_of}
+use Rattle.om_memory.specs.Plain.{plain_context, plain_stack}
+use Rattle.om_memory.specs.Memories.{state_of}
 use Rattle.om_code.specs.Frames.{int_at}
-use Rattle.om_share.specs.Rows.{ask_critical_row, leave_critical_row, masked_row}
-use Rattle.om_steps.specs.Objects.{innermost}
+use Rattle.om_team_worksharing.specs.Rows.{ask_critical_row, leave_critical_row, masked_row}
+use Rattle.om_team_serial.specs.Objects.{innermost}
 use Rattle.om_team.specs.Sites.{site}
 use Rattle.om_team.specs.Table.{region_row}
 use Rattle.om_team.specs.AtStates.{to_same}

@@ -1,8 +1,8 @@
 use Rattle.std.proofs.Common.{◌∙◌, ◌+◌, ap, sym}
-use Rattle.om_live.specs.Plain.{plain_context, plain_stack}
-use Rattle.om_live.specs.Stores.{state_of}
+use Rattle.om_memory.specs.Plain.{plain_context, plain_stack}
+use Rattle.om_memory.specs.Memories.{state_of}
 use Rattle.om_code.specs.Frames.{int_at}
-use Rattle.om_share.specs.Rows.{share_in, loop_row, iterate_row, pick_row}
+use Rattle.om_team_worksharing.specs.Rows.{share_in, loop_row, iterate_row, pick_row}
 use Rattle.om_team.specs.Sites.{site}
 use Rattle.om_team.specs.Table.{share_row}
 use Rattle.om_team.specs.AtStates.{to_same}

@@ -1,8 +1,8 @@
 use Rattle.std.proofs.Common.{◌∙◌, ◌+◌, ap, sym}
-use Rattle.om_live.specs.Plain.{plain_context, plain_stack}
-use Rattle.om_live.specs.Stores.{state_of}
+use Rattle.om_memory.specs.Plain.{plain_context, plain_stack}
+use Rattle.om_memory.specs.Memories.{state_of}
 use Rattle.om_team.specs.Rows.{begin_row}
-use Rattle.om_share.specs.Rows.{arrive_row, depart_row, leave_row}
+use Rattle.om_team_worksharing.specs.Rows.{arrive_row, depart_row, leave_row}
 use Rattle.om_team.specs.Sites.{site}
 use Rattle.om_team.specs.Table.{team_row}
 use Rattle.om_team.specs.AtStates.{to_same}

@@ -1,8 +1,8 @@
 use Rattle.std.proofs.Common.{◌∙◌, sym, ap, Some}
 use Rattle.std.specs.Prelude.{unwrap_or}
-use Rattle.om_values.specs.Rules.{Rules}
+use Rattle.om_state.specs.Rules.{Rules}
 use Rattle.om_task.specs.Rules.{rules_of}
-use Rattle.om_history.specs.Commands.{IsReplayed}
+use Rattle.om_undo_history.specs.Commands.{IsReplayed}
 use Rattle.om_undo.specs.Headline.{history_after}
 use Rattle.om_undo.proofs.laws.headline.Goals as goal
 

@@ -2,13 +2,13 @@
 use Rattle.std.proofs.Common.{arith, ◌^◌, List, IfOk}
 use Rattle.std.specs.Prelude.{map, Result, Ok, Err}
 use Rattle.std.proofs.lemmas.List.{length-map}
-use Rattle.om_live.specs.Stores.{state_of}
-use Rattle.om_values.specs.declared.step.Entry.{Entry}
+use Rattle.om_memory.specs.Memories.{state_of}
+use Rattle.om_state.specs.declared.step.Entry.{Entry}
 use Rattle.om_task.specs.Plans.{label_at}
 use Rattle.om_task.specs.Rules.{rules_of}
-use Rattle.om_history.specs.declared.records.UndoRecord.{UndoRecord}
-use Rattle.om_history.specs.Runs.{label_of}
-use Rattle.om_history.specs.Pasts.{past_in, history_in}
+use Rattle.om_undo_history.specs.declared.records.UndoRecord.{UndoRecord}
+use Rattle.om_undo_history.specs.Runs.{label_of}
+use Rattle.om_undo_history.specs.Pasts.{past_in, history_in}
 use Rattle.om_undo.proofs.Planned.{is_plan}
 use Rattle.om_undo.proofs.machine.planned_by.Goals as goal
 

@@ -1,5 +1,5 @@
 use Rattle.std.proofs.lemmas.Result.{IfOk-weaker, on_ok_weaker}
-use Rattle.om_history.specs.Choices.{label_by}
+use Rattle.om_undo_history.specs.Choices.{label_by}
 use Rattle.om_undo.proofs.Planned.{is_planned, has_room, blocked_reply, blocked_after, ended_reply, ended_after}
 use Rattle.om_undo.proofs.machine.taken.Goals as goal
 

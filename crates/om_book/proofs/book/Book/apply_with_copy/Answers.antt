@@ -1,6 +1,6 @@
 use Rattle.std.proofs.Common.{rules, subst, sym, ◌<◌, length}
 use Rattle.om_book.specs.Books.{BookView}
-use Rattle.om_journal.specs.Growing.{sound_next, sound_same}
+use Rattle.om_book_journal.specs.Growing.{sound_next, sound_same}
 use Rattle.om_book.proofs.book.Book.apply_with_copy.Goals.{in-Ok, in-Err}
 use Rattle.om_book.proofs.book.Book.apply_with_copy.Goals as goal
 

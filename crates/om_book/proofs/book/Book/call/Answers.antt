@@ -1,7 +1,7 @@
 use Rattle.std.proofs.Common.{rules, refl, subst, sym, ◌<◌, length}
 use Rattle.om_book.specs.Books.{BookView}
-use Rattle.om_journal.specs.Runs.{reply_to}
-use Rattle.om_journal.specs.Growing.{sound_next, sound_same}
+use Rattle.om_book_journal.specs.Runs.{reply_to}
+use Rattle.om_book_journal.specs.Growing.{sound_next, sound_same}
 use Rattle.om_book.proofs.book.Book.call.Goals.{in-Ok, in-Err}
 use Rattle.om_book.proofs.book.Book.call.Goals as goal
 

@@ -1,5 +1,5 @@
 use Rattle.std.proofs.Common.{rules, ◌≡◌}
-use Rattle.om_journal.specs.RunLeft.{sound_run}
+use Rattle.om_book_journal.specs.RunLeft.{sound_run}
 use Rattle.om_book.proofs.book.Book.machine.Goals as goal
 
 pub returns-clause-run : goal.returns-clause-run

@@ -1,7 +1,7 @@
 use Rattle.std.proofs.Common.{◌∙◌, ap, drop}
 use Rattle.om_book.specs.Books.{BookView}
-use Rattle.om_journal.specs.Journals.{done_in}
-use Rattle.om_journal.specs.Growing.{slice_to_end}
+use Rattle.om_book_journal.specs.Journals.{done_in}
+use Rattle.om_book_journal.specs.Growing.{slice_to_end}
 use Rattle.om_book.proofs.book.Book.steps_behind.Goals as goal
 
 pub returns : goal.returns

@@ -1,10 +1,10 @@
 use Rattle.std.proofs.Common.{◌≡◌, ◌∙◌, ap, rules, refl, subst, sym, ◌<◌, length, List}
-use Rattle.om_history.specs.Runs.{reply_to_step}
+use Rattle.om_undo_history.specs.Runs.{reply_to_step}
 use Rattle.om_undo.specs.Machines.{MachineView, rules_for}
-use Rattle.om_journal.specs.Records.{JournalRecord}
+use Rattle.om_book_journal.specs.Records.{JournalRecord}
 use Rattle.om_book.specs.Books.{BookView, machine_of, with_record}
-use Rattle.om_journal.specs.Runs.{reply_to, step_command}
-use Rattle.om_journal.specs.Growing.{sound_next, sound_same}
+use Rattle.om_book_journal.specs.Runs.{reply_to, step_command}
+use Rattle.om_book_journal.specs.Growing.{sound_next, sound_same}
 use Rattle.om_book.proofs.book.Book.take.Goals.{in-Ok, in-Err-append_step}
 use Rattle.om_book.proofs.book.Book.take.Goals as goal
 

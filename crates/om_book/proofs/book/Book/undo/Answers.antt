@@ -1,10 +1,10 @@
 use Rattle.std.proofs.Common.{◌≡◌, ◌∙◌, ap, rules, refl, subst, sym, ◌<◌, length, List}
 use Rattle.om_undo.specs.Machines.{MachineView}
-use Rattle.om_journal.specs.Records.{JournalRecord}
+use Rattle.om_book_journal.specs.Records.{JournalRecord}
 use Rattle.om_book.specs.Books.{BookView, machine_of, with_record}
-use Rattle.om_journal.specs.Runs.{reply_to}
-use Rattle.om_journal.specs.declared.command.Command.TheVariants as command
-use Rattle.om_journal.specs.Growing.{sound_next, sound_same}
+use Rattle.om_book_journal.specs.Runs.{reply_to}
+use Rattle.om_book_journal.specs.declared.command.Command.TheVariants as command
+use Rattle.om_book_journal.specs.Growing.{sound_next, sound_same}
 use Rattle.om_book.proofs.book.Book.undo.Goals.{in-Ok, in-Err}
 use Rattle.om_book.proofs.book.Book.undo.Goals as goal
 

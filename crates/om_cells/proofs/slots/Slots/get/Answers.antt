@@ -3,7 +3,7 @@ use Rattle.std.proofs.lemmas.Option.{slice_get_past, slice_get_read}
 use Rattle.std.specs.Prelude.{slice_get}
 use Rattle.std.specs.Option.{option_copied}
 use Rattle.std.specs.Slice.{IsItemAt}
-use Rattle.om_values.specs.declared.value.Val.{Val}
+use Rattle.om_state.specs.declared.value.Val.{Val}
 use Rattle.om_cells.specs.Slots.{slot_value}
 use Rattle.om_cells.proofs.SlotLemmas.{get_through}
 use Rattle.om_cells.proofs.slots.Slots.get.Goals as goal

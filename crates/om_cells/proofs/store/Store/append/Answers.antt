@@ -1,6 +1,6 @@
 use Rattle.std.proofs.Common.{◌∙◌, ap}
 use Rattle.om_cells.specs.Stores.{state_of}
-use Rattle.om_values.specs.State.{with_value}
+use Rattle.om_state.specs.State.{with_value}
 use Rattle.om_cells.proofs.StoreLemmas.{put_back}
 use Rattle.om_cells.proofs.store.Store.append.Goals as goal
 

@@ -4,7 +4,7 @@ use Rattle.std.specs.Prelude.{is_some}
 use Rattle.om_foot.specs.Cells.{cell_at}
 use Rattle.om_cells.specs.Slots.{kept_over, slot_value}
 use Rattle.om_cells.specs.Stores.{state_of, is_kept, kept_in}
-use Rattle.om_values.specs.Values.{default_of}
+use Rattle.om_state.specs.Values.{default_of}
 use Rattle.om_cells.proofs.CellStates.{same_or, more_some, some_over, all_kept}
 use Rattle.om_cells.proofs.store.Store.keep_cells.Goals as goal
 

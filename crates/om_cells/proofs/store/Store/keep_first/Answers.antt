@@ -1,8 +1,8 @@
 use Rattle.std.proofs.Common.{◌∙◌, ap}
 use Rattle.om_foot.specs.declared.object.Obj.{Obj}
 use Rattle.om_cells.specs.Stores.{kept_at, state_of, is_kept}
-use Rattle.om_values.specs.State.{with_value}
-use Rattle.om_values.specs.Values.{default_of}
+use Rattle.om_state.specs.State.{with_value}
+use Rattle.om_state.specs.Values.{default_of}
 use Rattle.om_cells.proofs.StoreLemmas.{held, held-sets, held-same, kept-same, kept-there, kept-others, default-held, put_same}
 use Rattle.om_cells.proofs.store.Store.keep_first.Goals as goal
 

@@ -1,5 +1,5 @@
 use Rattle.std.proofs.lemmas.Result.{IfOk-weaker}
-use Rattle.om_values.specs.Runs.{were_listed}
+use Rattle.om_state.specs.Runs.{were_listed}
 use Rattle.om_cells.specs.Stores.{state_of, kept_in}
 use Rattle.om_cells.proofs.SlotLemmas.{noted_in}
 use Rattle.om_cells.proofs.store.Store.noted.Goals as goal

@@ -1,8 +1,8 @@
 use Rattle.std.proofs.Common.{◌≡◌, ◌∙◌, sym, ap, subst, true}
 use Rattle.std.specs.Prelude.{All}
 use Rattle.om_foot.specs.Cells.{cells_of}
-use Rattle.om_values.specs.Runs.{puts_of}
-use Rattle.om_values.specs.State.{updated, undo_record}
+use Rattle.om_state.specs.Runs.{puts_of}
+use Rattle.om_state.specs.State.{updated, undo_record}
 use Rattle.om_cells.specs.Stores.{state_of, is_kept}
 use Rattle.om_cells.proofs.CellStates.{each_kept, undone_all, one_run}
 use Rattle.om_cells.proofs.store.Store.put_cells.Goals as goal

@@ -1,5 +1,5 @@
 use Rattle.std.proofs.Common.{◌∙◌, sym, ap, neg_ℤ}
-use Rattle.om_values.specs.Values.{count_of}
+use Rattle.om_state.specs.Values.{count_of}
 use Rattle.om_cells.specs.Stores.{state_of}
 use Rattle.om_cells.proofs.StoreLemmas.{same_sum}
 use Rattle.om_cells.proofs.store.Store.subtract.Goals as goal

@@ -1,5 +1,5 @@
 use Rattle.std.proofs.Common.{◌∙◌, ap}
-use Rattle.om_values.specs.State.{with_value}
+use Rattle.om_state.specs.State.{with_value}
 use Rattle.om_cells.specs.Stores.{state_of}
 use Rattle.om_cells.proofs.SlotLemmas.{leads_one}
 use Rattle.om_cells.proofs.store.Store.write_at.Goals as goal

@@ -1,9 +1,9 @@
 use Rattle.std.proofs.Common.{◌≡◌, ◌≤◌, ◌-◌}
 use Rattle.std.specs.Vec.Iter.{into_iter_items}
 use Rattle.om_foot.specs.declared.object.Obj.{Obj}
-use Rattle.om_values.specs.State.{updated}
+use Rattle.om_state.specs.State.{updated}
 use Rattle.om_foot.specs.Cells.{cells_from}
-use Rattle.om_values.specs.Runs.{were_listed}
+use Rattle.om_state.specs.Runs.{were_listed}
 use Rattle.om_cells.specs.Stores.{state_of, is_kept}
 use Rattle.om_cells.proofs.store.Store.write_each.Given as goal
 

@@ -2,7 +2,7 @@ use Rattle.std.proofs.Common.{◌∙◌, sym, subst}
 use Rattle.om_cells.specs.Slots.{Leads}
 use Rattle.om_cells.specs.Stores.{state_of}
 use Rattle.om_cells.proofs.SlotLemmas.{leads_then}
-use Rattle.om_values.specs.RunPuts.{puts_more}
+use Rattle.om_state.specs.RunPuts.{puts_more}
 use Rattle.om_cells.proofs.store.Store.write_run.Goals as goal
 
 pub loop-turn-preserved : goal.loop-turn-preserved

@@ -1,6 +1,6 @@
 use Rattle.std.proofs.Common.{◌≡◌, ◌≤◌}
 use Rattle.om_foot.specs.declared.object.Obj.{Obj}
-use Rattle.om_values.specs.Runs.{puts_of}
+use Rattle.om_state.specs.Runs.{puts_of}
 use Rattle.om_cells.specs.Slots.{Leads}
 use Rattle.om_cells.specs.Stores.{state_of, is_kept}
 use Rattle.om_cells.proofs.store.Store.write_run.Given as goal

@@ -1,6 +1,6 @@
 use Rattle.std.proofs.Common.{rules, ◌≡◌, ◌≢◌, Some}
 use Rattle.std.proofs.lemmas.Result.{err_from_is_err_and}
-use Rattle.om_view.specs.Views.{opened}
+use Rattle.om_shell_debugger.specs.Views.{opened}
 use Rattle.om_shell.specs.declared.fault.ShellFault.TheVariants.{Memory, Read}
 use Rattle.om_shell.proofs.ServeLaws.{Breaks_unread}
 use Rattle.om_shell.proofs.host.Host.answer_commands.Goals as goal

@@ -3,7 +3,7 @@ use Rattle.std.specs.Prelude.{IfSome}
 use Rattle.std.proofs.lemmas.Result.{IfOk-weaker}
 use Rattle.std.proofs.lemmas.Option.{IfSome_then}
 use Rattle.om_task.specs.Rules.{rules_of}
-use Rattle.om_history.specs.Cones.{taken_by_roll}
+use Rattle.om_undo_history.specs.Cones.{taken_by_roll}
 use Rattle.om_undo.specs.Machines.{MachineView, rules_for}
 use Rattle.om_undo.proofs.machine.Machine.cone.Goals as goal
 

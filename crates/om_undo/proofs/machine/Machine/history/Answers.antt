@@ -1,11 +1,11 @@
 -- The headline, at the commands that led to the history.
 use Rattle.std.proofs.Common.{◌≡◌, subst, Some}
 use Rattle.std.specs.Prelude.{map}
-use Rattle.om_values.specs.Rules.{Rules, replay}
+use Rattle.om_state.specs.Rules.{Rules, replay}
 use Rattle.om_task.specs.Rules.{rules_of}
-use Rattle.om_history.specs.Commands.{IsRun}
-use Rattle.om_history.specs.Pasts.{history_in}
-use Rattle.om_history.specs.Runs.{History, label_of, state_of_entries}
+use Rattle.om_undo_history.specs.Commands.{IsRun}
+use Rattle.om_undo_history.specs.Pasts.{history_in}
+use Rattle.om_undo_history.specs.Runs.{History, label_of, state_of_entries}
 use Rattle.om_undo.specs.Machines.{MachineView, rules_for, state_in}
 use Rattle.om_undo.proofs.machine.Machine.history.Goals as goal
 

@@ -1,9 +1,9 @@
 use Rattle.std.proofs.Common.{◌≡◌, ◌∙◌, ap}
 use Rattle.om_foot.specs.declared.object.Obj.TheVariants as obj
-use Rattle.om_live.specs.Stores.{state_of}
-use Rattle.om_values.specs.Values.{control_in}
+use Rattle.om_memory.specs.Memories.{state_of}
+use Rattle.om_state.specs.Values.{control_in}
 use Rattle.om_task.specs.Rules.{rules_of, is_at_scheduling_point}
-use Rattle.om_history.specs.Pasts.{history_in}
+use Rattle.om_undo_history.specs.Pasts.{history_in}
 use Rattle.om_undo.specs.Machines.{MachineView, state_in}
 use Rattle.om_undo.proofs.Views.{view_of, state_is}
 use Rattle.om_undo.proofs.machine.Machine.is_at_scheduling_point.Goals as goal

@@ -1,11 +1,11 @@
 use Rattle.std.proofs.Common.{◌∙◌, ap, subst}
 use Rattle.std.specs.Option.{option_copied}
-use Rattle.om_values.specs.State.{State}
-use Rattle.om_values.specs.Ready.{is_ready_at, IsNext}
-use Rattle.om_values.specs.NextNames.{next_of_all, one_next}
-use Rattle.om_live.specs.Stores.{state_of}
+use Rattle.om_state.specs.State.{State}
+use Rattle.om_state.specs.Ready.{is_ready_at, IsNext}
+use Rattle.om_state.specs.NextNames.{next_of_all, one_next}
+use Rattle.om_memory.specs.Memories.{state_of}
 use Rattle.om_task.specs.Rules.{rules_of}
-use Rattle.om_history.specs.Pasts.{history_in}
+use Rattle.om_undo_history.specs.Pasts.{history_in}
 use Rattle.om_undo.specs.Machines.{MachineView, state_in}
 use Rattle.om_undo.specs.ReadyNames.{ready_names}
 use Rattle.om_undo.proofs.ReadyNames.{names_are_ready}

@@ -1,8 +1,8 @@
 -- The plan where the history stands is the plan at the machine.
 use Rattle.std.proofs.Common.{◌≡◌, sym, subst}
-use Rattle.om_values.specs.declared.step.Label.{Label}
+use Rattle.om_state.specs.declared.step.Label.{Label}
 use Rattle.om_task.specs.Plans.{label_at}
-use Rattle.om_history.specs.Choices.{label_by}
+use Rattle.om_undo_history.specs.Choices.{label_by}
 use Rattle.om_undo.specs.Machines.{MachineView}
 use Rattle.om_undo.specs.PlannedSteps.{IsPlanAt}
 use Rattle.om_undo.proofs.Planned.{label_is, plan_at}

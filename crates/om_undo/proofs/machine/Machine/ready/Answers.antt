@@ -1,9 +1,9 @@
 use Rattle.std.proofs.Common.{◌∙◌, ap, subst, IfOk}
-use Rattle.om_values.specs.State.{State}
-use Rattle.om_values.specs.Ready.{AreReady}
-use Rattle.om_live.specs.Stores.{state_of}
+use Rattle.om_state.specs.State.{State}
+use Rattle.om_state.specs.Ready.{AreReady}
+use Rattle.om_memory.specs.Memories.{state_of}
 use Rattle.om_task.specs.Rules.{rules_of}
-use Rattle.om_history.specs.Pasts.{history_in}
+use Rattle.om_undo_history.specs.Pasts.{history_in}
 use Rattle.om_undo.specs.Machines.{MachineView, state_in}
 use Rattle.om_undo.proofs.Views.{view_of, state_is}
 use Rattle.om_undo.proofs.machine.Machine.ready.Goals as goal

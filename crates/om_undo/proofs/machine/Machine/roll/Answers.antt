@@ -1,12 +1,12 @@
 -- What the history replies under the program's rules.
 use Rattle.std.proofs.Common.{◌≡◌, subst, IfOk}
 use Rattle.std.proofs.lemmas.Result.{IfOk-weaker, on_ok_weaker}
-use Rattle.om_values.specs.Rules.{Rules}
+use Rattle.om_state.specs.Rules.{Rules}
 use Rattle.om_task.specs.Rules.{rules_of}
-use Rattle.om_history.specs.Runs.{History}
-use Rattle.om_history.specs.Cones.{reply_to_roll, after_roll}
-use Rattle.om_history.specs.Commands.{TakesCone}
-use Rattle.om_history.specs.Pasts.{history_in}
+use Rattle.om_undo_history.specs.Runs.{History}
+use Rattle.om_undo_history.specs.Cones.{reply_to_roll, after_roll}
+use Rattle.om_undo_history.specs.Commands.{TakesCone}
+use Rattle.om_undo_history.specs.Pasts.{history_in}
 use Rattle.om_undo.specs.Machines.{MachineView, rules_for}
 use Rattle.om_undo.proofs.Views.{changed_view}
 use Rattle.om_undo.proofs.machine.Machine.roll.Goals as goal

@@ -1,12 +1,12 @@
 -- What was planned at the machine is the plan where its history stands.
 use Rattle.std.proofs.Common.{◌∙◌, ap, refl}
 use Rattle.std.proofs.lemmas.Result.{on_ok_weaker}
-use Rattle.om_values.specs.declared.step.Label.{Label}
-use Rattle.om_values.specs.Rules.{Rules}
+use Rattle.om_state.specs.declared.step.Label.{Label}
+use Rattle.om_state.specs.Rules.{Rules}
 use Rattle.om_task.specs.Rules.{rules_of}
-use Rattle.om_history.specs.Choices.{label_by}
-use Rattle.om_history.specs.Runs.{History, after_step}
-use Rattle.om_history.specs.Pasts.{history_in}
+use Rattle.om_undo_history.specs.Choices.{label_by}
+use Rattle.om_undo_history.specs.Runs.{History, after_step}
+use Rattle.om_undo_history.specs.Pasts.{history_in}
 use Rattle.om_undo.proofs.Planned.{held_after, plan_taken, replied_at}
 use Rattle.om_undo.proofs.Views.{changed_view}
 use Rattle.om_undo.proofs.machine.Machine.take.Goals as goal

@@ -1,10 +1,10 @@
 -- What the history leaves under the program's rules.
 use Rattle.std.proofs.Common.{◌∙◌, sym, ap}
-use Rattle.om_values.specs.Rules.{Rules}
+use Rattle.om_state.specs.Rules.{Rules}
 use Rattle.om_task.specs.Rules.{rules_of}
-use Rattle.om_history.specs.Runs.{History}
-use Rattle.om_history.specs.Cones.{taken_by_roll, after_roll}
-use Rattle.om_history.specs.Pasts.{history_in}
+use Rattle.om_undo_history.specs.Runs.{History}
+use Rattle.om_undo_history.specs.Cones.{taken_by_roll, after_roll}
+use Rattle.om_undo_history.specs.Pasts.{history_in}
 use Rattle.om_undo.specs.Machines.{MachineView, rules_for}
 use Rattle.om_undo.proofs.Views.{changed_view}
 use Rattle.om_undo.proofs.machine.Machine.take_out.Goals as goal

@@ -1,6 +1,6 @@
 use Rattle.std.proofs.Common.{◌∙◌, ap}
 use Rattle.om_task.specs.Rules.{rules_of}
-use Rattle.om_history.specs.Runs.{reply_to_undo}
+use Rattle.om_undo_history.specs.Runs.{reply_to_undo}
 use Rattle.om_undo.specs.Machines.{MachineView, rules_for}
 use Rattle.om_undo.proofs.machine.Machine.undo.Goals as goal
 

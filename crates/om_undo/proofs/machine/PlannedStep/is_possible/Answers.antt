@@ -1,5 +1,5 @@
 use Rattle.std.proofs.Common.{◌∙◌, ap}
-use Rattle.om_history.specs.Runs.{reply_to_step}
+use Rattle.om_undo_history.specs.Runs.{reply_to_step}
 use Rattle.om_undo.specs.Machines.{rules_for}
 use Rattle.om_undo.specs.PlannedSteps.{PlannedView, is_made}
 use Rattle.om_undo.proofs.Planned.{made_by_updates, not_made_by_blocked, not_made_by_ended}

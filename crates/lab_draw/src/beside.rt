@@ -1,0 +1,80 @@
+//! What is drawn beside the steps that stand: how large the picture is, what was taken out, and the undos
+//! that were refused.
+
+use crate::front::Extent;
+use crate::marks::push_box;
+use crate::scale::Scale;
+use crate::story::{Story, story_of};
+use crate::strokes::push_arrow;
+use lab_graph::{Picture, StepBox, Traced};
+use om_book::Book;
+use om_code::Program;
+use std::alloc::{AllocError, Global};
+
+// How many columns a picture has at most whose boxes have words in them.
+const MOST_CARDS: u64 = 400;
+
+/// What is drawn beside the steps that stand.
+#[derive(Drop)]
+pub(crate) struct Beside<'a> {
+    story: Story<'a>,
+    pub(crate) extent: Extent,
+}
+
+/// What is drawn beside the steps of a picture, by the book of its session. The only error is out of
+/// memory.
+pub(crate) fn beside_of<'a>(
+    alloc: Global,
+    book: &Book,
+    steps: &'a [Traced],
+    picture: &Picture,
+) -> Result<Beside<'a>, AllocError> {
+    let story = story_of(alloc, book.journal(), steps)?;
+    let extent = extent_of(picture, &story, book.machine().workers());
+    Ok(Beside { story, extent })
+}
+
+// How large a picture is, by its first and its last step. Steps that were taken out before the first
+// one that stands have no column.
+fn extent_of(picture: &Picture, story: &Story<'_>, workers: u8) -> Extent {
+    let first = picture.boxes.first().map_or(1, |step| step.serial);
+    let last = last_serial(&story.gone, last_serial(&picture.boxes, first));
+    let scale = Scale {
+        first,
+        is_small: last.saturating_sub(first) >= MOST_CARDS,
+    };
+    Extent {
+        scale,
+        last,
+        workers,
+    }
+}
+
+// The greatest serial of boxes, and no less than another one.
+fn last_serial(boxes: &[StepBox], least: u64) -> u64 {
+    let mut last = least;
+    for step in boxes {
+        last = last.max(step.serial);
+    }
+    last
+}
+
+/// Appends what was taken out, and the undos that were refused, where they have columns.
+pub(crate) fn push_beside(
+    text: &mut Vec<u8>,
+    program: &Program,
+    beside: &Beside<'_>,
+) -> Result<(), AllocError> {
+    let extent = beside.extent;
+    for step in &beside.story.gone {
+        if extent.has(step.serial) {
+            push_box(text, b"gone", extent.scale, step)?;
+        }
+    }
+    for arrow in &beside.story.refused {
+        if extent.has(arrow.from.serial) && extent.has(arrow.to.serial) {
+            push_arrow(text, program, b"refused", extent.scale, arrow)?;
+        }
+    }
+    Ok(())
+}

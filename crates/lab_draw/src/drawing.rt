@@ -1,0 +1,123 @@
+//! The page of a session: it is run, and the history that it leaves is drawn.
+
+ghost use Rattle.std.specs.Prelude.{◌<◌, ◌≤◌, IfOk};
+ghost use Rattle.om_book.specs.Books.{machine_of};
+ghost use Rattle.lab_draw.specs.Pages.{EndsSo, HasElements, IsDrawing, IsShown, Shows};
+
+use crate::beside::{Beside, beside_of, push_beside};
+use crate::front::push_front;
+use crate::marks::push_boxes;
+use crate::outcome::Page;
+use crate::scale::Scale;
+use crate::strokes::push_arrows;
+use crate::style::FOOT;
+use lab_graph::{Picture, picture_of};
+use lab_replay::trace;
+use om_book::Book;
+use om_code::Program;
+use om_shell::{Ended, Options, ShellFault, read_all, run, session_bytes};
+use std::alloc::{AllocError, Global};
+use std::io::Read;
+use std::sync::Wait;
+use std::thread::Threads;
+
+/// The page of a session: its source beside its causal history.
+///
+/// The reader is read to its end. It holds commands, behind a source and a line `%%` unless the options
+/// have the source. The session runs, and its replies are not shown. The history that it leaves is drawn,
+/// however long it is: each entry has a box, and an arrow to it from the last entry of each other worker
+/// that conflicts with it. What was taken out is grey and stands apart, and an undo that was refused is
+/// red.
+///
+/// Errors are `Read` (H3), where a read fails, and `Memory` (H5).
+pub fn page<H: Threads + Wait + Sync, R: Read>(
+    rt: &H,
+    alloc: Global,
+    reader: &mut R,
+    options: Options<'_>,
+) -> Result<Page, ShellFault>
+    requires at_least_one { 0 < options.workers }
+    requires at_most_32 { options.workers ≤ 32 }
+    ensures { IfOk result (Shows (R.remaining reader.old) (R.remaining reader.new) options.entry) }
+{
+    let input = read_all(alloc, reader)?;
+    let mut text = Vec::new(alloc);
+    match session(rt, alloc, &input, &mut text, options) {
+        Ok(ended) => {
+            let source = session_bytes(options.source, &input).source;
+            shown(alloc, source, ended, text)
+        }
+        Err(fault) => Err(fault),
+    }
+}
+
+// Runs a session whose input was read.
+fn session<H: Threads + Wait + Sync>(
+    rt: &H,
+    alloc: Global,
+    mut input: &[u8],
+    text: &mut Vec<u8>,
+    options: Options<'_>,
+) -> Result<Ended, ShellFault>
+    requires at_least_one { 0 < options.workers }
+    requires at_most_32 { options.workers ≤ 32 }
+    ensures { IfOk result (EndsSo input.entry.now text.old.items text.new.items options.entry) }
+{
+    run(rt, alloc, &mut input, text, options)
+}
+
+// What is shown of a session that ended so and wrote this text.
+fn shown(alloc: Global, source: &[u8], ended: Ended, text: Vec<u8>) -> Result<Page, ShellFault>
+    ensures { IfOk result (IsShown ended.book text.items) }
+{
+    let Ended { status: _, book } = ended;
+    match book {
+        Some(book) => match drawn(alloc, source, &book) {
+            Ok(page) => Ok(Page::Drawn(page)),
+            Err(error) => Err(ShellFault::from(error)),
+        },
+        None => Ok(Page::Refused(text)),
+    }
+}
+
+// The page of a source, with the history of a book's machine. The only error is out of memory.
+fn drawn(alloc: Global, source: &[u8], book: &Book) -> Result<Vec<u8>, AllocError>
+    ensures { IfOk result (λ page. IsDrawing (machine_of book.now) page.items) }
+{
+    let machine = book.machine();
+    let steps = trace(alloc, machine)?;
+    let picture = picture_of(alloc, &steps)?;
+    let beside = beside_of(alloc, book, &steps, &picture)?;
+    let front = front_of(alloc, machine.program(), source, &picture, &beside)?;
+    with_elements(front, machine.program(), beside.extent.scale, &picture)
+}
+
+// The page up to the elements of the steps that stand.
+fn front_of(
+    alloc: Global,
+    program: &Program,
+    source: &[u8],
+    picture: &Picture,
+    beside: &Beside<'_>,
+) -> Result<Vec<u8>, AllocError> {
+    let mut text = Vec::new(alloc);
+    push_front(&mut text, source, &picture.boxes, beside.extent)?;
+    push_beside(&mut text, program, beside)?;
+    Ok(text)
+}
+
+// The page: the arrows, the boxes and the end of the page behind its front.
+fn with_elements(
+    front: Vec<u8>,
+    program: &Program,
+    scale: Scale,
+    picture: &Picture,
+) -> Result<Vec<u8>, AllocError>
+    ensures { IfOk result (HasElements front program.now scale picture.now FOOT.now) }
+{
+    let mut text = front;
+    push_arrows(&mut text, program, b"arrow", scale, &picture.arrows)?;
+    push_boxes(&mut text, b"step", scale, &picture.boxes)?;
+    text.extend_from_slice(FOOT)?;
+    Ok(text)
+}

@@ -1,0 +1,82 @@
+//! A step as a walk over many steps looks at it: its worker and the sets that its objects are in.
+
+ghost use Rattle.std.specs.Prelude.{◌≡◌, is_some, IfOk};
+ghost use Rattle.om_foot.specs.Footprint.{conflict_of};
+
+use crate::sets::{is_conflict_by_sets, sets_of};
+use crate::traced::Traced;
+use std::alloc::{AllocError, Global};
+use std::marker::Model;
+
+/// A step, with what a walk over many of them looks at first. Contracts see the step.
+#[derive(Drop)]
+pub(crate) struct Sketch<'a> {
+    step: &'a Traced,
+    // The worker that made it.
+    worker: u8,
+    // The sets that its objects are in.
+    sets: u64,
+}
+
+impl<'a> Model for Sketch<'a> {
+    ghost use Rattle.std.specs.Prelude.{◌≡◌};
+    ghost use Rattle.lab_graph.specs.declared.traced.Traced.{Traced};
+    ghost use Rattle.lab_graph.specs.Sets.{sets_of};
+
+    ghost Value = { Traced };
+
+    ghost view = { λ s. s.step.now };
+
+    ghost invariant = { λ s. (s.worker ≡ s.step.now.entry.worker)
+        × (s.sets ≡ sets_of s.step.now.footprint) };
+}
+
+impl<'a> Sketch<'a> {
+    // The sketch of a step.
+    fn of(step: &'a Traced) -> Sketch<'a>
+        ensures { result ≡ step.now }
+    {
+        Sketch {
+            step,
+            worker: step.entry.worker,
+            sets: sets_of(step.footprint.as_slice()),
+        }
+    }
+
+    /// The step.
+    pub(crate) fn step(&self) -> &Traced
+        ensures { result.now ≡ self.now }
+    {
+        self.step
+    }
+
+    /// The worker that made it.
+    pub(crate) fn worker(&self) -> u8
+        ensures { result ≡ self.now.entry.worker }
+    {
+        self.worker
+    }
+
+    /// Whether it conflicts with a later step.
+    pub(crate) fn meets(&self, later: &Sketch<'_>) -> bool
+        ensures { result ≡ is_some (conflict_of self.now.footprint later.now.footprint) }
+    {
+        is_conflict_by_sets(
+            self.sets,
+            &self.step.footprint,
+            later.sets,
+            &later.step.footprint,
+        )
+    }
+}
+
+/// The sketches of steps, in their order. The only error is out of memory.
+pub(crate) fn sketches_of(alloc: Global, steps: &[Traced]) -> Result<Vec<Sketch<'_>>, AllocError>
+    ensures { IfOk result (λ sketches. sketches.items ≡ steps.now) }
+{
+    let mut sketches = Vec::new(alloc);
+    for step in steps {
+        sketches.push(Sketch::of(step))?;
+    }
+    Ok(sketches)
+}

@@ -1,0 +1,115 @@
+//! The steps that a roll would take, taking none.
+
+ghost use Rattle.std.specs.Prelude.{◌≡◌, ◌<◌, ◌≤◌, ◌++◌, reverse, IfOk, OnOk};
+ghost use Rattle.om_book.specs.Books.{machine_of};
+ghost use Rattle.om_shell_commands.specs.Lists.{joined, roll_text};
+ghost use Rattle.lab_script.specs.Cones.{cone_line, cone_text, IsConeOf};
+ghost use Rattle.lab_script.specs.Sessions.{IsConeIn, IsConeOver};
+
+use crate::answer::{Script, ScriptFault};
+use crate::run::{Ran, run_over};
+use om_book::Book;
+use om_shell::{Options, SessionBytes, read_all, session_bytes};
+use om_shell_commands::{push_numbered, push_roll};
+use om_undo_history::{RollReply, Taken};
+use std::alloc::{AllocError, Global};
+use std::io::Read;
+use std::sync::Wait;
+use std::thread::Threads;
+
+/// Reads a session as `script` does, and answers the steps that the command `roll SERIAL` would take at its
+/// end, taking none.
+///
+/// Each step is a line as `history` has it, in the order of the history. Where no step of that serial stands,
+/// the one line is what `roll` answers. Faults: H3 and H5, those of the debugger.
+pub fn cone<H: Threads + Wait + Sync, R: Read>(
+    rt: &H,
+    alloc: Global,
+    reader: &mut R,
+    options: Options<'_>,
+    serial: u64,
+) -> Result<Script, ScriptFault>
+    requires at_least_one_worker { 0 < options.workers }
+    requires at_most_32_workers { options.workers ≤ 32 }
+    ensures { IfOk result (IsConeIn (R.remaining reader.old) options.entry serial) }
+{
+    let input = read_all(alloc, reader)?;
+    let session = session_bytes(options.source, &input);
+    cone_of(rt, alloc, options.workers, session, serial)
+}
+
+// The cone of a step at the end of a session.
+fn cone_of<H: Threads + Wait + Sync>(
+    rt: &H,
+    alloc: Global,
+    workers: u8,
+    session: SessionBytes<'_>,
+    serial: u64,
+) -> Result<Script, ScriptFault>
+    requires at_least_one_worker { 0 < workers }
+    requires at_most_32_workers { workers ≤ 32 }
+    ensures { IfOk result (IsConeOver workers session.entry serial) }
+{
+    let Ran { text, book } = run_over(rt, alloc, workers, session.source, session.commands)?;
+    match book {
+        Some(book) => Ok(Script::Steps(cone_in(alloc, book, serial)?)),
+        None => Ok(Script::Refused(text)),
+    }
+}
+
+// The lines of the cone of a step of a book.
+fn cone_in(alloc: Global, book: Book, serial: u64) -> Result<Vec<u8>, AllocError>
+    ensures { IfOk result (λ text. IsConeOf (machine_of book) serial text.items) }
+{
+    let taken = book.machine().cone(alloc, serial)?;
+    match taken {
+        Some(taken) => taken_text(alloc, &taken),
+        None => gone_text(alloc, serial),
+    }
+}
+
+// The lines of steps that a roll would take.
+fn taken_text(alloc: Global, taken: &[Taken]) -> Result<Vec<u8>, AllocError>
+    ensures { IfOk result (λ text. text.items ≡ cone_text taken.now) }
+{
+    let steps = in_order(alloc, taken)?;
+    let mut text = Vec::new(alloc);
+    push_lines(&mut text, &steps)?;
+    Ok(text)
+}
+
+// The line for a serial that no step has.
+fn gone_text(alloc: Global, serial: u64) -> Result<Vec<u8>, AllocError>
+    ensures { IfOk result (λ text. text.items ≡ roll_text serial RollReply.NoEntry) }
+{
+    let mut text = Vec::new(alloc);
+    push_roll(&mut text, serial, &RollReply::NoEntry)?;
+    Ok(text)
+}
+
+// Steps in the order of the history, where the latest came first.
+fn in_order(alloc: Global, taken: &[Taken]) -> Result<Vec<Taken>, AllocError>
+    ensures { IfOk result (λ steps. steps.items ≡ reverse taken.now) }
+{
+    taken.iter().rev().copied().collect(alloc)
+}
+
+// Appends a line for each of some steps.
+fn push_lines(text: &mut Vec<u8>, steps: &[Taken]) -> Result<(), AllocError>
+    ensures { OnOk result (text.new.items ≡ text.old.items ++ joined cone_line steps.now) }
+{
+    for step in steps {
+        push_line(text, step)?;
+    }
+    Ok(())
+}
+
+// Appends a step as `history` has it.
+fn push_line(text: &mut Vec<u8>, step: &Taken) -> Result<(), AllocError>
+    ensures { OnOk result (text.new.items ≡ text.old.items ++ cone_line step.now) }
+{
+    push_numbered(text, b"#", step.serial)?;
+    push_numbered(text, b" worker ", step.worker)?;
+    push_numbered(text, b" line ", step.line)?;
+    text.extend_from_slice(b"\n")
+}

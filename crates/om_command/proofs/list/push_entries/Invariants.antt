@@ -1,8 +1,0 @@
-use Rattle.std.proofs.Common.{◌≡◌, ◌++◌, drop}
-use Rattle.om_command.specs.Lists.{joined, entry_line}
-use Rattle.om_command.proofs.list.push_entries.Given as goal
-
--- the lines so far and those of what is left are all
-abbrev pub invariant-loop-entry : goal.invariant-loop-entry
-invariant-loop-entry l = l.text.items ++ joined entry_line (drop l.entry-index l.entries) ≡ l.initial.text.items
-    ++ joined entry_line l.entries

@@ -1,8 +1,0 @@
-use Rattle.std.proofs.Common.{◌≡◌, ◌++◌, drop}
-use Rattle.om_command.specs.Lists.{joined, event_line}
-use Rattle.om_command.proofs.list.push_events.Given as goal
-
--- the lines so far and those of what is left are all
-abbrev pub invariant-loop-event : goal.invariant-loop-event
-invariant-loop-event l = l.text.items ++ joined event_line (drop l.event-index l.events) ≡ l.initial.text.items
-    ++ joined event_line l.events

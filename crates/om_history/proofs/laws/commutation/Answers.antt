@@ -1,5 +1,0 @@
-use Rattle.om_history.proofs.Exchange.{exchanged}
-use Rattle.om_history.proofs.laws.commutation.Goals as goal
-
-pub returns : goal.returns
-returns c = exchanged

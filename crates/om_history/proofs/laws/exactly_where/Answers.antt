@@ -1,5 +1,0 @@
-use Rattle.om_history.proofs.Exactly.{exactly_where}
-use Rattle.om_history.proofs.laws.exactly_where.Goals as goal
-
-pub returns : goal.returns
-returns c = exactly_where

@@ -1,5 +1,0 @@
-use Rattle.om_history.proofs.RunLaws.{least}
-use Rattle.om_history.proofs.laws.least.Goals as goal
-
-pub returns : goal.returns
-returns c = least

@@ -1,5 +1,0 @@
-use Rattle.om_history.proofs.Remaining.{remaining}
-use Rattle.om_history.proofs.laws.remaining_steps.Goals as goal
-
-pub returns : goal.returns
-returns c = remaining

@@ -1,5 +1,0 @@
-use Rattle.om_history.proofs.RunLaws.{small_counts}
-use Rattle.om_history.proofs.laws.small_counts.Goals as goal
-
-pub returns : goal.returns
-returns c = small_counts

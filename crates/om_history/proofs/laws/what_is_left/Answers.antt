@@ -1,5 +1,0 @@
-use Rattle.om_history.proofs.Leaves.{each_leaves}
-use Rattle.om_history.proofs.laws.what_is_left.Goals as goal
-
-pub returns : goal.returns
-returns c = each_leaves

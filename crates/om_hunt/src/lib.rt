@@ -1,7 +1,0 @@
-//! omplab, the hunt: what it shows of the first schedule by chance that is bad.
-#![tactic(auto)]
-
-mod hunting;
-
-pub use hunting::hunt;
-pub use om_schedules::{Aims, Badness, Block, Found, Hunted, Progress, push_report};

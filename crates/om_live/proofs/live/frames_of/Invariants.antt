@@ -1,7 +1,0 @@
-use Rattle.std.proofs.Common.{◌≡◌, take, map}
-use Rattle.om_live.specs.Plain.{plain_box}
-use Rattle.om_live.proofs.live.frames_of.Given as goal
-
--- the frames so far stand for the plain ones
-abbrev pub invariant-loop-frame : goal.invariant-loop-frame
-invariant-loop-frame l = map plain_box l.frames.items ≡ take l.frame-index l.plain

@@ -1,6 +1,0 @@
-use Rattle.om_live.specs.Stores.{state_of}
-use Rattle.om_live.proofs.store.Store.holder.Goals as goal
-
-pub returns : goal.returns
-unfolding state_of
-returns c = c.holder.ensures

@@ -1,7 +1,0 @@
-use Rattle.om_live.specs.Stores.{state_of}
-use Rattle.om_live.proofs.store.Store.next_ready.Goals as goal
-
--- what is seen of a task is what the other values hold
-pub returns : goal.returns
-unfolding state_of
-returns c = c.next_ready.ensures

@@ -1,4 +1,0 @@
-use Rattle.om_lookup.proofs.visible.+meant.Given as goal
-
-abbrev pub decreases-meant : goal.decreases-meant
-decreases-meant l = l.steps

@@ -1,0 +1,17 @@
+//! Where code is written.
+
+use om_lexer::Span;
+use om_lower_rules::BodyTables;
+use om_scope_tree::Made;
+
+/// Whether all is written. The only error is out of memory.
+pub type Done = Made<()>;
+
+/// Where code is written, and for what.
+#[derive(Clone, Copy)]
+pub struct Here<'a> {
+    /// The tables of the body that is written.
+    pub tables: &'a BodyTables<'a>,
+    /// The place in the source of what is written. Its line is that of the instructions.
+    pub at: Span,
+}

@@ -1,0 +1,354 @@
+//! What a program mentions, its regions too: formats, names of critical regions, declared variables. The same walk
+//! numbers the regions.
+
+ghost use Rattle.std.specs.Prelude.{◌≡◌, ◌<◌, ◌+◌, OnOk, length, map, set, sum};
+ghost use Rattle.om_scope_tree.specs.ResolvedView as view;
+ghost use Rattle.om_scope_tree.specs.Weights.{clause_weight, expression_weight, loop_weight, parts_weight, perhaps_weight, start_weight, statement_weight, statements_weight, update_weight, values_weight};
+ghost use Rattle.om_lower_rules.specs.Mentions.{values_formats};
+ghost use Rattle.om_lower_rules.specs.Slots.{cells_of_length};
+ghost use Rattle.om_lower_rules.specs.Bodies.{behind, behind_all, behind_parts};
+ghost use Rattle.om_lower_rules.specs.Ends.{body_ends};
+ghost use Rattle.om_lower_tables.specs.Noted.{AreNoted, noted};
+ghost use Rattle.om_lower_tables.specs.Room.{HasRoom, HasRoomBehind, HasTextRoom};
+ghost use Rattle.om_lower_tables.specs.Trees.{listed, part_trees, perhaps_tree, statement_trees};
+ghost use Rattle.om_lower_tables.specs.Walks.{AddsAllRegionEnds, AddsEnds, AddsPartsRegionEnds, AddsRegionEnds, Finds, Passes, behind_body, by_clause, by_clauses, by_declarators, by_head, by_loop, by_parts, by_perhaps, by_start, by_statement, by_statements, by_update, by_value, declarators_weight, formats_in, head_weight};
+
+use om_lower_rules::{Extents, Numbers, Texts};
+use om_scope_tree::{
+    ConstructKind, Made, ResolvedClause, ResolvedDeclarator, ResolvedExpression, ResolvedHead,
+    ResolvedLoop, ResolvedPart, ResolvedStart, ResolvedStatement, ResolvedUpdate,
+};
+use std::alloc::Global;
+
+/// What functions mention, in the order of the text.
+#[derive(Drop)]
+pub(crate) struct Mentions {
+    pub(crate) alloc: Global,
+    /// The formats of `printf`.
+    pub(crate) formats: Texts,
+    /// The names of critical regions; the unnamed one has no bytes.
+    pub(crate) locks: Texts,
+    /// The declared variables.
+    pub(crate) extents: Extents,
+}
+
+/// A walk over functions, as far as it has come.
+#[derive(Drop)]
+pub(crate) struct Walk {
+    pub(crate) found: Mentions,
+    /// The numbers that the next body, and the next list of PICK, get.
+    pub(crate) numbers: Numbers,
+    /// The numbers behind each body, by its number; while the walk is in it, those at its begin.
+    pub(crate) ends: Vec<Numbers>,
+}
+
+// Notes the formats of an expression, in the order of the text.
+#[cycle(expression)]
+fn note_expression(formats: &mut Texts, alloc: Global, expression: &ResolvedExpression) -> Made<()>
+    requires room { HasRoomBehind (expression_weight (view.expression expression.now)) formats.old }
+    ensures { OnOk result (formats.new ≡ noted formats.old (formats_in expression.now)) }
+{
+    match expression {
+        ResolvedExpression::Constant(_)
+        | ResolvedExpression::Variable(_)
+        | ResolvedExpression::ThreadNumber
+        | ResolvedExpression::TeamSize
+        | ResolvedExpression::Postfix { .. } => Ok(()),
+        ResolvedExpression::Element { index: part, .. }
+        | ResolvedExpression::Unary { operand: part, .. }
+        | ResolvedExpression::Assign { value: part, .. }
+        | ResolvedExpression::PostfixElement { index: part, .. } => note_expression(
+            formats, alloc, part,
+        ),
+        ResolvedExpression::Call { values, .. } => note_values(formats, alloc, values.as_slice()),
+        ResolvedExpression::Print { format, values } => {
+            formats.note(alloc, format.as_slice())?;
+            note_values(formats, alloc, values.as_slice())
+        }
+        ResolvedExpression::Binary { left, right, .. } => {
+            note_expression(formats, alloc, left)?;
+            note_expression(formats, alloc, right)
+        }
+        ResolvedExpression::Conditional {
+            condition,
+            value: then,
+            other,
+        } => {
+            note_expression(formats, alloc, condition)?;
+            note_expression(formats, alloc, then)?;
+            note_expression(formats, alloc, other)
+        }
+        ResolvedExpression::AssignElement { index, value, .. } => {
+            note_expression(formats, alloc, index)?;
+            note_expression(formats, alloc, value)
+        }
+    }
+}
+
+// Notes the formats of the values of a call.
+#[cycle(expression)]
+fn note_values(formats: &mut Texts, alloc: Global, values: &[ResolvedExpression]) -> Made<()>
+    requires room { HasRoomBehind (values_weight (listed values.now)) formats.old }
+    ensures { OnOk result (formats.new ≡ noted formats.old (values_formats (listed values.now))) }
+{
+    for value in values {
+        note_expression(formats, alloc, value)?;
+    }
+    Ok(())
+}
+
+// Notes what an expression mentions.
+fn note_value(found: &mut Mentions, value: &ResolvedExpression) -> Made<()>
+    requires room { HasTextRoom (expression_weight (view.expression value.now)) found.old }
+    ensures { OnOk result (AreNoted (by_value value.now) found.old found.new) }
+{
+    note_expression(&mut found.formats, found.alloc, value)
+}
+
+// Notes the formats of an expression that may be left out.
+fn note_perhaps(found: &mut Mentions, expression: &Option<ResolvedExpression>) -> Made<()>
+    requires room { HasTextRoom (perhaps_weight (perhaps_tree expression.now)) found.old }
+    ensures { OnOk result (AreNoted (by_perhaps expression.now) found.old found.new) }
+{
+    let Some(expression) = expression else {
+        return Ok(());
+    };
+    note_value(found, expression)
+}
+
+// How many cells a variable of this length has; a scalar has one.
+fn cells_of(length: Option<u32>) -> u32
+    ensures { result ≡ cells_of_length length }
+{
+    length.unwrap_or(1)
+}
+
+// Notes declared variables.
+fn note_declarators(found: &mut Mentions, declarators: &[ResolvedDeclarator]) -> Made<()>
+    requires room { HasTextRoom (declarators_weight declarators.now) found.old }
+    ensures { OnOk result (AreNoted (by_declarators declarators.now) found.old found.new) }
+{
+    for declarator in declarators {
+        let cells = cells_of(declarator.length);
+        found.extents.note(declarator.variable.at, cells)?;
+        note_perhaps(found, &declarator.initial)?;
+    }
+    Ok(())
+}
+
+// Notes the beginning of a `for`.
+fn note_start(found: &mut Mentions, start: &ResolvedStart) -> Made<()>
+    requires room { HasTextRoom (start_weight (view.start start.now)) found.old }
+    ensures { OnOk result (AreNoted (by_start start.now) found.old found.new) }
+{
+    match start {
+        ResolvedStart::Nothing => Ok(()),
+        ResolvedStart::Expression(value) => note_value(found, value),
+        ResolvedStart::Declaration(declarators) => note_declarators(found, declarators.as_slice()),
+    }
+}
+
+// Notes a clause.
+fn note_clause(found: &mut Mentions, clause: &ResolvedClause) -> Made<()>
+    requires room { HasTextRoom (clause_weight (view.clause clause.now)) found.old }
+    ensures { OnOk result (AreNoted (by_clause clause.now) found.old found.new) }
+{
+    let ResolvedClause::Value { value, .. } = clause else {
+        return Ok(());
+    };
+    note_value(found, value)
+}
+
+// Notes clauses.
+fn note_clauses(found: &mut Mentions, clauses: &[ResolvedClause]) -> Made<()>
+    requires room { HasTextRoom (sum (map clause_weight (map view.clause clauses.now))) found.old }
+    ensures { OnOk result (AreNoted (by_clauses clauses.now) found.old found.new) }
+{
+    for clause in clauses {
+        note_clause(found, clause)?;
+    }
+    Ok(())
+}
+
+// Notes the bounds of a canonical loop.
+fn note_loop(found: &mut Mentions, repeated: &ResolvedLoop) -> Made<()>
+    requires room { HasTextRoom (loop_weight (view.loop repeated.now)) found.old }
+    ensures { OnOk result (AreNoted (by_loop repeated.now) found.old found.new) }
+{
+    note_value(found, &repeated.from)?;
+    note_value(found, &repeated.to)
+}
+
+// Notes an atomic update.
+fn note_update(found: &mut Mentions, update: &ResolvedUpdate) -> Made<()>
+    requires room { HasTextRoom (update_weight (view.update update.now)) found.old }
+    ensures { OnOk result (AreNoted (by_update update.now) found.old found.new) }
+{
+    note_perhaps(found, &update.index)?;
+    note_value(found, &update.operand)
+}
+
+// Notes the name of a critical region.
+fn note_construct(found: &mut Mentions, kind: &ConstructKind) -> Made<()>
+    requires room { HasTextRoom 1 found.old }
+    ensures { OnOk result (AreNoted (λ A m. m.by_construct kind.now) found.old found.new) }
+{
+    let ConstructKind::Critical { name } = kind else {
+        return Ok(());
+    };
+    match name {
+        None => found.locks.note(found.alloc, &[]),
+        Some(name) => found.locks.note(found.alloc, name.as_slice()),
+    }
+}
+
+// Notes the head of a `for`.
+fn note_head(found: &mut Mentions, head: &ResolvedHead) -> Made<()>
+    requires room { HasTextRoom (head_weight head.now) found.old }
+    ensures { OnOk result (AreNoted (by_head head.now) found.old found.new) }
+{
+    note_start(found, &head.start)?;
+    note_perhaps(found, &head.condition)?;
+    note_perhaps(found, &head.step)
+}
+
+/// Puts the numbers behind a body in their place.
+pub(crate) fn put_end(ends: &mut Vec<Numbers>, index: usize, behind: Numbers)
+    requires { index < length ends.old.items }
+    ensures { ends.new.items ≡ set ends.old.items index behind }
+{
+    ends[index] = behind;
+}
+
+// Walks over the body of a region.
+#[cycle(statement)]
+fn note_region(walk: &mut Walk, body: &ResolvedStatement) -> Made<()>
+    requires room { HasRoom (1 + statement_weight (view.statement body.now)) walk.old }
+    ensures behind { OnOk result (Passes behind_body (view.statement body.now) walk.old walk.new) }
+    ensures ends { OnOk result (AddsEnds body_ends (view.statement body.now) walk.old walk.new) }
+    ensures noted { OnOk result (Finds (by_statement body.now) walk.old walk.new) }
+{
+    let inner = walk.numbers.next_body();
+    let index = walk.ends.len();
+    walk.ends.push(inner)?;
+    walk.numbers = inner;
+    note_statement(walk, body)?;
+    put_end(&mut walk.ends, index, walk.numbers);
+    Ok(())
+}
+
+// Walks over a statement and the regions in it, in the order of the text.
+#[cycle(statement)]
+fn note_statement(walk: &mut Walk, statement: &ResolvedStatement) -> Made<()>
+    requires room { HasRoom (statement_weight (view.statement statement.now)) walk.old }
+    ensures behind { OnOk result (Passes behind (view.statement statement.now) walk.old walk.new) }
+    ensures ends { OnOk result (AddsRegionEnds statement.now walk.old walk.new) }
+    ensures noted { OnOk result (Finds (by_statement statement.now) walk.old walk.new) }
+{
+    match statement {
+        ResolvedStatement::Declaration { declarators, .. } => {
+            note_declarators(&mut walk.found, declarators.as_slice())
+        }
+        ResolvedStatement::Block { items, .. } => note_statements(walk, items.as_slice()),
+        ResolvedStatement::Empty(_)
+        | ResolvedStatement::Break(_)
+        | ResolvedStatement::Continue(_)
+        | ResolvedStatement::StandAlone { .. } => Ok(()),
+        ResolvedStatement::Expression { value, .. } => note_value(&mut walk.found, value),
+        ResolvedStatement::If {
+            condition: test,
+            then: body,
+            ..
+        }
+        | ResolvedStatement::While {
+            condition: test,
+            body,
+            ..
+        } => {
+            note_value(&mut walk.found, test)?;
+            note_statement(walk, body)
+        }
+        ResolvedStatement::IfElse {
+            condition,
+            then,
+            other,
+            ..
+        } => {
+            note_value(&mut walk.found, condition)?;
+            note_statement(walk, then)?;
+            note_statement(walk, other)
+        }
+        ResolvedStatement::Do {
+            body,
+            condition,
+            ..
+        } => {
+            note_statement(walk, body)?;
+            note_value(&mut walk.found, condition)
+        }
+        ResolvedStatement::For { head, body, .. } => {
+            note_head(&mut walk.found, head)?;
+            note_statement(walk, body)
+        }
+        ResolvedStatement::Return { value, .. } => note_perhaps(&mut walk.found, value),
+        ResolvedStatement::Parallel { clauses, body, .. }
+        | ResolvedStatement::Task { clauses, body, .. } => {
+            note_clauses(&mut walk.found, clauses.as_slice())?;
+            note_region(walk, body)
+        }
+        ResolvedStatement::Loop {
+            clauses,
+            repeated,
+            body,
+            ..
+        } => {
+            note_clauses(&mut walk.found, clauses.as_slice())?;
+            note_loop(&mut walk.found, repeated)?;
+            note_statement(walk, body)
+        }
+        ResolvedStatement::Sections { clauses, parts, .. } => {
+            note_clauses(&mut walk.found, clauses.as_slice())?;
+            walk.numbers = walk.numbers.next_pick();
+            note_parts(walk, parts.as_slice())
+        }
+        ResolvedStatement::Construct {
+            kind,
+            clauses,
+            body,
+            ..
+        } => {
+            note_construct(&mut walk.found, kind)?;
+            note_clauses(&mut walk.found, clauses.as_slice())?;
+            note_statement(walk, body)
+        }
+        ResolvedStatement::Update { update, .. } => note_update(&mut walk.found, update),
+    }
+}
+
+/// Walks over statements.
+#[cycle(statement)]
+pub(crate) fn note_statements(walk: &mut Walk, items: &[ResolvedStatement]) -> Made<()>
+    requires room { HasRoom (statements_weight (statement_trees items.now)) walk.old }
+    ensures behind { OnOk result (Passes behind_all (statement_trees items.now) walk.old walk.new) }
+    ensures ends { OnOk result (AddsAllRegionEnds items.now walk.old walk.new) }
+    ensures noted { OnOk result (Finds (by_statements items.now) walk.old walk.new) }
+{
+    for item in items {
+        note_statement(walk, item)?;
+    }
+    Ok(())
+}
+
+// Walks over the parts of `sections`.
+#[cycle(statement)]
+fn note_parts(walk: &mut Walk, parts: &[ResolvedPart]) -> Made<()>
+    requires room { HasRoom (parts_weight (part_trees parts.now)) walk.old }
+    ensures behind { OnOk result (Passes behind_parts (part_trees parts.now) walk.old walk.new) }
+    ensures ends { OnOk result (AddsPartsRegionEnds parts.now walk.old walk.new) }
+    ensures noted { OnOk result (Finds (by_parts parts.now) walk.old walk.new) }
+{
+    for part in parts {
+        note_statements(walk, part.items.as_slice())?;
+    }
+    Ok(())
+}

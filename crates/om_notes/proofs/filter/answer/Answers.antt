@@ -1,6 +1,0 @@
-use Rattle.std.proofs.Common.{arith}
-use Rattle.om_lines.specs.Unended.{is_noted}
-use Rattle.om_notes.proofs.filter.answer.Goals as goal
-
-pub returns-clause-text : goal.returns-clause-text
-returns-clause-text c = grind (arith, is_noted)

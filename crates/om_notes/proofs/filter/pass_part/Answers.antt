@@ -1,6 +1,0 @@
-use Rattle.om_lines.specs.Unended.{position_none}
-use Rattle.om_notes.proofs.filter.pass_part.Goals as goal
-
-pub returns-in_default-clause-unended : goal.returns-in_default-clause-unended
-returns-in_default-clause-unended g c = λ _. position_none _ _
-    (rw c.deref.ensures.value at c.in_default.ensures.first)

@@ -1,5 +1,0 @@
-use Rattle.om_parts.proofs.DeclarationSound.{signed_leaves}
-use Rattle.om_parts.proofs.part.global_declaration.Goals as goal
-
-pub declaration_after-requires : goal.declaration_after-requires
-declaration_after-requires c = signed_leaves

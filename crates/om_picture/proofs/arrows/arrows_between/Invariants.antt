@@ -1,7 +1,0 @@
-use Rattle.std.proofs.Common.{◌≡◌, ◌++◌, take, drop}
-use Rattle.om_picture.specs.Pictures.{arrows_behind, arrows_of}
-use Rattle.om_picture.proofs.arrows.arrows_between.Given as goal
-
--- the arrows so far and those into what is left are all
-abbrev pub invariant-loop-at : goal.invariant-loop-at
-invariant-loop-at l = l.arrows.items ++ arrows_behind (take l.at l.steps) (drop l.at l.steps) ≡ arrows_of l.steps

@@ -1,8 +1,0 @@
-//! Laws of resolved trees.
-
-ghost use Rattle.om_resolved.specs.Whole.{WholeTreesHaveMain};
-
-/// A whole tree has a `main`.
-pub fn main_there()
-    ensures { WholeTreesHaveMain }
-{}

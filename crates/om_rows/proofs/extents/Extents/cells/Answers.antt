@@ -1,6 +1,0 @@
-use Rattle.std.proofs.Common.{rules}
-use Rattle.om_rows.proofs.Cells.{cells_found}
-use Rattle.om_rows.proofs.extents.Extents.cells.Goals as goal
-
-pub returns : goal.returns
-returns c = search (rules, cells_found)

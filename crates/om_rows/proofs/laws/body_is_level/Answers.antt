@@ -1,5 +1,0 @@
-use Rattle.om_rows.proofs.CodeLevels.{body_levels}
-use Rattle.om_rows.proofs.laws.body_is_level.Goals as goal
-
-pub returns : goal.returns
-returns c = body_levels

@@ -1,5 +1,0 @@
-use Rattle.om_rows.proofs.CodeLevels.{code_is_level}
-use Rattle.om_rows.proofs.laws.code_is_level.Goals as goal
-
-pub returns : goal.returns
-returns c = code_is_level

@@ -1,5 +1,0 @@
-use Rattle.om_rows.proofs.OneCode.{one_body_code}
-use Rattle.om_rows.proofs.laws.one_body_code.Goals as goal
-
-pub returns : goal.returns
-returns c = one_body_code

@@ -1,5 +1,0 @@
-use Rattle.om_rows.proofs.TreeCode.{whole_has_code}
-use Rattle.om_rows.proofs.laws.whole_has_code.Goals as goal
-
-pub returns : goal.returns
-returns c = whole_has_code

@@ -1,5 +1,0 @@
-use Rattle.om_rules.proofs.Numbers.{numbers_name_globals}
-use Rattle.om_rules.proofs.laws.numbers_name_globals.Goals as goal
-
-pub returns : goal.returns
-returns c = numbers_name_globals

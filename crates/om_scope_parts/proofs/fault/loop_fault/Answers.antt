@@ -1,0 +1,7 @@
+use Rattle.om_lexer.specs.declared.fault.FaultCode.TheVariants as faults
+use Rattle.om_scope_parts.proofs.Firsts.{among_refuses}
+use Rattle.om_scope_parts.proofs.fault.loop_fault.Goals as goal
+
+pub returns : goal.returns
+returns g c = λ breaches checked. rw (c.fault_among.ensures, c.err.ensures.value)
+    (among_refuses c.args.checked faults.LoopForm c.args.at breaches checked)

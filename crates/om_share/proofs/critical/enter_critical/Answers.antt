@@ -1,5 +1,0 @@
-use Rattle.std.proofs.Common.{refl}
-use Rattle.om_share.proofs.critical.enter_critical.Goals as goal
-
-pub returns : goal.returns
-returns c = rw (c.in_ok-names.ensures, c.in_ok-row.ensures, c.holder.ensures) refl

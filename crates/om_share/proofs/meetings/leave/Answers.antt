@@ -1,6 +1,0 @@
-use Rattle.std.proofs.Common.{rules}
-use Rattle.om_share.proofs.Leaving.{above_another, not_the_first}
-use Rattle.om_share.proofs.meetings.leave.Goals as goal
-
-pub returns : goal.returns
-returns c = search (rules, above_another, not_the_first)

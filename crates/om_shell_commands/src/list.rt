@@ -1,0 +1,103 @@
+//! Replies of many lines.
+
+ghost use Rattle.std.specs.Prelude.{◌≡◌, ◌++◌, OnOk};
+ghost use Rattle.om_shell_commands.specs.Lists.{joined, entry_line, history_text, event_line, events_text, output_text, task_text, no_tasks_text, taken_line, roll_text};
+
+use crate::number::push_numbered;
+use crate::object::push_named;
+use crate::step::{push_entry, push_undone};
+use om_events::{Record, text_of};
+use om_foot::Name;
+use om_state::Entry;
+use om_undo_history::{RollReply, Taken};
+use std::alloc::AllocError;
+
+fn push_entry_line(text: &mut Vec<u8>, entry: &Entry) -> Result<(), AllocError>
+    ensures { OnOk result (text.new.items ≡ text.old.items ++ entry_line entry.now) }
+{
+    push_entry(text, entry.serial, entry.worker, entry.line, None)
+}
+
+fn push_entries(text: &mut Vec<u8>, entries: &[Entry]) -> Result<(), AllocError>
+    ensures { OnOk result (text.new.items ≡ text.old.items ++ joined entry_line entries.now) }
+{
+    for entry in entries {
+        push_entry_line(text, entry)?;
+    }
+    Ok(())
+}
+
+/// Appends the steps that stand, each on a line, in their order.
+pub fn push_history(text: &mut Vec<u8>, entries: &[Entry]) -> Result<(), AllocError>
+    ensures { OnOk result (text.new.items ≡ text.old.items ++ history_text entries.now) }
+{
+    match entries {
+        [] => text.extend_from_slice(b"no steps\n"),
+        [_, ..] => push_entries(text, entries),
+    }
+}
+
+fn push_event_line(text: &mut Vec<u8>, event: &Record) -> Result<(), AllocError>
+    ensures { OnOk result (text.new.items ≡ text.old.items ++ event_line event.now) }
+{
+    text_of(event, text)?;
+    text.extend_from_slice(b"\n")
+}
+
+/// Appends event records, each on a line, in their order.
+pub fn push_events(text: &mut Vec<u8>, events: &[Record]) -> Result<(), AllocError>
+    ensures { OnOk result (text.new.items ≡ text.old.items ++ events_text events.now) }
+{
+    for event in events {
+        push_event_line(text, event)?;
+    }
+    Ok(())
+}
+
+/// Appends how many bytes the program printed, and these.
+pub fn push_output(text: &mut Vec<u8>, bytes: &[u8]) -> Result<(), AllocError>
+    ensures { OnOk result (text.new.items ≡ text.old.items ++ output_text bytes.now) }
+{
+    push_numbered(text, b"output ", bytes.len())?;
+    text.extend_from_slice(b" bytes\n")?;
+    text.extend_from_slice(bytes)?;
+    text.extend_from_slice(b"\n")
+}
+
+/// Appends a task that is ready, and the line of its directive.
+pub fn push_task(text: &mut Vec<u8>, name: &Name, line: u32) -> Result<(), AllocError>
+    ensures { OnOk result (text.new.items ≡ text.old.items ++ task_text name.now line) }
+{
+    push_named(text, b"ready ", name)?;
+    push_numbered(text, b" line ", line)?;
+    text.extend_from_slice(b"\n")
+}
+
+/// Appends that no task is ready.
+pub fn push_no_tasks(text: &mut Vec<u8>) -> Result<(), AllocError>
+    ensures { OnOk result (text.new.items ≡ text.old.items ++ no_tasks_text) }
+{
+    text.extend_from_slice(b"no tasks\n")
+}
+
+fn push_members(text: &mut Vec<u8>, members: &[Taken]) -> Result<(), AllocError>
+    ensures { OnOk result (text.new.items ≡ text.old.items ++ joined taken_line members.now) }
+{
+    for taken in members {
+        push_undone(text, taken.serial, taken.worker, taken.line)?;
+    }
+    Ok(())
+}
+
+/// Appends the reply to a roll: the steps that it took out, the latest first.
+pub fn push_roll(text: &mut Vec<u8>, serial: u64, reply: &RollReply) -> Result<(), AllocError>
+    ensures { OnOk result (text.new.items ≡ text.old.items ++ roll_text serial reply.now) }
+{
+    match reply {
+        RollReply::Rolled(members) => push_members(text, members.as_slice()),
+        RollReply::NoEntry => {
+            push_numbered(text, b"no step #", serial)?;
+            text.extend_from_slice(b"\n")
+        }
+    }
+}

@@ -1,0 +1,121 @@
+//! The replies to steps and undos, and to lines that are refused.
+ghost use Rattle.std.specs.Prelude.{◌≡◌, ◌++◌, OnOk};
+ghost use Rattle.om_shell_commands.specs.Steps.{blocker_text, command_fault_text, done_text, full_text, refuser_text, step_text, undo_text, undone_text};
+ghost use Rattle.om_shell_commands.specs.Texts.{Writes};
+
+use crate::command::CommandFault;
+use crate::ending::{ROOM, put, put_entry, put_fault};
+use crate::number::push_numbered;
+use crate::object::push_object;
+use om_code::Program;
+use om_code::frame::Fault;
+use om_state::Blocked;
+use om_undo_history::{StepReply, UndoReply};
+use std::alloc::AllocError;
+
+/// `#S worker W line L`, and the fault that the step came to, on a line.
+pub(crate) fn push_entry(
+    text: &mut Vec<u8>,
+    serial: u64,
+    worker: u8,
+    line: u32,
+    fault: Option<Fault>,
+) -> Result<(), AllocError>
+    ensures { OnOk result (text.new.items ≡ text.old.items ++ done_text serial worker line fault) }
+{
+    let mut bytes = [0; ROOM];
+    let line_end = put(&mut bytes, ROOM, b"\n");
+    let fault_at = put_fault(&mut bytes, line_end, fault);
+    let start = put_entry(&mut bytes, fault_at, serial, worker, line);
+    text.extend_from_slice(&bytes[start..])
+}
+
+// The worker that holds the lock, or has to be idle.
+fn push_blocker(text: &mut Vec<u8>, why: Blocked) -> Result<(), AllocError>
+    ensures { OnOk result (text.new.items ≡ text.old.items ++ blocker_text why) }
+{
+    let (Blocked::Critical(worker) | Blocked::Busy(worker)) = why else {
+        return Ok(());
+    };
+    push_numbered(text, b" by ", worker)
+}
+
+/// Appends the reply to a step.
+pub fn push_step(text: &mut Vec<u8>, worker: u8, reply: StepReply) -> Result<(), AllocError>
+    ensures { OnOk result (text.new.items ≡ text.old.items ++ step_text worker reply) }
+{
+    match reply {
+        StepReply::Done {
+            serial,
+            line,
+            fault,
+        } => push_entry(text, serial, worker, line, fault),
+        StepReply::Blocked(why) => {
+            push_numbered(text, b"blocked B", why.number())?;
+            push_blocker(text, why)?;
+            text.extend_from_slice(b"\n")
+        }
+        StepReply::Ended => text.extend_from_slice(b"ended\n"),
+    }
+}
+
+// The first later step that an undo conflicts with.
+fn push_refuser(text: &mut Vec<u8>, serial: u64, worker: u8) -> Result<(), AllocError>
+    ensures { OnOk result (text.new.items ≡ text.old.items ++ refuser_text serial worker) }
+{
+    push_numbered(text, b"refused by #", serial)?;
+    push_numbered(text, b" worker ", worker)
+}
+
+/// Appends a step of a worker that was taken out, on a line: as `push_undo` of that reply.
+pub fn push_undone(text: &mut Vec<u8>, serial: u64, worker: u8, line: u32) -> Result<(), AllocError>
+    ensures { OnOk result (text.new.items ≡ text.old.items ++ undone_text serial worker line) }
+{
+    let mut bytes = [0; ROOM];
+    let line_end = put(&mut bytes, ROOM, b"\n");
+    let entry_at = put_entry(&mut bytes, line_end, serial, worker, line);
+    let start = put(&mut bytes, entry_at, b"undone ");
+    text.extend_from_slice(&bytes[start..])
+}
+
+/// Appends the reply to an undo.
+pub fn push_undo(
+    text: &mut Vec<u8>,
+    program: &Program,
+    worker: u8,
+    reply: &UndoReply,
+) -> Result<(), AllocError>
+    ensures { OnOk result (Writes (undo_text program.now worker reply.now) text.old text.new) }
+{
+    match reply {
+        UndoReply::Undone { serial, line } => push_undone(text, *serial, worker, *line),
+        UndoReply::Conflict {
+            serial,
+            worker,
+            object,
+        } => {
+            push_refuser(text, *serial, *worker)?;
+            text.extend_from_slice(b" on ")?;
+            push_object(text, program, object)?;
+            text.extend_from_slice(b"\n")
+        }
+        UndoReply::Nothing => text.extend_from_slice(b"nothing to undo\n"),
+    }
+}
+
+/// Appends the reply to a line that is no command.
+pub fn push_command_fault(text: &mut Vec<u8>, fault: CommandFault) -> Result<(), AllocError>
+    ensures { OnOk result (text.new.items ≡ text.old.items ++ command_fault_text fault) }
+{
+    match fault {
+        CommandFault::UnknownCommand => text.extend_from_slice(b"H1 unknown command\n"),
+        CommandFault::BadArgument => text.extend_from_slice(b"H2 bad argument\n"),
+    }
+}
+
+/// Appends the reply to a command that needs a record beyond those that the journal takes.
+pub fn push_full(text: &mut Vec<u8>) -> Result<(), AllocError>
+    ensures { OnOk result (text.new.items ≡ text.old.items ++ full_text) }
+{
+    text.extend_from_slice(b"full\n")
+}

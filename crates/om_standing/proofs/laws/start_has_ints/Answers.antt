@@ -1,5 +1,0 @@
-use Rattle.om_standing.proofs.IntRuns.{start_has_ints}
-use Rattle.om_standing.proofs.laws.start_has_ints.Goals as goal
-
-pub returns : goal.returns
-returns c = λ program workers ints. start_has_ints program workers ints

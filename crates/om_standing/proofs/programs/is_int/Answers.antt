@@ -1,5 +1,0 @@
-use Rattle.om_share.specs.Iterations.{int_that_fits}
-use Rattle.om_standing.proofs.programs.is_int.Goals as goal
-
-pub returns : goal.returns
-returns c = int_that_fits c.args.value c.ranges.value

@@ -1,5 +1,0 @@
-use Rattle.om_statements.proofs.Leaves.{emits_two}
-use Rattle.om_statements.proofs.alone.barrier.Goals as goal
-
-pub returns : goal.returns
-returns c = λ names. emits_two names _ _ _ _ _ _ c.in_ok-put.ensures c.in_ok-put-2.ensures

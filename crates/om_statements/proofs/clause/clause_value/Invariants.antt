@@ -1,9 +1,0 @@
-use Rattle.std.proofs.Common.{◌≡◌, drop, map}
-use Rattle.om_resolved.specs.ResolvedView as view
-use Rattle.om_rows.specs.Statements as rows
-use Rattle.om_statements.proofs.clause.clause_value.Given as goal
-
-abbrev pub invariant-loop-clause : goal.invariant-loop-clause
-invariant-loop-clause l =
-    rows.clause_value (map view.clause (drop l.clause-index l.clauses)) ≡ rows.clause_value
-    (map view.clause l.clauses)

@@ -1,8 +1,0 @@
-use Rattle.om_statements.proofs.Labels.{labels_next}
-use Rattle.om_statements.proofs.draft.Draft.fresh_labels.Goals as goal
-
-pub loop-preserved : goal.loop-preserved
-loop-preserved c =
-    labels_next _ _ c.loop.counter c.in_ok-label.label c.args.self.now c.loop.self c.fresh.new.self c.loop.invariant
-    c.in_ok-label.ensures
-    c.in_ok-push.ensures.items

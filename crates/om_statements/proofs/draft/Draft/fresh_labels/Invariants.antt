@@ -1,5 +1,0 @@
-use Rattle.om_statements.specs.Drafts.{FreshLabels}
-use Rattle.om_statements.proofs.draft.Draft.fresh_labels.Given as goal
-
-abbrev pub invariant-loop : goal.invariant-loop
-invariant-loop l = FreshLabels l.labels.items l.counter l.fn.self l.self

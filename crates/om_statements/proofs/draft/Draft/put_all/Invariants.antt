@@ -1,6 +1,0 @@
-use Rattle.std.proofs.Common.{take}
-use Rattle.om_statements.specs.Drafts.{PutsAll}
-use Rattle.om_statements.proofs.draft.Draft.put_all.Given as goal
-
-abbrev pub invariant-loop-instruction : goal.invariant-loop-instruction
-invariant-loop-instruction l = PutsAll l.line (take l.instruction-index l.instructions) l.fn.self l.self

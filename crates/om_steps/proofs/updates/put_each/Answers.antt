@@ -1,6 +1,0 @@
-use Rattle.std.proofs.Common.{rules}
-use Rattle.om_steps.proofs.Same.{same_parts}
-use Rattle.om_steps.proofs.updates.put_each.Goals as goal
-
-pub returns : goal.returns
-returns c = search (rules, same_parts)

@@ -1,8 +1,0 @@
-use Rattle.std.proofs.Common.{take}
-use Rattle.om_task.specs.Rules.{rules_of}
-use Rattle.om_traces.specs.Traces.{IsRemade}
-use Rattle.om_traces.proofs.replay.retraced.Given as goal
-
--- the entries so far were made again
-abbrev pub invariant-loop-entry : goal.invariant-loop-entry
-invariant-loop-entry l = IsRemade (rules_of l.program l.workers) l.history (take l.entry-index l.entries) l.steps.items

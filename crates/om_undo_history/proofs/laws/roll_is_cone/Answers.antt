@@ -1,0 +1,5 @@
+use Rattle.om_undo_history.proofs.RunLaws.{roll_is_cone}
+use Rattle.om_undo_history.proofs.laws.roll_is_cone.Goals as goal
+
+pub returns : goal.returns
+returns c = roll_is_cone

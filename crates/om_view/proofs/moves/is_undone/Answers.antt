@@ -1,7 +1,0 @@
-use Rattle.std.specs.Prelude.{is_some}
-use Rattle.std.proofs.Common.{◌∙◌, ap}
-use Rattle.om_view.proofs.Undone.{some_undone}
-use Rattle.om_view.proofs.moves.is_undone.Goals as goal
-
-pub returns : goal.returns
-returns c = c.is_some.ensures ∙ ap is_some c.undone.ensures ∙ some_undone c.args.reply.now

@@ -1,4 +1,0 @@
-use Rattle.om_view.proofs.moves.next.Goals as goal
-
-pub returns : goal.returns
-returns c = rw (c.line-line.ensures, c.machine.ensures.left) at c.next_within.ensures

@@ -1,4 +1,0 @@
-use Rattle.om_view.proofs.moves.start.Goals as goal
-
-pub returns : goal.returns
-returns c = rw c.name.ensures at c.step_by.ensures

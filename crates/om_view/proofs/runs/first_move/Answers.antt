@@ -1,6 +1,0 @@
-use Rattle.om_view.specs.Runs.{first_move}
-use Rattle.om_view.proofs.runs.first_move.Goals as goal
-
-pub returns-clause-moved : goal.returns-clause-moved
-unfolding first_move
-returns-clause-moved c = rw c.workers.ensures.same at c.move_among.ensures.moved
