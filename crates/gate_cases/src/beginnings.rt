@@ -4,7 +4,8 @@
 //! beginning of the source as its input: that of no byte, of one byte, and so on, up to the whole.
 
 use crate::sessions::{Told, told_of};
-use std::alloc::{AllocError, Global};
+use om_seq::AllocResult;
+use std::alloc::Global;
 use std::sync::Wait;
 use std::thread::Threads;
 
@@ -27,7 +28,7 @@ pub(crate) fn add_beginnings<R: Threads + Wait + Sync>(
     report: &mut String,
     head: &str,
     body: &str,
-) -> Result<(), AllocError> {
+) -> AllocResult<()> {
     write!(report, "== {head}\n")?;
     let source = body.trim_end().as_bytes();
     let mut last = None;
@@ -68,7 +69,7 @@ fn refusal_in(text: &str) -> Option<u32> {
 }
 
 // Adds what is said of the beginnings from this many bytes on.
-fn add_answer(report: &mut String, bytes: usize, answer: Answer) -> Result<(), AllocError> {
+fn add_answer(report: &mut String, bytes: usize, answer: Answer) -> AllocResult<()> {
     match answer {
         Answer::Accepted => write!(report, "from {bytes} bytes: accepted\n"),
         Answer::Refused(number) => write!(report, "from {bytes} bytes: S{number}\n"),

@@ -1,8 +1,9 @@
 //! The book that a session leaves.
 
 use om_book::Book;
+use om_seq::AllocResult;
 use om_shell::{Ended, Options, run};
-use std::alloc::{AllocError, Global};
+use std::alloc::Global;
 use std::sync::Wait;
 use std::thread::Threads;
 
@@ -16,7 +17,7 @@ const LOOKS: u32 = 199_998;
 pub(crate) fn full_book_has_two_steps<R: Threads + Wait + Sync>(
     rt: &R,
     alloc: Global,
-) -> Result<bool, AllocError> {
+) -> AllocResult<bool> {
     let mut commands = String::new(alloc);
     for _ in 0..LOOKS {
         commands.push_str("print x\n")?;
@@ -38,7 +39,7 @@ pub(crate) fn full_book_has_two_steps<R: Threads + Wait + Sync>(
 pub(crate) fn book_has_a_free_run<R: Threads + Wait + Sync>(
     rt: &R,
     alloc: Global,
-) -> Result<bool, AllocError> {
+) -> AllocResult<bool> {
     let Some(book) = book_behind(rt, alloc, "step 0\nfree 8\nprint x\n") else {
         return Ok(false);
     };

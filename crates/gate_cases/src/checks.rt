@@ -4,7 +4,8 @@ use crate::books::{book_has_a_free_run, full_book_has_two_steps};
 use crate::code::lines_and_names_are_found;
 use crate::ends::{ends_may_fail, source_may_be_handed_in};
 use crate::free_tasks::free_runs_end_tasks;
-use std::alloc::{AllocError, Global};
+use om_seq::AllocResult;
+use std::alloc::Global;
 use std::sync::Wait;
 use std::thread::Threads;
 
@@ -13,7 +14,7 @@ pub(crate) fn add_checks<R: Threads + Wait + Sync>(
     rt: &R,
     alloc: Global,
     told: &mut String,
-) -> Result<(), AllocError> {
+) -> AllocResult<()> {
     let checks = [
         ("free runs end tasks", free_runs_end_tasks(rt, alloc)?),
         (

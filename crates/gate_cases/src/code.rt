@@ -4,13 +4,14 @@ use om_code::Program;
 use om_frontend::program_of;
 use om_lexer::FaultCode;
 use om_lower::{Var, global_named, line_of, variable_at};
+use om_seq::AllocResult;
 use std::alloc::{AllocError, Global};
 
 // Line 5 becomes `CONST 1` and `STORE x`, and line 6 `FIN 0`.
 const SOURCE: &str = "int w[2],\nx;\n\nint main(void) {\nx = 1;\n}\n";
 
 /// Whether the lines of instructions and the numbers of globals are found, and no others.
-pub(crate) fn lines_and_names_are_found(alloc: Global) -> Result<bool, AllocError> {
+pub(crate) fn lines_and_names_are_found(alloc: Global) -> AllocResult<bool> {
     match program_of(alloc, SOURCE.as_bytes()) {
         Ok(program) => Ok(has_lines(&program) && has_names(&program) && has_meanings(&program)),
         Err(fault) if fault.code == FaultCode::Memory => Err(AllocError),

@@ -1,7 +1,8 @@
 //! Free runs of a program of tasks, until it has ended.
 
 use crate::sessions::told_of;
-use std::alloc::{AllocError, Global};
+use om_seq::AllocResult;
+use std::alloc::Global;
 use std::sync::Wait;
 use std::thread::Threads;
 
@@ -49,7 +50,7 @@ const END: &str = "worker 0 ended 0\noutput 2 bytes\n3\n\n";
 pub(crate) fn free_runs_end_tasks<R: Threads + Wait + Sync>(
     rt: &R,
     alloc: Global,
-) -> Result<bool, AllocError> {
+) -> AllocResult<bool> {
     let told = told_of(rt, alloc, 2, SESSION.as_bytes())?;
     let text = str::from_utf8(told.text.as_slice()).unwrap_or("no text");
     Ok(steps_freed(text) == STEPS && steps_shown(text) == STEPS && text.ends_with(END))

@@ -11,7 +11,8 @@ use crate::sessions::add_session;
 use crate::sources::add_table;
 use crate::stage::stage_of;
 use crate::table::cut;
-use std::alloc::{AllocError, Global};
+use om_seq::AllocResult;
+use std::alloc::Global;
 use std::sync::Wait;
 use std::thread::Threads;
 
@@ -31,7 +32,7 @@ pub(crate) fn judge<R: Threads + Wait + Sync>(
     rt: &R,
     alloc: Global,
     input: &str,
-) -> Result<Report, AllocError> {
+) -> AllocResult<Report> {
     call_laws();
     let mut report = Report {
         text: String::new(alloc),
@@ -50,7 +51,7 @@ fn add_sections<R: Threads + Wait + Sync>(
     alloc: Global,
     report: &mut Report,
     input: &str,
-) -> Result<(), AllocError> {
+) -> AllocResult<()> {
     for section in input.split("\n== ").skip(1) {
         add_section(rt, alloc, report, section)?;
     }
@@ -65,7 +66,7 @@ fn add_section<R: Threads + Wait + Sync>(
     alloc: Global,
     report: &mut Report,
     section: &str,
-) -> Result<(), AllocError> {
+) -> AllocResult<()> {
     let (head, body) = cut(section, '\n');
     let (word, _) = cut(head, ' ');
     match stage_of(word) {

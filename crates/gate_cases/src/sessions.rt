@@ -6,6 +6,7 @@
 ghost use Rattle.std.specs.Prelude.{◌<◌, ◌≤◌};
 
 use crate::written::write_out;
+use om_seq::AllocResult;
 use om_shell::{Options, run};
 use std::alloc::{AllocError, Global};
 use std::sync::Wait;
@@ -28,7 +29,7 @@ pub(crate) fn add_session<R: Threads + Wait + Sync>(
     report: &mut String,
     head: &str,
     body: &str,
-) -> Result<(), AllocError> {
+) -> AllocResult<()> {
     let mut input = String::new(alloc);
     write_out(&mut input, body)?;
     let told = told_of(rt, alloc, workers_of(head), input.as_bytes())?;
@@ -49,7 +50,7 @@ pub(crate) fn told_of<R: Threads + Wait + Sync>(
     alloc: Global,
     workers: u8,
     input: &[u8],
-) -> Result<Told, AllocError>
+) -> AllocResult<Told>
     requires at_least_one { 0 < workers }
     requires at_most_32 { workers ≤ 32 }
 {
@@ -81,7 +82,7 @@ fn workers_of(head: &str) -> u8
 }
 
 // Adds the lines of a text.
-fn add_lines(told: &mut String, text: &str) -> Result<(), AllocError> {
+fn add_lines(told: &mut String, text: &str) -> AllocResult<()> {
     let mut line = "";
     let mut times = 0u32;
     for next in text.lines() {
@@ -96,7 +97,7 @@ fn add_lines(told: &mut String, text: &str) -> Result<(), AllocError> {
 }
 
 // Adds a line as often as it stands in a row; `⟨2000 LINE⟩` in place of very many.
-fn add_run(told: &mut String, line: &str, times: u32) -> Result<(), AllocError> {
+fn add_run(told: &mut String, line: &str, times: u32) -> AllocResult<()> {
     if times > OFTEN {
         return write!(told, "⟨{times} {line}⟩\n");
     }

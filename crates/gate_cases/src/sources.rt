@@ -5,6 +5,7 @@ use crate::stage::{Stage, refusal};
 use crate::table::{divider, parts};
 use crate::written::write_out;
 use om_lexer::{FaultCode, SourceFault};
+use om_seq::AllocResult;
 use std::alloc::{AllocError, Global};
 
 /// Judges the sources of a table. Behind those that are judged wrongly it adds the head of the section, with
@@ -15,7 +16,7 @@ pub(crate) fn add_table(
     stage: Stage,
     head: &str,
     table: &str,
-) -> Result<(), AllocError> {
+) -> AllocResult<()> {
     let before = report.sources;
     for case in table.split(divider(table)) {
         if !case.trim_end().is_empty() {
@@ -27,12 +28,7 @@ pub(crate) fn add_table(
 }
 
 // Judges a case, and adds its source where it has another verdict than is wanted.
-fn add_case(
-    alloc: Global,
-    report: &mut Report,
-    stage: Stage,
-    case: &str,
-) -> Result<(), AllocError> {
+fn add_case(alloc: Global, report: &mut Report, stage: Stage, case: &str) -> AllocResult<()> {
     let (text, wanted) = parts(case);
     let mut source = String::new(alloc);
     write_out(&mut source, text)?;
@@ -50,7 +46,7 @@ fn add_case(
 
 // What the front end says of a source: `accepted`, or the refusal, as `S3 1:36`. Being out of memory is no
 // verdict.
-fn verdict(alloc: Global, stage: Stage, source: &str) -> Result<String, AllocError> {
+fn verdict(alloc: Global, stage: Stage, source: &str) -> AllocResult<String> {
     match refusal(alloc, stage, source.as_bytes()) {
         Some(fault) if fault.code == FaultCode::Memory => Err(AllocError),
         Some(fault) => refusal_text(alloc, source, fault),
@@ -59,7 +55,7 @@ fn verdict(alloc: Global, stage: Stage, source: &str) -> Result<String, AllocErr
 }
 
 // The text of a refusal, by line and column, both counted from 1.
-fn refusal_text(alloc: Global, source: &str, fault: SourceFault) -> Result<String, AllocError> {
+fn refusal_text(alloc: Global, source: &str, fault: SourceFault) -> AllocResult<String> {
     let number = fault.code.number();
     let before = source.get(..fault.at as usize).unwrap_or(source);
     let (_, behind_line) = before.rsplit_once('\n').unwrap_or(("", before));

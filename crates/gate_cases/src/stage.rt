@@ -6,7 +6,7 @@ ghost use Rattle.om_parser_tree.specs.Sizes.{AtomicsHaveForms};
 ghost use Rattle.om_parser_tree.specs.View.{view_unit};
 
 use om_frontend::program_of;
-use om_lexer::{SourceFault, Token, lex};
+use om_lexer::{SourceFault, SourceResult, Token, lex};
 use om_parser::{Unit, parse};
 use om_pragma::directive;
 use om_scope::resolve;
@@ -67,7 +67,7 @@ fn without_end(tokens: &[Token]) -> &[Token] {
 }
 
 // The tree of a source, which is well-formed and has the forms of `atomic`.
-fn parsed(alloc: Global, source: &[u8]) -> Result<Unit, SourceFault>
+fn parsed(alloc: Global, source: &[u8]) -> SourceResult<Unit>
     ensures formed { IfOk result (λ unit. IsUnit (view_unit unit)) }
     ensures atomics_have_forms { IfOk result (λ unit. AtomicsHaveForms (view_unit unit)) }
 {

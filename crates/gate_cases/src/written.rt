@@ -4,10 +4,10 @@
 //! others. `⟨1023 if(1)⟩` is so many times `if(1)`; a `№` in there is the number of the time, from 0 on.
 
 use crate::table::cut;
-use std::alloc::AllocError;
+use om_seq::AllocResult;
 
 /// Adds the source that a text stands for.
-pub(crate) fn write_out(source: &mut String, text: &str) -> Result<(), AllocError> {
+pub(crate) fn write_out(source: &mut String, text: &str) -> AllocResult<()> {
     let (front, rest) = cut(text, '⟨');
     add(source, front)?;
     for part in rest.split('⟨') {
@@ -19,7 +19,7 @@ pub(crate) fn write_out(source: &mut String, text: &str) -> Result<(), AllocErro
 }
 
 // Adds a text with the control characters in place of their pictures.
-fn add(source: &mut String, text: &str) -> Result<(), AllocError> {
+fn add(source: &mut String, text: &str) -> AllocResult<()> {
     for character in text.chars() {
         source.push(control_of(character))?;
     }
@@ -39,7 +39,7 @@ fn control_of(character: char) -> char {
 }
 
 // Adds a part as often as the number before it says. Without a number it stands there as it is.
-fn add_repeated(source: &mut String, repeated: &str) -> Result<(), AllocError> {
+fn add_repeated(source: &mut String, repeated: &str) -> AllocResult<()> {
     let (count, part) = cut(repeated, ' ');
     match count.parse() {
         Ok(count) => add_times(source, count, part),
@@ -48,7 +48,7 @@ fn add_repeated(source: &mut String, repeated: &str) -> Result<(), AllocError> {
 }
 
 // Adds a part so many times.
-fn add_times(source: &mut String, count: u32, part: &str) -> Result<(), AllocError> {
+fn add_times(source: &mut String, count: u32, part: &str) -> AllocResult<()> {
     let numbered = part.split_once('№');
     for number in 0..count {
         match numbered {
@@ -60,12 +60,7 @@ fn add_times(source: &mut String, count: u32, part: &str) -> Result<(), AllocErr
 }
 
 // Adds a number between two texts.
-fn add_numbered(
-    source: &mut String,
-    front: &str,
-    number: u32,
-    back: &str,
-) -> Result<(), AllocError> {
+fn add_numbered(source: &mut String, front: &str, number: u32, back: &str) -> AllocResult<()> {
     add(source, front)?;
     write!(source, "{number}")?;
     add(source, back)

@@ -5,7 +5,8 @@ ghost use Rattle.om_book_journal.specs.Runs.{IsInRange};
 
 use om_book::{Book, CallError, Command, Reply};
 use om_frontend::program_of;
-use std::alloc::{AllocError, Global};
+use om_seq::AllocResult;
+use std::alloc::Global;
 
 /// A book over a machine of two workers.
 #[derive(Drop)]
@@ -39,7 +40,7 @@ impl BookOfTwo {
     }
 
     /// How many calls its journal has, and how many entries its machine's history.
-    pub(crate) fn lengths(&self, alloc: Global) -> Result<Lengths, AllocError> {
+    pub(crate) fn lengths(&self, alloc: Global) -> AllocResult<Lengths> {
         let entries = self.book.machine().history(alloc)?;
         Ok(Lengths {
             records: self.book.journal().len(),

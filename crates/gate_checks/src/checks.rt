@@ -12,15 +12,13 @@ use crate::laws::call_laws;
 use crate::unbacked::unbacked_answers_are_left_out;
 use crate::undos::long_history_is_undone;
 use crate::valid::code_is_judged;
-use std::alloc::{AllocError, Global};
+use om_seq::AllocResult;
+use std::alloc::Global;
 use std::sync::Wait;
 use std::thread::Threads;
 
 /// Makes all checks. A line of the text says of each whether it is right.
-pub(crate) fn checked<R: Threads + Wait + Sync>(
-    rt: &R,
-    alloc: Global,
-) -> Result<String, AllocError> {
+pub(crate) fn checked<R: Threads + Wait + Sync>(rt: &R, alloc: Global) -> AllocResult<String> {
     call_laws();
     let mut told = String::new(alloc);
     match add_checks(rt, alloc, &mut told) {
@@ -34,13 +32,13 @@ fn add_checks<R: Threads + Wait + Sync>(
     rt: &R,
     alloc: Global,
     told: &mut String,
-) -> Result<(), AllocError> {
+) -> AllocResult<()> {
     add_machine_checks(alloc, told)?;
     add_drive_checks(rt, alloc, told)
 }
 
 // Adds the lines of the checks of one thread: of code, the machine and the book.
-fn add_machine_checks(alloc: Global, told: &mut String) -> Result<(), AllocError> {
+fn add_machine_checks(alloc: Global, told: &mut String) -> AllocResult<()> {
     add_line(told, "code is judged", code_is_judged(alloc)?)?;
     add_line(told, "counts follow an undo", counts_follow_an_undo(alloc)?)?;
     add_line(
@@ -56,7 +54,7 @@ fn add_drive_checks<R: Threads + Wait + Sync>(
     rt: &R,
     alloc: Global,
     told: &mut String,
-) -> Result<(), AllocError> {
+) -> AllocResult<()> {
     let checks = [
         ("faults of a round are told", faults_are_told(rt, alloc)?),
         (
@@ -90,7 +88,7 @@ fn add_drive_checks<R: Threads + Wait + Sync>(
 }
 
 // Adds the line of a check.
-fn add_line(told: &mut String, check: &str, is_right: bool) -> Result<(), AllocError> {
+fn add_line(told: &mut String, check: &str, is_right: bool) -> AllocResult<()> {
     let verdict = if is_right { "" } else { " is WRONG" };
     write!(told, "{check}{verdict}\n")
 }

@@ -2,8 +2,9 @@
 
 use crate::machine_of_two::MachineOfTwo;
 use om_foot::{Name, Obj};
+use om_seq::AllocResult;
 use om_undo::UndoReply;
-use std::alloc::{AllocError, Global};
+use std::alloc::Global;
 
 /// Each of two threads makes a task.
 pub(crate) const TASKS: &str = "int main(void){
@@ -17,7 +18,7 @@ pub(crate) const TASKS: &str = "int main(void){
 
 /// Whether the undo of the step that made a task takes its counts back, and leaves those of the other task, which
 /// was made later.
-pub(crate) fn counts_follow_an_undo(alloc: Global) -> Result<bool, AllocError> {
+pub(crate) fn counts_follow_an_undo(alloc: Global) -> AllocResult<bool> {
     let Some(mut machine) = MachineOfTwo::of(alloc, TASKS) else {
         return Ok(false);
     };
@@ -36,7 +37,7 @@ fn are_counts(
     machine: &MachineOfTwo,
     pending: i128,
     of_first: i128,
-) -> Result<bool, AllocError> {
+) -> AllocResult<bool> {
     Ok(
         is_pending(alloc, machine, pending)?
             && has_children(alloc, machine, &[0, 1, 0], of_first)?
@@ -45,7 +46,7 @@ fn are_counts(
 }
 
 // Whether the team has so many tasks that are pending in its first phase.
-fn is_pending(alloc: Global, machine: &MachineOfTwo, wanted: i128) -> Result<bool, AllocError> {
+fn is_pending(alloc: Global, machine: &MachineOfTwo, wanted: i128) -> AllocResult<bool> {
     let Some(team) = Name::of(&[0, 1]) else {
         return Ok(false);
     };
@@ -58,7 +59,7 @@ fn has_children(
     machine: &MachineOfTwo,
     name: &[u64],
     wanted: i128,
-) -> Result<bool, AllocError> {
+) -> AllocResult<bool> {
     let Some(task) = Name::of(name) else {
         return Ok(false);
     };
@@ -71,7 +72,7 @@ fn is_count(
     machine: &MachineOfTwo,
     object: &Obj,
     wanted: i128,
-) -> Result<bool, AllocError> {
+) -> AllocResult<bool> {
     let held = machine.look(alloc, object)?;
     Ok(held.count() == Some(wanted))
 }

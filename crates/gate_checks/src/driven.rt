@@ -7,7 +7,8 @@ use crate::orders::steps_of;
 use crate::places::are_places;
 use crate::table::{Drove, Table};
 use om_drive::{Answer, Gate, Order};
-use std::alloc::{AllocError, Global};
+use om_seq::AllocResult;
+use std::alloc::Global;
 use std::sync::Wait;
 use std::thread::Threads;
 
@@ -23,7 +24,7 @@ x = x + 1;
 pub(crate) fn all_are_answered<R: Threads + Wait + Sync>(
     rt: &R,
     alloc: Global,
-) -> Result<bool, AllocError> {
+) -> AllocResult<bool> {
     let orders = two_lists(alloc, 200)?;
     let Some(drove) = drive_two(rt, alloc, orders.as_slice())? else {
         return Ok(false);
@@ -36,7 +37,7 @@ pub(crate) fn all_are_answered<R: Threads + Wait + Sync>(
 pub(crate) fn places_are_those_of_the_journal<R: Threads + Wait + Sync>(
     rt: &R,
     alloc: Global,
-) -> Result<bool, AllocError> {
+) -> AllocResult<bool> {
     let orders = two_lists(alloc, 100)?;
     let Some(drove) = drive_two(rt, alloc, orders.as_slice())? else {
         return Ok(false);
@@ -49,7 +50,7 @@ fn drive_two<R: Threads + Wait + Sync>(
     rt: &R,
     alloc: Global,
     orders: &[Vec<Order>],
-) -> Result<Option<Drove>, AllocError>
+) -> AllocResult<Option<Drove>>
     requires { length orders.now ≡ 2 }
 {
     let gates = two_gates(alloc)?;
@@ -90,7 +91,7 @@ impl Gate for Open {
 }
 
 /// A gate for each of two seats.
-pub(crate) fn two_gates(alloc: Global) -> Result<Vec<Open>, AllocError>
+pub(crate) fn two_gates(alloc: Global) -> AllocResult<Vec<Open>>
     ensures { IfOk result (λ gates. vec_len gates ≡ 2) }
 {
     let mut gates = Vec::new(alloc);
@@ -100,7 +101,7 @@ pub(crate) fn two_gates(alloc: Global) -> Result<Vec<Open>, AllocError>
 }
 
 // So many orders for each of two seats. They are numbered from 0, those of the first seat first.
-fn two_lists(alloc: Global, count: u32) -> Result<Vec<Vec<Order>>, AllocError>
+fn two_lists(alloc: Global, count: u32) -> AllocResult<Vec<Vec<Order>>>
     ensures { IfOk result (λ lists. vec_len lists ≡ 2) }
 {
     let count = u64::from(count);

@@ -5,7 +5,8 @@ use crate::counts::TASKS;
 use crate::driven::two_gates;
 use crate::table::{Ran, Table};
 use om_drive::Errand;
-use std::alloc::{AllocError, Global};
+use om_seq::AllocResult;
+use std::alloc::Global;
 use std::sync::Wait;
 use std::thread::Threads;
 
@@ -43,7 +44,7 @@ const RUNS: u32 = 10;
 pub(crate) fn free_runs_are_recorded<R: Threads + Wait + Sync>(
     rt: &R,
     alloc: Global,
-) -> Result<bool, AllocError> {
+) -> AllocResult<bool> {
     Ok(runs_end(rt, alloc, TASKS, TASKS_STEPS)? && runs_end(rt, alloc, FIBONACCI, FIBONACCI_STEPS)?)
 }
 
@@ -53,7 +54,7 @@ fn runs_end<R: Threads + Wait + Sync>(
     alloc: Global,
     source: &str,
     steps: u64,
-) -> Result<bool, AllocError> {
+) -> AllocResult<bool> {
     let Some(mut book) = BookOfTwo::of(alloc, source) else {
         return Ok(false);
     };
@@ -74,7 +75,7 @@ fn run_once<R: Threads + Wait + Sync>(
     rt: &R,
     alloc: Global,
     book: BookOfTwo,
-) -> Result<Option<(BookOfTwo, u64)>, AllocError> {
+) -> AllocResult<Option<(BookOfTwo, u64)>> {
     let before = book.lengths(alloc)?;
     let gates = two_gates(alloc)?;
     let errand = Errand {
@@ -91,7 +92,7 @@ fn run_once<R: Threads + Wait + Sync>(
 }
 
 // Whether the journal grew by the calls that its session counted, and the history by the steps that the run counted.
-fn is_recorded(alloc: Global, ran: &Ran, before: Lengths) -> Result<bool, AllocError> {
+fn is_recorded(alloc: Global, ran: &Ran, before: Lengths) -> AllocResult<bool> {
     let lengths = ran.book.lengths(alloc)?;
     let calls = lengths.records.saturating_sub(before.records);
     let steps = lengths.entries.saturating_sub(before.entries) as u64;

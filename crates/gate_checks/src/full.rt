@@ -3,9 +3,10 @@
 use crate::book_of_two::BookOfTwo;
 use om_book::{CallError, Command, Query, Reply};
 use om_foot::Obj;
+use om_seq::AllocResult;
 use om_state::Val;
 use om_task::Choice;
-use std::alloc::{AllocError, Global};
+use std::alloc::Global;
 
 // A program of six steps.
 const SOURCE: &str = "int x; int main(void){ x = 1; x = x + 2; return x; }";
@@ -15,7 +16,7 @@ const MOST: usize = 200_000;
 
 /// Whether 200,000 looks are answered, and then no further call: a look and a step leave history and journal as they
 /// are.
-pub(crate) fn journal_gets_full(alloc: Global) -> Result<bool, AllocError> {
+pub(crate) fn journal_gets_full(alloc: Global) -> AllocResult<bool> {
     let Some(mut book) = BookOfTwo::of(alloc, SOURCE) else {
         return Ok(false);
     };

@@ -5,8 +5,9 @@ ghost use Rattle.std.specs.Prelude.{◌≡◌, ◌++◌, ◌∷◌, [], IfOk, ve
 use crate::orders::two_lists_of_looks;
 use om_book::{CallError, Command, KeptCommand, Receipt, Reply};
 use om_drive::{Debuggee, Gate, Order, drive_over};
+use om_seq::AllocResult;
 use om_undo::StepReply;
-use std::alloc::{AllocError, Global};
+use std::alloc::Global;
 use std::mem;
 use std::sync::Wait;
 use std::sync::atomic::{AtomicBool, Ordering};
@@ -112,7 +113,7 @@ impl<'a> Gate for After<'a> {
 pub(crate) fn both_are_inside_at_once<R: Threads + Wait + Sync>(
     rt: &R,
     alloc: Global,
-) -> Result<bool, AllocError> {
+) -> AllocResult<bool> {
     let (zero, one) = (AtomicBool::new(false), AtomicBool::new(false));
     let fakes = fakes(alloc, &zero, &one)?;
     let gates = gates(alloc, &one)?;
@@ -123,11 +124,7 @@ pub(crate) fn both_are_inside_at_once<R: Threads + Wait + Sync>(
     Ok(driven.fault.is_none() && in_time == 2 && seen == 2)
 }
 
-fn fakes<'a>(
-    alloc: Global,
-    zero: &'a AtomicBool,
-    one: &'a AtomicBool,
-) -> Result<Vec<Fake<'a>>, AllocError>
+fn fakes<'a>(alloc: Global, zero: &'a AtomicBool, one: &'a AtomicBool) -> AllocResult<Vec<Fake<'a>>>
     ensures { IfOk result (λ fakes. vec_len fakes ≡ 2) }
 {
     let mut fakes = Vec::new(alloc);
@@ -136,7 +133,7 @@ fn fakes<'a>(
     Ok(fakes)
 }
 
-fn gates(alloc: Global, one: &AtomicBool) -> Result<Vec<After<'_>>, AllocError>
+fn gates(alloc: Global, one: &AtomicBool) -> AllocResult<Vec<After<'_>>>
     ensures { IfOk result (λ gates. vec_len gates ≡ 2) }
 {
     let mut gates = Vec::new(alloc);

@@ -7,7 +7,8 @@ use crate::driven::ADDING;
 use crate::orders::two_lists_of_looks;
 use crate::table::{Drove, Ran, Table};
 use om_drive::{Errand, Gate, Order};
-use std::alloc::{AllocError, Global};
+use om_seq::AllocResult;
+use std::alloc::Global;
 use std::sync::Wait;
 use std::sync::atomic::{AtomicU64, Ordering};
 use std::thread::{Threads, yield_now};
@@ -77,7 +78,7 @@ fn is_reached(number: &AtomicU64, wanted: u64) -> bool {
 
 // Gates of worker 0, which waits at its order 1, and of worker 1, which waits at its order 2: each until the other
 // was asked for this order.
-fn gates(alloc: Global, board: &Board, until: (u64, u64)) -> Result<Vec<Holding<'_>>, AllocError>
+fn gates(alloc: Global, board: &Board, until: (u64, u64)) -> AllocResult<Vec<Holding<'_>>>
     ensures { IfOk result (λ gates. vec_len gates ≡ 2) }
 {
     let mut gates = Vec::new(alloc);
@@ -102,7 +103,7 @@ fn gates(alloc: Global, board: &Board, until: (u64, u64)) -> Result<Vec<Holding<
 pub(crate) fn drives_are_side_by_side<R: Threads + Wait + Sync>(
     rt: &R,
     alloc: Global,
-) -> Result<bool, AllocError> {
+) -> AllocResult<bool> {
     let board = Board::new();
     let gates = gates(alloc, &board, (2, 1))?;
     let orders = two_lists_of_looks(alloc, &[1], &[2])?;
@@ -130,7 +131,7 @@ fn are_in_time(drove: &Drove) -> bool {
 pub(crate) fn free_runs_are_side_by_side<R: Threads + Wait + Sync>(
     rt: &R,
     alloc: Global,
-) -> Result<bool, AllocError> {
+) -> AllocResult<bool> {
     let board = Board::new();
     let gates = gates(alloc, &board, (2, 2))?;
     let Some(book) = BookOfTwo::of(alloc, ADDING) else {

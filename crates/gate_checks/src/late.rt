@@ -5,7 +5,8 @@ ghost use Rattle.std.specs.Prelude.{◌≡◌, IfOk, vec_len};
 use crate::gates::Fake;
 use crate::orders::looks;
 use om_drive::{Gate, Order, drive_over};
-use std::alloc::{AllocError, Global};
+use om_seq::AllocResult;
+use std::alloc::Global;
 use std::sync::Wait;
 use std::sync::atomic::{AtomicBool, AtomicU64, Ordering};
 use std::thread::Threads;
@@ -30,7 +31,7 @@ impl<'a> Gate for Shut<'a> {
 pub(crate) fn answers_may_be_late<R: Threads + Wait + Sync>(
     rt: &R,
     alloc: Global,
-) -> Result<bool, AllocError> {
+) -> AllocResult<bool> {
     let (asked, flag) = (AtomicU64::new(0), AtomicBool::new(false));
     let fakes = one_fake(alloc, &flag)?;
     let gates = one_gate(alloc, &asked)?;
@@ -46,7 +47,7 @@ pub(crate) fn answers_may_be_late<R: Threads + Wait + Sync>(
 }
 
 // A debuggee that waits for nobody: the flag that it looks for is its own.
-fn one_fake<'a>(alloc: Global, flag: &'a AtomicBool) -> Result<Vec<Fake<'a>>, AllocError>
+fn one_fake<'a>(alloc: Global, flag: &'a AtomicBool) -> AllocResult<Vec<Fake<'a>>>
     ensures { IfOk result (λ fakes. vec_len fakes ≡ 1) }
 {
     let mut fakes = Vec::new(alloc);
@@ -54,7 +55,7 @@ fn one_fake<'a>(alloc: Global, flag: &'a AtomicBool) -> Result<Vec<Fake<'a>>, Al
     Ok(fakes)
 }
 
-fn one_gate(alloc: Global, asked: &AtomicU64) -> Result<Vec<Shut<'_>>, AllocError>
+fn one_gate(alloc: Global, asked: &AtomicU64) -> AllocResult<Vec<Shut<'_>>>
     ensures { IfOk result (λ gates. vec_len gates ≡ 1) }
 {
     let mut gates = Vec::new(alloc);
@@ -62,7 +63,7 @@ fn one_gate(alloc: Global, asked: &AtomicU64) -> Result<Vec<Shut<'_>>, AllocErro
     Ok(gates)
 }
 
-fn one_list(alloc: Global) -> Result<Vec<Vec<Order>>, AllocError>
+fn one_list(alloc: Global) -> AllocResult<Vec<Vec<Order>>>
     ensures { IfOk result (λ lists. vec_len lists ≡ 1) }
 {
     let mut lists = Vec::new(alloc);

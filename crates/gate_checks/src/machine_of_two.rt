@@ -4,6 +4,7 @@ ghost use Rattle.std.specs.Prelude.{◌≡◌, ◌<◌, ◌≤◌, IfOk};
 
 use om_foot::Obj;
 use om_frontend::program_of;
+use om_seq::AllocResult;
 use om_state::Val;
 use om_task::Choice;
 use om_undo::{Machine, StepReply, UndoReply};
@@ -31,7 +32,7 @@ impl MachineOfTwo {
     }
 
     /// The step of a worker.
-    pub(crate) fn step(&mut self, alloc: Global, worker: u8) -> Result<StepReply, AllocError>
+    pub(crate) fn step(&mut self, alloc: Global, worker: u8) -> AllocResult<StepReply>
         requires { worker < 2 }
     {
         if self.asked >= MOST_STEPS {
@@ -42,12 +43,7 @@ impl MachineOfTwo {
     }
 
     /// Whether each of so many steps of a worker is made.
-    pub(crate) fn makes(
-        &mut self,
-        alloc: Global,
-        worker: u8,
-        count: u32,
-    ) -> Result<bool, AllocError>
+    pub(crate) fn makes(&mut self, alloc: Global, worker: u8, count: u32) -> AllocResult<bool>
         requires { worker < 2 }
     {
         for _ in 0..count {
@@ -66,7 +62,7 @@ impl MachineOfTwo {
     }
 
     /// What an object holds.
-    pub(crate) fn look(&self, alloc: Global, object: &Obj) -> Result<Val, AllocError> {
+    pub(crate) fn look(&self, alloc: Global, object: &Obj) -> AllocResult<Val> {
         self.machine.look(alloc, object)
     }
 }

@@ -5,11 +5,12 @@ ghost use Rattle.std.specs.Prelude.{◌≡◌, IfOk, vec_len};
 use om_book::{Command, Query, Reply};
 use om_drive::{Answer, Order};
 use om_foot::Obj;
+use om_seq::AllocResult;
 use om_task::Choice;
-use std::alloc::{AllocError, Global};
+use std::alloc::Global;
 
 /// Looks at what was printed, as orders of these numbers.
-pub(crate) fn looks(alloc: Global, numbers: &[u64]) -> Result<Vec<Order>, AllocError> {
+pub(crate) fn looks(alloc: Global, numbers: &[u64]) -> AllocResult<Vec<Order>> {
     numbers
         .iter()
         .map(|number| Order {
@@ -24,7 +25,7 @@ pub(crate) fn two_lists_of_looks(
     alloc: Global,
     first: &[u64],
     other: &[u64],
-) -> Result<Vec<Vec<Order>>, AllocError>
+) -> AllocResult<Vec<Vec<Order>>>
     ensures { IfOk result (λ lists. vec_len lists ≡ 2) }
 {
     let mut lists = Vec::new(alloc);
@@ -34,12 +35,7 @@ pub(crate) fn two_lists_of_looks(
 }
 
 /// The steps of a worker as orders of these numbers.
-pub(crate) fn steps_of(
-    alloc: Global,
-    worker: u8,
-    first: u64,
-    end: u64,
-) -> Result<Vec<Order>, AllocError> {
+pub(crate) fn steps_of(alloc: Global, worker: u8, first: u64, end: u64) -> AllocResult<Vec<Order>> {
     (first..end)
         .map(|number| Order {
             number,

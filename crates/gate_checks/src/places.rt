@@ -1,15 +1,12 @@
 //! The places of answers in the journal.
 
 use om_drive::Answer;
-use std::alloc::{AllocError, Global};
+use om_seq::AllocResult;
+use std::alloc::Global;
 
 /// Whether the places of two seats' answers are together 0 to 2 `count` - 1, each once, and those of each seat rise.
 /// The orders of the first seat are numbered below `count`, and those of the second from there on.
-pub(crate) fn are_places(
-    alloc: Global,
-    answers: &[Answer],
-    count: u32,
-) -> Result<bool, AllocError> {
+pub(crate) fn are_places(alloc: Global, answers: &[Answer], count: u32) -> AllocResult<bool> {
     let (count, all) = (u64::from(count), 2 * u64::from(count));
     let first = places_of(alloc, answers, 0, count)?;
     let second = places_of(alloc, answers, count, all)?;
@@ -19,12 +16,7 @@ pub(crate) fn are_places(
 }
 
 // The places of the answers whose orders are numbered from `first` on, up to but not including `end`.
-fn places_of(
-    alloc: Global,
-    answers: &[Answer],
-    first: u64,
-    end: u64,
-) -> Result<Vec<u64>, AllocError> {
+fn places_of(alloc: Global, answers: &[Answer], first: u64, end: u64) -> AllocResult<Vec<u64>> {
     let mut places = Vec::new(alloc);
     for answer in answers {
         if let Some(place) = answer.place {

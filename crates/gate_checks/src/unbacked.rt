@@ -8,16 +8,14 @@ use crate::orders::{answer, are_answers, two_lists_of_looks};
 use om_book::{Blank, Command, Query, Reply, Seat, Session, Sitting};
 use om_drive::{Answer, KeptAnswers, Order, Rows, keep_backed};
 use om_foot::Obj;
+use om_seq::AllocResult;
 use std::alloc::{AllocError, Global};
 use std::marker::Brand;
 use std::sync::Wait;
 
 /// Whether four answers are kept that tell the places of their records; and of four answers, of which the third tells
 /// the place of the other seat's record, the three others.
-pub(crate) fn unbacked_answers_are_left_out<R: Wait>(
-    rt: &R,
-    alloc: Global,
-) -> Result<bool, AllocError> {
+pub(crate) fn unbacked_answers_are_left_out<R: Wait>(rt: &R, alloc: Global) -> AllocResult<bool> {
     let all = compared(rt, alloc, [0, 1, 2, 3])?;
     let fewer = compared(rt, alloc, [0, 1, 1, 3])?;
     Ok(
@@ -29,7 +27,7 @@ pub(crate) fn unbacked_answers_are_left_out<R: Wait>(
 }
 
 // What is kept of the answers to two orders for each of two seats, where the answers tell these places.
-fn compared<R: Wait>(rt: &R, alloc: Global, places: [u64; 4]) -> Result<KeptAnswers, AllocError> {
+fn compared<R: Wait>(rt: &R, alloc: Global, places: [u64; 4]) -> AllocResult<KeptAnswers> {
     let Some(book) = BookOfTwo::of(alloc, ADDING) else {
         return Err(AllocError);
     };
@@ -55,7 +53,7 @@ fn compared_in<L: Sitting, R: Wait>(
     blank: Blank,
     book: BookOfTwo,
     told: Told<'_>,
-) -> Result<KeptAnswers, AllocError>
+) -> AllocResult<KeptAnswers>
     requires name { blank.ledger.name ≡ L.name }
     requires parts { blank.ledger.parts ≡ L.parts }
     requires opened { book.book ≡ L.opened }
@@ -83,7 +81,7 @@ fn answered<L: Sitting, R: Wait>(
     session: &Session<L>,
     seats: &mut [Seat<L>],
     places: &[u64; 4],
-) -> Result<Vec<Answer>, AllocError>
+) -> AllocResult<Vec<Answer>>
     requires { length seats.old ≡ 2 }
     ensures { length seats.new ≡ 2 }
 {
@@ -101,7 +99,7 @@ fn look<L: Sitting, R: Wait>(
     alloc: Global,
     session: &Session<L>,
     seat: &mut Seat<L>,
-) -> Result<Reply, AllocError> {
+) -> AllocResult<Reply> {
     match session.call(rt, alloc, seat, Command::Look(Query::Value(Obj::Output))) {
         Ok(reply) => Ok(reply),
         Err(_) => Err(AllocError),

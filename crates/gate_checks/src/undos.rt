@@ -3,8 +3,9 @@
 use crate::machine_of_two::MachineOfTwo;
 use om_code::frame::Cell;
 use om_foot::Obj;
+use om_seq::AllocResult;
 use om_undo::UndoReply;
-use std::alloc::{AllocError, Global};
+use std::alloc::Global;
 
 // Two threads that count, each in a variable of its own, and never end.
 const SOURCE: &str = "int a, b;
@@ -19,7 +20,7 @@ const STEPS: u32 = 50_000;
 
 /// Whether 100,000 steps are made and one worker's half of them is undone: each undo names its step, and that of the
 /// fork is refused by the other worker's first step.
-pub(crate) fn long_history_is_undone(alloc: Global) -> Result<bool, AllocError> {
+pub(crate) fn long_history_is_undone(alloc: Global) -> AllocResult<bool> {
     let Some(mut machine) = MachineOfTwo::of(alloc, SOURCE) else {
         return Ok(false);
     };
@@ -56,12 +57,7 @@ fn fork_is_held(machine: &mut MachineOfTwo) -> bool {
 }
 
 // Whether a global variable holds this value.
-fn holds(
-    alloc: Global,
-    machine: &MachineOfTwo,
-    variable: u32,
-    value: i32,
-) -> Result<bool, AllocError> {
+fn holds(alloc: Global, machine: &MachineOfTwo, variable: u32, value: i32) -> AllocResult<bool> {
     let held = machine.look(alloc, &Obj::Global { variable, index: 0 })?;
     Ok(held.cell() == Cell::Int(value))
 }

@@ -3,11 +3,11 @@
 use om_code::instruction::Place;
 use om_code::raw::{Line, Names, Scope, Slot, Source};
 use om_code::{Body, CodeFault, Instr, Program, Raw, validate};
-use om_seq::Seq;
-use std::alloc::{AllocError, Global};
+use om_seq::{AllocResult, Seq};
+use std::alloc::Global;
 
 /// Whether the validator refuses code by the rule that it breaks, and leaves valid code as it is.
-pub(crate) fn code_is_judged(alloc: Global) -> Result<bool, AllocError> {
+pub(crate) fn code_is_judged(alloc: Global) -> AllocResult<bool> {
     Ok(
         refuses_jumps_out(alloc)?
             && refuses_missing_operands(alloc)?
@@ -24,17 +24,17 @@ const END: Instr = Instr::Finish { has_value: false };
 // Ends the program with the top operand.
 const END_WITH: Instr = Instr::Finish { has_value: true };
 
-fn refuses_jumps_out(alloc: Global) -> Result<bool, AllocError> {
+fn refuses_jumps_out(alloc: Global) -> AllocResult<bool> {
     let judged = judged(alloc, &[Instr::Jump(7), END], 0)?;
     Ok(matches!(judged, Err(CodeFault::JumpOut)))
 }
 
-fn refuses_missing_operands(alloc: Global) -> Result<bool, AllocError> {
+fn refuses_missing_operands(alloc: Global) -> AllocResult<bool> {
     let judged = judged(alloc, &[Instr::Pop, END], 0)?;
     Ok(matches!(judged, Err(CodeFault::Heights)))
 }
 
-fn refuses_high_stacks(alloc: Global) -> Result<bool, AllocError> {
+fn refuses_high_stacks(alloc: Global) -> AllocResult<bool> {
     let mut code = Vec::new(alloc);
     for _ in 0..257 {
         code.push(Instr::Constant(1))?;
@@ -44,14 +44,14 @@ fn refuses_high_stacks(alloc: Global) -> Result<bool, AllocError> {
     Ok(matches!(judged, Err(CodeFault::TooHigh)))
 }
 
-fn refuses_unknown_slots(alloc: Global) -> Result<bool, AllocError> {
+fn refuses_unknown_slots(alloc: Global) -> AllocResult<bool> {
     let load = Instr::Load(Place::Slot(3));
     let judged = judged(alloc, &[load, END_WITH], 2)?;
     Ok(matches!(judged, Err(CodeFault::Unknown)))
 }
 
 // A scope names slot 2 of two.
-fn refuses_names_of_unknown_slots(alloc: Global) -> Result<bool, AllocError> {
+fn refuses_names_of_unknown_slots(alloc: Global) -> AllocResult<bool> {
     let mut body = body_of(alloc, &[END], 2)?;
     body.names.scopes.push(scope_of(alloc, 1)?)?;
     let known = judged_body(alloc, body)?;
@@ -62,7 +62,7 @@ fn refuses_names_of_unknown_slots(alloc: Global) -> Result<bool, AllocError> {
 }
 
 // A scope of the name `x`, over the first instruction.
-fn scope_of(alloc: Global, slot: u32) -> Result<Scope, AllocError> {
+fn scope_of(alloc: Global, slot: u32) -> AllocResult<Scope> {
     Ok(Scope {
         name: Seq::one(alloc, b'x')?,
         slot: Some(slot),
@@ -72,7 +72,7 @@ fn scope_of(alloc: Global, slot: u32) -> Result<Scope, AllocError> {
     })
 }
 
-fn accepts_valid_code(alloc: Global) -> Result<bool, AllocError> {
+fn accepts_valid_code(alloc: Global) -> AllocResult<bool> {
     let load = Instr::Load(Place::Slot(1));
     match judged(alloc, &[Instr::Constant(5), Instr::Pop, load, END_WITH], 2)? {
         Ok(program) => Ok(is_as_given(&program)),
@@ -94,16 +94,12 @@ fn is_as_given(program: &Program) -> bool {
 }
 
 // What the validator says of a program of one body, with so many slots of one cell.
-fn judged(
-    alloc: Global,
-    code: &[Instr],
-    slots: u32,
-) -> Result<Result<Program, CodeFault>, AllocError> {
+fn judged(alloc: Global, code: &[Instr], slots: u32) -> AllocResult<Result<Program, CodeFault>> {
     judged_body(alloc, body_of(alloc, code, slots)?)
 }
 
 // What the validator says of a program of this body.
-fn judged_body(alloc: Global, body: Body) -> Result<Result<Program, CodeFault>, AllocError> {
+fn judged_body(alloc: Global, body: Body) -> AllocResult<Result<Program, CodeFault>> {
     let raw = Raw {
         globals: Seq::new(alloc),
         bodies: Seq::one(alloc, body)?,
@@ -116,7 +112,7 @@ fn judged_body(alloc: Global, body: Body) -> Result<Result<Program, CodeFault>, 
 }
 
 // A body of this code, all on line 1, with so many slots of one cell.
-fn body_of(alloc: Global, code: &[Instr], slots: u32) -> Result<Body, AllocError> {
+fn body_of(alloc: Global, code: &[Instr], slots: u32) -> AllocResult<Body> {
     let lines: Vec<Line> = code
         .iter()
         .map(|instruction| Line {

@@ -3,9 +3,10 @@
 use crate::token::{line_front, line_rest, name_before, token_at};
 use lab_help::{help_for, is_left_out, refusal_words};
 use om_lexer::{FaultCode, SourceFault};
+use om_seq::AllocResult;
 use om_shell::{front_of, line_behind};
 use om_shell_commands::push_numbered;
-use std::alloc::{AllocError, Global};
+use std::alloc::Global;
 
 // What stands round the place of a refusal.
 #[derive(Clone, Copy)]
@@ -42,7 +43,7 @@ fn surroundings(source: &[u8], at: u32) -> Around<'_> {
 }
 
 // The line, behind its number.
-fn push_line(text: &mut Vec<u8>, around: Around<'_>) -> Result<(), AllocError> {
+fn push_line(text: &mut Vec<u8>, around: Around<'_>) -> AllocResult<()> {
     push_numbered(text, b" ", around.number)?;
     text.extend_from_slice(b" | ")?;
     text.extend_from_slice(around.front)?;
@@ -61,7 +62,7 @@ fn below(byte: u8) -> &'static [u8] {
 }
 
 // The margin of the mark's line, as wide as the number.
-fn push_margin(text: &mut Vec<u8>, alloc: Global, number: usize) -> Result<(), AllocError> {
+fn push_margin(text: &mut Vec<u8>, alloc: Global, number: usize) -> AllocResult<()> {
     let mut digits = Vec::new(alloc);
     push_numbered(&mut digits, b" ", number)?;
     for _ in &digits {
@@ -71,7 +72,7 @@ fn push_margin(text: &mut Vec<u8>, alloc: Global, number: usize) -> Result<(), A
 }
 
 // A mark under the token.
-fn push_mark(text: &mut Vec<u8>, alloc: Global, around: Around<'_>) -> Result<(), AllocError> {
+fn push_mark(text: &mut Vec<u8>, alloc: Global, around: Around<'_>) -> AllocResult<()> {
     push_margin(text, alloc, around.number)?;
     for byte in around.front {
         text.extend_from_slice(below(*byte))?;
@@ -84,7 +85,7 @@ fn push_mark(text: &mut Vec<u8>, alloc: Global, around: Around<'_>) -> Result<()
 }
 
 // What to write in place of the token.
-fn push_help(text: &mut Vec<u8>, fault: SourceFault, around: Around<'_>) -> Result<(), AllocError> {
+fn push_help(text: &mut Vec<u8>, fault: SourceFault, around: Around<'_>) -> AllocResult<()> {
     let Some(help) = help_for(fault.code, around.token, name_before(around.front)) else {
         return Ok(());
     };
@@ -94,7 +95,7 @@ fn push_help(text: &mut Vec<u8>, fault: SourceFault, around: Around<'_>) -> Resu
 }
 
 // Why the token is refused.
-fn push_reason(text: &mut Vec<u8>, code: FaultCode, token: &[u8]) -> Result<(), AllocError> {
+fn push_reason(text: &mut Vec<u8>, code: FaultCode, token: &[u8]) -> AllocResult<()> {
     if code == FaultCode::Syntax && is_left_out(token) {
         text.extend_from_slice(b"'")?;
         text.extend_from_slice(token)?;
@@ -111,7 +112,7 @@ pub(crate) fn explanation(
     alloc: Global,
     source: &[u8],
     fault: SourceFault,
-) -> Result<Vec<u8>, AllocError> {
+) -> AllocResult<Vec<u8>> {
     let around = surroundings(source, fault.at);
     let mut text = Vec::new(alloc);
     push_reason(&mut text, fault.code, around.token)?;

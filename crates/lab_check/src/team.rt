@@ -2,6 +2,7 @@
 
 use lab_text::push_place;
 use om_lexer::{FaultCode, Punctuator, Token, TokenKind, lex};
+use om_seq::AllocResult;
 use om_shell_commands::push_numbered;
 use std::alloc::{AllocError, Global};
 
@@ -37,7 +38,7 @@ pub(crate) struct Checked<'a> {
     pub(crate) workers: u8,
 }
 
-fn push_note(text: &mut Vec<u8>, checked: Checked<'_>, at: u32) -> Result<(), AllocError> {
+fn push_note(text: &mut Vec<u8>, checked: Checked<'_>, at: u32) -> AllocResult<()> {
     push_place(text, checked.file, checked.source, at)?;
     push_numbered(text, b": note: with --threads ", checked.workers)?;
     push_numbered(text, b" this team has at most ", checked.workers)?;
@@ -45,11 +46,7 @@ fn push_note(text: &mut Vec<u8>, checked: Checked<'_>, at: u32) -> Result<(), Al
 }
 
 // A note for each clause of a directive that asks for too many.
-fn push_notes(
-    text: &mut Vec<u8>,
-    checked: Checked<'_>,
-    tokens: &[Token],
-) -> Result<(), AllocError> {
+fn push_notes(text: &mut Vec<u8>, checked: Checked<'_>, tokens: &[Token]) -> AllocResult<()> {
     let mut in_directive = false;
     for at in 0..tokens.len() {
         match &tokens[at].kind {
@@ -67,7 +64,7 @@ fn push_notes(
 
 /// A note for each `num_threads` whose constant is above the number of workers. A source without tokens
 /// has none.
-pub(crate) fn team_notes(alloc: Global, checked: Checked<'_>) -> Result<Vec<u8>, AllocError> {
+pub(crate) fn team_notes(alloc: Global, checked: Checked<'_>) -> AllocResult<Vec<u8>> {
     let mut text = Vec::new(alloc);
     match lex(alloc, checked.source) {
         Ok(tokens) => push_notes(&mut text, checked, &tokens)?,

@@ -9,10 +9,11 @@ use crate::team::{Checked, team_notes};
 use lab_text::{Report, accepted_report, refused_report};
 use om_frontend::program_of;
 use om_lexer::{FaultCode, SourceFault};
+use om_seq::AllocResult;
 use std::alloc::{AllocError, Global};
 
 // The report on an accepted source.
-fn accepted(alloc: Global, checked: Checked<'_>) -> Result<Report, AllocError>
+fn accepted(alloc: Global, checked: Checked<'_>) -> AllocResult<Report>
     ensures begins { IfOk result (HasHead (accepted_head checked.entry.file.now)) }
     ensures status { IfOk result (λ report. report.status ≡ 0) }
 {
@@ -21,12 +22,7 @@ fn accepted(alloc: Global, checked: Checked<'_>) -> Result<Report, AllocError>
 }
 
 // The report on a refused source.
-fn refused(
-    alloc: Global,
-    file: &str,
-    source: &[u8],
-    fault: SourceFault,
-) -> Result<Report, AllocError>
+fn refused(alloc: Global, file: &str, source: &[u8], fault: SourceFault) -> AllocResult<Report>
     ensures begins { IfOk result (HasHead (refused_head file.now source.now fault)) }
     ensures status { IfOk result (λ report. report.status ≡ 1) }
 {
@@ -40,7 +36,7 @@ fn refused(
 /// and help where there is some. Of an accepted one it is `FILE: accepted`, and a note for each `num_threads`
 /// whose constant is above the number of workers. Columns count bytes from 1. The only error is out of
 /// memory.
-pub fn report(alloc: Global, file: &str, source: &[u8], workers: u8) -> Result<Report, AllocError>
+pub fn report(alloc: Global, file: &str, source: &[u8], workers: u8) -> AllocResult<Report>
     ensures { IfOk result
         (λ report. Reports file.now source.now report.text.items report.status) }
 {

@@ -9,7 +9,8 @@ use crate::strokes::push_arrow;
 use lab_graph::{Picture, StepBox, Traced};
 use om_book::Book;
 use om_code::Program;
-use std::alloc::{AllocError, Global};
+use om_seq::AllocResult;
+use std::alloc::Global;
 
 // How many columns a picture has at most whose boxes have words in them.
 const MOST_CARDS: u64 = 400;
@@ -28,7 +29,7 @@ pub(crate) fn beside_of<'a>(
     book: &Book,
     steps: &'a [Traced],
     picture: &Picture,
-) -> Result<Beside<'a>, AllocError> {
+) -> AllocResult<Beside<'a>> {
     let story = story_of(alloc, book.journal(), steps)?;
     let extent = extent_of(picture, &story, book.machine().workers());
     Ok(Beside { story, extent })
@@ -64,7 +65,7 @@ pub(crate) fn push_beside(
     text: &mut Vec<u8>,
     program: &Program,
     beside: &Beside<'_>,
-) -> Result<(), AllocError> {
+) -> AllocResult<()> {
     let extent = beside.extent;
     for step in &beside.story.gone {
         if extent.has(step.serial) {

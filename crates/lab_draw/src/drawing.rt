@@ -15,8 +15,9 @@ use lab_graph::{Picture, picture_of};
 use lab_replay::trace;
 use om_book::Book;
 use om_code::Program;
+use om_seq::AllocResult;
 use om_shell::{Ended, Options, ShellFault, read_all, run, session_bytes};
-use std::alloc::{AllocError, Global};
+use std::alloc::Global;
 use std::io::Read;
 use std::sync::Wait;
 use std::thread::Threads;
@@ -81,7 +82,7 @@ fn shown(alloc: Global, source: &[u8], ended: Ended, text: Vec<u8>) -> Result<Pa
 }
 
 // The page of a source, with the history of a book's machine. The only error is out of memory.
-fn drawn(alloc: Global, source: &[u8], book: &Book) -> Result<Vec<u8>, AllocError>
+fn drawn(alloc: Global, source: &[u8], book: &Book) -> AllocResult<Vec<u8>>
     ensures { IfOk result (λ page. IsDrawing (machine_of book.now) page.items) }
 {
     let machine = book.machine();
@@ -99,7 +100,7 @@ fn front_of(
     source: &[u8],
     picture: &Picture,
     beside: &Beside<'_>,
-) -> Result<Vec<u8>, AllocError> {
+) -> AllocResult<Vec<u8>> {
     let mut text = Vec::new(alloc);
     push_front(&mut text, source, &picture.boxes, beside.extent)?;
     push_beside(&mut text, program, beside)?;
@@ -112,7 +113,7 @@ fn with_elements(
     program: &Program,
     scale: Scale,
     picture: &Picture,
-) -> Result<Vec<u8>, AllocError>
+) -> AllocResult<Vec<u8>>
     ensures { IfOk result (HasElements front program.now scale picture.now FOOT.now) }
 {
     let mut text = front;

@@ -3,11 +3,11 @@
 ghost use Rattle.std.specs.Prelude.{◌≡◌, ◌++◌, OnOk};
 ghost use Rattle.lab_draw.specs.Escapes.{escaped, escaped_byte, attribute_text};
 
+use om_seq::AllocResult;
 use om_shell_commands::push_numbered;
-use std::alloc::AllocError;
 
 // Appends a byte as text of a page.
-fn push_escaped_byte(text: &mut Vec<u8>, byte: u8) -> Result<(), AllocError>
+fn push_escaped_byte(text: &mut Vec<u8>, byte: u8) -> AllocResult<()>
     ensures { OnOk result (text.new.items ≡ text.old.items ++ escaped_byte byte) }
 {
     if byte == b'&' {
@@ -24,7 +24,7 @@ fn push_escaped_byte(text: &mut Vec<u8>, byte: u8) -> Result<(), AllocError>
 }
 
 /// Appends bytes as text of a page, in an element or between single quotes.
-pub(crate) fn push_escaped(text: &mut Vec<u8>, bytes: &[u8]) -> Result<(), AllocError>
+pub(crate) fn push_escaped(text: &mut Vec<u8>, bytes: &[u8]) -> AllocResult<()>
     ensures { OnOk result (text.new.items ≡ text.old.items ++ escaped bytes.now) }
 {
     for byte in bytes {
@@ -34,7 +34,7 @@ pub(crate) fn push_escaped(text: &mut Vec<u8>, bytes: &[u8]) -> Result<(), Alloc
 }
 
 /// Appends markup, and behind it bytes as text.
-pub(crate) fn push_after(text: &mut Vec<u8>, before: &[u8], bytes: &[u8]) -> Result<(), AllocError>
+pub(crate) fn push_after(text: &mut Vec<u8>, before: &[u8], bytes: &[u8]) -> AllocResult<()>
     ensures { OnOk result
         (text.new.items ≡ text.old.items ++ (before.now ++ escaped bytes.now)) }
 {
@@ -43,11 +43,7 @@ pub(crate) fn push_after(text: &mut Vec<u8>, before: &[u8], bytes: &[u8]) -> Res
 }
 
 /// Appends an attribute whose value is a number; `before` ends with the opening quote.
-pub(crate) fn push_attribute(
-    text: &mut Vec<u8>,
-    before: &[u8],
-    number: u128,
-) -> Result<(), AllocError>
+pub(crate) fn push_attribute(text: &mut Vec<u8>, before: &[u8], number: u128) -> AllocResult<()>
     ensures { OnOk result (text.new.items ≡ text.old.items ++ attribute_text before.now number) }
 {
     push_numbered(text, before, number)?;

@@ -5,8 +5,8 @@ use crate::marks::push_hue;
 use crate::scale::Scale;
 use crate::style::{FEWER, HEAD, HEADS, LEGEND, WORDS_END};
 use lab_graph::StepBox;
+use om_seq::AllocResult;
 use om_shell_commands::push_numbered;
-use std::alloc::AllocError;
 
 /// How large a picture is.
 #[derive(Clone, Copy)]
@@ -43,7 +43,7 @@ pub(crate) fn push_front(
     source: &[u8],
     boxes: &[StepBox],
     extent: Extent,
-) -> Result<(), AllocError> {
+) -> AllocResult<()> {
     text.extend_from_slice(HEAD)?;
     push_source(text, source, boxes)?;
     text.extend_from_slice(b"<main>\n")?;
@@ -54,7 +54,7 @@ pub(crate) fn push_front(
 }
 
 // Appends how many steps there are.
-fn push_words(text: &mut Vec<u8>, steps: usize) -> Result<(), AllocError> {
+fn push_words(text: &mut Vec<u8>, steps: usize) -> AllocResult<()> {
     push_numbered(text, b"<p>", steps)?;
     text.extend_from_slice(LEGEND)?;
     if steps >= MANY {
@@ -64,7 +64,7 @@ fn push_words(text: &mut Vec<u8>, steps: usize) -> Result<(), AllocError> {
 }
 
 // Appends the source, each line with its number, and those that have a box in its hue.
-fn push_source(text: &mut Vec<u8>, source: &[u8], boxes: &[StepBox]) -> Result<(), AllocError> {
+fn push_source(text: &mut Vec<u8>, source: &[u8], boxes: &[StepBox]) -> AllocResult<()> {
     text.extend_from_slice(b"<pre>")?;
     let mut number: u32 = 1;
     for line in without_last_end(source).split(|byte| *byte == b'\n') {
@@ -93,7 +93,7 @@ fn push_source_line(
     number: u32,
     line: &[u8],
     is_coloured: bool,
-) -> Result<(), AllocError> {
+) -> AllocResult<()> {
     text.extend_from_slice(b"<i")?;
     if is_coloured {
         push_hue(text, number)?;
@@ -107,7 +107,7 @@ fn push_source_line(
 }
 
 // Appends what puts line numbers below one another.
-fn push_padding(text: &mut Vec<u8>, number: u32) -> Result<(), AllocError> {
+fn push_padding(text: &mut Vec<u8>, number: u32) -> AllocResult<()> {
     if number < 10 {
         text.extend_from_slice(b"   ")
     } else if number < 100 {
@@ -120,7 +120,7 @@ fn push_padding(text: &mut Vec<u8>, number: u32) -> Result<(), AllocError> {
 }
 
 // Appends the size of a drawing, and the class of a small one.
-fn push_size(text: &mut Vec<u8>, width: u128, height: u128) -> Result<(), AllocError> {
+fn push_size(text: &mut Vec<u8>, width: u128, height: u128) -> AllocResult<()> {
     push_numbered(text, b" viewBox='0 0 ", width)?;
     push_attribute(text, b" ", height)?;
     push_numbered(text, b" width='", width)?;
@@ -129,7 +129,7 @@ fn push_size(text: &mut Vec<u8>, width: u128, height: u128) -> Result<(), AllocE
 }
 
 // Appends the names of the lanes, which stay at the left.
-fn push_lane_names(text: &mut Vec<u8>, extent: Extent) -> Result<(), AllocError> {
+fn push_lane_names(text: &mut Vec<u8>, extent: Extent) -> AllocResult<()> {
     text.extend_from_slice(b"<svg class='lanes'")?;
     push_size(text, 76, extent.height())?;
     for worker in 0..extent.workers {
@@ -141,7 +141,7 @@ fn push_lane_names(text: &mut Vec<u8>, extent: Extent) -> Result<(), AllocError>
 }
 
 // Appends the beginning of the picture.
-fn push_picture_begin(text: &mut Vec<u8>, extent: Extent) -> Result<(), AllocError> {
+fn push_picture_begin(text: &mut Vec<u8>, extent: Extent) -> AllocResult<()> {
     if extent.scale.is_small {
         text.extend_from_slice(b"<svg class='small'")?;
     } else {
@@ -152,7 +152,7 @@ fn push_picture_begin(text: &mut Vec<u8>, extent: Extent) -> Result<(), AllocErr
 }
 
 // Appends a line for each lane.
-fn push_lanes(text: &mut Vec<u8>, extent: Extent) -> Result<(), AllocError> {
+fn push_lanes(text: &mut Vec<u8>, extent: Extent) -> AllocResult<()> {
     for worker in 0..extent.workers {
         push_attribute(text, b"<line class='lane' x1='0' x2='", extent.width())?;
         push_attribute(text, b" y1='", 120 * u128::from(worker) + 60)?;

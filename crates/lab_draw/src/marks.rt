@@ -7,8 +7,8 @@ ghost use Rattle.lab_draw.specs.Marks.{hue_of, corner_text, title_text, hue_text
 use crate::escape::{push_after, push_attribute};
 use crate::scale::Scale;
 use lab_graph::StepBox;
+use om_seq::AllocResult;
 use om_shell_commands::push_numbered;
-use std::alloc::AllocError;
 
 /// The hue of a source line, in degrees; lines near one another differ much.
 pub(crate) fn hue_of(line: u32) -> u64
@@ -18,7 +18,7 @@ pub(crate) fn hue_of(line: u32) -> u64
 }
 
 /// Appends the attribute that gives the hue of a source line.
-pub(crate) fn push_hue(text: &mut Vec<u8>, line: u32) -> Result<(), AllocError>
+pub(crate) fn push_hue(text: &mut Vec<u8>, line: u32) -> AllocResult<()>
     ensures { OnOk result (text.new.items ≡ text.old.items ++ hue_text line) }
 {
     push_numbered(text, b" style='--h:", hue_of(line))?;
@@ -26,7 +26,7 @@ pub(crate) fn push_hue(text: &mut Vec<u8>, line: u32) -> Result<(), AllocError>
 }
 
 // Appends where a step's box stands.
-fn push_corner(text: &mut Vec<u8>, scale: Scale, step: &StepBox) -> Result<(), AllocError>
+fn push_corner(text: &mut Vec<u8>, scale: Scale, step: &StepBox) -> AllocResult<()>
     ensures { OnOk result (text.new.items ≡ text.old.items ++ corner_text scale step.now) }
 {
     push_attribute(text, b" x='", scale.left(step.serial))?;
@@ -34,7 +34,7 @@ fn push_corner(text: &mut Vec<u8>, scale: Scale, step: &StepBox) -> Result<(), A
 }
 
 // Appends what is shown of a step when its box is pointed at.
-fn push_title(text: &mut Vec<u8>, step: &StepBox) -> Result<(), AllocError>
+fn push_title(text: &mut Vec<u8>, step: &StepBox) -> AllocResult<()>
     ensures { OnOk result (text.new.items ≡ text.old.items ++ title_text step.now) }
 {
     push_numbered(text, b"<title>#", step.serial)?;
@@ -46,7 +46,7 @@ fn push_title(text: &mut Vec<u8>, step: &StepBox) -> Result<(), AllocError>
 }
 
 // Appends the upper words in a step's box: its serial, instruction and line.
-fn push_upper(text: &mut Vec<u8>, step: &StepBox) -> Result<(), AllocError>
+fn push_upper(text: &mut Vec<u8>, step: &StepBox) -> AllocResult<()>
     ensures { OnOk result (text.new.items ≡ text.old.items ++ upper_text step.now) }
 {
     push_numbered(text, b"<text x='5' y='14'>#", step.serial)?;
@@ -56,7 +56,7 @@ fn push_upper(text: &mut Vec<u8>, step: &StepBox) -> Result<(), AllocError>
 }
 
 // Appends the words in a step's box: below the upper ones a value.
-fn push_lines(text: &mut Vec<u8>, step: &StepBox) -> Result<(), AllocError>
+fn push_lines(text: &mut Vec<u8>, step: &StepBox) -> AllocResult<()>
     ensures { OnOk result (text.new.items ≡ text.old.items ++ lines_text step.now) }
 {
     push_upper(text, step)?;
@@ -66,7 +66,7 @@ fn push_lines(text: &mut Vec<u8>, step: &StepBox) -> Result<(), AllocError>
 
 // Appends the class of a box. That of a step that met a fault is of a class of its own too, so that it is
 // found at a glance.
-fn push_class(text: &mut Vec<u8>, class: &[u8], step: &StepBox) -> Result<(), AllocError>
+fn push_class(text: &mut Vec<u8>, class: &[u8], step: &StepBox) -> AllocResult<()>
     ensures { OnOk result (text.new.items ≡ text.old.items ++ class_text class.now step.now) }
 {
     text.extend_from_slice(class)?;
@@ -77,12 +77,7 @@ fn push_class(text: &mut Vec<u8>, class: &[u8], step: &StepBox) -> Result<(), Al
 }
 
 // Appends a box of 6 by 6 points, of a class.
-fn push_mark(
-    text: &mut Vec<u8>,
-    class: &[u8],
-    scale: Scale,
-    step: &StepBox,
-) -> Result<(), AllocError>
+fn push_mark(text: &mut Vec<u8>, class: &[u8], scale: Scale, step: &StepBox) -> AllocResult<()>
     ensures { OnOk result (text.new.items ≡ text.old.items ++ mark_text class.now scale step.now) }
 {
     text.extend_from_slice(b"<rect class='")?;
@@ -101,7 +96,7 @@ fn push_card_begin(
     class: &[u8],
     scale: Scale,
     step: &StepBox,
-) -> Result<(), AllocError>
+) -> AllocResult<()>
     ensures { OnOk result (text.new.items ≡ text.old.items ++ card_begin class.now scale step.now) }
 {
     text.extend_from_slice(b"<svg class='")?;
@@ -113,12 +108,7 @@ fn push_card_begin(
 }
 
 // Appends a box of 92 by 34 points, of a class.
-fn push_card(
-    text: &mut Vec<u8>,
-    class: &[u8],
-    scale: Scale,
-    step: &StepBox,
-) -> Result<(), AllocError>
+fn push_card(text: &mut Vec<u8>, class: &[u8], scale: Scale, step: &StepBox) -> AllocResult<()>
     ensures { OnOk result (text.new.items ≡ text.old.items ++ card_text class.now scale step.now) }
 {
     push_card_begin(text, class, scale, step)?;
@@ -134,7 +124,7 @@ pub(crate) fn push_box(
     class: &[u8],
     scale: Scale,
     step: &StepBox,
-) -> Result<(), AllocError>
+) -> AllocResult<()>
     ensures { OnOk result (text.new.items ≡ text.old.items ++ box_text class.now scale step.now) }
 {
     if scale.is_small {
@@ -150,7 +140,7 @@ pub(crate) fn push_boxes(
     class: &[u8],
     scale: Scale,
     boxes: &[StepBox],
-) -> Result<(), AllocError>
+) -> AllocResult<()>
     ensures { OnOk result (Writes (boxes_text class.now scale boxes.now) text.old text.new) }
 {
     for step in boxes {

@@ -8,8 +8,8 @@ ghost use Rattle.lab_draw.specs.Objects.{named_text, numbered_text, before_cell,
 use crate::escape::{push_after, push_escaped};
 use om_code::Program;
 use om_foot::{Name, Obj};
+use om_seq::AllocResult;
 use om_shell_commands::push_numbered;
-use std::alloc::AllocError;
 
 /// Appends the words for an object: a global variable has its name in the source. `name` is the name
 /// of the local variable if the object is a cell of one; it is empty where that is not known.
@@ -18,7 +18,7 @@ pub(crate) fn push_object(
     program: &Program,
     name: &[u8],
     object: &Obj,
-) -> Result<(), AllocError>
+) -> AllocResult<()>
     ensures { OnOk result (Writes (object_words program.now name.now object.now) text.old text.new) }
 {
     match object {
@@ -49,7 +49,7 @@ pub(crate) fn push_object(
 }
 
 // Appends bytes, and behind them a name.
-fn push_named(text: &mut Vec<u8>, before: &[u8], name: &Name) -> Result<(), AllocError>
+fn push_named(text: &mut Vec<u8>, before: &[u8], name: &Name) -> AllocResult<()>
     ensures { OnOk result (text.new.items ≡ text.old.items ++ named_text before.now name.now) }
 {
     text.extend_from_slice(before)?;
@@ -57,12 +57,7 @@ fn push_named(text: &mut Vec<u8>, before: &[u8], name: &Name) -> Result<(), Allo
 }
 
 // Appends bytes, a name and a number.
-fn push_in_team(
-    text: &mut Vec<u8>,
-    before: &[u8],
-    team: &Name,
-    number: u64,
-) -> Result<(), AllocError>
+fn push_in_team(text: &mut Vec<u8>, before: &[u8], team: &Name, number: u64) -> AllocResult<()>
     ensures { OnOk result (Writes (numbered_text before.now team.now number) text.old text.new) }
 {
     push_named(text, before, team)?;
@@ -70,7 +65,7 @@ fn push_in_team(
 }
 
 // Appends what stands before a cell: the name of its variable, if it is known.
-fn push_before_cell(text: &mut Vec<u8>, name: &[u8]) -> Result<(), AllocError>
+fn push_before_cell(text: &mut Vec<u8>, name: &[u8]) -> AllocResult<()>
     ensures { OnOk result (text.new.items ≡ text.old.items ++ before_cell name.now) }
 {
     let [_, ..] = name else {
@@ -81,7 +76,7 @@ fn push_before_cell(text: &mut Vec<u8>, name: &[u8]) -> Result<(), AllocError>
 }
 
 // Appends what stands behind it.
-fn push_behind_cell(text: &mut Vec<u8>, name: &[u8]) -> Result<(), AllocError>
+fn push_behind_cell(text: &mut Vec<u8>, name: &[u8]) -> AllocResult<()>
     ensures { OnOk result (text.new.items ≡ text.old.items ++ behind_cell name.now) }
 {
     let [_, ..] = name else {
@@ -91,13 +86,7 @@ fn push_behind_cell(text: &mut Vec<u8>, name: &[u8]) -> Result<(), AllocError>
 }
 
 // Appends the words for a cell of a local variable.
-fn push_cell(
-    text: &mut Vec<u8>,
-    task: &Name,
-    frame: u64,
-    slot: u32,
-    index: u32,
-) -> Result<(), AllocError>
+fn push_cell(text: &mut Vec<u8>, task: &Name, frame: u64, slot: u32, index: u32) -> AllocResult<()>
     ensures { OnOk result (Writes (cell_words task.now frame slot index) text.old text.new) }
 {
     push_named(text, b"cell ", task)?;
@@ -113,7 +102,7 @@ fn push_variable(
     program: &Program,
     variable: u32,
     index: u32,
-) -> Result<(), AllocError>
+) -> AllocResult<()>
     ensures { OnOk result (Writes (variable_words program.now variable index) text.old text.new) }
 {
     let Some(global) = program.globals().get(variable as usize) else {
@@ -124,7 +113,7 @@ fn push_variable(
 }
 
 // Appends the index of an array's cell; a scalar has none.
-fn push_index(text: &mut Vec<u8>, length: Option<u32>, index: u32) -> Result<(), AllocError>
+fn push_index(text: &mut Vec<u8>, length: Option<u32>, index: u32) -> AllocResult<()>
     ensures { OnOk result (text.new.items ≡ text.old.items ++ index_words length index) }
 {
     let Some(_) = length else {
@@ -135,7 +124,7 @@ fn push_index(text: &mut Vec<u8>, length: Option<u32>, index: u32) -> Result<(),
 }
 
 // Appends the words for a critical region's lock, with its name where it has one.
-fn push_lock(text: &mut Vec<u8>, program: &Program, lock: u32) -> Result<(), AllocError>
+fn push_lock(text: &mut Vec<u8>, program: &Program, lock: u32) -> AllocResult<()>
     ensures { OnOk result (text.new.items ≡ text.old.items ++ lock_words program.now lock) }
 {
     push_after(text, b"lock of critical ", name_of_lock(program, lock))

@@ -3,9 +3,9 @@
 use lab_graph::{Arrow, End, StepBox, Traced};
 use om_book_journal::{Command, JournalRecord, Reply, ReplyIn};
 use om_foot::Obj;
-use om_seq::Seq;
+use om_seq::{AllocResult, Seq};
 use om_undo_history::{RollReply, StepReply, Taken, UndoReply};
-use std::alloc::{AllocError, Global};
+use std::alloc::Global;
 use std::collections::BTreeMap;
 
 /// What a session did beside the steps that stand.
@@ -26,7 +26,7 @@ pub(crate) fn story_of<'a>(
     alloc: Global,
     journal: &[JournalRecord],
     steps: &'a [Traced],
-) -> Result<Story<'a>, AllocError> {
+) -> AllocResult<Story<'a>> {
     let mut story = Story {
         gone: Vec::new(alloc),
         refused: Vec::new(alloc),
@@ -53,7 +53,7 @@ fn worker_of(command: &Command) -> Option<u8> {
 
 impl Story<'_> {
     // Takes one more call in.
-    fn follow(&mut self, alloc: Global, record: &JournalRecord) -> Result<(), AllocError> {
+    fn follow(&mut self, alloc: Global, record: &JournalRecord) -> AllocResult<()> {
         let worker = worker_of(&record.command());
         match record.reply() {
             ReplyIn::Step(StepReply::Done { serial, .. }) => self.stand(alloc, serial, worker),
@@ -69,7 +69,7 @@ impl Story<'_> {
     }
 
     // A step was made.
-    fn stand(&mut self, alloc: Global, serial: u64, worker: Option<u8>) -> Result<(), AllocError> {
+    fn stand(&mut self, alloc: Global, serial: u64, worker: Option<u8>) -> AllocResult<()> {
         let Some(worker) = worker else {
             return Ok(());
         };
@@ -83,12 +83,7 @@ impl Story<'_> {
     }
 
     // An undo was answered.
-    fn undo(
-        &mut self,
-        alloc: Global,
-        worker: Option<u8>,
-        reply: &UndoReply,
-    ) -> Result<(), AllocError> {
+    fn undo(&mut self, alloc: Global, worker: Option<u8>, reply: &UndoReply) -> AllocResult<()> {
         let Some(worker) = worker else {
             return Ok(());
         };
@@ -119,7 +114,7 @@ impl Story<'_> {
     }
 
     // A roll took these out.
-    fn roll(&mut self, alloc: Global, members: &[Taken]) -> Result<(), AllocError> {
+    fn roll(&mut self, alloc: Global, members: &[Taken]) -> AllocResult<()> {
         for member in members {
             self.leave(alloc, member)?;
         }
@@ -127,7 +122,7 @@ impl Story<'_> {
     }
 
     // A step was taken out: the last one of its worker.
-    fn leave(&mut self, alloc: Global, taken: &Taken) -> Result<(), AllocError> {
+    fn leave(&mut self, alloc: Global, taken: &Taken) -> AllocResult<()> {
         if let Some(serials) = self.standing.get_mut(usize::from(taken.worker)) {
             let _ = serials.pop();
         }
@@ -166,7 +161,7 @@ impl Story<'_> {
         worker: u8,
         in_the_way: End,
         object: &Obj,
-    ) -> Result<(), AllocError> {
+    ) -> AllocResult<()> {
         let Some(serials) = self.standing.get(usize::from(worker)) else {
             return Ok(());
         };

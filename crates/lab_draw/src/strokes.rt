@@ -10,11 +10,11 @@ use crate::scale::{Scale, label_base};
 use lab_graph::{Arrow, End};
 use om_code::Program;
 use om_foot::Obj;
+use om_seq::AllocResult;
 use om_shell_commands::push_numbered;
-use std::alloc::AllocError;
 
 // Appends what is shown of an arrow when it is pointed at.
-fn push_name(text: &mut Vec<u8>, program: &Program, arrow: &Arrow) -> Result<(), AllocError>
+fn push_name(text: &mut Vec<u8>, program: &Program, arrow: &Arrow) -> AllocResult<()>
     ensures { OnOk result (text.new.items ≡ text.old.items ++ name_text program.now arrow.now) }
 {
     push_numbered(text, b"<title>#", arrow.from.serial)?;
@@ -25,7 +25,7 @@ fn push_name(text: &mut Vec<u8>, program: &Program, arrow: &Arrow) -> Result<(),
 }
 
 // Appends the line of an arrow.
-fn push_line(text: &mut Vec<u8>, scale: Scale, from: End, to: End) -> Result<(), AllocError>
+fn push_line(text: &mut Vec<u8>, scale: Scale, from: End, to: End) -> AllocResult<()>
     ensures { OnOk result (text.new.items ≡ text.old.items ++ line_text scale from to) }
 {
     push_attribute(text, b"<line x1='", scale.middle(from.serial))?;
@@ -36,12 +36,7 @@ fn push_line(text: &mut Vec<u8>, scale: Scale, from: End, to: End) -> Result<(),
 }
 
 // Appends the words at an arrow's head.
-fn push_label(
-    text: &mut Vec<u8>,
-    program: &Program,
-    scale: Scale,
-    arrow: &Arrow,
-) -> Result<(), AllocError>
+fn push_label(text: &mut Vec<u8>, program: &Program, scale: Scale, arrow: &Arrow) -> AllocResult<()>
     ensures { OnOk result (Writes (label_text program.now scale arrow.now) text.old text.new) }
 {
     push_attribute(text, b"<text x='", scale.label_left(arrow.to.serial))?;
@@ -53,7 +48,7 @@ fn push_label(
 
 // Appends the class of an arrow. One at a worker's control, as from a fork to each step of the new worker,
 // is of a class of its own too, so that it can be faint.
-fn push_class(text: &mut Vec<u8>, class: &[u8], object: &Obj) -> Result<(), AllocError>
+fn push_class(text: &mut Vec<u8>, class: &[u8], object: &Obj) -> AllocResult<()>
     ensures { OnOk result (text.new.items ≡ text.old.items ++ class_text class.now object.now) }
 {
     text.extend_from_slice(class)?;
@@ -70,7 +65,7 @@ pub(crate) fn push_arrow(
     class: &[u8],
     scale: Scale,
     arrow: &Arrow,
-) -> Result<(), AllocError>
+) -> AllocResult<()>
     ensures { OnOk result (AddsArrow text.old text.new program.now class.now scale arrow.now) }
 {
     text.extend_from_slice(b"<g class='")?;
@@ -89,7 +84,7 @@ pub(crate) fn push_arrows(
     class: &[u8],
     scale: Scale,
     arrows: &[Arrow],
-) -> Result<(), AllocError>
+) -> AllocResult<()>
     ensures { OnOk result (AddsArrows text.old text.new program.now class.now scale arrows.now) }
 {
     for arrow in arrows {

@@ -8,8 +8,8 @@ use crate::picture::{Arrow, end_of};
 use crate::sketch::{Sketch, sketches_of};
 use crate::traced::Traced;
 use om_foot::{Obj, conflict};
-use om_seq::Seq;
-use std::alloc::{AllocError, Global};
+use om_seq::{AllocResult, Seq};
+use std::alloc::Global;
 
 // Whether a step is a worker's and conflicts with a later one.
 fn hides(worker: u8, step: &Sketch<'_>, later: &Sketch<'_>) -> bool
@@ -66,12 +66,7 @@ fn first_named<'a>(earlier: &'a [u8], later: &'a [u8]) -> &'a [u8]
 }
 
 // The arrow from a step to a later one at an object. Its only error is out of memory.
-fn arrow_at(
-    alloc: Global,
-    earlier: &Traced,
-    later: &Traced,
-    object: Obj,
-) -> Result<Arrow, AllocError>
+fn arrow_at(alloc: Global, earlier: &Traced, later: &Traced, object: Obj) -> AllocResult<Arrow>
     ensures { IfOk result (λ arrow. arrow ≡ arrow_at earlier.now later.now object) }
 {
     let variable = first_named(earlier.variable.as_slice(), later.variable.as_slice());
@@ -91,7 +86,7 @@ fn push_arrow(
     earlier: &Sketch<'_>,
     between: &[Sketch<'_>],
     later: &Sketch<'_>,
-) -> Result<(), AllocError>
+) -> AllocResult<()>
     ensures { OnOk result (AddsBetween arrows.old arrows.new earlier.now between.now later.now) }
 {
     if !meets_other(earlier, later) {
@@ -109,7 +104,7 @@ fn push_arrows_into(
     arrows: &mut Vec<Arrow>,
     before: &[Sketch<'_>],
     later: &Sketch<'_>,
-) -> Result<(), AllocError>
+) -> AllocResult<()>
     ensures { OnOk result (AddsInto arrows.old arrows.new before.now later.now) }
 {
     for (at, earlier) in before.iter().enumerate() {
@@ -119,7 +114,7 @@ fn push_arrows_into(
 }
 
 // The arrows between steps, by their sketches.
-fn arrows_between(alloc: Global, steps: &[Sketch<'_>]) -> Result<Vec<Arrow>, AllocError>
+fn arrows_between(alloc: Global, steps: &[Sketch<'_>]) -> AllocResult<Vec<Arrow>>
     ensures { IfOk result (λ arrows. arrows.items ≡ arrows_of steps.now) }
 {
     let mut arrows = Vec::new(alloc);
@@ -130,7 +125,7 @@ fn arrows_between(alloc: Global, steps: &[Sketch<'_>]) -> Result<Vec<Arrow>, All
 }
 
 /// The arrows of a history, in the order of the later steps. Its only error is out of memory.
-pub(crate) fn arrows_of(alloc: Global, steps: &[Traced]) -> Result<Vec<Arrow>, AllocError>
+pub(crate) fn arrows_of(alloc: Global, steps: &[Traced]) -> AllocResult<Vec<Arrow>>
     ensures { IfOk result (λ arrows. arrows.items ≡ arrows_of steps.now) }
 {
     let sketches = sketches_of(alloc, steps)?;

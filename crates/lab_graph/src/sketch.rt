@@ -5,7 +5,8 @@ ghost use Rattle.om_foot.specs.Footprint.{conflict_of};
 
 use crate::sets::{is_conflict_by_sets, sets_of};
 use crate::traced::Traced;
-use std::alloc::{AllocError, Global};
+use om_seq::AllocResult;
+use std::alloc::Global;
 use std::marker::Model;
 
 /// A step, with what a walk over many of them looks at first. Contracts see the step.
@@ -71,7 +72,7 @@ impl<'a> Sketch<'a> {
 }
 
 /// The sketches of steps, in their order. The only error is out of memory.
-pub(crate) fn sketches_of(alloc: Global, steps: &[Traced]) -> Result<Vec<Sketch<'_>>, AllocError>
+pub(crate) fn sketches_of(alloc: Global, steps: &[Traced]) -> AllocResult<Vec<Sketch<'_>>>
     ensures { IfOk result (λ sketches. sketches.items ≡ steps.now) }
 {
     let mut sketches = Vec::new(alloc);

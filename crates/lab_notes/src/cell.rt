@@ -5,8 +5,9 @@ use crate::names::Accepted;
 use crate::words::number;
 use om_code::raw::{Scope, Source};
 use om_code::{Body, Instr, Program};
+use om_seq::AllocResult;
 use om_shell_commands::push_numbered;
-use std::alloc::{AllocError, Global};
+use std::alloc::Global;
 
 // A cell, by the words that an answer has for it.
 #[derive(Clone, Copy)]
@@ -96,7 +97,7 @@ fn variable_text(
     source: &Accepted,
     body: &Body,
     place: Place,
-) -> Result<Vec<u8>, AllocError> {
+) -> AllocResult<Vec<u8>> {
     let mut text = Vec::new(alloc);
     let Some(scope) = scope_of(body, place.slot) else {
         return Ok(text);
@@ -114,7 +115,7 @@ fn variable_text(
 }
 
 // The parts of a word, with slashes between them.
-fn parts_of(alloc: Global, word: &[u8]) -> Result<Vec<&[u8]>, AllocError> {
+fn parts_of(alloc: Global, word: &[u8]) -> AllocResult<Vec<&[u8]>> {
     word.split(|byte| *byte == b'/').collect(alloc)
 }
 
@@ -129,7 +130,7 @@ fn is_among(texts: &[Vec<u8>], wanted: &[u8]) -> bool {
 }
 
 // Each variable that the cell may be, once.
-fn candidates(alloc: Global, source: &Accepted, place: Place) -> Result<Vec<Vec<u8>>, AllocError> {
+fn candidates(alloc: Global, source: &Accepted, place: Place) -> AllocResult<Vec<Vec<u8>>> {
     let mut texts = Vec::new(alloc);
     let bodies = source.program.bodies();
     for number in 0..bodies.len() {
@@ -153,7 +154,7 @@ pub(crate) fn push_cell(
     alloc: Global,
     source: &Accepted,
     cell: &[u8],
-) -> Result<(), AllocError> {
+) -> AllocResult<()> {
     let parts = parts_of(alloc, cell)?;
     let Some(place) = place_of(&parts) else {
         return Ok(());

@@ -13,12 +13,13 @@ use crate::remark::remark;
 use crate::waiting::Waiting;
 use crate::words::{announced, words_of};
 use lab_text::noted;
+use om_seq::AllocResult;
 use om_shell::{ShellFault, first_line_end, send};
-use std::alloc::{AllocError, Global};
+use std::alloc::Global;
 use std::io::{Read, Write};
 
 // The line up to `end` as it is written, and how many bytes are due as they are behind it.
-fn answer(names: &Names<'_>, pending: &[u8], end: usize) -> Result<(Vec<u8>, usize), AllocError>
+fn answer(names: &Names<'_>, pending: &[u8], end: usize) -> AllocResult<(Vec<u8>, usize)>
     requires within { end ≤ length pending.now }
     ensures text { IfOk result (λ r. IsNoted (take end pending.now) r.0.items) }
     ensures due { IfOk result (λ r. r.1 ≡ announced (words_of (take end pending.now))) }

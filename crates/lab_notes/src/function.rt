@@ -1,8 +1,8 @@
 //! The functions of a source, and the lines that they take.
 
 use om_lexer::{Punctuator, Token, TokenKind};
-use om_seq::Seq;
-use std::alloc::{AllocError, Global};
+use om_seq::{AllocResult, Seq};
+use std::alloc::Global;
 
 /// A function of a source.
 #[derive(Drop)]
@@ -51,7 +51,7 @@ fn behind<'a>(walk: Walk<'a>, before: &'a Token, token: &Token) -> Walk<'a> {
 }
 
 // The function that ends with a token, if one does.
-fn ended(alloc: Global, walk: Walk<'_>, token: &Token) -> Result<Option<Function>, AllocError> {
+fn ended(alloc: Global, walk: Walk<'_>, token: &Token) -> AllocResult<Option<Function>> {
     if walk.depth != 0 || !is_mark(token, Punctuator::CloseBrace) {
         return Ok(None);
     }
@@ -66,7 +66,7 @@ fn ended(alloc: Global, walk: Walk<'_>, token: &Token) -> Result<Option<Function
 }
 
 /// The functions that these tokens define, in their order.
-pub(crate) fn functions_of(alloc: Global, tokens: &[Token]) -> Result<Vec<Function>, AllocError> {
+pub(crate) fn functions_of(alloc: Global, tokens: &[Token]) -> AllocResult<Vec<Function>> {
     let mut functions = Vec::new(alloc);
     let mut walk = Walk {
         depth: 0,

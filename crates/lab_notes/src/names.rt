@@ -4,6 +4,7 @@ use crate::function::{Function, functions_of};
 use om_code::Program;
 use om_frontend::program_of;
 use om_lexer::{FaultCode, lex};
+use om_seq::AllocResult;
 use std::alloc::{AllocError, Global};
 
 /// An accepted source: its program and its functions.
@@ -24,7 +25,7 @@ pub(crate) struct Names<'a> {
 }
 
 // The functions of a source; a source without tokens has none.
-fn functions_in(alloc: Global, source: &[u8]) -> Result<Vec<Function>, AllocError> {
+fn functions_in(alloc: Global, source: &[u8]) -> AllocResult<Vec<Function>> {
     match lex(alloc, source) {
         Ok(tokens) => functions_of(alloc, &tokens),
         Err(fault) => {
@@ -37,7 +38,7 @@ fn functions_in(alloc: Global, source: &[u8]) -> Result<Vec<Function>, AllocErro
 }
 
 // A source that is accepted; `None` where it is refused.
-fn accepted_source(alloc: Global, source: &[u8]) -> Result<Option<Accepted>, AllocError> {
+fn accepted_source(alloc: Global, source: &[u8]) -> AllocResult<Option<Accepted>> {
     match program_of(alloc, source) {
         Ok(program) => match functions_in(alloc, source) {
             Ok(functions) => Ok(Some(Accepted { program, functions })),
@@ -53,13 +54,13 @@ fn accepted_source(alloc: Global, source: &[u8]) -> Result<Option<Accepted>, All
 }
 
 // The lines of a text.
-fn lines_of(alloc: Global, text: &[u8]) -> Result<Vec<&[u8]>, AllocError> {
+fn lines_of(alloc: Global, text: &[u8]) -> AllocResult<Vec<&[u8]>> {
     text.split(|byte| *byte == b'\n').collect(alloc)
 }
 
 impl<'a> Names<'a> {
     /// What this source says. The only error is out of memory.
-    pub(crate) fn of(alloc: Global, source: &'a [u8]) -> Result<Names<'a>, AllocError> {
+    pub(crate) fn of(alloc: Global, source: &'a [u8]) -> AllocResult<Names<'a>> {
         let accepted = accepted_source(alloc, source)?;
         match lines_of(alloc, source) {
             Ok(lines) => Ok(Names {

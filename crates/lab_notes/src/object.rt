@@ -4,10 +4,10 @@ use crate::cell::push_cell;
 use crate::names::Names;
 use crate::words::is_word;
 use lab_help::object_words;
-use std::alloc::AllocError;
+use om_seq::AllocResult;
 
 // What kind of object it is.
-fn push_kind(text: &mut Vec<u8>, kind: &[u8]) -> Result<(), AllocError> {
+fn push_kind(text: &mut Vec<u8>, kind: &[u8]) -> AllocResult<()> {
     if let Some(words) = object_words(kind) {
         text.extend_from_slice(words.as_bytes())?;
     }
@@ -15,7 +15,7 @@ fn push_kind(text: &mut Vec<u8>, kind: &[u8]) -> Result<(), AllocError> {
 }
 
 // The variables that a cell may be, or what a cell is.
-fn push_variable(text: &mut Vec<u8>, names: &Names<'_>, cell: &[u8]) -> Result<(), AllocError> {
+fn push_variable(text: &mut Vec<u8>, names: &Names<'_>, cell: &[u8]) -> AllocResult<()> {
     let before = text.len();
     if let Some(source) = &names.accepted {
         push_cell(text, names.alloc, source, cell)?;
@@ -31,7 +31,7 @@ pub(crate) fn push_object(
     text: &mut Vec<u8>,
     names: &Names<'_>,
     object: &[&[u8]],
-) -> Result<(), AllocError> {
+) -> AllocResult<()> {
     match object {
         [kind, cell] if is_word(kind, b"cell") => push_variable(text, names, cell),
         [kind, lock] if is_word(kind, b"lock") && is_word(lock, b"-") => {

@@ -4,11 +4,11 @@ use crate::names::Names;
 use crate::object::push_object;
 use crate::words::{is_word, number};
 use lab_help::{answer_words, code_words, command_words, stop_words};
+use om_seq::AllocResult;
 use om_shell_commands::CommandFault;
-use std::alloc::AllocError;
 
 // Appends words, behind a dash where others stand already.
-fn push_words(text: &mut Vec<u8>, words: &[u8]) -> Result<(), AllocError> {
+fn push_words(text: &mut Vec<u8>, words: &[u8]) -> AllocResult<()> {
     if words.is_empty() {
         return Ok(());
     }
@@ -88,7 +88,7 @@ fn answer_of(line: &[u8], words: &[&[u8]]) -> Option<&'static str> {
 }
 
 // Appends the words that are found.
-fn push_found(text: &mut Vec<u8>, found: Option<&'static str>) -> Result<(), AllocError> {
+fn push_found(text: &mut Vec<u8>, found: Option<&'static str>) -> AllocResult<()> {
     if let Some(words) = found {
         push_words(text, words.as_bytes())?;
     }
@@ -97,11 +97,7 @@ fn push_found(text: &mut Vec<u8>, found: Option<&'static str>) -> Result<(), All
 
 /// What stands behind the mark of an answer, which falls into these words; no bytes where there is nothing
 /// to say.
-pub(crate) fn remark(
-    names: &Names<'_>,
-    line: &[u8],
-    words: &[&[u8]],
-) -> Result<Vec<u8>, AllocError> {
+pub(crate) fn remark(names: &Names<'_>, line: &[u8], words: &[&[u8]]) -> AllocResult<Vec<u8>> {
     let mut text = Vec::new(names.alloc);
     push_words(&mut text, source_line(names, words))?;
     push_found(&mut text, code_of(words))?;

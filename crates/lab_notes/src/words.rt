@@ -5,13 +5,14 @@ ghost use Rattle.om_shell_commands.specs.Arguments.{number_of};
 ghost use Rattle.om_shell_commands.specs.Words.{words_of};
 ghost use Rattle.lab_notes.specs.Parts.{announced};
 
-use std::alloc::{AllocError, Global};
+use om_seq::AllocResult;
+use std::alloc::Global;
 
 // How many digits a number has at most.
 const MOST_DIGITS: usize = 10;
 
 /// The words of a line, which spaces part.
-pub(crate) fn words_of(alloc: Global, line: &[u8]) -> Result<Vec<&[u8]>, AllocError>
+pub(crate) fn words_of(alloc: Global, line: &[u8]) -> AllocResult<Vec<&[u8]>>
     ensures { IfOk result (λ words. map (λ word. word.now) words.items ≡ words_of line.now) }
 {
     line.split(|byte| *byte == b' ')

@@ -11,7 +11,7 @@ use crate::words::{Spoken, Words};
 use lab_graph::Traced;
 use om_code::Program;
 use om_foot::{Access, Mode, Names, Obj};
-use om_seq::Seq;
+use om_seq::{AllocResult, Seq};
 use om_state::{Footprint, Label};
 use om_task::laws::low_counters;
 use om_task::start::started;
@@ -19,11 +19,11 @@ use om_task::{Plan, plan};
 use om_undo::laws::{shaped_rules, steady_rules};
 use om_undo::{Entry, Machine};
 use om_undo_history::History;
-use std::alloc::{AllocError, Global};
+use std::alloc::Global;
 
 /// The steps of a machine's history, each with what it touched and did at its place in the replay.
 /// They are made again, each once. The only error is out of memory.
-pub fn trace(alloc: Global, machine: &Machine) -> Result<Vec<Traced>, AllocError>
+pub fn trace(alloc: Global, machine: &Machine) -> AllocResult<Vec<Traced>>
     ensures { IfOk result (λ steps. traced steps.items ≡ transitions_of machine.now) }
 {
     let entries = machine.history(alloc)?;
@@ -37,7 +37,7 @@ fn retraced(
     program: &Program,
     workers: u8,
     entries: &[Entry],
-) -> Result<Vec<Traced>, AllocError>
+) -> AllocResult<Vec<Traced>>
     requires at_least_one { 1 ≤ workers }
     requires few { length entries.now < 2 ^ 63 }
     requires replayed { CanReplay (rules_of program.now workers) entries.now }
@@ -63,7 +63,7 @@ fn traced(
     workers: u8,
     history: &mut History,
     entry: &Entry,
-) -> Result<Traced, AllocError>
+) -> AllocResult<Traced>
     requires held { IsHeld (rules_of program.now workers) history.old }
     requires some { 1 ≤ workers }
     requires few_made { (past_in history.old).made < 2 ^ 63 }
@@ -112,7 +112,7 @@ fn planned(
     workers: u8,
     history: &History,
     label: &Label,
-) -> Result<Plan, AllocError>
+) -> AllocResult<Plan>
     requires held { IsHeld (rules_of program.now workers) history.now }
     requires some { 1 ≤ workers }
     ensures { IfOk result (IsPlan (rules_of program.now workers) history.now label.now) }
@@ -122,7 +122,7 @@ fn planned(
 }
 
 // The accesses of a footprint, that of its worker's control first. The only error is out of memory.
-fn listed(alloc: Global, footprint: &Footprint) -> Result<Seq<Access>, AllocError>
+fn listed(alloc: Global, footprint: &Footprint) -> AllocResult<Seq<Access>>
     ensures { IfOk result (λ accesses. accesses ≡ footprint.now) }
 {
     let (worker, others) = footprint.parts();
@@ -143,7 +143,7 @@ fn remade(
     history: &mut History,
     label: &Label,
     plan: Plan,
-) -> Result<Seq<Access>, AllocError>
+) -> AllocResult<Seq<Access>>
     requires few_made { (past_in history.old).made < 2 ^ 63 }
     requires planned { IsForStep history.old label.now plan }
     ensures footprint { IfOk result (IsTouched history.old label.now plan) }

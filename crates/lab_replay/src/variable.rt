@@ -5,9 +5,9 @@ use om_code::{Instr, Program};
 use om_code_places::{Var, variable_at};
 use om_foot::{Access, Obj};
 use om_memory::Frame;
+use om_seq::AllocResult;
 use om_shell_commands::push_numbered;
 use om_task::Plan;
-use std::alloc::AllocError;
 
 /// A local variable, as its function has it.
 #[derive(Clone, Copy)]
@@ -102,11 +102,7 @@ fn index_touched(plan: &Plan) -> Option<u32> {
 }
 
 /// Appends the index of the element that the step of a plan touches, behind the name of an array.
-pub(crate) fn push_index(
-    text: &mut Vec<u8>,
-    is_array: bool,
-    plan: &Plan,
-) -> Result<(), AllocError> {
+pub(crate) fn push_index(text: &mut Vec<u8>, is_array: bool, plan: &Plan) -> AllocResult<()> {
     if !is_array {
         return Ok(());
     }
@@ -124,7 +120,7 @@ pub(crate) fn push_variable(
     program: &Program,
     frame: &Frame,
     plan: &Plan,
-) -> Result<(), AllocError> {
+) -> AllocResult<()> {
     let Some(instruction) = program.instruction(frame.body, frame.next) else {
         return Ok(());
     };

@@ -6,11 +6,11 @@ use om_code::frame::{Cell, Fault, Operand};
 use om_code::instruction::Place;
 use om_code::{Instr, Program};
 use om_memory::{Control, Frame, Memory};
-use om_seq::Seq;
+use om_seq::{AllocResult, Seq};
 use om_shell_commands::{push_number, push_numbered};
 use om_state::{Label, Update, Val};
 use om_task::{Choice, Plan};
-use std::alloc::{AllocError, Global};
+use std::alloc::Global;
 
 /// What is said of a step that was made.
 #[derive(Drop)]
@@ -44,7 +44,7 @@ impl Words {
         store: &Memory,
         label: &Label,
         plan: &Plan,
-    ) -> Result<Words, AllocError> {
+    ) -> AllocResult<Words> {
         let mut name = Vec::new(alloc);
         let mut variable = Vec::new(alloc);
         let mut value = Vec::new(alloc);
@@ -70,7 +70,7 @@ impl Words {
     /// What is said of the step, by the store behind it: the fault that it met, or else its value, which
     /// is the one that it put into a variable, or else the one that it left on its worker's stack. The
     /// only error is out of memory.
-    pub(crate) fn behind(self, store: &Memory, worker: u8) -> Result<Spoken, AllocError> {
+    pub(crate) fn behind(self, store: &Memory, worker: u8) -> AllocResult<Spoken> {
         let Words {
             name,
             variable,
@@ -101,7 +101,7 @@ fn fault_met(store: &Memory, worker: u8) -> Option<Fault> {
 }
 
 // Appends a fault in words, behind a name with `: ` between them.
-fn push_fault(text: &mut Vec<u8>, fault: Fault) -> Result<(), AllocError> {
+fn push_fault(text: &mut Vec<u8>, fault: Fault) -> AllocResult<()> {
     if !text.is_empty() {
         text.extend_from_slice(b": ")?;
     }
@@ -118,7 +118,7 @@ fn push_instruction(
     program: &Program,
     frame: &Frame,
     plan: &Plan,
-) -> Result<(), AllocError> {
+) -> AllocResult<()> {
     let Some(instruction) = program.instruction(frame.body, frame.next) else {
         return Ok(());
     };
@@ -137,7 +137,7 @@ fn push_instruction(
 }
 
 // Appends the name of a critical region, where it has one.
-fn push_lock(text: &mut Vec<u8>, program: &Program, lock: u32) -> Result<(), AllocError> {
+fn push_lock(text: &mut Vec<u8>, program: &Program, lock: u32) -> AllocResult<()> {
     if let Some(name) = program.raw().locks.as_slice().get(lock as usize) {
         text.extend_from_slice(name.as_slice())?;
     }
@@ -151,7 +151,7 @@ fn push_global(
     program: &Program,
     variable: u32,
     plan: &Plan,
-) -> Result<(), AllocError> {
+) -> AllocResult<()> {
     let Some(global) = program.globals().get(variable as usize) else {
         return Ok(());
     };
@@ -167,7 +167,7 @@ fn push_place(
     frame: &Frame,
     place: Place,
     plan: &Plan,
-) -> Result<(), AllocError> {
+) -> AllocResult<()> {
     match place {
         Place::Global(variable) => push_global(text, program, variable, plan),
         Place::Slot(slot) => match local_at(program, frame, slot) {
@@ -204,7 +204,7 @@ fn number_put(plan: &Plan) -> Option<i32> {
 }
 
 // Appends a number, behind a name with ` = ` between them.
-fn push_number_behind(text: &mut Vec<u8>, number: i32) -> Result<(), AllocError> {
+fn push_number_behind(text: &mut Vec<u8>, number: i32) -> AllocResult<()> {
     if text.is_empty() {
         push_number(text, number)
     } else {
@@ -213,7 +213,7 @@ fn push_number_behind(text: &mut Vec<u8>, number: i32) -> Result<(), AllocError>
 }
 
 // Appends the number on top of the stack of a worker's running frame, if there is one.
-fn push_top(text: &mut Vec<u8>, store: &Memory, worker: u8) -> Result<(), AllocError> {
+fn push_top(text: &mut Vec<u8>, store: &Memory, worker: u8) -> AllocResult<()> {
     let Some(Control::Running(stack)) = store.control(worker) else {
         return Ok(());
     };

@@ -4,8 +4,8 @@ ghost use Rattle.std.specs.Prelude.{◌≡◌};
 ghost use Rattle.lab_schedules.specs.Schedules.{steps_of};
 
 use om_foot::Name;
+use om_seq::AllocResult;
 use om_state::{Choice, Label};
-use std::alloc::AllocError;
 
 /// A part of a schedule.
 #[derive(Clone, Copy)]
@@ -37,7 +37,7 @@ impl Block {
 }
 
 /// Appends a block, in one with the last where both are steps of one worker. A block of no step is left out.
-pub(crate) fn push_block(blocks: &mut Vec<Block>, block: &Block) -> Result<(), AllocError> {
+pub(crate) fn push_block(blocks: &mut Vec<Block>, block: &Block) -> AllocResult<()> {
     if let Block::Steps { worker, count } = block {
         if *count == 0 || grow_last(blocks, *worker, *count) {
             return Ok(());
@@ -71,7 +71,7 @@ fn grown(block: &Block, worker: u8, more: u32) -> Option<Block> {
 }
 
 /// Appends a step.
-pub(crate) fn push_step(blocks: &mut Vec<Block>, label: &Label) -> Result<(), AllocError> {
+pub(crate) fn push_step(blocks: &mut Vec<Block>, label: &Label) -> AllocResult<()> {
     let worker = label.worker;
     let block = match label.choice {
         Choice::Next => Block::Steps { worker, count: 1 },

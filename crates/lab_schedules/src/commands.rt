@@ -6,8 +6,9 @@ ghost use Rattle.lab_schedules.specs.Schedules.{step_text, start_text, times, bl
 
 use crate::block::Block;
 use om_foot::Name;
+use om_seq::AllocResult;
 use om_shell_commands::push_numbered;
-use std::alloc::{AllocError, Global};
+use std::alloc::Global;
 
 /// How many steps `run` finishes a schedule with, at most.
 pub(crate) const MOST_STEPS: u32 = 100_000;
@@ -16,7 +17,7 @@ pub(crate) const MOST_STEPS: u32 = 100_000;
 const END: &[u8] = b"run 100000\noutput\n";
 
 /// The commands that make the steps of a schedule, let `run` finish it, and show what was printed.
-pub fn script(alloc: Global, blocks: &[Block]) -> Result<Vec<u8>, AllocError>
+pub fn script(alloc: Global, blocks: &[Block]) -> AllocResult<Vec<u8>>
     ensures { IfOk result (λ text. text.items ≡ schedule_text blocks.now) }
 {
     let mut text = Vec::new(alloc);
@@ -26,7 +27,7 @@ pub fn script(alloc: Global, blocks: &[Block]) -> Result<Vec<u8>, AllocError>
 }
 
 // Appends a command for each step of blocks.
-fn push_blocks(text: &mut Vec<u8>, blocks: &[Block]) -> Result<(), AllocError>
+fn push_blocks(text: &mut Vec<u8>, blocks: &[Block]) -> AllocResult<()>
     ensures { OnOk result (text.new.items ≡ text.old.items ++ joined block_text blocks.now) }
 {
     for block in blocks {
@@ -36,7 +37,7 @@ fn push_blocks(text: &mut Vec<u8>, blocks: &[Block]) -> Result<(), AllocError>
 }
 
 // Appends a command for each step of a block.
-fn push_commands(text: &mut Vec<u8>, block: &Block) -> Result<(), AllocError>
+fn push_commands(text: &mut Vec<u8>, block: &Block) -> AllocResult<()>
     ensures { OnOk result (text.new.items ≡ text.old.items ++ block_text block.now) }
 {
     match block {
@@ -46,7 +47,7 @@ fn push_commands(text: &mut Vec<u8>, block: &Block) -> Result<(), AllocError>
 }
 
 // Appends so many commands `step W`.
-fn push_steps(text: &mut Vec<u8>, worker: u8, count: u32) -> Result<(), AllocError>
+fn push_steps(text: &mut Vec<u8>, worker: u8, count: u32) -> AllocResult<()>
     ensures { OnOk result (text.new.items ≡ text.old.items ++ times count (step_text worker)) }
 {
     let mut left = count;
@@ -58,7 +59,7 @@ fn push_steps(text: &mut Vec<u8>, worker: u8, count: u32) -> Result<(), AllocErr
 }
 
 // Appends a command `step W`.
-fn push_step(text: &mut Vec<u8>, worker: u8) -> Result<(), AllocError>
+fn push_step(text: &mut Vec<u8>, worker: u8) -> AllocResult<()>
     ensures { OnOk result (text.new.items ≡ text.old.items ++ step_text worker) }
 {
     push_numbered(text, b"step ", worker)?;
@@ -66,7 +67,7 @@ fn push_step(text: &mut Vec<u8>, worker: u8) -> Result<(), AllocError>
 }
 
 // Appends a command `start W NAME`.
-fn push_start(text: &mut Vec<u8>, worker: u8, task: &Name) -> Result<(), AllocError>
+fn push_start(text: &mut Vec<u8>, worker: u8, task: &Name) -> AllocResult<()>
     ensures { OnOk result (text.new.items ≡ text.old.items ++ start_text worker task.now) }
 {
     push_numbered(text, b"start ", worker)?;

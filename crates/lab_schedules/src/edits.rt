@@ -1,7 +1,8 @@
 //! Changes of a schedule, each a new one.
 
 use crate::block::{Block, push_block};
-use std::alloc::{AllocError, Global};
+use om_seq::AllocResult;
+use std::alloc::Global;
 
 /// The blocks without those from one place up to another.
 pub(crate) fn without(
@@ -9,7 +10,7 @@ pub(crate) fn without(
     blocks: &[Block],
     from: usize,
     to: usize,
-) -> Result<Vec<Block>, AllocError> {
+) -> AllocResult<Vec<Block>> {
     let mut rest = Vec::new(alloc);
     for (i, block) in blocks.iter().enumerate() {
         if i < from || i >= to {
@@ -25,7 +26,7 @@ pub(crate) fn moved(
     blocks: &[Block],
     one: usize,
     behind: usize,
-) -> Result<Vec<Block>, AllocError> {
+) -> AllocResult<Vec<Block>> {
     let mut others = Vec::new(alloc);
     for (i, block) in blocks.iter().enumerate() {
         if i != one {
@@ -39,7 +40,7 @@ pub(crate) fn moved(
 }
 
 // Appends the block at a place, where there is one.
-fn push_nth(others: &mut Vec<Block>, blocks: &[Block], at: usize) -> Result<(), AllocError> {
+fn push_nth(others: &mut Vec<Block>, blocks: &[Block], at: usize) -> AllocResult<()> {
     if let Some(block) = blocks.get(at) {
         push_block(others, block)?;
     }
@@ -52,7 +53,7 @@ pub(crate) fn shrunk(
     blocks: &[Block],
     at: usize,
     fewer: u32,
-) -> Result<Vec<Block>, AllocError> {
+) -> AllocResult<Vec<Block>> {
     let mut others = Vec::new(alloc);
     for (i, block) in blocks.iter().enumerate() {
         if i == at {

@@ -13,10 +13,11 @@ ghost use Rattle.lab_schedules.specs.Texts.{text_in};
 use om_code::frame::Fault;
 use om_foot::{Name, Obj};
 use om_memory::Control;
+use om_seq::AllocResult;
 use om_state::Choice;
 use om_undo::laws::{one_ready_list, ready_names_are_ready};
 use om_undo::{Machine, StepReply};
-use std::alloc::{AllocError, Global};
+use std::alloc::Global;
 
 /// What is bad about an outcome.
 #[derive(Clone, Copy)]
@@ -42,7 +43,7 @@ impl Wanted {
         alloc: Global,
         machine: &Machine,
         expected: Option<&[u8]>,
-    ) -> Result<Wanted, AllocError>
+    ) -> AllocResult<Wanted>
         ensures { IfOk result (λ wanted. text_in wanted.text ≡ due_at expected.entry machine.now) }
     {
         let text = match expected {
@@ -53,7 +54,7 @@ impl Wanted {
     }
 
     /// A copy of the bytes, where they are known. Its only error is out of memory.
-    pub fn copy(&self) -> Result<Option<Vec<u8>>, AllocError>
+    pub fn copy(&self) -> AllocResult<Option<Vec<u8>>>
         ensures { IfOk result (λ text. text_in text ≡ text_in self.now.text) }
     {
         let Some(text) = &self.text else {
@@ -64,11 +65,7 @@ impl Wanted {
 
     /// What is bad about where a machine stands, if something is: a fault, else the output of a program that
     /// ended, else that it is stuck. Its only error is out of memory.
-    pub(crate) fn judge(
-        &self,
-        alloc: Global,
-        machine: &Machine,
-    ) -> Result<Option<Badness>, AllocError>
+    pub(crate) fn judge(&self, alloc: Global, machine: &Machine) -> AllocResult<Option<Badness>>
         ensures { IfOk result (λ bad. IsJudged machine.now (text_in self.now.text) bad) }
     {
         if let Some(bad) = first_fault(machine) {
@@ -85,7 +82,7 @@ impl Wanted {
     }
 
     // Whether something else was printed than is wanted.
-    fn judge_output(&self, alloc: Global, machine: &Machine) -> Result<Option<Badness>, AllocError>
+    fn judge_output(&self, alloc: Global, machine: &Machine) -> AllocResult<Option<Badness>>
         requires ended { has_ended (control_of machine.now 0) ≡ true }
         requires faultless { NoneFaulted machine.now }
         ensures { IfOk result (λ bad. IsJudged machine.now (text_in self.now.text) bad) }
@@ -142,7 +139,7 @@ fn has_ended(control: Option<&Control>) -> bool
 }
 
 /// What the program printed. Its only error is out of memory.
-pub(crate) fn output(alloc: Global, machine: &Machine) -> Result<Vec<u8>, AllocError>
+pub(crate) fn output(alloc: Global, machine: &Machine) -> AllocResult<Vec<u8>>
     ensures { IfOk result (λ bytes. bytes.items ≡ output_of machine.now) }
 {
     let value = machine.look(alloc, &Obj::Output)?;
@@ -152,7 +149,7 @@ pub(crate) fn output(alloc: Global, machine: &Machine) -> Result<Vec<u8>, AllocE
 }
 
 // What the program printed, where the initial task has ended.
-fn output_at_end(alloc: Global, machine: &Machine) -> Result<Option<Vec<u8>>, AllocError>
+fn output_at_end(alloc: Global, machine: &Machine) -> AllocResult<Option<Vec<u8>>>
     ensures { IfOk result (λ text. text_in text ≡ wanted_by None machine.now) }
 {
     if has_ended(machine.control(0)) {
@@ -163,7 +160,7 @@ fn output_at_end(alloc: Global, machine: &Machine) -> Result<Option<Vec<u8>>, Al
 }
 
 // Whether some worker has a move.
-fn can_move(alloc: Global, machine: &Machine) -> Result<bool, AllocError>
+fn can_move(alloc: Global, machine: &Machine) -> AllocResult<bool>
     ensures moves { IfOk result (λ can. can ≡ true → ¬ NoneMoves machine.now) }
     ensures none { IfOk result (λ can. can ≡ false → NoneMoves machine.now) }
 {
@@ -177,7 +174,7 @@ fn can_move(alloc: Global, machine: &Machine) -> Result<bool, AllocError>
 }
 
 // The names of the tasks that are ready, ascending.
-fn ready_in(alloc: Global, machine: &Machine) -> Result<Vec<Name>, AllocError>
+fn ready_in(alloc: Global, machine: &Machine) -> AllocResult<Vec<Name>>
     ensures { IfOk result (λ names. names.items ≡ ready_names machine.now) }
 {
     one_ready_list();
@@ -186,12 +183,7 @@ fn ready_in(alloc: Global, machine: &Machine) -> Result<Vec<Name>, AllocError>
 }
 
 // Whether a worker has a move, where these tasks are ready.
-fn has_move(
-    alloc: Global,
-    machine: &Machine,
-    worker: u8,
-    names: &[Name],
-) -> Result<bool, AllocError>
+fn has_move(alloc: Global, machine: &Machine, worker: u8, names: &[Name]) -> AllocResult<bool>
     requires in_range { worker < machine.now.workers }
     requires ready { names.now ≡ ready_names machine.now }
     ensures { IfOk result (λ has. has ≡ is_some (move_of machine.now worker)) }
@@ -203,12 +195,7 @@ fn has_move(
 }
 
 // Whether a worker can begin one of these tasks.
-fn can_start(
-    alloc: Global,
-    machine: &Machine,
-    worker: u8,
-    names: &[Name],
-) -> Result<bool, AllocError>
+fn can_start(alloc: Global, machine: &Machine, worker: u8, names: &[Name]) -> AllocResult<bool>
     requires { worker < machine.now.workers }
     ensures { IfOk result (λ can. can ≡ is_some (start_among machine.now worker names.now)) }
 {
@@ -221,12 +208,7 @@ fn can_start(
 }
 
 // Whether a worker can make a step by a choice.
-fn can_step(
-    alloc: Global,
-    machine: &Machine,
-    worker: u8,
-    choice: Choice,
-) -> Result<bool, AllocError>
+fn can_step(alloc: Global, machine: &Machine, worker: u8, choice: Choice) -> AllocResult<bool>
     requires { worker < machine.now.workers }
     ensures { IfOk result (λ can. can ≡ can_step machine.now worker choice) }
 {

@@ -7,8 +7,9 @@ ghost use Rattle.lab_schedules.specs.Texts.{text_in};
 
 use crate::judge::{Badness, Wanted, output};
 use om_book::Book;
+use om_seq::AllocResult;
 use om_undo::Machine;
-use std::alloc::{AllocError, Global};
+use std::alloc::Global;
 
 /// What a session came to that is bad.
 #[derive(Drop)]
@@ -20,7 +21,7 @@ pub struct End {
 }
 
 /// What is bad about the book that a session left, if something is. Its only error is out of memory.
-pub fn end_of(alloc: Global, book: Book, wanted: &Wanted) -> Result<Option<End>, AllocError>
+pub fn end_of(alloc: Global, book: Book, wanted: &Wanted) -> AllocResult<Option<End>>
     ensures { IfOk result
         (λ end. EndsWith (machine_of book) (text_in wanted.now.text) end) }
 {
@@ -40,7 +41,7 @@ pub struct Alone {
 
 /// What is wanted, by the book that `run` alone left, and what is bad about that book, if something
 /// is. Its only error is out of memory.
-pub fn alone_of(alloc: Global, book: Book, expected: Option<&[u8]>) -> Result<Alone, AllocError>
+pub fn alone_of(alloc: Global, book: Book, expected: Option<&[u8]>) -> AllocResult<Alone>
     ensures wanted { IfOk result (λ alone. due alone ≡ due_at expected.entry (machine_of book)) }
     ensures judged { IfOk result (λ alone. EndsWith (machine_of book) (due alone) alone.end) }
 {
@@ -50,7 +51,7 @@ pub fn alone_of(alloc: Global, book: Book, expected: Option<&[u8]>) -> Result<Al
 }
 
 // What is wanted, by where `run` alone leaves a machine, and what is bad there, if something is.
-fn alone_at(alloc: Global, machine: &Machine, expected: Option<&[u8]>) -> Result<Alone, AllocError>
+fn alone_at(alloc: Global, machine: &Machine, expected: Option<&[u8]>) -> AllocResult<Alone>
     ensures wanted { IfOk result (λ alone. due alone ≡ due_at expected.entry machine.now) }
     ensures judged { IfOk result (λ alone. EndsWith machine.now (due alone) alone.end) }
 {
@@ -60,7 +61,7 @@ fn alone_at(alloc: Global, machine: &Machine, expected: Option<&[u8]>) -> Result
 }
 
 // What is bad about where a machine stands, if something is.
-fn end_at(alloc: Global, machine: &Machine, wanted: &Wanted) -> Result<Option<End>, AllocError>
+fn end_at(alloc: Global, machine: &Machine, wanted: &Wanted) -> AllocResult<Option<End>>
     ensures { IfOk result (λ end. EndsWith machine.now (text_in wanted.now.text) end) }
 {
     let Some(why) = wanted.judge(alloc, machine)? else {

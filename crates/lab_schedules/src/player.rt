@@ -6,6 +6,7 @@ ghost use Rattle.om_undo.specs.Machines.{at_start};
 
 use om_code::Program;
 use om_foot::Name;
+use om_seq::AllocResult;
 use om_state::{Choice, Label};
 use om_undo::{Machine, StepReply};
 use std::alloc::{AllocError, Global};
@@ -39,7 +40,7 @@ pub(crate) struct Player {
 
 impl Player {
     /// A player at the start of a program, with 1 to 32 workers. Its only error is out of memory.
-    pub(crate) fn new(alloc: Global, program: Program, workers: u8) -> Result<Player, AllocError>
+    pub(crate) fn new(alloc: Global, program: Program, workers: u8) -> AllocResult<Player>
         requires at_least_one { 1 ≤ workers }
         requires at_most_32 { workers ≤ 32 }
         ensures { IfOk result (λ player. player.machine ≡ at_start program workers) }
@@ -66,7 +67,7 @@ impl Player {
     }
 
     /// Makes a step, where it can be made and there is memory to note it.
-    pub(crate) fn attempt(&mut self, alloc: Global, label: &Label) -> Result<Attempt, AllocError> {
+    pub(crate) fn attempt(&mut self, alloc: Global, label: &Label) -> AllocResult<Attempt> {
         if self.left == 0 || label.worker >= self.machine.workers() {
             return Ok(Attempt::Not);
         }
@@ -94,7 +95,7 @@ impl Player {
     }
 
     /// The names of the tasks that are ready, where a worker may start one; else none.
-    pub(crate) fn ready(&self, alloc: Global, worker: u8) -> Result<Vec<Name>, AllocError> {
+    pub(crate) fn ready(&self, alloc: Global, worker: u8) -> AllocResult<Vec<Name>> {
         if self.may_start(worker) {
             self.machine.ready(alloc)
         } else {
@@ -104,7 +105,7 @@ impl Player {
 
     // Starts the least ready task that a worker can begin. Each start that is tried takes one of the
     // steps that there may be.
-    fn start_first(&mut self, alloc: Global, worker: u8) -> Result<Attempt, AllocError> {
+    fn start_first(&mut self, alloc: Global, worker: u8) -> AllocResult<Attempt> {
         if !self.may_start(worker) {
             return Ok(Attempt::Not);
         }
@@ -127,7 +128,7 @@ impl Player {
     }
 
     // Makes a worker's next step, else the start of the least ready task that it can begin.
-    fn move_worker(&mut self, alloc: Global, worker: u8) -> Result<Attempt, AllocError> {
+    fn move_worker(&mut self, alloc: Global, worker: u8) -> AllocResult<Attempt> {
         let next = Label {
             worker,
             choice: Choice::Next,
@@ -140,7 +141,7 @@ impl Player {
     }
 
     // Makes the move of the least worker that has one.
-    fn move_first(&mut self, alloc: Global) -> Result<Attempt, AllocError> {
+    fn move_first(&mut self, alloc: Global) -> AllocResult<Attempt> {
         for worker in 0..self.machine.workers() {
             let attempt = self.move_worker(alloc, worker)?;
             if attempt != Attempt::Not {
@@ -151,7 +152,7 @@ impl Player {
     }
 
     /// Makes so many moves at most as `run` makes them, each by the least worker that has one, up to a fault.
-    pub(crate) fn run(&mut self, alloc: Global, steps: u32) -> Result<(), AllocError> {
+    pub(crate) fn run(&mut self, alloc: Global, steps: u32) -> AllocResult<()> {
         'steps: for _ in 0..steps {
             if self.move_first(alloc)? != Attempt::Made {
                 return Ok(());

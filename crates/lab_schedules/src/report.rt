@@ -9,15 +9,15 @@ use crate::hunted::{Found, Hunted};
 use crate::judge::Badness;
 use om_code::frame::Fault;
 use om_foot::Name;
+use om_seq::AllocResult;
 use om_shell_commands::push_numbered;
-use std::alloc::AllocError;
 
 /// Appends what came of a hunt.
 ///
 /// Of a bad schedule it is what was found, in words, each on a line that is not empty; then an empty line,
 /// and then the script and nothing else. Of a refused source it is the line that ompback writes. `by_run` says
 /// that what is wanted is what `run` alone printed, and was not told.
-pub fn push_report(text: &mut Vec<u8>, hunted: &Hunted, by_run: bool) -> Result<(), AllocError>
+pub fn push_report(text: &mut Vec<u8>, hunted: &Hunted, by_run: bool) -> AllocResult<()>
     ensures { OnOk result (text.new.items ≡ text.old.items ++ report_text by_run hunted.now) }
 {
     match hunted {
@@ -28,7 +28,7 @@ pub fn push_report(text: &mut Vec<u8>, hunted: &Hunted, by_run: bool) -> Result<
 }
 
 // Appends that nothing was found, and what that does not mean.
-fn push_nothing(text: &mut Vec<u8>, seeds: u64) -> Result<(), AllocError>
+fn push_nothing(text: &mut Vec<u8>, seeds: u64) -> AllocResult<()>
     ensures { OnOk result (text.new.items ≡ text.old.items ++ nothing_text seeds) }
 {
     push_numbered(text, b"nothing bad in the schedules of ", seeds)?;
@@ -37,14 +37,14 @@ fn push_nothing(text: &mut Vec<u8>, seeds: u64) -> Result<(), AllocError>
     Ok(())
 }
 
-fn push_limits(text: &mut Vec<u8>) -> Result<(), AllocError>
+fn push_limits(text: &mut Vec<u8>) -> AllocResult<()>
     ensures { OnOk result (text.new.items ≡ text.old.items ++ limits_text) }
 {
     text.extend_from_slice(b"These are not all schedules, ")?;
     text.extend_from_slice(b"and this is no race detector.\n")
 }
 
-fn push_found(text: &mut Vec<u8>, found: &Found, by_run: bool) -> Result<(), AllocError>
+fn push_found(text: &mut Vec<u8>, found: &Found, by_run: bool) -> AllocResult<()>
     ensures { OnOk result (text.new.items ≡ text.old.items ++ found_text by_run found.now) }
 {
     push_words(text, found, by_run)?;
@@ -52,7 +52,7 @@ fn push_found(text: &mut Vec<u8>, found: &Found, by_run: bool) -> Result<(), All
     text.extend_from_slice(found.script.as_slice())
 }
 
-fn push_words(text: &mut Vec<u8>, found: &Found, by_run: bool) -> Result<(), AllocError>
+fn push_words(text: &mut Vec<u8>, found: &Found, by_run: bool) -> AllocResult<()>
     ensures { OnOk result (text.new.items ≡ text.old.items ++ words_text by_run found.now) }
 {
     push_seed(text, found.seed)?;
@@ -62,7 +62,7 @@ fn push_words(text: &mut Vec<u8>, found: &Found, by_run: bool) -> Result<(), All
     Ok(())
 }
 
-fn push_seed(text: &mut Vec<u8>, seed: u64) -> Result<(), AllocError>
+fn push_seed(text: &mut Vec<u8>, seed: u64) -> AllocResult<()>
     ensures { OnOk result (text.new.items ≡ text.old.items ++ seed_text seed) }
 {
     if seed == 0 {
@@ -72,7 +72,7 @@ fn push_seed(text: &mut Vec<u8>, seed: u64) -> Result<(), AllocError>
     text.extend_from_slice(b": ")
 }
 
-fn push_badness(text: &mut Vec<u8>, found: &Found, by_run: bool) -> Result<(), AllocError>
+fn push_badness(text: &mut Vec<u8>, found: &Found, by_run: bool) -> AllocResult<()>
     ensures { OnOk result (text.new.items ≡ text.old.items ++ bad_text by_run found.now) }
 {
     match found.why {
@@ -86,7 +86,7 @@ fn push_badness(text: &mut Vec<u8>, found: &Found, by_run: bool) -> Result<(), A
     }
 }
 
-fn push_fault(text: &mut Vec<u8>, fault: Fault, worker: u8, line: u32) -> Result<(), AllocError>
+fn push_fault(text: &mut Vec<u8>, fault: Fault, worker: u8, line: u32) -> AllocResult<()>
     ensures { OnOk result (text.new.items ≡ text.old.items ++ fault_words fault worker line) }
 {
     push_numbered(text, b"fault F", fault.number())?;
@@ -95,7 +95,7 @@ fn push_fault(text: &mut Vec<u8>, fault: Fault, worker: u8, line: u32) -> Result
     Ok(())
 }
 
-fn push_outputs(text: &mut Vec<u8>, found: &Found, by_run: bool) -> Result<(), AllocError>
+fn push_outputs(text: &mut Vec<u8>, found: &Found, by_run: bool) -> AllocResult<()>
     ensures { OnOk result (text.new.items ≡ text.old.items ++ prints_text by_run found.now) }
 {
     text.extend_from_slice(b"printed ")?;
@@ -106,7 +106,7 @@ fn push_outputs(text: &mut Vec<u8>, found: &Found, by_run: bool) -> Result<(), A
     push_wanted(text, wanted.as_slice(), by_run)
 }
 
-fn push_wanted(text: &mut Vec<u8>, wanted: &[u8], by_run: bool) -> Result<(), AllocError>
+fn push_wanted(text: &mut Vec<u8>, wanted: &[u8], by_run: bool) -> AllocResult<()>
     ensures { OnOk result (text.new.items ≡ text.old.items ++ told_text by_run wanted.now) }
 {
     text.extend_from_slice(before_wanted(by_run))?;
@@ -125,7 +125,7 @@ fn before_wanted(by_run: bool) -> &'static [u8]
 }
 
 // Appends bytes in quotes, on one line.
-fn push_quoted(text: &mut Vec<u8>, bytes: &[u8]) -> Result<(), AllocError>
+fn push_quoted(text: &mut Vec<u8>, bytes: &[u8]) -> AllocResult<()>
     ensures { OnOk result (text.new.items ≡ text.old.items ++ quoted bytes.now) }
 {
     text.extend_from_slice(b"\"")?;
@@ -133,7 +133,7 @@ fn push_quoted(text: &mut Vec<u8>, bytes: &[u8]) -> Result<(), AllocError>
     text.extend_from_slice(b"\"")
 }
 
-fn push_bytes(text: &mut Vec<u8>, bytes: &[u8]) -> Result<(), AllocError>
+fn push_bytes(text: &mut Vec<u8>, bytes: &[u8]) -> AllocResult<()>
     ensures { OnOk result (text.new.items ≡ text.old.items ++ joined byte_text bytes.now) }
 {
     for byte in bytes {
@@ -142,7 +142,7 @@ fn push_bytes(text: &mut Vec<u8>, bytes: &[u8]) -> Result<(), AllocError>
     Ok(())
 }
 
-fn push_byte(text: &mut Vec<u8>, byte: u8) -> Result<(), AllocError>
+fn push_byte(text: &mut Vec<u8>, byte: u8) -> AllocResult<()>
     ensures { OnOk result (text.new.items ≡ text.old.items ++ byte_text byte) }
 {
     match byte {
@@ -154,7 +154,7 @@ fn push_byte(text: &mut Vec<u8>, byte: u8) -> Result<(), AllocError>
     }
 }
 
-fn push_length(text: &mut Vec<u8>, blocks: &[Block]) -> Result<(), AllocError>
+fn push_length(text: &mut Vec<u8>, blocks: &[Block]) -> AllocResult<()>
     ensures { OnOk result (text.new.items ≡ text.old.items ++ length_text blocks.now) }
 {
     push_numbered(text, b"shortened to ", blocks.len())?;
@@ -163,7 +163,7 @@ fn push_length(text: &mut Vec<u8>, blocks: &[Block]) -> Result<(), AllocError>
     text.extend_from_slice(b"then `run`\n")
 }
 
-fn push_blocks(text: &mut Vec<u8>, blocks: &[Block]) -> Result<(), AllocError>
+fn push_blocks(text: &mut Vec<u8>, blocks: &[Block]) -> AllocResult<()>
     ensures { OnOk result (text.new.items ≡ text.old.items ++ joined block_words blocks.now) }
 {
     for block in blocks {
@@ -172,7 +172,7 @@ fn push_blocks(text: &mut Vec<u8>, blocks: &[Block]) -> Result<(), AllocError>
     Ok(())
 }
 
-fn push_block(text: &mut Vec<u8>, block: &Block) -> Result<(), AllocError>
+fn push_block(text: &mut Vec<u8>, block: &Block) -> AllocResult<()>
     ensures { OnOk result (text.new.items ≡ text.old.items ++ block_words block.now) }
 {
     match block {
@@ -181,7 +181,7 @@ fn push_block(text: &mut Vec<u8>, block: &Block) -> Result<(), AllocError>
     }
 }
 
-fn push_steps(text: &mut Vec<u8>, worker: u8, count: u32) -> Result<(), AllocError>
+fn push_steps(text: &mut Vec<u8>, worker: u8, count: u32) -> AllocResult<()>
     ensures { OnOk result (text.new.items ≡ text.old.items ++ steps_words worker count) }
 {
     push_numbered(text, b"", count)?;
@@ -189,7 +189,7 @@ fn push_steps(text: &mut Vec<u8>, worker: u8, count: u32) -> Result<(), AllocErr
     text.extend_from_slice(b", ")
 }
 
-fn push_start(text: &mut Vec<u8>, worker: u8, task: &Name) -> Result<(), AllocError>
+fn push_start(text: &mut Vec<u8>, worker: u8, task: &Name) -> AllocResult<()>
     ensures { OnOk result (text.new.items ≡ text.old.items ++ start_words worker task.now) }
 {
     text.extend_from_slice(b"task ")?;

@@ -13,7 +13,8 @@ use crate::shorten::Search;
 use crate::trial::finish;
 use crate::wander::wander;
 use om_code::Program;
-use std::alloc::{AllocError, Global};
+use om_seq::AllocResult;
+use std::alloc::Global;
 
 /// What schedules are tried over.
 #[derive(Clone, Copy)]
@@ -53,7 +54,7 @@ impl Drop for Chances {
 impl Chances {
     /// What tries schedules over a program, with 1 to 32 workers; no step was made. Its only error is out
     /// of memory.
-    pub fn new(alloc: Global, program: Program, workers: u8) -> Result<Chances, AllocError>
+    pub fn new(alloc: Global, program: Program, workers: u8) -> AllocResult<Chances>
         requires at_least_one { 1 ≤ workers }
         requires at_most_32 { workers ≤ 32 }
         ensures { IfOk result (λ chances. chances.player.machine ≡ at_start program workers) }
@@ -71,7 +72,7 @@ impl Chances {
         ground: &Ground<'_>,
         behind: u64,
         progress: &mut P,
-    ) -> Result<Option<Schedule>, AllocError>
+    ) -> AllocResult<Option<Schedule>>
         ensures lies_behind { IfOk result (λ found. IfSome found (LiesBehind behind)) }
         ensures is_a_seed { IfOk result (λ found. IfSome found (IsOfSeed ground.now)) }
     {
@@ -93,7 +94,7 @@ fn bad_blocks(
     player: &mut Player,
     ground: &Ground<'_>,
     seed: u64,
-) -> Result<Option<Vec<Block>>, AllocError> {
+) -> AllocResult<Option<Vec<Block>>> {
     let blocks = wander(alloc, player, seed, ground.steps)?;
     if finish(alloc, player, ground.wanted, MOST_STEPS)?.is_none() {
         return Ok(None);

@@ -5,7 +5,8 @@ use crate::edits::{moved, shrunk, without};
 use crate::judge::Wanted;
 use crate::player::Player;
 use crate::trial::play;
-use std::alloc::{AllocError, Global};
+use om_seq::AllocResult;
+use std::alloc::Global;
 
 // How often all changes are tried at most.
 const MOST_ROUNDS: u32 = 100;
@@ -43,7 +44,7 @@ impl<'a> Search<'a> {
 
     /// Makes the schedule short: drops, joins and shrinks blocks while what comes of it is bad, until no such
     /// change is bad still.
-    pub(crate) fn shorten(&mut self, alloc: Global, player: &mut Player) -> Result<(), AllocError> {
+    pub(crate) fn shorten(&mut self, alloc: Global, player: &mut Player) -> AllocResult<()> {
         'rounds: for _ in 0..MOST_ROUNDS {
             let (blocks, steps) = (self.blocks.len(), steps_in(&self.blocks));
             self.cut(alloc, player)?;
@@ -62,7 +63,7 @@ impl<'a> Search<'a> {
         alloc: Global,
         player: &mut Player,
         blocks: Vec<Block>,
-    ) -> Result<bool, AllocError> {
+    ) -> AllocResult<bool> {
         if self.left == 0 {
             return Ok(false);
         }
@@ -77,12 +78,7 @@ impl<'a> Search<'a> {
     }
 
     // Drops pieces of so many blocks, from the end to the front.
-    fn cut_pieces(
-        &mut self,
-        alloc: Global,
-        player: &mut Player,
-        size: usize,
-    ) -> Result<(), AllocError> {
+    fn cut_pieces(&mut self, alloc: Global, player: &mut Player, size: usize) -> AllocResult<()> {
         let mut end = self.blocks.len();
         'pieces: for _ in 0..self.left {
             if end == 0 || self.left == 0 {
@@ -97,7 +93,7 @@ impl<'a> Search<'a> {
     }
 
     // Drops blocks: first half of them at once, then ever fewer.
-    fn cut(&mut self, alloc: Global, player: &mut Player) -> Result<(), AllocError> {
+    fn cut(&mut self, alloc: Global, player: &mut Player) -> AllocResult<()> {
         let mut size = self.blocks.len();
         'sizes: for _ in 0..usize::BITS {
             size /= 2;
@@ -116,7 +112,7 @@ impl<'a> Search<'a> {
         player: &mut Player,
         one: usize,
         two: usize,
-    ) -> Result<bool, AllocError> {
+    ) -> AllocResult<bool> {
         if !are_of_one(&self.blocks, one, two) {
             return Ok(false);
         }
@@ -129,12 +125,7 @@ impl<'a> Search<'a> {
     }
 
     // Joins a block with each later one of its worker.
-    fn join_from(
-        &mut self,
-        alloc: Global,
-        player: &mut Player,
-        one: usize,
-    ) -> Result<(), AllocError> {
+    fn join_from(&mut self, alloc: Global, player: &mut Player, one: usize) -> AllocResult<()> {
         'others: for two in one..self.blocks.len() {
             if self.left == 0 {
                 return Ok(());
@@ -145,7 +136,7 @@ impl<'a> Search<'a> {
     }
 
     // Joins blocks of one worker.
-    fn join(&mut self, alloc: Global, player: &mut Player) -> Result<(), AllocError> {
+    fn join(&mut self, alloc: Global, player: &mut Player) -> AllocResult<()> {
         'blocks: for one in 0..self.blocks.len() {
             self.join_from(alloc, player, one)?;
         }
@@ -153,12 +144,7 @@ impl<'a> Search<'a> {
     }
 
     // Takes steps off a block: first half of them at once, then ever fewer.
-    fn shrink_one(
-        &mut self,
-        alloc: Global,
-        player: &mut Player,
-        at: usize,
-    ) -> Result<(), AllocError> {
+    fn shrink_one(&mut self, alloc: Global, player: &mut Player, at: usize) -> AllocResult<()> {
         let mut fewer = match self.blocks.get(at) {
             Some(block) => block.steps(),
             None => return Ok(()),
@@ -180,7 +166,7 @@ impl<'a> Search<'a> {
         player: &mut Player,
         at: usize,
         fewer: u32,
-    ) -> Result<(), AllocError> {
+    ) -> AllocResult<()> {
         'tries: for _ in 0..self.left {
             let shorter = shrunk(alloc, &self.blocks, at, fewer)?;
             if !self.accept(alloc, player, shorter)? {
@@ -191,7 +177,7 @@ impl<'a> Search<'a> {
     }
 
     // Takes steps off each block.
-    fn shrink(&mut self, alloc: Global, player: &mut Player) -> Result<(), AllocError> {
+    fn shrink(&mut self, alloc: Global, player: &mut Player) -> AllocResult<()> {
         'blocks: for at in 0..self.blocks.len() {
             if self.left == 0 {
                 return Ok(());

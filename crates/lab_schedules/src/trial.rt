@@ -3,8 +3,9 @@
 use crate::block::{Block, push_step};
 use crate::judge::{Badness, Wanted};
 use crate::player::{Attempt, Player};
+use om_seq::AllocResult;
 use om_state::{Choice, Label};
-use std::alloc::{AllocError, Global};
+use std::alloc::Global;
 
 /// What a schedule came to.
 #[derive(Drop)]
@@ -23,7 +24,7 @@ pub(crate) fn play(
     wanted: &Wanted,
     blocks: &[Block],
     more: u32,
-) -> Result<Played, AllocError> {
+) -> AllocResult<Played> {
     player.rewind();
     let mut made = Vec::new(alloc);
     for block in blocks {
@@ -42,7 +43,7 @@ pub(crate) fn finish(
     player: &mut Player,
     wanted: &Wanted,
     more: u32,
-) -> Result<Option<Badness>, AllocError> {
+) -> AllocResult<Option<Badness>> {
     player.run(alloc, more)?;
     wanted.judge(alloc, &player.machine)
 }
@@ -53,7 +54,7 @@ fn play_block(
     player: &mut Player,
     block: &Block,
     made: &mut Vec<Block>,
-) -> Result<bool, AllocError> {
+) -> AllocResult<bool> {
     let label = label_of(block);
     'steps: for _ in 0..block.steps() {
         let attempt = player.attempt(alloc, &label)?;

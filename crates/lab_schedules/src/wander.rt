@@ -4,8 +4,9 @@ use crate::block::{Block, push_step};
 use crate::chance::Chance;
 use crate::player::{Attempt, Player};
 use om_foot::Name;
+use om_seq::AllocResult;
 use om_state::{Choice, Label};
-use std::alloc::{AllocError, Global};
+use std::alloc::Global;
 
 // What is to come of chance, and the schedule that came of it so far.
 #[derive(Drop)]
@@ -21,7 +22,7 @@ pub(crate) fn wander(
     player: &mut Player,
     seed: u64,
     most: u64,
-) -> Result<Vec<Block>, AllocError> {
+) -> AllocResult<Vec<Block>> {
     player.rewind();
     let mut stroll = Stroll {
         chance: Chance::new(seed),
@@ -42,7 +43,7 @@ fn take_turn(
     player: &mut Player,
     stroll: &mut Stroll,
     most: u64,
-) -> Result<bool, AllocError> {
+) -> AllocResult<bool> {
     let (worker, attempt) = begin_turn(alloc, player, stroll)?;
     if attempt != Attempt::Made {
         return Ok(false);
@@ -63,7 +64,7 @@ fn begin_turn(
     alloc: Global,
     player: &mut Player,
     stroll: &mut Stroll,
-) -> Result<(u8, Attempt), AllocError> {
+) -> AllocResult<(u8, Attempt)> {
     let workers = player.workers();
     let first = stroll.chance.below(workers as usize) as u8;
     'workers: for offset in 0..workers {
@@ -82,7 +83,7 @@ fn stray(
     player: &mut Player,
     stroll: &mut Stroll,
     worker: u8,
-) -> Result<Attempt, AllocError> {
+) -> AllocResult<Attempt> {
     if stroll.chance.below(2) == 0 {
         let attempt = start(alloc, player, stroll, worker)?;
         if attempt != Attempt::Not {
@@ -103,7 +104,7 @@ fn start(
     player: &mut Player,
     stroll: &mut Stroll,
     worker: u8,
-) -> Result<Attempt, AllocError> {
+) -> AllocResult<Attempt> {
     let names = player.ready(alloc, worker)?;
     if names.is_empty() {
         return Ok(Attempt::Not);
@@ -123,7 +124,7 @@ fn start_among(
     stroll: &mut Stroll,
     worker: u8,
     names: &[Name],
-) -> Result<Attempt, AllocError> {
+) -> AllocResult<Attempt> {
     for name in names {
         let choice = Choice::Start(*name);
         let attempt = step(alloc, player, stroll, &Label { worker, choice })?;
@@ -140,7 +141,7 @@ fn step(
     player: &mut Player,
     stroll: &mut Stroll,
     label: &Label,
-) -> Result<Attempt, AllocError> {
+) -> AllocResult<Attempt> {
     let attempt = player.attempt(alloc, label)?;
     if attempt != Attempt::Not {
         push_step(&mut stroll.blocks, label)?;

@@ -9,10 +9,11 @@ ghost use Rattle.lab_script.specs.Sessions.{IsConeIn, IsConeOver};
 use crate::answer::{Script, ScriptFault};
 use crate::run::{Ran, run_over};
 use om_book::Book;
+use om_seq::AllocResult;
 use om_shell::{Options, SessionBytes, read_all, session_bytes};
 use om_shell_commands::{push_numbered, push_roll};
 use om_undo_history::{RollReply, Taken};
-use std::alloc::{AllocError, Global};
+use std::alloc::Global;
 use std::io::Read;
 use std::sync::Wait;
 use std::thread::Threads;
@@ -58,7 +59,7 @@ fn cone_of<H: Threads + Wait + Sync>(
 }
 
 // The lines of the cone of a step of a book.
-fn cone_in(alloc: Global, book: Book, serial: u64) -> Result<Vec<u8>, AllocError>
+fn cone_in(alloc: Global, book: Book, serial: u64) -> AllocResult<Vec<u8>>
     ensures { IfOk result (λ text. IsConeOf (machine_of book) serial text.items) }
 {
     let taken = book.machine().cone(alloc, serial)?;
@@ -69,7 +70,7 @@ fn cone_in(alloc: Global, book: Book, serial: u64) -> Result<Vec<u8>, AllocError
 }
 
 // The lines of steps that a roll would take.
-fn taken_text(alloc: Global, taken: &[Taken]) -> Result<Vec<u8>, AllocError>
+fn taken_text(alloc: Global, taken: &[Taken]) -> AllocResult<Vec<u8>>
     ensures { IfOk result (λ text. text.items ≡ cone_text taken.now) }
 {
     let steps = in_order(alloc, taken)?;
@@ -79,7 +80,7 @@ fn taken_text(alloc: Global, taken: &[Taken]) -> Result<Vec<u8>, AllocError>
 }
 
 // The line for a serial that no step has.
-fn gone_text(alloc: Global, serial: u64) -> Result<Vec<u8>, AllocError>
+fn gone_text(alloc: Global, serial: u64) -> AllocResult<Vec<u8>>
     ensures { IfOk result (λ text. text.items ≡ roll_text serial RollReply.NoEntry) }
 {
     let mut text = Vec::new(alloc);
@@ -88,14 +89,14 @@ fn gone_text(alloc: Global, serial: u64) -> Result<Vec<u8>, AllocError>
 }
 
 // Steps in the order of the history, where the latest came first.
-fn in_order(alloc: Global, taken: &[Taken]) -> Result<Vec<Taken>, AllocError>
+fn in_order(alloc: Global, taken: &[Taken]) -> AllocResult<Vec<Taken>>
     ensures { IfOk result (λ steps. steps.items ≡ reverse taken.now) }
 {
     taken.iter().rev().copied().collect(alloc)
 }
 
 // Appends a line for each of some steps.
-fn push_lines(text: &mut Vec<u8>, steps: &[Taken]) -> Result<(), AllocError>
+fn push_lines(text: &mut Vec<u8>, steps: &[Taken]) -> AllocResult<()>
     ensures { OnOk result (text.new.items ≡ text.old.items ++ joined cone_line steps.now) }
 {
     for step in steps {
@@ -105,7 +106,7 @@ fn push_lines(text: &mut Vec<u8>, steps: &[Taken]) -> Result<(), AllocError>
 }
 
 // Appends a step as `history` has it.
-fn push_line(text: &mut Vec<u8>, step: &Taken) -> Result<(), AllocError>
+fn push_line(text: &mut Vec<u8>, step: &Taken) -> AllocResult<()>
     ensures { OnOk result (text.new.items ≡ text.old.items ++ cone_line step.now) }
 {
     push_numbered(text, b"#", step.serial)?;

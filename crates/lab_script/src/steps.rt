@@ -11,9 +11,10 @@ use crate::run::{Ran, run_over};
 use lab_text::commands_for;
 use om_book::Book;
 use om_book_journal::same_items;
+use om_seq::AllocResult;
 use om_shell::{Options, SessionBytes, ShellFault, read_all, session_bytes};
 use om_undo::Entry;
-use std::alloc::{AllocError, Global};
+use std::alloc::Global;
 use std::io::Read;
 use std::sync::Wait;
 use std::thread::Threads;
@@ -72,7 +73,7 @@ fn script_of<H: Threads + Wait + Sync>(
 }
 
 // The steps that stand in a book.
-fn steps_of(alloc: Global, book: Book) -> Result<Steps, AllocError>
+fn steps_of(alloc: Global, book: Book) -> AllocResult<Steps>
     ensures entries { IfOk result (λ steps. steps.entries.items ≡ entries_in book) }
     ensures text { IfOk result (λ steps. steps.text.items ≡ script_text (entries_in book)) }
 {
@@ -82,7 +83,7 @@ fn steps_of(alloc: Global, book: Book) -> Result<Steps, AllocError>
 }
 
 // The entries that stand in a book.
-fn entries_of(alloc: Global, book: Book) -> Result<Vec<Entry>, AllocError>
+fn entries_of(alloc: Global, book: Book) -> AllocResult<Vec<Entry>>
     ensures { IfOk result (λ entries. entries.items ≡ entries_in book) }
 {
     book.machine().history(alloc)
@@ -120,7 +121,7 @@ fn are_same(alloc: Global, ones: &[Entry], others: &[Entry]) -> Result<bool, She
 }
 
 // Entries without their serials.
-fn unnumbered(alloc: Global, entries: &[Entry]) -> Result<Vec<Entry>, AllocError>
+fn unnumbered(alloc: Global, entries: &[Entry]) -> AllocResult<Vec<Entry>>
     ensures { IfOk result (λ bare. bare.items ≡ map unnumbered entries.now) }
 {
     entries

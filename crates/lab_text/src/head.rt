@@ -5,12 +5,12 @@ ghost use Rattle.om_shell_commands.specs.Texts.{Writes};
 ghost use Rattle.lab_text.specs.Heads.{accepted_head, place_text, refused_head};
 
 use om_lexer::SourceFault;
+use om_seq::AllocResult;
 use om_shell::{column_behind, front_of, line_behind};
 use om_shell_commands::push_numbered;
-use std::alloc::AllocError;
 
 /// Appends `FILE:LINE:COLUMN` of a byte of the source.
-pub fn push_place(text: &mut Vec<u8>, file: &str, source: &[u8], at: u32) -> Result<(), AllocError>
+pub fn push_place(text: &mut Vec<u8>, file: &str, source: &[u8], at: u32) -> AllocResult<()>
     ensures { OnOk result
         (text.new.items ≡ text.old.items ++ place_text file.now source.now at) }
 {
@@ -21,7 +21,7 @@ pub fn push_place(text: &mut Vec<u8>, file: &str, source: &[u8], at: u32) -> Res
 }
 
 /// Appends `FILE: accepted`, and a line end.
-pub(crate) fn push_accepted(text: &mut Vec<u8>, file: &str) -> Result<(), AllocError>
+pub(crate) fn push_accepted(text: &mut Vec<u8>, file: &str) -> AllocResult<()>
     ensures { OnOk result (text.new.items ≡ text.old.items ++ accepted_head file.now) }
 {
     text.extend_from_slice(file.as_bytes())?;
@@ -34,7 +34,7 @@ pub(crate) fn push_refused(
     file: &str,
     source: &[u8],
     fault: SourceFault,
-) -> Result<(), AllocError>
+) -> AllocResult<()>
     ensures { OnOk result (Writes (refused_head file.now source.now fault) text.old text.new) }
 {
     push_place(text, file, source, fault.at)?;

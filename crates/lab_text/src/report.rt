@@ -5,7 +5,8 @@ ghost use Rattle.lab_text.specs.Heads.{HasText, accepted_head, refused_head};
 
 use crate::head::{push_accepted, push_refused};
 use om_lexer::SourceFault;
-use std::alloc::{AllocError, Global};
+use om_seq::AllocResult;
+use std::alloc::Global;
 
 /// A report: lines of text, and the exit status that goes with it.
 #[derive(Drop)]
@@ -17,7 +18,7 @@ pub struct Report {
 }
 
 /// The report on the accepted source of a file, with notes behind its head. The only error is out of memory.
-pub fn accepted_report(alloc: Global, file: &str, notes: &[u8]) -> Result<Report, AllocError>
+pub fn accepted_report(alloc: Global, file: &str, notes: &[u8]) -> AllocResult<Report>
     ensures text { IfOk result (HasText (accepted_head file.now) notes.now) }
     ensures status { IfOk result (λ report. report.status ≡ 0) }
 {
@@ -35,7 +36,7 @@ pub fn refused_report(
     source: &[u8],
     fault: SourceFault,
     explanation: &[u8],
-) -> Result<Report, AllocError>
+) -> AllocResult<Report>
     ensures text { IfOk result (HasText (refused_head file.now source.now fault) explanation.now) }
     ensures status { IfOk result (λ report. report.status ≡ 1) }
 {

@@ -3,12 +3,13 @@
 ghost use Rattle.std.specs.Prelude.{◌≡◌, ◌++◌, ◌∷◌, [], IfOk, OnOk};
 ghost use Rattle.lab_text.specs.Tails.{fits_behind, tail_of};
 
+use om_seq::AllocResult;
 use om_shell::first_line_end;
-use std::alloc::{AllocError, Global};
+use std::alloc::Global;
 
 /// A line with the mark and words behind it, and its end; without the mark where there are no words, or where
 /// they would end the line. The only error is out of memory.
-pub fn noted(alloc: Global, line: &[u8], words: &[u8]) -> Result<Vec<u8>, AllocError>
+pub fn noted(alloc: Global, line: &[u8], words: &[u8]) -> AllocResult<Vec<u8>>
     ensures { IfOk result (λ text. text.items ≡ line.now ++ tail_of words.now ++ 10 ∷ []) }
 {
     let mut text = Vec::from_slice(alloc, line)?;
@@ -25,7 +26,7 @@ fn fits_behind(words: &[u8]) -> bool
 }
 
 // Appends the mark and words; nothing where there are none, or where they would end the line.
-fn push_tail(text: &mut Vec<u8>, words: &[u8]) -> Result<(), AllocError>
+fn push_tail(text: &mut Vec<u8>, words: &[u8]) -> AllocResult<()>
     ensures { OnOk result (text.new.items ≡ text.old.items ++ tail_of words.now) }
 {
     if !fits_behind(words) {

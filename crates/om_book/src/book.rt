@@ -11,6 +11,7 @@ ghost use Rattle.om_undo.specs.Machines.{step_reply};
 use om_book_journal::replies::{done, done_thrice, let_go, undo};
 use om_book_journal::{Asked, Command, JournalRecord, Reply, ReplyIn, done_in};
 use om_code::Program;
+use om_seq::AllocResult;
 use om_undo::{Machine, PlannedStep, StepReply};
 use std::alloc::{AllocError, Global};
 use std::marker::Model;
@@ -66,7 +67,7 @@ impl Model for Book {
 impl Book {
     /// A book without records, over the machine at the start of a program, with 1 to 32 workers.
     /// Its only error is out of memory.
-    pub fn new(alloc: Global, program: Program, workers: u8) -> Result<Book, AllocError>
+    pub fn new(alloc: Global, program: Program, workers: u8) -> AllocResult<Book>
         requires at_least_one { 1 ≤ workers }
         requires at_most_32 { workers ≤ 32 }
         ensures { IfOk result
@@ -260,7 +261,7 @@ fn append_call(
     journal: &mut Vec<JournalRecord>,
     seat: u8,
     command: &Command,
-) -> Result<(), AllocError>
+) -> AllocResult<()>
     requires in_range { IsInRange machine.old.workers command.now }
     requires few_made { machine.old.history.made < 2 ^ 63 }
     ensures machine { OnOk result (machine.new ≡ after machine.old command.now) }
@@ -280,7 +281,7 @@ fn prepared(
     alloc: Global,
     journal: &mut Vec<JournalRecord>,
     step: &PlannedStep,
-) -> Result<Asked, AllocError>
+) -> AllocResult<Asked>
     ensures command { IfOk result (λ asked. asked ≡ step_command step.now.label) }
     ensures room { OnOk result (length journal.new.items < vec_capacity journal.new) }
     ensures unchanged { journal.new.items ≡ journal.old.items }
@@ -296,7 +297,7 @@ fn append_step(
     journal: &mut Vec<JournalRecord>,
     seat: u8,
     step: PlannedStep,
-) -> Result<StepReply, AllocError>
+) -> AllocResult<StepReply>
     requires planned { step.machine ≡ machine.old }
     requires few_made { machine.old.history.made < 2 ^ 63 }
     ensures reply { IfOk result (λ x. x ≡ step_reply machine.old step.label) }
@@ -321,7 +322,7 @@ fn append_undo(
     journal: &mut Vec<JournalRecord>,
     seat: u8,
     worker: u8,
-) -> Result<(), AllocError>
+) -> AllocResult<()>
     requires in_range { worker < machine.old.workers }
     ensures machine { OnOk result (machine.new ≡ after machine.old (Command.Undo worker)) }
     ensures journal { OnOk result (AddsUndo machine.old seat worker journal.old journal.new) }
@@ -342,7 +343,7 @@ fn append_thrice(
     journal: &mut Vec<JournalRecord>,
     seat: u8,
     command: &Command,
-) -> Result<(Reply, Reply), AllocError>
+) -> AllocResult<(Reply, Reply)>
     requires in_range { IsInRange machine.old.workers command.now }
     requires few_made { machine.old.history.made < 2 ^ 63 }
     ensures reply { IfOk result (λ x. IsReply machine.old command.now x.0) }

@@ -7,11 +7,12 @@ ghost use Rattle.om_book.specs.Rounds.{listed, numbers_at, numbers_of, NumbersDi
 
 use crate::order::Order;
 use crate::rounds::{most_rounds, order_at};
-use std::alloc::{AllocError, Global};
+use om_seq::AllocResult;
+use std::alloc::Global;
 use std::collections::BTreeSet;
 
 /// Whether no two orders have one number. Its only error is out of memory.
-pub fn numbers_differ(alloc: Global, orders: &[Vec<Order>]) -> Result<bool, AllocError>
+pub fn numbers_differ(alloc: Global, orders: &[Vec<Order>]) -> AllocResult<bool>
     ensures { IfOk result (λ differ. IsTrue differ ↔ NumbersDiffer (numbers_of orders.now)) }
 {
     let numbers = numbers_in(alloc, orders)?;
@@ -19,7 +20,7 @@ pub fn numbers_differ(alloc: Global, orders: &[Vec<Order>]) -> Result<bool, Allo
 }
 
 // The numbers of all orders, round by round.
-fn numbers_in(alloc: Global, orders: &[Vec<Order>]) -> Result<Vec<u64>, AllocError>
+fn numbers_in(alloc: Global, orders: &[Vec<Order>]) -> AllocResult<Vec<u64>>
     ensures { IfOk result (λ numbers. numbers.items ≡ numbers_of orders.now) }
 {
     let mut numbers = Vec::new(alloc);
@@ -31,7 +32,7 @@ fn numbers_in(alloc: Global, orders: &[Vec<Order>]) -> Result<Vec<u64>, AllocErr
 }
 
 // Adds the numbers of a round.
-fn add_round(numbers: &mut Vec<u64>, orders: &[Vec<Order>], round: usize) -> Result<(), AllocError>
+fn add_round(numbers: &mut Vec<u64>, orders: &[Vec<Order>], round: usize) -> AllocResult<()>
     ensures { OnOk result (numbers.new.items ≡ numbers.old.items ++ numbers_at round orders.now) }
 {
     for i in 0..orders.len() {
@@ -41,7 +42,7 @@ fn add_round(numbers: &mut Vec<u64>, orders: &[Vec<Order>], round: usize) -> Res
 }
 
 // Adds the number of an order, where there is one.
-fn add_number(numbers: &mut Vec<u64>, order: Option<Order>) -> Result<(), AllocError>
+fn add_number(numbers: &mut Vec<u64>, order: Option<Order>) -> AllocResult<()>
     ensures { OnOk result (numbers.new.items ≡ numbers.old.items ++ listed order) }
 {
     if let Some(order) = order {
@@ -51,7 +52,7 @@ fn add_number(numbers: &mut Vec<u64>, order: Option<Order>) -> Result<(), AllocE
 }
 
 // Whether no two of these numbers are the same: then a set of them has as many.
-fn are_distinct(alloc: Global, numbers: &[u64]) -> Result<bool, AllocError>
+fn are_distinct(alloc: Global, numbers: &[u64]) -> AllocResult<bool>
     ensures { IfOk result (λ differ. IsTrue differ ↔ NumbersDiffer numbers.now) }
 {
     let different = set_of(alloc, numbers)?;
@@ -59,7 +60,7 @@ fn are_distinct(alloc: Global, numbers: &[u64]) -> Result<bool, AllocError>
 }
 
 // The set of these numbers.
-fn set_of(alloc: Global, numbers: &[u64]) -> Result<BTreeSet<u64>, AllocError>
+fn set_of(alloc: Global, numbers: &[u64]) -> AllocResult<BTreeSet<u64>>
     ensures { IfOk result (IsFromIterResult nat_cmp numbers.now) }
 {
     numbers.iter().copied().collect(alloc)

@@ -9,6 +9,7 @@ ghost use Rattle.om_book.specs.Standing.{CountsAll, CountsSince, CoversSince, Al
 use crate::book::{Book, CallError};
 use crate::receipt::{Receipt, standing};
 use om_book_journal::{Command, JournalRecord, KeptCommand, Reply};
+use om_seq::AllocResult;
 use std::alloc::{AllocError, Global};
 use std::marker::{Brand, Model};
 use std::sync::ledger::{Ledger, Share};
@@ -335,7 +336,7 @@ fn seat_all<L: Sitting>(
     count: u8,
     rest: &mut Share<L>,
     seats: &mut Vec<Seat<L>>,
-) -> Result<(), AllocError>
+) -> AllocResult<()>
     requires parts { rest.old.parts ≡ count }
     requires amount { rest.old.amount ≡ 0 }
     requires none { seats.old.items ≡ [] }

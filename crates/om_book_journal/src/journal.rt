@@ -10,9 +10,10 @@ use crate::command::Command;
 use crate::kept::{KeptCommand, KeptUndoReply};
 use crate::reply::Reply;
 use crate::same::Same;
+use om_seq::AllocResult;
 use om_task::Choice;
 use om_undo::StepReply;
-use std::alloc::{AllocError, Global};
+use std::alloc::Global;
 use std::marker::Model;
 use std::mem::size_of;
 
@@ -51,7 +52,7 @@ impl Model for Asked {
 
 // A call whose record has memory of its own. What it is answered is not known yet. Its only error is out of
 // memory.
-fn apart(alloc: Global, command: KeptCommand) -> Result<AskedForms, AllocError>
+fn apart(alloc: Global, command: KeptCommand) -> AllocResult<AskedForms>
     ensures { IfOk result (λ forms. asked_in forms ≡ command) }
 {
     let reply = Reply::Step(StepReply::Ended);
@@ -60,7 +61,7 @@ fn apart(alloc: Global, command: KeptCommand) -> Result<AskedForms, AllocError>
 
 impl Asked {
     /// A command; its only error is out of memory.
-    pub fn of(alloc: Global, command: &Command) -> Result<Asked, AllocError>
+    pub fn of(alloc: Global, command: &Command) -> AllocResult<Asked>
         ensures { IfOk result (λ asked. asked ≡ command.now) }
     {
         let forms = match command {
@@ -75,7 +76,7 @@ impl Asked {
     }
 
     /// The step of a worker by its choice; its only error is out of memory.
-    pub fn of_step(alloc: Global, worker: u8, choice: &Choice) -> Result<Asked, AllocError>
+    pub fn of_step(alloc: Global, worker: u8, choice: &Choice) -> AllocResult<Asked>
         ensures { IfOk result (λ asked. asked ≡ Command.Step worker choice.now) }
     {
         let forms = match choice {

@@ -6,9 +6,10 @@ ghost use Rattle.om_book_journal.specs.Kept.{command_in, object_in, undo_reply_i
 use crate::command::{Command, Query};
 use crate::same::Same;
 use om_foot::{Name, Obj};
+use om_seq::AllocResult;
 use om_task::Choice;
 use om_undo::UndoReply;
-use std::alloc::{AllocError, Global};
+use std::alloc::Global;
 use std::marker::Model;
 
 // The parts of an object. What has a name in it is large, and lies apart.
@@ -23,7 +24,7 @@ enum ObjectParts {
 }
 
 // The parts of an object, to be kept. Its only error is out of memory.
-fn object_parts_of(alloc: Global, object: &Obj) -> Result<ObjectParts, AllocError>
+fn object_parts_of(alloc: Global, object: &Obj) -> AllocResult<ObjectParts>
     ensures { IfOk result (λ parts. object_in parts ≡ object.now) }
 {
     match object {
@@ -95,7 +96,7 @@ impl Model for KeptCommand {
 }
 
 // The parts of a step, to be kept. Its only error is out of memory.
-fn step_parts_of(alloc: Global, worker: u8, choice: &Choice) -> Result<CommandParts, AllocError>
+fn step_parts_of(alloc: Global, worker: u8, choice: &Choice) -> AllocResult<CommandParts>
     ensures { IfOk result (λ parts. command_in parts ≡ Command.Step worker choice.now) }
 {
     match choice {
@@ -108,7 +109,7 @@ fn step_parts_of(alloc: Global, worker: u8, choice: &Choice) -> Result<CommandPa
 }
 
 // The parts of a command, to be kept. Its only error is out of memory.
-fn parts_of(alloc: Global, command: &Command) -> Result<CommandParts, AllocError>
+fn parts_of(alloc: Global, command: &Command) -> AllocResult<CommandParts>
     ensures { IfOk result (λ parts. command_in parts ≡ command.now) }
 {
     match command {
@@ -125,7 +126,7 @@ fn parts_of(alloc: Global, command: &Command) -> Result<CommandParts, AllocError
 
 impl KeptCommand {
     /// A command, to be kept; its only error is out of memory.
-    pub fn of(alloc: Global, command: &Command) -> Result<KeptCommand, AllocError>
+    pub fn of(alloc: Global, command: &Command) -> AllocResult<KeptCommand>
         ensures { IfOk result (λ kept. kept ≡ command.now) }
     {
         Ok(KeptCommand {
@@ -134,7 +135,7 @@ impl KeptCommand {
     }
 
     /// The step of a worker by its choice, to be kept; its only error is out of memory.
-    pub fn of_step(alloc: Global, worker: u8, choice: &Choice) -> Result<KeptCommand, AllocError>
+    pub fn of_step(alloc: Global, worker: u8, choice: &Choice) -> AllocResult<KeptCommand>
         ensures { IfOk result (λ kept. kept ≡ Command.Step worker choice.now) }
     {
         Ok(KeptCommand {
@@ -208,7 +209,7 @@ impl Model for KeptUndoReply {
 }
 
 // The parts of an undo's reply, to be kept.
-fn undo_parts_of(alloc: Global, reply: &UndoReply) -> Result<UndoParts, AllocError>
+fn undo_parts_of(alloc: Global, reply: &UndoReply) -> AllocResult<UndoParts>
     ensures parts { IfOk result (λ parts. undo_reply_in parts ≡ reply.now) }
     ensures only_conflicts { OnErr result (is_conflict reply.now ≡ true) }
 {
@@ -235,7 +236,7 @@ fn undo_parts_of(alloc: Global, reply: &UndoReply) -> Result<UndoParts, AllocErr
 
 impl KeptUndoReply {
     /// What an undo was answered, to be kept. Its only error is out of memory, at an undo that was refused.
-    pub fn of(alloc: Global, reply: &UndoReply) -> Result<KeptUndoReply, AllocError>
+    pub fn of(alloc: Global, reply: &UndoReply) -> AllocResult<KeptUndoReply>
         ensures kept { IfOk result (λ kept. kept ≡ reply.now) }
         ensures only_conflicts { OnErr result (is_conflict reply.now ≡ true) }
     {

@@ -8,10 +8,10 @@ ghost use Rattle.om_book_journal.specs.Runs.{IsInRange, IsReply, after, answer_t
 use crate::command::{Command, Query};
 use crate::kept::KeptUndoReply;
 use crate::reply::Reply;
-use om_seq::Seq;
+use om_seq::{AllocResult, Seq};
 use om_undo::laws::{one_ready_list, ready_names_are_ready};
 use om_undo::{Machine, PlannedStep, RollReply, StepReply, Taken, UndoReply};
-use std::alloc::{AllocError, Global};
+use std::alloc::Global;
 
 /// One reply, three times.
 #[derive(Drop)]
@@ -25,7 +25,7 @@ pub struct Replies {
 }
 
 /// Does what a command asks. Its only error is out of memory, and then nothing changes.
-pub fn done(alloc: Global, machine: &mut Machine, command: &Command) -> Result<Reply, AllocError>
+pub fn done(alloc: Global, machine: &mut Machine, command: &Command) -> AllocResult<Reply>
     requires in_range { IsInRange machine.old.workers command.now }
     requires few_made { machine.old.history.made < 2 ^ 63 }
     ensures reply { IfOk result (λ x. IsReply machine.old command.now x) }
@@ -52,11 +52,7 @@ pub fn let_go(step: PlannedStep) {
 }
 
 /// As `done`, and answers the reply three times.
-pub fn done_thrice(
-    alloc: Global,
-    machine: &mut Machine,
-    command: &Command,
-) -> Result<Replies, AllocError>
+pub fn done_thrice(alloc: Global, machine: &mut Machine, command: &Command) -> AllocResult<Replies>
     requires in_range { IsInRange machine.old.workers command.now }
     requires few_made { machine.old.history.made < 2 ^ 63 }
     ensures reply { IfOk result (λ x. IsReply machine.old command.now x.answer) }
@@ -85,7 +81,7 @@ fn stepped(reply: &StepReply) -> Replies
 }
 
 /// Takes a worker's last step back. Only an undo that is refused, and so changes nothing, asks for memory.
-pub fn undo(alloc: Global, machine: &mut Machine, worker: u8) -> Result<KeptUndoReply, AllocError>
+pub fn undo(alloc: Global, machine: &mut Machine, worker: u8) -> AllocResult<KeptUndoReply>
     requires { worker < machine.old.workers }
     ensures reply { IfOk result (λ x. IsReply machine.old (Command.Undo worker) (Reply.Undo x)) }
     ensures after { OnOk result (machine.new ≡ after machine.old (Command.Undo worker)) }
@@ -100,7 +96,7 @@ pub fn undo(alloc: Global, machine: &mut Machine, worker: u8) -> Result<KeptUndo
 
 // Takes a worker's last step back, and answers three times. Only an undo that is refused, and so changes
 // nothing, asks for memory.
-fn undo_thrice(alloc: Global, machine: &mut Machine, worker: u8) -> Result<Replies, AllocError>
+fn undo_thrice(alloc: Global, machine: &mut Machine, worker: u8) -> AllocResult<Replies>
     requires { worker < machine.old.workers }
     ensures reply { IfOk result (λ x. IsReply machine.old (Command.Undo worker) x.answer) }
     ensures same { IfOk result (λ x. (x.receipt ≡ x.answer) × (x.kept ≡ x.answer)) }
@@ -115,7 +111,7 @@ fn undo_thrice(alloc: Global, machine: &mut Machine, worker: u8) -> Result<Repli
 }
 
 // An undo's reply three times. Its only error is out of memory, at an undo that was refused.
-fn undone(alloc: Global, reply: &UndoReply) -> Result<Replies, AllocError>
+fn undone(alloc: Global, reply: &UndoReply) -> AllocResult<Replies>
     ensures reply { IfOk result (λ x. x.answer ≡ Reply.Undo reply.now) }
     ensures same { IfOk result (λ x. (x.receipt ≡ x.answer) × (x.kept ≡ x.answer)) }
     ensures only_conflicts { OnErr result (is_conflict reply.now ≡ true) }
@@ -143,7 +139,7 @@ fn rolled(taken: Option<Vec<Taken>>) -> Reply
 
 // Rolls the entry with a serial, and answers three times. What it takes out is found beforehand for the
 // copies.
-fn roll_thrice(alloc: Global, machine: &mut Machine, serial: u64) -> Result<Replies, AllocError>
+fn roll_thrice(alloc: Global, machine: &mut Machine, serial: u64) -> AllocResult<Replies>
     ensures reply { IfOk result (λ x. IsReply machine.old (Command.Roll serial) x.answer) }
     ensures same { IfOk result (λ x. (x.receipt ≡ x.answer) × (x.kept ≡ x.answer)) }
     ensures after { OnOk result (machine.new ≡ after machine.old (Command.Roll serial)) }
@@ -160,7 +156,7 @@ fn roll_thrice(alloc: Global, machine: &mut Machine, serial: u64) -> Result<Repl
 }
 
 // Answers a question three times.
-fn look_thrice(alloc: Global, machine: &Machine, query: &Query) -> Result<Replies, AllocError>
+fn look_thrice(alloc: Global, machine: &Machine, query: &Query) -> AllocResult<Replies>
     ensures reply { IfOk result (λ x. x.answer ≡ answer_to machine.now query.now) }
     ensures same { IfOk result (λ x. (x.receipt ≡ x.answer) × (x.kept ≡ x.answer)) }
 {
@@ -179,7 +175,7 @@ fn look_thrice(alloc: Global, machine: &Machine, query: &Query) -> Result<Replie
 }
 
 // A reply twice. The only error is out of memory.
-fn two_copies(alloc: Global, reply: &Reply) -> Result<(Reply, Reply), AllocError>
+fn two_copies(alloc: Global, reply: &Reply) -> AllocResult<(Reply, Reply)>
     ensures { IfOk result (λ copies. (copies.0 ≡ reply.now) × (copies.1 ≡ reply.now)) }
 {
     let one = reply.copy(alloc)?;
@@ -193,7 +189,7 @@ fn two_copies(alloc: Global, reply: &Reply) -> Result<(Reply, Reply), AllocError
 }
 
 // Answers a question.
-fn looked(alloc: Global, machine: &Machine, query: &Query) -> Result<Reply, AllocError>
+fn looked(alloc: Global, machine: &Machine, query: &Query) -> AllocResult<Reply>
     ensures { IfOk result (λ x. x ≡ answer_to machine.now query.now) }
 {
     one_ready_list();

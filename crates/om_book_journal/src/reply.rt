@@ -8,10 +8,10 @@ ghost use Rattle.om_book_journal.specs.Runs.{is_step_made};
 use crate::kept::KeptUndoReply;
 use crate::same::Same;
 use om_foot::Name;
-use om_seq::Seq;
+use om_seq::{AllocResult, Seq};
 use om_state::Val;
 use om_undo::{Entry, RollReply, StepReply};
-use std::alloc::{AllocError, Global};
+use std::alloc::Global;
 
 /// What is answered to a command: to each kind its own kind of reply.
 pub enum Reply {
@@ -74,7 +74,7 @@ impl Reply {
     }
 
     /// A copy; its only error is out of memory.
-    pub fn copy(&self, alloc: Global) -> Result<Reply, AllocError>
+    pub fn copy(&self, alloc: Global) -> AllocResult<Reply>
         ensures { IfOk result (λ reply. reply ≡ self.now) }
     {
         match self {
@@ -89,14 +89,14 @@ impl Reply {
 }
 
 // A copy of a list; its only error is out of memory.
-fn copied<T: Copy>(alloc: Global, items: &Seq<T>) -> Result<Seq<T>, AllocError>
+fn copied<T: Copy>(alloc: Global, items: &Seq<T>) -> AllocResult<Seq<T>>
     ensures { IfOk result (λ copy. copy ≡ items.now) }
 {
     Ok(Seq::of(Vec::from_slice(alloc, items.as_slice())?))
 }
 
 // A copy of a roll's reply; its only error is out of memory.
-fn copy_roll(alloc: Global, reply: &RollReply) -> Result<RollReply, AllocError>
+fn copy_roll(alloc: Global, reply: &RollReply) -> AllocResult<RollReply>
     ensures { IfOk result (λ copy. copy ≡ reply.now) }
 {
     match reply {

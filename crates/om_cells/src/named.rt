@@ -17,8 +17,9 @@ use crate::place::Place;
 use crate::places::Places;
 use om_foot::part::Part;
 use om_foot::{Access, Name, SharedAccess, SlotName};
+use om_seq::AllocResult;
 use om_state::{Task, Val};
-use std::alloc::{AllocError, Global};
+use std::alloc::Global;
 use std::cmp::Ordering;
 use std::collections::BTreeMap;
 use std::marker::Model;
@@ -68,7 +69,7 @@ impl Named {
 
     /// The names of all tasks that are ready to be begun, ascending. Its only error is out of
     /// memory.
-    pub fn ready(&self, alloc: Global) -> Result<Vec<Name>, AllocError>
+    pub fn ready(&self, alloc: Global) -> AllocResult<Vec<Name>>
         ensures { IfOk result (λ v. AreAll (is_ready_in self.now) v.items) }
     {
         ready_names(alloc, &self.places)
@@ -86,13 +87,7 @@ impl Named {
 
     /// Keeps a place at a part of a name, which is known from then on. When out of memory, what is
     /// kept stays.
-    pub fn enter(
-        &mut self,
-        alloc: Global,
-        name: &Name,
-        part: Part,
-        place: Place,
-    ) -> Result<(), AllocError>
+    pub fn enter(&mut self, alloc: Global, name: &Name, part: Part, place: Place) -> AllocResult<()>
         ensures entered { OnOk result (PutsOf name.now part (Some place) self.old self.new) }
         ensures unchanged_on_error { OnErr result (StaysOf self.old self.new) }
     {
@@ -121,7 +116,7 @@ impl Named {
         alloc: Global,
         name: &Name,
         access: &Access,
-    ) -> Result<Option<SharedAccess>, AllocError>
+    ) -> AllocResult<Option<SharedAccess>>
         ensures shared { IfOk result (λ found. IfSome found (λ shared. shared ≡ access.now)) }
         ensures found { IfOk result (λ found. is_some found
             ≡ is_some (value_of self.old name.now (part_of access.now.object))) }
@@ -151,7 +146,7 @@ impl Named {
 }
 
 // Makes a name known. What is kept stays, also when out of memory.
-fn know(alloc: Global, places: &mut BTreeMap<Name, Places>, name: &Name) -> Result<(), AllocError>
+fn know(alloc: Global, places: &mut BTreeMap<Name, Places>, name: &Name) -> AllocResult<()>
     ensures same { StaysOf places.old.entries places.new.entries }
     ensures known { OnOk result (is_some (places_of places.new.entries name.now) ≡ true) }
 {
@@ -168,7 +163,7 @@ fn enter_known(
     name: &Name,
     part: Part,
     place: Place,
-) -> Result<(), AllocError>
+) -> AllocResult<()>
     requires { is_some (places_of places.old.entries name.now) ≡ true }
     ensures entered { OnOk result
         (PutsOf name.now part (Some place) places.old.entries places.new.entries) }
@@ -199,7 +194,7 @@ fn share(
     places: &mut BTreeMap<Name, Places>,
     name: &Name,
     access: &Access,
-) -> Result<Option<SharedAccess>, AllocError>
+) -> AllocResult<Option<SharedAccess>>
     ensures shared { IfOk result (λ found. IfSome found (λ shared. shared ≡ access.now)) }
     ensures found { IfOk result (λ found. is_some found
         ≡ is_some (value_of places.old.entries name.now (part_of access.now.object))) }
@@ -287,7 +282,7 @@ fn is_the(name: &Name, other: &Option<Name>) -> bool
 }
 
 // The names of all tasks that are ready to be begun, ascending.
-fn ready_names(alloc: Global, places: &BTreeMap<Name, Places>) -> Result<Vec<Name>, AllocError>
+fn ready_names(alloc: Global, places: &BTreeMap<Name, Places>) -> AllocResult<Vec<Name>>
     ensures { IfOk result (λ v. AreAll (is_ready_in places.now.entries) v.items) }
 {
     let mut names = Vec::new(alloc);

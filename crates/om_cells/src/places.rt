@@ -10,8 +10,9 @@ ghost use Rattle.om_cells.specs.Places.{value_at, PutsAt, StaysAt};
 use crate::place::Place;
 use om_foot::part::{Part, part_of};
 use om_foot::{Access, SharedAccess, SlotName};
+use om_seq::AllocResult;
 use om_state::Val;
-use std::alloc::{AllocError, Global};
+use std::alloc::Global;
 use std::collections::BTreeMap;
 use std::marker::Model;
 
@@ -49,7 +50,7 @@ impl Places {
     }
 
     /// Keeps a place at a part. When out of memory, what is kept stays.
-    pub fn enter(&mut self, part: Part, place: Place) -> Result<(), AllocError>
+    pub fn enter(&mut self, part: Part, place: Place) -> AllocResult<()>
         ensures entered { OnOk result (PutsAt part (Some place) self.old self.new) }
         ensures unchanged_on_error { OnErr result (StaysAt self.old self.new) }
     {
@@ -71,11 +72,7 @@ impl Places {
 
     /// An access, shared with the place at its object's part; `None` where none is kept there. Its only error
     /// is out of memory. What is kept stays.
-    pub fn share(
-        &mut self,
-        alloc: Global,
-        access: &Access,
-    ) -> Result<Option<SharedAccess>, AllocError>
+    pub fn share(&mut self, alloc: Global, access: &Access) -> AllocResult<Option<SharedAccess>>
         ensures shared { IfOk result (λ found. IfSome found (λ shared. shared ≡ access.now)) }
         ensures found { IfOk result
             (λ found. is_some found ≡ is_some (value_at self.old (part_of access.now.object))) }

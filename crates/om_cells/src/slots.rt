@@ -16,10 +16,10 @@ ghost use Rattle.om_cells.specs.Slots.{value_among, values_in, value_in, slot_va
 use om_code::frame::Cell;
 use om_foot::cells::spot_of;
 use om_foot::{Access, Cells, Obj, ObjectAccesses, SharedAccess, SharedCells, SlotName};
-use om_seq::Seq;
+use om_seq::{AllocResult, Seq};
 use om_state::was::Noted;
 use om_state::{Run, Val, Was};
-use std::alloc::{AllocError, Global};
+use std::alloc::Global;
 use std::collections::BTreeMap;
 use std::marker::Model;
 use std::mem;
@@ -135,7 +135,7 @@ impl Slots {
 
     /// An access of a cell, shared with all that asked for it where its slot is kept. Its only error is out
     /// of memory.
-    pub fn share(&mut self, alloc: Global, access: &Access) -> Result<SharedAccess, AllocError>
+    pub fn share(&mut self, alloc: Global, access: &Access) -> AllocResult<SharedAccess>
         ensures shared { IfOk result (λ shared. shared ≡ access.now) }
         ensures stays { (q : Obj) → slot_value self.new q ≡ slot_value self.old q }
     {
@@ -147,7 +147,7 @@ impl Slots {
 
     /// Keeps cells of a slot, with the values that they hold, and answers them, shared. No value changes,
     /// also when out of memory.
-    pub fn keep(&mut self, alloc: Global, cells: &Cells) -> Result<SharedCells, AllocError>
+    pub fn keep(&mut self, alloc: Global, cells: &Cells) -> AllocResult<SharedCells>
         ensures shared { IfOk result (λ shared. shared ≡ cells.now) }
         ensures grown { SlotsGrow self.old self.new }
         ensures kept { OnOk result (KeepsCells (λ q. is_some (slot_value self.new q)) cells.now) }
@@ -183,7 +183,7 @@ fn share(
     slots: &mut BTreeMap<SlotName, SlotPlace>,
     spot: &(SlotName, u32),
     access: &Access,
-) -> Result<SharedAccess, AllocError>
+) -> AllocResult<SharedAccess>
     ensures shared { IfOk result (λ shared. shared ≡ access.now) }
     ensures stays { (q : Obj) → slot_value slots.new.entries q ≡ slot_value slots.old.entries q }
 {
@@ -194,11 +194,7 @@ fn share(
 }
 
 // Makes a slot known. What is kept stays, also when out of memory.
-fn know(
-    alloc: Global,
-    slots: &mut BTreeMap<SlotName, SlotPlace>,
-    cells: &Cells,
-) -> Result<(), AllocError>
+fn know(alloc: Global, slots: &mut BTreeMap<SlotName, SlotPlace>, cells: &Cells) -> AllocResult<()>
     ensures same { (q : Obj) → slot_value slots.new.entries q ≡ slot_value slots.old.entries q }
     ensures known { OnOk result (is_some (values_in slots.new.entries cells.now.slot) ≡ true) }
 {
@@ -215,7 +211,7 @@ fn keep_known(
     alloc: Global,
     slots: &mut BTreeMap<SlotName, SlotPlace>,
     cells: &Cells,
-) -> Result<SharedCells, AllocError>
+) -> AllocResult<SharedCells>
     requires { is_some (values_in slots.old.entries cells.now.slot) ≡ true }
     ensures shared { IfOk result (λ shared. shared ≡ cells.now) }
     ensures grown { SlotsGrow slots.old.entries slots.new.entries }
@@ -241,7 +237,7 @@ fn put_all(slots: &mut BTreeMap<SlotName, SlotPlace>, cells: &Cells, was: Seq<Wa
 
 impl SlotPlace {
     // Cells of a slot, without values. Its only error is out of memory.
-    fn new(alloc: Global, cells: &Cells) -> Result<SlotPlace, AllocError>
+    fn new(alloc: Global, cells: &Cells) -> AllocResult<SlotPlace>
         ensures { IfOk result (λ place. place ≡ []) }
     {
         Ok(SlotPlace {
@@ -261,12 +257,7 @@ impl SlotPlace {
     }
 
     // An access of the cell at an index, shared with all that asked for it.
-    fn share(
-        &mut self,
-        alloc: Global,
-        index: u32,
-        access: &Access,
-    ) -> Result<SharedAccess, AllocError>
+    fn share(&mut self, alloc: Global, index: u32, access: &Access) -> AllocResult<SharedAccess>
         ensures shared { IfOk result (λ shared. shared ≡ access.now) }
         ensures stays { self.new ≡ self.old }
     {
@@ -280,7 +271,7 @@ impl SlotPlace {
     }
 
     // Keeps so many of its cells, and answers them, shared.
-    fn keep(&mut self, alloc: Global, cells: &Cells) -> Result<SharedCells, AllocError>
+    fn keep(&mut self, alloc: Global, cells: &Cells) -> AllocResult<SharedCells>
         ensures shared { IfOk result (λ shared. shared ≡ cells.now) }
         ensures grown { Grows self.old self.new }
         ensures enough { OnOk result (cells.now.count ≤ length self.new) }
@@ -292,7 +283,7 @@ impl SlotPlace {
 
 // Has at least so many values; those that are new are unset. When out of memory, there may be more of
 // them.
-fn grow(values: &mut Vec<Val>, count: u32) -> Result<(), AllocError>
+fn grow(values: &mut Vec<Val>, count: u32) -> AllocResult<()>
     ensures grown { Grows values.old.items values.new.items }
     ensures enough { OnOk result (count ≤ length values.new.items) }
 {
@@ -305,7 +296,7 @@ fn grow(values: &mut Vec<Val>, count: u32) -> Result<(), AllocError>
 }
 
 /// What the first cells of a slot hold. Its only error is out of memory.
-pub fn noted(alloc: Global, values: &[Val], count: u32) -> Result<Seq<Was>, AllocError>
+pub fn noted(alloc: Global, values: &[Val], count: u32) -> AllocResult<Seq<Was>>
     requires { count ≤ length values.now }
     ensures { IfOk result (λ was. (slot : SlotName) (s : List Val → State) → Mirrors slot count s
         → were_listed was ≡ olds slot 0 count (s values.now)) }

@@ -13,15 +13,15 @@ use crate::slots::noted;
 use crate::store::Store;
 use om_code::frame::Cell;
 use om_foot::{Cells, SharedCells};
-use om_seq::Seq;
+use om_seq::{AllocResult, Seq};
 use om_state::was::Noted;
 use om_state::{Run, Val, Was};
-use std::alloc::{AllocError, Global};
+use std::alloc::Global;
 
 impl Store {
     /// Keeps cells of a slot, with the values that they hold, and answers them, shared with all that name
     /// them. No value changes, also when out of memory.
-    pub fn keep_cells(&mut self, alloc: Global, cells: &Cells) -> Result<SharedCells, AllocError>
+    pub fn keep_cells(&mut self, alloc: Global, cells: &Cells) -> AllocResult<SharedCells>
         ensures shared { IfOk result (λ shared. shared ≡ cells.now) }
         ensures state { state_of self.new ≡ state_of self.old }
         ensures kept { OnOk result
@@ -38,7 +38,7 @@ impl Store {
         alloc: Global,
         cells: &SharedCells,
         cell: Cell,
-    ) -> Result<Seq<Was>, AllocError>
+    ) -> AllocResult<Seq<Was>>
         requires kept { All (λ a. is_kept self.old a.object ≡ true) (cells_of cells.now) }
         ensures was { IfOk result (λ was. were_listed was
             ≡ undo_record (cells_of cells.now) (puts_of cell cells.now.count) (state_of self.old)) }
@@ -76,7 +76,7 @@ impl Store {
     }
 
     // What cells of a slot hold that are kept. Its only error is out of memory.
-    fn noted(&self, alloc: Global, cells: &Cells) -> Result<Seq<Was>, AllocError>
+    fn noted(&self, alloc: Global, cells: &Cells) -> AllocResult<Seq<Was>>
         requires { KeepsCells (is_kept self.now) cells.now }
         ensures { IfOk result (λ was. were_listed was
             ≡ olds cells.now.slot 0 cells.now.count (state_of self.now)) }
@@ -89,7 +89,7 @@ impl Store {
     }
 
     // The same, cell by cell.
-    fn noted_each(&self, alloc: Global, cells: &Cells) -> Result<Seq<Was>, AllocError>
+    fn noted_each(&self, alloc: Global, cells: &Cells) -> AllocResult<Seq<Was>>
         requires { KeepsCells (is_kept self.now) cells.now }
         ensures { IfOk result (λ was. were_listed was
             ≡ olds cells.now.slot 0 cells.now.count (state_of self.now)) }

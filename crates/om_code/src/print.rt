@@ -8,7 +8,8 @@ ghost use Rattle.om_code.specs.Printing.{printed, ints, ints_on};
 use crate::frame::{Operand, Operands};
 use crate::raw::{Piece, Raw};
 use itoa::Buffer;
-use std::alloc::{AllocError, Global};
+use om_seq::AllocResult;
+use std::alloc::Global;
 
 /// The bytes that PRINT appends: the text of this number, with so many values from the top of the stack.
 ///
@@ -19,7 +20,7 @@ pub fn print_bytes(
     text: u32,
     values: u16,
     operands: &Operands<'_>,
-) -> Result<Vec<u8>, AllocError>
+) -> AllocResult<Vec<u8>>
     requires known { IsKnownText raw.now.texts text values }
     requires ints { IsSome (ints_on values operands.now) }
     ensures { IfOk result (λ bytes. bytes.items ≡ print_bytes raw.now text values operands.now) }
@@ -32,7 +33,7 @@ pub fn print_bytes(
 }
 
 /// The bytes of a text with these values, in their order (C17 7.21.6.1); its only error is out of memory.
-pub fn print_text(alloc: Global, pieces: &[Piece], values: &[i32]) -> Result<Vec<u8>, AllocError>
+pub fn print_text(alloc: Global, pieces: &[Piece], values: &[i32]) -> AllocResult<Vec<u8>>
     requires { value_count pieces.now ≤ length values.now }
     ensures { IfOk result (λ bytes. bytes.items ≡ printed pieces.now values.now) }
 {
@@ -60,7 +61,7 @@ pub fn ints_on(
     alloc: Global,
     count: usize,
     operands: &Operands<'_>,
-) -> Result<Option<Vec<i32>>, AllocError>
+) -> AllocResult<Option<Vec<i32>>>
     ensures { IfOk result
         (λ values. option_map (λ v. v.items) values ≡ ints_on count operands.now) }
 {
@@ -72,7 +73,7 @@ pub fn ints_on(
 }
 
 // The ints of operands; `None` where one is none.
-fn ints(alloc: Global, operands: &[Operand]) -> Result<Option<Vec<i32>>, AllocError>
+fn ints(alloc: Global, operands: &[Operand]) -> AllocResult<Option<Vec<i32>>>
     ensures { IfOk result (λ values. option_map (λ v. v.items) values ≡ ints operands.now) }
 {
     let mut values = Vec::new(alloc);

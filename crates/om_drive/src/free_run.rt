@@ -10,6 +10,7 @@ ghost use Rattle.om_drive.specs.OwnCalls.{AreOwnCalls};
 use crate::{Fault, Freed, Gate, free};
 use core::mem::replace_with;
 use om_book::{Blank, Book, Closed, NotOpened, Seat, Session, Sitting};
+use om_seq::AllocResult;
 use std::alloc::{AllocError, Global};
 use std::marker::Brand;
 use std::sync::Wait;
@@ -45,7 +46,7 @@ pub struct Count {
 pub fn run_freely<R: Threads + Wait + Sync>(
     book: &mut Book,
     errand: Errand<'_, R>,
-) -> Result<Count, AllocError>
+) -> AllocResult<Count>
     ensures goes_on { GoesOn book.old book.new }
     ensures done { IfOk result (λ count. count.done ≡ done_in (gained book.old book.new)) }
     ensures own { IfOk result (λ count. AreOwnCalls (gained book.old book.new)) }
@@ -54,7 +55,7 @@ pub fn run_freely<R: Threads + Wait + Sync>(
     replace_with(
         book,
         errand,
-        |book, errand| -> (Book, Result<Count, AllocError>)
+        |book, errand| -> (Book, AllocResult<Count>)
             ensures goes_on { GoesOn book result.0 }
             ensures done { IfOk result.1 (λ count. count.done ≡ done_in (gained book result.0)) }
             ensures own { IfOk result.1 (λ count. AreOwnCalls (gained book result.0)) }
@@ -67,7 +68,7 @@ pub fn run_freely<R: Threads + Wait + Sync>(
 fn ran_freely<R: Threads + Wait + Sync>(
     errand: Errand<'_, R>,
     book: Book,
-) -> (Book, Result<Count, AllocError>)
+) -> (Book, AllocResult<Count>)
     ensures goes_on { GoesOn book result.0 }
     ensures done { IfOk result.1 (λ count. count.done ≡ done_in (gained book result.0)) }
     ensures own { IfOk result.1 (λ count. AreOwnCalls (gained book result.0)) }
@@ -91,7 +92,7 @@ impl Gate for Open {
 }
 
 // So many gates that are open.
-fn open_gates(alloc: Global, workers: u8) -> Result<Vec<Open>, AllocError>
+fn open_gates(alloc: Global, workers: u8) -> AllocResult<Vec<Open>>
     ensures { IfOk result (λ gates. vec_len gates ≡ workers) }
 {
     let mut gates = Vec::new(alloc);
@@ -124,7 +125,7 @@ fn run_through<L: Sitting + Send + Sync, R: Threads + Wait + Sync>(
     gates: Vec<Open>,
     blank: Blank,
     book: Book,
-) -> (Book, Result<Count, AllocError>)
+) -> (Book, AllocResult<Count>)
     requires name { blank.ledger.name ≡ L.name }
     requires parts { blank.ledger.parts ≡ L.parts }
     requires opened { book ≡ L.opened }
@@ -172,7 +173,7 @@ fn is_whole(all_stand: bool, fault: Option<Fault>) -> bool
 // memory where the run is not whole.
 //
 // A book keeps its records. So one in which a worker found no room is still full.
-fn counted(book: Book, before: usize, full: bool, whole: bool) -> (Book, Result<Count, AllocError>)
+fn counted(book: Book, before: usize, full: bool, whole: bool) -> (Book, AllocResult<Count>)
     requires { before ≤ length book.journal }
     ensures book { result.0 ≡ book }
     ensures legal { IsLegal book.start book.journal }

@@ -7,7 +7,8 @@ ghost use Rattle.om_drive.specs.Answered.{AddsAll, AddsSome, AnswerAll};
 
 use crossbeam_channel::{Receiver, SendError, Sender};
 use om_book::{Answer, Fault, Order, most_rounds, order_at};
-use std::alloc::{AllocError, Global};
+use om_seq::AllocResult;
+use std::alloc::Global;
 use std::sync::Wait;
 
 /// The answers that came, of a round or of a drive.
@@ -98,7 +99,7 @@ fn awaited_in(
     receivers: &[Receiver<Answer>],
     orders: &[Vec<Order>],
     round: usize,
-) -> Result<Awaited, AllocError>
+) -> AllocResult<Awaited>
     requires { length receivers.now ≡ length orders.now }
     ensures numbers { IfOk result (λ awaited. awaited.numbers.items ≡ numbers_at round orders.now) }
     ensures paired { IfOk result (λ awaited. vec_len awaited.receivers
@@ -116,7 +117,7 @@ fn awaited_in(
 
 impl Awaited {
     // Awaits the answer of an order, where there is one.
-    fn add(&mut self, receiver: &Receiver<Answer>, order: Option<Order>) -> Result<(), AllocError>
+    fn add(&mut self, receiver: &Receiver<Answer>, order: Option<Order>) -> AllocResult<()>
         requires { vec_len self.old.receivers ≡ vec_len self.old.numbers }
         ensures numbers { OnOk result (self.new.numbers.items
             ≡ self.old.numbers.items ++ listed order) }

@@ -11,7 +11,8 @@ use crate::rounds::Gathered;
 use crate::sitter::{sit_down, stand_up};
 use crate::worker::Gate;
 use om_book::{Answer, Fault, KeptAnswers, Order, Rows, Seat, Session, Sitting, keep_backed};
-use std::alloc::{AllocError, Global};
+use om_seq::AllocResult;
+use std::alloc::Global;
 use std::sync::Wait;
 use std::thread::Threads;
 
@@ -82,7 +83,7 @@ fn undriven<L: Sitting>(seats: Vec<Seat<L>>) -> Driven<L>
 }
 
 // So many zeros.
-fn zeros(alloc: Global, count: usize) -> Result<Vec<usize>, AllocError>
+fn zeros(alloc: Global, count: usize) -> AllocResult<Vec<usize>>
     ensures { IfOk result (λ zeros. vec_len zeros ≡ count) }
 {
     let mut zeros = Vec::new(alloc);

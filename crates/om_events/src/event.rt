@@ -4,8 +4,8 @@ ghost use Rattle.std.specs.Prelude.{◌≡◌, IfOk};
 
 use crate::kind::{Endpoint, Sync, TaskFlag, TaskStatus, Thread, Work};
 use om_foot::{Name, Shared};
-use om_seq::Seq;
-use std::alloc::{AllocError, Global};
+use om_seq::{AllocResult, Seq};
+use std::alloc::Global;
 
 /// An event of the run that OMPT has a callback for (OpenMP 5.2, 19.5.2).
 ///
@@ -106,7 +106,7 @@ macro_rules! copied {
 
 impl Record {
     /// A copy; its only error is out of memory.
-    pub fn copy(&self, alloc: Global) -> Result<Record, AllocError>
+    pub fn copy(&self, alloc: Global) -> AllocResult<Record>
         ensures { IfOk result (λ copy. copy ≡ self.now) }
     {
         copied! {
@@ -125,7 +125,7 @@ impl Record {
     }
 }
 
-fn copy_lock(lock: &Seq<u8>, alloc: Global) -> Result<Seq<u8>, AllocError>
+fn copy_lock(lock: &Seq<u8>, alloc: Global) -> AllocResult<Seq<u8>>
     ensures { IfOk result (λ copy. copy ≡ lock.now) }
 {
     Ok(Seq::of(Vec::from_slice(alloc, lock.as_slice())?))

@@ -9,14 +9,13 @@ use crate::event::Record;
 use crate::kind::{Endpoint, Sync, TaskFlag, TaskStatus, Thread, Work};
 use crate::words::{Word, push_words};
 use om_foot::{Name, Shared};
-use om_seq::Seq;
-use std::alloc::AllocError;
+use om_seq::{AllocResult, Seq};
 
 /// Appends the text of a record: the number and the name of its callback in OMPT, then its values,
 /// with one space between words and no line end. A task or a team is shown by its numbers with
 /// dots between them; a team without numbers and a lock without a name are shown as `-`.
 /// When out of memory, nothing is appended.
-pub fn text_of(event: &Record, out: &mut Vec<u8>) -> Result<(), AllocError>
+pub fn text_of(event: &Record, out: &mut Vec<u8>) -> AllocResult<()>
     ensures appended { OnOk result (out.new.items ≡ out.old.items ++ record_text event.now) }
     ensures unchanged_on_error { OnErr result (out.new.items ≡ out.old.items) }
 {
@@ -39,7 +38,7 @@ pub fn text_of(event: &Record, out: &mut Vec<u8>) -> Result<(), AllocError>
     }
 }
 
-fn push_thread(thread: Thread, out: &mut Vec<u8>) -> Result<(), AllocError>
+fn push_thread(thread: Thread, out: &mut Vec<u8>) -> AllocResult<()>
     ensures appended { OnOk result
         (out.new.items ≡ out.old.items ++ record_text (kind.ThreadBegin thread)) }
     ensures unchanged_on_error { OnErr result (out.new.items ≡ out.old.items) }
@@ -52,7 +51,7 @@ fn push_parallel_begin<'a>(
     team: &'a Name,
     size: u8,
     out: &mut Vec<u8>,
-) -> Result<(), AllocError>
+) -> AllocResult<()>
     ensures appended { OnOk result
         (out.new.items ≡ out.old.items ++ record_text (kind.ParallelBegin task.now team.now size)) }
     ensures unchanged_on_error { OnErr result (out.new.items ≡ out.old.items) }
@@ -65,7 +64,7 @@ fn push_parallel_begin<'a>(
     push_words(b"3 parallel_begin", &words, out)
 }
 
-fn push_parallel_end(team: &Name, task: &Name, out: &mut Vec<u8>) -> Result<(), AllocError>
+fn push_parallel_end(team: &Name, task: &Name, out: &mut Vec<u8>) -> AllocResult<()>
     ensures appended { OnOk result
         (out.new.items ≡ out.old.items ++ record_text (kind.ParallelEnd team.now task.now)) }
     ensures unchanged_on_error { OnErr result (out.new.items ≡ out.old.items) }
@@ -77,7 +76,7 @@ fn push_parallel_end(team: &Name, task: &Name, out: &mut Vec<u8>) -> Result<(), 
     )
 }
 
-fn push_task_create<'a>(task: &'a Name, new: &'a Name, out: &mut Vec<u8>) -> Result<(), AllocError>
+fn push_task_create<'a>(task: &'a Name, new: &'a Name, out: &mut Vec<u8>) -> AllocResult<()>
     ensures appended { OnOk result
         (out.new.items ≡ out.old.items ++ record_text (kind.TaskCreate task.now new.now)) }
     ensures unchanged_on_error { OnErr result (out.new.items ≡ out.old.items) }
@@ -95,7 +94,7 @@ fn push_schedule<'a>(
     status: TaskStatus,
     next: &'a Name,
     out: &mut Vec<u8>,
-) -> Result<(), AllocError>
+) -> AllocResult<()>
     ensures appended { OnOk result
         (out.new.items ≡ out.old.items
         ++ record_text (kind.TaskSchedule prior.now status next.now)) }
@@ -109,7 +108,7 @@ fn push_schedule<'a>(
     push_words(b"6 task_schedule", &words, out)
 }
 
-fn push_mutex(first: &[u8], lock: &Seq<u8>, out: &mut Vec<u8>) -> Result<(), AllocError>
+fn push_mutex(first: &[u8], lock: &Seq<u8>, out: &mut Vec<u8>) -> AllocResult<()>
     ensures appended { OnOk result
         (out.new.items ≡ out.old.items ++ (first.now ++ spaced (lock_text lock.now ∷ []))) }
     ensures unchanged_on_error { OnErr result (out.new.items ≡ out.old.items) }
@@ -126,7 +125,7 @@ struct RegionEnd<'a> {
 }
 
 // Appends the text of a record that has an endpoint, or nothing.
-fn push_end(event: &Record, out: &mut Vec<u8>) -> Result<(), AllocError>
+fn push_end(event: &Record, out: &mut Vec<u8>) -> AllocResult<()>
     requires { IsTrue (has_endpoint event.now) }
     ensures appended { OnOk result (out.new.items ≡ out.old.items ++ record_text event.now) }
     ensures unchanged_on_error { OnErr result (out.new.items ≡ out.old.items) }
@@ -179,7 +178,7 @@ fn push_implicit(
     number: u8,
     flag: TaskFlag,
     out: &mut Vec<u8>,
-) -> Result<(), AllocError>
+) -> AllocResult<()>
     ensures appended { OnOk result
         (out.new.items ≡ out.old.items
         ++ record_text
@@ -197,7 +196,7 @@ fn push_implicit(
     push_words(b"7 implicit_task", &words, out)
 }
 
-fn push_work(work: Work, end: &RegionEnd, count: u64, out: &mut Vec<u8>) -> Result<(), AllocError>
+fn push_work(work: Work, end: &RegionEnd, count: u64, out: &mut Vec<u8>) -> AllocResult<()>
     ensures appended { OnOk result
         (out.new.items ≡ out.old.items
         ++ record_text (kind.Work work end.now.endpoint end.now.team.now end.now.task.now count)) }
@@ -213,7 +212,7 @@ fn push_work(work: Work, end: &RegionEnd, count: u64, out: &mut Vec<u8>) -> Resu
     push_words(b"20 work", &words, out)
 }
 
-fn push_masked(end: &RegionEnd, out: &mut Vec<u8>) -> Result<(), AllocError>
+fn push_masked(end: &RegionEnd, out: &mut Vec<u8>) -> AllocResult<()>
     ensures appended { OnOk result
         (out.new.items ≡ out.old.items
         ++ record_text (kind.Masked end.now.endpoint end.now.team.now end.now.task.now)) }
@@ -227,7 +226,7 @@ fn push_masked(end: &RegionEnd, out: &mut Vec<u8>) -> Result<(), AllocError>
     push_words(b"21 masked", &words, out)
 }
 
-fn push_sync(sync: Sync, end: &RegionEnd, out: &mut Vec<u8>) -> Result<(), AllocError>
+fn push_sync(sync: Sync, end: &RegionEnd, out: &mut Vec<u8>) -> AllocResult<()>
     ensures appended { OnOk result
         (out.new.items ≡ out.old.items
         ++ record_text (kind.SyncRegion sync end.now.endpoint end.now.team.now end.now.task.now)) }

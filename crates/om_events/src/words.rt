@@ -6,7 +6,7 @@ ghost use Rattle.om_events.specs.Words.{word_text};
 
 use itoa::Buffer;
 use om_foot::Name;
-use std::alloc::AllocError;
+use om_seq::AllocResult;
 
 /// A word of a record's text, behind the number and the name of its callback.
 #[derive(Clone, Copy)]
@@ -18,7 +18,7 @@ pub(crate) enum Word<'a> {
 }
 
 /// Appends the number and the name of a callback, and then words, each behind a space; or nothing.
-pub(crate) fn push_words(first: &[u8], words: &[Word], out: &mut Vec<u8>) -> Result<(), AllocError>
+pub(crate) fn push_words(first: &[u8], words: &[Word], out: &mut Vec<u8>) -> AllocResult<()>
     ensures appended { OnOk result
         (out.new.items ≡ out.old.items ++ (first.now ++ spaced (map word_text words.now))) }
     ensures unchanged_on_error { OnErr result (out.new.items ≡ out.old.items) }
@@ -32,7 +32,7 @@ pub(crate) fn push_words(first: &[u8], words: &[Word], out: &mut Vec<u8>) -> Res
 }
 
 // Appends the same; when out of memory, some of it.
-fn push_parts(first: &[u8], words: &[Word], out: &mut Vec<u8>) -> Result<(), AllocError>
+fn push_parts(first: &[u8], words: &[Word], out: &mut Vec<u8>) -> AllocResult<()>
     ensures appended { OnOk result
         (out.new.items ≡ out.old.items ++ (first.now ++ spaced (map word_text words.now))) }
     ensures front_stays { OnErr result (take (length out.old.items) out.new.items ≡ out.old.items) }
@@ -42,7 +42,7 @@ fn push_parts(first: &[u8], words: &[Word], out: &mut Vec<u8>) -> Result<(), All
 }
 
 // Appends words, each behind a space; when out of memory, some of them.
-fn push_spaced(words: &[Word], out: &mut Vec<u8>) -> Result<(), AllocError>
+fn push_spaced(words: &[Word], out: &mut Vec<u8>) -> AllocResult<()>
     ensures appended { OnOk result
         (out.new.items ≡ out.old.items ++ spaced (map word_text words.now)) }
     ensures front_stays { OnErr result (take (length out.old.items) out.new.items ≡ out.old.items) }
@@ -54,7 +54,7 @@ fn push_spaced(words: &[Word], out: &mut Vec<u8>) -> Result<(), AllocError>
 }
 
 // Appends a space and a word; when out of memory, at most the space.
-fn push_spaced_one(word: &Word, out: &mut Vec<u8>) -> Result<(), AllocError>
+fn push_spaced_one(word: &Word, out: &mut Vec<u8>) -> AllocResult<()>
     ensures appended { OnOk result
         (out.new.items ≡ out.old.items ++ (codes " " ++ word_text word.now)) }
     ensures front_stays { OnErr result (take (length out.old.items) out.new.items ≡ out.old.items) }
@@ -64,7 +64,7 @@ fn push_spaced_one(word: &Word, out: &mut Vec<u8>) -> Result<(), AllocError>
 }
 
 // Appends a word, or nothing.
-fn push_word(word: &Word, out: &mut Vec<u8>) -> Result<(), AllocError>
+fn push_word(word: &Word, out: &mut Vec<u8>) -> AllocResult<()>
     ensures appended { OnOk result (out.new.items ≡ out.old.items ++ word_text word.now) }
     ensures unchanged_on_error { OnErr result (out.new.items ≡ out.old.items) }
 {
@@ -79,7 +79,7 @@ fn push_word(word: &Word, out: &mut Vec<u8>) -> Result<(), AllocError>
 }
 
 // Appends the name of a critical region, or nothing.
-fn push_lock(name: &[u8], out: &mut Vec<u8>) -> Result<(), AllocError>
+fn push_lock(name: &[u8], out: &mut Vec<u8>) -> AllocResult<()>
     ensures appended { OnOk result (out.new.items ≡ out.old.items ++ lock_text name.now) }
     ensures unchanged_on_error { OnErr result (out.new.items ≡ out.old.items) }
 {

@@ -8,6 +8,7 @@ ghost use Rattle.om_foot.specs.Firsts.{sooner, IsFirst, IsGreatest};
 
 use crate::offsets::Offsets;
 use crate::serials::sooner;
+use om_seq::AllocResult;
 use std::alloc::{AllocError, Global};
 use std::cmp::Ordering;
 use std::marker::Model;
@@ -72,7 +73,7 @@ fn block(older: &[(u64, Offsets)], number: u64) -> Option<&Offsets>
 }
 
 // Puts a new block among the others. When out of memory, nothing changes.
-fn insert(older: &mut Vec<(u64, Offsets)>, number: u64, offsets: Offsets) -> Result<(), AllocError>
+fn insert(older: &mut Vec<(u64, Offsets)>, number: u64, offsets: Offsets) -> AllocResult<()>
     requires rising { AreRising 0 older.old.items }
     requires new { block_of older.old.items number ≡ None }
     ensures inserted { OnOk result ((q : ℕ) → block_of older.new.items q
@@ -105,7 +106,7 @@ fn replace(older: &mut Vec<(u64, Offsets)>, number: u64, offsets: Option<Offsets
 }
 
 // Adds a serial to the older blocks. When out of memory, nothing changes.
-fn put_older(older: &mut Vec<(u64, Offsets)>, serial: u64) -> Result<(), AllocError>
+fn put_older(older: &mut Vec<(u64, Offsets)>, serial: u64) -> AllocResult<()>
     requires { AreRising 0 older.old.items }
     ensures added { OnOk result
         ((s : ℕ) → in_older older.new.items s ≡ cond (nat_eq serial s) true (in_older older.old.items s)) }
@@ -194,7 +195,7 @@ fn retire(
     older: &mut Vec<(u64, Offsets)>,
     number: u64,
     newest: &mut Option<Offsets>,
-) -> Result<(), AllocError>
+) -> AllocResult<()>
     requires before { AreBefore number older.old.items }
     requires rising { AreRising 0 older.old.items }
     ensures retired { OnOk result ((s : ℕ) → in_older older.new.items s
@@ -271,7 +272,7 @@ impl Blocks {
     }
 
     /// Adds a serial. When out of memory, nothing changes.
-    pub(crate) fn put(&mut self, serial: u64) -> Result<(), AllocError>
+    pub(crate) fn put(&mut self, serial: u64) -> AllocResult<()>
         ensures added { OnOk result
             ((s : ℕ) → has_in self.new s ≡ cond (nat_eq serial s) true (has_in self.old s)) }
         ensures unchanged_on_error { OnErr result

@@ -6,8 +6,8 @@ ghost use Rattle.om_foot.specs.Cells.{cell_access, cells_of, cells_listed, boxed
 
 use crate::cells::{Cells, SlotName};
 use crate::footprint::{Access, Mode};
-use om_seq::Seq;
-use std::alloc::{AllocError, Global};
+use om_seq::{AllocResult, Seq};
+use std::alloc::Global;
 use std::marker::Model;
 
 // What is named behind the single objects in front: cells of slots that are named at once, and single
@@ -66,7 +66,7 @@ impl Model for Names {
 const MANY: u32 = 8;
 
 // Appends an access. It is taken apart for the prover alone.
-fn list_access(names: &mut Seq<Access>, access: &Access) -> Result<(), AllocError>
+fn list_access(names: &mut Seq<Access>, access: &Access) -> AllocResult<()>
     ensures { OnOk result (names.new ≡ names.old ++ access.now ∷ []) }
 {
     let Access { object, mode } = *access;
@@ -75,7 +75,7 @@ fn list_access(names: &mut Seq<Access>, access: &Access) -> Result<(), AllocErro
 
 // Appends a cell of a slot. It stands apart, as an access is large.
 #[inline(never)]
-fn list_cell(names: &mut Seq<Access>, slot: &SlotName, index: u32) -> Result<(), AllocError>
+fn list_cell(names: &mut Seq<Access>, slot: &SlotName, index: u32) -> AllocResult<()>
     ensures { OnOk result (names.new ≡ names.old ++ cell_access slot.now index ∷ []) }
 {
     names.push(Access {
@@ -85,7 +85,7 @@ fn list_cell(names: &mut Seq<Access>, slot: &SlotName, index: u32) -> Result<(),
 }
 
 // Appends the access of each of these cells.
-fn list_cells(names: &mut Seq<Access>, cells: &Cells) -> Result<(), AllocError>
+fn list_cells(names: &mut Seq<Access>, cells: &Cells) -> AllocResult<()>
     ensures { OnOk result (names.new ≡ names.old ++ cells_of cells.now) }
 {
     for index in 0..cells.count {
@@ -95,7 +95,7 @@ fn list_cells(names: &mut Seq<Access>, cells: &Cells) -> Result<(), AllocError>
 }
 
 // Appends the access of each cell of all of these.
-fn list_each(names: &mut Seq<Access>, all: &[Cells]) -> Result<(), AllocError>
+fn list_each(names: &mut Seq<Access>, all: &[Cells]) -> AllocResult<()>
     ensures { OnOk result (names.new ≡ names.old ++ cells_listed all.now) }
 {
     for cells in all {
@@ -106,7 +106,7 @@ fn list_each(names: &mut Seq<Access>, all: &[Cells]) -> Result<(), AllocError>
 
 impl Behind {
     // Appends an access. When out of memory, no more is said of the names.
-    fn push(&mut self, access: &Access) -> Result<(), AllocError>
+    fn push(&mut self, access: &Access) -> AllocResult<()>
         ensures { OnOk result (self.new ≡ self.old ++ access.now ∷ []) }
     {
         list_access(&mut self.last, access)
@@ -114,7 +114,7 @@ impl Behind {
 
     // Appends cells of a slot, at once where no single object stands behind the others. When out of
     // memory, no more is said of the names.
-    fn push_cells(&mut self, cells: &Cells) -> Result<(), AllocError>
+    fn push_cells(&mut self, cells: &Cells) -> AllocResult<()>
         ensures { OnOk result (self.new ≡ self.old ++ cells_of cells.now) }
     {
         if self.last.is_empty() {
@@ -127,11 +127,7 @@ impl Behind {
 
 // Appends cells of a slot to single objects, or answers what stands behind these where the cells are
 // many.
-fn begun(
-    alloc: Global,
-    first: &mut Seq<Access>,
-    cells: &Cells,
-) -> Result<Option<Box<Behind>>, AllocError>
+fn begun(alloc: Global, first: &mut Seq<Access>, cells: &Cells) -> AllocResult<Option<Box<Behind>>>
     ensures { IfOk result
         (λ behind. first.new ++ boxed_list behind ≡ first.old ++ cells_of cells.now) }
 {
@@ -178,7 +174,7 @@ impl Names {
     }
 
     /// Appends an access. Its only error is out of memory; then no more is said of the names.
-    pub fn push(&mut self, access: &Access) -> Result<(), AllocError>
+    pub fn push(&mut self, access: &Access) -> AllocResult<()>
         ensures { OnOk result (self.new ≡ self.old ++ access.now ∷ []) }
     {
         match &mut self.behind {
@@ -189,7 +185,7 @@ impl Names {
 
     /// Appends cells of a slot, at once where they are many or stand behind others that are. Its only
     /// error is out of memory; then no more is said of the names.
-    pub fn push_cells(&mut self, cells: &Cells) -> Result<(), AllocError>
+    pub fn push_cells(&mut self, cells: &Cells) -> AllocResult<()>
         ensures { OnOk result (self.new ≡ self.old ++ cells_of cells.now) }
     {
         match &mut self.behind {
@@ -202,7 +198,7 @@ impl Names {
     }
 
     // Appends these accesses.
-    fn push_each(&mut self, others: &[Access]) -> Result<(), AllocError>
+    fn push_each(&mut self, others: &[Access]) -> AllocResult<()>
         ensures { OnOk result (self.new ≡ self.old ++ others.now) }
     {
         for access in others {
@@ -213,7 +209,7 @@ impl Names {
 
     /// Appends all that other names name. Its only error is out of memory; then no more is said of the
     /// names.
-    pub fn push_all(&mut self, others: &Names) -> Result<(), AllocError>
+    pub fn push_all(&mut self, others: &Names) -> AllocResult<()>
         ensures { OnOk result (self.new ≡ self.old ++ others.now) }
     {
         let (first, cells, last) = others.parts();
@@ -223,7 +219,7 @@ impl Names {
     }
 
     // Appends the cells of each of these.
-    fn push_each_of(&mut self, others: &[Cells]) -> Result<(), AllocError>
+    fn push_each_of(&mut self, others: &[Cells]) -> AllocResult<()>
         ensures { OnOk result (self.new ≡ self.old ++ cells_listed others.now) }
     {
         for cells in others {
@@ -233,7 +229,7 @@ impl Names {
     }
 
     /// Each access by itself. Its only error is out of memory.
-    pub fn into_seq(self) -> Result<Seq<Access>, AllocError>
+    pub fn into_seq(self) -> AllocResult<Seq<Access>>
         ensures { IfOk result (λ all. all ≡ self) }
     {
         let Names {

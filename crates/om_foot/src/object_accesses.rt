@@ -7,7 +7,8 @@ use crate::footprint::{Access, Mode};
 use crate::object::Obj;
 use crate::shared_access::SharedAccess;
 use crate::shared_object::SharedObject;
-use std::alloc::{AllocError, Global};
+use om_seq::AllocResult;
+use std::alloc::Global;
 use std::marker::Model;
 
 /// An object behind a pointer, with its access of each mode that was asked for.
@@ -42,7 +43,7 @@ fn access_of(
     object: &SharedObject,
     made: &mut Option<SharedAccess>,
     mode: Mode,
-) -> Result<SharedAccess, AllocError>
+) -> AllocResult<SharedAccess>
     requires { IfSome made.old (λ shared. shared ≡ record { object = object.now; mode = mode }) }
     ensures shared { IfOk result (λ shared. shared ≡ record { object = object.now; mode = mode }) }
     ensures made { IfSome made.new (λ shared. shared ≡ record { object = object.now; mode = mode }) }
@@ -57,7 +58,7 @@ fn access_of(
 
 impl ObjectAccesses {
     /// An object of which no access was asked for. Its only error is out of memory.
-    pub fn of(alloc: Global, object: &Obj) -> Result<ObjectAccesses, AllocError>
+    pub fn of(alloc: Global, object: &Obj) -> AllocResult<ObjectAccesses>
         ensures { IfOk result (λ accesses. accesses ≡ object.now) }
     {
         Ok(ObjectAccesses {
@@ -70,7 +71,7 @@ impl ObjectAccesses {
 
     /// An access, shared with all that asked for it before where it is one of this object. Its only error is
     /// out of memory.
-    pub fn share(&mut self, alloc: Global, access: &Access) -> Result<SharedAccess, AllocError>
+    pub fn share(&mut self, alloc: Global, access: &Access) -> AllocResult<SharedAccess>
         ensures shared { IfOk result (λ shared. shared ≡ access.now) }
         ensures stays { self.new ≡ self.old }
     {

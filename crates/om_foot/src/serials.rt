@@ -6,7 +6,8 @@ ghost use Rattle.om_foot.specs.Serials.{has};
 ghost use Rattle.om_foot.specs.Firsts.{sooner, IsFirst, IsGreatest};
 
 use crate::blocks::Blocks;
-use std::alloc::{AllocError, Global};
+use om_seq::AllocResult;
+use std::alloc::Global;
 
 /// A set of serials. One that is alone stands in place, since most objects of a long run are
 /// touched once.
@@ -34,7 +35,7 @@ pub fn sooner(first: Option<u64>, other: Option<u64>) -> Option<u64>
 }
 
 // The set of two serials.
-fn both(alloc: Global, first: u64, other: u64) -> Result<Box<Blocks>, AllocError>
+fn both(alloc: Global, first: u64, other: u64) -> AllocResult<Box<Blocks>>
     ensures { IfOk result (λ serials. (s : ℕ) → has_in serials.value s
         ≡ cond (nat_eq other s) true (nat_eq first s)) }
 {
@@ -45,7 +46,7 @@ fn both(alloc: Global, first: u64, other: u64) -> Result<Box<Blocks>, AllocError
 
 impl Serials {
     /// Adds a serial. When out of memory, nothing changes.
-    pub fn put(&mut self, alloc: Global, serial: u64) -> Result<(), AllocError>
+    pub fn put(&mut self, alloc: Global, serial: u64) -> AllocResult<()>
         ensures added { OnOk result
             ((s : ℕ) → has self.new s ≡ cond (nat_eq serial s) true (has self.old s)) }
         ensures unchanged_on_error { OnErr result ((s : ℕ) → has self.new s ≡ has self.old s) }

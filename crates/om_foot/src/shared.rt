@@ -2,7 +2,8 @@
 
 ghost use Rattle.std.specs.Prelude.{◌≡◌, IfOk};
 
-use std::alloc::{AllocError, Global};
+use om_seq::AllocResult;
+use std::alloc::Global;
 use std::marker::Model;
 use std::sync::Arc;
 
@@ -24,7 +25,7 @@ impl<T> Model for Shared<T> {
 
 impl<T> Shared<T> {
     /// A value with one owner; its only error is out of memory.
-    pub fn of(alloc: Global, value: T) -> Result<Shared<T>, AllocError>
+    pub fn of(alloc: Global, value: T) -> AllocResult<Shared<T>>
     where
         T: Drop,
         ensures { IfOk result (λ shared. shared ≡ value) }
@@ -42,7 +43,7 @@ impl<T> Shared<T> {
     }
 
     /// The same value for one owner more; its only error is out of memory, where it has 2^63 owners.
-    pub fn copy(&self) -> Result<Shared<T>, AllocError>
+    pub fn copy(&self) -> AllocResult<Shared<T>>
         ensures { IfOk result (λ shared. shared ≡ self.now) }
     {
         Ok(Shared {

@@ -5,7 +5,8 @@ ghost use Rattle.std.specs.Prelude.{◌≡◌, IfOk};
 use crate::footprint::{Access, Mode};
 use crate::shared::Shared;
 use crate::shared_object::SharedObject;
-use std::alloc::{AllocError, Global};
+use om_seq::AllocResult;
+use std::alloc::Global;
 use std::marker::Model;
 
 // A shared object, and how it is accessed.
@@ -50,7 +51,7 @@ impl Model for SharedAccess {
 
 impl SharedAccess {
     /// The access of an object with a mode, which nothing shares yet. Its only error is out of memory.
-    pub fn of(alloc: Global, object: SharedObject, mode: Mode) -> Result<SharedAccess, AllocError>
+    pub fn of(alloc: Global, object: SharedObject, mode: Mode) -> AllocResult<SharedAccess>
         ensures { IfOk result (λ shared. shared ≡ record { object = object; mode = mode }) }
     {
         Ok(SharedAccess {
@@ -59,7 +60,7 @@ impl SharedAccess {
     }
 
     /// An access that shares nothing with another. Its only error is out of memory.
-    pub fn new(alloc: Global, access: &Access) -> Result<SharedAccess, AllocError>
+    pub fn new(alloc: Global, access: &Access) -> AllocResult<SharedAccess>
         ensures { IfOk result (λ shared. shared ≡ access.now) }
     {
         let object = SharedObject::of(alloc, &access.object)?;
@@ -81,7 +82,7 @@ impl SharedAccess {
     }
 
     /// The same access for one owner more; its only error is out of memory.
-    pub fn copy(&self) -> Result<SharedAccess, AllocError>
+    pub fn copy(&self) -> AllocResult<SharedAccess>
         ensures { IfOk result (λ shared. shared ≡ self.now) }
     {
         Ok(SharedAccess {

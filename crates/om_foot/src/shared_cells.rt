@@ -6,7 +6,8 @@ ghost use Rattle.om_foot.specs.SharedCells.{cell_in};
 use crate::cells::{Cells, SlotName, spot_of};
 use crate::name::Name;
 use crate::shared_object::SharedObject;
-use std::alloc::{AllocError, Global};
+use om_seq::AllocResult;
+use std::alloc::Global;
 use std::marker::Model;
 
 /// Cells of a slot, behind pointers: the first of them, and the one behind the last.
@@ -33,7 +34,7 @@ impl Model for SharedCells {
 
 impl SharedCells {
     /// Cells that nothing shares yet. Its only error is out of memory.
-    pub fn of(alloc: Global, cells: &Cells) -> Result<SharedCells, AllocError>
+    pub fn of(alloc: Global, cells: &Cells) -> AllocResult<SharedCells>
         ensures { IfOk result (λ shared. shared ≡ cells.now) }
     {
         let first = SharedObject::of(alloc, &cells.slot.cell(0))?;
@@ -73,7 +74,7 @@ impl SharedCells {
     }
 
     /// The same cells for one owner more; its only error is out of memory.
-    pub fn copy(&self) -> Result<SharedCells, AllocError>
+    pub fn copy(&self) -> AllocResult<SharedCells>
         ensures { IfOk result (λ shared. shared ≡ self.now) }
     {
         Ok(SharedCells {
@@ -83,7 +84,7 @@ impl SharedCells {
     }
 
     /// The cells, shared with these where they are the same ones. Its only error is out of memory.
-    pub fn share(&self, alloc: Global, cells: &Cells) -> Result<SharedCells, AllocError>
+    pub fn share(&self, alloc: Global, cells: &Cells) -> AllocResult<SharedCells>
         ensures { IfOk result (λ shared. shared ≡ cells.now) }
     {
         let own = self.cells();

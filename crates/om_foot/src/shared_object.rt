@@ -11,7 +11,8 @@ ghost use Rattle.om_foot.specs.contracts.object.ObjOrd.TheImpl.Laws.{total-law, 
 
 use crate::object::Obj;
 use crate::shared::Shared;
-use std::alloc::{AllocError, Global};
+use om_seq::AllocResult;
+use std::alloc::Global;
 use std::cmp::Ordering;
 use std::marker::Model;
 
@@ -72,7 +73,7 @@ impl Ord for SharedObject {
 
 impl SharedObject {
     /// An object that nothing shares yet. Its only error is out of memory.
-    pub fn of(alloc: Global, object: &Obj) -> Result<SharedObject, AllocError>
+    pub fn of(alloc: Global, object: &Obj) -> AllocResult<SharedObject>
         ensures { IfOk result (λ shared. shared ≡ object.now) }
     {
         Ok(SharedObject {
@@ -88,7 +89,7 @@ impl SharedObject {
     }
 
     /// The same object for one owner more; its only error is out of memory.
-    pub fn copy(&self) -> Result<SharedObject, AllocError>
+    pub fn copy(&self) -> AllocResult<SharedObject>
         ensures { IfOk result (λ shared. shared ≡ self.now) }
     {
         Ok(SharedObject {

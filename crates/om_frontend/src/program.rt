@@ -9,7 +9,7 @@ ghost use Rattle.om_scope_tree.specs.Whole.{IsWholeTree};
 ghost use Rattle.om_frontend.specs.Verdict.{IsTreeOfSource, IsResolutionOfSource, IsProgramOf, IsRefused};
 
 use om_code::Program;
-use om_lexer::{SourceFault, lex};
+use om_lexer::{SourceResult, lex};
 use om_lower::lower;
 use om_parser::{Unit, parse};
 use om_scope::{Resolved, resolve};
@@ -17,7 +17,7 @@ use om_scope_rules::laws::{sources_have_copies_behind, sources_have_small_weight
 use std::alloc::Global;
 
 // The tree of a source.
-fn tree_of(alloc: Global, source: &[u8]) -> Result<Unit, SourceFault>
+fn tree_of(alloc: Global, source: &[u8]) -> SourceResult<Unit>
     ensures tree { IfOk result (λ unit. IsTreeOfSource source.now (view_unit unit)) }
     ensures refused { IfErr result (λ fault. fault ≢ no_memory → IsRefused source.now fault) }
 {
@@ -26,7 +26,7 @@ fn tree_of(alloc: Global, source: &[u8]) -> Result<Unit, SourceFault>
 }
 
 // The tree of a source, with its names resolved.
-fn resolution_of(alloc: Global, source: &[u8]) -> Result<Resolved, SourceFault>
+fn resolution_of(alloc: Global, source: &[u8]) -> SourceResult<Resolved>
     ensures resolution { IfOk result
         (λ resolved. IsResolutionOfSource source.now (view.resolved resolved)) }
     ensures whole { IfOk result (λ resolved. IsWholeTree (view.resolved resolved)) }
@@ -45,7 +45,7 @@ fn resolution_of(alloc: Global, source: &[u8]) -> Result<Resolved, SourceFault>
 ///
 /// The passes run in turn, and the first that refuses answers; nothing is kept then. Out of memory is S0 in any of
 /// them.
-pub fn program_of(alloc: Global, source: &[u8]) -> Result<Program, SourceFault>
+pub fn program_of(alloc: Global, source: &[u8]) -> SourceResult<Program>
     ensures program { IfOk result (λ program. IsProgramOf source.now program) }
     ensures refused { IfErr result (λ fault. fault ≢ no_memory → IsRefused source.now fault) }
 {

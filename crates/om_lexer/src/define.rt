@@ -7,7 +7,7 @@ ghost use Rattle.om_lexer.specs.Macros.{IsAnswer};
 ghost use Rattle.om_lexer.specs.Sources.{source_limit};
 
 use crate::constant::{are_digits, value_in};
-use crate::fault::{FaultCode, SourceFault, bad_hash_line};
+use crate::fault::{FaultCode, SourceFault, SourceResult, bad_hash_line};
 use crate::macros::Macros;
 use crate::piece::HashLine;
 use crate::white_space::{ends_line, gap_end};
@@ -43,7 +43,7 @@ pub(crate) fn define_at(
     at: usize,
     end: usize,
     macros: &Macros,
-) -> Result<(HashLine, usize), SourceFault>
+) -> SourceResult<(HashLine, usize)>
     requires below { at < source_limit }
     requires inside { end ≤ length source.now }
     requires begins { (word : ℕ) × IsHashWord source.now at word end (codes "define") }

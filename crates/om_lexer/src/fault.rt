@@ -67,6 +67,9 @@ pub struct SourceFault {
     pub at: u32,
 }
 
+/// What a call answers that reads a source. Its error is the refusal of the source, or out of memory.
+pub type SourceResult<T> = Result<T, SourceFault>;
+
 impl From<AllocError> for SourceFault {
     ghost from_gives = { λ _ fault. fault ≡ no_memory };
 

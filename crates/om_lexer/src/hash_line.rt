@@ -7,7 +7,7 @@ ghost use Rattle.om_lexer.specs.Sources.{source_limit};
 
 use crate::character::is_same;
 use crate::define::define_at;
-use crate::fault::{SourceFault, bad_hash_line};
+use crate::fault::{SourceResult, bad_hash_line};
 use crate::macros::Macros;
 use crate::piece::HashLine;
 use crate::white_space::{ends_line, gap_end};
@@ -20,7 +20,7 @@ pub(crate) fn hash_line_at(
     source: &[u8],
     at: usize,
     macros: &Macros,
-) -> Result<(HashLine, usize), SourceFault>
+) -> SourceResult<(HashLine, usize)>
     requires hash { slice_index source.now at ≡ 35 }
     requires inside { at < length source.now }
     requires below { at < source_limit }
@@ -43,7 +43,7 @@ pub(crate) fn hash_line_at(
 }
 
 // An include, whose word ends at `end`; S4 where it names no header, or has more behind it.
-fn include_at(source: &[u8], at: usize, end: usize) -> Result<(HashLine, usize), SourceFault>
+fn include_at(source: &[u8], at: usize, end: usize) -> SourceResult<(HashLine, usize)>
     requires below { at < source_limit }
     requires inside { end ≤ length source.now }
     requires begins { (word : ℕ) × IsHashWord source.now at word end (codes "include") }

@@ -8,7 +8,7 @@ ghost use Rattle.om_lexer.specs.Tokens.{IsToken, IsNoToken};
 ghost use Rattle.om_lexer.specs.Sources.{source_limit};
 
 use crate::character::is_word_byte;
-use crate::fault::{SourceFault, bad_token};
+use crate::fault::{SourceResult, bad_token};
 use crate::spelling::{longest_punctuator, punctuator_text};
 use crate::text::text_at;
 use crate::token::TokenKind;
@@ -16,11 +16,7 @@ use crate::word::{word_end, word_kind};
 use std::alloc::Global;
 
 /// The token that begins there, where no comment does, and the byte behind it; S2 or S10 where none does.
-pub(crate) fn token_at(
-    alloc: Global,
-    source: &[u8],
-    at: usize,
-) -> Result<(TokenKind, usize), SourceFault>
+pub(crate) fn token_at(alloc: Global, source: &[u8], at: usize) -> SourceResult<(TokenKind, usize)>
     requires inside { at < length source.now }
     requires below { at < source_limit }
     requires no_comment { BeginsComment source.now at → ⊥ }
@@ -37,7 +33,7 @@ pub(crate) fn token_at(
 }
 
 // A name, a constant or a keyword; S2 or S10 where the word is none.
-fn word_at(alloc: Global, source: &[u8], at: usize) -> Result<(TokenKind, usize), SourceFault>
+fn word_at(alloc: Global, source: &[u8], at: usize) -> SourceResult<(TokenKind, usize)>
     requires inside { at < length source.now }
     requires below { at < source_limit }
     requires word { is_word_byte (slice_index source.now at) ≡ true }
@@ -50,7 +46,7 @@ fn word_at(alloc: Global, source: &[u8], at: usize) -> Result<(TokenKind, usize)
 }
 
 // A punctuator, or S2 where none begins.
-fn punctuator_at(source: &[u8], at: usize) -> Result<(TokenKind, usize), SourceFault>
+fn punctuator_at(source: &[u8], at: usize) -> SourceResult<(TokenKind, usize)>
     requires inside { at < length source.now }
     requires below { at < source_limit }
     requires no_word { is_word_byte (slice_index source.now at) ≡ false }

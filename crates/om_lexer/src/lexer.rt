@@ -6,14 +6,14 @@ ghost use Rattle.om_lexer.specs.Pieces.{span_of, line_at, state_behind_token, st
 ghost use Rattle.om_lexer.specs.Folding.{directive_end, HasWords, HasWordsInside};
 ghost use Rattle.om_lexer.specs.Sources.{IsTokens, IsRefusal};
 
-use crate::fault::{FaultCode, SourceFault};
+use crate::fault::{FaultCode, SourceFault, SourceResult};
 use crate::macros::Macros;
 use crate::piece::{HashLine, PieceKind};
 use crate::scan::piece_at;
 use crate::state::LineState;
 use crate::token::{Span, Token, TokenKind};
-use om_seq::Seq;
-use std::alloc::{AllocError, Global};
+use om_seq::{AllocResult, Seq};
+use std::alloc::Global;
 
 // The bytes that a source may have.
 const SOURCE_LIMIT: usize = 1_048_576;
@@ -51,7 +51,7 @@ struct DirectiveWords {
 /// comment or token (S2), a `#` line that is no include, define or pragma of the accepted forms, or that defines a name as
 /// another number (S4, at its `#`), a constant above 2147483647 (S10), or the define of a name too many (S11, at its `#`).
 /// Where there is none, it is that the source has more than 1,048,576 bytes (S1, there).
-pub fn lex(alloc: Global, source: &[u8]) -> Result<Vec<Token>, SourceFault>
+pub fn lex(alloc: Global, source: &[u8]) -> SourceResult<Vec<Token>>
     ensures tokens { IfOk result (λ tokens. IsTokens source.now tokens.items) }
     ensures refusal { IfErr result (IsRefusal source.now) }
 {
@@ -66,7 +66,7 @@ pub fn lex(alloc: Global, source: &[u8]) -> Result<Vec<Token>, SourceFault>
 }
 
 // Adds the tokens of a source, and notes what it defines. After a refusal both are of no use.
-fn take_source(alloc: Global, source: &[u8], output: &mut Output) -> Result<(), SourceFault>
+fn take_source(alloc: Global, source: &[u8], output: &mut Output) -> SourceResult<()>
     requires tokens { output.old.tokens.items ≡ [] }
     requires macros { output.old.macros ≡ [] }
     ensures tokens { OnOk result (IsTokens source.now output.new.tokens.items) }
@@ -115,7 +115,7 @@ fn no_width(at: usize, line: u32) -> Span
 }
 
 // Adds the end of the source at its place, and before it that of the directive whose line ends here, if one does.
-fn add_end(tokens: &mut Vec<Token>, state: &LineState, span: Span) -> Result<(), AllocError>
+fn add_end(tokens: &mut Vec<Token>, state: &LineState, span: Span) -> AllocResult<()>
     ensures { OnOk result (AddsEnd state.now tokens.old tokens.new span) }
 {
     end_directive(tokens, state)?;
@@ -129,7 +129,7 @@ fn add_end(tokens: &mut Vec<Token>, state: &LineState, span: Span) -> Result<(),
 }
 
 // Adds an item at the end. When out of memory, the item is gone.
-fn add<T: Drop>(items: &mut Vec<T>, item: T) -> Result<(), AllocError>
+fn add<T: Drop>(items: &mut Vec<T>, item: T) -> AllocResult<()>
     ensures { OnOk result (items.new.items ≡ items.old.items ++ item ∷ []) }
 {
     items.push(item)?;
@@ -144,7 +144,7 @@ fn take_piece(
     output: &mut Output,
     state: LineState,
     piece: Placed<PieceKind>,
-) -> Result<LineState, AllocError>
+) -> AllocResult<LineState>
     requires place { piece.span ≡ span_of source.now piece.span.start piece.span.end }
     requires inside { piece.span.end ≤ length source.now }
     requires fits { piece.span.end < 2 ^ 31 }
@@ -185,7 +185,7 @@ fn line_behind(source: &[u8], span: Span) -> u32
 }
 
 // Adds the end of the directive whose line ends here, if one does.
-fn end_directive(tokens: &mut Vec<Token>, state: &LineState) -> Result<(), AllocError>
+fn end_directive(tokens: &mut Vec<Token>, state: &LineState) -> AllocResult<()>
     ensures { OnOk result (tokens.new.items ≡ tokens.old.items ++ directive_end state.now) }
 {
     let LineState::Directive(last) = state else {
@@ -206,7 +206,7 @@ fn take_token(
     output: &mut Output,
     state: &LineState,
     token: Placed<TokenKind>,
-) -> Result<LineState, AllocError>
+) -> AllocResult<LineState>
     ensures tokens { OnOk result (AddsToken state.now output.old output.new token) }
     ensures macros { OnOk result (HasMacrosBehindToken state.now output.old output.new token) }
     ensures state { IfOk result (λ next. next ≡ state_behind_token state.now token.behind) }
@@ -225,7 +225,7 @@ fn take_token(
 }
 
 // Adds a token, replaced where it is a macro.
-fn add_token(output: &mut Output, token: Token) -> Result<(), AllocError>
+fn add_token(output: &mut Output, token: Token) -> AllocResult<()>
     ensures tokens { OnOk result (AddsReplaced output.old output.new token) }
     ensures macros { output.new.macros ≡ output.old.macros }
 {
@@ -240,12 +240,7 @@ fn add_token(output: &mut Output, token: Token) -> Result<(), AllocError>
 }
 
 // Defines a name as a constant.
-fn define(
-    alloc: Global,
-    macros: &mut Macros,
-    name: &[u8],
-    kind: &TokenKind,
-) -> Result<(), AllocError>
+fn define(alloc: Global, macros: &mut Macros, name: &[u8], kind: &TokenKind) -> AllocResult<()>
     ensures { OnOk result (macros.new ≡ macros_defined macros.old name.now kind.now) }
 {
     let TokenKind::Constant(number) = kind else {
@@ -260,7 +255,7 @@ fn take_hash_line(
     source: &[u8],
     tokens: &mut Vec<Token>,
     line: Placed<HashLine>,
-) -> Result<LineState, AllocError>
+) -> AllocResult<LineState>
     requires place { line.span ≡ span_of source.now line.span.start line.span.end }
     requires inside { line.span.end ≤ length source.now }
     requires fits { line.span.end < 2 ^ 31 }
@@ -287,7 +282,7 @@ fn begin_directive(
     tokens: &mut Vec<Token>,
     span: Span,
     words: DirectiveWords,
-) -> Result<(), AllocError>
+) -> AllocResult<()>
     requires place { span ≡ span_of source.now span.start span.end }
     requires inside { span.end ≤ length source.now }
     requires fits { span.end < 2 ^ 31 }
@@ -336,12 +331,7 @@ fn word_span(source: &[u8], before: Span, from: usize, width: u32) -> Span
 }
 
 // Adds a name that no macro replaces.
-fn add_word(
-    alloc: Global,
-    tokens: &mut Vec<Token>,
-    text: &[u8],
-    span: Span,
-) -> Result<(), AllocError>
+fn add_word(alloc: Global, tokens: &mut Vec<Token>, text: &[u8], span: Span) -> AllocResult<()>
     ensures { OnOk result (AddsWord tokens.old tokens.new text.now span) }
 {
     let kind = TokenKind::Name(Seq::of(Vec::from_slice(alloc, text)?));

@@ -20,7 +20,7 @@ mod token;
 mod white_space;
 mod word;
 
-pub use fault::{FaultCode, SourceFault};
+pub use fault::{FaultCode, SourceFault, SourceResult};
 pub use laws::{one_reading, tokens_apart, tokens_in_order};
 pub use lexer::lex;
 pub use token::{Keyword, Punctuator, Span, Token, TokenKind};

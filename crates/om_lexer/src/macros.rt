@@ -6,7 +6,8 @@ ghost use Rattle.om_lexer.specs.Macros.{DefinesMacro, macro_limit, number_of_mac
 use crate::spelling::keyword_text;
 use crate::token::TokenKind;
 use indexmap::IndexMap;
-use std::alloc::{AllocError, Global};
+use om_seq::AllocResult;
+use std::alloc::Global;
 use std::marker::Model;
 
 // The names that a source may define.
@@ -32,7 +33,7 @@ fn put(
     alloc: Global,
     name: &[u8],
     number: u32,
-) -> Result<(), AllocError>
+) -> AllocResult<()>
     ensures { OnOk result (DefinesMacro numbers.old.entries numbers.new.entries name.now number) }
 {
     if numbers.contains_key(name) {
@@ -67,12 +68,7 @@ impl Macros {
     }
 
     /// Defines a name, unless it is defined.
-    pub(crate) fn define(
-        &mut self,
-        alloc: Global,
-        name: &[u8],
-        number: u32,
-    ) -> Result<(), AllocError>
+    pub(crate) fn define(&mut self, alloc: Global, name: &[u8], number: u32) -> AllocResult<()>
         ensures { OnOk result (self.new ≡ with_macro self.old name.now number) }
     {
         put(&mut self.numbers, alloc, name, number)

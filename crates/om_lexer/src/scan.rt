@@ -7,7 +7,7 @@ ghost use Rattle.om_lexer.specs.Folding.{HasWordsInside};
 ghost use Rattle.om_lexer.specs.Sources.{IsWrongAt, source_limit};
 
 use crate::character::byte_at;
-use crate::fault::{SourceFault, bad_token};
+use crate::fault::{SourceResult, bad_token};
 use crate::hash_line::hash_line_at;
 use crate::lexeme::token_at;
 use crate::macros::Macros;
@@ -23,7 +23,7 @@ pub(crate) fn piece_at(
     at: usize,
     state: &LineState,
     macros: &Macros,
-) -> Result<Piece, SourceFault>
+) -> SourceResult<Piece>
     requires inside { at < length source.now }
     requires below { at < source_limit }
     ensures piece { IfOk result (IsPiece source.now (context_of state.now macros.now) at) }
@@ -43,7 +43,7 @@ fn read_piece(
     at: usize,
     state: &LineState,
     macros: &Macros,
-) -> Result<Piece, SourceFault>
+) -> SourceResult<Piece>
     requires inside { at < length source.now }
     requires below { at < source_limit }
     ensures piece { IfOk result (IsPiece source.now (context_of state.now macros.now) at) }

@@ -7,7 +7,7 @@ ghost use Rattle.om_lexer.specs.Texts.{IsPlain, escaped, IsCharacter, HasNoChara
 ghost use Rattle.om_lexer.specs.Tokens.{IsToken, IsNoToken};
 
 use crate::character::byte_at;
-use crate::fault::{SourceFault, bad_token};
+use crate::fault::{SourceResult, bad_token};
 use crate::token::TokenKind;
 use om_seq::Seq;
 use std::alloc::Global;
@@ -59,11 +59,7 @@ fn character_at(source: &[u8], from: usize) -> Option<(u8, usize)>
 }
 
 /// The text literal whose quote stands at `at`, and the byte behind it; S2 where it is wrong or never ends.
-pub(crate) fn text_at(
-    alloc: Global,
-    source: &[u8],
-    at: usize,
-) -> Result<(TokenKind, usize), SourceFault>
+pub(crate) fn text_at(alloc: Global, source: &[u8], at: usize) -> SourceResult<(TokenKind, usize)>
     requires inside { at < length source.now }
     requires below { at < source_limit }
     requires quote { slice_index source.now at ≡ 34 }

@@ -6,7 +6,7 @@ ghost use Rattle.om_lexer.specs.Tokens.{IsRun, IsWord, Spells, IsWrongText};
 
 use crate::character::is_word_byte;
 use crate::constant::constant;
-use crate::fault::{FaultCode, SourceFault};
+use crate::fault::{FaultCode, SourceFault, SourceResult};
 use crate::spelling::keyword_spelled;
 use crate::token::TokenKind;
 use om_seq::Seq;
@@ -30,7 +30,7 @@ pub(crate) fn word_end(source: &[u8], from: usize) -> usize
 }
 
 /// What a run of letters, digits and `_` is: a keyword, a name or a constant; `at` is its place.
-pub(crate) fn word_kind(alloc: Global, text: &[u8], at: u32) -> Result<TokenKind, SourceFault>
+pub(crate) fn word_kind(alloc: Global, text: &[u8], at: u32) -> SourceResult<TokenKind>
     requires { IsWord text.now }
     ensures kind { IfOk result (Spells text.now) }
     ensures fault { IfErr result (IsRefusalAt at (IsWrongText text.now)) }

@@ -15,16 +15,19 @@ use crate::input::{Known, SeenBody};
 use crate::names::names_with;
 use om_code::Body;
 use om_code::raw::Slot;
-use om_lower_emit::Done;
 use om_lower_emit::draft::PickList;
 use om_lower_rules::{BodyTables, Region, Variables, copy_slots, given_copies, parameter_slots};
 use om_lower_tables::{BodyPart, Site, function_variables, region_variables};
-use om_scope_tree::{Capture, Made};
-use om_seq::Seq;
+use om_scope_tree::Capture;
+use om_seq::{AllocResult, Seq};
 use std::alloc::Global;
 
 /// Adds the variables of these bodies behind those of other ones; false where a body has more than 256 slots.
-pub(crate) fn add_slots(slots: &mut Vec<Variables>, alloc: Global, sites: &[Site<'_>]) -> Made<bool>
+pub(crate) fn add_slots(
+    slots: &mut Vec<Variables>,
+    alloc: Global,
+    sites: &[Site<'_>],
+) -> AllocResult<bool>
     ensures few { IfOk result (λ few. few ≡ true → All HasFewSlots (bodies_in [] sites.now)) }
     ensures added { IfOk result (AddsAllVariables (bodies_in [] sites.now) slots.old slots.new) }
     ensures many { IfOk result (λ few.
@@ -39,7 +42,7 @@ pub(crate) fn add_slots(slots: &mut Vec<Variables>, alloc: Global, sites: &[Site
 }
 
 // Adds the variables of a body; false where it has more than 256 slots.
-fn add_variables(slots: &mut Vec<Variables>, alloc: Global, site: &Site<'_>) -> Made<bool>
+fn add_variables(slots: &mut Vec<Variables>, alloc: Global, site: &Site<'_>) -> AllocResult<bool>
     ensures few { IfOk result (λ few. HasSlots few (body_in [] site.now)) }
     ensures added { OnOk result (AddsVariables (body_in [] site.now) slots.old slots.new) }
 {
@@ -50,7 +53,7 @@ fn add_variables(slots: &mut Vec<Variables>, alloc: Global, site: &Site<'_>) -> 
 }
 
 // The variables of a body, by their slots.
-fn variables_in(alloc: Global, site: &Site<'_>) -> Made<Variables>
+fn variables_in(alloc: Global, site: &Site<'_>) -> AllocResult<Variables>
     ensures { IfOk result (λ made. made ≡ site_variables site.now) }
 {
     match &site.part {
@@ -73,7 +76,7 @@ pub(crate) fn add_sites<'a>(
     made: &mut Bodies,
     known: &'a Known<'a>,
     sites: &'a [Site<'a>],
-) -> Made<bool>
+) -> AllocResult<bool>
     requires given { IsInput known.now.input.now }
     requires ready { All (IsReadyIn known.now) (bodies_in [] sites.now) }
     requires bodies { made.old.bodies ≡ [] }
@@ -96,7 +99,7 @@ fn add_next<'a>(
     round: &mut Vec<&'a Variables>,
     known: &'a Known<'a>,
     site: &'a Site<'a>,
-) -> Made<bool>
+) -> AllocResult<bool>
     requires given { IsInput known.now.input.now }
     requires ready { IsReadyIn known.now (body_round (seen_round round.old.items) site.now) }
     ensures adds { IfOk result (AddsSite known.now round.old.items site.now made.old made.new) }
@@ -142,7 +145,7 @@ fn own_variables<'a>(known: &Known<'a>, site: &Site<'_>) -> &'a Variables
 }
 
 // Adds a body; false where it passes a limit on cells or instructions.
-fn add_body(made: &mut Bodies, seen: &SeenBody<'_>) -> Made<bool>
+fn add_body(made: &mut Bodies, seen: &SeenBody<'_>) -> AllocResult<bool>
     requires seen { IsSeen seen.now }
     ensures { IfOk result (AddsBody (seen_tree seen.now) (seen_body seen.now) made.old made.new) }
 {
@@ -153,7 +156,7 @@ fn add_body(made: &mut Bodies, seen: &SeenBody<'_>) -> Made<bool>
 }
 
 // The slots of a body; `None` where it passes a limit.
-fn frame_in(seen: &SeenBody<'_>) -> Made<Option<Seq<Slot>>>
+fn frame_in(seen: &SeenBody<'_>) -> AllocResult<Option<Seq<Slot>>>
     requires seen { IsSeen seen.now }
     ensures { IfOk result (FitsSlots (seen_body seen.now)) }
 {
@@ -174,7 +177,7 @@ fn captures_in<'a>(part: &BodyPart<'a>) -> &'a [Capture]
 }
 
 // Adds a body that has these slots; false where it has too many instructions.
-fn add_with(made: &mut Bodies, seen: &SeenBody<'_>, slots: Seq<Slot>) -> Made<bool>
+fn add_with(made: &mut Bodies, seen: &SeenBody<'_>, slots: Seq<Slot>) -> AllocResult<bool>
     requires seen { IsSeen seen.now }
     requires slots { FitsSlots (seen_body seen.now) (Some slots) }
     ensures { IfOk result (AddsBody (seen_tree seen.now) (seen_body seen.now) made.old made.new) }
@@ -200,7 +203,7 @@ fn add_with(made: &mut Bodies, seen: &SeenBody<'_>, slots: Seq<Slot>) -> Made<bo
 }
 
 // Puts a body and its lists behind those that are there.
-fn put_body(made: &mut Bodies, body: Body, lists: Vec<PickList>) -> Done
+fn put_body(made: &mut Bodies, body: Body, lists: Vec<PickList>) -> AllocResult<()>
     ensures bodies { OnOk result (made.new.bodies ≡ made.old.bodies ++ body ∷ []) }
     ensures lists { OnOk result (made.new.lists ≡ made.old.lists ++ lists.items) }
 {
@@ -213,7 +216,7 @@ pub(crate) fn put_both<T: Drop, L: Drop>(
     lists: &mut Seq<L>,
     item: T,
     more: Seq<L>,
-) -> Done
+) -> AllocResult<()>
     ensures items { OnOk result (items.new ≡ items.old ++ item ∷ []) }
     ensures lists { OnOk result (lists.new ≡ lists.old ++ more) }
 {
@@ -222,7 +225,7 @@ pub(crate) fn put_both<T: Drop, L: Drop>(
 }
 
 // The code of a body; `None` where it has too many instructions.
-fn code_in(seen: &SeenBody<'_>) -> Made<Option<Emitted>>
+fn code_in(seen: &SeenBody<'_>) -> AllocResult<Option<Emitted>>
     requires seen { IsSeen seen.now }
     ensures { IfOk result (λ code. FitsCode (seen_tree seen.now) (seen_body seen.now) code) }
 {
@@ -234,7 +237,7 @@ fn code_in(seen: &SeenBody<'_>) -> Made<Option<Emitted>>
 }
 
 // The slots that get the values with which a frame of a body begins.
-fn given_in(seen: &SeenBody<'_>) -> Made<Seq<u32>>
+fn given_in(seen: &SeenBody<'_>) -> AllocResult<Seq<u32>>
     requires seen { IsSeen seen.now }
     ensures { IfOk result (λ slots. slots ≡ given_of (seen_body seen.now)) }
 {
@@ -249,7 +252,7 @@ fn given_in(seen: &SeenBody<'_>) -> Made<Seq<u32>>
 }
 
 // The slots of the firstprivate copies of a region.
-fn copies_given(alloc: Global, region: &Region<'_>, variables: &Variables) -> Made<Seq<u32>>
+fn copies_given(alloc: Global, region: &Region<'_>, variables: &Variables) -> AllocResult<Seq<u32>>
     requires few { length variables.now ≤ 256 }
     requires variables { variables.now ≡ slots_of region.now }
     ensures { GivesSlots result variables.now (copied_variables (given_to region.now)) }

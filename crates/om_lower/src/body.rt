@@ -13,16 +13,16 @@ use crate::statement::{inner, statements};
 use om_code::Instr;
 use om_code::instruction::Barrier;
 use om_code::raw::Line;
+use om_lower_emit::Here;
 use om_lower_emit::clause::{parameters, reduction_starts, reductions, task_copies};
 use om_lower_emit::declaration::last_instruction;
 use om_lower_emit::draft::PickList;
 use om_lower_emit::spot::Spot;
 use om_lower_emit::writing::Writing;
-use om_lower_emit::{Done, Here};
 use om_lower_rules::{BodyTables, Numbers, Region, VariableScope};
 use om_lower_tables::{BodyPart, Site};
-use om_scope_tree::{Made, ResolvedFunction};
-use om_seq::Seq;
+use om_scope_tree::ResolvedFunction;
+use om_seq::{AllocResult, Seq};
 use std::alloc::Global;
 
 /// The code of a body, the lists of the PICKs in it, and the scopes of names, the innermost first.
@@ -40,7 +40,7 @@ pub(crate) fn emitted_in(
     alloc: Global,
     tables: &BodyTables<'_>,
     site: &Site<'_>,
-) -> Made<Option<Emitted>>
+) -> AllocResult<Option<Emitted>>
     requires code { HasSiteCode site.now }
     requires regions { HasSiteEnds tables.now site.now }
     ensures { IfOk result (FitsSite tables.now site.now) }
@@ -54,7 +54,12 @@ pub(crate) fn emitted_in(
 }
 
 // Writes all that stands in a body.
-fn write(alloc: Global, writing: &mut Writing, tables: &BodyTables<'_>, site: &Site<'_>) -> Done
+fn write(
+    alloc: Global,
+    writing: &mut Writing,
+    tables: &BodyTables<'_>,
+    site: &Site<'_>,
+) -> AllocResult<()>
     requires code { HasSiteCode site.now }
     requires regions { HasSiteEnds tables.now site.now }
     ensures code { WritesSiteBody result tables.now site.now writing.old writing.new }
@@ -74,7 +79,7 @@ fn write_function(
     tables: &BodyTables<'_>,
     numbers: Numbers,
     function: &ResolvedFunction,
-) -> Done
+) -> AllocResult<()>
     requires code { BodyHasCode (view.function function.now) FunctionBody }
     requires ends { HasOwnEnds tables.now numbers function.now }
     ensures code { WritesOwnBody result tables.now numbers function.now writing.old writing.new }
@@ -98,7 +103,7 @@ fn write_parallel(
     tables: &BodyTables<'_>,
     numbers: Numbers,
     region: &Region<'_>,
-) -> Done
+) -> AllocResult<()>
     requires code { StatementHasCode false false (statement_of region.now) }
     requires ends { HasEnds (known_in tables.now) (numbers_of numbers)
         (statement_of region.now) }
@@ -127,7 +132,7 @@ fn write_task(
     tables: &BodyTables<'_>,
     numbers: Numbers,
     region: &Region<'_>,
-) -> Done
+) -> AllocResult<()>
     requires code { StatementHasCode false false (statement_of region.now) }
     requires ends { HasEnds (known_in tables.now) (numbers_of numbers)
         (statement_of region.now) }
@@ -144,7 +149,7 @@ fn write_task(
 }
 
 // What is written of a body, with the place of each label in its stead, and the scopes that have ended.
-fn settled(alloc: Global, writing: Writing) -> Made<Emitted>
+fn settled(alloc: Global, writing: Writing) -> AllocResult<Emitted>
     requires { length writing.draft.code ≤ 65536 }
     ensures code { IfOk result (λ made. made.code ≡ settled_code writing.draft) }
     ensures lists { IfOk result (λ made. made.lists.items ≡ settled_lists writing.draft) }

@@ -5,8 +5,8 @@ ghost use Rattle.om_lower.specs.Words.{FitsVariables, frame_cells, own_cells};
 
 use om_code::raw::{Slot, Source};
 use om_lower_rules::{Extents, Variables, slots_with};
-use om_scope_tree::{Capture, Made};
-use om_seq::Seq;
+use om_scope_tree::Capture;
+use om_seq::{AllocResult, Seq};
 use std::alloc::Global;
 
 /// How many slots a body may have.
@@ -22,7 +22,7 @@ pub(crate) fn frame_of(
     outer: &Variables,
     captures: &[Capture],
     variables: &Variables,
-) -> Made<Option<Seq<Slot>>>
+) -> AllocResult<Option<Seq<Slot>>>
     requires { length outer.now ≤ 256 }
     ensures { IfOk result (FitsVariables extents.now outer.now captures.now variables.now) }
 {

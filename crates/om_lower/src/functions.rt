@@ -9,12 +9,11 @@ ghost use Rattle.om_scope_tree.specs.ResolvedView as view;
 use crate::bodies::{Bodies, add_sites, add_slots, put_both};
 use crate::input::{Input, Known};
 use om_code::Body;
-use om_lower_emit::Done;
 use om_lower_emit::draft::PickList;
 use om_lower_rules::{Extents, Numbers, Tables, Variables};
 use om_lower_tables::{Site, sites_of};
-use om_scope_tree::{Made, ResolvedFunction};
-use om_seq::Seq;
+use om_scope_tree::ResolvedFunction;
+use om_seq::{AllocResult, Seq};
 
 /// How many instructions a body may have.
 pub const INSTRUCTION_LIMIT: usize = 65_536;
@@ -44,7 +43,7 @@ pub(crate) struct Placed {
 
 /// The bodies of all functions, or of those before the first that passes a limit on slots, cells or
 /// instructions.
-pub(crate) fn lower_functions(input: &Input<'_>) -> Made<Lowered>
+pub(crate) fn lower_functions(input: &Input<'_>) -> AllocResult<Lowered>
     requires given { IsInput input.now }
     ensures { IfOk result (AreGathered (tree_of input.now)) }
 {
@@ -69,7 +68,11 @@ pub(crate) struct Next<'a> {
 
 // Adds the bodies of all functions, or of those before the first that passes a limit. The variables
 // of each body are found once, and kept by its number.
-fn add_functions(lowered: &mut Lowered, slots: &mut Vec<Variables>, input: &Input<'_>) -> Done
+fn add_functions(
+    lowered: &mut Lowered,
+    slots: &mut Vec<Variables>,
+    input: &Input<'_>,
+) -> AllocResult<()>
     requires given { IsInput input.now }
     requires functions { lowered.old.functions ≡ [] }
     requires lists { lowered.old.lists ≡ [] }
@@ -117,7 +120,7 @@ fn add_function(
     slots: &mut Vec<Variables>,
     input: &Input<'_>,
     next: &Next<'_>,
-) -> Made<bool>
+) -> AllocResult<bool>
     requires given { IsInput input.now }
     requires next { IsNext input.now.tables.now slots.old.items next.now }
     ensures adds { IfOk result (AddsNext (tree_of input.now) next.now lowered.old lowered.new) }
@@ -142,7 +145,7 @@ fn add_bodies<'a>(
     known: &'a Known<'a>,
     next: &Next<'a>,
     sites: &'a [Site<'a>],
-) -> Made<bool>
+) -> AllocResult<bool>
     requires given { IsInput known.now.input.now }
     requires sites { bodies_in [] sites.now ≡ next_bodies next.now }
     requires ready { All (IsReadyIn known.now) (next_bodies next.now) }
@@ -158,7 +161,7 @@ fn add_bodies<'a>(
 }
 
 // Puts the bodies of a function and their lists behind those that are there, where they fit.
-fn put_function(lowered: &mut Lowered, bodies: Bodies, fits: Made<bool>) -> Made<bool>
+fn put_function(lowered: &mut Lowered, bodies: Bodies, fits: AllocResult<bool>) -> AllocResult<bool>
     ensures fits { IfOk result (λ put. fits ≡ Ok put) }
     ensures functions { IfOk result (PutsBodies bodies lowered.old lowered.new) }
     ensures lists { IfOk result (PutsLists bodies lowered.old lowered.new) }
@@ -179,8 +182,8 @@ fn put_where<T: Drop, L: Drop>(
     lists: &mut Seq<L>,
     item: T,
     more: Seq<L>,
-    fits: Made<bool>,
-) -> Made<bool>
+    fits: AllocResult<bool>,
+) -> AllocResult<bool>
     ensures fits { IfOk result (λ put. fits ≡ Ok put) }
     ensures items { IfOk result (λ put. IsPut put items.old (item ∷ []) items.new) }
     ensures lists { IfOk result (λ put. IsPut put lists.old more lists.new) }

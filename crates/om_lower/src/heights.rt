@@ -6,8 +6,7 @@ ghost use Rattle.om_lower.specs.Heights.{AreLevel, AreLow, IsFirstHigh, IsHigh, 
 
 use om_code::height::check_heights;
 use om_code::{Body, CodeFault};
-use om_scope_tree::Made;
-use om_seq::Seq;
+use om_seq::{AllocResult, Seq};
 use std::alloc::{AllocError, Global};
 
 /// The first function that has a body with more than 256 operands at once; the bodies stand function
@@ -16,7 +15,7 @@ pub(crate) fn first_high(
     alloc: Global,
     picks: &[Seq<u32>],
     functions: &[Seq<Body>],
-) -> Made<Option<usize>>
+) -> AllocResult<Option<usize>>
     requires { All (λ bodies. AreLevel picks.now bodies) functions.now }
     ensures { IfOk result (λ index. IsFirstHigh picks.now functions.now index) }
 {
@@ -29,7 +28,7 @@ pub(crate) fn first_high(
 }
 
 // Whether bodies have at most 256 operands at once.
-fn are_low(alloc: Global, picks: &[Seq<u32>], bodies: &[Body]) -> Made<bool>
+fn are_low(alloc: Global, picks: &[Seq<u32>], bodies: &[Body]) -> AllocResult<bool>
     requires { AreLevel picks.now bodies.now }
     ensures low { IfOk result (λ low. low ≡ true → AreLow picks.now bodies.now) }
     ensures high { IfOk result (λ low. low ≡ false → IsHigh picks.now bodies.now) }
@@ -43,7 +42,7 @@ fn are_low(alloc: Global, picks: &[Seq<u32>], bodies: &[Body]) -> Made<bool>
 }
 
 // Whether a body has at most 256 operands at once.
-fn is_low(alloc: Global, picks: &[Seq<u32>], body: &Body) -> Made<bool>
+fn is_low(alloc: Global, picks: &[Seq<u32>], body: &Body) -> AllocResult<bool>
     requires { IsLevelBody picks.now body.now }
     ensures low { IfOk result (λ low. low ≡ true → IsLow picks.now body.now.code) }
     ensures high { IfOk result (λ low. low ≡ false → ¬ (IsLow picks.now body.now.code)) }

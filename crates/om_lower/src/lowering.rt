@@ -12,13 +12,13 @@ use crate::input::Input;
 use crate::laws::each_once;
 use crate::program::program_of;
 use om_code::Program;
-use om_lexer::{FaultCode, SourceFault};
+use om_lexer::{FaultCode, SourceFault, SourceResult};
 use om_lower_emit::draft::PickList;
 use om_lower_rules::laws::{body_is_level, whole_has_code};
 use om_lower_rules::meaning::serial_meaning;
 use om_lower_tables::tables_of;
-use om_scope_tree::{Made, Resolved, ResolvedFunction};
-use om_seq::Seq;
+use om_scope_tree::{Resolved, ResolvedFunction};
+use om_seq::{AllocResult, Seq};
 use std::alloc::Global;
 
 /// The program whose bodies are the code of the tree's functions.
@@ -36,7 +36,7 @@ use std::alloc::Global;
 /// - S11 at a function's name: a body of it has more than 256 slots, more than 4,096 cells of its
 ///   own, more than 65,536 instructions, or more than 256 operands at once. Of several such functions
 ///   the first is named.
-pub fn lower(alloc: Global, resolved: &Resolved) -> Result<Program, SourceFault>
+pub fn lower(alloc: Global, resolved: &Resolved) -> SourceResult<Program>
     requires whole { IsWholeTree (view.resolved resolved.now) }
     requires atomics { TreeAtomicsAssign (view.resolved resolved.now) }
     requires copies { TreeCopiesBehind (view.resolved resolved.now) }
@@ -57,7 +57,7 @@ pub fn lower(alloc: Global, resolved: &Resolved) -> Result<Program, SourceFault>
 }
 
 // The program of a tree, where its tables are made.
-fn lower_input(input: &Input<'_>) -> Result<Program, SourceFault>
+fn lower_input(input: &Input<'_>) -> SourceResult<Program>
     requires given { IsInput input.now }
     ensures code { IfOk result (λ program. IsCodeOf (tree_of input.now) program) }
     ensures within { OnOk result (AreWithin (tree_of input.now)) }
@@ -69,7 +69,7 @@ fn lower_input(input: &Input<'_>) -> Result<Program, SourceFault>
 }
 
 // The bodies of functions, with the lists of all PICKs in them at their numbers.
-fn placed_functions(input: &Input<'_>) -> Made<Placed>
+fn placed_functions(input: &Input<'_>) -> AllocResult<Placed>
     requires given { IsInput input.now }
     ensures { IfOk result (ArePlaced (tree_of input.now)) }
 {
@@ -89,7 +89,7 @@ fn placed_functions(input: &Input<'_>) -> Made<Placed>
 }
 
 // S11 at the name of the first function that passes a limit, if one does.
-fn within_limits(input: &Input<'_>, placed: &Placed) -> Result<(), SourceFault>
+fn within_limits(input: &Input<'_>, placed: &Placed) -> SourceResult<()>
     requires lowered { ArePlaced (tree_of input.now) placed.now }
     ensures low { OnOk result (IsOverIn placed.now None) }
     ensures refused { IfErr result (IsRefusal (tree_of input.now)) }
@@ -101,7 +101,7 @@ fn within_limits(input: &Input<'_>, placed: &Placed) -> Result<(), SourceFault>
 }
 
 // The first function that passes a limit, if one does.
-fn over_at(input: &Input<'_>, placed: &Placed) -> Made<Option<usize>>
+fn over_at(input: &Input<'_>, placed: &Placed) -> AllocResult<Option<usize>>
     requires { ArePlaced (tree_of input.now) placed.now }
     ensures over { IfOk result (IsOverIn placed.now) }
     ensures within { IfOk result (IsIndexIn input.now.resolved.now.functions.items) }
@@ -128,7 +128,7 @@ fn too_many(function: &ResolvedFunction) -> SourceFault
 }
 
 // So many lists, each of these at its number. Their numbers are those below the count, each once.
-fn joined(alloc: Global, count: u32, lists: Vec<PickList>) -> Made<Seq<Seq<u32>>>
+fn joined(alloc: Global, count: u32, lists: Vec<PickList>) -> AllocResult<Seq<Seq<u32>>>
     requires { IsEachOnce count (map number_of lists.items) }
     ensures long { IfOk result (λ picks. length picks ≡ count) }
     ensures stand { IfOk result (λ picks. ListsStand lists.items picks) }
@@ -141,7 +141,7 @@ fn joined(alloc: Global, count: u32, lists: Vec<PickList>) -> Made<Seq<Seq<u32>>
 }
 
 // So many lists without places.
-fn empty_lists(alloc: Global, count: u32) -> Made<Vec<Seq<u32>>>
+fn empty_lists(alloc: Global, count: u32) -> AllocResult<Vec<Seq<u32>>>
     ensures { IfOk result (λ picks. length picks.items ≡ count) }
 {
     let mut picks = Vec::new(alloc);

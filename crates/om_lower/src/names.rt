@@ -5,8 +5,7 @@ ghost use Rattle.om_lower.specs.Words.{AreInside, IsInside, names_with, scope_in
 
 use om_code::raw::{Names, Scope};
 use om_lower_rules::{VariableScope, Variables};
-use om_scope_tree::Made;
-use om_seq::Seq;
+use om_seq::{AllocResult, Seq};
 use std::alloc::Global;
 
 /// What names mean in a body with these scopes and variables, in a body with those: by their slots.
@@ -16,7 +15,7 @@ pub(crate) fn names_with(
     named: Vec<VariableScope>,
     variables: &Variables,
     outer: &Variables,
-) -> Made<Names>
+) -> AllocResult<Names>
     requires named { AreInside 65536 named.items }
     requires few { length variables.now ≤ 256 }
     requires round { length outer.now ≤ 256 }
@@ -29,7 +28,11 @@ pub(crate) fn names_with(
 }
 
 // Scopes, by the slots of a body with these variables.
-fn scopes_in(alloc: Global, named: Vec<VariableScope>, variables: &Variables) -> Made<Seq<Scope>>
+fn scopes_in(
+    alloc: Global,
+    named: Vec<VariableScope>,
+    variables: &Variables,
+) -> AllocResult<Seq<Scope>>
     requires named { AreInside 65536 named.items }
     requires few { length variables.now ≤ 256 }
     ensures { IfOk result (λ scopes. scopes ≡ map (scope_in variables.now) named.items) }
@@ -57,7 +60,11 @@ fn scope_in(variables: &Variables, named: VariableScope) -> Scope
 }
 
 // For each of these variables its slot in the body round them, where that has it.
-fn slots_among(alloc: Global, outer: &Variables, variables: &Variables) -> Made<Seq<Option<u32>>>
+fn slots_among(
+    alloc: Global,
+    outer: &Variables,
+    variables: &Variables,
+) -> AllocResult<Seq<Option<u32>>>
     requires { length outer.now ≤ 256 }
     ensures { IfOk result (λ slots. slots ≡ map (slot_among outer.now) variables.now) }
 {

@@ -12,17 +12,17 @@ use crate::input::Input;
 use crate::texts::text_of;
 use om_code::raw::{self, Piece};
 use om_code::{Body, Program, Raw};
-use om_lexer::SourceFault;
+use om_lexer::SourceResult;
 use om_lower_rules::laws::code_is_valid;
 use om_lower_rules::{BodyTables, Texts, Variables};
-use om_scope_tree::{GlobalVariable, Made, Resolved, ResolvedFunction};
-use om_seq::Seq;
+use om_scope_tree::{GlobalVariable, Resolved, ResolvedFunction};
+use om_seq::{AllocResult, Seq};
 use std::alloc::Global;
 
 /// The program of a tree, whose functions have these bodies.
 ///
 /// Its only refusal is out of memory.
-pub(crate) fn program_of(input: &Input<'_>, placed: Placed) -> Result<Program, SourceFault>
+pub(crate) fn program_of(input: &Input<'_>, placed: Placed) -> SourceResult<Program>
     requires given { IsInput input.now }
     requires lowered { IsLowered (tree_of input.now) placed.picks placed.functions true }
     requires low { All (λ bodies. AreLow placed.picks bodies) placed.functions }
@@ -35,7 +35,7 @@ pub(crate) fn program_of(input: &Input<'_>, placed: Placed) -> Result<Program, S
 }
 
 // The code of a program, in one value.
-fn raw_of(input: &Input<'_>, placed: Placed) -> Made<Raw>
+fn raw_of(input: &Input<'_>, placed: Placed) -> AllocResult<Raw>
     requires given { IsInput input.now }
     requires lowered { IsLowered (tree_of input.now) placed.picks placed.functions true }
     ensures code { IfOk result (λ raw. IsCodeOf (tree_of input.now) raw) }
@@ -64,7 +64,7 @@ fn raw_of(input: &Input<'_>, placed: Placed) -> Made<Raw>
 }
 
 // The bodies of functions, one behind the other.
-fn flattened(alloc: Global, functions: Seq<Seq<Body>>) -> Made<Seq<Body>>
+fn flattened(alloc: Global, functions: Seq<Seq<Body>>) -> AllocResult<Seq<Body>>
     ensures { IfOk result (λ bodies. bodies ≡ flattened functions) }
 {
     let mut functions = functions.into_vec();
@@ -77,7 +77,7 @@ fn flattened(alloc: Global, functions: Seq<Seq<Body>>) -> Made<Seq<Body>>
 }
 
 // What PRINT writes for each format.
-fn texts_of(alloc: Global, formats: &Texts) -> Made<Seq<Seq<Piece>>>
+fn texts_of(alloc: Global, formats: &Texts) -> AllocResult<Seq<Seq<Piece>>>
     requires { All (λ format. IsSome (pieces_of format)) formats.now }
     ensures { IfOk result (λ texts. AllZip IsTextOf formats.now texts) }
 {
@@ -89,7 +89,7 @@ fn texts_of(alloc: Global, formats: &Texts) -> Made<Seq<Seq<Piece>>>
 }
 
 // What PRINT writes for the format of this number.
-fn text_at(alloc: Global, formats: &Texts, number: usize) -> Made<Seq<Piece>>
+fn text_at(alloc: Global, formats: &Texts, number: usize) -> AllocResult<Seq<Piece>>
     requires there { number < length formats.now }
     requires formats { All (λ format. IsSome (pieces_of format)) formats.now }
     ensures { IfOk result (IsTextAt formats.now number) }
@@ -104,7 +104,7 @@ fn text_at(alloc: Global, formats: &Texts, number: usize) -> Made<Seq<Piece>>
 }
 
 // Texts, in the order of their numbers.
-fn copy_texts(alloc: Global, texts: &Texts) -> Made<Seq<Seq<u8>>>
+fn copy_texts(alloc: Global, texts: &Texts) -> AllocResult<Seq<Seq<u8>>>
     ensures { IfOk result (λ copied. copied ≡ texts.now) }
 {
     let mut copied = Vec::new(alloc);
@@ -115,7 +115,7 @@ fn copy_texts(alloc: Global, texts: &Texts) -> Made<Seq<Seq<u8>>>
 }
 
 // The text of this number.
-fn copy_text(alloc: Global, texts: &Texts, number: usize) -> Made<Seq<u8>>
+fn copy_text(alloc: Global, texts: &Texts, number: usize) -> AllocResult<Seq<u8>>
     requires { number < length texts.now }
     ensures { IfOk result (λ text. slice_get texts.now number ≡ Some text) }
 {
@@ -126,7 +126,7 @@ fn copy_text(alloc: Global, texts: &Texts, number: usize) -> Made<Seq<u8>>
 }
 
 // The global variables of the code.
-fn copy_globals(alloc: Global, globals: &[GlobalVariable]) -> Made<Seq<raw::GlobalVariable>>
+fn copy_globals(alloc: Global, globals: &[GlobalVariable]) -> AllocResult<Seq<raw::GlobalVariable>>
     ensures { IfOk result (λ copied. copied ≡ map global_of globals.now) }
 {
     let mut copied = Vec::new(alloc);
@@ -137,7 +137,7 @@ fn copy_globals(alloc: Global, globals: &[GlobalVariable]) -> Made<Seq<raw::Glob
 }
 
 // A global variable of the code.
-fn copy_global(alloc: Global, global: &GlobalVariable) -> Made<raw::GlobalVariable>
+fn copy_global(alloc: Global, global: &GlobalVariable) -> AllocResult<raw::GlobalVariable>
     ensures { IfOk result (λ copied. copied ≡ global_of global.now) }
 {
     let name = global.name.as_slice().to_vec(alloc)?;

@@ -8,9 +8,10 @@ ghost use Rattle.om_lower.specs.Words.{GivesBehind, ValueHasCode, value_in};
 use om_code::Instr;
 use om_lower_emit::clause::clause_value;
 use om_lower_emit::draft::Draft;
-use om_lower_emit::{Done, Here, value};
+use om_lower_emit::{Here, value};
 use om_lower_rules::{BodyTables, FirstCopy, Numbers, Region, Variables, given_copies};
-use om_scope_tree::{Made, ResolvedClause};
+use om_scope_tree::ResolvedClause;
+use om_seq::AllocResult;
 use std::alloc::Global;
 
 /// Writes what stands in the place of a `parallel`, and gives the numbers behind it. Its body gets
@@ -21,7 +22,7 @@ pub(crate) fn parallel(
     tables: &BodyTables<'_>,
     numbers: Numbers,
     region: &Region<'_>,
-) -> Made<Numbers>
+) -> AllocResult<Numbers>
     requires code { IfSome (value_in region.now.clauses.now) ValueHasCode }
     requires known { IsKnownThere tables.now numbers region.now }
     ensures behind { GivesBehind result numbers (parallel_of region.now) }
@@ -53,7 +54,7 @@ pub(crate) fn task(
     tables: &BodyTables<'_>,
     numbers: Numbers,
     region: &Region<'_>,
-) -> Made<Numbers>
+) -> AllocResult<Numbers>
     requires known { IsKnownThere tables.now numbers region.now }
     ensures behind { GivesBehind result numbers (task_of region.now) }
     ensures emitted { EmitsTask result tables.now numbers region.now draft.old draft.new }
@@ -75,7 +76,7 @@ fn load_given(
     tables: &BodyTables<'_>,
     region: &Region<'_>,
     variables: &Variables,
-) -> Made<usize>
+) -> AllocResult<usize>
     requires variables { variables.now ≡ slots_of region.now }
     requires few { length variables.now ≤ 256 }
     ensures few { IfOk result (λ count. count ≤ 256) }
@@ -90,7 +91,7 @@ fn load_given(
 
 // Writes the size that a `parallel` asks for, if one of its clauses does (OpenMP API 5.2, section
 // 10.1.2), and says whether one does.
-fn team_size(draft: &mut Draft, here: &Here<'_>, clauses: &[ResolvedClause]) -> Made<bool>
+fn team_size(draft: &mut Draft, here: &Here<'_>, clauses: &[ResolvedClause]) -> AllocResult<bool>
     requires { IfSome (value_in clauses.now) ValueHasCode }
     ensures sized { IfOk result (λ sized. sized ≡ is_some (value_in clauses.now)) }
     ensures emitted { AppendsTeamSize result here.now clauses.now draft.old draft.new }
@@ -105,7 +106,7 @@ fn team_size(draft: &mut Draft, here: &Here<'_>, clauses: &[ResolvedClause]) -> 
 }
 
 // Loads the originals of the firstprivate copies of a region, by the slots of the copies.
-fn load_originals(draft: &mut Draft, here: &Here<'_>, copies: &[FirstCopy]) -> Done
+fn load_originals(draft: &mut Draft, here: &Here<'_>, copies: &[FirstCopy]) -> AllocResult<()>
     ensures { LoadsOriginals result here.now copies.now draft.old draft.new }
 {
     for copy in copies {

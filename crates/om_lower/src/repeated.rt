@@ -6,19 +6,20 @@ ghost use Rattle.om_lower.specs.Words.{EndsDo, EndsFor, EndsLoop, FreshTurn, Sco
 ghost use Rattle.om_lower.specs.Words.{ValueHasCode, do_begin};
 ghost use Rattle.om_scope_tree.specs.ResolvedView as view;
 
+use om_lower_emit::Here;
 use om_lower_emit::declaration::{perhaps_effect, perhaps_test, start, test};
 use om_lower_emit::draft::{Draft, Jump};
 use om_lower_emit::spot::{LoopLabels, TurnLabels};
 use om_lower_emit::writing::Writing;
-use om_lower_emit::{Done, Here};
-use om_scope_tree::{Made, ResolvedExpression, ResolvedStart};
+use om_scope_tree::{ResolvedExpression, ResolvedStart};
+use om_seq::AllocResult;
 
 /// Writes the head of a `while` (C17 6.8.5.1).
 pub(crate) fn begin_while(
     draft: &mut Draft,
     here: &Here<'_>,
     condition: &ResolvedExpression,
-) -> Made<LoopLabels>
+) -> AllocResult<LoopLabels>
     requires { ValueHasCode (view.expression condition.now) }
     ensures { BeginsWhile result here.now condition.now draft.old draft.new }
 {
@@ -30,7 +31,7 @@ pub(crate) fn begin_while(
 }
 
 /// Writes the end of a loop: it begins again.
-pub(crate) fn end_loop(draft: &mut Draft, line: u32, labels: LoopLabels) -> Done
+pub(crate) fn end_loop(draft: &mut Draft, line: u32, labels: LoopLabels) -> AllocResult<()>
     requires { slice_get draft.old.places labels.over ≡ Some None }
     ensures { OnOk result (EndsLoop line labels draft.old draft.new) }
 {
@@ -40,7 +41,7 @@ pub(crate) fn end_loop(draft: &mut Draft, line: u32, labels: LoopLabels) -> Done
 }
 
 // Makes the labels of a loop in which `continue` does not go to its begin.
-fn turn_labels(draft: &mut Draft) -> Made<TurnLabels>
+fn turn_labels(draft: &mut Draft) -> AllocResult<TurnLabels>
     ensures { IfOk result (λ labels. FreshTurn labels draft.old draft.new) }
 {
     let again = draft.fresh()?;
@@ -50,7 +51,7 @@ fn turn_labels(draft: &mut Draft) -> Made<TurnLabels>
 }
 
 /// Writes the head of a `do` (C17 6.8.5.2).
-pub(crate) fn begin_do(draft: &mut Draft) -> Made<TurnLabels>
+pub(crate) fn begin_do(draft: &mut Draft) -> AllocResult<TurnLabels>
     ensures { IfOk result (λ labels. BeginsTurn labels (do_begin labels) draft.old draft.new) }
 {
     let labels = turn_labels(draft)?;
@@ -64,7 +65,7 @@ pub(crate) fn end_do(
     here: &Here<'_>,
     labels: TurnLabels,
     condition: &ResolvedExpression,
-) -> Done
+) -> AllocResult<()>
     requires condition { ValueHasCode (view.expression condition.now) }
     requires next { slice_get draft.old.places labels.next ≡ Some None }
     requires over { slice_get draft.old.places labels.over ≡ Some None }
@@ -84,7 +85,7 @@ pub(crate) fn begin_for(
     here: &Here<'_>,
     begin: &ResolvedStart,
     condition: &Option<ResolvedExpression>,
-) -> Made<TurnLabels>
+) -> AllocResult<TurnLabels>
     requires start { StartHasCode (view.start begin.now) }
     requires condition { IfSome (option_map view.expression condition.now) ValueHasCode }
     ensures code { BeginsFor result here.now begin.now condition.now writing.old writing.new }
@@ -103,7 +104,7 @@ pub(crate) fn end_for(
     here: &Here<'_>,
     labels: TurnLabels,
     step: &Option<ResolvedExpression>,
-) -> Done
+) -> AllocResult<()>
     requires step { IfSome (option_map view.expression step.now) EffectHasCode }
     requires next { slice_get draft.old.places labels.next ≡ Some None }
     requires over { slice_get draft.old.places labels.over ≡ Some None }
@@ -122,7 +123,7 @@ pub(crate) fn begin_if(
     draft: &mut Draft,
     here: &Here<'_>,
     condition: &ResolvedExpression,
-) -> Made<usize>
+) -> AllocResult<usize>
     requires { ValueHasCode (view.expression condition.now) }
     ensures { BeginsIf result here.now condition.now draft.old draft.new }
 {
@@ -133,7 +134,7 @@ pub(crate) fn begin_if(
 
 /// Writes what stands between the two statements of an `if` with `else`: the first goes on behind the
 /// second, which begins at the head's label. The new label is to be placed behind the second.
-pub(crate) fn begin_else(draft: &mut Draft, line: u32, head: usize) -> Made<usize>
+pub(crate) fn begin_else(draft: &mut Draft, line: u32, head: usize) -> AllocResult<usize>
     requires { slice_get draft.old.places head ≡ Some None }
     ensures { BeginsElse result line head draft.old draft.new }
 {

@@ -23,7 +23,8 @@ use om_lower_emit::spot::Spot;
 use om_lower_emit::unused::effect;
 use om_lower_emit::writing::Writing;
 use om_lower_rules::{BodyTables, Numbers, Region};
-use om_scope_tree::{ConstructKind, Made, ResolvedHead, ResolvedPart, ResolvedStatement};
+use om_scope_tree::{ConstructKind, ResolvedHead, ResolvedPart, ResolvedStatement};
+use om_seq::AllocResult;
 use std::alloc::Global;
 
 /// Writes the code of a statement, and gives the numbers behind it.
@@ -36,7 +37,7 @@ pub(crate) fn statement(
     tables: &BodyTables<'_>,
     spot: Spot,
     tree: &ResolvedStatement,
-) -> Made<Numbers>
+) -> AllocResult<Numbers>
     requires code { HasCodeThere spot tree.now }
     requires ends { HasEndsThere tables.now spot tree.now }
     ensures behind { GivesBehind result spot.numbers (view.statement tree.now) }
@@ -256,7 +257,7 @@ pub(crate) fn inner(
     tables: &BodyTables<'_>,
     spot: Spot,
     tree: &ResolvedStatement,
-) -> Made<Numbers>
+) -> AllocResult<Numbers>
     requires code { HasCodeThere spot tree.now }
     requires ends { HasEndsThere tables.now spot tree.now }
     ensures behind { GivesBehind result spot.numbers (view.statement tree.now) }
@@ -278,7 +279,7 @@ pub(crate) fn statements(
     tables: &BodyTables<'_>,
     spot: Spot,
     items: &[ResolvedStatement],
-) -> Made<Numbers>
+) -> AllocResult<Numbers>
     requires code { HaveCodeThere spot items.now }
     requires ends { HaveEndsThere tables.now spot items.now }
     ensures behind { GivesAllBehind result spot items.now }
@@ -303,7 +304,7 @@ pub(crate) fn parts(
     tables: &BodyTables<'_>,
     spot: PartsSpot,
     sections: &[ResolvedPart],
-) -> Made<Numbers>
+) -> AllocResult<Numbers>
     requires code { PartsHaveCode (part_trees sections.now) }
     requires ends { HavePartsEndsThere tables.now spot sections.now }
     requires free { AreFree spot.first (length sections.now) writing.old.draft }

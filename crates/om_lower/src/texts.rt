@@ -6,9 +6,7 @@ ghost use Rattle.om_lower.specs.Texts.{text_of};
 ghost use Rattle.om_scope_tree.specs.Formats as formats;
 
 use om_code::raw::Piece;
-use om_lower_emit::Done;
-use om_scope_tree::Made;
-use om_seq::Seq;
+use om_seq::{AllocResult, Seq};
 use std::alloc::Global;
 
 // The pieces that were cut, and the bytes behind them that no piece has yet.
@@ -19,7 +17,7 @@ struct Cut {
 }
 
 /// A format of `printf` in its pieces (C17 7.21.6.1); `None` where it is none.
-pub fn text_of(alloc: Global, format: &[u8]) -> Made<Option<Seq<Piece>>>
+pub fn text_of(alloc: Global, format: &[u8]) -> AllocResult<Option<Seq<Piece>>>
     ensures { IfOk result (λ text. text ≡ text_of format.now) }
 {
     let mut cut = Cut {
@@ -35,7 +33,7 @@ pub fn text_of(alloc: Global, format: &[u8]) -> Made<Option<Seq<Piece>>>
 }
 
 // Cuts a whole format behind what was cut, if it is one.
-fn cut_format(alloc: Global, cut: &mut Cut, format: &[u8]) -> Made<bool>
+fn cut_format(alloc: Global, cut: &mut Cut, format: &[u8]) -> AllocResult<bool>
     ensures { IfOk result (λ whole. cut_behind cut.old format.now ≡ cut_pieces cut.new whole) }
 {
     let mut left = format;
@@ -50,7 +48,12 @@ fn cut_format(alloc: Global, cut: &mut Cut, format: &[u8]) -> Made<bool>
 }
 
 // Cuts what begins with a byte, and answers what is behind it; `None` where no format goes on so.
-fn cut_next<'a>(alloc: Global, cut: &mut Cut, byte: u8, rest: &'a [u8]) -> Made<Option<&'a [u8]>>
+fn cut_next<'a>(
+    alloc: Global,
+    cut: &mut Cut,
+    byte: u8,
+    rest: &'a [u8],
+) -> AllocResult<Option<&'a [u8]>>
     ensures same { IfOk result (λ left.
         cut_behind cut.old (byte ∷ rest.now) ≡ cut_left cut.new left) }
     ensures shorter { IfOk result (λ left. IfSome left (λ one. length one.now ≤ length rest.now)) }
@@ -63,7 +66,7 @@ fn cut_next<'a>(alloc: Global, cut: &mut Cut, byte: u8, rest: &'a [u8]) -> Made<
 }
 
 // Cuts what begins behind a `%`.
-fn cut_converted<'a>(alloc: Global, cut: &mut Cut, rest: &'a [u8]) -> Made<Option<&'a [u8]>>
+fn cut_converted<'a>(alloc: Global, cut: &mut Cut, rest: &'a [u8]) -> AllocResult<Option<&'a [u8]>>
     ensures shorter { IfOk result (λ left. IfSome left (λ one. length one.now ≤ length rest.now)) }
     ensures same { IfOk result (λ left.
         converted_behind cut.old rest.now ≡ cut_left cut.new left) }
@@ -83,7 +86,7 @@ fn cut_converted<'a>(alloc: Global, cut: &mut Cut, rest: &'a [u8]) -> Made<Optio
 }
 
 // Adds a byte that is written.
-fn add_byte(cut: &mut Cut, byte: u8) -> Done
+fn add_byte(cut: &mut Cut, byte: u8) -> AllocResult<()>
     ensures { OnOk result (CutsFrom (formats.with_byte byte) cut.old cut.new) }
 {
     cut.run.push(byte)?;
@@ -91,7 +94,7 @@ fn add_byte(cut: &mut Cut, byte: u8) -> Done
 }
 
 // Adds a value that is written in decimal.
-fn add_value(alloc: Global, cut: &mut Cut) -> Done
+fn add_value(alloc: Global, cut: &mut Cut) -> AllocResult<()>
     ensures { OnOk result (CutsFrom (λ rest. formats.Value ∷ rest) cut.old cut.new) }
 {
     flush(alloc, cut)?;
@@ -100,7 +103,7 @@ fn add_value(alloc: Global, cut: &mut Cut) -> Done
 }
 
 // Makes a piece of the bytes that have none yet, if there are any.
-fn flush(alloc: Global, cut: &mut Cut) -> Done
+fn flush(alloc: Global, cut: &mut Cut) -> AllocResult<()>
     ensures pieces { OnOk result (cut.new.pieces.items ≡ behind_cut cut.old []) }
     ensures run { OnOk result (cut.new.run.items ≡ []) }
 {

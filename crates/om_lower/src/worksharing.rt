@@ -11,9 +11,10 @@ use om_lower_emit::clause::{reductions, starts};
 use om_lower_emit::draft::{Draft, Jump};
 use om_lower_emit::spot::LoopLabels;
 use om_lower_emit::writing::Writing;
-use om_lower_emit::{Done, Here, value};
+use om_lower_emit::{Here, value};
 use om_lower_rules::Numbers;
-use om_scope_tree::{Made, ResolvedClause, ResolvedLoop, ResolvedPart};
+use om_scope_tree::{ResolvedClause, ResolvedLoop, ResolvedPart};
+use om_seq::AllocResult;
 use std::alloc::Global;
 
 /// A `sections`, where it stands: the numbers of the next body and of its own list of PICK.
@@ -45,7 +46,7 @@ pub(crate) fn begin_worksharing(
     here: &Here<'_>,
     clauses: &[ResolvedClause],
     repeated: &ResolvedLoop,
-) -> Made<LoopLabels>
+) -> AllocResult<LoopLabels>
     requires { LoopHasCode (view.loop repeated.now) }
     ensures code { BeginsSharedLoop result here.now clauses.now repeated.now writing.old writing.new }
     ensures scopes { ScopesSharedLoop result here.now clauses.now repeated.now writing.old writing.new }
@@ -83,7 +84,7 @@ pub(crate) fn end_worksharing(
     here: &Here<'_>,
     clauses: &[ResolvedClause],
     nowait: bool,
-) -> Done
+) -> AllocResult<()>
     ensures { EndsWorksharing result here.now clauses.now nowait draft.old draft.new }
 {
     reductions(draft, here, clauses)?;
@@ -99,7 +100,7 @@ pub(crate) fn begin_parts(
     here: &Here<'_>,
     head: &SectionsHead<'_>,
     parts: &[ResolvedPart],
-) -> Made<PartsSpot>
+) -> AllocResult<PartsSpot>
     requires few { length parts.now ≤ 256 }
     requires numbered { head.now.numbers.picks < 4294967295 }
     ensures code { BeginsParts result here.now head.now (length parts.now) writing.old writing.new }

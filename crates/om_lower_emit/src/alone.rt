@@ -8,15 +8,16 @@ ghost use Rattle.om_scope_tree.specs.ResolvedView as view;
 
 use crate::draft::{Draft, Jump};
 use crate::expression::value;
-use crate::here::{Done, Here};
+use crate::here::Here;
 use crate::operator::{side_of, update_of};
 use crate::unused::effect;
 use om_code::Instr;
 use om_code::instruction::Barrier;
 use om_scope_tree::{ResolvedStatement, ResolvedUpdate, StandAlone};
+use om_seq::AllocResult;
 
 /// Writes a directive that stands alone.
-pub fn stand_alone(draft: &mut Draft, line: u32, directive: &StandAlone) -> Done
+pub fn stand_alone(draft: &mut Draft, line: u32, directive: &StandAlone) -> AllocResult<()>
     ensures { AppendsAnywhere result (λ at. alone_row at line directive.now) draft.old draft.new }
 {
     match directive {
@@ -41,7 +42,7 @@ pub fn stand_alone(draft: &mut Draft, line: u32, directive: &StandAlone) -> Done
 }
 
 /// Writes an `atomic` that updates (OpenMP API 5.2, section 15.8.4).
-pub fn update(draft: &mut Draft, here: &Here<'_>, update: &ResolvedUpdate) -> Done
+pub fn update(draft: &mut Draft, here: &Here<'_>, update: &ResolvedUpdate) -> AllocResult<()>
     requires { UpdateHasCode (view.update update.now) }
     ensures { Appends result here.now update_row (view.update update.now) draft.old
         draft.new }
@@ -79,7 +80,11 @@ pub fn update(draft: &mut Draft, here: &Here<'_>, update: &ResolvedUpdate) -> Do
 }
 
 /// Writes the assignment of an `atomic` that reads or writes, on the directive's line.
-pub fn assignment(draft: &mut Draft, here: &Here<'_>, statement: &ResolvedStatement) -> Done
+pub fn assignment(
+    draft: &mut Draft,
+    here: &Here<'_>,
+    statement: &ResolvedStatement,
+) -> AllocResult<()>
     requires { AssignmentHasCode (view.statement statement.now) }
     ensures { AppendsStatement result here.now assignment_row statement.now draft.old draft.new }
 {
@@ -94,7 +99,7 @@ pub fn assignment(draft: &mut Draft, here: &Here<'_>, statement: &ResolvedStatem
 }
 
 /// Writes a `break` or a `continue`: a jump to a label that is there (C17 6.8.6.2, 6.8.6.3).
-pub fn jump(draft: &mut Draft, line: u32, label: Option<usize>) -> Done
+pub fn jump(draft: &mut Draft, line: u32, label: Option<usize>) -> AllocResult<()>
     requires { is_some label ≡ true }
     ensures { OnOk result (EmitsJump line label draft.old draft.new) }
 {
@@ -106,7 +111,7 @@ pub fn jump(draft: &mut Draft, line: u32, label: Option<usize>) -> Done
 }
 
 /// Writes a barrier (OpenMP API 5.2, section 15.3): it is reached, and all go on from it.
-pub fn barrier(draft: &mut Draft, line: u32, kind: Barrier) -> Done
+pub fn barrier(draft: &mut Draft, line: u32, kind: Barrier) -> AllocResult<()>
     ensures { AppendsAnywhere result (λ at. barrier at line kind) draft.old draft.new }
 {
     draft.put(line, Instr::Arrive(kind))?;
@@ -116,7 +121,7 @@ pub fn barrier(draft: &mut Draft, line: u32, kind: Barrier) -> Done
 
 /// Writes the end of a worksharing construct: all threads wait for each other, unless it is `nowait`
 /// (OpenMP API 5.2, sections 15.3.2 and 15.6).
-pub fn worksharing_end(draft: &mut Draft, line: u32, nowait: bool) -> Done
+pub fn worksharing_end(draft: &mut Draft, line: u32, nowait: bool) -> AllocResult<()>
     ensures { AppendsAnywhere result (λ at. worksharing_end at line nowait) draft.old draft.new }
 {
     draft.put(line, Instr::EndWorksharing)?;

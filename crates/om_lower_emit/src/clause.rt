@@ -9,13 +9,14 @@ ghost use Rattle.om_lower_emit.specs.Words.{team_from, team_scope, value_in};
 ghost use Rattle.om_scope_tree.specs.ResolvedView as view;
 
 use crate::draft::Draft;
-use crate::here::{Done, Here};
+use crate::here::Here;
 use crate::operator::{identity_of, reduction_of};
 use crate::single::{load, store};
 use crate::writing::{ScopeStack, Writing};
 use om_code::Instr;
 use om_pragma::ReductionOperator;
 use om_scope_tree::{CopyKind, LocalVariable, ResolvedClause, ResolvedExpression, Variable};
+use om_seq::AllocResult;
 
 /// The value of `num_threads` or `filter`, where there is one.
 pub fn clause_value(clauses: &[ResolvedClause]) -> Option<&ResolvedExpression>
@@ -35,7 +36,7 @@ fn set_identity(
     here: &Here<'_>,
     operator: ReductionOperator,
     copy: &LocalVariable,
-) -> Done
+) -> AllocResult<()>
     ensures { AppendsBy result here.now identity_start operator copy.now draft.old draft.new }
 {
     let identity = identity_of(operator);
@@ -50,7 +51,7 @@ fn set_original(
     here: &Here<'_>,
     original: Variable,
     copy: &LocalVariable,
-) -> Done
+) -> AllocResult<()>
     ensures { AppendsBy result here.now original_start original copy.now draft.old draft.new }
 {
     load(draft, here, original)?;
@@ -60,7 +61,7 @@ fn set_original(
 
 // Writes what the copy of a clause of a worksharing construct begins with (OpenMP API 5.2, sections 5.4.3,
 // 5.4.4 and 5.5.3).
-fn begin_copy(draft: &mut Draft, here: &Here<'_>, clause: &ResolvedClause) -> Done
+fn begin_copy(draft: &mut Draft, here: &Here<'_>, clause: &ResolvedClause) -> AllocResult<()>
     ensures { Appends result here.now clause_start (view.clause clause.now) draft.old draft.new }
 {
     let ResolvedClause::Copied {
@@ -88,7 +89,7 @@ fn begin_copy(draft: &mut Draft, here: &Here<'_>, clause: &ResolvedClause) -> Do
 }
 
 // Begins the scope of the copy that a clause makes, if it makes one, at this place.
-fn begin_scope(scopes: &mut ScopeStack, from: usize, clause: &ResolvedClause) -> Done
+fn begin_scope(scopes: &mut ScopeStack, from: usize, clause: &ResolvedClause) -> AllocResult<()>
     ensures { OnOk result
         (BeginsCopy from (view.clause clause.now) scopes.old scopes.new) }
 {
@@ -101,7 +102,7 @@ fn begin_scope(scopes: &mut ScopeStack, from: usize, clause: &ResolvedClause) ->
 
 // Writes what the copy of a clause of a worksharing construct begins with, from which on it is in
 // scope.
-fn clause_start(writing: &mut Writing, here: &Here<'_>, clause: &ResolvedClause) -> Done
+fn clause_start(writing: &mut Writing, here: &Here<'_>, clause: &ResolvedClause) -> AllocResult<()>
     ensures code { AppendsClause result here.now clause_start clause.now writing.old writing.new }
     ensures scopes { ScopesClause result here.now clause_scope clause.now writing.old writing.new }
 {
@@ -112,7 +113,7 @@ fn clause_start(writing: &mut Writing, here: &Here<'_>, clause: &ResolvedClause)
 }
 
 /// Writes what the copies of a worksharing construct begin with, in clause order.
-pub fn starts(writing: &mut Writing, here: &Here<'_>, clauses: &[ResolvedClause]) -> Done
+pub fn starts(writing: &mut Writing, here: &Here<'_>, clauses: &[ResolvedClause]) -> AllocResult<()>
     ensures code { AppendsClauses result here.now starts clauses.now writing.old writing.new }
     ensures scopes { ScopesClauses result here.now clause_scope clauses.now writing.old writing.new }
 {
@@ -124,7 +125,7 @@ pub fn starts(writing: &mut Writing, here: &Here<'_>, clauses: &[ResolvedClause]
 
 // Writes what the copy of a clause of a `parallel` begins with, if it is combined. FORK gives the
 // firstprivate ones their values, and the others are new with their frame.
-fn begin_reduction(draft: &mut Draft, here: &Here<'_>, clause: &ResolvedClause) -> Done
+fn begin_reduction(draft: &mut Draft, here: &Here<'_>, clause: &ResolvedClause) -> AllocResult<()>
     ensures { BeginsReduction result here.now clause.now draft.old draft.new }
 {
     let ResolvedClause::Copied { kind, copy, .. } = clause else {
@@ -152,7 +153,11 @@ fn team_from(place: usize, clause: &ResolvedClause) -> usize
 }
 
 // Writes what the copy of a clause of a `parallel` begins with in its body, where it is in scope.
-fn clause_reduction_start(writing: &mut Writing, here: &Here<'_>, clause: &ResolvedClause) -> Done
+fn clause_reduction_start(
+    writing: &mut Writing,
+    here: &Here<'_>,
+    clause: &ResolvedClause,
+) -> AllocResult<()>
     ensures code { BeginsReduction result here.now clause.now writing.old.draft writing.new.draft }
     ensures scopes { ScopesClause result here.now team_scope clause.now writing.old writing.new }
 {
@@ -163,7 +168,11 @@ fn clause_reduction_start(writing: &mut Writing, here: &Here<'_>, clause: &Resol
 }
 
 /// Writes what the copies of a `parallel` begin with in its body, in clause order.
-pub fn reduction_starts(writing: &mut Writing, here: &Here<'_>, clauses: &[ResolvedClause]) -> Done
+pub fn reduction_starts(
+    writing: &mut Writing,
+    here: &Here<'_>,
+    clauses: &[ResolvedClause],
+) -> AllocResult<()>
     ensures code { BeginsReductions result here.now clauses.now writing.old writing.new }
     ensures scopes { ScopesClauses result here.now team_scope clauses.now writing.old writing.new }
 {
@@ -174,7 +183,7 @@ pub fn reduction_starts(writing: &mut Writing, here: &Here<'_>, clauses: &[Resol
 }
 
 /// Begins the scopes of the copies of a `task`, in its body.
-pub fn task_copies(scopes: &mut ScopeStack, clauses: &[ResolvedClause]) -> Done
+pub fn task_copies(scopes: &mut ScopeStack, clauses: &[ResolvedClause]) -> AllocResult<()>
     ensures { BeginsEach result task_scope (map view.clause clauses.now) scopes.old scopes.new }
 {
     for clause in clauses {
@@ -184,7 +193,7 @@ pub fn task_copies(scopes: &mut ScopeStack, clauses: &[ResolvedClause]) -> Done
 }
 
 /// Begins the scopes of parameters, in the body of their function.
-pub fn parameters(scopes: &mut ScopeStack, variables: &[LocalVariable]) -> Done
+pub fn parameters(scopes: &mut ScopeStack, variables: &[LocalVariable]) -> AllocResult<()>
     ensures { BeginsEach result parameter_scope variables.now scopes.old scopes.new }
 {
     for variable in variables {
@@ -194,7 +203,7 @@ pub fn parameters(scopes: &mut ScopeStack, variables: &[LocalVariable]) -> Done
 }
 
 // Combines the copy of a clause with its original, if the clause is a reduction.
-fn combine_clause(draft: &mut Draft, here: &Here<'_>, clause: &ResolvedClause) -> Done
+fn combine_clause(draft: &mut Draft, here: &Here<'_>, clause: &ResolvedClause) -> AllocResult<()>
     ensures { Appends result here.now combine_clause (view.clause clause.now) draft.old draft.new }
 {
     let ResolvedClause::Copied {
@@ -224,7 +233,7 @@ fn combine_clause(draft: &mut Draft, here: &Here<'_>, clause: &ResolvedClause) -
 
 /// Combines the copies of reductions with their originals, in clause order (OpenMP API 5.2, section
 /// 5.5.8).
-pub fn reductions(draft: &mut Draft, here: &Here<'_>, clauses: &[ResolvedClause]) -> Done
+pub fn reductions(draft: &mut Draft, here: &Here<'_>, clauses: &[ResolvedClause]) -> AllocResult<()>
     ensures { Appends result here.now reductions (map view.clause clauses.now) draft.old draft.new }
 {
     for clause in clauses {

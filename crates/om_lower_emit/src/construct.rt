@@ -10,14 +10,15 @@ use crate::alone::worksharing_end;
 use crate::clause::{clause_value, starts};
 use crate::draft::{Draft, Jump};
 use crate::expression::value;
-use crate::here::{Done, Here};
+use crate::here::Here;
 use crate::writing::Writing;
 use om_code::Instr;
-use om_scope_tree::{ConstructKind, Made, ResolvedClause};
+use om_scope_tree::{ConstructKind, ResolvedClause};
+use om_seq::AllocResult;
 
 // Writes the thread number that a `masked` asks for: 0 where no clause says another (OpenMP API 5.2,
 // section 10.5.1).
-fn filter(draft: &mut Draft, here: &Here<'_>, clauses: &[ResolvedClause]) -> Done
+fn filter(draft: &mut Draft, here: &Here<'_>, clauses: &[ResolvedClause]) -> AllocResult<()>
     requires { IfSome (value_in clauses.now) ValueHasCode }
     ensures { Appends result here.now rows.filter_row (value_in clauses.now) draft.old draft.new }
 {
@@ -37,7 +38,7 @@ pub fn begin_construct(
     here: &Here<'_>,
     kind: &ConstructKind,
     clauses: &[ResolvedClause],
-) -> Made<usize>
+) -> AllocResult<usize>
     requires { BeginHasCode kind.now (map view.clause clauses.now) }
     ensures code { BeginsConstruct result here.now kind.now clauses.now writing.old writing.new }
     ensures scopes { ScopesConstruct result here.now kind.now clauses.now writing.old writing.new }
@@ -65,7 +66,12 @@ pub fn begin_construct(
 }
 
 /// Writes the end of a construct that is no `atomic`.
-pub fn end_construct(draft: &mut Draft, here: &Here<'_>, kind: &ConstructKind, label: usize) -> Done
+pub fn end_construct(
+    draft: &mut Draft,
+    here: &Here<'_>,
+    kind: &ConstructKind,
+    label: usize,
+) -> AllocResult<()>
     requires free { slice_get draft.old.places label ≡ Some None }
     requires kind { IsNoAtomic kind.now }
     ensures { EndsConstruct result here.now kind.now label draft.old draft.new }

@@ -10,15 +10,16 @@ ghost use Rattle.om_lower_rules.specs.Statements as rows;
 
 use crate::draft::{Draft, Jump};
 use crate::expression::value;
-use crate::here::{Done, Here};
+use crate::here::Here;
 use crate::single::store;
 use crate::unused::effect;
 use crate::writing::Writing;
 use om_code::Instr;
 use om_scope_tree::{ResolvedDeclarator, ResolvedExpression, ResolvedStart, Variable};
+use om_seq::AllocResult;
 
 // Writes the code of a declared name: it is made unset, or gets its initializer (C17 6.7.9).
-fn initialize(draft: &mut Draft, here: &Here<'_>, declared: &ResolvedDeclarator) -> Done
+fn initialize(draft: &mut Draft, here: &Here<'_>, declared: &ResolvedDeclarator) -> AllocResult<()>
     requires { DeclaratorHasCode (view.declarator declared.now) }
     ensures { Initializes result here.now declared.now draft.old draft.new }
 {
@@ -37,7 +38,11 @@ fn initialize(draft: &mut Draft, here: &Here<'_>, declared: &ResolvedDeclarator)
 }
 
 // Writes the code of a declared name, which is in scope from there on (C17 6.2.1p7).
-fn declarator(writing: &mut Writing, here: &Here<'_>, declared: &ResolvedDeclarator) -> Done
+fn declarator(
+    writing: &mut Writing,
+    here: &Here<'_>,
+    declared: &ResolvedDeclarator,
+) -> AllocResult<()>
     requires { DeclaratorHasCode (view.declarator declared.now) }
     ensures code { Initializes result here.now declared.now writing.old.draft writing.new.draft }
     ensures scopes { ScopesDeclarator result here.now declared.now writing.old writing.new }
@@ -50,7 +55,11 @@ fn declarator(writing: &mut Writing, here: &Here<'_>, declared: &ResolvedDeclara
 }
 
 /// Writes the code of the names of a declaration, in their order.
-pub fn declarators(writing: &mut Writing, here: &Here<'_>, declared: &[ResolvedDeclarator]) -> Done
+pub fn declarators(
+    writing: &mut Writing,
+    here: &Here<'_>,
+    declared: &[ResolvedDeclarator],
+) -> AllocResult<()>
     requires { All DeclaratorHasCode (map view.declarator declared.now) }
     ensures code { InitializesAll result here.now declared.now writing.old.draft writing.new.draft }
     ensures scopes { ScopesDeclarators result here.now declared.now writing.old writing.new }
@@ -62,7 +71,7 @@ pub fn declarators(writing: &mut Writing, here: &Here<'_>, declared: &[ResolvedD
 }
 
 /// Writes what a `for` begins with (C17 6.8.5.3).
-pub fn start(writing: &mut Writing, here: &Here<'_>, start: &ResolvedStart) -> Done
+pub fn start(writing: &mut Writing, here: &Here<'_>, start: &ResolvedStart) -> AllocResult<()>
     requires { StartHasCode (view.start start.now) }
     ensures code { AppendsStart result here.now start.now writing.old.draft writing.new.draft }
     ensures scopes { ScopesStart result here.now start.now writing.old writing.new }
@@ -86,7 +95,7 @@ pub fn test(
     here: &Here<'_>,
     condition: &ResolvedExpression,
     otherwise: usize,
-) -> Done
+) -> AllocResult<()>
     requires { ValueHasCode (view.expression condition.now) }
     ensures { AppendsTest result here.now otherwise condition.now draft.old draft.new }
 {
@@ -101,7 +110,7 @@ pub fn perhaps_test(
     here: &Here<'_>,
     condition: &Option<ResolvedExpression>,
     otherwise: usize,
-) -> Done
+) -> AllocResult<()>
     requires { IfSome (option_map view.expression condition.now) ValueHasCode }
     ensures { AppendsPerhapsTest result here.now otherwise condition.now draft.old draft.new }
 {
@@ -116,7 +125,7 @@ pub fn perhaps_effect(
     draft: &mut Draft,
     here: &Here<'_>,
     expression: &Option<ResolvedExpression>,
-) -> Done
+) -> AllocResult<()>
     requires { IfSome (option_map view.expression expression.now) EffectHasCode }
     ensures { AppendsPerhapsEffect result here.now expression.now draft.old draft.new }
 {
@@ -127,7 +136,11 @@ pub fn perhaps_effect(
 }
 
 /// Writes a `return`, which in `main` ends the program (C17 6.8.6.4, 5.1.2.2.3).
-pub fn returned(draft: &mut Draft, here: &Here<'_>, answer: &Option<ResolvedExpression>) -> Done
+pub fn returned(
+    draft: &mut Draft,
+    here: &Here<'_>,
+    answer: &Option<ResolvedExpression>,
+) -> AllocResult<()>
     requires { IfSome (option_map view.expression answer.now) ValueHasCode }
     ensures { AppendsReturn result here.now answer.now draft.old draft.new }
 {

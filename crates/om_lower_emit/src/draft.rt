@@ -4,11 +4,9 @@ ghost use Rattle.std.specs.Prelude.{◌≡◌, ◌<◌, ◌^◌, IfOk, OnOk, len
 ghost use Rattle.om_lower_emit.specs.Drafts.{AreShort, Defines, Fresh, FreshLabels, FreshList, HasNoTarget, HaveNoTarget, IsPlain, Puts, PutsAll, jump_to, line_in, nothing, place_in, settled, settled_code};
 ghost use Rattle.om_lower_emit.specs.Settled.{settled_list, settled_lists};
 
-use crate::here::Done;
 use om_code::Instr;
 use om_code::raw::Line;
-use om_scope_tree::Made;
-use om_seq::Seq;
+use om_seq::{AllocResult, Seq};
 use std::alloc::Global;
 use std::marker::Model;
 
@@ -96,7 +94,7 @@ impl Draft {
     }
 
     /// Adds an instruction that has no target, with its line.
-    pub fn put(&mut self, line: u32, instruction: Instr) -> Done
+    pub fn put(&mut self, line: u32, instruction: Instr) -> AllocResult<()>
         requires { HasNoTarget instruction }
         ensures { OnOk result (Puts line instruction self.old self.new) }
     {
@@ -106,7 +104,7 @@ impl Draft {
     }
 
     /// Adds instructions of one line that have no targets, one behind the other.
-    pub fn put_all(&mut self, line: u32, instructions: &[Instr]) -> Done
+    pub fn put_all(&mut self, line: u32, instructions: &[Instr]) -> AllocResult<()>
         requires { HaveNoTarget instructions.now }
         ensures { OnOk result (PutsAll line instructions.now self.old self.new) }
     {
@@ -117,7 +115,7 @@ impl Draft {
     }
 
     /// Adds an instruction whose target is a label, with its line.
-    pub fn put_jump(&mut self, line: u32, jump: Jump, label: usize) -> Done
+    pub fn put_jump(&mut self, line: u32, jump: Jump, label: usize) -> AllocResult<()>
         ensures { OnOk result (Puts line (jump_to jump label) self.old self.new) }
     {
         self.code.push(DraftLine::Jump { line, jump, label })?;
@@ -125,7 +123,7 @@ impl Draft {
     }
 
     /// A new label, which has no place yet.
-    pub fn fresh(&mut self) -> Made<usize>
+    pub fn fresh(&mut self) -> AllocResult<usize>
         ensures { IfOk result (λ label. Fresh label self.old self.new) }
     {
         let label = self.places.len();
@@ -143,7 +141,7 @@ impl Draft {
 
     /// A new label for each part of a `sections`, one behind the other, and the list of its PICK with
     /// this number in the program. The first label is answered; none has a place yet.
-    pub fn fresh_list(&mut self, alloc: Global, number: u32, count: u32) -> Made<usize>
+    pub fn fresh_list(&mut self, alloc: Global, number: u32, count: u32) -> AllocResult<usize>
         ensures { IfOk result (λ first. FreshList number first count self.old self.new) }
     {
         let first = self.places.len();
@@ -153,7 +151,7 @@ impl Draft {
     }
 
     // So many new labels, one behind the other, which have no place yet.
-    fn fresh_labels(&mut self, alloc: Global, count: u32) -> Made<Vec<usize>>
+    fn fresh_labels(&mut self, alloc: Global, count: u32) -> AllocResult<Vec<usize>>
         ensures { IfOk result (λ labels. FreshLabels labels.items count self.old self.new) }
     {
         let mut labels = Vec::new(alloc);
@@ -166,7 +164,7 @@ impl Draft {
 
     /// The code, with the place of each label in its stead. A place has 32 bits there, so the code has
     /// fewer than 2^32 instructions. The only error is out of memory.
-    pub fn settle(&self, alloc: Global) -> Made<Seq<Line>>
+    pub fn settle(&self, alloc: Global) -> AllocResult<Seq<Line>>
         requires { length self.now.code < 2 ^ 32 }
         ensures { IfOk result (λ code. code ≡ settled_code self.now) }
     {
@@ -180,7 +178,7 @@ impl Draft {
 
     /// The lists of the PICKs in the code, with the place of each label in its stead. The only error is
     /// out of memory.
-    pub fn lists(&self, alloc: Global) -> Made<Vec<PickList>>
+    pub fn lists(&self, alloc: Global) -> AllocResult<Vec<PickList>>
         requires { length self.now.code < 2 ^ 32 }
         ensures { IfOk result (λ lists. lists.items ≡ settled_lists self.now) }
     {
@@ -237,7 +235,7 @@ fn settled(places: &[Option<usize>], line: DraftLine) -> Line
 }
 
 // The list of a PICK, with the place of each label.
-fn settled_list(alloc: Global, places: &[Option<usize>], pick: &Pick) -> Made<PickList>
+fn settled_list(alloc: Global, places: &[Option<usize>], pick: &Pick) -> AllocResult<PickList>
     requires { AreShort places.now }
     ensures { IfOk result (λ list. list ≡ settled_list (place_in places.now) pick.now) }
 {

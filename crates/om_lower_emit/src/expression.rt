@@ -8,7 +8,7 @@ ghost use Rattle.om_scope_tree.specs.ResolvedView as view;
 ghost use Rattle.om_lower_emit.specs.Words.{Both, Either, form_of, listed, value, values};
 
 use crate::draft::{Draft, Jump};
-use crate::here::{Done, Here};
+use crate::here::Here;
 use crate::operator::{Form, compound_of, form_of};
 use crate::single::{
     load, load_element, one_unless_zero, postfix, postfix_element, store, truth, unary_end,
@@ -16,6 +16,7 @@ use crate::single::{
 use om_code::Instr;
 use om_parser_tree::AssignOperator;
 use om_scope_tree::{ResolvedExpression, Variable};
+use om_seq::AllocResult;
 
 /// What is assigned to, a variable or an element of it, and how.
 #[derive(Clone, Copy)]
@@ -32,7 +33,7 @@ pub(crate) struct Target {
 ///
 /// Its only error is out of memory.
 #[cycle(expression)]
-pub fn value(draft: &mut Draft, here: &Here<'_>, e: &ResolvedExpression) -> Done
+pub fn value(draft: &mut Draft, here: &Here<'_>, e: &ResolvedExpression) -> AllocResult<()>
     requires coded { ValueHasCode (view.expression e.now) }
     ensures { Appends result here.now value (view.expression e.now) draft.old draft.new }
 {
@@ -119,7 +120,11 @@ pub(crate) fn assigned(variable: Variable, operator: AssignOperator, keeps: bool
 
 /// Writes expressions from left to right, each of which leaves its value.
 #[cycle(expression)]
-pub(crate) fn values(draft: &mut Draft, here: &Here<'_>, es: &[ResolvedExpression]) -> Done
+pub(crate) fn values(
+    draft: &mut Draft,
+    here: &Here<'_>,
+    es: &[ResolvedExpression],
+) -> AllocResult<()>
     requires { ValuesHaveCode (listed es.now) }
     ensures { Appends result here.now values (listed es.now) draft.old draft.new }
 {
@@ -136,7 +141,7 @@ pub(crate) fn call(
     here: &Here<'_>,
     function: usize,
     arguments: &[ResolvedExpression],
-) -> Done
+) -> AllocResult<()>
     requires { CallHasCode (listed arguments.now) }
     ensures { AppendsBy result here.now call function (listed arguments.now) draft.old draft.new }
 {
@@ -153,7 +158,7 @@ fn binary_end(
     here: &Here<'_>,
     operator: om_parser_tree::BinaryOperator,
     right: &ResolvedExpression,
-) -> Done
+) -> AllocResult<()>
     requires { ValueHasCode (view.expression right.now) }
     ensures { AppendsOperand result here.now (form_of operator) right.now draft.old draft.new }
 {
@@ -169,7 +174,7 @@ fn binary_end(
 
 // Writes what stands behind the left operand of `a && b` (C17 6.5.13).
 #[cycle(expression)]
-fn both_end(draft: &mut Draft, here: &Here<'_>, right: &ResolvedExpression) -> Done
+fn both_end(draft: &mut Draft, here: &Here<'_>, right: &ResolvedExpression) -> AllocResult<()>
     requires { ValueHasCode (view.expression right.now) }
     ensures { AppendsOperand result here.now Both right.now draft.old draft.new }
 {
@@ -182,7 +187,7 @@ fn both_end(draft: &mut Draft, here: &Here<'_>, right: &ResolvedExpression) -> D
 
 // Writes what stands behind the left operand of `a || b` (C17 6.5.14).
 #[cycle(expression)]
-fn either_end(draft: &mut Draft, here: &Here<'_>, right: &ResolvedExpression) -> Done
+fn either_end(draft: &mut Draft, here: &Here<'_>, right: &ResolvedExpression) -> AllocResult<()>
     requires { ValueHasCode (view.expression right.now) }
     ensures { AppendsOperand result here.now Either right.now draft.old draft.new }
 {
@@ -202,7 +207,7 @@ pub(crate) fn assign(
     here: &Here<'_>,
     target: Target,
     e: &ResolvedExpression,
-) -> Done
+) -> AllocResult<()>
     requires { ValueHasCode (view.expression e.now) }
     ensures { AppendsAssignment result here.now target e.now draft.old draft.new }
 {
@@ -227,7 +232,7 @@ pub(crate) fn assign_element(
     here: &Here<'_>,
     target: Target,
     e: &ResolvedExpression,
-) -> Done
+) -> AllocResult<()>
     requires { ValueHasCode (view.expression e.now) }
     ensures { AppendsElement result here.now target e.now draft.old draft.new }
 {

@@ -2,10 +2,7 @@
 
 use om_lexer::Span;
 use om_lower_rules::BodyTables;
-use om_scope_tree::Made;
-
-/// Whether all is written. The only error is out of memory.
-pub type Done = Made<()>;
+use om_seq::AllocResult;
 
 /// Where code is written, and for what.
 #[derive(Clone, Copy)]

@@ -21,4 +21,4 @@ pub mod unused;
 pub mod writing;
 
 pub use expression::value;
-pub use here::{Done, Here};
+pub use here::Here;

@@ -8,14 +8,15 @@ ghost use Rattle.om_lower_emit.specs.Words.{PutsAll, inverse_step_of, one_unless
 ghost use Rattle.om_scope_tree.specs.ResolvedTree as trees;
 
 use crate::draft::{Draft, Jump};
-use crate::here::{Done, Here};
+use crate::here::Here;
 use crate::operator::{inverse_step_of, step_of};
 use om_code::{Instr, instruction};
 use om_parser_tree::PostfixOperator;
 use om_scope_tree::{UnaryOperator, Variable};
+use om_seq::AllocResult;
 
 /// Loads a variable.
-pub(crate) fn load(draft: &mut Draft, here: &Here<'_>, variable: Variable) -> Done
+pub(crate) fn load(draft: &mut Draft, here: &Here<'_>, variable: Variable) -> AllocResult<()>
     ensures { Adds result here.now (Load (place_at here.now variable)) draft.old draft.new }
 {
     let place = here.tables.place(variable);
@@ -23,7 +24,7 @@ pub(crate) fn load(draft: &mut Draft, here: &Here<'_>, variable: Variable) -> Do
 }
 
 /// Loads the element of an array whose index is on top.
-pub(crate) fn load_element(draft: &mut Draft, here: &Here<'_>, array: Variable) -> Done
+pub(crate) fn load_element(draft: &mut Draft, here: &Here<'_>, array: Variable) -> AllocResult<()>
     ensures { Adds result here.now (LoadElement (place_at here.now array)) draft.old draft.new }
 {
     let place = here.tables.place(array);
@@ -31,7 +32,12 @@ pub(crate) fn load_element(draft: &mut Draft, here: &Here<'_>, array: Variable) 
 }
 
 /// Stores the value on top in a variable; `keeps` says whether it is left.
-pub(crate) fn store(draft: &mut Draft, here: &Here<'_>, variable: Variable, keeps: bool) -> Done
+pub(crate) fn store(
+    draft: &mut Draft,
+    here: &Here<'_>,
+    variable: Variable,
+    keeps: bool,
+) -> AllocResult<()>
     ensures { Adds result here.now (Store (place_at here.now variable) keeps) draft.old draft.new }
 {
     let place = here.tables.place(variable);
@@ -39,7 +45,11 @@ pub(crate) fn store(draft: &mut Draft, here: &Here<'_>, variable: Variable, keep
 }
 
 /// What stands behind the operand of a unary operator (C17 6.5.3.3).
-pub(crate) fn unary_end(draft: &mut Draft, here: &Here<'_>, operator: UnaryOperator) -> Done
+pub(crate) fn unary_end(
+    draft: &mut Draft,
+    here: &Here<'_>,
+    operator: UnaryOperator,
+) -> AllocResult<()>
     ensures { Appends result here.now rows.unary_rest operator draft.old draft.new }
 {
     let operator = match operator {
@@ -51,7 +61,12 @@ pub(crate) fn unary_end(draft: &mut Draft, here: &Here<'_>, operator: UnaryOpera
 }
 
 /// Jumps to `otherwise` where the value on top is 0, and pushes 1 and jumps to `over` where it is not.
-pub(crate) fn one_unless_zero(draft: &mut Draft, line: u32, otherwise: usize, over: usize) -> Done
+pub(crate) fn one_unless_zero(
+    draft: &mut Draft,
+    line: u32,
+    otherwise: usize,
+    over: usize,
+) -> AllocResult<()>
     ensures { OnOk result (PutsAll line (one_unless_zero otherwise over) draft.old draft.new) }
 {
     draft.put_jump(line, Jump::IfZero, otherwise)?;
@@ -61,7 +76,7 @@ pub(crate) fn one_unless_zero(draft: &mut Draft, line: u32, otherwise: usize, ov
 
 /// Writes 1 where the value on top is not 0, and 0 where it is. What jumped to `otherwise` gets the
 /// 0, and what jumped to `over` goes on behind it. So `&&` and `||` end (C17 6.5.13p3, 6.5.14p3).
-pub(crate) fn truth(draft: &mut Draft, line: u32, otherwise: usize, over: usize) -> Done
+pub(crate) fn truth(draft: &mut Draft, line: u32, otherwise: usize, over: usize) -> AllocResult<()>
     requires otherwise { slice_get draft.old.places otherwise ≡ Some None }
     requires over { slice_get draft.old.places over ≡ Some None }
     requires apart { otherwise < over }
@@ -81,7 +96,7 @@ pub(crate) fn step(
     variable: Variable,
     operator: PostfixOperator,
     keeps: bool,
-) -> Done
+) -> AllocResult<()>
     ensures { AppendsStep result here.now keeps variable operator draft.old draft.new }
 {
     let place = here.tables.place(variable);
@@ -102,7 +117,7 @@ pub(crate) fn step_element(
     array: Variable,
     operator: PostfixOperator,
     keeps: bool,
-) -> Done
+) -> AllocResult<()>
     ensures { AppendsElementStep result here.now keeps array operator draft.old draft.new }
 {
     let place = here.tables.place(array);
@@ -117,7 +132,7 @@ pub(crate) fn step_element(
 }
 
 // The old value of what was stepped, from the new one on top.
-fn step_back(draft: &mut Draft, here: &Here<'_>, operator: PostfixOperator) -> Done
+fn step_back(draft: &mut Draft, here: &Here<'_>, operator: PostfixOperator) -> AllocResult<()>
     ensures { Appends result here.now stepped_back (inverse_step_of operator) draft.old draft.new }
 {
     let back = [Instr::Constant(1), Instr::Binary(inverse_step_of(operator))];
@@ -130,7 +145,7 @@ pub(crate) fn postfix(
     here: &Here<'_>,
     variable: Variable,
     operator: PostfixOperator,
-) -> Done
+) -> AllocResult<()>
     ensures { Appends result here.now value (trees.Postfix variable operator) draft.old draft.new }
 {
     step(draft, here, variable, operator, true)?;
@@ -143,7 +158,7 @@ pub(crate) fn postfix_element(
     here: &Here<'_>,
     array: Variable,
     operator: PostfixOperator,
-) -> Done
+) -> AllocResult<()>
     ensures { AppendsBy result here.now rows.postfix_rest array operator draft.old draft.new }
 {
     step_element(draft, here, array, operator, true)?;

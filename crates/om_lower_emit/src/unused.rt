@@ -7,15 +7,16 @@ ghost use Rattle.om_scope_tree.specs.ResolvedView as view;
 
 use crate::draft::Draft;
 use crate::expression::{assign, assign_element, assigned, call, value, values};
-use crate::here::{Done, Here};
+use crate::here::Here;
 use crate::single::{step, step_element};
 use om_code::Instr;
 use om_scope_tree::ResolvedExpression;
+use om_seq::AllocResult;
 
 /// Writes an expression, which leaves nothing.
 ///
 /// Its only error is out of memory.
-pub fn effect(draft: &mut Draft, here: &Here<'_>, e: &ResolvedExpression) -> Done
+pub fn effect(draft: &mut Draft, here: &Here<'_>, e: &ResolvedExpression) -> AllocResult<()>
     requires { EffectHasCode (view.expression e.now) }
     ensures { Appends result here.now effect (view.expression e.now) draft.old draft.new }
 {
@@ -64,7 +65,7 @@ pub fn effect(draft: &mut Draft, here: &Here<'_>, e: &ResolvedExpression) -> Don
 }
 
 // Writes an expression that leaves its value, and takes it off.
-fn popped(draft: &mut Draft, here: &Here<'_>, e: &ResolvedExpression) -> Done
+fn popped(draft: &mut Draft, here: &Here<'_>, e: &ResolvedExpression) -> AllocResult<()>
     requires { ValueHasCode (view.expression e.now) }
     ensures { Appends result here.now popped (view.expression e.now) draft.old draft.new }
 {
@@ -78,7 +79,7 @@ fn print(
     here: &Here<'_>,
     format: &[u8],
     arguments: &[ResolvedExpression],
-) -> Done
+) -> AllocResult<()>
     requires { CallHasCode (listed arguments.now) }
     ensures { AppendsBy result here.now print format.now (listed arguments.now) draft.old draft.new }
 {

@@ -4,10 +4,9 @@ ghost use Rattle.std.specs.Prelude.{◌≡◌, ◌<◌, [], OnOk, length};
 ghost use Rattle.om_lower_emit.specs.Words.{BeginsOneScope, EndsAbove, EndsLast, closed_at, nothing};
 
 use crate::draft::Draft;
-use crate::here::Done;
 use om_lower_rules::VariableScope;
 use om_scope_tree::LocalVariable;
-use om_seq::Seq;
+use om_seq::{AllocResult, Seq};
 use std::alloc::Global;
 
 /// A body, as far as it is written.
@@ -54,7 +53,12 @@ impl ScopeStack {
     }
 
     /// Begins the scope of a variable at this place. Its only error is out of memory.
-    pub fn begin(&mut self, from: usize, length: Option<u32>, variable: &LocalVariable) -> Done
+    pub fn begin(
+        &mut self,
+        from: usize,
+        length: Option<u32>,
+        variable: &LocalVariable,
+    ) -> AllocResult<()>
         ensures { OnOk result (BeginsOneScope from length variable.now self.old self.new) }
     {
         let name = Seq::of(Vec::from_slice(self.alloc, variable.name.as_slice())?);
@@ -70,7 +74,7 @@ impl ScopeStack {
 
     /// Ends all scopes but the first `height` of those that have begun, the last one first, at this
     /// place. Its only error is out of memory.
-    pub fn end(&mut self, height: usize, to: usize) -> Done
+    pub fn end(&mut self, height: usize, to: usize) -> AllocResult<()>
         ensures { OnOk result (EndsAbove height to self.old self.new) }
     {
         for _turn in height..self.opened.len() {
@@ -80,7 +84,7 @@ impl ScopeStack {
     }
 
     // Ends the last scope that has begun, if there is one.
-    fn end_last(&mut self, to: usize) -> Done
+    fn end_last(&mut self, to: usize) -> AllocResult<()>
         ensures { OnOk result (0 < length self.old.opened.items → EndsLast to self.old self.new) }
     {
         let Some(opened) = self.opened.pop() else {

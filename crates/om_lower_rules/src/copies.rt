@@ -8,7 +8,8 @@ ghost use Rattle.om_lower_rules.specs.Copies.{AddsCopies, GivesCopies, clauses_f
 
 use crate::variables::Variables;
 use om_lexer::Span;
-use om_scope_tree::{Capture, CopyKind, Made, ResolvedClause, ResolvedStatement, Taking, Variable};
+use om_scope_tree::{Capture, CopyKind, ResolvedClause, ResolvedStatement, Taking, Variable};
+use om_seq::AllocResult;
 use std::alloc::Global;
 
 /// A `parallel` or a `task`, by its parts.
@@ -34,7 +35,7 @@ pub fn given_copies(
     clauses: &[ResolvedClause],
     captures: &[Capture],
     variables: &Variables,
-) -> Made<Vec<FirstCopy>>
+) -> AllocResult<Vec<FirstCopy>>
     ensures { GivesCopies result variables.now (first_copies_in clauses.now captures.now) }
 {
     let mut copies = Vec::new(alloc);
@@ -44,7 +45,7 @@ pub fn given_copies(
 }
 
 // Adds the copies of clauses.
-fn add_clauses(copies: &mut Vec<FirstCopy>, clauses: &[ResolvedClause]) -> Made<()>
+fn add_clauses(copies: &mut Vec<FirstCopy>, clauses: &[ResolvedClause]) -> AllocResult<()>
     ensures { AddsCopies result (clauses_first clauses.now) copies.old copies.new }
 {
     for clause in clauses {
@@ -54,7 +55,7 @@ fn add_clauses(copies: &mut Vec<FirstCopy>, clauses: &[ResolvedClause]) -> Made<
 }
 
 // Adds the copy of a clause, where that begins with its original's value.
-fn add_clause(copies: &mut Vec<FirstCopy>, clause: &ResolvedClause) -> Made<()>
+fn add_clause(copies: &mut Vec<FirstCopy>, clause: &ResolvedClause) -> AllocResult<()>
     ensures { AddsCopies result (clause_first (view.clause clause.now)) copies.old copies.new }
 {
     let ResolvedClause::Copied {
@@ -73,7 +74,7 @@ fn add_clause(copies: &mut Vec<FirstCopy>, clause: &ResolvedClause) -> Made<()>
 }
 
 // Adds a copy.
-fn add(copies: &mut Vec<FirstCopy>, copy: FirstCopy) -> Made<()>
+fn add(copies: &mut Vec<FirstCopy>, copy: FirstCopy) -> AllocResult<()>
     ensures { OnOk result (copies.new.items ≡ copies.old.items ++ copy ∷ []) }
 {
     copies.push(copy)?;
@@ -81,7 +82,7 @@ fn add(copies: &mut Vec<FirstCopy>, copy: FirstCopy) -> Made<()>
 }
 
 // Adds the copies that a region takes.
-fn add_captures(copies: &mut Vec<FirstCopy>, captures: &[Capture]) -> Made<()>
+fn add_captures(copies: &mut Vec<FirstCopy>, captures: &[Capture]) -> AllocResult<()>
     ensures { AddsCopies result (flat_map capture_first captures.now) copies.old copies.new }
 {
     for capture in captures {
@@ -91,7 +92,7 @@ fn add_captures(copies: &mut Vec<FirstCopy>, captures: &[Capture]) -> Made<()>
 }
 
 // Adds the copy that a region takes, unless it shares.
-fn add_capture(copies: &mut Vec<FirstCopy>, capture: Capture) -> Made<()>
+fn add_capture(copies: &mut Vec<FirstCopy>, capture: Capture) -> AllocResult<()>
     ensures { AddsCopies result (capture_first capture) copies.old copies.new }
 {
     let Taking::Firstprivate = capture.taking else {
@@ -105,7 +106,7 @@ fn add_capture(copies: &mut Vec<FirstCopy>, capture: Capture) -> Made<()>
 }
 
 // The copies by the slots of their variables.
-fn by_slots(alloc: Global, variables: &[u32], copies: &[FirstCopy]) -> Made<Vec<FirstCopy>>
+fn by_slots(alloc: Global, variables: &[u32], copies: &[FirstCopy]) -> AllocResult<Vec<FirstCopy>>
     ensures { GivesCopies result variables.now (first_copies_of copies.now) }
 {
     let mut given = Vec::new(alloc);
@@ -116,7 +117,7 @@ fn by_slots(alloc: Global, variables: &[u32], copies: &[FirstCopy]) -> Made<Vec<
 }
 
 // Adds the copy whose variable this is, if there is one.
-fn add_first(given: &mut Vec<FirstCopy>, copies: &[FirstCopy], variable: u32) -> Made<()>
+fn add_first(given: &mut Vec<FirstCopy>, copies: &[FirstCopy], variable: u32) -> AllocResult<()>
     ensures { AddsCopies result (first_copy_in copies.now variable) given.old given.new }
 {
     for copy in copies {

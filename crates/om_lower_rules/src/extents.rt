@@ -4,7 +4,7 @@ ghost use Rattle.std.specs.Prelude.{◌≡◌, [], OnOk};
 ghost use Rattle.om_lower_rules.specs.Slots.{cells_in};
 ghost use Rattle.om_lower_rules.specs.Extents.{with_declaration};
 
-use om_scope_tree::Made;
+use om_seq::AllocResult;
 use std::alloc::Global;
 use std::collections::BTreeMap;
 use std::marker::Model;
@@ -50,7 +50,7 @@ impl Extents {
     }
 
     /// Notes a declared variable.
-    pub fn note(&mut self, variable: u32, cells: u32) -> Made<()>
+    pub fn note(&mut self, variable: u32, cells: u32) -> AllocResult<()>
         ensures { OnOk result (self.new ≡ with_declaration self.old variable cells) }
     {
         if self.cells.contains_key(&variable) {

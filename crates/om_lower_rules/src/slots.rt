@@ -9,8 +9,8 @@ use crate::copies::FirstCopy;
 use crate::extents::Extents;
 use crate::variables::Variables;
 use om_code::raw::{Slot, Source};
-use om_scope_tree::{Capture, LocalVariable, Made, Taking};
-use om_seq::Seq;
+use om_scope_tree::{Capture, LocalVariable, Taking};
+use om_seq::{AllocResult, Seq};
 use std::alloc::Global;
 
 /// The slots of a body with these variables, in the body round it.
@@ -20,7 +20,7 @@ pub fn slots_with(
     outer: &Variables,
     captures: &[Capture],
     variables: &Variables,
-) -> Made<Seq<Slot>>
+) -> AllocResult<Seq<Slot>>
     requires { length outer.now ≤ 256 }
     ensures { MakesSlots result extents.now outer.now captures.now variables.now }
 {
@@ -65,7 +65,7 @@ pub fn parameter_slots(
     alloc: Global,
     variables: &Variables,
     parameters: &[LocalVariable],
-) -> Made<Seq<u32>>
+) -> AllocResult<Seq<u32>>
     requires { length variables.now ≤ 256 }
     ensures { GivesSlots result variables.now (map parameter_sight parameters.now) }
 {
@@ -77,7 +77,11 @@ pub fn parameter_slots(
 }
 
 /// The slots of copies.
-pub fn copy_slots(alloc: Global, variables: &Variables, copies: &[FirstCopy]) -> Made<Seq<u32>>
+pub fn copy_slots(
+    alloc: Global,
+    variables: &Variables,
+    copies: &[FirstCopy],
+) -> AllocResult<Seq<u32>>
     requires { length variables.now ≤ 256 }
     ensures { GivesSlots result variables.now (copied_variables (first_copies_of copies.now)) }
 {

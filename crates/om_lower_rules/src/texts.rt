@@ -4,7 +4,7 @@ ghost use Rattle.std.specs.Prelude.{◌≡◌, ◌<◌, ◌≤◌, [], OnOk, len
 ghost use Rattle.std.specs.Str.{bytes_eq};
 ghost use Rattle.om_lower_rules.specs.Tables.{number_in, with_sight};
 
-use om_scope_tree::Made;
+use om_seq::AllocResult;
 use std::alloc::Global;
 use std::collections::BTreeMap;
 use std::marker::Model;
@@ -64,7 +64,7 @@ impl Texts {
     }
 
     /// Gives a text the next number, unless it has one. The number behind all of them has 32 bits too.
-    pub fn note(&mut self, alloc: Global, text: &[u8]) -> Made<()>
+    pub fn note(&mut self, alloc: Global, text: &[u8]) -> AllocResult<()>
         requires { length self.old < 4294967295 }
         ensures { OnOk result (self.new ≡ with_sight bytes_eq self.old text.now) }
     {

@@ -4,8 +4,8 @@ ghost use Rattle.std.specs.Prelude.{◌≡◌, ◌≤◌, [], OnOk, length, nat_
 ghost use Rattle.om_lower_rules.specs.Slots.{slot_of};
 ghost use Rattle.om_lower_rules.specs.Tables.{with_sight};
 
-use om_scope_tree::Made;
 use om_scope_tree::uses::Sighting;
+use om_seq::AllocResult;
 use std::alloc::Global;
 use std::collections::BTreeMap;
 use std::marker::Model;
@@ -65,7 +65,7 @@ impl Variables {
     }
 
     /// Gives a variable the next slot, unless it has one.
-    pub fn add(&mut self, variable: u32) -> Made<()>
+    pub fn add(&mut self, variable: u32) -> AllocResult<()>
         ensures { OnOk result (self.new ≡ with_sight nat_eq self.old variable) }
     {
         if self.slots.contains_key(&variable) {
@@ -84,7 +84,7 @@ impl Sighting for Variables {
 
     ghost next = { with_sight nat_eq };
 
-    fn see(&mut self, variable: u32) -> Made<()> {
+    fn see(&mut self, variable: u32) -> AllocResult<()> {
         self.add(variable)
     }
 }

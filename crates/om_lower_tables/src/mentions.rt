@@ -15,9 +15,10 @@ ghost use Rattle.om_lower_tables.specs.Walks.{AddsAllRegionEnds, AddsEnds, AddsP
 
 use om_lower_rules::{Extents, Numbers, Texts};
 use om_scope_tree::{
-    ConstructKind, Made, ResolvedClause, ResolvedDeclarator, ResolvedExpression, ResolvedHead,
+    ConstructKind, ResolvedClause, ResolvedDeclarator, ResolvedExpression, ResolvedHead,
     ResolvedLoop, ResolvedPart, ResolvedStart, ResolvedStatement, ResolvedUpdate,
 };
+use om_seq::AllocResult;
 use std::alloc::Global;
 
 /// What functions mention, in the order of the text.
@@ -44,7 +45,11 @@ pub(crate) struct Walk {
 
 // Notes the formats of an expression, in the order of the text.
 #[cycle(expression)]
-fn note_expression(formats: &mut Texts, alloc: Global, expression: &ResolvedExpression) -> Made<()>
+fn note_expression(
+    formats: &mut Texts,
+    alloc: Global,
+    expression: &ResolvedExpression,
+) -> AllocResult<()>
     requires room { HasRoomBehind (expression_weight (view.expression expression.now)) formats.old }
     ensures { OnOk result (formats.new ≡ noted formats.old (formats_in expression.now)) }
 {
@@ -87,7 +92,7 @@ fn note_expression(formats: &mut Texts, alloc: Global, expression: &ResolvedExpr
 
 // Notes the formats of the values of a call.
 #[cycle(expression)]
-fn note_values(formats: &mut Texts, alloc: Global, values: &[ResolvedExpression]) -> Made<()>
+fn note_values(formats: &mut Texts, alloc: Global, values: &[ResolvedExpression]) -> AllocResult<()>
     requires room { HasRoomBehind (values_weight (listed values.now)) formats.old }
     ensures { OnOk result (formats.new ≡ noted formats.old (values_formats (listed values.now))) }
 {
@@ -98,7 +103,7 @@ fn note_values(formats: &mut Texts, alloc: Global, values: &[ResolvedExpression]
 }
 
 // Notes what an expression mentions.
-fn note_value(found: &mut Mentions, value: &ResolvedExpression) -> Made<()>
+fn note_value(found: &mut Mentions, value: &ResolvedExpression) -> AllocResult<()>
     requires room { HasTextRoom (expression_weight (view.expression value.now)) found.old }
     ensures { OnOk result (AreNoted (by_value value.now) found.old found.new) }
 {
@@ -106,7 +111,7 @@ fn note_value(found: &mut Mentions, value: &ResolvedExpression) -> Made<()>
 }
 
 // Notes the formats of an expression that may be left out.
-fn note_perhaps(found: &mut Mentions, expression: &Option<ResolvedExpression>) -> Made<()>
+fn note_perhaps(found: &mut Mentions, expression: &Option<ResolvedExpression>) -> AllocResult<()>
     requires room { HasTextRoom (perhaps_weight (perhaps_tree expression.now)) found.old }
     ensures { OnOk result (AreNoted (by_perhaps expression.now) found.old found.new) }
 {
@@ -124,7 +129,7 @@ fn cells_of(length: Option<u32>) -> u32
 }
 
 // Notes declared variables.
-fn note_declarators(found: &mut Mentions, declarators: &[ResolvedDeclarator]) -> Made<()>
+fn note_declarators(found: &mut Mentions, declarators: &[ResolvedDeclarator]) -> AllocResult<()>
     requires room { HasTextRoom (declarators_weight declarators.now) found.old }
     ensures { OnOk result (AreNoted (by_declarators declarators.now) found.old found.new) }
 {
@@ -137,7 +142,7 @@ fn note_declarators(found: &mut Mentions, declarators: &[ResolvedDeclarator]) ->
 }
 
 // Notes the beginning of a `for`.
-fn note_start(found: &mut Mentions, start: &ResolvedStart) -> Made<()>
+fn note_start(found: &mut Mentions, start: &ResolvedStart) -> AllocResult<()>
     requires room { HasTextRoom (start_weight (view.start start.now)) found.old }
     ensures { OnOk result (AreNoted (by_start start.now) found.old found.new) }
 {
@@ -149,7 +154,7 @@ fn note_start(found: &mut Mentions, start: &ResolvedStart) -> Made<()>
 }
 
 // Notes a clause.
-fn note_clause(found: &mut Mentions, clause: &ResolvedClause) -> Made<()>
+fn note_clause(found: &mut Mentions, clause: &ResolvedClause) -> AllocResult<()>
     requires room { HasTextRoom (clause_weight (view.clause clause.now)) found.old }
     ensures { OnOk result (AreNoted (by_clause clause.now) found.old found.new) }
 {
@@ -160,7 +165,7 @@ fn note_clause(found: &mut Mentions, clause: &ResolvedClause) -> Made<()>
 }
 
 // Notes clauses.
-fn note_clauses(found: &mut Mentions, clauses: &[ResolvedClause]) -> Made<()>
+fn note_clauses(found: &mut Mentions, clauses: &[ResolvedClause]) -> AllocResult<()>
     requires room { HasTextRoom (sum (map clause_weight (map view.clause clauses.now))) found.old }
     ensures { OnOk result (AreNoted (by_clauses clauses.now) found.old found.new) }
 {
@@ -171,7 +176,7 @@ fn note_clauses(found: &mut Mentions, clauses: &[ResolvedClause]) -> Made<()>
 }
 
 // Notes the bounds of a canonical loop.
-fn note_loop(found: &mut Mentions, repeated: &ResolvedLoop) -> Made<()>
+fn note_loop(found: &mut Mentions, repeated: &ResolvedLoop) -> AllocResult<()>
     requires room { HasTextRoom (loop_weight (view.loop repeated.now)) found.old }
     ensures { OnOk result (AreNoted (by_loop repeated.now) found.old found.new) }
 {
@@ -180,7 +185,7 @@ fn note_loop(found: &mut Mentions, repeated: &ResolvedLoop) -> Made<()>
 }
 
 // Notes an atomic update.
-fn note_update(found: &mut Mentions, update: &ResolvedUpdate) -> Made<()>
+fn note_update(found: &mut Mentions, update: &ResolvedUpdate) -> AllocResult<()>
     requires room { HasTextRoom (update_weight (view.update update.now)) found.old }
     ensures { OnOk result (AreNoted (by_update update.now) found.old found.new) }
 {
@@ -189,7 +194,7 @@ fn note_update(found: &mut Mentions, update: &ResolvedUpdate) -> Made<()>
 }
 
 // Notes the name of a critical region.
-fn note_construct(found: &mut Mentions, kind: &ConstructKind) -> Made<()>
+fn note_construct(found: &mut Mentions, kind: &ConstructKind) -> AllocResult<()>
     requires room { HasTextRoom 1 found.old }
     ensures { OnOk result (AreNoted (λ A m. m.by_construct kind.now) found.old found.new) }
 {
@@ -203,7 +208,7 @@ fn note_construct(found: &mut Mentions, kind: &ConstructKind) -> Made<()>
 }
 
 // Notes the head of a `for`.
-fn note_head(found: &mut Mentions, head: &ResolvedHead) -> Made<()>
+fn note_head(found: &mut Mentions, head: &ResolvedHead) -> AllocResult<()>
     requires room { HasTextRoom (head_weight head.now) found.old }
     ensures { OnOk result (AreNoted (by_head head.now) found.old found.new) }
 {
@@ -222,7 +227,7 @@ pub(crate) fn put_end(ends: &mut Vec<Numbers>, index: usize, behind: Numbers)
 
 // Walks over the body of a region.
 #[cycle(statement)]
-fn note_region(walk: &mut Walk, body: &ResolvedStatement) -> Made<()>
+fn note_region(walk: &mut Walk, body: &ResolvedStatement) -> AllocResult<()>
     requires room { HasRoom (1 + statement_weight (view.statement body.now)) walk.old }
     ensures behind { OnOk result (Passes behind_body (view.statement body.now) walk.old walk.new) }
     ensures ends { OnOk result (AddsEnds body_ends (view.statement body.now) walk.old walk.new) }
@@ -239,7 +244,7 @@ fn note_region(walk: &mut Walk, body: &ResolvedStatement) -> Made<()>
 
 // Walks over a statement and the regions in it, in the order of the text.
 #[cycle(statement)]
-fn note_statement(walk: &mut Walk, statement: &ResolvedStatement) -> Made<()>
+fn note_statement(walk: &mut Walk, statement: &ResolvedStatement) -> AllocResult<()>
     requires room { HasRoom (statement_weight (view.statement statement.now)) walk.old }
     ensures behind { OnOk result (Passes behind (view.statement statement.now) walk.old walk.new) }
     ensures ends { OnOk result (AddsRegionEnds statement.now walk.old walk.new) }
@@ -327,7 +332,7 @@ fn note_statement(walk: &mut Walk, statement: &ResolvedStatement) -> Made<()>
 
 /// Walks over statements.
 #[cycle(statement)]
-pub(crate) fn note_statements(walk: &mut Walk, items: &[ResolvedStatement]) -> Made<()>
+pub(crate) fn note_statements(walk: &mut Walk, items: &[ResolvedStatement]) -> AllocResult<()>
     requires room { HasRoom (statements_weight (statement_trees items.now)) walk.old }
     ensures behind { OnOk result (Passes behind_all (statement_trees items.now) walk.old walk.new) }
     ensures ends { OnOk result (AddsAllRegionEnds items.now walk.old walk.new) }
@@ -341,7 +346,7 @@ pub(crate) fn note_statements(walk: &mut Walk, items: &[ResolvedStatement]) -> M
 
 // Walks over the parts of `sections`.
 #[cycle(statement)]
-fn note_parts(walk: &mut Walk, parts: &[ResolvedPart]) -> Made<()>
+fn note_parts(walk: &mut Walk, parts: &[ResolvedPart]) -> AllocResult<()>
     requires room { HasRoom (parts_weight (part_trees parts.now)) walk.old }
     ensures behind { OnOk result (Passes behind_parts (part_trees parts.now) walk.old walk.new) }
     ensures ends { OnOk result (AddsPartsRegionEnds parts.now walk.old walk.new) }

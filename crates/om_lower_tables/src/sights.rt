@@ -13,13 +13,14 @@ use om_scope_tree::uses::{
     take_stand_alone, take_update,
 };
 use om_scope_tree::{
-    LocalVariable, Made, ResolvedClause, ResolvedDeclarator, ResolvedFunction, ResolvedHead,
+    LocalVariable, ResolvedClause, ResolvedDeclarator, ResolvedFunction, ResolvedHead,
     ResolvedLoop, ResolvedPart, ResolvedStart, ResolvedStatement,
 };
+use om_seq::AllocResult;
 use std::alloc::Global;
 
 /// The variables of a function's own body, by their slots: parameters first.
-pub fn function_variables(alloc: Global, function: &ResolvedFunction) -> Made<Variables>
+pub fn function_variables(alloc: Global, function: &ResolvedFunction) -> AllocResult<Variables>
     ensures { IfOk result
         (λ made. made ≡ bodies.function_variables (view.function function.now)) }
 {
@@ -34,7 +35,7 @@ pub fn region_variables(
     alloc: Global,
     clauses: &[ResolvedClause],
     body: &ResolvedStatement,
-) -> Made<Variables>
+) -> AllocResult<Variables>
     ensures { IfOk result (λ made. made ≡ variables_of_region clauses.now body.now) }
 {
     let mut variables = Variables::new(alloc);
@@ -44,7 +45,7 @@ pub fn region_variables(
 }
 
 // Sees parameters.
-fn see_parameters(seen: &mut Variables, parameters: &[LocalVariable]) -> Made<()>
+fn see_parameters(seen: &mut Variables, parameters: &[LocalVariable]) -> AllocResult<()>
     ensures { OnOk result (Sees (map parameter_sight parameters.now) seen.old seen.new) }
 {
     for parameter in parameters {
@@ -54,7 +55,7 @@ fn see_parameters(seen: &mut Variables, parameters: &[LocalVariable]) -> Made<()
 }
 
 // Sees declared names, and after each what it begins as.
-fn see_declarators(seen: &mut Variables, declarators: &[ResolvedDeclarator]) -> Made<()>
+fn see_declarators(seen: &mut Variables, declarators: &[ResolvedDeclarator]) -> AllocResult<()>
     ensures { OnOk result (Sees (declarators_sights declarators.now) seen.old seen.new) }
 {
     for declarator in declarators {
@@ -65,7 +66,7 @@ fn see_declarators(seen: &mut Variables, declarators: &[ResolvedDeclarator]) -> 
 }
 
 // Sees the beginning of a `for`.
-fn see_start(seen: &mut Variables, start: &ResolvedStart) -> Made<()>
+fn see_start(seen: &mut Variables, start: &ResolvedStart) -> AllocResult<()>
     ensures { OnOk result (Sees (start_sights (view.start start.now)) seen.old seen.new) }
 {
     match start {
@@ -76,7 +77,7 @@ fn see_start(seen: &mut Variables, start: &ResolvedStart) -> Made<()>
 }
 
 // Sees a clause of a construct in whose body it stands.
-fn see_clause(seen: &mut Variables, clause: &ResolvedClause) -> Made<()>
+fn see_clause(seen: &mut Variables, clause: &ResolvedClause) -> AllocResult<()>
     ensures { OnOk result (Sees (clause_sights (view.clause clause.now)) seen.old seen.new) }
 {
     match clause {
@@ -94,7 +95,7 @@ fn see_clause(seen: &mut Variables, clause: &ResolvedClause) -> Made<()>
 }
 
 // Sees clauses of a construct in whose body they stand.
-fn see_clauses(seen: &mut Variables, clauses: &[ResolvedClause]) -> Made<()>
+fn see_clauses(seen: &mut Variables, clauses: &[ResolvedClause]) -> AllocResult<()>
     ensures { OnOk result (Sees (clauses_sights clauses.now) seen.old seen.new) }
 {
     for clause in clauses {
@@ -104,7 +105,7 @@ fn see_clauses(seen: &mut Variables, clauses: &[ResolvedClause]) -> Made<()>
 }
 
 // Sees a clause of a `parallel` or a `task`, in its body.
-fn see_region_clause(seen: &mut Variables, clause: &ResolvedClause) -> Made<()>
+fn see_region_clause(seen: &mut Variables, clause: &ResolvedClause) -> AllocResult<()>
     ensures { OnOk result (Sees (region_clause_sights (view.clause clause.now)) seen.old seen.new) }
 {
     match clause {
@@ -122,7 +123,7 @@ fn see_region_clause(seen: &mut Variables, clause: &ResolvedClause) -> Made<()>
 }
 
 // Sees the clauses of a `parallel` or a `task`, in its body.
-fn see_region_clauses(seen: &mut Variables, clauses: &[ResolvedClause]) -> Made<()>
+fn see_region_clauses(seen: &mut Variables, clauses: &[ResolvedClause]) -> AllocResult<()>
     ensures { OnOk result (Sees (region_clauses_sights clauses.now) seen.old seen.new) }
 {
     for clause in clauses {
@@ -132,7 +133,7 @@ fn see_region_clauses(seen: &mut Variables, clauses: &[ResolvedClause]) -> Made<
 }
 
 // Sees the iteration variable of a canonical loop and then its bounds.
-fn see_loop(seen: &mut Variables, repeated: &ResolvedLoop) -> Made<()>
+fn see_loop(seen: &mut Variables, repeated: &ResolvedLoop) -> AllocResult<()>
     ensures { OnOk result (Sees (loop_sights (view.loop repeated.now)) seen.old seen.new) }
 {
     seen.add(repeated.variable.at)?;
@@ -141,7 +142,7 @@ fn see_loop(seen: &mut Variables, repeated: &ResolvedLoop) -> Made<()>
 }
 
 // Sees the head of a `for`.
-fn see_head(seen: &mut Variables, head: &ResolvedHead) -> Made<()>
+fn see_head(seen: &mut Variables, head: &ResolvedHead) -> AllocResult<()>
     ensures { OnOk result (Sees (head_sights head.now) seen.old seen.new) }
 {
     see_start(seen, &head.start)?;
@@ -151,7 +152,7 @@ fn see_head(seen: &mut Variables, head: &ResolvedHead) -> Made<()>
 
 // Sees a statement. The bodies of regions in it have slots of their own.
 #[cycle(statement)]
-fn see_statement(seen: &mut Variables, statement: &ResolvedStatement) -> Made<()>
+fn see_statement(seen: &mut Variables, statement: &ResolvedStatement) -> AllocResult<()>
     ensures { OnOk result (Sees (sights_in statement.now) seen.old seen.new) }
 {
     match statement {
@@ -237,7 +238,7 @@ fn see_statement(seen: &mut Variables, statement: &ResolvedStatement) -> Made<()
 
 // Sees statements.
 #[cycle(statement)]
-fn see_statements(seen: &mut Variables, items: &[ResolvedStatement]) -> Made<()>
+fn see_statements(seen: &mut Variables, items: &[ResolvedStatement]) -> AllocResult<()>
     ensures { OnOk result (Sees (statements_sights (statement_trees items.now)) seen.old seen.new) }
 {
     for item in items {
@@ -248,7 +249,7 @@ fn see_statements(seen: &mut Variables, items: &[ResolvedStatement]) -> Made<()>
 
 // Sees the parts of `sections`.
 #[cycle(statement)]
-fn see_parts(seen: &mut Variables, parts: &[ResolvedPart]) -> Made<()>
+fn see_parts(seen: &mut Variables, parts: &[ResolvedPart]) -> AllocResult<()>
     ensures { OnOk result (Sees (parts_sights (part_trees parts.now)) seen.old seen.new) }
 {
     for part in parts {

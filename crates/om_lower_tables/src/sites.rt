@@ -10,7 +10,8 @@ ghost use Rattle.om_scope_tree.specs.Weights.{function_weight, parts_weight, sta
 ghost use Rattle.om_lower_rules.specs.Bodies as bodies;
 
 use om_lower_rules::{Numbers, Region};
-use om_scope_tree::{Made, ResolvedFunction, ResolvedPart, ResolvedStatement};
+use om_scope_tree::{ResolvedFunction, ResolvedPart, ResolvedStatement};
+use om_seq::AllocResult;
 use std::alloc::Global;
 
 /// What a body is the code of: the whole of its function, or a region.
@@ -36,7 +37,7 @@ pub fn sites_of<'a>(
     alloc: Global,
     function: &'a ResolvedFunction,
     numbers: Numbers,
-) -> Made<Vec<Site<'a>>>
+) -> AllocResult<Vec<Site<'a>>>
     requires room { HasNumbers (function_weight (view.function function.now)) numbers }
     ensures { GivesBodies result numbers function.now }
 {
@@ -70,7 +71,7 @@ fn see_region<'a>(
     numbers: Numbers,
     part: &BodyPart<'a>,
     body: &'a ResolvedStatement,
-) -> Made<Numbers>
+) -> AllocResult<Numbers>
     requires round { IsOpen round.now sites.old.items }
     requires room { HasNumbers (1 + statement_weight (view.statement body.now)) numbers }
     ensures behind { ComesBehind result behind_body numbers (view.statement body.now) }
@@ -95,7 +96,7 @@ fn see_statement<'a>(
     round: &Site<'a>,
     numbers: Numbers,
     statement: &'a ResolvedStatement,
-) -> Made<Numbers>
+) -> AllocResult<Numbers>
     requires round { IsOpen round.now sites.old.items }
     requires room { HasNumbers (statement_weight (view.statement statement.now)) numbers }
     ensures behind { ComesBehind result bodies.behind numbers (view.statement statement.now) }
@@ -164,7 +165,7 @@ fn see_statements<'a>(
     round: &Site<'a>,
     numbers: Numbers,
     items: &'a [ResolvedStatement],
-) -> Made<Numbers>
+) -> AllocResult<Numbers>
     requires round { IsOpen round.now sites.old.items }
     requires room { HasNumbers (statements_weight (statement_trees items.now)) numbers }
     ensures behind { ComesBehind result bodies.behind_all numbers (statement_trees items.now) }
@@ -184,7 +185,7 @@ fn see_parts<'a>(
     round: &Site<'a>,
     numbers: Numbers,
     parts: &'a [ResolvedPart],
-) -> Made<Numbers>
+) -> AllocResult<Numbers>
     requires round { IsOpen round.now sites.old.items }
     requires room { HasNumbers (parts_weight (part_trees parts.now)) numbers }
     ensures behind { ComesBehind result bodies.behind_parts numbers (part_trees parts.now) }

@@ -12,7 +12,8 @@ ghost use Rattle.om_lower_tables.specs.Walks.{AddsFunctionEnds, Finds, HasFormat
 
 use crate::mentions::{Mentions, Walk, note_statements, put_end};
 use om_lower_rules::{Extents, Numbers, Tables, Texts};
-use om_scope_tree::{Made, Resolved, ResolvedFunction};
+use om_scope_tree::{Resolved, ResolvedFunction};
+use om_seq::AllocResult;
 use std::alloc::Global;
 
 // A walk over functions, and what each of them has.
@@ -24,7 +25,7 @@ struct Functions {
 }
 
 /// The tables of a tree: one walk over it finds them all.
-pub fn tables_of(alloc: Global, resolved: &Resolved) -> Made<Tables>
+pub fn tables_of(alloc: Global, resolved: &Resolved) -> AllocResult<Tables>
     requires small { HasSmallWeight (view.resolved resolved.now) }
     ensures { IfOk result (λ tables. IsTablesOf (view.resolved resolved.now) tables) }
 {
@@ -67,7 +68,7 @@ pub fn tables_of(alloc: Global, resolved: &Resolved) -> Made<Tables>
 }
 
 // Walks over all functions, from the first numbers on.
-fn note_functions(made: &mut Functions, functions: &[ResolvedFunction]) -> Made<()>
+fn note_functions(made: &mut Functions, functions: &[ResolvedFunction]) -> AllocResult<()>
     requires numbers { numbers_of made.old.walk.numbers ≡ bodies.first_numbers }
     requires empty { made.old.walk.found.extents ≡ [] }
     requires none { made.old.extents.items ≡ [] }
@@ -86,7 +87,7 @@ fn note_functions(made: &mut Functions, functions: &[ResolvedFunction]) -> Made<
 }
 
 // Walks over a function.
-fn note_function(made: &mut Functions, function: &ResolvedFunction) -> Made<()>
+fn note_function(made: &mut Functions, function: &ResolvedFunction) -> AllocResult<()>
     requires empty { made.old.walk.found.extents ≡ [] }
     requires room { HasRoom (function_weight (view.function function.now)) made.old.walk }
     ensures behind { OnOk result (PassesFunction function.now made.old.walk made.new.walk) }
@@ -106,7 +107,7 @@ fn note_function(made: &mut Functions, function: &ResolvedFunction) -> Made<()>
 }
 
 // Walks over the body of a function.
-fn note_body(walk: &mut Walk, function: &ResolvedFunction) -> Made<()>
+fn note_body(walk: &mut Walk, function: &ResolvedFunction) -> AllocResult<()>
     requires room { HasRoom (function_weight (view.function function.now)) walk.old }
     ensures behind { OnOk result (PassesFunction function.now walk.old walk.new) }
     ensures ends { OnOk result (AddsFunctionEnds function.now walk.old walk.new) }

@@ -11,18 +11,14 @@ use crate::control::{Context, Frame, Inverse};
 use crate::frame::new_frame;
 use om_code::frame::Operand;
 use om_foot::Shared;
+use om_seq::AllocResult;
 use om_state::{Construct, Edit};
-use std::alloc::{AllocError, Global};
+use std::alloc::Global;
 
 impl Context {
     /// The running frame goes to a place, with so many operands taken and then one pushed. When out
     /// of memory, nothing changes.
-    pub fn go(
-        &mut self,
-        to: u32,
-        takes: u32,
-        pushed: Option<Operand>,
-    ) -> Result<Inverse, AllocError>
+    pub fn go(&mut self, to: u32, takes: u32, pushed: Option<Operand>) -> AllocResult<Inverse>
         ensures changed { OnOk result (HasTurned (context_at to takes pushed) self.old self.new) }
         ensures can { IfOk result (λ i. CanTurnBack i self.new) }
         ensures back { IfOk result (λ i. turned_back i self.new ≡ self.old) }
@@ -36,12 +32,7 @@ impl Context {
 
     /// The running frame goes to a place, with so many operands taken, and waits there. The given frame
     /// runs from now on, at its first instruction. When out of memory, nothing changes.
-    pub fn begin_frame(
-        &mut self,
-        to: u32,
-        takes: u32,
-        frame: Box<Frame>,
-    ) -> Result<Inverse, AllocError>
+    pub fn begin_frame(&mut self, to: u32, takes: u32, frame: Box<Frame>) -> AllocResult<Inverse>
         requires counts { self.old.frames + 1 < 2 ^ 64 }
         requires next { IsNext self.old frame.value }
         ensures changed { OnOk result (HasTurned (begun_from to takes frame.value) self.old self.new) }
@@ -64,7 +55,7 @@ impl Context {
 
     /// The running frame ends, with a value for the one that waits for it; where none waits, nothing
     /// changes. When out of memory, nothing changes.
-    pub fn end_frame(&mut self, value: Operand) -> Result<Inverse, AllocError>
+    pub fn end_frame(&mut self, value: Operand) -> AllocResult<Inverse>
         ensures changed { OnOk result (HasTurned (frame_ended value) self.old self.new) }
         ensures can { IfOk result (λ i. CanTurnBack i self.new) }
         ensures back { IfOk result (λ i. turned_back i self.new ≡ self.old) }
@@ -84,7 +75,7 @@ impl Context {
     }
 
     /// Enters a region. When out of memory, nothing changes.
-    pub fn open(&mut self, construct: Shared<Construct>) -> Result<Inverse, AllocError>
+    pub fn open(&mut self, construct: Shared<Construct>) -> AllocResult<Inverse>
         ensures changed { OnOk result (HasTurned (region_opened construct) self.old self.new) }
         ensures can { IfOk result (λ i. CanTurnBack i self.new) }
         ensures back { IfOk result (λ i. turned_back i self.new ≡ self.old) }
@@ -111,7 +102,7 @@ impl Context {
 
     /// Has another region in the place of the innermost one, or enters it where it is in none. When
     /// out of memory, nothing changes.
-    pub fn replace(&mut self, mut construct: Shared<Construct>) -> Result<Inverse, AllocError>
+    pub fn replace(&mut self, mut construct: Shared<Construct>) -> AllocResult<Inverse>
         ensures changed { OnOk result (HasTurned (region_replaced construct) self.old self.new) }
         ensures can { IfOk result (λ i. CanTurnBack i self.new) }
         ensures back { IfOk result (λ i. turned_back i self.new ≡ self.old) }
@@ -125,7 +116,7 @@ impl Context {
     }
 
     /// Makes an edit of the context. When out of memory, nothing changes.
-    pub(crate) fn apply(&mut self, alloc: Global, edit: Edit) -> Result<Inverse, AllocError>
+    pub(crate) fn apply(&mut self, alloc: Global, edit: Edit) -> AllocResult<Inverse>
         requires turns { TurnsContext edit }
         requires counts { Counts edit (stack_of self.old []) }
         ensures changed { OnOk result (IsEdited edit self.old self.new) }

@@ -7,15 +7,15 @@ ghost use Rattle.om_memory.specs.Plain.{plain_stack, plain_control};
 use crate::control::{Context, Control, Frame, Stack};
 use crate::live::{shares_of, ties_of};
 use om_foot::Shared;
-use om_seq::Pile;
+use om_seq::{AllocResult, Pile};
 use om_state::{
     Context as PlainContext, Control as PlainControl, Frame as PlainFrame, SharedPile,
     Stack as PlainStack,
 };
-use std::alloc::{AllocError, Global};
+use std::alloc::Global;
 
 // A plain copy of a frame; its only error is out of memory.
-fn plain_frame_of(alloc: Global, frame: &Frame) -> Result<PlainFrame, AllocError>
+fn plain_frame_of(alloc: Global, frame: &Frame) -> AllocResult<PlainFrame>
     ensures { IfOk result (λ plain. plain ≡ plain_frame frame.now) }
 {
     let operands = Vec::from_slice(alloc, frame.operands.as_slice())?;
@@ -29,10 +29,7 @@ fn plain_frame_of(alloc: Global, frame: &Frame) -> Result<PlainFrame, AllocError
 }
 
 // The plain stack of frames that wait, the last one on top.
-fn plain_callers_of(
-    alloc: Global,
-    frames: &[Box<Frame>],
-) -> Result<SharedPile<PlainFrame>, AllocError>
+fn plain_callers_of(alloc: Global, frames: &[Box<Frame>]) -> AllocResult<SharedPile<PlainFrame>>
     ensures { IfOk result (λ plain. plain ≡ reverse (map plain_box frames.now)) }
 {
     let mut copies = Vec::with_capacity(alloc, frames.len())?;
@@ -43,7 +40,7 @@ fn plain_callers_of(
 }
 
 // A plain copy of a context; its only error is out of memory.
-fn plain_context_of(alloc: Global, context: &Context) -> Result<PlainContext, AllocError>
+fn plain_context_of(alloc: Global, context: &Context) -> AllocResult<PlainContext>
     ensures { IfOk result (λ plain. plain ≡ plain_context context.now) }
 {
     let shares = shares_of(alloc, context.constructs.as_slice())?;
@@ -67,10 +64,7 @@ fn plain_context_of(alloc: Global, context: &Context) -> Result<PlainContext, Al
 }
 
 // The plain stack of the contexts below the running one, the last one on top.
-fn plain_below_of(
-    alloc: Global,
-    contexts: &[Box<Context>],
-) -> Result<SharedPile<PlainContext>, AllocError>
+fn plain_below_of(alloc: Global, contexts: &[Box<Context>]) -> AllocResult<SharedPile<PlainContext>>
     ensures { IfOk result (λ plain. plain ≡ reverse (map plain_held contexts.now)) }
 {
     let mut copies = Vec::with_capacity(alloc, contexts.len())?;
@@ -81,7 +75,7 @@ fn plain_below_of(
 }
 
 // A plain copy of a stack.
-fn plain_stack_of(alloc: Global, stack: &Stack) -> Result<PlainStack, AllocError>
+fn plain_stack_of(alloc: Global, stack: &Stack) -> AllocResult<PlainStack>
     ensures { IfOk result (λ plain. plain ≡ plain_stack stack.now) }
 {
     let below = plain_below_of(alloc, stack.below.as_slice())?;
@@ -93,7 +87,7 @@ fn plain_stack_of(alloc: Global, stack: &Stack) -> Result<PlainStack, AllocError
 
 /// A plain copy of a control, of which nothing that was taken is a part; its only error is out of
 /// memory.
-pub fn plain_of(alloc: Global, control: &Control) -> Result<PlainControl, AllocError>
+pub fn plain_of(alloc: Global, control: &Control) -> AllocResult<PlainControl>
     ensures { IfOk result (λ plain. plain ≡ plain_control control.now) }
 {
     match control {

@@ -8,17 +8,14 @@ ghost use Rattle.om_memory.specs.Inverses.{reverted, CanRevert};
 
 use crate::control::{Control, Inverse};
 use om_code::frame::Fault;
+use om_seq::AllocResult;
 use om_state::Edit;
-use std::alloc::{AllocError, Global};
+use std::alloc::Global;
 use std::mem;
 
 /// Puts a control in the place of another one, which moves whole into what takes this back. In the
 /// place of an idle one it takes no memory. When out of memory, nothing changes.
-pub fn become_control(
-    alloc: Global,
-    control: &mut Control,
-    next: Control,
-) -> Result<Inverse, AllocError>
+pub fn become_control(alloc: Global, control: &mut Control, next: Control) -> AllocResult<Inverse>
     ensures changed { OnOk result (control.new ≡ next) }
     ensures can { IfOk result (λ i. CanRevert i control.new) }
     ensures back { IfOk result (λ i. reverted i control.new ≡ control.old) }
@@ -35,7 +32,7 @@ pub fn become_control(
 
 // The running context ends, if the worker runs. It takes memory only where none is below it: then
 // the worker is idle. When out of memory, nothing changes.
-fn end_context(alloc: Global, control: &mut Control) -> Result<Inverse, AllocError>
+fn end_context(alloc: Global, control: &mut Control) -> AllocResult<Inverse>
     ensures changed { OnOk result (HasChanged Edit.EndContext control.old control.new) }
     ensures can { IfOk result (λ i. CanRevert i control.new) }
     ensures back { IfOk result (λ i. reverted i control.new ≡ control.old) }
@@ -70,7 +67,7 @@ fn fail(control: &mut Control, fault: Fault) -> Inverse
 
 /// Makes an edit of a control, where the worker runs, and answers what takes it back. When out of
 /// memory, nothing changes.
-pub fn apply(alloc: Global, control: &mut Control, edit: Edit) -> Result<Inverse, AllocError>
+pub fn apply(alloc: Global, control: &mut Control, edit: Edit) -> AllocResult<Inverse>
     requires { HasRoom edit (plain_control control.old) }
     ensures changed { OnOk result (HasChanged edit control.old control.new) }
     ensures can { IfOk result (λ i. CanRevert i control.new) }

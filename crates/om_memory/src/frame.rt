@@ -9,9 +9,9 @@ use crate::control::{Frame, Laid, Passed, Went};
 use crate::tape::Tape;
 use om_code::frame::Operand;
 use om_foot::Shared;
-use om_seq::Seq;
+use om_seq::{AllocResult, Seq};
 use om_state::Home;
-use std::alloc::{AllocError, Global};
+use std::alloc::Global;
 use std::mem;
 
 /// A frame at the first instruction of a body; the only error is out of memory.
@@ -20,7 +20,7 @@ pub(crate) fn new_frame(
     body: u32,
     ordinal: u64,
     homes: Shared<Seq<Home>>,
-) -> Result<Box<Frame>, AllocError>
+) -> AllocResult<Box<Frame>>
     ensures { IfOk result (λ b. plain_frame b.value ≡ first_frame body ordinal homes) }
 {
     let frame = Frame {
@@ -60,7 +60,7 @@ impl Frame {
 
     /// Goes to a place, with so many operands taken and then one pushed. When out of memory, nothing
     /// changes.
-    pub fn go(&mut self, to: u32, takes: u32, pushed: Option<Operand>) -> Result<Went, AllocError>
+    pub fn go(&mut self, to: u32, takes: u32, pushed: Option<Operand>) -> AllocResult<Went>
         ensures changed { OnOk result (HasGone to takes pushed self.old self.new) }
         ensures can { IfOk result (λ w. CanGoBack w self.new) }
         ensures back { IfOk result (λ w. went_back w self.new ≡ self.old) }

@@ -7,14 +7,15 @@ ghost use Rattle.om_memory.specs.Plain.{plain_stack, plain_control};
 use crate::control::{Context, Control, Frame, Stack};
 use crate::tape::Tape;
 use om_foot::{Name, Shared};
+use om_seq::AllocResult;
 use om_state::{
     Construct, Context as PlainContext, Control as PlainControl, Frame as PlainFrame, SharedTeam,
     Stack as PlainStack,
 };
-use std::alloc::{AllocError, Global};
+use std::alloc::Global;
 
 // A frame that stands for a plain one; the only error is out of memory.
-fn frame_of(alloc: Global, plain: &PlainFrame) -> Result<Box<Frame>, AllocError>
+fn frame_of(alloc: Global, plain: &PlainFrame) -> AllocResult<Box<Frame>>
     ensures { IfOk result (λ b. plain_frame b.value ≡ plain.now) }
 {
     let frame = Frame {
@@ -28,7 +29,7 @@ fn frame_of(alloc: Global, plain: &PlainFrame) -> Result<Box<Frame>, AllocError>
 }
 
 // Frames that stand for plain ones, in their order.
-fn frames_of(alloc: Global, plain: &[Shared<PlainFrame>]) -> Result<Vec<Box<Frame>>, AllocError>
+fn frames_of(alloc: Global, plain: &[Shared<PlainFrame>]) -> AllocResult<Vec<Box<Frame>>>
     ensures { IfOk result (λ v. map plain_box v.items ≡ plain.now) }
 {
     let mut frames = Vec::new(alloc);
@@ -42,7 +43,7 @@ fn frames_of(alloc: Global, plain: &[Shared<PlainFrame>]) -> Result<Vec<Box<Fram
 pub(crate) fn shares_of(
     alloc: Global,
     plain: &[Shared<Construct>],
-) -> Result<Vec<Shared<Construct>>, AllocError>
+) -> AllocResult<Vec<Shared<Construct>>>
     ensures { IfOk result (λ v. v.items ≡ plain.now) }
 {
     let mut constructs = Vec::new(alloc);
@@ -65,7 +66,7 @@ pub(crate) fn ties_of(
     task: &Shared<Name>,
     team: &SharedTeam,
     group: &Shared<Option<Name>>,
-) -> Result<Ties, AllocError>
+) -> AllocResult<Ties>
     ensures { IfOk result
         (λ ties. ties ≡ record { task = task.now; team = team.now; group = group.now }) }
 {
@@ -77,7 +78,7 @@ pub(crate) fn ties_of(
 }
 
 /// A context that stands for a plain one; the only error is out of memory.
-pub fn context_of(alloc: Global, plain: &PlainContext) -> Result<Box<Context>, AllocError>
+pub fn context_of(alloc: Global, plain: &PlainContext) -> AllocResult<Box<Context>>
     ensures { IfOk result (λ b. plain_context b.value ≡ plain.now) }
 {
     let constructs = shares_of(alloc, plain.constructs.shares().as_slice())?;
@@ -101,10 +102,7 @@ pub fn context_of(alloc: Global, plain: &PlainContext) -> Result<Box<Context>, A
 }
 
 // Contexts that stand for plain ones, in their order.
-fn contexts_of(
-    alloc: Global,
-    plain: &[Shared<PlainContext>],
-) -> Result<Vec<Box<Context>>, AllocError>
+fn contexts_of(alloc: Global, plain: &[Shared<PlainContext>]) -> AllocResult<Vec<Box<Context>>>
     ensures { IfOk result (λ v. map plain_held v.items ≡ plain.now) }
 {
     let mut contexts = Vec::new(alloc);
@@ -115,7 +113,7 @@ fn contexts_of(
 }
 
 // A stack that stands for a plain one.
-fn stack_of_plain(alloc: Global, plain: &PlainStack) -> Result<Stack, AllocError>
+fn stack_of_plain(alloc: Global, plain: &PlainStack) -> AllocResult<Stack>
     ensures { IfOk result (λ s. plain_stack s ≡ plain.now) }
 {
     let top = context_of(alloc, &plain.top)?;
@@ -127,7 +125,7 @@ fn stack_of_plain(alloc: Global, plain: &PlainStack) -> Result<Stack, AllocError
 }
 
 /// A control that stands for a plain one; the only error is out of memory.
-pub fn control_of(alloc: Global, plain: &PlainControl) -> Result<Control, AllocError>
+pub fn control_of(alloc: Global, plain: &PlainControl) -> AllocResult<Control>
     ensures { IfOk result (λ c. plain_control c ≡ plain.now) }
 {
     match plain {

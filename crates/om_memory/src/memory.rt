@@ -21,9 +21,9 @@ use crate::trail::Trail;
 use om_cells::Store as Values;
 use om_code::frame::Cell;
 use om_foot::{Access, Cells, Name, Obj, SharedAccess, SharedCells};
-use om_seq::Seq;
+use om_seq::{AllocResult, Seq};
 use om_state::{Control as PlainControl, Edit, SharedControl, Tail, Task, Val, Was};
-use std::alloc::{AllocError, Global};
+use std::alloc::Global;
 use std::mem;
 
 /// A total map from objects to values: an object that isn't kept holds its default.
@@ -60,7 +60,7 @@ pub fn worker_of(object: &Obj) -> Option<u8>
 
 // Has trails up to that of this worker; those that are new are idle. When out of memory, there may
 // be more of them.
-fn grow(alloc: Global, trails: &mut Vec<Trail>, worker: u8) -> Result<(), AllocError>
+fn grow(alloc: Global, trails: &mut Vec<Trail>, worker: u8) -> AllocResult<()>
     ensures grown { GrowTo trails.old.items trails.new.items }
     ensures enough { OnOk result (worker < length trails.new.items) }
 {
@@ -118,7 +118,7 @@ impl Memory {
 
     /// The names of all tasks that are ready to be begun, ascending. Its only error is out of
     /// memory.
-    pub fn ready(&self, alloc: Global) -> Result<Vec<Name>, AllocError>
+    pub fn ready(&self, alloc: Global) -> AllocResult<Vec<Name>>
         ensures { IfOk result (λ v. AreReady (state_of self.now) v.items) }
     {
         self.values.ready(alloc)
@@ -171,7 +171,7 @@ impl Memory {
     }
 
     /// A copy of what an object holds; its only error is out of memory.
-    pub fn copy_at(&self, alloc: Global, object: &Obj) -> Result<Val, AllocError>
+    pub fn copy_at(&self, alloc: Global, object: &Obj) -> AllocResult<Val>
         ensures { IfOk result (λ value. value ≡ state_of self.now object.now) }
     {
         let Some(worker) = worker_of(object) else {
@@ -186,7 +186,7 @@ impl Memory {
 
     /// Keeps the object of an access, with the value that it holds, and answers the access, shared with all
     /// that asked for it. No value changes, also when out of memory.
-    pub fn keep(&mut self, alloc: Global, access: &Access) -> Result<SharedAccess, AllocError>
+    pub fn keep(&mut self, alloc: Global, access: &Access) -> AllocResult<SharedAccess>
         ensures shared { IfOk result (λ shared. shared ≡ access.now) }
         ensures state { state_of self.new ≡ state_of self.old }
         ensures pasts { pasts_of self.new ≡ pasts_of self.old }
@@ -205,7 +205,7 @@ impl Memory {
     // Keeps the object of an access in `values`, and answers the access, shared. A control is kept there
     // only so that its accesses are shared: what it holds is in its trail. No value changes, also when out of
     // memory.
-    fn keep_value(&mut self, alloc: Global, access: &Access) -> Result<SharedAccess, AllocError>
+    fn keep_value(&mut self, alloc: Global, access: &Access) -> AllocResult<SharedAccess>
         ensures shared { IfOk result (λ shared. shared ≡ access.now) }
         ensures state { state_of self.new ≡ state_of self.old }
         ensures pasts { pasts_of self.new ≡ pasts_of self.old }
@@ -217,7 +217,7 @@ impl Memory {
     }
 
     /// Keeps the control of a worker. Its only error is out of memory. No value changes, also then.
-    pub fn know_control(&mut self, alloc: Global, worker: u8) -> Result<(), AllocError>
+    pub fn know_control(&mut self, alloc: Global, worker: u8) -> AllocResult<()>
         ensures state { state_of self.new ≡ state_of self.old }
         ensures pasts { pasts_of self.new ≡ pasts_of self.old }
         ensures kept { OnOk result (is_kept self.new (obj.Control worker) ≡ true) }
@@ -228,12 +228,7 @@ impl Memory {
 
     /// Puts the first control of a worker. Its trail begins anew, so no change before it can be taken back.
     /// When out of memory, nothing changes.
-    pub fn begin(
-        &mut self,
-        alloc: Global,
-        worker: u8,
-        control: &PlainControl,
-    ) -> Result<(), AllocError>
+    pub fn begin(&mut self, alloc: Global, worker: u8, control: &PlainControl) -> AllocResult<()>
         ensures state { OnOk result (state_of self.new
             ≡ with_value (obj.Control worker) (value.Control control.now) (state_of self.old)) }
         ensures pasts { OnOk result
@@ -258,7 +253,7 @@ impl Memory {
     }
 
     /// Changes a worker's own control by edits, in place. When out of memory, nothing changes.
-    pub fn change(&mut self, alloc: Global, worker: u8, edits: Seq<Edit>) -> Result<(), AllocError>
+    pub fn change(&mut self, alloc: Global, worker: u8, edits: Seq<Edit>) -> AllocResult<()>
         requires kept { is_kept self.old (obj.Control worker) ≡ true }
         requires room { HaveRoom edits (control_in (state_of self.old (obj.Control worker))) }
         ensures state { OnOk result (state_of self.new
@@ -275,12 +270,7 @@ impl Memory {
     }
 
     /// Puts a worker's control, as a FORK does for a member. When out of memory, nothing changes.
-    pub fn put(
-        &mut self,
-        alloc: Global,
-        worker: u8,
-        control: &PlainControl,
-    ) -> Result<(), AllocError>
+    pub fn put(&mut self, alloc: Global, worker: u8, control: &PlainControl) -> AllocResult<()>
         requires { is_kept self.old (obj.Control worker) ≡ true }
         ensures state { OnOk result (state_of self.new
             ≡ with_value (obj.Control worker) (value.Control control.now) (state_of self.old)) }
@@ -310,7 +300,7 @@ impl Memory {
 
     /// Puts a value at an object that is no control, which is kept from then on. When out of memory,
     /// nothing changes.
-    pub fn create(&mut self, alloc: Global, object: &Obj, value: Val) -> Result<(), AllocError>
+    pub fn create(&mut self, alloc: Global, object: &Obj, value: Val) -> AllocResult<()>
         requires { is_trailed object.now ≡ false }
         ensures state { OnOk result
             (state_of self.new ≡ with_value object.now value (state_of self.old)) }
@@ -369,7 +359,7 @@ impl Memory {
 
     /// Appends to the output or to events at an object that is kept; another value stays. When out
     /// of memory, nothing changes.
-    pub fn append(&mut self, object: &Obj, tail: Tail) -> Result<(), AllocError>
+    pub fn append(&mut self, object: &Obj, tail: Tail) -> AllocResult<()>
         requires { is_kept self.old object.now ≡ true }
         ensures state { OnOk result
             (state_of self.new ≡ with_value object.now
@@ -402,7 +392,7 @@ impl Memory {
 
     /// Keeps cells of a slot, with the values that they hold, and answers them, shared with all that name
     /// them. No value changes, also when out of memory.
-    pub fn keep_cells(&mut self, alloc: Global, cells: &Cells) -> Result<SharedCells, AllocError>
+    pub fn keep_cells(&mut self, alloc: Global, cells: &Cells) -> AllocResult<SharedCells>
         ensures shared { IfOk result (λ shared. shared ≡ cells.now) }
         ensures state { state_of self.new ≡ state_of self.old }
         ensures pasts { pasts_of self.new ≡ pasts_of self.old }
@@ -420,7 +410,7 @@ impl Memory {
         alloc: Global,
         cells: &SharedCells,
         cell: Cell,
-    ) -> Result<Seq<Was>, AllocError>
+    ) -> AllocResult<Seq<Was>>
         requires kept { All (λ a. is_kept self.old a.object ≡ true) (cells_of cells.now) }
         ensures was { IfOk result (λ was. were_listed was
             ≡ undo_record (cells_of cells.now) (puts_of cell cells.now.count) (state_of self.old)) }

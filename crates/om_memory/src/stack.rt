@@ -9,8 +9,9 @@ ghost use Rattle.om_memory.specs.Inverses.{stack_back, CanStackBack, StaysRunnin
 
 use crate::control::{Inverse, Stack};
 use crate::live::context_of;
+use om_seq::AllocResult;
 use om_state::Edit;
-use std::alloc::{AllocError, Global};
+use std::alloc::Global;
 
 impl Stack {
     /// Ends the running context where another one waits below it, which runs on. It takes no
@@ -27,7 +28,7 @@ impl Stack {
 
     /// Makes an edit after which the worker runs on with the stack. When out of memory, nothing
     /// changes.
-    pub(crate) fn apply(&mut self, alloc: Global, edit: Edit) -> Result<Inverse, AllocError>
+    pub(crate) fn apply(&mut self, alloc: Global, edit: Edit) -> AllocResult<Inverse>
         requires stays { StaysRunning edit }
         requires counts { Counts edit (plain_stack self.old) }
         ensures changed { OnOk result (RunsOn edit self.old self.new) }

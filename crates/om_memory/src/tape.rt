@@ -3,7 +3,7 @@
 ghost use Rattle.std.specs.Prelude.{◌≡◌, ◌<◌, ◌≤◌, ◌↔◌, [], IsTrue, IfOk, OnOk, OnErr, length, slice_get, option_map, reverse, Some, None};
 ghost use Rattle.om_memory.specs.Tapes.{pushed, unpushed, lowered, raised, swapped_down, swapped_up, exchanged};
 
-use std::alloc::AllocError;
+use om_seq::AllocResult;
 use std::marker::Model;
 use std::mem;
 
@@ -74,7 +74,7 @@ impl<T> Tape<T> {
 
     /// Pushes an item, and answers the taken one that it lies over, if any. When out of
     /// memory, nothing changes.
-    pub fn push(&mut self, item: T) -> Result<Option<T>, AllocError>
+    pub fn push(&mut self, item: T) -> AllocResult<Option<T>>
     where
         T: Drop,
         ensures over { IfOk result (λ over. over ≡ slice_get self.old.taken 0) }
@@ -155,7 +155,7 @@ impl<T> Tape<T> {
 
     /// Pushes the item that runs and has another one run, and answers the taken one that it lies
     /// over, if any. When out of memory, nothing changes.
-    pub fn push_under(&mut self, next: T, running: &mut T) -> Result<Option<T>, AllocError>
+    pub fn push_under(&mut self, next: T, running: &mut T) -> AllocResult<Option<T>>
     where
         T: Drop,
         ensures over { IfOk result (λ over. over ≡ slice_get self.old.taken 0) }

@@ -11,7 +11,7 @@ use crate::control::{Control, Inverse, Logged};
 use crate::edit::{apply, become_control, revert};
 use crate::live::control_of;
 use crate::log::Log;
-use om_seq::Seq;
+use om_seq::{AllocResult, Seq};
 use om_state::{Control as PlainControl, Edit};
 use std::alloc::{AllocError, Global};
 use std::marker::Model;
@@ -44,7 +44,7 @@ fn log(
     inverses: &mut Log<Logged>,
     inverse: Inverse,
     begins: bool,
-) -> Result<(), AllocError>
+) -> AllocResult<()>
     requires { CanRevert inverse control.old }
     ensures logged { OnOk result (inverses.new ≡ logged inverse begins inverses.old) }
     ensures same { OnOk result (control.new ≡ control.old) }
@@ -65,7 +65,7 @@ fn edit_logged(
     inverses: &mut Log<Logged>,
     edit: Edit,
     begins: bool,
-) -> Result<(), AllocError>
+) -> AllocResult<()>
     requires room { HasRoom edit (plain_control control.old) }
     requires can_rewind { CanRewind inverses.old control.old }
     ensures changed { OnOk result (HasChanged edit control.old control.new) }
@@ -85,7 +85,7 @@ fn edit_all(
     control: &mut Control,
     inverses: &mut Log<Logged>,
     edits: Vec<Edit>,
-) -> Result<(), AllocError>
+) -> AllocResult<()>
     requires room { HaveRoom edits.items (plain_control control.old) }
     requires can_rewind { CanRewind inverses.old control.old }
     ensures changed { OnOk result (HasMade edits.items control.old control.new) }
@@ -151,7 +151,7 @@ impl Trail {
     }
 
     /// Makes a step of edits, in place. When out of memory, nothing changes.
-    pub fn step(&mut self, alloc: Global, edits: Seq<Edit>) -> Result<(), AllocError>
+    pub fn step(&mut self, alloc: Global, edits: Seq<Edit>) -> AllocResult<()>
         requires { HaveRoom edits self.old.now }
         ensures stepped { OnOk result (self.new ≡ stepped edits self.old) }
         ensures unchanged_on_error { OnErr result (self.new ≡ self.old) }
@@ -161,7 +161,7 @@ impl Trail {
     }
 
     /// Puts another control, as a FORK does for a member. When out of memory, nothing changes.
-    pub fn become_other(&mut self, alloc: Global, next: &PlainControl) -> Result<(), AllocError>
+    pub fn become_other(&mut self, alloc: Global, next: &PlainControl) -> AllocResult<()>
         ensures became { OnOk result (self.new ≡ became next.now self.old) }
         ensures unchanged_on_error { OnErr result (self.new ≡ self.old) }
     {

@@ -14,7 +14,7 @@ ghost use Rattle.om_parser_tree.specs.Limits.{accepted};
 ghost use Rattle.om_parser_tree.specs.View.{view_directive, view_inner, view_statement};
 
 use crate::opening::condition;
-use om_lexer::{FaultCode, Keyword, Punctuator, SourceFault, Span, Token};
+use om_lexer::{FaultCode, Keyword, Punctuator, SourceFault, SourceResult, Span, Token};
 use om_parser_parts::front::{mark, word};
 use om_parser_tree::assembly::construct_of;
 use om_parser_tree::boxed::boxed_before;
@@ -29,7 +29,7 @@ pub fn do_end(
     at: Span,
     body: Box<Statement>,
     tokens: &[Token],
-) -> Result<(Box<Statement>, &[Token]), SourceFault>
+) -> SourceResult<(Box<Statement>, &[Token])>
     ensures { ReadsStatement result (do_end (parts accepted) at (view_inner body) tokens.now) }
 {
     let (again, rest) = word(tokens, Keyword::While)?;
@@ -53,7 +53,7 @@ pub fn atomic_of<'a>(
     directive: Box<Directive<Expression>>,
     body: Box<Statement>,
     tokens: &'a [Token],
-) -> Result<(Box<Statement>, &'a [Token]), SourceFault>
+) -> SourceResult<(Box<Statement>, &'a [Token])>
     ensures { ReadsStatement result (atomic_with checked directive body tokens.now) }
 {
     if !checked || has_form(&directive, &body) {

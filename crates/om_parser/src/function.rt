@@ -8,7 +8,7 @@ ghost use Rattle.om_parser_parts.specs.Reading.{take_name, Reads, ReadsAlways};
 ghost use Rattle.om_parser_parts.specs.Repetition.{optional};
 ghost use Rattle.om_parser_tree.specs.View.{view_parameters, view_head};
 
-use om_lexer::{Keyword, Punctuator, SourceFault, Span, Token, TokenKind};
+use om_lexer::{Keyword, Punctuator, SourceResult, Span, Token, TokenKind};
 use om_parser_parts::front::{mark, name, syntax, take_mark, take_word, word};
 use om_parser_tree::boxed::{boxed, boxed_before};
 use om_parser_tree::{FunctionHead, Parameter, Parameters, ResultType};
@@ -22,7 +22,7 @@ pub fn head_after(
     name: Name,
     open_paren: Span,
     tokens: &[Token],
-) -> Result<(Box<FunctionHead<Option<Name>>>, &[Token]), SourceFault>
+) -> SourceResult<(Box<FunctionHead<Option<Name>>>, &[Token])>
     ensures { ReadsBoxed view_head result (head_after result_type name open_paren tokens.now) }
 {
     let (parameters, close_paren, rest) = parameters(alloc, tokens)?;
@@ -42,7 +42,7 @@ pub fn named_head(
     alloc: Global,
     head: Box<FunctionHead<Option<Name>>>,
     body: &[Token],
-) -> Result<Box<FunctionHead<Name>>, SourceFault>
+) -> SourceResult<Box<FunctionHead<Name>>>
     ensures { Reads (λ x. view_head x.value) result (named_head body.now (view_head head.value)) }
 {
     let head = Box::into_inner(head);
@@ -62,7 +62,7 @@ fn named_parameters(
     alloc: Global,
     parameters: Parameters<Option<Name>>,
     body: &[Token],
-) -> Result<Parameters<Name>, SourceFault>
+) -> SourceResult<Parameters<Name>>
     ensures { ReadsParameters result (named_parameters body.now (view_parameters parameters)) }
 {
     match parameters {
@@ -81,7 +81,7 @@ fn named_further(
     alloc: Global,
     further: Vec<(Span, Parameter<Option<Name>>)>,
     body: &[Token],
-) -> Result<Vec<(Span, Parameter<Name>)>, SourceFault>
+) -> SourceResult<Vec<(Span, Parameter<Name>)>>
     ensures { Reads (λ x. x.items) result (named_further body.now further.items) }
 {
     let mut named = Vec::new(alloc);
@@ -95,7 +95,7 @@ fn named_further(
 fn named_parameter(
     parameter: Parameter<Option<Name>>,
     body: &[Token],
-) -> Result<Parameter<Name>, SourceFault>
+) -> SourceResult<Parameter<Name>>
     ensures { ReadsAlways (λ x. x) result (named_parameter body.now parameter) }
 {
     let Parameter { int, name } = parameter;
@@ -109,7 +109,7 @@ fn named_parameter(
 fn parameters(
     alloc: Global,
     tokens: &[Token],
-) -> Result<(Parameters<Option<Name>>, Span, &[Token]), SourceFault>
+) -> SourceResult<(Parameters<Option<Name>>, Span, &[Token])>
     ensures { Reads (λ x. ((view_parameters x.0, x.1), x.2.now)) result (parameters_at tokens.now) }
 {
     if let Some((close_paren, rest)) = take_mark(tokens, Punctuator::CloseParen) {
@@ -126,7 +126,7 @@ fn parameters(
 fn listed(
     alloc: Global,
     tokens: &[Token],
-) -> Result<(Parameters<Option<Name>>, Span, &[Token]), SourceFault>
+) -> SourceResult<(Parameters<Option<Name>>, Span, &[Token])>
     ensures { Reads (λ x. ((view_parameters x.0, x.1), x.2.now)) result (listed_at tokens.now) }
 {
     let (first, rest) = parameter(alloc, tokens)?;
@@ -145,7 +145,7 @@ fn listed(
 fn further_parameters(
     alloc: Global,
     tokens: &[Token],
-) -> Result<(Vec<(Span, Parameter<Option<Name>>)>, Span, &[Token]), SourceFault>
+) -> SourceResult<(Vec<(Span, Parameter<Option<Name>>)>, Span, &[Token])>
     ensures { Reads (λ x. (x.0.items, x.1, x.2.now)) result (further_parameters_at tokens.now) }
 {
     let mut parameters = Vec::new(alloc);
@@ -164,7 +164,7 @@ fn further_parameters(
 fn further_parameter(
     alloc: Global,
     tokens: &[Token],
-) -> Result<(Span, Parameter<Option<Name>>, &[Token]), SourceFault>
+) -> SourceResult<(Span, Parameter<Option<Name>>, &[Token])>
     ensures { Reads (λ x. ((x.0, x.1), x.2.now)) result (further_parameter_at tokens.now) }
 {
     let (comma, rest) = mark(tokens, Punctuator::Comma)?;
@@ -173,10 +173,7 @@ fn further_parameter(
 }
 
 // `int` and the name behind it, where one stands, and the tokens behind them.
-fn parameter(
-    alloc: Global,
-    tokens: &[Token],
-) -> Result<(Parameter<Option<Name>>, &[Token]), SourceFault>
+fn parameter(alloc: Global, tokens: &[Token]) -> SourceResult<(Parameter<Option<Name>>, &[Token])>
     ensures { Reads (λ x. (x.0, x.1.now)) result (parameter_at tokens.now) }
 {
     let (int, rest) = word(tokens, Keyword::Int)?;
@@ -185,7 +182,7 @@ fn parameter(
 }
 
 // The name that stands first, if one does, and the tokens behind it.
-fn optional_name(alloc: Global, tokens: &[Token]) -> Result<(Option<Name>, &[Token]), SourceFault>
+fn optional_name(alloc: Global, tokens: &[Token]) -> SourceResult<(Option<Name>, &[Token])>
     ensures { Reads (λ x. (x.0, x.1.now)) result (Ok (optional (take_name tokens.now) tokens.now)) }
 {
     match tokens {

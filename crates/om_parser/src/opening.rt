@@ -9,7 +9,7 @@ ghost use Rattle.om_parser_tree.specs.Limits.{accepted};
 ghost use Rattle.om_parser_tree.specs.View.{view_condition, view_for_head, view_for_start};
 
 use crate::start::Start;
-use om_lexer::{Keyword, Punctuator, SourceFault, Span, Token};
+use om_lexer::{Keyword, Punctuator, SourceResult, Span, Token};
 use om_parser_parts::front::{mark, syntax, take_mark, take_word};
 use om_parser_parts::part::{enclosed, enclosed_declaration};
 use om_parser_tree::boxed::boxed_before;
@@ -31,7 +31,7 @@ pub fn opening_after(
     start: Start,
     at: Span,
     tokens: &[Token],
-) -> Result<(Opening, &[Token]), SourceFault>
+) -> SourceResult<(Opening, &[Token])>
     ensures { ReadsOne view_opening result (opening_of (parts accepted) start at tokens.now) }
 {
     match start {
@@ -52,7 +52,7 @@ pub fn opening_after(
 }
 
 /// An expression in parentheses, and the tokens behind it.
-pub fn condition(alloc: Global, tokens: &[Token]) -> Result<(Box<Condition>, &[Token]), SourceFault>
+pub fn condition(alloc: Global, tokens: &[Token]) -> SourceResult<(Box<Condition>, &[Token])>
     ensures { ReadsBoxed view_condition result (condition_at (parts accepted) tokens.now) }
 {
     let (open_paren, rest) = mark(tokens, Punctuator::OpenParen)?;
@@ -68,11 +68,7 @@ pub fn condition(alloc: Global, tokens: &[Token]) -> Result<(Box<Condition>, &[T
 }
 
 // The head of a `for`, of which the word is taken, and the tokens behind it.
-fn for_head(
-    alloc: Global,
-    word: Span,
-    tokens: &[Token],
-) -> Result<(Box<ForHead>, &[Token]), SourceFault>
+fn for_head(alloc: Global, word: Span, tokens: &[Token]) -> SourceResult<(Box<ForHead>, &[Token])>
     ensures { ReadsBoxed view_for_head result (for_head_after (parts accepted) word tokens.now) }
 {
     let (open_paren, rest) = mark(tokens, Punctuator::OpenParen)?;
@@ -92,7 +88,7 @@ fn for_head(
 }
 
 // What a `for` begins with, and the tokens behind it.
-fn for_start(alloc: Global, tokens: &[Token]) -> Result<(Box<ForStart>, &[Token]), SourceFault>
+fn for_start(alloc: Global, tokens: &[Token]) -> SourceResult<(Box<ForStart>, &[Token])>
     ensures { ReadsBoxed view_for_start result (for_start_at (parts accepted) tokens.now) }
 {
     if let Some((int, rest)) = take_word(tokens, Keyword::Int) {
@@ -122,7 +118,7 @@ fn enclosed_before(
     alloc: Global,
     tokens: &[Token],
     end: Punctuator,
-) -> Result<(Option<Box<Expression>>, Span, &[Token]), SourceFault>
+) -> SourceResult<(Option<Box<Expression>>, Span, &[Token])>
     ensures { ReadsOptional result (optional_before end (parts accepted).enclosed tokens.now) }
 {
     if let Some((span, rest)) = take_mark(tokens, end) {

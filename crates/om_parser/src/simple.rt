@@ -12,7 +12,7 @@ ghost use Rattle.om_parser_tree.specs.View.{view_line};
 
 use crate::construct::{LineStart, line_start, misplaced};
 use crate::start::Start;
-use om_lexer::{Punctuator, SourceFault, Span, Token};
+use om_lexer::{Punctuator, SourceResult, Span, Token};
 use om_parser_parts::front::{mark, syntax, take_mark};
 use om_parser_parts::part::{declaration, directive_line, expression};
 use om_parser_tree::boxed::{boxed, boxed_before};
@@ -29,7 +29,7 @@ pub fn simple<'a>(
     at: Span,
     behind: &'a [Token],
     whole: &'a [Token],
-) -> Result<(Box<Statement>, &'a [Token]), SourceFault>
+) -> SourceResult<(Box<Statement>, &'a [Token])>
     ensures { ReadsStatement result (simple_of (parts accepted) start at behind.now whole.now) }
 {
     match start {
@@ -47,7 +47,7 @@ fn return_after(
     alloc: Global,
     at: Span,
     tokens: &[Token],
-) -> Result<(Box<Statement>, &[Token]), SourceFault>
+) -> SourceResult<(Box<Statement>, &[Token])>
     ensures { ReadsStatement result (return_after (parts accepted) at tokens.now) }
 {
     if let Some((semicolon, rest)) = take_mark(tokens, Punctuator::Semicolon) {
@@ -79,7 +79,7 @@ fn break_after(
     alloc: Global,
     at: Span,
     tokens: &[Token],
-) -> Result<(Box<Statement>, &[Token]), SourceFault>
+) -> SourceResult<(Box<Statement>, &[Token])>
     ensures { ReadsStatement result (jump_after (trees.Break at) tokens.now) }
 {
     let (semicolon, rest) = mark(tokens, Punctuator::Semicolon)?;
@@ -98,7 +98,7 @@ fn continue_after(
     alloc: Global,
     at: Span,
     tokens: &[Token],
-) -> Result<(Box<Statement>, &[Token]), SourceFault>
+) -> SourceResult<(Box<Statement>, &[Token])>
     ensures { ReadsStatement result (jump_after (trees.Continue at) tokens.now) }
 {
     let (semicolon, rest) = mark(tokens, Punctuator::Semicolon)?;
@@ -113,10 +113,7 @@ fn continue_after(
 }
 
 // An expression and its semicolon, and the tokens behind them.
-fn expression_statement(
-    alloc: Global,
-    tokens: &[Token],
-) -> Result<(Box<Statement>, &[Token]), SourceFault>
+fn expression_statement(alloc: Global, tokens: &[Token]) -> SourceResult<(Box<Statement>, &[Token])>
     ensures { ReadsStatement result (expression_statement_at (parts accepted) tokens.now) }
 {
     let (value, rest) = expression(alloc, tokens)?;
@@ -130,7 +127,7 @@ pub fn declaration_item(
     alloc: Global,
     int: Span,
     tokens: &[Token],
-) -> Result<(Box<Statement>, &[Token]), SourceFault>
+) -> SourceResult<(Box<Statement>, &[Token])>
     ensures { ReadsStatement result (local_item_after (parts accepted) int tokens.now) }
 {
     let (declaration, rest) = declaration(alloc, int, tokens)?;
@@ -140,10 +137,7 @@ pub fn declaration_item(
 
 /// A directive that stands alone, and the tokens behind it.
 #[inline(never)]
-pub fn stand_alone(
-    alloc: Global,
-    tokens: &[Token],
-) -> Result<(Box<Statement>, &[Token]), SourceFault>
+pub fn stand_alone(alloc: Global, tokens: &[Token]) -> SourceResult<(Box<Statement>, &[Token])>
     ensures { ReadsStatement result (stand_alone_at (parts accepted).line tokens.now) }
 {
     let (directive, rest) = directive_line(alloc, tokens)?;
@@ -152,10 +146,7 @@ pub fn stand_alone(
 
 /// Refuses a line whose word names no directive.
 #[inline(never)]
-pub fn unknown_line(
-    alloc: Global,
-    tokens: &[Token],
-) -> Result<(Box<Statement>, &[Token]), SourceFault>
+pub fn unknown_line(alloc: Global, tokens: &[Token]) -> SourceResult<(Box<Statement>, &[Token])>
     ensures { ReadsStatement result (unknown_line (parts accepted).line tokens.now) }
 {
     directive_line(alloc, tokens)?;
@@ -167,7 +158,7 @@ pub fn unknown_line(
 pub fn section(
     alloc: Global,
     tokens: &[Token],
-) -> Result<(Option<Box<Directive<Expression>>>, &[Token]), SourceFault>
+) -> SourceResult<(Option<Box<Directive<Expression>>>, &[Token])>
     ensures { ReadsOne (option_map view_line) result (section_at (parts accepted).line tokens.now) }
 {
     match line_start(tokens) {

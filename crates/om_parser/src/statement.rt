@@ -15,7 +15,7 @@ use crate::ending::{atomic_of, do_end};
 use crate::opening::{Opening, opening_after};
 use crate::simple::{declaration_item, section, simple, stand_alone, unknown_line};
 use crate::start::{Start, no_room, start_of};
-use om_lexer::{Keyword, Punctuator, SourceFault, Span, Token};
+use om_lexer::{Keyword, Punctuator, SourceResult, Span, Token};
 use om_parser_parts::front::{mark, syntax, take_mark, take_word, too_deep};
 use om_parser_parts::laws::parts_are_sound;
 use om_parser_parts::part::directive_line;
@@ -38,7 +38,7 @@ pub struct Room {
 }
 
 /// The block of a function, and the tokens behind it.
-pub(crate) fn block(alloc: Global, tokens: &[Token]) -> Result<(Block, &[Token]), SourceFault>
+pub(crate) fn block(alloc: Global, tokens: &[Token]) -> SourceResult<(Block, &[Token])>
     ensures { ReadsOne view_block result (block_at accepted tokens.now) }
 {
     let (open_brace, rest) = mark(tokens, Punctuator::OpenBrace)?;
@@ -64,7 +64,7 @@ fn items(
     alloc: Global,
     tokens: &[Token],
     room: Room,
-) -> Result<(Vec<Statement>, Span, &[Token]), SourceFault>
+) -> SourceResult<(Vec<Statement>, Span, &[Token])>
     ensures { ReadsUntil view_statement result (items_in room tokens.now) }
 {
     parts_are_sound();
@@ -86,7 +86,7 @@ fn block_item(
     alloc: Global,
     tokens: &[Token],
     room: Room,
-) -> Result<(Box<Statement>, &[Token]), SourceFault>
+) -> SourceResult<(Box<Statement>, &[Token])>
     ensures { ReadsStatement result (block_item_in room tokens.now) }
 {
     match take_word(tokens, Keyword::Int) {
@@ -101,7 +101,7 @@ fn part_item(
     alloc: Global,
     tokens: &[Token],
     room: Room,
-) -> Result<(Box<Statement>, &[Token]), SourceFault>
+) -> SourceResult<(Box<Statement>, &[Token])>
     ensures { ReadsStatement result (part_item_in room tokens.now) }
 {
     match line_start(tokens) {
@@ -118,7 +118,7 @@ fn statement(
     alloc: Global,
     tokens: &[Token],
     room: Room,
-) -> Result<(Box<Statement>, &[Token]), SourceFault>
+) -> SourceResult<(Box<Statement>, &[Token])>
     ensures { ReadsStatement result (statement_in room tokens.now) }
 {
     let [first, rest @ ..] = tokens else {
@@ -145,7 +145,7 @@ fn block_after(
     open_brace: Span,
     tokens: &[Token],
     room: Room,
-) -> Result<(Box<Statement>, &[Token]), SourceFault>
+) -> SourceResult<(Box<Statement>, &[Token])>
     ensures { ReadsStatement result (block_in room open_brace tokens.now) }
 {
     let Some(blocks) = room.blocks.checked_sub(1) else {
@@ -164,7 +164,7 @@ fn headed(
     at: Span,
     tokens: &[Token],
     room: Room,
-) -> Result<(Box<Statement>, &[Token]), SourceFault>
+) -> SourceResult<(Box<Statement>, &[Token])>
     ensures { ReadsStatement result (headed_in room start at tokens.now) }
 {
     let (opening, rest) = opening_after(alloc, start, at, tokens)?;
@@ -180,7 +180,7 @@ fn behind_body(
     body: Box<Statement>,
     tokens: &[Token],
     room: Room,
-) -> Result<(Box<Statement>, &[Token]), SourceFault>
+) -> SourceResult<(Box<Statement>, &[Token])>
     ensures { ReadsStatement result (behind_body_in room opening body tokens.now) }
 {
     match opening {
@@ -215,7 +215,7 @@ fn do_after(
     at: Span,
     tokens: &[Token],
     room: Room,
-) -> Result<(Box<Statement>, &[Token]), SourceFault>
+) -> SourceResult<(Box<Statement>, &[Token])>
     ensures { ReadsStatement result (do_after (parts accepted) (statement_in room) at tokens.now) }
 {
     let (body, rest) = statement(alloc, tokens, room)?;
@@ -228,7 +228,7 @@ fn directive(
     alloc: Global,
     tokens: &[Token],
     room: Room,
-) -> Result<(Box<Statement>, &[Token]), SourceFault>
+) -> SourceResult<(Box<Statement>, &[Token])>
     ensures { ReadsStatement result (directive_in room tokens.now) }
 {
     match line_start(tokens) {
@@ -244,7 +244,7 @@ fn construct(
     alloc: Global,
     tokens: &[Token],
     room: Room,
-) -> Result<(Box<Statement>, &[Token]), SourceFault>
+) -> SourceResult<(Box<Statement>, &[Token])>
     ensures { ReadsStatement result (construct_in room tokens.now) }
 {
     let (directive, rest) = directive_line(alloc, tokens)?;
@@ -264,7 +264,7 @@ fn constructed(
     directive: Box<Directive<Expression>>,
     tokens: &[Token],
     room: Room,
-) -> Result<(Box<Statement>, &[Token]), SourceFault>
+) -> SourceResult<(Box<Statement>, &[Token])>
     ensures { ReadsStatement result (constructed_in room (view_line directive) tokens.now) }
 {
     let (body, rest) = statement(alloc, tokens, room)?;
@@ -278,7 +278,7 @@ fn atomic(
     directive: Box<Directive<Expression>>,
     tokens: &[Token],
     room: Room,
-) -> Result<(Box<Statement>, &[Token]), SourceFault>
+) -> SourceResult<(Box<Statement>, &[Token])>
     ensures { ReadsStatement result (atomic_in room (view_line directive) tokens.now) }
 {
     let unchecked = Room {
@@ -296,7 +296,7 @@ fn sections(
     directive: Box<Directive<Expression>>,
     tokens: &[Token],
     room: Room,
-) -> Result<(Box<Statement>, &[Token]), SourceFault>
+) -> SourceResult<(Box<Statement>, &[Token])>
     ensures { ReadsStatement result (sections_in room (view_line directive) tokens.now) }
 {
     let (open_brace, parts, close_brace, rest) = braces(alloc, tokens, room)?;
@@ -309,7 +309,7 @@ fn braces(
     alloc: Global,
     tokens: &[Token],
     room: Room,
-) -> Result<(Span, Vec<Part>, Span, &[Token]), SourceFault>
+) -> SourceResult<(Span, Vec<Part>, Span, &[Token])>
     ensures { ReadsBraces result (parts_in room tokens.now) }
 {
     let (open_brace, rest) = mark(tokens, Punctuator::OpenBrace)?;
@@ -331,7 +331,7 @@ fn braces(
 
 // The parts of `sections`, one at least, and the tokens behind them.
 #[cycle(statement)]
-fn parts(alloc: Global, tokens: &[Token], room: Room) -> Result<(Vec<Part>, &[Token]), SourceFault>
+fn parts(alloc: Global, tokens: &[Token], room: Room) -> SourceResult<(Vec<Part>, &[Token])>
     ensures { ReadsEach view_part result (every_part_in room tokens.now) }
 {
     parts_are_sound();
@@ -349,7 +349,7 @@ fn parts(alloc: Global, tokens: &[Token], room: Room) -> Result<(Vec<Part>, &[To
 
 // A part of `sections`: its `section`, if it has one, its items, and the tokens behind them.
 #[cycle(statement)]
-fn part(alloc: Global, tokens: &[Token], room: Room) -> Result<(Part, &[Token]), SourceFault>
+fn part(alloc: Global, tokens: &[Token], room: Room) -> SourceResult<(Part, &[Token])>
     ensures { ReadsOne view_part result (part_in room tokens.now) }
 {
     let (section, rest) = section(alloc, tokens)?;
@@ -363,7 +363,7 @@ fn part_items(
     alloc: Global,
     tokens: &[Token],
     room: Room,
-) -> Result<(Vec<Statement>, &[Token]), SourceFault>
+) -> SourceResult<(Vec<Statement>, &[Token])>
     ensures { ReadsEach view_statement result (part_items_in room tokens.now) }
 {
     parts_are_sound();

@@ -22,7 +22,7 @@ ghost use Rattle.om_parser_tree.specs.View.{view_head, view_unit};
 use crate::function::{head_after, named_head};
 use crate::laws::{blocks_are_local, blocks_are_read_again, blocks_are_sound, blocks_stop_so};
 use crate::statement::block;
-use om_lexer::{Keyword, Punctuator, SourceFault, Span, Token, TokenKind};
+use om_lexer::{Keyword, Punctuator, SourceFault, SourceResult, Span, Token, TokenKind};
 use om_parser_parts::front::{mark, name, take_mark, take_word, word};
 use om_parser_parts::laws::{globals, parts_are_local};
 use om_parser_parts::part::global_declaration;
@@ -65,7 +65,7 @@ pub const STACK_SIZE: usize = 256 << 20;
 /// stops. What is known of that place is [`syntax_stands`].
 ///
 /// A source may nest deep: the call should have [`STACK_SIZE`] bytes of stack.
-pub fn parse(alloc: Global, tokens: &[Token]) -> Result<Unit, SourceFault>
+pub fn parse(alloc: Global, tokens: &[Token]) -> SourceResult<Unit>
     // What is found is well-formed, has these tokens, and keeps the limits.
     ensures found { IfOk result (λ unit. IsTreeOf tokens.now (view_unit unit)) }
     ensures found_within_limits { IfOk result (λ unit. IsWithinLimits (view_unit unit)) }
@@ -124,7 +124,7 @@ pub fn syntax_stands()
 }
 
 // The unit that these tokens are.
-fn unit(alloc: Global, tokens: &[Token]) -> Result<Unit, SourceFault>
+fn unit(alloc: Global, tokens: &[Token]) -> SourceResult<Unit>
     ensures { Reads view_unit result (unit_at accepted tokens.now) }
 {
     let (items, end) = items(alloc, tokens)?;
@@ -132,7 +132,7 @@ fn unit(alloc: Global, tokens: &[Token]) -> Result<Unit, SourceFault>
 }
 
 // Declarations and functions up to the end of the source, and its span.
-fn items(alloc: Global, tokens: &[Token]) -> Result<(Vec<Item>, Span), SourceFault>
+fn items(alloc: Global, tokens: &[Token]) -> SourceResult<(Vec<Item>, Span)>
     ensures { ReadsToEnd result (items_to_end accepted tokens.now) }
 {
     blocks_are_sound();
@@ -163,7 +163,7 @@ fn take_end(tokens: &[Token]) -> Option<Span>
 }
 
 // A declaration, a prototype or a function, and the tokens behind it.
-fn item(alloc: Global, tokens: &[Token]) -> Result<(Item, &[Token]), SourceFault>
+fn item(alloc: Global, tokens: &[Token]) -> SourceResult<(Item, &[Token])>
     ensures { ReadsItem result (item_at accepted tokens.now) }
 {
     if let Some((void, rest)) = take_word(tokens, Keyword::Void) {
@@ -174,7 +174,7 @@ fn item(alloc: Global, tokens: &[Token]) -> Result<(Item, &[Token]), SourceFault
 }
 
 // The rest of a function or prototype without a result, of which `void` is taken.
-fn void_after(alloc: Global, void: Span, tokens: &[Token]) -> Result<(Item, &[Token]), SourceFault>
+fn void_after(alloc: Global, void: Span, tokens: &[Token]) -> SourceResult<(Item, &[Token])>
     ensures { ReadsItem result (void_after accepted void tokens.now) }
 {
     let (name, rest) = name(alloc, tokens)?;
@@ -183,7 +183,7 @@ fn void_after(alloc: Global, void: Span, tokens: &[Token]) -> Result<(Item, &[To
 }
 
 // The rest of an item of which `int` is taken.
-fn int_after(alloc: Global, int: Span, tokens: &[Token]) -> Result<(Item, &[Token]), SourceFault>
+fn int_after(alloc: Global, int: Span, tokens: &[Token]) -> SourceResult<(Item, &[Token])>
     ensures { ReadsItem result (int_after accepted int tokens.now) }
 {
     let (name, rest) = name(alloc, tokens)?;
@@ -201,7 +201,7 @@ fn prototype_after(
     name: Name,
     open_paren: Span,
     tokens: &[Token],
-) -> Result<(Item, &[Token]), SourceFault>
+) -> SourceResult<(Item, &[Token])>
     ensures { ReadsItem result
         (prototype_after accepted result_type name open_paren tokens.now) }
 {
@@ -214,7 +214,7 @@ fn function_after(
     alloc: Global,
     head: Box<FunctionHead<Option<Name>>>,
     tokens: &[Token],
-) -> Result<(Item, &[Token]), SourceFault>
+) -> SourceResult<(Item, &[Token])>
     ensures { ReadsItem result (function_after accepted (view_head head.value) tokens.now) }
 {
     if let Some((semicolon, rest)) = take_mark(tokens, Punctuator::Semicolon) {

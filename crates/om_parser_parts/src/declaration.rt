@@ -12,7 +12,7 @@ ghost use Rattle.om_parser_tree.specs.View.{view_expression, view_further, view_
 
 use crate::expression::whole;
 use crate::front::{mark, name, number, take_mark};
-use om_lexer::{Punctuator, SourceFault, Span, Token};
+use om_lexer::{Punctuator, SourceResult, Span, Token};
 use om_parser_tree::boxed::boxed_before;
 use om_parser_tree::{ArrayLength, Declaration, Declarator, Expression, Initializer, SignedNumber};
 use om_pragma::Name;
@@ -30,7 +30,7 @@ pub trait Initial: Drop {
     ghost reader: { ℕ → Reader Tree };
 
     /// Reads it, and gives the tokens behind it. Brackets may nest `room` deep in it.
-    fn read(alloc: Global, room: usize, tokens: &[Token]) -> Result<(Self, &[Token]), SourceFault>
+    fn read(alloc: Global, room: usize, tokens: &[Token]) -> SourceResult<(Self, &[Token])>
         ensures { Reads (λ x. (view x.0, x.1.now)) result (reader room tokens.now) };
 }
 
@@ -42,11 +42,7 @@ impl Initial for Expression {
 
     ghost reader = { λ room. whole_at accepted room };
 
-    fn read(
-        alloc: Global,
-        room: usize,
-        tokens: &[Token],
-    ) -> Result<(Expression, &[Token]), SourceFault> {
+    fn read(alloc: Global, room: usize, tokens: &[Token]) -> SourceResult<(Expression, &[Token])> {
         let (value, rest) = whole(alloc, tokens, room)?;
         Ok((Box::into_inner(value), rest))
     }
@@ -64,7 +60,7 @@ impl Initial for SignedNumber {
         _alloc: Global,
         _room: usize,
         tokens: &[Token],
-    ) -> Result<(SignedNumber, &[Token]), SourceFault> {
+    ) -> SourceResult<(SignedNumber, &[Token])> {
         if let Some((minus, rest)) = take_mark(tokens, Punctuator::Minus) {
             let (number, rest) = number(rest)?;
             let minus = Some(minus);
@@ -84,7 +80,7 @@ pub fn declaration_after<I: Initial>(
     int: Span,
     name: Name,
     tokens: &[Token],
-) -> Result<(Declaration<I>, &[Token]), SourceFault>
+) -> SourceResult<(Declaration<I>, &[Token])>
     requires { LeavesNoMore (I.reader room) }
     ensures { ReadsDeclared I.view result (declaration_after (I.reader room) int name tokens.now) }
 {
@@ -109,7 +105,7 @@ pub fn local_declaration(
     room: usize,
     int: Span,
     tokens: &[Token],
-) -> Result<(Declaration<Expression>, &[Token]), SourceFault>
+) -> SourceResult<(Declaration<Expression>, &[Token])>
     ensures { ReadsOne view_local result (declared_at (whole_at accepted room) int tokens.now) }
 {
     let (name, rest) = name(alloc, tokens)?;
@@ -121,7 +117,7 @@ fn further_declarators<I: Initial>(
     alloc: Global,
     room: usize,
     tokens: &[Token],
-) -> Result<(Vec<(Span, Declarator<I>)>, Span, &[Token]), SourceFault>
+) -> SourceResult<(Vec<(Span, Declarator<I>)>, Span, &[Token])>
     requires { LeavesNoMore (I.reader room) }
     ensures { ReadsUntil (view_further I.view) result (declarators_at (I.reader room) tokens.now) }
 {
@@ -142,7 +138,7 @@ fn further_declarator<I: Initial>(
     alloc: Global,
     room: usize,
     tokens: &[Token],
-) -> Result<(Span, Box<Declarator<I>>, &[Token]), SourceFault>
+) -> SourceResult<(Span, Box<Declarator<I>>, &[Token])>
     ensures { ReadsFurther I.view result (further_at (I.reader room) tokens.now) }
 {
     let (comma, rest) = mark(tokens, Punctuator::Comma)?;
@@ -157,7 +153,7 @@ fn declarator_after<I: Initial>(
     room: usize,
     name: Name,
     tokens: &[Token],
-) -> Result<(Box<Declarator<I>>, &[Token]), SourceFault>
+) -> SourceResult<(Box<Declarator<I>>, &[Token])>
     ensures { ReadsDeclarator I.view result (declarator_after (I.reader room) name tokens.now) }
 {
     if let Some((left, rest)) = take_mark(tokens, Punctuator::OpenBracket) {
@@ -177,7 +173,7 @@ fn uninitialized<'a, I: Initial>(
     name: Name,
     array: Option<ArrayLength>,
     rest: &'a [Token],
-) -> Result<(Box<Declarator<I>>, &'a [Token]), SourceFault>
+) -> SourceResult<(Box<Declarator<I>>, &'a [Token])>
     ensures { MakesUninitialized I.view result name array rest.now }
 {
     let declarator = Declarator {
@@ -195,7 +191,7 @@ fn initialized<'a, I: Initial>(
     equal: Span,
     value: I,
     rest: &'a [Token],
-) -> Result<(Box<Declarator<I>>, &'a [Token]), SourceFault>
+) -> SourceResult<(Box<Declarator<I>>, &'a [Token])>
     ensures { MakesDeclarator I.view result (initialized name equal (I.view value)) rest.now }
 {
     let declarator = Declarator {
@@ -207,7 +203,7 @@ fn initialized<'a, I: Initial>(
 }
 
 // The brackets and the size of an array, of which the left one is taken.
-fn array_after(open_bracket: Span, tokens: &[Token]) -> Result<(ArrayLength, &[Token]), SourceFault>
+fn array_after(open_bracket: Span, tokens: &[Token]) -> SourceResult<(ArrayLength, &[Token])>
     ensures { ReadsAlways (λ x. (x.0, x.1.now)) result (array_after open_bracket tokens.now) }
 {
     let (size, rest) = number(tokens)?;

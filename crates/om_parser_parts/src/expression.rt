@@ -11,7 +11,7 @@ use crate::front::{mark, name, syntax, take_mark, take_number, too_deep};
 use crate::operator::{
     joined, postfixed, prefixed, take_assign, take_looser, take_postfix, take_prefix, take_text,
 };
-use om_lexer::{Punctuator, SourceFault, Span, Token};
+use om_lexer::{Punctuator, SourceResult, Span, Token};
 use om_parser_tree::boxed::boxed_before;
 use om_parser_tree::{Argument, Expression, PrefixOperator, TOKEN_LIMIT};
 use om_pragma::Name;
@@ -38,7 +38,7 @@ pub fn whole(
     alloc: Global,
     tokens: &[Token],
     room: usize,
-) -> Result<(Box<Expression>, &[Token]), SourceFault>
+) -> SourceResult<(Box<Expression>, &[Token])>
     ensures { ReadsExpression result (whole_at accepted room tokens.now) }
 {
     let beyond = tokens.len().saturating_sub(TOKEN_LIMIT);
@@ -52,7 +52,7 @@ pub fn whole(
 
 // Refuses the token before these, at its span, where fewer than `beyond` tokens are left
 // behind it.
-fn within(rest: &[Token], span: Span, beyond: usize) -> Result<(), SourceFault>
+fn within(rest: &[Token], span: Span, beyond: usize) -> SourceResult<()>
     ensures { IsTakenWithin beyond span rest.now result }
 {
     if beyond <= rest.len() {
@@ -70,7 +70,7 @@ fn expression(
     tokens: &[Token],
     budget: Budget,
     may_assign: bool,
-) -> Result<(Box<Expression>, &[Token]), SourceFault>
+) -> SourceResult<(Box<Expression>, &[Token])>
     ensures { ReadsExpression result (expression_in budget may_assign tokens.now) }
 {
     let Some(turns) = budget.turns.checked_sub(1) else {
@@ -90,7 +90,7 @@ fn expression_after(
     tokens: &[Token],
     budget: Budget,
     may_assign: bool,
-) -> Result<(Box<Expression>, &[Token]), SourceFault>
+) -> SourceResult<(Box<Expression>, &[Token])>
     ensures { ReadsExpression result (rest_in budget may_assign left tokens.now) }
 {
     if let Some((question, rest)) = take_mark(tokens, Punctuator::Question) {
@@ -119,7 +119,7 @@ fn conditional_after(
     question: Span,
     tokens: &[Token],
     budget: Budget,
-) -> Result<(Box<Expression>, &[Token]), SourceFault>
+) -> SourceResult<(Box<Expression>, &[Token])>
     ensures { ReadsExpression result (conditional_in budget condition question tokens.now) }
 {
     let (value, rest) = expression(alloc, tokens, budget, true)?;
@@ -144,7 +144,7 @@ fn binary(
     tokens: &[Token],
     budget: Budget,
     levels: usize,
-) -> Result<(Box<Expression>, &[Token]), SourceFault>
+) -> SourceResult<(Box<Expression>, &[Token])>
     ensures { ReadsExpression result (operands_in budget levels tokens.now) }
 {
     let (mut left, mut rest) = unary(alloc, tokens, budget)?;
@@ -164,7 +164,7 @@ fn operators(
     tokens: &[Token],
     budget: Budget,
     tighter: usize,
-) -> Result<(Box<Expression>, &[Token]), SourceFault>
+) -> SourceResult<(Box<Expression>, &[Token])>
     ensures { ReadsExpression result (operators_in budget tighter operand tokens.now) }
 {
     let mut left = operand;
@@ -184,7 +184,7 @@ fn unary(
     alloc: Global,
     tokens: &[Token],
     budget: Budget,
-) -> Result<(Box<Expression>, &[Token]), SourceFault>
+) -> SourceResult<(Box<Expression>, &[Token])>
     ensures { ReadsExpression result (operand_in budget tokens.now) }
 {
     let (operators, turns, rest) = prefixes(alloc, tokens, budget.beyond, budget.turns)?;
@@ -201,7 +201,7 @@ fn prefixes(
     tokens: &[Token],
     beyond: usize,
     turns: usize,
-) -> Result<(Vec<(PrefixOperator, Span)>, usize, &[Token]), SourceFault>
+) -> SourceResult<(Vec<(PrefixOperator, Span)>, usize, &[Token])>
     ensures fewer_turns { IfOk result (λ x. x.1 ≤ turns) }
     ensures taken { IfOk result (ArePrefixes beyond turns tokens.now) }
     ensures refused { IfErr result (StopsOperand beyond turns tokens.now) }
@@ -227,7 +227,7 @@ fn postfix(
     alloc: Global,
     tokens: &[Token],
     budget: Budget,
-) -> Result<(Box<Expression>, &[Token]), SourceFault>
+) -> SourceResult<(Box<Expression>, &[Token])>
     ensures { ReadsExpression result (postfix_in budget tokens.now) }
 {
     let (operand, rest) = primary(alloc, tokens, budget)?;
@@ -241,7 +241,7 @@ fn postfixes(
     operand: Box<Expression>,
     tokens: &[Token],
     beyond: usize,
-) -> Result<(Box<Expression>, &[Token]), SourceFault>
+) -> SourceResult<(Box<Expression>, &[Token])>
     ensures { ReadsExpression result (postfixes_behind beyond operand tokens.now) }
 {
     let mut left = operand;
@@ -261,7 +261,7 @@ fn primary(
     alloc: Global,
     tokens: &[Token],
     budget: Budget,
-) -> Result<(Box<Expression>, &[Token]), SourceFault>
+) -> SourceResult<(Box<Expression>, &[Token])>
     ensures { ReadsExpression result (primary_step budget.beyond (inside_in budget) tokens.now) }
 {
     if let Some((number, rest)) = take_number(tokens) {
@@ -297,7 +297,7 @@ fn closed(
     tokens: &[Token],
     close: Punctuator,
     budget: Budget,
-) -> Result<(Box<Expression>, Span, &[Token]), SourceFault>
+) -> SourceResult<(Box<Expression>, Span, &[Token])>
     ensures { ReadsClosed result (closed_by budget.beyond close (whole_in budget) tokens.now) }
 {
     let (inner, rest) = expression(alloc, tokens, budget, true)?;
@@ -313,7 +313,7 @@ fn named_after(
     name: Name,
     tokens: &[Token],
     budget: Budget,
-) -> Result<(Box<Expression>, &[Token]), SourceFault>
+) -> SourceResult<(Box<Expression>, &[Token])>
     ensures { ReadsExpression result (named_in budget name tokens.now) }
 {
     if let Some((left, rest)) = take_mark(tokens, Punctuator::OpenBracket) {
@@ -353,7 +353,7 @@ fn call_after(
     left: Span,
     tokens: &[Token],
     budget: Budget,
-) -> Result<(Box<Expression>, &[Token]), SourceFault>
+) -> SourceResult<(Box<Expression>, &[Token])>
     ensures { ReadsExpression result (call_in budget name left tokens.now) }
 {
     if let Some((right, rest)) = take_mark(tokens, Punctuator::CloseParen) {
@@ -388,7 +388,7 @@ fn first_argument<'a>(
     function: &Name,
     tokens: &'a [Token],
     budget: Budget,
-) -> Result<(Box<Expression>, &'a [Token]), SourceFault>
+) -> SourceResult<(Box<Expression>, &'a [Token])>
     ensures { ReadsExpression result (first_in budget function.now tokens.now) }
 {
     if let Some((text, rest)) = take_text(alloc, function, tokens)? {
@@ -406,7 +406,7 @@ fn arguments(
     first: Box<Expression>,
     tokens: &[Token],
     budget: Budget,
-) -> Result<(Vec<Argument>, Span, &[Token]), SourceFault>
+) -> SourceResult<(Vec<Argument>, Span, &[Token])>
     ensures { ReadsUntil view_argument result (arguments_in budget first tokens.now) }
 {
     let mut arguments = Vec::new(alloc);
@@ -428,7 +428,7 @@ fn argument(
     alloc: Global,
     tokens: &[Token],
     budget: Budget,
-) -> Result<(Span, Box<Expression>, &[Token]), SourceFault>
+) -> SourceResult<(Span, Box<Expression>, &[Token])>
     ensures { ReadsArgument result (argument_at budget.beyond (whole_in budget) tokens.now) }
 {
     let (comma, rest) = mark(tokens, Punctuator::Comma)?;
@@ -443,7 +443,7 @@ pub fn before<'a>(
     alloc: Global,
     expression: Expression,
     rest: &'a [Token],
-) -> Result<(Box<Expression>, &'a [Token]), SourceFault>
+) -> SourceResult<(Box<Expression>, &'a [Token])>
     ensures { MakesExpression result (view_expression expression) rest.now }
 {
     boxed_before(alloc, expression, rest)

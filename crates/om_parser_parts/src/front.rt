@@ -3,7 +3,7 @@
 ghost use Rattle.std.specs.Prelude.{◌≡◌, option_map};
 ghost use Rattle.om_parser_parts.specs.Reading.{take_mark, take_word, take_number, mark_at, word_at, name_at, number_at, syntax, too_deep, Reads, ReadsAlways};
 
-use om_lexer::{FaultCode, Keyword, Punctuator, SourceFault, Span, Token, TokenKind};
+use om_lexer::{FaultCode, Keyword, Punctuator, SourceFault, SourceResult, Span, Token, TokenKind};
 use om_pragma::{Name, Number};
 use om_seq::Seq;
 use std::alloc::Global;
@@ -74,28 +74,28 @@ pub fn take_number(tokens: &[Token]) -> Option<(Number, &[Token])>
 }
 
 /// The span of this punctuator, which must stand first, and the tokens behind it.
-pub fn mark(tokens: &[Token], wanted: Punctuator) -> Result<(Span, &[Token]), SourceFault>
+pub fn mark(tokens: &[Token], wanted: Punctuator) -> SourceResult<(Span, &[Token])>
     ensures { ReadsAlways (λ x. (x.0, x.1.now)) result (mark_at wanted tokens.now) }
 {
     take_mark(tokens, wanted).ok_or(syntax(tokens))
 }
 
 /// The span of this keyword, which must stand first, and the tokens behind it.
-pub fn word(tokens: &[Token], wanted: Keyword) -> Result<(Span, &[Token]), SourceFault>
+pub fn word(tokens: &[Token], wanted: Keyword) -> SourceResult<(Span, &[Token])>
     ensures { ReadsAlways (λ x. (x.0, x.1.now)) result (word_at wanted tokens.now) }
 {
     take_word(tokens, wanted).ok_or(syntax(tokens))
 }
 
 /// The constant that must stand first, and the tokens behind it.
-pub fn number(tokens: &[Token]) -> Result<(Number, &[Token]), SourceFault>
+pub fn number(tokens: &[Token]) -> SourceResult<(Number, &[Token])>
     ensures { ReadsAlways (λ x. (x.0, x.1.now)) result (number_at tokens.now) }
 {
     take_number(tokens).ok_or(syntax(tokens))
 }
 
 /// The name that must stand first, and the tokens behind it.
-pub fn name(alloc: Global, tokens: &[Token]) -> Result<(Name, &[Token]), SourceFault>
+pub fn name(alloc: Global, tokens: &[Token]) -> SourceResult<(Name, &[Token])>
     ensures { Reads (λ x. (x.0, x.1.now)) result (name_at tokens.now) }
 {
     match tokens {

@@ -13,7 +13,7 @@ ghost use Rattle.om_parser_tree.specs.View.{view_directive};
 
 use crate::front::syntax;
 use crate::part::enclosed;
-use om_lexer::{FaultCode, SourceFault, Token, TokenKind};
+use om_lexer::{FaultCode, SourceFault, SourceResult, Token, TokenKind};
 use om_parser_tree::Expression;
 use om_parser_tree::boxed::boxed_before;
 use om_pragma::{Directive, directive, expression_before, first_value, one_answer};
@@ -32,10 +32,7 @@ use std::alloc::Global;
 ///
 /// Where a line has two of these faults, the one in the expression of a clause that ends before
 /// the other is given.
-pub fn line(
-    alloc: Global,
-    tokens: &[Token],
-) -> Result<(Box<Directive<Expression>>, &[Token]), SourceFault>
+pub fn line(alloc: Global, tokens: &[Token]) -> SourceResult<(Box<Directive<Expression>>, &[Token])>
     ensures { ReadsBoxed view_directive result (line_at accepted tokens.now) }
 {
     let Some((run, rest)) = run(tokens) else {
@@ -46,7 +43,7 @@ pub fn line(
 }
 
 // The directive of a run, with its expression.
-fn line_of(alloc: Global, run: &[Token]) -> Result<Directive<Expression>, SourceFault>
+fn line_of(alloc: Global, run: &[Token]) -> SourceResult<Directive<Expression>>
     requires { EndsOnce run.now }
     ensures { ReadsDirective result (line_of accepted run.now (directive_at run.now)) }
 {
@@ -57,7 +54,7 @@ fn line_of(alloc: Global, run: &[Token]) -> Result<Directive<Expression>, Source
 }
 
 // The directive of a run, its expression not read.
-fn directive_of(alloc: Global, run: &[Token]) -> Result<Directive<&[Token]>, SourceFault>
+fn directive_of(alloc: Global, run: &[Token]) -> SourceResult<Directive<&[Token]>>
     requires { EndsOnce run.now }
     ensures reads { Reads with_tokens result (directive_at run.now) }
     ensures one_expression_at_most { IfOk result (λ d. length (expressions d) ≤ 1) }
@@ -92,7 +89,7 @@ fn with_value(
     alloc: Global,
     run: &[Token],
     directive: Directive<&[Token]>,
-) -> Result<Directive<Expression>, SourceFault>
+) -> SourceResult<Directive<Expression>>
     requires { length (expressions directive) ≤ 1 }
     ensures { ReadsDirective result (with_value accepted run.now (with_tokens directive.entry)) }
 {
@@ -113,7 +110,7 @@ fn filled<E: Drop, F: Drop>(
     alloc: Global,
     directive: Directive<E>,
     value: Option<F>,
-) -> Result<Directive<F>, SourceFault>
+) -> SourceResult<Directive<F>>
     requires { CanFill value (expressions directive) }
     ensures made { IfOk result (IsFilled map_directive value directive) }
     ensures refused { IfErr result (λ fault. fault ≡ no_memory) }
@@ -122,11 +119,7 @@ fn filled<E: Drop, F: Drop>(
 }
 
 // All tokens between the parentheses of a clause of a run, as one expression.
-fn clause_value(
-    alloc: Global,
-    run: &[Token],
-    tokens: &[Token],
-) -> Result<Box<Expression>, SourceFault>
+fn clause_value(alloc: Global, run: &[Token], tokens: &[Token]) -> SourceResult<Box<Expression>>
     ensures { Reads view_operand result (clause_value accepted run.now tokens.now) }
 {
     match enclosed(alloc, tokens) {
@@ -136,7 +129,7 @@ fn clause_value(
 }
 
 // The expression, where no tokens are left behind it.
-fn alone(value: Box<Expression>, rest: &[Token]) -> Result<Box<Expression>, SourceFault>
+fn alone(value: Box<Expression>, rest: &[Token]) -> SourceResult<Box<Expression>>
     ensures { ReadsAlways view_operand result (alone (view_operand value) rest.now) }
 {
     match rest {

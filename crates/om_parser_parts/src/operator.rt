@@ -13,8 +13,8 @@ use om_parser_tree::{
     AssignOperator, BinaryOperator, Expression, PostfixOperator, PrefixOperator, Text,
 };
 use om_pragma::Name;
-use om_seq::Seq;
-use std::alloc::{AllocError, Global};
+use om_seq::{AllocResult, Seq};
+use std::alloc::Global;
 
 // The operator before an operand that a token of this kind is (C17 6.5.3).
 fn prefix_operator(kind: &TokenKind) -> Option<PrefixOperator>
@@ -198,7 +198,7 @@ pub fn take_assign<'a>(
 }
 
 // The text that stands first, and the tokens behind it.
-fn take_any_text(alloc: Global, tokens: &[Token]) -> Result<Option<(Text, &[Token])>, AllocError>
+fn take_any_text(alloc: Global, tokens: &[Token]) -> AllocResult<Option<(Text, &[Token])>>
     ensures { IfOk result (λ found. TakesText found (take_any_text tokens.now)) }
 {
     let [first, rest @ ..] = tokens else {
@@ -218,7 +218,7 @@ pub fn take_text<'a>(
     alloc: Global,
     function: &Name,
     tokens: &'a [Token],
-) -> Result<Option<(Text, &'a [Token])>, AllocError>
+) -> AllocResult<Option<(Text, &'a [Token])>>
     ensures { IfOk result (λ found. TakesText found (take_text function.now tokens.now)) }
 {
     if function.text.as_slice() == b"printf".as_slice() {
@@ -234,7 +234,7 @@ pub fn prefixed(
     alloc: Global,
     operators: Vec<(PrefixOperator, Span)>,
     operand: Box<Expression>,
-) -> Result<Box<Expression>, AllocError>
+) -> AllocResult<Box<Expression>>
     ensures { MakesBoxed result (prefixed operators.items (view_operand operand)) }
 {
     let mut outer = operators;
@@ -252,7 +252,7 @@ fn with_prefix(
     operator: PrefixOperator,
     at: Span,
     operand: Box<Expression>,
-) -> Result<Box<Expression>, AllocError>
+) -> AllocResult<Box<Expression>>
     ensures { MakesBoxed result (Prefix operator at (view_operand operand)) }
 {
     let prefix = Expression::Prefix {
@@ -270,7 +270,7 @@ pub fn postfixed(
     operand: Box<Expression>,
     operator: PostfixOperator,
     at: Span,
-) -> Result<Box<Expression>, AllocError>
+) -> AllocResult<Box<Expression>>
     ensures { MakesBoxed result (Postfix (view_operand operand) operator at) }
 {
     let postfix = Expression::Postfix {
@@ -289,7 +289,7 @@ pub fn joined(
     operator: BinaryOperator,
     at: Span,
     right: Box<Expression>,
-) -> Result<Box<Expression>, AllocError>
+) -> AllocResult<Box<Expression>>
     ensures { MakesBoxed result (Binary (view_operand left) operator at (view_operand right)) }
 {
     let binary = Expression::Binary {

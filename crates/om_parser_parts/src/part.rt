@@ -8,23 +8,20 @@ ghost use Rattle.om_parser_tree.specs.View.{view_directive, view_global, view_lo
 use crate::declaration::{declaration_after, local_declaration};
 use crate::expression::whole;
 use crate::line::line;
-use om_lexer::{SourceFault, Span, Token};
+use om_lexer::{SourceResult, Span, Token};
 use om_parser_tree::{Declaration, Expression, NESTING_LIMIT, SignedNumber};
 use om_pragma::{Directive, Name};
 use std::alloc::Global;
 
 /// A whole expression, and the tokens behind it.
-pub fn expression(
-    alloc: Global,
-    tokens: &[Token],
-) -> Result<(Box<Expression>, &[Token]), SourceFault>
+pub fn expression(alloc: Global, tokens: &[Token]) -> SourceResult<(Box<Expression>, &[Token])>
     ensures { ReadsExpression result ((parts accepted).expression tokens.now) }
 {
     whole(alloc, tokens, NESTING_LIMIT)
 }
 
 /// A whole expression in the parentheses of a statement, and the tokens behind it.
-pub fn enclosed(alloc: Global, tokens: &[Token]) -> Result<(Box<Expression>, &[Token]), SourceFault>
+pub fn enclosed(alloc: Global, tokens: &[Token]) -> SourceResult<(Box<Expression>, &[Token])>
     ensures { ReadsExpression result ((parts accepted).enclosed tokens.now) }
 {
     whole(alloc, tokens, NESTING_LIMIT - 1)
@@ -35,7 +32,7 @@ pub fn declaration(
     alloc: Global,
     int: Span,
     tokens: &[Token],
-) -> Result<(Declaration<Expression>, &[Token]), SourceFault>
+) -> SourceResult<(Declaration<Expression>, &[Token])>
     ensures { ReadsOne view_local result ((parts accepted).declaration int tokens.now) }
 {
     local_declaration(alloc, NESTING_LIMIT, int, tokens)
@@ -46,7 +43,7 @@ pub fn enclosed_declaration(
     alloc: Global,
     int: Span,
     tokens: &[Token],
-) -> Result<(Declaration<Expression>, &[Token]), SourceFault>
+) -> SourceResult<(Declaration<Expression>, &[Token])>
     ensures { ReadsOne view_local result ((parts accepted).enclosed_declaration int tokens.now) }
 {
     local_declaration(alloc, NESTING_LIMIT - 1, int, tokens)
@@ -56,7 +53,7 @@ pub fn enclosed_declaration(
 pub fn directive_line(
     alloc: Global,
     tokens: &[Token],
-) -> Result<(Box<Directive<Expression>>, &[Token]), SourceFault>
+) -> SourceResult<(Box<Directive<Expression>>, &[Token])>
     ensures { ReadsBoxed view_directive result ((parts accepted).line tokens.now) }
 {
     line(alloc, tokens)
@@ -69,7 +66,7 @@ pub fn global_declaration(
     int: Span,
     name: Name,
     tokens: &[Token],
-) -> Result<(Declaration<SignedNumber>, &[Token]), SourceFault>
+) -> SourceResult<(Declaration<SignedNumber>, &[Token])>
     ensures { ReadsOne view_global result (global_at int name tokens.now) }
 {
     declaration_after(alloc, 0, int, name, tokens)

@@ -9,7 +9,7 @@ ghost use Rattle.om_parser_tree.specs.View.{view_braced, view_for_head, view_inn
 
 use crate::boxed::boxed_before;
 use crate::tree::{Condition, Expression, ForHead, Part, Statement};
-use om_lexer::{SourceFault, Span, Token};
+use om_lexer::{SourceResult, Span, Token};
 use om_pragma::Directive;
 use std::alloc::Global;
 
@@ -21,7 +21,7 @@ pub fn block_of<'a>(
     items: Vec<Statement>,
     close_brace: Span,
     rest: &'a [Token],
-) -> Result<(Box<Statement>, &'a [Token]), SourceFault>
+) -> SourceResult<(Box<Statement>, &'a [Token])>
     ensures { MakesStatement result (Block open_brace (view_braced items) close_brace) rest.now }
 {
     let block = Statement::Block {
@@ -40,7 +40,7 @@ pub fn if_of<'a>(
     condition: Box<Condition>,
     body: Box<Statement>,
     rest: &'a [Token],
-) -> Result<(Box<Statement>, &'a [Token]), SourceFault>
+) -> SourceResult<(Box<Statement>, &'a [Token])>
     ensures { MakesStatement result (If at (view_test condition) (view_inner body)) rest.now }
 {
     let statement = Statement::If {
@@ -67,7 +67,7 @@ pub fn if_else_of<'a>(
     condition: Box<Condition>,
     branches: Branches,
     rest: &'a [Token],
-) -> Result<(Box<Statement>, &'a [Token]), SourceFault>
+) -> SourceResult<(Box<Statement>, &'a [Token])>
     ensures { MakesStatement result (if_else_of at condition branches) rest.now }
 {
     let if_else = Statement::IfElse {
@@ -88,7 +88,7 @@ pub fn while_of<'a>(
     condition: Box<Condition>,
     body: Box<Statement>,
     rest: &'a [Token],
-) -> Result<(Box<Statement>, &'a [Token]), SourceFault>
+) -> SourceResult<(Box<Statement>, &'a [Token])>
     ensures { MakesStatement result (While at (view_test condition) (view_inner body)) rest.now }
 {
     let statement = Statement::While {
@@ -106,7 +106,7 @@ pub fn for_of<'a>(
     head: Box<ForHead>,
     body: Box<Statement>,
     rest: &'a [Token],
-) -> Result<(Box<Statement>, &'a [Token]), SourceFault>
+) -> SourceResult<(Box<Statement>, &'a [Token])>
     ensures { MakesStatement result (For (view_for_head head.value) (view_inner body)) rest.now }
 {
     boxed_before(alloc, Statement::For { head, body }, rest)
@@ -119,7 +119,7 @@ pub fn construct_of<'a>(
     directive: Box<Directive<Expression>>,
     body: Box<Statement>,
     rest: &'a [Token],
-) -> Result<(Box<Statement>, &'a [Token]), SourceFault>
+) -> SourceResult<(Box<Statement>, &'a [Token])>
     ensures { MakesStatement result (Construct (view_line directive) (view_inner body)) rest.now }
 {
     boxed_before(alloc, Statement::Construct { directive, body }, rest)
@@ -132,7 +132,7 @@ pub fn sections_of<'a>(
     directive: Box<Directive<Expression>>,
     braces: (Span, Vec<Part>, Span),
     rest: &'a [Token],
-) -> Result<(Box<Statement>, &'a [Token]), SourceFault>
+) -> SourceResult<(Box<Statement>, &'a [Token])>
     ensures { MakesStatement result (sections_of directive braces) rest.now }
 {
     let (open_brace, parts, close_brace) = braces;

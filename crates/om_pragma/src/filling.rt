@@ -6,8 +6,8 @@ ghost use Rattle.om_pragma.specs.Expressions.{expressions, clause_expressions, m
 
 use crate::clause::{Clause, ClauseItem, Value};
 use crate::tree::Directive;
-use om_seq::Seq;
-use std::alloc::{AllocError, Global};
+use om_seq::{AllocResult, Seq};
+use std::alloc::Global;
 
 impl<E: Drop> Directive<E> {
     /// The directive with this expression in place of its own, which is at most one. The value
@@ -16,7 +16,7 @@ impl<E: Drop> Directive<E> {
         self,
         alloc: Global,
         value: Option<F>,
-    ) -> Result<Directive<F>, AllocError>
+    ) -> AllocResult<Directive<F>>
         requires { CanFill value (expressions self) }
         ensures { IfOk result (IsFilled map_directive value self) }
     {
@@ -45,7 +45,7 @@ fn filled<E: Drop, F: Drop>(
     alloc: Global,
     items: Vec<ClauseItem<E>>,
     value: Option<F>,
-) -> Result<Seq<ClauseItem<F>>, AllocError>
+) -> AllocResult<Seq<ClauseItem<F>>>
     requires { CanFill value (flat_map (λ i. clause_expressions i.clause) items.items) }
     ensures { IfOk result (IsFilled (λ f. map (map_item f)) value items.items) }
 {

@@ -18,7 +18,7 @@ use crate::table::may_stand;
 use crate::token::{mark, name, place, take_begin, take_end, take_keyword, take_mark, take_named};
 use crate::tree::{Directive, DirectiveName};
 use crate::word::{begun_by, clause_word, no_word};
-use om_lexer::{FaultCode, Keyword, Punctuator, SourceFault, Span, Token};
+use om_lexer::{FaultCode, Keyword, Punctuator, SourceFault, SourceResult, Span, Token};
 use om_seq::Seq;
 use std::alloc::Global;
 
@@ -33,7 +33,7 @@ use std::alloc::Global;
 /// - S3: any other tokens that are no directive. Its place is the first token that no directive has
 ///   there, after the tokens before it; the end of the run is a token too, which must stand nowhere
 ///   but last. Where it is missing and all of the tokens begin a directive, no clause says the place.
-pub fn directive(alloc: Global, tokens: &[Token]) -> Result<Directive<&[Token]>, SourceFault>
+pub fn directive(alloc: Global, tokens: &[Token]) -> SourceResult<Directive<&[Token]>>
     // What is found is a directive of the table with these tokens.
     ensures found { IfOk result (λ d. IsDirectiveOf tokens.now (with_tokens d)) }
     ensures one_expression_at_most { IfOk result (λ d. length (expressions d) ≤ 1) }
@@ -49,7 +49,7 @@ pub fn directive(alloc: Global, tokens: &[Token]) -> Result<Directive<&[Token]>,
 }
 
 // The directive that these tokens are.
-fn read(alloc: Global, tokens: &[Token]) -> Result<Directive<&[Token]>, SourceFault>
+fn read(alloc: Global, tokens: &[Token]) -> SourceResult<Directive<&[Token]>>
     ensures { Reads with_tokens result (directive_at tokens.now) }
 {
     let (hash, pragma, omp, rest) = opening(tokens)?;
@@ -98,7 +98,7 @@ fn bad_clause(word: Span) -> SourceFault
 }
 
 // The spans of `#`, `pragma` and `omp`, and the tokens behind them.
-fn opening(tokens: &[Token]) -> Result<(Span, Span, Span, &[Token]), SourceFault>
+fn opening(tokens: &[Token]) -> SourceResult<(Span, Span, Span, &[Token])>
     ensures { Reads (λ x. ((x.0, x.1, x.2), x.3.now)) result (stopped (opening_at tokens.now)) }
 {
     let Some((hash, rest)) = take_begin(tokens) else {
@@ -114,7 +114,7 @@ fn opening(tokens: &[Token]) -> Result<(Span, Span, Span, &[Token]), SourceFault
 }
 
 // The words of a directive, and the tokens behind them.
-fn directive_name(alloc: Global, tokens: &[Token]) -> Result<(DirectiveName, &[Token]), SourceFault>
+fn directive_name(alloc: Global, tokens: &[Token]) -> SourceResult<(DirectiveName, &[Token])>
     ensures { Reads part_and_rest result (directive_name_at tokens.now) }
 {
     let [first, rest @ ..] = tokens else {
@@ -132,7 +132,7 @@ fn name_after(
     kind: DirectiveKind,
     span: Span,
     tokens: &[Token],
-) -> Result<(DirectiveName, &[Token]), SourceFault>
+) -> SourceResult<(DirectiveName, &[Token])>
     ensures { Reads part_and_rest result (name_after kind span tokens.now) }
 {
     match kind {
@@ -171,11 +171,7 @@ fn parallel(span: Span, tokens: &[Token]) -> (DirectiveName, &[Token])
 }
 
 // `critical` and its name, where a parenthesis stands.
-fn critical(
-    alloc: Global,
-    span: Span,
-    tokens: &[Token],
-) -> Result<(DirectiveName, &[Token]), SourceFault>
+fn critical(alloc: Global, span: Span, tokens: &[Token]) -> SourceResult<(DirectiveName, &[Token])>
     ensures { Reads part_and_rest result (critical_at span tokens.now) }
 {
     let Some((open_paren, rest)) = take_mark(tokens, Punctuator::OpenParen) else {
@@ -202,11 +198,7 @@ fn critical_after(
 }
 
 // `flush` and its list, where a parenthesis stands.
-fn flush(
-    alloc: Global,
-    span: Span,
-    tokens: &[Token],
-) -> Result<(DirectiveName, &[Token]), SourceFault>
+fn flush(alloc: Global, span: Span, tokens: &[Token]) -> SourceResult<(DirectiveName, &[Token])>
     ensures { Reads part_and_rest result (flush_at span tokens.now) }
 {
     let Some((open_paren, rest)) = take_mark(tokens, Punctuator::OpenParen) else {
@@ -233,7 +225,7 @@ fn clauses<'a>(
     alloc: Global,
     name: &DirectiveName,
     tokens: &'a [Token],
-) -> Result<(Seq<ClauseItem<&'a [Token]>>, Span), SourceFault>
+) -> SourceResult<(Seq<ClauseItem<&'a [Token]>>, Span)>
     ensures { Reads (λ x. (seen_items x.0, x.1, [])) result (clauses_at name.now tokens.now) }
 {
     let mut items = Seq::new(alloc);
@@ -254,7 +246,7 @@ fn item<'a>(
     name: &DirectiveName,
     before: &[ClauseItem<&'a [Token]>],
     tokens: &'a [Token],
-) -> Result<(ClauseItem<&'a [Token]>, &'a [Token]), SourceFault>
+) -> SourceResult<(ClauseItem<&'a [Token]>, &'a [Token])>
     ensures { Reads item_and_rest result (item_at name.now (seen_items before.now) tokens.now) }
 {
     let (comma, rest) = comma(before, tokens);
@@ -281,7 +273,7 @@ fn clause<'a>(
     name: &DirectiveName,
     before: &[ClauseItem<&'a [Token]>],
     tokens: &'a [Token],
-) -> Result<(Clause<&'a [Token]>, &'a [Token]), SourceFault>
+) -> SourceResult<(Clause<&'a [Token]>, &'a [Token])>
     ensures { Reads clause_and_rest result (clause_at name.now (seen_kinds before.now) tokens.now) }
 {
     let [first, rest @ ..] = tokens else {

@@ -12,7 +12,7 @@ ghost use Rattle.om_scope_rules.specs.StatementResolution.{clause_schedule, crit
 ghost use Rattle.om_scope_rules.specs.Updates.{update_of};
 ghost use Rattle.om_scope.specs.Resolving.{view_body, view_clauses};
 
-use om_lexer::{SourceFault, Span};
+use om_lexer::{SourceResult, Span};
 use om_parser_tree::{Expression, Name};
 use om_pragma::{
     AtomicKind, Clause, ClauseItem, ClauseKind, Directive, DirectiveName, Schedule, ScheduleKind,
@@ -24,8 +24,8 @@ use om_scope_tree::{
     Capture, ConstructKind, ResolvedClause, ResolvedLoop, ResolvedPart, ResolvedSchedule,
     ResolvedStatement, Side, TaskSharing, captures_of_parallel, captures_of_task,
 };
-use om_seq::Seq;
-use std::alloc::{AllocError, Global};
+use om_seq::{AllocResult, Seq};
+use std::alloc::Global;
 
 // Whether a directive is `nowait`.
 fn has_nowait(directive: &Directive<Expression>) -> bool
@@ -54,7 +54,7 @@ fn parallel_of(
     directive: &Directive<Expression>,
     clauses: Vec<ResolvedClause>,
     inner: ResolvedStatement,
-) -> Result<ResolvedStatement, SourceFault>
+) -> SourceResult<ResolvedStatement>
     ensures checked { Checks result [] }
     ensures made { IfOk result (IsParallel directive.now clauses inner) }
 {
@@ -70,10 +70,7 @@ fn parallel_of(
 }
 
 // The name of a `critical`, if it has one.
-fn critical_name(
-    alloc: Global,
-    name: &Option<(Span, Name, Span)>,
-) -> Result<Option<Seq<u8>>, AllocError>
+fn critical_name(alloc: Global, name: &Option<(Span, Name, Span)>) -> AllocResult<Option<Seq<u8>>>
     ensures { IfOk result (λ found. found ≡ critical_name name.now) }
 {
     let Some((_, name, _)) = name else {
@@ -101,7 +98,7 @@ fn around_task(
     directive: &Directive<Expression>,
     clauses: &[ResolvedClause],
     body: &ResolvedStatement,
-) -> Result<Around, AllocError>
+) -> AllocResult<Around>
     ensures { IfOk result (MakesTask parallel directive.now clauses.now body.now) }
 {
     let sharing = TaskSharing {
@@ -118,7 +115,7 @@ fn around_parallel(
     directive: &Directive<Expression>,
     clauses: &[ResolvedClause],
     body: &ResolvedStatement,
-) -> Result<Around, AllocError>
+) -> AllocResult<Around>
     ensures { IfOk result (MakesParallel directive.now clauses.now body.now) }
 {
     let captures = captures_of_parallel(alloc, directive.hash.start, clauses, body)?;
@@ -126,7 +123,7 @@ fn around_parallel(
 }
 
 // What a `critical` of this name puts round a statement.
-fn around_critical(alloc: Global, name: &Option<(Span, Name, Span)>) -> Result<Around, AllocError>
+fn around_critical(alloc: Global, name: &Option<(Span, Name, Span)>) -> AllocResult<Around>
     ensures { IfOk result (λ around. around ≡ critical_around name.now) }
 {
     let name = critical_name(alloc, name)?;
@@ -160,7 +157,7 @@ fn around_of(
     directive: &Directive<Expression>,
     clauses: &[ResolvedClause],
     body: &ResolvedStatement,
-) -> Result<Around, AllocError>
+) -> AllocResult<Around>
     requires is_there { IsSome (construct_round setting directive.now clauses.now body.now) }
     ensures { IfOk result (MakesConstruct setting directive.now clauses.now body.now) }
 {
@@ -189,7 +186,7 @@ fn with_around(
     at: Span,
     clauses: Vec<ResolvedClause>,
     body: Box<ResolvedStatement>,
-) -> Result<ResolvedStatement, AllocError>
+) -> AllocResult<ResolvedStatement>
     requires is_there { IsSome (with_around around at (view_clauses clauses) (view_body body)) }
     ensures { IfOk result (IsTree (with_around around at (view_clauses clauses) (view_body body))) }
 {
@@ -222,7 +219,7 @@ fn with_update(
     at: Span,
     side: Side,
     body: Box<ResolvedStatement>,
-) -> Result<ResolvedStatement, AllocError>
+) -> AllocResult<ResolvedStatement>
     requires is_update { IsSome (update_of side (view_body body)) }
     ensures { IfOk result (IsTree (with_update at (update_of side (view_body body)))) }
 {
@@ -241,7 +238,7 @@ pub(crate) fn construct_of(
     directive: &Directive<Expression>,
     clauses: Vec<ResolvedClause>,
     body: Box<ResolvedStatement>,
-) -> Result<ResolvedStatement, SourceFault>
+) -> SourceResult<ResolvedStatement>
     requires is_there { IsSome (construct_round setting directive.now clauses.items body.value) }
     ensures { Makes result (construct_round setting directive.now clauses.items body.value) }
 {
@@ -256,7 +253,7 @@ pub(crate) fn loop_construct_of(
     clauses: Vec<ResolvedClause>,
     repeated: Box<ResolvedLoop>,
     body: Box<ResolvedStatement>,
-) -> Result<ResolvedStatement, SourceFault>
+) -> SourceResult<ResolvedStatement>
     ensures checked { Checks result [] }
     ensures made { IfOk result (IsLoopConstruct directive.now clauses repeated body) }
 {
@@ -289,7 +286,7 @@ fn shared_loop(
 }
 
 // An item in a box. When out of memory, it is gone.
-fn boxed<T: Drop>(alloc: Global, item: T) -> Result<Box<T>, AllocError>
+fn boxed<T: Drop>(alloc: Global, item: T) -> AllocResult<Box<T>>
     ensures { IfOk result (λ made. made.value ≡ item) }
 {
     Ok(Box::new(alloc, item)?)
@@ -301,7 +298,7 @@ pub(crate) fn sections_construct_of(
     directive: &Directive<Expression>,
     clauses: Vec<ResolvedClause>,
     parts: Vec<ResolvedPart>,
-) -> Result<ResolvedStatement, SourceFault>
+) -> SourceResult<ResolvedStatement>
     ensures checked { Checks result [] }
     ensures made { IfOk result (IsSectionsConstruct directive.now clauses parts) }
 {

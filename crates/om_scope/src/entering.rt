@@ -8,14 +8,15 @@ ghost use Rattle.om_scope.specs.Entering.{ResolvesClausesOf, ResolvesRound};
 ghost use Rattle.om_scope.specs.Resolving.{EntersConstruct};
 
 use crate::assembly::schedule_of;
-use om_lexer::SourceFault;
+use om_lexer::SourceResult;
 use om_parser_tree::Expression;
 use om_pragma::Directive;
 use om_scope_parts::{resolve_directive, resolve_loop};
 use om_scope_rules::{Flow, Loop, RegionKind};
 use om_scope_symbols::{Listed, Symbols, is_parallel, traits_of};
 use om_scope_tree::{ResolvedClause, ResolvedLoop};
-use std::alloc::{AllocError, Global};
+use om_seq::AllocResult;
+use std::alloc::Global;
 
 /// Enters a construct, after its clauses.
 pub fn enter_construct(
@@ -23,7 +24,7 @@ pub fn enter_construct(
     symbols: &mut Symbols,
     flow: Flow,
     directive: &Directive<Expression>,
-) -> Result<Vec<ResolvedClause>, SourceFault>
+) -> SourceResult<Vec<ResolvedClause>>
     ensures found { ResolvesClausesOf result symbols.old flow directive.now }
     ensures in_scope { EntersConstruct result symbols.old symbols.new directive.now }
 {
@@ -38,7 +39,7 @@ fn enter_listed(
     symbols: &mut Symbols,
     kind: RegionKind,
     listed: Listed,
-) -> Result<(), AllocError>
+) -> AllocResult<()>
     ensures { OnOk result (symbols.new ≡ in_kind kind listed symbols.old) }
 {
     let (copies, region) = listed.into_region(kind);
@@ -52,7 +53,7 @@ pub fn enter_loop_construct(
     flow: Flow,
     directive: &Directive<Expression>,
     found: &Loop<'_>,
-) -> Result<(Vec<ResolvedClause>, Box<ResolvedLoop>), SourceFault>
+) -> SourceResult<(Vec<ResolvedClause>, Box<ResolvedLoop>)>
     ensures checked { ChecksEntering result symbols.old flow directive.now (view_loop found.now) }
     ensures listed { OnOk result (IsAllowed symbols.old flow directive.now) }
     ensures bounded { OnOk result (IsBounded symbols.old directive.now (view_loop found.now)) }
@@ -73,7 +74,7 @@ fn enter_bounds(
     directive: &Directive<Expression>,
     listed: Listed,
     found: &Loop<'_>,
-) -> Result<Box<ResolvedLoop>, SourceFault>
+) -> SourceResult<Box<ResolvedLoop>>
     ensures found { ResolvesRound result symbols.old listed directive.now (view_loop found.now) }
     ensures in_scope { EntersListed result symbols.old symbols.new listed directive.now }
 {

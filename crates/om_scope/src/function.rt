@@ -16,14 +16,14 @@ ghost use Rattle.om_scope.specs.Parameters.{DeclaresOptionals, DeclaresParameter
 ghost use Rattle.om_scope.specs.Resolving.{DeclaresHead, DefinesHead, parameters_in};
 
 use crate::statement::resolve_statements;
-use om_lexer::{FaultCode, SourceFault, Span};
+use om_lexer::{FaultCode, SourceResult, Span};
 use om_parser_tree::{Function, FunctionHead, Name, Parameter, Parameters, ResultType};
 use om_scope_parts::{check_new, copy_of, local_of, refuse_if};
 use om_scope_rules::{FUNCTION_LIMIT, Flow, Meaning, PARAMETER_LIMIT, Signature, head_first};
 use om_scope_symbols::Symbols;
 use om_scope_tree::{LocalVariable, ResolvedFunction, ResolvedStatement, Shape};
-use om_seq::Seq;
-use std::alloc::{AllocError, Global};
+use om_seq::{AllocResult, Seq};
+use std::alloc::Global;
 
 // Whether a function returns an `int`.
 fn returns_value(kind: &ResultType) -> bool
@@ -86,7 +86,7 @@ fn is_other_main(name: &[u8], signature: Signature) -> bool
 }
 
 // The name and the signature of a function: S8, S9.
-fn check_head<N>(symbols: &Symbols, head: &FunctionHead<N>) -> Result<(), SourceFault>
+fn check_head<N>(symbols: &Symbols, head: &FunctionHead<N>) -> SourceResult<()>
     ensures { ChecksExactly result (head_breaches symbols.now (view_head head.now)) }
 {
     let signature = signature_of(head);
@@ -98,11 +98,7 @@ fn check_head<N>(symbols: &Symbols, head: &FunctionHead<N>) -> Result<(), Source
 }
 
 // Declares a function, unless an earlier declaration did.
-fn declare_head<N>(
-    alloc: Global,
-    symbols: &mut Symbols,
-    head: &FunctionHead<N>,
-) -> Result<(), AllocError>
+fn declare_head<N>(alloc: Global, symbols: &mut Symbols, head: &FunctionHead<N>) -> AllocResult<()>
     ensures { DeclaresHead result symbols.old symbols.new head.now }
 {
     let name = head.name.text.as_slice();
@@ -113,11 +109,7 @@ fn declare_head<N>(
 }
 
 // Declares the name of a parameter: S8.
-fn declare_parameter_name(
-    alloc: Global,
-    symbols: &mut Symbols,
-    name: &Name,
-) -> Result<(), SourceFault>
+fn declare_parameter_name(alloc: Global, symbols: &mut Symbols, name: &Name) -> SourceResult<()>
     ensures checked { Checks result (redeclared_breaches symbols.old name.now) }
     ensures in_scope { OnOk result (symbols.new ≡ with_local symbols.old name.now Scalar) }
 {
@@ -133,7 +125,7 @@ fn declare_parameter(
     parameters: &mut Vec<LocalVariable>,
     before: usize,
     parameter: &Parameter<Name>,
-) -> Result<(), SourceFault>
+) -> SourceResult<()>
     ensures checked { Checks result (parameter_breaches (before, symbols.old) parameter.now) }
     ensures in_scope { OnOk result (symbols.new ≡ after_parameter symbols.old parameter.now) }
     ensures resolved { AppendsParameter result parameters.old parameters.new parameter.now }
@@ -155,7 +147,7 @@ fn declare_further_parameters(
     symbols: &mut Symbols,
     parameters: &mut Vec<LocalVariable>,
     rest: &[(Span, Parameter<Name>)],
-) -> Result<(), SourceFault>
+) -> SourceResult<()>
     ensures checked { ChecksFurtherParameters result symbols.old rest.now }
     ensures in_scope { DeclaresFurtherParameters result symbols.old symbols.new rest.now }
     ensures resolved { AppendsFurtherParameters result parameters.old parameters.new rest.now }
@@ -174,7 +166,7 @@ fn declare_parameters(
     symbols: &mut Symbols,
     found: &mut Vec<LocalVariable>,
     parameters: &Parameters<Name>,
-) -> Result<(), SourceFault>
+) -> SourceResult<()>
     ensures checked { ChecksParameters result symbols.old parameters.now }
     ensures in_scope { DeclaresParameters result symbols.old symbols.new parameters.now }
     ensures resolved { AppendsParameters result found.old found.new parameters.now }
@@ -192,7 +184,7 @@ fn declare_optional(
     symbols: &mut Symbols,
     before: usize,
     parameter: &Parameter<Option<Name>>,
-) -> Result<(), SourceFault>
+) -> SourceResult<()>
     ensures checked { Checks result (optional_breaches (before, symbols.old) parameter.now) }
     ensures in_scope { OnOk result (symbols.new ≡ after_optional symbols.old parameter.now) }
     ensures few { OnOk result (before < PARAMETER_LIMIT) }
@@ -213,7 +205,7 @@ fn declare_further_optionals(
     alloc: Global,
     symbols: &mut Symbols,
     rest: &[(Span, Parameter<Option<Name>>)],
-) -> Result<(), SourceFault>
+) -> SourceResult<()>
     ensures checked { ChecksFurtherOptionals result symbols.old rest.now }
     ensures in_scope { DeclaresFurtherOptionals result symbols.old symbols.new rest.now }
 {
@@ -230,7 +222,7 @@ fn declare_optionals(
     alloc: Global,
     symbols: &mut Symbols,
     parameters: &Parameters<Option<Name>>,
-) -> Result<(), SourceFault>
+) -> SourceResult<()>
     ensures checked { ChecksOptionals result symbols.old parameters.now }
     ensures in_scope { DeclaresOptionals result symbols.old symbols.new parameters.now }
 {
@@ -246,7 +238,7 @@ pub fn check_prototype(
     alloc: Global,
     symbols: &mut Symbols,
     head: &FunctionHead<Option<Name>>,
-) -> Result<(), SourceFault>
+) -> SourceResult<()>
     ensures checked { Checks result (prototype_breaches symbols.old (view_head head.now)) }
     ensures in_scope { DeclaresHead result symbols.old symbols.new head.now }
 {
@@ -259,7 +251,7 @@ pub fn check_prototype(
 }
 
 // That a definition is not one too many, that of no function before, and keeps the rules of its name.
-fn check_definition(symbols: &Symbols, head: &FunctionHead<Name>) -> Result<(), SourceFault>
+fn check_definition(symbols: &Symbols, head: &FunctionHead<Name>) -> SourceResult<()>
     ensures { ChecksExactly result (definition_breaches symbols.now (view_head head.now)) }
 {
     // Three count as defined before any source: `printf` and the two calls of OpenMP.
@@ -289,7 +281,7 @@ fn begin_definition(
     alloc: Global,
     symbols: &mut Symbols,
     head: &FunctionHead<Name>,
-) -> Result<(), SourceFault>
+) -> SourceResult<()>
     ensures checked { Checks result (definition_breaches symbols.old (view_head head.now)) }
     ensures in_scope { DefinesHead result symbols.old symbols.new head.now }
 {
@@ -305,7 +297,7 @@ fn resolve_inside(
     symbols: &mut Symbols,
     parameters: &mut Vec<LocalVariable>,
     function: &Function,
-) -> Result<Vec<ResolvedStatement>, SourceFault>
+) -> SourceResult<Vec<ResolvedStatement>>
     requires proper { AreProper (statements (view_function function.now).body.items) }
     ensures found { ResolvesInside result symbols.old (view_function function.now) }
     ensures in_scope { OnOk result (symbols.new ≡ symbols.old) }
@@ -325,7 +317,7 @@ pub fn resolve_function(
     alloc: Global,
     symbols: &mut Symbols,
     function: &Function,
-) -> Result<ResolvedFunction, SourceFault>
+) -> SourceResult<ResolvedFunction>
     requires proper { AreProper (statements (view_function function.now).body.items) }
     ensures found { ResolvesFunction result symbols.old (view_function function.now) }
     ensures in_scope { DefinesHead result symbols.old symbols.new function.now.head }

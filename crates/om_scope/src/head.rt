@@ -8,7 +8,7 @@ ghost use Rattle.om_scope.specs.Resolving.{GoesBehindStart, ResolvesHead, Resolv
 ghost use Rattle.om_scope.specs.Simple.{IsFor, ResolvesPerhaps, ResolvesStart, head_condition, head_step};
 ghost use Rattle.om_scope_parts.specs.Views.{view_boxed};
 
-use om_lexer::{SourceFault, Span};
+use om_lexer::{SourceResult, Span};
 use om_parser_tree::{Expression, ForHead, ForStart};
 use om_scope_parts::{boxed, boxed_expression, resolve_locals, unboxed};
 use om_scope_rules::Flow;
@@ -21,7 +21,7 @@ pub fn resolve_for_head(
     alloc: Global,
     symbols: &mut Symbols,
     head: &ForHead,
-) -> Result<Box<ResolvedHead>, SourceFault>
+) -> SourceResult<Box<ResolvedHead>>
     ensures found { ResolvesHead result symbols.old (view_for_head head.now) }
     ensures in_scope { GoesBehindStart result symbols.old symbols.new head.now.start }
 {
@@ -36,7 +36,7 @@ fn head_of(
     start: Box<ResolvedStart>,
     condition: Option<Box<ResolvedExpression>>,
     step: Option<Box<ResolvedExpression>>,
-) -> Result<Box<ResolvedHead>, SourceFault>
+) -> SourceResult<Box<ResolvedHead>>
     ensures checked { Checks result [] }
     ensures start { IfOk result (λ head. head.value.start ≡ start.value) }
     ensures condition { IfOk result (λ head. head_condition head ≡ option_map view_boxed condition) }
@@ -55,7 +55,7 @@ fn resolve_for_start(
     alloc: Global,
     symbols: &mut Symbols,
     start: &ForStart,
-) -> Result<ResolvedStart, SourceFault>
+) -> SourceResult<ResolvedStart>
     ensures found { ResolvesStart result symbols.old (view_for_start start.now) }
     ensures in_scope { GoesBehindStart result symbols.old symbols.new start.now }
 {
@@ -80,12 +80,11 @@ fn resolve_for_turn(
     alloc: Global,
     symbols: &Symbols,
     head: &ForHead,
-) -> Result<
+) -> SourceResult<
     (
         Option<Box<ResolvedExpression>>,
         Option<Box<ResolvedExpression>>,
     ),
-    SourceFault,
 >
     ensures { ResolvesTurn result symbols.now (view_for_head head.now) }
 {
@@ -100,7 +99,7 @@ fn resolve_perhaps(
     symbols: &Symbols,
     for_value: bool,
     expression: &Option<Expression>,
-) -> Result<Option<Box<ResolvedExpression>>, SourceFault>
+) -> SourceResult<Option<Box<ResolvedExpression>>>
     ensures { ResolvesPerhaps result symbols.now for_value expression.now }
 {
     let Some(expression) = expression else {

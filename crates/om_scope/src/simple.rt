@@ -10,7 +10,7 @@ ghost use Rattle.om_scope.specs.Simple.{ResolvesAlone, ResolvesDeclaration, Reso
 ghost use Rattle.om_scope.specs.Simple.{ResolvesReturned, ResolvesStandAlone, section_tree};
 ghost use Rattle.om_scope_parts.specs.Declares.{DeclaresLocals, locals_in};
 
-use om_lexer::{FaultCode, SourceFault, Span};
+use om_lexer::{FaultCode, SourceResult, Span};
 use om_parser_tree::{Declaration, Expression};
 use om_pragma::{Directive, DirectiveName};
 use om_scope_parts::{
@@ -27,7 +27,7 @@ pub fn resolve_declaration(
     alloc: Global,
     symbols: &mut Symbols,
     declaration: &Declaration<Expression>,
-) -> Result<ResolvedStatement, SourceFault>
+) -> SourceResult<ResolvedStatement>
     ensures found { ResolvesDeclaration result symbols.old (view_local declaration.now) }
     ensures in_scope { DeclaresLocals result symbols.old symbols.new (locals_in declaration.now) }
 {
@@ -43,7 +43,7 @@ pub fn resolve_effect(
     alloc: Global,
     symbols: &Symbols,
     expression: &Expression,
-) -> Result<ResolvedStatement, SourceFault>
+) -> SourceResult<ResolvedStatement>
     ensures { ResolvesEffect result symbols.now expression.now }
 {
     let at = expression_first(expression);
@@ -61,7 +61,7 @@ pub fn resolve_return(
     flow: Flow,
     at: Span,
     value: &Option<Box<Expression>>,
-) -> Result<ResolvedStatement, SourceFault>
+) -> SourceResult<ResolvedStatement>
     ensures { ResolvesReturn result symbols.now flow at (perhaps_tree value.now) }
 {
     check_jump(!flow.in_construct, at.start)?;
@@ -78,7 +78,7 @@ fn resolve_returned(
     symbols: &Symbols,
     flow: Flow,
     value: &Option<Box<Expression>>,
-) -> Result<Option<Box<ResolvedExpression>>, SourceFault>
+) -> SourceResult<Option<Box<ResolvedExpression>>>
     ensures { ResolvesReturned result symbols.now flow (perhaps_tree value.now) }
 {
     let Some(value) = value else {
@@ -92,7 +92,7 @@ fn resolve_returned(
 }
 
 /// A jump: S14.
-pub fn check_jump(allowed: bool, at: u32) -> Result<(), SourceFault>
+pub fn check_jump(allowed: bool, at: u32) -> SourceResult<()>
     ensures { ChecksExactly result (jump_breaches allowed at) }
 {
     refuse_if(!allowed, FaultCode::LeavesConstruct, at)
@@ -104,7 +104,7 @@ pub fn resolve_stand_alone(
     symbols: &Symbols,
     flow: Flow,
     directive: &Directive<Expression>,
-) -> Result<ResolvedStatement, SourceFault>
+) -> SourceResult<ResolvedStatement>
     requires stands_alone { is_stand_alone directive.now.name ≡ true }
     ensures { ResolvesStandAlone result symbols.now flow directive.now }
 {
@@ -117,7 +117,7 @@ fn resolve_alone(
     alloc: Global,
     symbols: &Symbols,
     directive: &Directive<Expression>,
-) -> Result<ResolvedStatement, SourceFault>
+) -> SourceResult<ResolvedStatement>
     requires stands_alone { is_stand_alone directive.now.name ≡ true }
     ensures { ResolvesAlone result symbols.now directive.now }
 {
@@ -150,7 +150,7 @@ fn resolve_alone(
 pub(crate) fn check_section(
     before: usize,
     section: &Option<Box<Directive<Expression>>>,
-) -> Result<(), SourceFault>
+) -> SourceResult<()>
     ensures { Checks result (section_breaches before (section_tree section.now)) }
 {
     let Some(directive) = section else {

@@ -23,7 +23,7 @@ use crate::simple::{
     check_jump, check_section, resolve_declaration, resolve_effect, resolve_return,
     resolve_stand_alone,
 };
-use om_lexer::SourceFault;
+use om_lexer::SourceResult;
 use om_parser_tree::{Expression, ForHead, Part, Statement};
 use om_pragma::Directive;
 use om_scope_parts::{add, boxed, boxed_expression, enter_loop, loop_fault};
@@ -39,7 +39,7 @@ pub(crate) fn resolve_statements(
     symbols: &mut Symbols,
     flow: Flow,
     items: &[Statement],
-) -> Result<Vec<ResolvedStatement>, SourceFault>
+) -> SourceResult<Vec<ResolvedStatement>>
     requires proper { AreProper (item_trees items.now) }
     ensures found { ResolvesItems result symbols.old flow items.now }
     ensures in_scope { GoesBehindItems result symbols.old symbols.new items.now }
@@ -59,7 +59,7 @@ fn resolve_statement(
     symbols: &mut Symbols,
     flow: Flow,
     statement: &Statement,
-) -> Result<ResolvedStatement, SourceFault>
+) -> SourceResult<ResolvedStatement>
     requires proper { IsProper (view_statement statement.now) }
     ensures found { ResolvesStatement view.statement result symbols.old flow statement.now }
     ensures in_scope { GoesBehind result symbols.old symbols.new statement.now }
@@ -169,7 +169,7 @@ fn resolve_body(
     symbols: &mut Symbols,
     flow: Flow,
     body: &Statement,
-) -> Result<Box<ResolvedStatement>, SourceFault>
+) -> SourceResult<Box<ResolvedStatement>>
     requires proper { IsProper (view_statement body.now) }
     ensures found { ResolvesStatement view_body result (inside symbols.old) flow body.now }
     ensures in_scope { OnOk result (symbols.new ≡ symbols.old) }
@@ -187,7 +187,7 @@ fn boxed_statement(
     symbols: &mut Symbols,
     flow: Flow,
     statement: &Statement,
-) -> Result<Box<ResolvedStatement>, SourceFault>
+) -> SourceResult<Box<ResolvedStatement>>
     requires proper { IsProper (view_statement statement.now) }
     ensures found { ResolvesStatement view_body result symbols.old flow statement.now }
     ensures in_scope { GoesBehind result symbols.old symbols.new statement.now }
@@ -202,7 +202,7 @@ fn resolve_block(
     symbols: &mut Symbols,
     flow: Flow,
     items: &[Statement],
-) -> Result<Vec<ResolvedStatement>, SourceFault>
+) -> SourceResult<Vec<ResolvedStatement>>
     requires proper { AreProper (item_trees items.now) }
     ensures found { ResolvesItems result (inside symbols.old) flow items.now }
     ensures in_scope { OnOk result (symbols.new ≡ symbols.old) }
@@ -221,7 +221,7 @@ fn resolve_for(
     flow: Flow,
     head: &ForHead,
     body: &Statement,
-) -> Result<ResolvedStatement, SourceFault>
+) -> SourceResult<ResolvedStatement>
     requires proper { IsProper (view_statement body.now) }
     ensures found { ResolvesFor result symbols.old flow head.now body.now }
     ensures in_scope { OnOk result (symbols.new ≡ symbols.old) }
@@ -241,7 +241,7 @@ fn resolve_construct(
     flow: Flow,
     directive: &Directive<Expression>,
     body: &Statement,
-) -> Result<ResolvedStatement, SourceFault>
+) -> SourceResult<ResolvedStatement>
     requires proper { IsProperConstruct directive.now body.now }
     ensures found { ResolvesConstruct result symbols.old flow directive.now body.now }
     ensures in_scope { OnOk result (symbols.new ≡ symbols.old) }
@@ -261,7 +261,7 @@ fn resolve_plain_construct(
     flow: Flow,
     directive: &Directive<Expression>,
     body: &Statement,
-) -> Result<ResolvedStatement, SourceFault>
+) -> SourceResult<ResolvedStatement>
     requires proper { IsProperConstruct directive.now body.now }
     requires for_any { (traits_of directive.now.name).takes_loop ≡ false }
     ensures found { ResolvesPlainConstruct result symbols.old flow directive.now body.now }
@@ -286,7 +286,7 @@ fn resolve_loop_construct(
     flow: Flow,
     directive: &Directive<Expression>,
     body: &Statement,
-) -> Result<ResolvedStatement, SourceFault>
+) -> SourceResult<ResolvedStatement>
     requires proper { IsProper (view_statement body.now) }
     ensures found { ResolvesLoopConstruct result symbols.old flow directive.now body.now }
     ensures in_scope { OnOk result (symbols.new ≡ symbols.old) }
@@ -317,7 +317,7 @@ fn resolve_loop_body(
     inside: Flow,
     found: &Loop<'_>,
     body: &Statement,
-) -> Result<Box<ResolvedStatement>, SourceFault>
+) -> SourceResult<Box<ResolvedStatement>>
     requires proper { IsProper (view_statement body.now) }
     requires is_loop { is_some (loop_in (view_statement body.now)) ≡ true }
     ensures found { ResolvesLoopBody result symbols.old inside (view_loop found.now) body.now }
@@ -339,7 +339,7 @@ fn resolve_repeated(
     inside: Flow,
     found: &Loop<'_>,
     repeated: &Statement,
-) -> Result<Box<ResolvedStatement>, SourceFault>
+) -> SourceResult<Box<ResolvedStatement>>
     requires proper { IsProper (view_statement repeated.now) }
     ensures found { ResolvesRepeated result symbols.old inside (view_loop found.now) repeated.now }
     ensures in_scope { OnOk result (symbols.new ≡ symbols.old) }
@@ -358,7 +358,7 @@ fn resolve_sections(
     flow: Flow,
     directive: &Directive<Expression>,
     sections: &[Part],
-) -> Result<ResolvedStatement, SourceFault>
+) -> SourceResult<ResolvedStatement>
     requires formed { AreParts (part_trees sections.now) }
     requires forms { PartsHaveForms true (part_trees sections.now) }
     ensures found { ResolvesSections result symbols.old flow directive.now sections.now }
@@ -378,7 +378,7 @@ fn resolve_parts(
     symbols: &mut Symbols,
     flow: Flow,
     sections: &[Part],
-) -> Result<Vec<ResolvedPart>, SourceFault>
+) -> SourceResult<Vec<ResolvedPart>>
     requires proper { AreProperParts (part_trees sections.now) }
     ensures found { ResolvesParts result symbols.old flow sections.now }
     ensures in_scope { OnOk result (symbols.new ≡ symbols.old) }
@@ -399,7 +399,7 @@ fn resolve_part(
     flow: Flow,
     before: usize,
     part: &Part,
-) -> Result<ResolvedPart, SourceFault>
+) -> SourceResult<ResolvedPart>
     requires proper { AreProper (view_part part.now).items }
     ensures found { ResolvesPart result symbols.old flow before part.now }
     ensures in_scope { OnOk result (symbols.new ≡ symbols.old) }

@@ -20,18 +20,18 @@ ghost use Rattle.om_scope_tree.specs.Whole.{IsWholeTree};
 ghost use Rattle.om_scope.specs.Units.{AddsFunctionOf, AddsFunctions, AppendsGlobalsOf, ResolvesSource};
 
 use crate::function::{check_prototype, resolve_function};
-use om_lexer::{FaultCode, SourceFault};
+use om_lexer::{FaultCode, SourceFault, SourceResult};
 use om_parser_tree::{Item, Unit};
 use om_scope_parts::{add, declare_globals};
 use om_scope_rules::Names;
 use om_scope_rules::laws::{atomics_assign, unbroken_trees_are_resolved, unbroken_trees_are_whole};
 use om_scope_symbols::{Symbols, add_predeclared};
 use om_scope_tree::{GlobalVariable, Resolved, ResolvedFunction};
-use om_seq::Seq;
-use std::alloc::{AllocError, Global};
+use om_seq::{AllocResult, Seq};
+use std::alloc::Global;
 
 // Adds the function that an item defines.
-fn add_definition(alloc: Global, names: &mut Names, item: &Item) -> Result<(), AllocError>
+fn add_definition(alloc: Global, names: &mut Names, item: &Item) -> AllocResult<()>
     ensures { OnOk result (names.new ≡ after_definition names.old (view_item item.now)) }
 {
     let Item::Function(function) = item else {
@@ -41,7 +41,7 @@ fn add_definition(alloc: Global, names: &mut Names, item: &Item) -> Result<(), A
 }
 
 // Adds the functions that a source defines, and before them those that are there before it.
-fn add_definitions(alloc: Global, names: &mut Names, items: &[Item]) -> Result<(), AllocError>
+fn add_definitions(alloc: Global, names: &mut Names, items: &[Item]) -> AllocResult<()>
     requires is_empty { names.old ≡ [] }
     ensures { OnOk result (names.new ≡ definitions_of (map view_item items.now)) }
 {
@@ -53,7 +53,7 @@ fn add_definitions(alloc: Global, names: &mut Names, items: &[Item]) -> Result<(
 }
 
 // The functions that a source defines, and those that are there before it.
-fn definitions_of(alloc: Global, items: &[Item]) -> Result<Names, AllocError>
+fn definitions_of(alloc: Global, items: &[Item]) -> AllocResult<Names>
     ensures { IfOk result (λ names. names ≡ definitions_of (map view_item items.now)) }
 {
     let mut names = Names::new(alloc);
@@ -68,7 +68,7 @@ fn resolve_item(
     globals: &mut Vec<GlobalVariable>,
     functions: &mut Vec<ResolvedFunction>,
     item: &Item,
-) -> Result<(), SourceFault>
+) -> SourceResult<()>
     requires proper { IsProperItem (view_item item.now) }
     ensures checked { Checks result (item_breaches symbols.old (view_item item.now)) }
     ensures in_scope { OnOk result (symbols.new ≡ after_item symbols.old (view_item item.now)) }
@@ -89,7 +89,7 @@ fn resolve_each(
     globals: &mut Vec<GlobalVariable>,
     functions: &mut Vec<ResolvedFunction>,
     items: &[Item],
-) -> Result<(), SourceFault>
+) -> SourceResult<()>
     requires proper { All IsProperItem (map view_item items.now) }
     ensures checked { Checks result (items_breaches symbols.old (map view_item items.now)) }
     ensures declared { AppendsGlobalsOf result globals.old globals.new items.now }
@@ -102,11 +102,7 @@ fn resolve_each(
 }
 
 // Resolves the items of a source that defines these functions.
-fn resolve_from(
-    alloc: Global,
-    symbols: &mut Symbols,
-    items: &[Item],
-) -> Result<Resolved, SourceFault>
+fn resolve_from(alloc: Global, symbols: &mut Symbols, items: &[Item]) -> SourceResult<Resolved>
     requires is_empty { symbols.old ≡ nothing_declared (definitions_of (map view_item items.now)) }
     requires proper { All IsProperItem (map view_item items.now) }
     ensures { ResolvesSource result (map view_item items.now) }
@@ -122,7 +118,7 @@ fn resolve_from(
 }
 
 // Resolves the items of a source, in their order.
-fn resolve_items(alloc: Global, items: &[Item]) -> Result<Resolved, SourceFault>
+fn resolve_items(alloc: Global, items: &[Item]) -> SourceResult<Resolved>
     requires proper { All IsProperItem (map view_item items.now) }
     ensures { ResolvesSource result (map view_item items.now) }
 {
@@ -151,7 +147,7 @@ fn has_main(items: &[Item]) -> bool
 }
 
 // That one of the items is a function named `main`: S15.
-fn check_main(unit: &Unit) -> Result<(), SourceFault>
+fn check_main(unit: &Unit) -> SourceResult<()>
     ensures { ChecksExactly result (main_breaches (view_unit unit.now)) }
 {
     if !has_main(unit.items.as_slice()) {
@@ -185,7 +181,7 @@ fn check_main(unit: &Unit) -> Result<(), SourceFault>
 /// - S15 at the end of the source: no function is named `main`.
 ///
 /// A tree that the parser made of the lexer's tokens never meets S10; no clause says it.
-pub fn resolve(alloc: Global, unit: Unit) -> Result<Resolved, SourceFault>
+pub fn resolve(alloc: Global, unit: Unit) -> SourceResult<Resolved>
     requires formed { IsUnit (view_unit unit) }
     requires atomics_have_forms { AtomicsHaveForms (view_unit unit) }
     ensures no_breach { OnOk result (breaches_of (view_unit unit) ≡ []) }

@@ -8,15 +8,16 @@ ghost use Rattle.om_scope_parts.specs.Bounds.{ResolvesBoundsOf, ResolvesLoop, Re
 
 use crate::declaration::local_of;
 use crate::expression::boxed_expression;
-use om_lexer::{FaultCode, SourceFault};
+use om_lexer::{FaultCode, SourceResult};
 use om_parser_tree::Name;
 use om_scope_rules::Loop;
 use om_scope_symbols::{Symbols, check_declared, is_scalar, refuse_if};
 use om_scope_tree::{ResolvedExpression, ResolvedLoop, ResolvedSchedule, Shape};
-use std::alloc::{AllocError, Global};
+use om_seq::AllocResult;
+use std::alloc::Global;
 
 // The variable of a loop that does not declare it: S7, S9.
-fn check_variable(symbols: &Symbols, name: &Name) -> Result<(), SourceFault>
+fn check_variable(symbols: &Symbols, name: &Name) -> SourceResult<()>
     ensures { ChecksExactly result (variable_breaches symbols.now name.now) }
 {
     check_declared(symbols, name)?;
@@ -29,7 +30,7 @@ fn resolve_values(
     alloc: Global,
     symbols: &Symbols,
     found: &Loop<'_>,
-) -> Result<(Box<ResolvedExpression>, Box<ResolvedExpression>), SourceFault>
+) -> SourceResult<(Box<ResolvedExpression>, Box<ResolvedExpression>)>
     ensures { ResolvesValuesOf result symbols.now (view_loop found.now) }
 {
     let from = boxed_expression(alloc, symbols, true, found.start.from)?;
@@ -39,7 +40,7 @@ fn resolve_values(
 
 /// Enters the scope in which a loop's variable is one of its own, whether it declares it or not (OpenMP
 /// API 5.2, section 5.1.1). An error is out of memory.
-pub fn enter_loop(alloc: Global, symbols: &mut Symbols, found: &Loop<'_>) -> Result<(), AllocError>
+pub fn enter_loop(alloc: Global, symbols: &mut Symbols, found: &Loop<'_>) -> AllocResult<()>
     ensures { OnOk result (symbols.new ≡ with_iteration symbols.old (view_loop found.now)) }
 {
     symbols.enter(alloc)?;
@@ -51,7 +52,7 @@ fn resolve_bounds(
     alloc: Global,
     symbols: &mut Symbols,
     found: &Loop<'_>,
-) -> Result<(Box<ResolvedExpression>, Box<ResolvedExpression>), SourceFault>
+) -> SourceResult<(Box<ResolvedExpression>, Box<ResolvedExpression>)>
     ensures found { ResolvesBoundsOf result symbols.old (view_loop found.now) }
     ensures in_scope { OnOk result (symbols.new ≡ symbols.old) }
 {
@@ -75,7 +76,7 @@ pub fn resolve_loop(
     symbols: &mut Symbols,
     schedule: ResolvedSchedule,
     found: &Loop<'_>,
-) -> Result<Box<ResolvedLoop>, SourceFault>
+) -> SourceResult<Box<ResolvedLoop>>
     ensures found { ResolvesLoop result symbols.old schedule (view_loop found.now) }
     ensures in_scope { OnOk result (symbols.new ≡ symbols.old) }
 {

@@ -8,7 +8,7 @@ ghost use Rattle.om_scope_rules.specs.Resolution.{call_of, format_in, text_in};
 ghost use Rattle.om_scope_parts.specs.Expressions.{ChecksFormat};
 ghost use Rattle.om_scope_parts.specs.Views.{view_values};
 
-use om_lexer::{FaultCode, SourceFault};
+use om_lexer::{FaultCode, SourceResult};
 use om_parser_tree::{Argument, Expression, Name};
 use om_scope_rules::is_format;
 use om_scope_symbols::refuse_if;
@@ -29,7 +29,7 @@ pub fn resolve_format(
     for_value: bool,
     name: &Name,
     values: &[Argument],
-) -> Result<Seq<u8>, SourceFault>
+) -> SourceResult<Seq<u8>>
     ensures checked { ChecksFormat result for_value name.now values.now }
     ensures resolved { IfOk result
         (λ format. format_in (view_arguments values.now) ≡ Some format) }

@@ -11,15 +11,15 @@ ghost use Rattle.om_scope_parts.specs.Declares.{local_name_breaches, local_tree,
 
 use crate::expression::{boxed_expression, unboxed};
 use crate::kept::add;
-use om_lexer::{FaultCode, SourceFault, Span};
+use om_lexer::{FaultCode, SourceResult, Span};
 use om_parser_tree::{ArrayLength, Declaration, Declarator, Expression, Initializer, Name};
 use om_scope_symbols::{Symbols, refuse_if};
 use om_scope_tree::{LocalVariable, ResolvedDeclarator, ResolvedExpression, Shape};
-use om_seq::Seq;
-use std::alloc::{AllocError, Global};
+use om_seq::{AllocResult, Seq};
+use std::alloc::Global;
 
 /// That a name is not declared in the innermost scope yet (C17 6.7p3): S8 at the name.
-pub fn check_new(symbols: &Symbols, name: &Name) -> Result<(), SourceFault>
+pub fn check_new(symbols: &Symbols, name: &Name) -> SourceResult<()>
     ensures { ChecksExactly result (redeclared_breaches symbols.now name.now) }
 {
     let broken = symbols.is_declared(name.text.as_slice());
@@ -57,7 +57,7 @@ fn is_empty_array(array: &Option<ArrayLength>) -> bool
 }
 
 /// That an array has cells: S9.
-pub fn check_size<I>(declarator: &Declarator<I>) -> Result<(), SourceFault>
+pub fn check_size<I>(declarator: &Declarator<I>) -> SourceResult<()>
     ensures { ChecksExactly result (array_size_breaches (bare_tree declarator.now)) }
 {
     let broken = is_empty_array(&declarator.array);
@@ -73,7 +73,7 @@ pub fn length_of(array: &Option<ArrayLength>) -> Option<u32>
 }
 
 /// A copy of a name's text. An error is out of memory.
-pub fn copy_of(alloc: Global, name: &Name) -> Result<Seq<u8>, AllocError>
+pub fn copy_of(alloc: Global, name: &Name) -> AllocResult<Seq<u8>>
     ensures { IfOk result (λ copy. copy ≡ name.now.text) }
 {
     Ok(Seq::of(Vec::from_slice(alloc, name.text.as_slice())?))
@@ -81,7 +81,7 @@ pub fn copy_of(alloc: Global, name: &Name) -> Result<Seq<u8>, AllocError>
 
 /// The variable of a function that a name declares, known by where the name stands. An error is out of
 /// memory.
-pub fn local_of(alloc: Global, name: &Name) -> Result<LocalVariable, AllocError>
+pub fn local_of(alloc: Global, name: &Name) -> AllocResult<LocalVariable>
     ensures { IfOk result (λ local. local ≡ local_of name.now) }
 {
     Ok(LocalVariable {
@@ -95,7 +95,7 @@ fn resolve_initializer(
     alloc: Global,
     symbols: &Symbols,
     initializer: &Option<Initializer<Expression>>,
-) -> Result<Option<Box<ResolvedExpression>>, SourceFault>
+) -> SourceResult<Option<Box<ResolvedExpression>>>
     ensures { ResolvesInitial result symbols.now initializer.now }
 {
     let Some(initializer) = initializer else {
@@ -110,7 +110,7 @@ fn declare_name(
     alloc: Global,
     symbols: &mut Symbols,
     declarator: &Declarator<Expression>,
-) -> Result<(), SourceFault>
+) -> SourceResult<()>
     ensures checked { Checks result (local_name_breaches symbols.old (local_tree declarator.now)) }
     ensures in_scope { DeclaresLocal result symbols.old symbols.new declarator.now }
 {
@@ -126,7 +126,7 @@ fn resolve_declarator(
     alloc: Global,
     symbols: &mut Symbols,
     declarator: &Declarator<Expression>,
-) -> Result<ResolvedDeclarator, SourceFault>
+) -> SourceResult<ResolvedDeclarator>
     ensures found { ResolvesLocal result symbols.old (local_tree declarator.now) }
     ensures in_scope { DeclaresLocal result symbols.old symbols.new declarator.now }
 {
@@ -146,7 +146,7 @@ fn add_local(
     symbols: &mut Symbols,
     declared: &mut Vec<ResolvedDeclarator>,
     declarator: &Declarator<Expression>,
-) -> Result<(), SourceFault>
+) -> SourceResult<()>
     ensures checked { Checks result (local_breaches symbols.old (local_tree declarator.now)) }
     ensures in_scope { DeclaresLocal result symbols.old symbols.new declarator.now }
     ensures resolved { OnOk result (IsAdded symbols.old declared.old declared.new declarator.now) }
@@ -160,7 +160,7 @@ fn resolve_further_locals(
     symbols: &mut Symbols,
     declared: &mut Vec<ResolvedDeclarator>,
     rest: &[(Span, Declarator<Expression>)],
-) -> Result<(), SourceFault>
+) -> SourceResult<()>
     ensures checked { Checks result (locals_breaches symbols.old (further_locals rest.now)) }
     ensures in_scope { DeclaresLocals result symbols.old symbols.new (further_locals rest.now) }
     ensures resolved { AddsFurtherLocals result symbols.old declared.old declared.new rest.now }
@@ -177,7 +177,7 @@ fn add_locals(
     symbols: &mut Symbols,
     declared: &mut Vec<ResolvedDeclarator>,
     declaration: &Declaration<Expression>,
-) -> Result<(), SourceFault>
+) -> SourceResult<()>
     ensures checked { Checks result (locals_breaches symbols.old (locals_in declaration.now)) }
     ensures in_scope { DeclaresLocals result symbols.old symbols.new (locals_in declaration.now) }
     ensures resolved { AddsLocalsOf result symbols.old declared.old declared.new declaration.now }
@@ -195,7 +195,7 @@ pub fn resolve_locals(
     alloc: Global,
     symbols: &mut Symbols,
     declaration: &Declaration<Expression>,
-) -> Result<Vec<ResolvedDeclarator>, SourceFault>
+) -> SourceResult<Vec<ResolvedDeclarator>>
     ensures found { ResolvesLocals result symbols.old (locals_in declaration.now) }
     ensures in_scope { DeclaresLocals result symbols.old symbols.new (locals_in declaration.now) }
 {

@@ -16,7 +16,7 @@ ghost use Rattle.om_scope_parts.specs.Lists.{listed_in, view_clause, view_items}
 use crate::declaration::local_of;
 use crate::expression::boxed_expression;
 use crate::kept::add;
-use om_lexer::{FaultCode, SourceFault};
+use om_lexer::{FaultCode, SourceResult};
 use om_parser_tree::{Expression, Name};
 use om_pragma::{Clause, ClauseItem, DataSharing, Directive, DirectiveName, FurtherName, NameList};
 use om_scope_rules::{Flow, Meaning};
@@ -24,11 +24,11 @@ use om_scope_symbols::{
     Listed, Symbols, check_declared, is_copied_array, is_scalar, refuse_if, traits_of,
 };
 use om_scope_tree::{CopyKind, ResolvedClause, Variable};
-use om_seq::Seq;
-use std::alloc::{AllocError, Global};
+use om_seq::{AllocResult, Seq};
+use std::alloc::Global;
 
 // A worksharing construct or a barrier where none may stand: S14.
-fn check_nesting(flow: Flow, name: &DirectiveName) -> Result<(), SourceFault>
+fn check_nesting(flow: Flow, name: &DirectiveName) -> SourceResult<()>
     ensures { ChecksExactly result (nesting_breaches flow name.now) }
 {
     let broken = traits_of(name).is_bound && flow.is_closed;
@@ -77,7 +77,7 @@ fn resolve_listed(
     sharing: DataSharing,
     listed: &Listed,
     name: &Name,
-) -> Result<Variable, SourceFault>
+) -> SourceResult<Variable>
     ensures checked { ChecksListed result symbols.now sharing listed.now name.now }
     ensures is_new { OnOk result (is_listed listed.now name.now.text ≡ false) }
     ensures resolved { Finds (λ found. found) result (variable_named symbols.now name.now) }
@@ -112,7 +112,7 @@ fn clause_of(
     kind: Option<CopyKind>,
     variable: Variable,
     name: &Name,
-) -> Result<ResolvedClause, AllocError>
+) -> AllocResult<ResolvedClause>
     ensures { IfOk result
         (λ clause. view.clause clause ≡ clause_of kind variable name.now) }
 {
@@ -140,7 +140,7 @@ fn list_name(
     listing: &Listing<'_>,
     listed: &mut Listed,
     name: &Name,
-) -> Result<ResolvedClause, SourceFault>
+) -> SourceResult<ResolvedClause>
     ensures found { ResolvesListed result listing.now listed.old name.now }
     ensures listed { ListsName result listing.now listed.old listed.new name.now }
 {
@@ -156,7 +156,7 @@ fn list_further_names(
     listed: &mut Listed,
     clauses: &mut Vec<ResolvedClause>,
     rest: &[FurtherName],
-) -> Result<(), SourceFault>
+) -> SourceResult<()>
     ensures checked { ChecksNames result listing.now listed.old (further_names rest.now) }
     ensures listed { ListsNames result listing.now listed.old listed.new (further_names rest.now) }
     ensures resolved { AddsFurther result listing.now clauses.old clauses.new rest.now }
@@ -175,7 +175,7 @@ fn list_names(
     clauses: &mut Vec<ResolvedClause>,
     first: &Name,
     rest: &[FurtherName],
-) -> Result<(), SourceFault>
+) -> SourceResult<()>
     ensures checked { ChecksNames result listing.now listed.old (names_in first.now rest.now) }
     ensures listed { ListsAll result listing.now listed.old listed.new first.now rest.now }
     ensures resolved { AddsAll result listing.now clauses.old clauses.new first.now rest.now }
@@ -203,7 +203,7 @@ fn resolve_clause(
     listed: &mut Listed,
     clauses: &mut Vec<ResolvedClause>,
     clause: &Clause<Expression>,
-) -> Result<(), SourceFault>
+) -> SourceResult<()>
     ensures checked { ChecksClause result symbols.now listed.old clause.now }
     ensures listed { OnOk result (listed.new ≡ after_clause listed.old (view_clause clause.now)) }
     ensures resolved { AddsClause result symbols.now clauses.old clauses.new clause.now }
@@ -250,7 +250,7 @@ fn resolve_clauses(
     alloc: Global,
     symbols: &Symbols,
     items: &[ClauseItem<Expression>],
-) -> Result<(Listed, Vec<ResolvedClause>), SourceFault>
+) -> SourceResult<(Listed, Vec<ResolvedClause>)>
     ensures found { ResolvesClauses result symbols.now (view_items items.now) }
     ensures listed { IfOk result (λ taken. taken.0 ≡ listed_in (view_items items.now)) }
 {
@@ -272,7 +272,7 @@ pub fn resolve_directive(
     symbols: &Symbols,
     flow: Flow,
     directive: &Directive<Expression>,
-) -> Result<(Listed, Vec<ResolvedClause>), SourceFault>
+) -> SourceResult<(Listed, Vec<ResolvedClause>)>
     ensures found { ResolvesDirective result symbols.now flow (view_directive directive.now) }
     ensures listed { IfOk result (λ taken. taken.0 ≡ listed_by (view_directive directive.now)) }
 {
@@ -281,7 +281,7 @@ pub fn resolve_directive(
 }
 
 // A variable that a `flush` names: S7, S9, S13.
-fn resolve_flushed(alloc: Global, symbols: &Symbols, name: &Name) -> Result<Variable, SourceFault>
+fn resolve_flushed(alloc: Global, symbols: &Symbols, name: &Name) -> SourceResult<Variable>
     ensures checked { ChecksExactly result (flushed_breaches symbols.now name.now) }
     ensures resolved { Finds (λ found. found) result (variable_named symbols.now name.now) }
 {
@@ -294,7 +294,7 @@ fn resolve_further_flushed(
     symbols: &Symbols,
     variables: &mut Vec<Variable>,
     rest: &[FurtherName],
-) -> Result<(), SourceFault>
+) -> SourceResult<()>
     ensures checked { ChecksFlushed result symbols.now (further_names rest.now) }
     ensures resolved { AddsFlushed result symbols.now variables.old variables.new rest.now }
 {
@@ -310,7 +310,7 @@ fn resolve_names(
     symbols: &Symbols,
     first: &Name,
     rest: &[FurtherName],
-) -> Result<Seq<Variable>, SourceFault>
+) -> SourceResult<Seq<Variable>>
     ensures { ResolvesFlushed result symbols.now (names_in first.now rest.now) }
 {
     let mut variables = Vec::new(alloc);
@@ -326,7 +326,7 @@ pub fn resolve_flush(
     alloc: Global,
     symbols: &Symbols,
     list: &Option<NameList>,
-) -> Result<Seq<Variable>, SourceFault>
+) -> SourceResult<Seq<Variable>>
     ensures { ResolvesFlush result symbols.now list.now }
 {
     match list {

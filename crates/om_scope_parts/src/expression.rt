@@ -15,7 +15,7 @@ use crate::call::{argument_count, call_of, resolve_format};
 use crate::fault::refuse_among;
 use crate::kept::{add, boxed};
 use crate::target::{Target, assigned, is_target, misplaced, stepped};
-use om_lexer::{FaultCode, SourceFault};
+use om_lexer::{FaultCode, SourceFault, SourceResult};
 use om_parser_tree::{Argument, AssignOperator, Expression, Name, Number, PrefixOperator};
 use om_scope_rules::{PRINTED_LIMIT, expression_start};
 use om_scope_symbols::{Symbols, is_printf, misuse, resolve_array, resolve_callee, resolve_scalar};
@@ -29,7 +29,7 @@ pub fn resolve_expression(
     symbols: &Symbols,
     for_value: bool,
     expression: &Expression,
-) -> Result<ResolvedExpression, SourceFault>
+) -> SourceResult<ResolvedExpression>
     ensures { ResolvesExpression view.expression result symbols.now for_value expression.now }
 {
     match expression {
@@ -111,7 +111,7 @@ pub fn boxed_expression(
     symbols: &Symbols,
     for_value: bool,
     expression: &Expression,
-) -> Result<Box<ResolvedExpression>, SourceFault>
+) -> SourceResult<Box<ResolvedExpression>>
     ensures { ResolvesExpression view_boxed result symbols.now for_value expression.now }
 {
     boxed(
@@ -129,7 +129,7 @@ pub fn unboxed(expression: Option<Box<ResolvedExpression>>) -> Option<ResolvedEx
 }
 
 /// The value of a constant: S10.
-pub fn constant_of(number: &Number) -> Result<i32, SourceFault>
+pub fn constant_of(number: &Number) -> SourceResult<i32>
     ensures checked { ChecksExactly result (constant_breaches number.now) }
     ensures value { IfOk result (λ value. value ≡ pos number.now.value) }
 {
@@ -149,7 +149,7 @@ fn resolve_prefix(
     symbols: &Symbols,
     operator: PrefixOperator,
     operand: &Expression,
-) -> Result<ResolvedExpression, SourceFault>
+) -> SourceResult<ResolvedExpression>
     ensures { ResolvesPrefix result symbols.now operator operand.now }
 {
     match operator {
@@ -170,7 +170,7 @@ fn resolve_step(
     symbols: &Symbols,
     operator: AssignOperator,
     operand: &Expression,
-) -> Result<ResolvedExpression, SourceFault>
+) -> SourceResult<ResolvedExpression>
     ensures { ResolvesStep result symbols.now operator operand.now }
 {
     let target = resolve_target(alloc, symbols, operand)?;
@@ -185,7 +185,7 @@ fn resolve_unary(
     symbols: &Symbols,
     operator: UnaryOperator,
     operand: &Expression,
-) -> Result<ResolvedExpression, SourceFault>
+) -> SourceResult<ResolvedExpression>
     ensures { ResolvesUnary result symbols.now operator operand.now }
 {
     let operand = boxed_expression(alloc, symbols, true, operand)?;
@@ -194,11 +194,7 @@ fn resolve_unary(
 
 // What is assigned to.
 #[cycle(expression)]
-fn resolve_target(
-    alloc: Global,
-    symbols: &Symbols,
-    target: &Expression,
-) -> Result<Target, SourceFault>
+fn resolve_target(alloc: Global, symbols: &Symbols, target: &Expression) -> SourceResult<Target>
     ensures { ResolvesTarget result symbols.now target.now }
 {
     match target {
@@ -225,7 +221,7 @@ fn resolve_element(
     symbols: &Symbols,
     name: &Name,
     index: &Expression,
-) -> Result<(Variable, Box<ResolvedExpression>), SourceFault>
+) -> SourceResult<(Variable, Box<ResolvedExpression>)>
     ensures index { ResolvesElement result symbols.now name.now index.now }
     ensures array { Finds (λ found. found.0) result (variable_named symbols.now name.now) }
 {
@@ -242,7 +238,7 @@ fn resolve_call(
     for_value: bool,
     name: &Name,
     values: &[Argument],
-) -> Result<ResolvedExpression, SourceFault>
+) -> SourceResult<ResolvedExpression>
     ensures { ResolvesCall result symbols.now for_value name.now values.now }
 {
     if is_printf(symbols.meaning_of(name.text.as_slice())) {
@@ -259,7 +255,7 @@ fn resolve_print(
     for_value: bool,
     name: &Name,
     values: &[Argument],
-) -> Result<ResolvedExpression, SourceFault>
+) -> SourceResult<ResolvedExpression>
     ensures { ResolvesPrint result symbols.now for_value name.now values.now }
 {
     let format = resolve_format(alloc, for_value, name, values)?;
@@ -276,7 +272,7 @@ fn resolve_printed(
     alloc: Global,
     symbols: &Symbols,
     values: &[Argument],
-) -> Result<Vec<ResolvedExpression>, SourceFault>
+) -> SourceResult<Vec<ResolvedExpression>>
     ensures { ResolvesPrinted result symbols.now values.now }
 {
     let mut resolved = Vec::new(alloc);
@@ -300,7 +296,7 @@ fn resolve_argument(
     symbols: &Symbols,
     place: usize,
     argument: &Expression,
-) -> Result<ResolvedExpression, SourceFault>
+) -> SourceResult<ResolvedExpression>
     requires { 0 < place }
     ensures { ResolvesArgument result symbols.now place argument.now }
 {
@@ -317,7 +313,7 @@ fn resolve_own_call(
     for_value: bool,
     name: &Name,
     values: &[Argument],
-) -> Result<ResolvedExpression, SourceFault>
+) -> SourceResult<ResolvedExpression>
     ensures { ResolvesOwnCall result symbols.now for_value name.now values.now }
 {
     let place = resolve_callee(symbols, for_value, name, argument_count(values))?;
@@ -331,7 +327,7 @@ fn resolve_values(
     alloc: Global,
     symbols: &Symbols,
     values: &[Argument],
-) -> Result<Vec<ResolvedExpression>, SourceFault>
+) -> SourceResult<Vec<ResolvedExpression>>
     ensures { ResolvesValues result symbols.now values.now }
 {
     let mut resolved = Vec::new(alloc);

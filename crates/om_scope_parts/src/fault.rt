@@ -4,7 +4,7 @@ ghost use Rattle.std.specs.Prelude.{◌≡◌, IfOk, Ok};
 ghost use Rattle.om_scope_rules.specs.Faults.{answered_among, goes_first};
 ghost use Rattle.om_scope_parts.specs.Keeps.{IsFaultOfLoop, RefusesAmong};
 
-use om_lexer::{FaultCode, SourceFault};
+use om_lexer::{FaultCode, SourceFault, SourceResult};
 use om_scope_tree::ResolvedExpression;
 
 // Whether a refusal is answered before another one: it stands before it, or at the same place and
@@ -35,11 +35,11 @@ fn fault_among(fault: Option<SourceFault>, further: SourceFault) -> SourceFault
 /// What is answered of a part whose check answered `checked`, where a further rule of it is broken
 /// or not.
 pub fn refuse_among(
-    checked: Result<ResolvedExpression, SourceFault>,
+    checked: SourceResult<ResolvedExpression>,
     broken: bool,
     code: FaultCode,
     at: u32,
-) -> Result<ResolvedExpression, SourceFault>
+) -> SourceResult<ResolvedExpression>
     ensures checked { RefusesAmong checked broken code at result }
     ensures kept { IfOk result (λ found. checked ≡ Ok found) }
 {
@@ -51,7 +51,7 @@ pub fn refuse_among(
 
 /// What is answered of a statement whose check answered `checked`, where a canonical loop had to stand
 /// (OpenMP API 5.2, section 4.4.1): S12 at its first byte, or a refusal that goes before that.
-pub fn loop_fault<T: Drop>(checked: Result<T, SourceFault>, at: u32) -> SourceFault
+pub fn loop_fault<T: Drop>(checked: SourceResult<T>, at: u32) -> SourceFault
     ensures { IsFaultOfLoop checked at result }
 {
     let form = SourceFault {

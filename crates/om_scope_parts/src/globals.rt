@@ -12,7 +12,7 @@ ghost use Rattle.om_scope_parts.specs.Declares.{further_globals, global_tree, gl
 
 use crate::declaration::{cells_of, check_new, check_size, copy_of, length_of, shape_of};
 use crate::expression::constant_of;
-use om_lexer::{FaultCode, SourceFault, Span};
+use om_lexer::{FaultCode, SourceResult, Span};
 use om_parser_tree::{Declaration, Declarator, Initializer, SignedNumber};
 use om_scope_rules::GLOBAL_CELL_LIMIT;
 use om_scope_symbols::{Symbols, refuse_if};
@@ -20,7 +20,7 @@ use om_scope_tree::GlobalVariable;
 use std::alloc::Global;
 
 // What a number stands for, with its minus: S10.
-fn value_of(signed: &SignedNumber) -> Result<i32, SourceFault>
+fn value_of(signed: &SignedNumber) -> SourceResult<i32>
     ensures checked { ChecksExactly result (constant_breaches signed.now.number) }
     ensures value { IfOk result (λ value. value ≡ signed_value signed.now) }
 {
@@ -32,7 +32,7 @@ fn value_of(signed: &SignedNumber) -> Result<i32, SourceFault>
 }
 
 // What a global holds at the start.
-fn initial_of(initializer: &Option<Initializer<SignedNumber>>) -> Result<i32, SourceFault>
+fn initial_of(initializer: &Option<Initializer<SignedNumber>>) -> SourceResult<i32>
     ensures checked { ChecksExactly result (initial_breaches (initial_tree initializer.now)) }
     ensures value { IfOk result (λ value. value ≡ initial_of (initial_tree initializer.now)) }
 {
@@ -43,10 +43,7 @@ fn initial_of(initializer: &Option<Initializer<SignedNumber>>) -> Result<i32, So
 }
 
 // That a name may be that of a further global: S8, S9, S11.
-fn check_global_name(
-    symbols: &Symbols,
-    declarator: &Declarator<SignedNumber>,
-) -> Result<(), SourceFault>
+fn check_global_name(symbols: &Symbols, declarator: &Declarator<SignedNumber>) -> SourceResult<()>
     ensures checked { ChecksExactly result (name_breaches_of symbols.now declarator.now) }
     ensures has_room { OnOk result (HasCellsFor symbols.now declarator.now) }
     ensures has_cells { OnOk result (0 < cells_of declarator.now.array) }
@@ -66,7 +63,7 @@ fn declare_global_name(
     alloc: Global,
     symbols: &mut Symbols,
     declarator: &Declarator<SignedNumber>,
-) -> Result<(), SourceFault>
+) -> SourceResult<()>
     ensures checked { Checks result (name_breaches_of symbols.old declarator.now) }
     ensures in_scope { DeclaresGlobal result symbols.old symbols.new declarator.now }
 {
@@ -82,7 +79,7 @@ fn add_global(
     alloc: Global,
     globals: &mut Vec<GlobalVariable>,
     declarator: &Declarator<SignedNumber>,
-) -> Result<(), SourceFault>
+) -> SourceResult<()>
     ensures checked { Checks result (initial_breaches (global_tree declarator.now).initializer) }
     ensures declared { AppendsGlobal result globals.old globals.new declarator.now }
 {
@@ -102,7 +99,7 @@ fn declare_global(
     symbols: &mut Symbols,
     globals: &mut Vec<GlobalVariable>,
     declarator: &Declarator<SignedNumber>,
-) -> Result<(), SourceFault>
+) -> SourceResult<()>
     ensures checked { Checks result (global_breaches symbols.old (global_tree declarator.now)) }
     ensures in_scope { DeclaresGlobal result symbols.old symbols.new declarator.now }
     ensures declared { AppendsGlobal result globals.old globals.new declarator.now }
@@ -117,7 +114,7 @@ fn declare_further_globals(
     symbols: &mut Symbols,
     globals: &mut Vec<GlobalVariable>,
     rest: &[(Span, Declarator<SignedNumber>)],
-) -> Result<(), SourceFault>
+) -> SourceResult<()>
     ensures checked { Checks result (globals_breaches symbols.old (further_globals rest.now)) }
     ensures in_scope { DeclaresGlobals result symbols.old symbols.new (further_globals rest.now) }
     ensures declared { AppendsGlobals result globals.old globals.new (further_globals rest.now) }
@@ -138,7 +135,7 @@ pub fn declare_globals(
     symbols: &mut Symbols,
     globals: &mut Vec<GlobalVariable>,
     declaration: &Declaration<SignedNumber>,
-) -> Result<(), SourceFault>
+) -> SourceResult<()>
     ensures checked { Checks result (globals_breaches symbols.old (globals_in declaration.now)) }
     ensures in_scope { DeclaresGlobals result symbols.old symbols.new (globals_in declaration.now) }
     ensures declared { AppendsGlobals result globals.old globals.new (globals_in declaration.now) }

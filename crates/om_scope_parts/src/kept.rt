@@ -3,11 +3,11 @@
 ghost use Rattle.std.specs.Prelude.{◌≡◌, IfOk, OnOk, Ok};
 ghost use Rattle.om_scope_parts.specs.Keeps.{IsPushed, KeepsRefusals};
 
-use om_lexer::SourceFault;
+use om_lexer::SourceResult;
 use std::alloc::Global;
 
 /// What was found, in a box. A refusal stays; S0 is out of memory.
-pub fn boxed<T: Drop>(alloc: Global, found: Result<T, SourceFault>) -> Result<Box<T>, SourceFault>
+pub fn boxed<T: Drop>(alloc: Global, found: SourceResult<T>) -> SourceResult<Box<T>>
     ensures checked { KeepsRefusals found result }
     ensures kept { IfOk result (λ made. found ≡ Ok made.value) }
 {
@@ -16,7 +16,7 @@ pub fn boxed<T: Drop>(alloc: Global, found: Result<T, SourceFault>) -> Result<Bo
 }
 
 /// Adds what was found behind the items of a list. A refusal stays; S0 is out of memory.
-pub fn add<T: Drop>(items: &mut Vec<T>, found: Result<T, SourceFault>) -> Result<(), SourceFault>
+pub fn add<T: Drop>(items: &mut Vec<T>, found: SourceResult<T>) -> SourceResult<()>
     ensures checked { KeepsRefusals found result }
     ensures added { OnOk result (IsPushed found items.old.items items.new.items) }
 {

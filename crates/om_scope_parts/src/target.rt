@@ -9,7 +9,7 @@ ghost use Rattle.om_scope_rules.specs.Resolution.{assigned, stepped};
 ghost use Rattle.om_scope_parts.specs.TargetViews.{first_misplaced, view_target};
 ghost use Rattle.om_scope_parts.specs.Views.{view_boxed};
 
-use om_lexer::SourceFault;
+use om_lexer::{SourceFault, SourceResult};
 use om_parser_tree::{AssignOperator, Expression, PostfixOperator};
 use om_scope_rules::expression_start;
 use om_scope_symbols::{Symbols, check_declared, misuse};
@@ -27,7 +27,7 @@ pub fn misplaced(symbols: &Symbols, expression: &Expression) -> SourceFault
 }
 
 // The name that an expression begins with: S7.
-fn check_leading(symbols: &Symbols, expression: &Expression) -> Result<(), SourceFault>
+fn check_leading(symbols: &Symbols, expression: &Expression) -> SourceResult<()>
     ensures { ChecksExactly result (leading_breaches symbols.now (view_expression expression.now)) }
 {
     match expression {

@@ -5,7 +5,8 @@ ghost use Rattle.std.specs.List.{IsDistinct, list_any};
 ghost use Rattle.std.specs.Str.{bytes_eq};
 ghost use Rattle.om_scope_rules.specs.NameLists.{same_name, with_name};
 
-use std::alloc::{AllocError, Global};
+use om_seq::AllocResult;
+use std::alloc::Global;
 use std::collections::BTreeMap;
 use std::marker::Model;
 
@@ -80,7 +81,7 @@ impl Names {
     }
 
     /// Adds a name, unless it is there. When out of memory, nothing changes.
-    pub fn add(&mut self, alloc: Global, name: &[u8]) -> Result<(), AllocError>
+    pub fn add(&mut self, alloc: Global, name: &[u8]) -> AllocResult<()>
         ensures added { OnOk result (self.new ≡ with_name self.old name.now) }
         ensures unchanged_on_error { OnErr result (self.new ≡ self.old) }
     {

@@ -11,7 +11,8 @@ use om_parser_tree::Name;
 use om_pragma::{DataSharing, Sharing};
 use om_scope_rules::{Meaning, Names, Region, RegionKind};
 use om_scope_tree::{Shape, Variable};
-use std::alloc::{AllocError, Global};
+use om_seq::AllocResult;
+use std::alloc::Global;
 use std::marker::Model;
 
 /// What the clauses of a directive say of variables.
@@ -55,7 +56,7 @@ fn add_copy(
     alloc: Global,
     name: &[u8],
     copy: Meaning,
-) -> Result<(), AllocError>
+) -> AllocResult<()>
     requires is_new { is_some (lookup (bytes_eq name.now) copies.old) ≡ false }
     requires named { copied.old ≡ keys_of copies.old }
     ensures added { OnOk result (copies.new ≡ copies.old ++ (name.now, copy) ∷ []) }
@@ -100,12 +101,7 @@ impl Listed {
 
     /// Notes a name that stands in the list of a clause. One of a `reduction` comes as `Firstprivate`: the
     /// construct has a copy of it.
-    pub fn add(
-        &mut self,
-        alloc: Global,
-        sharing: DataSharing,
-        name: &Name,
-    ) -> Result<(), AllocError>
+    pub fn add(&mut self, alloc: Global, sharing: DataSharing, name: &Name) -> AllocResult<()>
         requires is_new { is_listed self.old name.now.text ≡ false }
         ensures { OnOk result (self.new ≡ after_name sharing self.old name.now) }
     {

@@ -8,7 +8,8 @@ ghost use Rattle.om_scope_symbols.specs.Stacks.{without_innermost};
 use crate::landmark::{Landmark, Marks, marks_behind};
 use crate::stacks::Stacks;
 use om_scope_rules::Names;
-use std::alloc::{AllocError, Global};
+use om_seq::AllocResult;
+use std::alloc::Global;
 
 /// Notes the names that a construct lists. So many scopes stand round the one in it, and these
 /// constructs round itself.
@@ -18,7 +19,7 @@ pub fn list(
     inside: usize,
     all: Marks,
     names: &Names,
-) -> Result<(), AllocError>
+) -> AllocResult<()>
     ensures { OnOk result (AddsListings inside all listings.old listings.new names.now) }
 {
     for name in names.as_slice() {

@@ -8,13 +8,13 @@ ghost use Rattle.om_scope_rules.specs.Resolution.{callee_named, variable_named, 
 
 use crate::refusal::refuse_if;
 use crate::symbols::Symbols;
-use om_lexer::{FaultCode, SourceFault};
+use om_lexer::{FaultCode, SourceFault, SourceResult};
 use om_parser_tree::Name;
 use om_scope_rules::Meaning;
 use om_scope_tree::{Shape, Variable};
 
 /// S7 at a name.
-pub fn check_declared(symbols: &Symbols, name: &Name) -> Result<(), SourceFault>
+pub fn check_declared(symbols: &Symbols, name: &Name) -> SourceResult<()>
     ensures { ChecksExactly result (undeclared_breaches symbols.now name.now) }
 {
     let meaning = symbols.meaning_of(name.text.as_slice());
@@ -71,7 +71,7 @@ pub fn misuse(at: u32) -> SourceFault
 }
 
 /// The variable of a name that is used as a scalar: S7, S9, S13.
-pub fn resolve_scalar(symbols: &Symbols, name: &Name) -> Result<Variable, SourceFault>
+pub fn resolve_scalar(symbols: &Symbols, name: &Name) -> SourceResult<Variable>
     ensures checked { ChecksExactly result (scalar_breaches symbols.now name.now) }
     ensures resolved { Finds (λ found. found) result (variable_named symbols.now name.now) }
 {
@@ -83,7 +83,7 @@ pub fn resolve_scalar(symbols: &Symbols, name: &Name) -> Result<Variable, Source
 }
 
 // The variable of a name of this meaning that is used as a scalar at a place: S9.
-fn scalar_meant(meaning: Option<Meaning>, at: u32) -> Result<Variable, SourceFault>
+fn scalar_meant(meaning: Option<Meaning>, at: u32) -> SourceResult<Variable>
     ensures checked { ChecksExactly result (misused_scalar_breaches meaning at) }
     ensures resolved { Finds (λ found. found) result (variable_of meaning) }
 {
@@ -94,7 +94,7 @@ fn scalar_meant(meaning: Option<Meaning>, at: u32) -> Result<Variable, SourceFau
 }
 
 // A variable that the constructs round the place have to list: S13.
-fn check_is_listed(symbols: &Symbols, name: &Name) -> Result<(), SourceFault>
+fn check_is_listed(symbols: &Symbols, name: &Name) -> SourceResult<()>
     ensures { ChecksExactly result (unlisted_breaches symbols.now name.now) }
 {
     let broken = symbols.is_unlisted(name.text.as_slice());
@@ -102,7 +102,7 @@ fn check_is_listed(symbols: &Symbols, name: &Name) -> Result<(), SourceFault>
 }
 
 /// The variable of a name that is used as an array: S7, S9, S13.
-pub fn resolve_array(symbols: &Symbols, name: &Name) -> Result<Variable, SourceFault>
+pub fn resolve_array(symbols: &Symbols, name: &Name) -> SourceResult<Variable>
     ensures checked { ChecksExactly result (array_breaches symbols.now name.now) }
     ensures resolved { Finds (λ found. found) result (variable_named symbols.now name.now) }
 {
@@ -119,7 +119,7 @@ pub fn resolve_array(symbols: &Symbols, name: &Name) -> Result<Variable, SourceF
 
 // The variable of a name of this meaning that is used as an array at a place, which a `task` would
 // copy or not: S9.
-fn array_meant(meaning: Option<Meaning>, is_copied: bool, at: u32) -> Result<Variable, SourceFault>
+fn array_meant(meaning: Option<Meaning>, is_copied: bool, at: u32) -> SourceResult<Variable>
     ensures checked { ChecksExactly result (misused_array_breaches meaning is_copied at) }
     ensures resolved { Finds (λ found. found) result (variable_of meaning) }
 {
@@ -138,7 +138,7 @@ pub fn resolve_callee(
     for_value: bool,
     name: &Name,
     count: usize,
-) -> Result<usize, SourceFault>
+) -> SourceResult<usize>
     ensures checked { ChecksExactly result (call_breaches symbols.now for_value name.now count) }
     ensures resolved { Finds (λ found. found) result (callee_named symbols.now name.now) }
 {
@@ -150,12 +150,7 @@ pub fn resolve_callee(
 }
 
 // A name that is called with so many values: S7, S9.
-fn check_called(
-    symbols: &Symbols,
-    for_value: bool,
-    name: &Name,
-    count: usize,
-) -> Result<(), SourceFault>
+fn check_called(symbols: &Symbols, for_value: bool, name: &Name, count: usize) -> SourceResult<()>
     ensures { ChecksExactly result (call_breaches symbols.now for_value name.now count) }
 {
     check_declared(symbols, name)?;

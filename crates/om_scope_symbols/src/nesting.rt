@@ -10,7 +10,8 @@ use crate::listing::{list, unlist};
 use crate::stacks::Stacks;
 use om_pragma::Sharing;
 use om_scope_rules::{Region, RegionKind};
-use std::alloc::{AllocError, Global};
+use om_seq::AllocResult;
+use std::alloc::Global;
 use std::marker::Model;
 use std::mem;
 
@@ -159,7 +160,7 @@ impl Nesting {
         depth: usize,
         inside: usize,
         region: Region,
-    ) -> Result<(), AllocError>
+    ) -> AllocResult<()>
         requires nested { AreNested self.old depth }
         requires next { inside ≡ suc depth }
         ensures entered { OnOk result (self.new ≡ entered depth region self.old) }

@@ -3,7 +3,8 @@
 ghost use Rattle.std.specs.Prelude.{◌≡◌, [], OnOk, OnErr};
 ghost use Rattle.om_scope_symbols.specs.Stacks.{ChangedAt, Unchanged, innermost_of, seen_in, with_innermost, without_innermost};
 
-use std::alloc::{AllocError, Global};
+use om_seq::AllocResult;
+use std::alloc::Global;
 use std::collections::BTreeMap;
 use std::marker::Model;
 
@@ -51,7 +52,7 @@ impl<T: Copy + Drop> Stacks<T> {
     }
 
     /// Notes an item of a name, as its innermost. When out of memory, nothing changes.
-    pub fn note(&mut self, alloc: Global, name: &[u8], item: T) -> Result<(), AllocError>
+    pub fn note(&mut self, alloc: Global, name: &[u8], item: T) -> AllocResult<()>
         ensures noted { OnOk result (ChangedAt (with_innermost item) self.old self.new name.now) }
         ensures unchanged_on_error { OnErr result (Unchanged self.old self.new) }
     {

@@ -13,7 +13,8 @@ use crate::table::{Table, enter_scope};
 use om_parser_tree::Name;
 use om_scope_rules::{Meaning, Names, Region, Signature};
 use om_scope_tree::{Shape, Variable};
-use std::alloc::{AllocError, Global};
+use om_seq::AllocResult;
+use std::alloc::Global;
 use std::marker::Model;
 use std::mem;
 
@@ -80,7 +81,7 @@ impl Model for Symbols {
 }
 
 /// Adds the functions that are declared before any source to no names.
-pub fn add_predeclared(alloc: Global, names: &mut Names) -> Result<(), AllocError>
+pub fn add_predeclared(alloc: Global, names: &mut Names) -> AllocResult<()>
     requires is_empty { names.old ≡ [] }
     ensures { OnOk result (names.new ≡ predeclared) }
 {
@@ -107,7 +108,7 @@ impl Symbols {
     }
 
     /// Declares what is there before any source.
-    pub fn begin_file(&mut self, alloc: Global) -> Result<(), AllocError>
+    pub fn begin_file(&mut self, alloc: Global) -> AllocResult<()>
         requires is_empty { self.old ≡ nothing_declared self.old.definitions }
         ensures { OnOk result (self.new ≡ file_scope self.old.definitions) }
     {
@@ -122,7 +123,7 @@ impl Symbols {
     }
 
     // Declares a name. When out of memory, nothing changes.
-    fn declare(&mut self, alloc: Global, name: &[u8], meaning: Meaning) -> Result<(), AllocError>
+    fn declare(&mut self, alloc: Global, name: &[u8], meaning: Meaning) -> AllocResult<()>
         requires is_new { is_declared self.old name.now ≡ false }
         ensures { OnOk result (self.new ≡ with_bindings self.old ((name.now, meaning) ∷ [])) }
     {
@@ -206,7 +207,7 @@ impl Symbols {
     }
 
     /// Enters a block, in which nothing is declared yet.
-    pub fn enter(&mut self, alloc: Global) -> Result<(), AllocError>
+    pub fn enter(&mut self, alloc: Global) -> AllocResult<()>
         ensures { OnOk result (self.new ≡ inside self.old) }
     {
         self.outer.reserve(1)?;
@@ -215,7 +216,7 @@ impl Symbols {
     }
 
     // Enters a construct, in which nothing is declared yet.
-    fn begin(&mut self, alloc: Global, region: Region) -> Result<(), AllocError>
+    fn begin(&mut self, alloc: Global, region: Region) -> AllocResult<()>
         ensures { OnOk result (self.new ≡ within [] region self.old) }
     {
         let depth = self.outer.len();
@@ -226,12 +227,7 @@ impl Symbols {
 
     /// Enters a construct in which these names are declared. When out of memory, it is not said what is in
     /// scope.
-    pub fn enter_region(
-        &mut self,
-        alloc: Global,
-        copies: &Table,
-        region: Region,
-    ) -> Result<(), AllocError>
+    pub fn enter_region(&mut self, alloc: Global, copies: &Table, region: Region) -> AllocResult<()>
         ensures { OnOk result (self.new ≡ within copies.now region self.old) }
     {
         self.begin(alloc, region)?;
@@ -252,12 +248,7 @@ impl Symbols {
     }
 
     /// Declares a name as a variable of a function.
-    pub fn declare_local(
-        &mut self,
-        alloc: Global,
-        name: &Name,
-        shape: Shape,
-    ) -> Result<(), AllocError>
+    pub fn declare_local(&mut self, alloc: Global, name: &Name, shape: Shape) -> AllocResult<()>
         requires is_new { is_declared self.old name.now.text ≡ false }
         ensures { OnOk result (self.new ≡ with_local self.old name.now shape) }
     {
@@ -271,7 +262,7 @@ impl Symbols {
         alloc: Global,
         name: &[u8],
         signature: Signature,
-    ) -> Result<(), AllocError>
+    ) -> AllocResult<()>
         requires is_new { is_declared self.old name.now ≡ false }
         ensures { OnOk result (self.new ≡ with_function self.old name.now signature) }
     {
@@ -285,7 +276,7 @@ impl Symbols {
         name: &[u8],
         shape: Shape,
         cells: u32,
-    ) -> Result<(), AllocError>
+    ) -> AllocResult<()>
         requires is_new { is_declared self.old name.now ≡ false }
         requires has_cells { 0 < cells }
         requires has_room { self.old.cells + cells < 2 ^ 32 }
@@ -299,7 +290,7 @@ impl Symbols {
     }
 
     /// Notes that a function is defined.
-    pub fn define(&mut self, alloc: Global, name: &[u8]) -> Result<(), AllocError>
+    pub fn define(&mut self, alloc: Global, name: &[u8]) -> AllocResult<()>
         ensures { OnOk result (self.new ≡ with_defined self.old name.now) }
     {
         self.defined.add(alloc, name)

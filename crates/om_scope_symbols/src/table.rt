@@ -9,7 +9,8 @@ ghost use Rattle.om_scope_symbols.specs.Sightings.{TakesLast};
 ghost use Rattle.om_scope_symbols.specs.Stacks.{without_innermost};
 
 use om_scope_rules::Meaning;
-use std::alloc::{AllocError, Global};
+use om_seq::AllocResult;
+use std::alloc::Global;
 use std::marker::Model;
 use std::mem;
 
@@ -59,7 +60,7 @@ impl Table {
     }
 
     /// Puts a new name into a table, as the last. When out of memory, the table stays.
-    pub fn put(&mut self, alloc: Global, name: &[u8], meaning: Meaning) -> Result<(), AllocError>
+    pub fn put(&mut self, alloc: Global, name: &[u8], meaning: Meaning) -> AllocResult<()>
         requires is_new { is_some (lookup (bytes_eq name.now) self.old) ≡ false }
         ensures put { OnOk result (self.new ≡ self.old ++ (name.now, meaning) ∷ []) }
         ensures unchanged_on_error { OnErr result (self.new ≡ self.old) }

@@ -5,14 +5,13 @@ ghost use Rattle.om_scope_tree.specs.Captures.{captured, is_before, taken_by_par
 ghost use Rattle.om_scope_tree.specs.Taken.{Produces, found_from, listed_from, parallel_captures, taken_from, taken_under, task_captures};
 
 use crate::found::Found;
-use crate::made::Made;
 use crate::resolved::{Capture, CopyKind, ResolvedClause, ResolvedStatement, Taking, Variable};
 use crate::uses::{take_all_listed, take_statement};
-use om_seq::Seq;
+use om_seq::{AllocResult, Seq};
 use std::alloc::Global;
 
 // The variables from outside that the clauses of a region list that begins there.
-fn listed_variables(alloc: Global, start: u32, clauses: &[ResolvedClause]) -> Made<Found>
+fn listed_variables(alloc: Global, start: u32, clauses: &[ResolvedClause]) -> AllocResult<Found>
     ensures { Produces result (found_from start (listed_from start clauses.now)) }
 {
     let mut found = Found::new(alloc, start);
@@ -26,7 +25,7 @@ fn taken_variables(
     start: u32,
     clauses: &[ResolvedClause],
     body: &ResolvedStatement,
-) -> Made<Found>
+) -> AllocResult<Found>
     ensures { Produces result (found_from start (taken_from start clauses.now body.now)) }
 {
     let mut found = listed_variables(alloc, start, clauses)?;
@@ -35,7 +34,7 @@ fn taken_variables(
 }
 
 // Variables as a `parallel` takes them from outside.
-fn captured_by_parallel(alloc: Global, variables: &[u32]) -> Made<Seq<Capture>>
+fn captured_by_parallel(alloc: Global, variables: &[u32]) -> AllocResult<Seq<Capture>>
     ensures { Produces result (captured taken_by_parallel variables.now) }
 {
     let mut captures = Vec::new(alloc);
@@ -54,7 +53,7 @@ pub fn captures_of_parallel(
     start: u32,
     clauses: &[ResolvedClause],
     body: &ResolvedStatement,
-) -> Made<Seq<Capture>>
+) -> AllocResult<Seq<Capture>>
     ensures { Produces result (parallel_captures start clauses.now body.now) }
 {
     let found = taken_variables(alloc, start, clauses, body)?;
@@ -97,7 +96,7 @@ fn captured_by_task(
     sharing: TaskSharing,
     listed: &Found,
     variables: &[u32],
-) -> Made<Seq<Capture>>
+) -> AllocResult<Seq<Capture>>
     ensures { Produces result (captured (taken_under sharing listed.now.variables) variables.now) }
 {
     let mut captures = Vec::new(alloc);
@@ -117,7 +116,7 @@ pub fn captures_of_task(
     start: u32,
     clauses: &[ResolvedClause],
     body: &ResolvedStatement,
-) -> Made<Seq<Capture>>
+) -> AllocResult<Seq<Capture>>
     ensures { Produces result (task_captures sharing start clauses.now body.now) }
 {
     let listed = listed_variables(alloc, start, clauses)?;

@@ -3,9 +3,9 @@
 ghost use Rattle.std.specs.Prelude.{◌≡◌, [], nat_eq};
 ghost use Rattle.std.specs.List.{list_any};
 
-use crate::made::Made;
 use crate::uses::Sighting;
 use indexmap::IndexSet;
+use om_seq::AllocResult;
 use std::alloc::Global;
 use std::marker::Model;
 
@@ -66,7 +66,7 @@ impl Sighting for Found {
 
     ghost next = { with_found };
 
-    fn see(&mut self, variable: u32) -> Made<()> {
+    fn see(&mut self, variable: u32) -> AllocResult<()> {
         if variable < self.start {
             self.variables.insert(variable)?;
         }

@@ -5,12 +5,10 @@
 mod captures;
 mod found;
 pub mod laws;
-mod made;
 mod resolved;
 pub mod uses;
 
 pub use captures::{TaskSharing, captures_of_parallel, captures_of_task};
-pub use made::Made;
 pub use resolved::{
     Capture, ConstructKind, CopyKind, GlobalVariable, LocalVariable, Resolved, ResolvedClause,
     ResolvedDeclarator, ResolvedExpression, ResolvedFunction, ResolvedHead, ResolvedLoop,

@@ -6,12 +6,12 @@ ghost use Rattle.om_scope_tree.specs.Captures.{captured_variable, clause_uses, c
 ghost use Rattle.om_scope_tree.specs.ResolvedView as view;
 ghost use Rattle.om_scope_tree.specs.Used.{SeesUses, used_as_listed, used_by_bounds, used_by_clauses, used_by_declarators, used_by_expression, used_by_head, used_by_itself, used_by_parts, used_by_perhaps, used_by_region, used_by_statement, used_by_statements, used_by_values};
 
-use crate::made::Made;
 use crate::resolved::{
     Capture, CopyKind, ResolvedClause, ResolvedDeclarator, ResolvedExpression, ResolvedHead,
     ResolvedLoop, ResolvedPart, ResolvedStart, ResolvedStatement, ResolvedUpdate, StandAlone,
     Variable,
 };
+use om_seq::AllocResult;
 
 /// What sees the variables that a part of a tree uses, one after the other.
 pub trait Sighting {
@@ -19,12 +19,12 @@ pub trait Sighting {
     ghost next: { Self → ℕ → Self };
 
     /// Sees a variable of the function.
-    fn see(&mut self, variable: u32) -> Made<()>
+    fn see(&mut self, variable: u32) -> AllocResult<()>
         ensures { OnOk result (self.new ≡ next self.old variable) };
 }
 
 /// Notes a variable that is used, where it is one of the function.
-pub fn take<S: Sighting>(seen: &mut S, variable: Variable) -> Made<()>
+pub fn take<S: Sighting>(seen: &mut S, variable: Variable) -> AllocResult<()>
     ensures { SeesUses result S.next (variable_uses variable) seen.old seen.new }
 {
     let Variable::Local(at) = variable else {
@@ -35,7 +35,10 @@ pub fn take<S: Sighting>(seen: &mut S, variable: Variable) -> Made<()>
 
 /// Notes what an expression uses.
 #[cycle(expression)]
-pub fn take_expression<S: Sighting>(seen: &mut S, expression: &ResolvedExpression) -> Made<()>
+pub fn take_expression<S: Sighting>(
+    seen: &mut S,
+    expression: &ResolvedExpression,
+) -> AllocResult<()>
     ensures { SeesUses result S.next (used_by_expression expression.now) seen.old seen.new }
 {
     match expression {
@@ -91,7 +94,7 @@ pub fn take_expression<S: Sighting>(seen: &mut S, expression: &ResolvedExpressio
 
 // Notes what the values of a call use.
 #[cycle(expression)]
-fn take_values<S: Sighting>(seen: &mut S, values: &[ResolvedExpression]) -> Made<()>
+fn take_values<S: Sighting>(seen: &mut S, values: &[ResolvedExpression]) -> AllocResult<()>
     ensures { SeesUses result S.next (used_by_values values.now) seen.old seen.new }
 {
     for value in values {
@@ -101,7 +104,10 @@ fn take_values<S: Sighting>(seen: &mut S, values: &[ResolvedExpression]) -> Made
 }
 
 /// Notes what an expression uses that may be left out.
-pub fn take_perhaps<S: Sighting>(seen: &mut S, expression: &Option<ResolvedExpression>) -> Made<()>
+pub fn take_perhaps<S: Sighting>(
+    seen: &mut S,
+    expression: &Option<ResolvedExpression>,
+) -> AllocResult<()>
     ensures { SeesUses result S.next (used_by_perhaps expression.now) seen.old seen.new }
 {
     let Some(expression) = expression else {
@@ -111,7 +117,10 @@ pub fn take_perhaps<S: Sighting>(seen: &mut S, expression: &Option<ResolvedExpre
 }
 
 // Notes what declarations use.
-fn take_declarators<S: Sighting>(seen: &mut S, declarators: &[ResolvedDeclarator]) -> Made<()>
+fn take_declarators<S: Sighting>(
+    seen: &mut S,
+    declarators: &[ResolvedDeclarator],
+) -> AllocResult<()>
     ensures { SeesUses result S.next (used_by_declarators declarators.now) seen.old seen.new }
 {
     for declarator in declarators {
@@ -121,7 +130,7 @@ fn take_declarators<S: Sighting>(seen: &mut S, declarators: &[ResolvedDeclarator
 }
 
 // Notes what the beginning of a `for` uses.
-fn take_start<S: Sighting>(seen: &mut S, begin: &ResolvedStart) -> Made<()>
+fn take_start<S: Sighting>(seen: &mut S, begin: &ResolvedStart) -> AllocResult<()>
     ensures { SeesUses result S.next (start_uses (view.start begin.now)) seen.old seen.new }
 {
     match begin {
@@ -134,7 +143,11 @@ fn take_start<S: Sighting>(seen: &mut S, begin: &ResolvedStart) -> Made<()>
 }
 
 /// Notes the original of a copy, unless that is private.
-pub fn take_original<S: Sighting>(seen: &mut S, kind: CopyKind, original: Variable) -> Made<()>
+pub fn take_original<S: Sighting>(
+    seen: &mut S,
+    kind: CopyKind,
+    original: Variable,
+) -> AllocResult<()>
     ensures { SeesUses result S.next (copy_uses kind original) seen.old seen.new }
 {
     if matches!(kind, CopyKind::Private) {
@@ -144,7 +157,7 @@ pub fn take_original<S: Sighting>(seen: &mut S, kind: CopyKind, original: Variab
 }
 
 // Notes what a clause uses outside of its construct.
-fn take_clause<S: Sighting>(seen: &mut S, clause: &ResolvedClause) -> Made<()>
+fn take_clause<S: Sighting>(seen: &mut S, clause: &ResolvedClause) -> AllocResult<()>
     ensures { SeesUses result S.next (clause_uses (view.clause clause.now)) seen.old seen.new }
 {
     match clause {
@@ -155,7 +168,7 @@ fn take_clause<S: Sighting>(seen: &mut S, clause: &ResolvedClause) -> Made<()>
 }
 
 // Notes what clauses use outside of their construct.
-fn take_clauses<S: Sighting>(seen: &mut S, clauses: &[ResolvedClause]) -> Made<()>
+fn take_clauses<S: Sighting>(seen: &mut S, clauses: &[ResolvedClause]) -> AllocResult<()>
     ensures { SeesUses result S.next (used_by_clauses clauses.now) seen.old seen.new }
 {
     for clause in clauses {
@@ -165,7 +178,7 @@ fn take_clauses<S: Sighting>(seen: &mut S, clauses: &[ResolvedClause]) -> Made<(
 }
 
 // Notes what a region takes from outside.
-fn take_captures<S: Sighting>(seen: &mut S, captures: &[Capture]) -> Made<()>
+fn take_captures<S: Sighting>(seen: &mut S, captures: &[Capture]) -> AllocResult<()>
     ensures { SeesUses result S.next (map captured_variable captures.now) seen.old seen.new }
 {
     for capture in captures {
@@ -175,7 +188,7 @@ fn take_captures<S: Sighting>(seen: &mut S, captures: &[Capture]) -> Made<()>
 }
 
 // Notes variables that are used.
-fn take_variables<S: Sighting>(seen: &mut S, variables: &[Variable]) -> Made<()>
+fn take_variables<S: Sighting>(seen: &mut S, variables: &[Variable]) -> AllocResult<()>
     ensures { SeesUses result S.next (flat_map variable_uses variables.now) seen.old seen.new }
 {
     for variable in variables {
@@ -185,7 +198,7 @@ fn take_variables<S: Sighting>(seen: &mut S, variables: &[Variable]) -> Made<()>
 }
 
 /// Notes what a directive uses that stands alone.
-pub fn take_stand_alone<S: Sighting>(seen: &mut S, directive: &StandAlone) -> Made<()>
+pub fn take_stand_alone<S: Sighting>(seen: &mut S, directive: &StandAlone) -> AllocResult<()>
     ensures { SeesUses result S.next (stand_alone_uses directive.now) seen.old seen.new }
 {
     let StandAlone::Flush(variables) = directive else {
@@ -199,7 +212,7 @@ pub fn take_region<S: Sighting>(
     seen: &mut S,
     clauses: &[ResolvedClause],
     captures: &[Capture],
-) -> Made<()>
+) -> AllocResult<()>
     ensures { SeesUses result S.next (used_by_region clauses.now captures.now) seen.old seen.new }
 {
     take_clauses(seen, clauses)?;
@@ -207,7 +220,7 @@ pub fn take_region<S: Sighting>(
 }
 
 // Notes what the head of a `for` uses.
-fn take_head<S: Sighting>(seen: &mut S, head: &ResolvedHead) -> Made<()>
+fn take_head<S: Sighting>(seen: &mut S, head: &ResolvedHead) -> AllocResult<()>
     ensures { SeesUses result S.next (used_by_head head.now) seen.old seen.new }
 {
     take_start(seen, &head.start)?;
@@ -220,7 +233,7 @@ fn take_bounds<S: Sighting>(
     seen: &mut S,
     clauses: &[ResolvedClause],
     repeated: &ResolvedLoop,
-) -> Made<()>
+) -> AllocResult<()>
     ensures { SeesUses result S.next (used_by_bounds clauses.now repeated.now) seen.old seen.new }
 {
     take_clauses(seen, clauses)?;
@@ -229,7 +242,7 @@ fn take_bounds<S: Sighting>(
 }
 
 /// Notes what an atomic update uses.
-pub fn take_update<S: Sighting>(seen: &mut S, update: &ResolvedUpdate) -> Made<()>
+pub fn take_update<S: Sighting>(seen: &mut S, update: &ResolvedUpdate) -> AllocResult<()>
     ensures { SeesUses result S.next (update_uses (view.update update.now)) seen.old seen.new }
 {
     take(seen, update.variable)?;
@@ -239,7 +252,7 @@ pub fn take_update<S: Sighting>(seen: &mut S, update: &ResolvedUpdate) -> Made<(
 
 // Notes what a statement uses besides the statements in it. The condition of a `do` stands behind
 // its body, so that nothing is noted of that one.
-fn take_own<S: Sighting>(seen: &mut S, statement: &ResolvedStatement) -> Made<()>
+fn take_own<S: Sighting>(seen: &mut S, statement: &ResolvedStatement) -> AllocResult<()>
     ensures { SeesUses result S.next (used_by_itself statement.now) seen.old seen.new }
 {
     match statement {
@@ -290,7 +303,10 @@ fn take_own<S: Sighting>(seen: &mut S, statement: &ResolvedStatement) -> Made<()
 
 /// Notes what a statement uses.
 #[cycle(statement)]
-pub(crate) fn take_statement<S: Sighting>(seen: &mut S, statement: &ResolvedStatement) -> Made<()>
+pub(crate) fn take_statement<S: Sighting>(
+    seen: &mut S,
+    statement: &ResolvedStatement,
+) -> AllocResult<()>
     ensures { SeesUses result S.next (used_by_statement statement.now) seen.old seen.new }
 {
     take_own(seen, statement)?;
@@ -329,7 +345,7 @@ pub(crate) fn take_statement<S: Sighting>(seen: &mut S, statement: &ResolvedStat
 
 // Notes what statements use.
 #[cycle(statement)]
-fn take_statements<S: Sighting>(seen: &mut S, items: &[ResolvedStatement]) -> Made<()>
+fn take_statements<S: Sighting>(seen: &mut S, items: &[ResolvedStatement]) -> AllocResult<()>
     ensures { SeesUses result S.next (used_by_statements items.now) seen.old seen.new }
 {
     for item in items {
@@ -340,7 +356,7 @@ fn take_statements<S: Sighting>(seen: &mut S, items: &[ResolvedStatement]) -> Ma
 
 // Notes what the parts of `sections` use.
 #[cycle(statement)]
-fn take_parts<S: Sighting>(seen: &mut S, parts: &[ResolvedPart]) -> Made<()>
+fn take_parts<S: Sighting>(seen: &mut S, parts: &[ResolvedPart]) -> AllocResult<()>
     ensures { SeesUses result S.next (used_by_parts parts.now) seen.old seen.new }
 {
     for part in parts {
@@ -350,7 +366,11 @@ fn take_parts<S: Sighting>(seen: &mut S, parts: &[ResolvedPart]) -> Made<()>
 }
 
 /// Notes the original of a copy that is combined into it.
-pub fn take_combined<S: Sighting>(seen: &mut S, kind: CopyKind, original: Variable) -> Made<()>
+pub fn take_combined<S: Sighting>(
+    seen: &mut S,
+    kind: CopyKind,
+    original: Variable,
+) -> AllocResult<()>
     ensures { SeesUses result S.next (combined_uses kind original) seen.old seen.new }
 {
     let CopyKind::Reduction(_) = kind else {
@@ -360,7 +380,7 @@ pub fn take_combined<S: Sighting>(seen: &mut S, kind: CopyKind, original: Variab
 }
 
 // Notes what a clause of a region uses in it.
-fn take_listed<S: Sighting>(seen: &mut S, clause: &ResolvedClause) -> Made<()>
+fn take_listed<S: Sighting>(seen: &mut S, clause: &ResolvedClause) -> AllocResult<()>
     ensures { SeesUses result S.next (listed_uses (view.clause clause.now)) seen.old seen.new }
 {
     match clause {
@@ -371,7 +391,10 @@ fn take_listed<S: Sighting>(seen: &mut S, clause: &ResolvedClause) -> Made<()>
 }
 
 /// Notes what the clauses of a region use in it.
-pub(crate) fn take_all_listed<S: Sighting>(seen: &mut S, clauses: &[ResolvedClause]) -> Made<()>
+pub(crate) fn take_all_listed<S: Sighting>(
+    seen: &mut S,
+    clauses: &[ResolvedClause],
+) -> AllocResult<()>
     ensures { SeesUses result S.next (used_as_listed clauses.now) seen.old seen.new }
 {
     for clause in clauses {

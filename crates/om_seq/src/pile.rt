@@ -2,7 +2,8 @@
 
 ghost use Rattle.std.specs.Prelude.{◌≡◌, ◌++◌, ◌↔◌, ◌≤◌, [], ◌∷◌, IsTrue, IfOk, OnOk, OnErr, length, drop, slice_get, reverse, option_map};
 
-use std::alloc::{AllocError, Global};
+use crate::AllocResult;
+use std::alloc::Global;
 use std::marker::Model;
 
 /// A stack of items, kept as a vector whose last item is the top.
@@ -60,7 +61,7 @@ impl<T> Pile<T> {
     }
 
     /// Pushes an item. When out of memory, the stack is unchanged and the item is gone.
-    pub fn push(&mut self, item: T) -> Result<(), AllocError>
+    pub fn push(&mut self, item: T) -> AllocResult<()>
     where
         T: Drop,
         ensures pushed { OnOk result (self.new ≡ item ∷ self.old) }
@@ -106,7 +107,7 @@ impl<T> Pile<T> {
     }
 
     /// A copy of a stack of plain items; its only error is out of memory.
-    pub fn copy(&self, alloc: Global) -> Result<Pile<T>, AllocError>
+    pub fn copy(&self, alloc: Global) -> AllocResult<Pile<T>>
     where
         T: Copy,
         ensures { IfOk result (λ copy. copy ≡ self.now) }

@@ -4,10 +4,10 @@ ghost use Rattle.om_shell.specs.Places.{refusal_text};
 
 use crate::place::{column_behind, front_of, line_behind};
 use om_lexer::SourceFault;
+use om_seq::AllocResult;
 use om_shell_commands::push_number;
-use std::alloc::AllocError;
 
-fn push_place(text: &mut Vec<u8>, line: usize, column: usize) -> Result<(), AllocError>
+fn push_place(text: &mut Vec<u8>, line: usize, column: usize) -> AllocResult<()>
     ensures { OnOk result
         (text.new.items ≡ text.old.items
         ++ (codes " line " ++ decimal line ++ codes " column " ++ decimal column ++ codes "\n")) }
@@ -20,11 +20,7 @@ fn push_place(text: &mut Vec<u8>, line: usize, column: usize) -> Result<(), Allo
 }
 
 /// Appends the line of a refusal: `refused S2 line 1 column 8`.
-pub(crate) fn push_refusal(
-    text: &mut Vec<u8>,
-    source: &[u8],
-    fault: SourceFault,
-) -> Result<(), AllocError>
+pub(crate) fn push_refusal(text: &mut Vec<u8>, source: &[u8], fault: SourceFault) -> AllocResult<()>
     ensures { OnOk result (text.new.items ≡ text.old.items ++ refusal_text source.now fault) }
 {
     let front = front_of(source, fault.at);

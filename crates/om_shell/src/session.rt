@@ -14,8 +14,9 @@ use crate::lines::{line_end, without_carriage_return};
 use crate::output::send;
 use om_book::Book;
 use om_code::Program;
+use om_seq::AllocResult;
 use om_shell_debugger::Debugger;
-use std::alloc::{AllocError, Global};
+use std::alloc::Global;
 use std::io::Write;
 use std::sync::Wait;
 use std::thread::Threads;
@@ -37,7 +38,7 @@ pub(crate) struct Session<'a, R> {
 
 impl<'a, R: Threads + Wait + Sync> Session<'a, R> {
     /// A session at the start of a program.
-    pub(crate) fn new(host: &Host<'a, R>, program: Program) -> Result<Session<'a, R>, AllocError>
+    pub(crate) fn new(host: &Host<'a, R>, program: Program) -> AllocResult<Session<'a, R>>
         requires at_least_one { 0 < host.now.workers }
         requires at_most_32 { host.now.workers ≤ 32 }
         ensures { IfOk result (λ session. session.debugger ≡ opened program host.now.workers) }
@@ -81,7 +82,7 @@ impl<'a, R: Threads + Wait + Sync> Session<'a, R> {
     }
 
     // Makes the answer to one line. Says whether the session is over.
-    fn say(&mut self, line: &[u8]) -> Result<bool, AllocError>
+    fn say(&mut self, line: &[u8]) -> AllocResult<bool>
         ensures answered { IfOk result
             (λ quits. IsAnswered self.old.debugger line.now self.new.answer.items self.new.debugger
             quits) }
@@ -93,7 +94,7 @@ impl<'a, R: Threads + Wait + Sync> Session<'a, R> {
     }
 
     // Answers one line, behind the answers that are not written yet. Says whether the session is over.
-    fn follow(&mut self, line: &[u8]) -> Result<bool, AllocError>
+    fn follow(&mut self, line: &[u8]) -> AllocResult<bool>
         ensures answered { IfOk result
             (λ quits. (said : List ℕ) × (self.new.text.items ≡ self.old.text.items ++ said)
             × IsAnswered self.old.debugger line.now said self.new.debugger quits) }
@@ -114,11 +115,7 @@ impl<'a, R: Threads + Wait + Sync> Session<'a, R> {
     /// Answers whole lines at the front of the bytes, up to a `quit` or until the answers are enough. They are not
     /// written yet. Answers how many bytes the lines take, and whether one was `quit`. The first `searched` bytes are
     /// known to end no line.
-    pub(crate) fn gather(
-        &mut self,
-        bytes: &[u8],
-        mut searched: usize,
-    ) -> Result<(usize, bool), AllocError>
+    pub(crate) fn gather(&mut self, bytes: &[u8], mut searched: usize) -> AllocResult<(usize, bool)>
         requires within { searched ≤ length bytes.now }
         requires known { HasNoLineEnd (take searched bytes.now) }
         ensures answered { IfOk result

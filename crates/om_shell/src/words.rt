@@ -1,5 +1,6 @@
 //! The words that a program is called with.
 
+use om_seq::AllocResult;
 use std::alloc::{AllocError, Global};
 use std::io;
 use std::rt::Runtime;
@@ -9,7 +10,7 @@ use std::rt::Runtime;
 pub fn words_of<R: Runtime + AllocGlobal>(
     rt: &R,
     alloc: Global,
-) -> Result<Option<Vec<String>>, AllocError> {
+) -> AllocResult<Option<Vec<String>>> {
     match std::env::args(rt) {
         Ok(args) => Ok(Some(args.collect(alloc)?)),
         Err(error) if error.kind() == io::ErrorKind::OutOfMemory => Err(AllocError),

@@ -5,8 +5,8 @@ ghost use Rattle.om_shell_commands.specs.Arguments.{number_of, worker_of, parts_
 
 use crate::command::Variable;
 use om_foot::Name;
-use om_seq::Seq;
-use std::alloc::{AllocError, Global};
+use om_seq::{AllocResult, Seq};
+use std::alloc::Global;
 
 // How many digits a number has at most.
 const MOST_DIGITS: usize = 10;
@@ -88,14 +88,14 @@ fn task_behind(mut name: Name, parts: &[&[u8]]) -> Option<Name>
 }
 
 // The parts of a word, with dots between them.
-fn parts_of(alloc: Global, word: &[u8]) -> Result<Vec<&[u8]>, AllocError>
+fn parts_of(alloc: Global, word: &[u8]) -> AllocResult<Vec<&[u8]>>
     ensures { IfOk result (λ parts. map (λ part. part.now) parts.items ≡ parts_of word.now) }
 {
     word.split(|byte| *byte == b'.').collect(alloc)
 }
 
 /// The name of a task: numbers with dots between them.
-pub(crate) fn task(alloc: Global, word: &[u8]) -> Result<Option<Name>, AllocError>
+pub(crate) fn task(alloc: Global, word: &[u8]) -> AllocResult<Option<Name>>
     ensures { IfOk result (λ task. task ≡ task_of word.now) }
 {
     let parts = parts_of(alloc, word)?;
@@ -113,7 +113,7 @@ fn index(rest: &[u8]) -> Option<u64>
 }
 
 // The variable of this name.
-fn named(alloc: Global, name: &[u8], index: Option<u64>) -> Result<Variable, AllocError>
+fn named(alloc: Global, name: &[u8], index: Option<u64>) -> AllocResult<Variable>
     ensures { IfOk result (λ variable. variable ≡ record { name = name.now; index = index }) }
 {
     Ok(Variable {
@@ -131,7 +131,7 @@ fn bracket(word: &[u8]) -> Option<usize>
 }
 
 // The variable of this name, where the index is one that it has.
-fn indexed(alloc: Global, name: &[u8], index: Option<u64>) -> Result<Option<Variable>, AllocError>
+fn indexed(alloc: Global, name: &[u8], index: Option<u64>) -> AllocResult<Option<Variable>>
     ensures { IfOk result (λ variable. variable ≡ indexed name.now index) }
 {
     let Some(index) = index else {
@@ -141,7 +141,7 @@ fn indexed(alloc: Global, name: &[u8], index: Option<u64>) -> Result<Option<Vari
 }
 
 /// The variable that a word names: `x`, or `a[3]`.
-pub(crate) fn variable_of(alloc: Global, word: &[u8]) -> Result<Option<Variable>, AllocError>
+pub(crate) fn variable_of(alloc: Global, word: &[u8]) -> AllocResult<Option<Variable>>
     ensures { IfOk result (λ variable. variable ≡ variable_of word.now) }
 {
     match bracket(word) {
@@ -151,7 +151,7 @@ pub(crate) fn variable_of(alloc: Global, word: &[u8]) -> Result<Option<Variable>
 }
 
 /// The only word, a variable.
-pub(crate) fn one_variable(alloc: Global, words: &[&[u8]]) -> Result<Option<Variable>, AllocError>
+pub(crate) fn one_variable(alloc: Global, words: &[&[u8]]) -> AllocResult<Option<Variable>>
     ensures { IfOk result (λ variable. variable ≡ one_variable (map (λ word. word.now) words.now)) }
 {
     let [word] = words else {

@@ -8,17 +8,17 @@ use crate::object::push_named;
 use crate::step::{push_entry, push_undone};
 use om_events::{Record, text_of};
 use om_foot::Name;
+use om_seq::AllocResult;
 use om_state::Entry;
 use om_undo_history::{RollReply, Taken};
-use std::alloc::AllocError;
 
-fn push_entry_line(text: &mut Vec<u8>, entry: &Entry) -> Result<(), AllocError>
+fn push_entry_line(text: &mut Vec<u8>, entry: &Entry) -> AllocResult<()>
     ensures { OnOk result (text.new.items ≡ text.old.items ++ entry_line entry.now) }
 {
     push_entry(text, entry.serial, entry.worker, entry.line, None)
 }
 
-fn push_entries(text: &mut Vec<u8>, entries: &[Entry]) -> Result<(), AllocError>
+fn push_entries(text: &mut Vec<u8>, entries: &[Entry]) -> AllocResult<()>
     ensures { OnOk result (text.new.items ≡ text.old.items ++ joined entry_line entries.now) }
 {
     for entry in entries {
@@ -28,7 +28,7 @@ fn push_entries(text: &mut Vec<u8>, entries: &[Entry]) -> Result<(), AllocError>
 }
 
 /// Appends the steps that stand, each on a line, in their order.
-pub fn push_history(text: &mut Vec<u8>, entries: &[Entry]) -> Result<(), AllocError>
+pub fn push_history(text: &mut Vec<u8>, entries: &[Entry]) -> AllocResult<()>
     ensures { OnOk result (text.new.items ≡ text.old.items ++ history_text entries.now) }
 {
     match entries {
@@ -37,7 +37,7 @@ pub fn push_history(text: &mut Vec<u8>, entries: &[Entry]) -> Result<(), AllocEr
     }
 }
 
-fn push_event_line(text: &mut Vec<u8>, event: &Record) -> Result<(), AllocError>
+fn push_event_line(text: &mut Vec<u8>, event: &Record) -> AllocResult<()>
     ensures { OnOk result (text.new.items ≡ text.old.items ++ event_line event.now) }
 {
     text_of(event, text)?;
@@ -45,7 +45,7 @@ fn push_event_line(text: &mut Vec<u8>, event: &Record) -> Result<(), AllocError>
 }
 
 /// Appends event records, each on a line, in their order.
-pub fn push_events(text: &mut Vec<u8>, events: &[Record]) -> Result<(), AllocError>
+pub fn push_events(text: &mut Vec<u8>, events: &[Record]) -> AllocResult<()>
     ensures { OnOk result (text.new.items ≡ text.old.items ++ events_text events.now) }
 {
     for event in events {
@@ -55,7 +55,7 @@ pub fn push_events(text: &mut Vec<u8>, events: &[Record]) -> Result<(), AllocErr
 }
 
 /// Appends how many bytes the program printed, and these.
-pub fn push_output(text: &mut Vec<u8>, bytes: &[u8]) -> Result<(), AllocError>
+pub fn push_output(text: &mut Vec<u8>, bytes: &[u8]) -> AllocResult<()>
     ensures { OnOk result (text.new.items ≡ text.old.items ++ output_text bytes.now) }
 {
     push_numbered(text, b"output ", bytes.len())?;
@@ -65,7 +65,7 @@ pub fn push_output(text: &mut Vec<u8>, bytes: &[u8]) -> Result<(), AllocError>
 }
 
 /// Appends a task that is ready, and the line of its directive.
-pub fn push_task(text: &mut Vec<u8>, name: &Name, line: u32) -> Result<(), AllocError>
+pub fn push_task(text: &mut Vec<u8>, name: &Name, line: u32) -> AllocResult<()>
     ensures { OnOk result (text.new.items ≡ text.old.items ++ task_text name.now line) }
 {
     push_named(text, b"ready ", name)?;
@@ -74,13 +74,13 @@ pub fn push_task(text: &mut Vec<u8>, name: &Name, line: u32) -> Result<(), Alloc
 }
 
 /// Appends that no task is ready.
-pub fn push_no_tasks(text: &mut Vec<u8>) -> Result<(), AllocError>
+pub fn push_no_tasks(text: &mut Vec<u8>) -> AllocResult<()>
     ensures { OnOk result (text.new.items ≡ text.old.items ++ no_tasks_text) }
 {
     text.extend_from_slice(b"no tasks\n")
 }
 
-fn push_members(text: &mut Vec<u8>, members: &[Taken]) -> Result<(), AllocError>
+fn push_members(text: &mut Vec<u8>, members: &[Taken]) -> AllocResult<()>
     ensures { OnOk result (text.new.items ≡ text.old.items ++ joined taken_line members.now) }
 {
     for taken in members {
@@ -90,7 +90,7 @@ fn push_members(text: &mut Vec<u8>, members: &[Taken]) -> Result<(), AllocError>
 }
 
 /// Appends the reply to a roll: the steps that it took out, the latest first.
-pub fn push_roll(text: &mut Vec<u8>, serial: u64, reply: &RollReply) -> Result<(), AllocError>
+pub fn push_roll(text: &mut Vec<u8>, serial: u64, reply: &RollReply) -> AllocResult<()>
     ensures { OnOk result (text.new.items ≡ text.old.items ++ roll_text serial reply.now) }
 {
     match reply {

@@ -2,10 +2,10 @@
 ghost use Rattle.std.specs.Prelude.{◌≡◌, ◌++◌, OnOk};
 
 use itoa::{Buffer, Integer};
-use std::alloc::AllocError;
+use om_seq::AllocResult;
 
 /// Appends a number in decimal, with a `-` before it where it is below 0.
-pub fn push_number<I: Integer>(text: &mut Vec<u8>, number: I) -> Result<(), AllocError>
+pub fn push_number<I: Integer>(text: &mut Vec<u8>, number: I) -> AllocResult<()>
     ensures { OnOk result (text.new.items ≡ text.old.items ++ I.text number) }
 {
     let mut buffer = Buffer::new();
@@ -13,11 +13,7 @@ pub fn push_number<I: Integer>(text: &mut Vec<u8>, number: I) -> Result<(), Allo
 }
 
 /// Appends bytes, and behind them a number in decimal.
-pub fn push_numbered<I: Integer>(
-    text: &mut Vec<u8>,
-    before: &[u8],
-    number: I,
-) -> Result<(), AllocError>
+pub fn push_numbered<I: Integer>(text: &mut Vec<u8>, before: &[u8], number: I) -> AllocResult<()>
     ensures { OnOk result (text.new.items ≡ text.old.items ++ (before.now ++ I.text number)) }
 {
     text.extend_from_slice(before)?;

@@ -7,14 +7,10 @@ use crate::number::push_numbered;
 use crate::value::GlobalCell;
 use om_code::Program;
 use om_foot::{Name, Obj};
-use std::alloc::AllocError;
+use om_seq::AllocResult;
 
 /// Appends the text of an object, which names a global or a critical region by its name.
-pub(crate) fn push_object(
-    text: &mut Vec<u8>,
-    program: &Program,
-    object: &Obj,
-) -> Result<(), AllocError>
+pub(crate) fn push_object(text: &mut Vec<u8>, program: &Program, object: &Obj) -> AllocResult<()>
     ensures { OnOk result (text.new.items ≡ text.old.items ++ object_text program.now object.now) }
 {
     match object {
@@ -46,7 +42,7 @@ pub(crate) fn push_object(
 }
 
 /// Appends bytes, and behind them a name.
-pub(crate) fn push_named(text: &mut Vec<u8>, kind: &[u8], name: &Name) -> Result<(), AllocError>
+pub(crate) fn push_named(text: &mut Vec<u8>, kind: &[u8], name: &Name) -> AllocResult<()>
     ensures { OnOk result (text.new.items ≡ text.old.items ++ (kind.now ++ name_text name.now)) }
 {
     text.extend_from_slice(kind)?;
@@ -54,7 +50,7 @@ pub(crate) fn push_named(text: &mut Vec<u8>, kind: &[u8], name: &Name) -> Result
 }
 
 // What has a number in a team.
-fn push_place(text: &mut Vec<u8>, kind: &[u8], team: &Name, number: u64) -> Result<(), AllocError>
+fn push_place(text: &mut Vec<u8>, kind: &[u8], team: &Name, number: u64) -> AllocResult<()>
     ensures { OnOk result (text.new.items ≡ text.old.items ++ team_text kind.now team.now number) }
 {
     push_named(text, kind, team)?;
@@ -68,7 +64,7 @@ fn push_cell_place(
     frame: u64,
     slot: u32,
     index: u32,
-) -> Result<(), AllocError>
+) -> AllocResult<()>
     ensures { OnOk result (text.new.items ≡ text.old.items ++ slot_text task.now frame slot index) }
 {
     push_named(text, b"cell ", task)?;
@@ -83,7 +79,7 @@ pub(crate) fn push_variable(
     text: &mut Vec<u8>,
     program: &Program,
     cell: GlobalCell,
-) -> Result<(), AllocError>
+) -> AllocResult<()>
     ensures { OnOk result (text.new.items ≡ text.old.items ++ variable_text program.now cell) }
 {
     let Some(variable) = program.globals().get(cell.variable as usize) else {
@@ -94,7 +90,7 @@ pub(crate) fn push_variable(
 }
 
 // A cell of a global.
-fn push_global(text: &mut Vec<u8>, program: &Program, cell: GlobalCell) -> Result<(), AllocError>
+fn push_global(text: &mut Vec<u8>, program: &Program, cell: GlobalCell) -> AllocResult<()>
     ensures { OnOk result (text.new.items ≡ text.old.items ++ global_text program.now cell) }
 {
     text.extend_from_slice(b"global ")?;
@@ -102,7 +98,7 @@ fn push_global(text: &mut Vec<u8>, program: &Program, cell: GlobalCell) -> Resul
 }
 
 // The index of an array's cell; a scalar has none.
-fn push_index(text: &mut Vec<u8>, length: Option<u32>, index: u32) -> Result<(), AllocError>
+fn push_index(text: &mut Vec<u8>, length: Option<u32>, index: u32) -> AllocResult<()>
     ensures { OnOk result (text.new.items ≡ text.old.items ++ index_text length index) }
 {
     let Some(_) = length else {
@@ -113,7 +109,7 @@ fn push_index(text: &mut Vec<u8>, length: Option<u32>, index: u32) -> Result<(),
 }
 
 // A critical region, `-` where it is the unnamed one.
-fn push_lock(text: &mut Vec<u8>, program: &Program, lock: u32) -> Result<(), AllocError>
+fn push_lock(text: &mut Vec<u8>, program: &Program, lock: u32) -> AllocResult<()>
     ensures { OnOk result (text.new.items ≡ text.old.items ++ region_text program.now lock) }
 {
     text.extend_from_slice(b"lock ")?;
@@ -124,7 +120,7 @@ fn push_lock(text: &mut Vec<u8>, program: &Program, lock: u32) -> Result<(), All
 }
 
 // The name of a critical region.
-fn push_lock_name(text: &mut Vec<u8>, name: &[u8]) -> Result<(), AllocError>
+fn push_lock_name(text: &mut Vec<u8>, name: &[u8]) -> AllocResult<()>
     ensures { OnOk result (text.new.items ≡ text.old.items ++ lock_text (Some name.now)) }
 {
     if name.is_empty() {

@@ -5,11 +5,11 @@ ghost use Rattle.om_shell_commands.specs.Places.{context_text, control_text, whe
 
 use crate::number::push_numbered;
 use crate::object::push_named;
+use om_seq::AllocResult;
 use om_state::{Context, Control};
-use std::alloc::AllocError;
 
 // The task that a worker runs, and its place in its team.
-fn push_context(text: &mut Vec<u8>, context: &Context, line: u32) -> Result<(), AllocError>
+fn push_context(text: &mut Vec<u8>, context: &Context, line: u32) -> AllocResult<()>
     ensures { OnOk result (text.new.items ≡ text.old.items ++ context_text context.now line) }
 {
     push_named(text, b"task ", context.task.get())?;
@@ -19,7 +19,7 @@ fn push_context(text: &mut Vec<u8>, context: &Context, line: u32) -> Result<(), 
     push_numbered(text, b" line ", line)
 }
 
-fn push_control(text: &mut Vec<u8>, control: &Control, line: u32) -> Result<(), AllocError>
+fn push_control(text: &mut Vec<u8>, control: &Control, line: u32) -> AllocResult<()>
     ensures { OnOk result (text.new.items ≡ text.old.items ++ control_text control.now line) }
 {
     match control {
@@ -34,12 +34,7 @@ fn push_control(text: &mut Vec<u8>, control: &Control, line: u32) -> Result<(), 
 }
 
 /// Appends what a worker is doing, by its control and the line that it is at.
-pub fn push_where(
-    text: &mut Vec<u8>,
-    worker: u8,
-    control: &Control,
-    line: u32,
-) -> Result<(), AllocError>
+pub fn push_where(text: &mut Vec<u8>, worker: u8, control: &Control, line: u32) -> AllocResult<()>
     ensures { OnOk result (text.new.items ≡ text.old.items ++ where_text worker control.now line) }
 {
     push_numbered(text, b"worker ", worker)?;

@@ -11,13 +11,14 @@ use crate::arguments::{
 use crate::command::{Command, CommandFault, Request};
 use crate::task::TaskName;
 use crate::verb::{Verb, verb_of};
-use std::alloc::{AllocError, Global};
+use om_seq::AllocResult;
+use std::alloc::Global;
 
 // How many bytes a line has at most, its end not counted.
 const LONGEST_LINE: usize = 1024;
 
 // The words of a line, which spaces part.
-fn words(alloc: Global, line: &[u8]) -> Result<Vec<&[u8]>, AllocError>
+fn words(alloc: Global, line: &[u8]) -> AllocResult<Vec<&[u8]>>
     ensures { IfOk result (λ words. spelled words.items ≡ words_of line.now) }
 {
     line.split(|byte| *byte == b' ')
@@ -26,7 +27,7 @@ fn words(alloc: Global, line: &[u8]) -> Result<Vec<&[u8]>, AllocError>
 }
 
 // `start`, with the words behind it.
-fn start(alloc: Global, workers: u8, words: &[&[u8]]) -> Result<Option<Command>, AllocError>
+fn start(alloc: Global, workers: u8, words: &[&[u8]]) -> AllocResult<Option<Command>>
     ensures asked { IfOk result
         (λ command. command ≡ start_of workers (spelled words.now)) }
     ensures in_range { IfOk result (λ command. IfSome command (HasWorkerBelow workers)) }
@@ -45,7 +46,7 @@ fn start(alloc: Global, workers: u8, words: &[&[u8]]) -> Result<Option<Command>,
 }
 
 // `print`, with the words behind it.
-fn print(alloc: Global, workers: u8, words: &[&[u8]]) -> Result<Option<Command>, AllocError>
+fn print(alloc: Global, workers: u8, words: &[&[u8]]) -> AllocResult<Option<Command>>
     ensures asked { IfOk result
         (λ command. command ≡ print_of workers (spelled words.now)) }
     ensures in_range { IfOk result (λ command. IfSome command (HasWorkerBelow workers)) }
@@ -77,7 +78,7 @@ fn command_by(
     verb: Verb,
     workers: u8,
     words: &[&[u8]],
-) -> Result<Option<Command>, AllocError>
+) -> AllocResult<Option<Command>>
     ensures asked { IfOk result
         (λ command. command ≡ command_of verb workers (spelled words.now)) }
     ensures in_range { IfOk result (λ command. IfSome command (HasWorkerBelow workers)) }
@@ -105,7 +106,7 @@ fn command_by(
 }
 
 // What words ask for.
-fn request_in(alloc: Global, workers: u8, words: &[&[u8]]) -> Result<Request, AllocError>
+fn request_in(alloc: Global, workers: u8, words: &[&[u8]]) -> AllocResult<Request>
     ensures asked { IfOk result
         (λ request. request ≡ request_in workers (spelled words.now)) }
     ensures in_range { IfOk result (AsksWorkerBelow workers) }
@@ -147,7 +148,7 @@ fn plain(workers: u8, line: &[u8]) -> Option<Command>
 }
 
 // What the words of a line ask for. It stands apart, as what it builds is large, and few lines need it.
-fn worded(alloc: Global, workers: u8, line: &[u8]) -> Result<Request, AllocError>
+fn worded(alloc: Global, workers: u8, line: &[u8]) -> AllocResult<Request>
     ensures asked { IfOk result (λ request. request ≡ worded workers line.now) }
     ensures in_range { IfOk result (AsksWorkerBelow workers) }
 {
@@ -159,7 +160,7 @@ fn worded(alloc: Global, workers: u8, line: &[u8]) -> Result<Request, AllocError
 ///
 /// A line has at most 1,024 bytes. Words are parted by spaces, and a number has one to ten digits.
 /// What is wrong with a line is an answer; the only error is out of memory.
-pub fn request_of(alloc: Global, workers: u8, line: &[u8]) -> Result<Request, AllocError>
+pub fn request_of(alloc: Global, workers: u8, line: &[u8]) -> AllocResult<Request>
     ensures asked { IfOk result (λ request. request ≡ request_of workers line.now) }
     ensures in_range { IfOk result (AsksWorkerBelow workers) }
 {

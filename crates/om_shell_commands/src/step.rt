@@ -9,9 +9,9 @@ use crate::number::push_numbered;
 use crate::object::push_object;
 use om_code::Program;
 use om_code::frame::Fault;
+use om_seq::AllocResult;
 use om_state::Blocked;
 use om_undo_history::{StepReply, UndoReply};
-use std::alloc::AllocError;
 
 /// `#S worker W line L`, and the fault that the step came to, on a line.
 pub(crate) fn push_entry(
@@ -20,7 +20,7 @@ pub(crate) fn push_entry(
     worker: u8,
     line: u32,
     fault: Option<Fault>,
-) -> Result<(), AllocError>
+) -> AllocResult<()>
     ensures { OnOk result (text.new.items ≡ text.old.items ++ done_text serial worker line fault) }
 {
     let mut bytes = [0; ROOM];
@@ -31,7 +31,7 @@ pub(crate) fn push_entry(
 }
 
 // The worker that holds the lock, or has to be idle.
-fn push_blocker(text: &mut Vec<u8>, why: Blocked) -> Result<(), AllocError>
+fn push_blocker(text: &mut Vec<u8>, why: Blocked) -> AllocResult<()>
     ensures { OnOk result (text.new.items ≡ text.old.items ++ blocker_text why) }
 {
     let (Blocked::Critical(worker) | Blocked::Busy(worker)) = why else {
@@ -41,7 +41,7 @@ fn push_blocker(text: &mut Vec<u8>, why: Blocked) -> Result<(), AllocError>
 }
 
 /// Appends the reply to a step.
-pub fn push_step(text: &mut Vec<u8>, worker: u8, reply: StepReply) -> Result<(), AllocError>
+pub fn push_step(text: &mut Vec<u8>, worker: u8, reply: StepReply) -> AllocResult<()>
     ensures { OnOk result (text.new.items ≡ text.old.items ++ step_text worker reply) }
 {
     match reply {
@@ -60,7 +60,7 @@ pub fn push_step(text: &mut Vec<u8>, worker: u8, reply: StepReply) -> Result<(),
 }
 
 // The first later step that an undo conflicts with.
-fn push_refuser(text: &mut Vec<u8>, serial: u64, worker: u8) -> Result<(), AllocError>
+fn push_refuser(text: &mut Vec<u8>, serial: u64, worker: u8) -> AllocResult<()>
     ensures { OnOk result (text.new.items ≡ text.old.items ++ refuser_text serial worker) }
 {
     push_numbered(text, b"refused by #", serial)?;
@@ -68,7 +68,7 @@ fn push_refuser(text: &mut Vec<u8>, serial: u64, worker: u8) -> Result<(), Alloc
 }
 
 /// Appends a step of a worker that was taken out, on a line: as `push_undo` of that reply.
-pub fn push_undone(text: &mut Vec<u8>, serial: u64, worker: u8, line: u32) -> Result<(), AllocError>
+pub fn push_undone(text: &mut Vec<u8>, serial: u64, worker: u8, line: u32) -> AllocResult<()>
     ensures { OnOk result (text.new.items ≡ text.old.items ++ undone_text serial worker line) }
 {
     let mut bytes = [0; ROOM];
@@ -84,7 +84,7 @@ pub fn push_undo(
     program: &Program,
     worker: u8,
     reply: &UndoReply,
-) -> Result<(), AllocError>
+) -> AllocResult<()>
     ensures { OnOk result (Writes (undo_text program.now worker reply.now) text.old text.new) }
 {
     match reply {
@@ -104,7 +104,7 @@ pub fn push_undo(
 }
 
 /// Appends the reply to a line that is no command.
-pub fn push_command_fault(text: &mut Vec<u8>, fault: CommandFault) -> Result<(), AllocError>
+pub fn push_command_fault(text: &mut Vec<u8>, fault: CommandFault) -> AllocResult<()>
     ensures { OnOk result (text.new.items ≡ text.old.items ++ command_fault_text fault) }
 {
     match fault {
@@ -114,7 +114,7 @@ pub fn push_command_fault(text: &mut Vec<u8>, fault: CommandFault) -> Result<(),
 }
 
 /// Appends the reply to a command that needs a record beyond those that the journal takes.
-pub fn push_full(text: &mut Vec<u8>) -> Result<(), AllocError>
+pub fn push_full(text: &mut Vec<u8>) -> AllocResult<()>
     ensures { OnOk result (text.new.items ≡ text.old.items ++ full_text) }
 {
     text.extend_from_slice(b"full\n")

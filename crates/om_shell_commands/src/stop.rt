@@ -8,7 +8,7 @@ use crate::object::push_variable;
 use crate::value::GlobalCell;
 use om_code::Program;
 use om_code::frame::Fault;
-use std::alloc::AllocError;
+use om_seq::AllocResult;
 
 /// Why a run stopped.
 #[derive(Clone, Copy)]
@@ -28,7 +28,7 @@ pub enum Stop {
 }
 
 /// Appends the reply to `break L`.
-pub fn push_break(text: &mut Vec<u8>, line: u64) -> Result<(), AllocError>
+pub fn push_break(text: &mut Vec<u8>, line: u64) -> AllocResult<()>
     ensures { OnOk result (text.new.items ≡ text.old.items ++ break_text line) }
 {
     push_numbered(text, b"break ", line)?;
@@ -36,7 +36,7 @@ pub fn push_break(text: &mut Vec<u8>, line: u64) -> Result<(), AllocError>
 }
 
 /// Appends the reply to `watch VAR`.
-pub fn push_watch(text: &mut Vec<u8>, program: &Program, cell: GlobalCell) -> Result<(), AllocError>
+pub fn push_watch(text: &mut Vec<u8>, program: &Program, cell: GlobalCell) -> AllocResult<()>
     ensures { OnOk result (text.new.items ≡ text.old.items ++ watch_text program.now cell) }
 {
     text.extend_from_slice(b"watch ")?;
@@ -45,7 +45,7 @@ pub fn push_watch(text: &mut Vec<u8>, program: &Program, cell: GlobalCell) -> Re
 }
 
 /// Appends the reply to `delete L`, by whether there was such a break.
-pub fn push_deleted(text: &mut Vec<u8>, line: u64, was_there: bool) -> Result<(), AllocError>
+pub fn push_deleted(text: &mut Vec<u8>, line: u64, was_there: bool) -> AllocResult<()>
     ensures { OnOk result (text.new.items ≡ text.old.items ++ deleted_text line was_there) }
 {
     let before: &[u8] = if was_there { b"deleted " } else { b"no break " };
@@ -53,7 +53,7 @@ pub fn push_deleted(text: &mut Vec<u8>, line: u64, was_there: bool) -> Result<()
     text.extend_from_slice(b"\n")
 }
 
-fn push_stop(text: &mut Vec<u8>, program: &Program, stop: Stop) -> Result<(), AllocError>
+fn push_stop(text: &mut Vec<u8>, program: &Program, stop: Stop) -> AllocResult<()>
     ensures { OnOk result (text.new.items ≡ text.old.items ++ stop_text program.now stop) }
 {
     match stop {
@@ -77,12 +77,7 @@ fn push_stop(text: &mut Vec<u8>, program: &Program, stop: Stop) -> Result<(), Al
 }
 
 /// Appends the reply to `run K`: how many steps were made, and why no more.
-pub fn push_ran(
-    text: &mut Vec<u8>,
-    program: &Program,
-    steps: u64,
-    stop: Stop,
-) -> Result<(), AllocError>
+pub fn push_ran(text: &mut Vec<u8>, program: &Program, steps: u64, stop: Stop) -> AllocResult<()>
     ensures { OnOk result (text.new.items ≡ text.old.items ++ ran_text program.now steps stop) }
 {
     push_numbered(text, b"ran ", steps)?;
@@ -92,7 +87,7 @@ pub fn push_ran(
 }
 
 /// Appends the reply to `free K`: how many steps were made.
-pub fn push_freed(text: &mut Vec<u8>, steps: u64) -> Result<(), AllocError>
+pub fn push_freed(text: &mut Vec<u8>, steps: u64) -> AllocResult<()>
     ensures { OnOk result (text.new.items ≡ text.old.items ++ freed_text steps) }
 {
     push_numbered(text, b"freed ", steps)?;

@@ -3,7 +3,8 @@
 ghost use Rattle.std.specs.Prelude.{◌≡◌, IfOk};
 
 use om_foot::Name;
-use std::alloc::{AllocError, Global};
+use om_seq::AllocResult;
+use std::alloc::Global;
 use std::marker::Model;
 
 /// The name of a task. Names are large and few commands have one, so it lies in a box.
@@ -24,7 +25,7 @@ impl Model for TaskName {
 
 impl TaskName {
     /// This name in a box. Its only error is out of memory.
-    pub fn new(alloc: Global, name: Name) -> Result<TaskName, AllocError>
+    pub fn new(alloc: Global, name: Name) -> AllocResult<TaskName>
         ensures { IfOk result (λ task. task ≡ name) }
     {
         Ok(TaskName {

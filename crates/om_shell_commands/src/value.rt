@@ -11,8 +11,8 @@ use crate::object::push_variable;
 use om_code::Program;
 use om_code::frame::Cell;
 use om_foot::Obj;
+use om_seq::AllocResult;
 use om_state::Val;
-use std::alloc::AllocError;
 
 /// A cell of a global variable.
 #[derive(Clone, Copy)]
@@ -35,7 +35,7 @@ impl GlobalCell {
     }
 }
 
-fn push_cell(text: &mut Vec<u8>, cell: Cell) -> Result<(), AllocError>
+fn push_cell(text: &mut Vec<u8>, cell: Cell) -> AllocResult<()>
     ensures { OnOk result (text.new.items ≡ text.old.items ++ cell_text cell) }
 {
     match cell {
@@ -51,7 +51,7 @@ pub fn push_print(
     program: &Program,
     cell: GlobalCell,
     value: &Val,
-) -> Result<(), AllocError>
+) -> AllocResult<()>
     ensures { OnOk result (Writes (print_text program.now cell value.now) text.old text.new) }
 {
     push_variable(text, program, cell)?;
@@ -61,7 +61,7 @@ pub fn push_print(
 }
 
 // The index that a command writes, if it writes one.
-fn push_written_index(text: &mut Vec<u8>, index: Option<u64>) -> Result<(), AllocError>
+fn push_written_index(text: &mut Vec<u8>, index: Option<u64>) -> AllocResult<()>
     ensures { OnOk result (text.new.items ≡ text.old.items ++ written_index index) }
 {
     let Some(index) = index else {
@@ -72,7 +72,7 @@ fn push_written_index(text: &mut Vec<u8>, index: Option<u64>) -> Result<(), Allo
 }
 
 /// Appends the value of the variable that a worker sees by a name: `i = 3`, `a[2] = unset`.
-pub fn push_local(text: &mut Vec<u8>, variable: &Variable, value: &Val) -> Result<(), AllocError>
+pub fn push_local(text: &mut Vec<u8>, variable: &Variable, value: &Val) -> AllocResult<()>
     ensures { OnOk result (text.new.items ≡ text.old.items ++ local_text variable.now value.now) }
 {
     text.extend_from_slice(variable.name.as_slice())?;

@@ -14,7 +14,7 @@ ghost use Rattle.om_shell_debugger.specs.Calls.{IsOther, AreEntriesTold, AreName
 use om_book::{Book, CallError};
 use om_book_journal::{Command, KeptUndoReply, Reply, ReplyIn};
 use om_foot::Name;
-use om_seq::Seq;
+use om_seq::{AllocResult, Seq};
 use om_state::Val;
 use om_task::Choice;
 use om_undo::{Entry, PlannedStep, RollReply, StepReply};
@@ -24,7 +24,7 @@ use std::alloc::{AllocError, Global};
 const SEAT: u8 = 0;
 
 /// Does what a command asks. What it was answered is told by the book. Its only error is out of memory.
-pub(crate) fn call(alloc: Global, book: &mut Book, command: &Command) -> Result<(), AllocError>
+pub(crate) fn call(alloc: Global, book: &mut Book, command: &Command) -> AllocResult<()>
     requires in_range { IsInRange book.old.start.workers command.now }
     requires room { records_of book.old < 200000 }
     ensures { OnOk result (book.new ≡ with_debugger_call book.old command.now) }
@@ -39,7 +39,7 @@ pub(crate) fn call(alloc: Global, book: &mut Book, command: &Command) -> Result<
 }
 
 /// Takes a worker's last step back. What it was answered is told by the book. Its only error is out of memory.
-pub(crate) fn undo(alloc: Global, book: &mut Book, worker: u8) -> Result<(), AllocError>
+pub(crate) fn undo(alloc: Global, book: &mut Book, worker: u8) -> AllocResult<()>
     requires in_range { worker < book.old.start.workers }
     requires room { records_of book.old < 200000 }
     ensures { OnOk result (book.new ≡ with_debugger_call book.old (Command.Undo worker)) }
@@ -54,11 +54,7 @@ pub(crate) fn undo(alloc: Global, book: &mut Book, worker: u8) -> Result<(), All
 }
 
 /// Takes a step that was planned where the book stands.
-pub(crate) fn take(
-    alloc: Global,
-    book: &mut Book,
-    step: PlannedStep,
-) -> Result<StepReply, AllocError>
+pub(crate) fn take(alloc: Global, book: &mut Book, step: PlannedStep) -> AllocResult<StepReply>
     requires planned { step.machine ≡ machine_of book.old }
     requires room { records_of book.old < 200000 }
     ensures reply { IfOk result
@@ -78,7 +74,7 @@ pub(crate) fn step(
     book: &mut Book,
     worker: u8,
     choice: &Choice,
-) -> Result<StepReply, AllocError>
+) -> AllocResult<StepReply>
     requires in_range { worker < book.old.start.workers }
     requires room { records_of book.old < 200000 }
     ensures reply { IfOk result (λ reply. reply ≡ step_reply_at book.old worker choice.now) }

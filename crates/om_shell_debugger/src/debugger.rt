@@ -15,12 +15,12 @@ use crate::runs::run;
 use crate::variable::cell_of;
 use om_book::Book;
 use om_code::Program;
-use om_seq::Seq;
+use om_seq::{AllocResult, Seq};
 use om_shell_commands::{
     Command, CommandFault, Request, Variable, push_break, push_command_fault, push_deleted,
     push_watch, request_of,
 };
-use std::alloc::{AllocError, Global};
+use std::alloc::Global;
 use std::sync::Wait;
 use std::thread::Threads;
 
@@ -41,7 +41,7 @@ impl Drop for Debugger {
 
 impl Debugger {
     /// A debugger at the start of a program, with 1 to 32 workers. Its only error is out of memory.
-    pub fn new(alloc: Global, program: Program, workers: u8) -> Result<Debugger, AllocError>
+    pub fn new(alloc: Global, program: Program, workers: u8) -> AllocResult<Debugger>
         requires at_least_one { 1 ≤ workers }
         requires at_most_32 { workers ≤ 32 }
         ensures { IfOk result (λ debugger. debugger ≡ opened program workers) }
@@ -75,7 +75,7 @@ impl Debugger {
         alloc: Global,
         line: &[u8],
         text: &mut Vec<u8>,
-    ) -> Result<bool, AllocError>
+    ) -> AllocResult<bool>
         ensures { IfOk result (λ quits. (said : List ℕ) × (text.new.items ≡ text.old.items ++ said)
             × IsAnswered self.old line.now said self.new quits) }
     {
@@ -93,12 +93,7 @@ impl Debugger {
     }
 
     // Appends the answer to what is asked.
-    fn answer_to(
-        &mut self,
-        alloc: Global,
-        request: &Request,
-        text: &mut Vec<u8>,
-    ) -> Result<(), AllocError>
+    fn answer_to(&mut self, alloc: Global, request: &Request, text: &mut Vec<u8>) -> AllocResult<()>
         requires in_range { AsksWorkerBelow self.old.book.start.workers request.now }
         requires no_free_run { rounds_asked request.now ≡ None }
         ensures { OnOk result (AnswersRequest self.old request.now text.old text.new self.new) }
@@ -112,12 +107,7 @@ impl Debugger {
 
     // Carries a command out, and appends its answer. The two that come most are taken here, so that they do
     // without the frame of all.
-    fn obey(
-        &mut self,
-        alloc: Global,
-        command: &Command,
-        text: &mut Vec<u8>,
-    ) -> Result<(), AllocError>
+    fn obey(&mut self, alloc: Global, command: &Command, text: &mut Vec<u8>) -> AllocResult<()>
         requires in_range { HasWorkerBelow self.old.book.start.workers command.now }
         requires no_free_run { rounds_asked (request.Command command.now) ≡ None }
         ensures { OnOk result (Obeys self.old command.now text.old text.new self.new) }
@@ -130,12 +120,7 @@ impl Debugger {
     }
 
     // Carries any command out, and appends its answer.
-    fn obey_any(
-        &mut self,
-        alloc: Global,
-        command: &Command,
-        text: &mut Vec<u8>,
-    ) -> Result<(), AllocError>
+    fn obey_any(&mut self, alloc: Global, command: &Command, text: &mut Vec<u8>) -> AllocResult<()>
         requires in_range { HasWorkerBelow self.old.book.start.workers command.now }
         requires no_free_run { rounds_asked (request.Command command.now) ≡ None }
         ensures { OnOk result (Obeys self.old command.now text.old text.new self.new) }
@@ -167,12 +152,7 @@ impl Debugger {
     }
 
     // Answers `print VAR`.
-    fn print(
-        &mut self,
-        alloc: Global,
-        variable: &Variable,
-        text: &mut Vec<u8>,
-    ) -> Result<(), AllocError>
+    fn print(&mut self, alloc: Global, variable: &Variable, text: &mut Vec<u8>) -> AllocResult<()>
         ensures { OnOk result (Obeys self.old (Print variable.now) text.old text.new self.new) }
     {
         match cell_of(self.book.machine().program(), variable) {
@@ -188,7 +168,7 @@ impl Debugger {
         worker: u8,
         variable: &Variable,
         text: &mut Vec<u8>,
-    ) -> Result<(), AllocError>
+    ) -> AllocResult<()>
         ensures { OnOk result (PrintsFor self.old worker variable.now text.old text.new self.new) }
     {
         let machine = self.book.machine();
@@ -201,7 +181,7 @@ impl Debugger {
     }
 
     // Answers `break L`.
-    fn set_break(&mut self, line: u64, text: &mut Vec<u8>) -> Result<(), AllocError>
+    fn set_break(&mut self, line: u64, text: &mut Vec<u8>) -> AllocResult<()>
         ensures { OnOk result (Obeys self.old (Break line) text.old text.new self.new) }
     {
         self.marks.set_break(line)?;
@@ -209,7 +189,7 @@ impl Debugger {
     }
 
     // Answers `watch VAR`.
-    fn set_watch(&mut self, variable: &Variable, text: &mut Vec<u8>) -> Result<(), AllocError>
+    fn set_watch(&mut self, variable: &Variable, text: &mut Vec<u8>) -> AllocResult<()>
         ensures { OnOk result (Obeys self.old (Watch variable.now) text.old text.new self.new) }
     {
         match cell_of(self.book.machine().program(), variable) {
@@ -222,7 +202,7 @@ impl Debugger {
     }
 
     // Answers `delete L`.
-    fn delete(&mut self, alloc: Global, line: u64, text: &mut Vec<u8>) -> Result<(), AllocError>
+    fn delete(&mut self, alloc: Global, line: u64, text: &mut Vec<u8>) -> AllocResult<()>
         ensures { OnOk result (Obeys self.old (Delete line) text.old text.new self.new) }
     {
         let was_set = self.marks.delete(alloc, line)?;

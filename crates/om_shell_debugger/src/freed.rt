@@ -5,8 +5,9 @@ ghost use Rattle.om_shell_debugger.specs.Freed.{SaysFreed};
 
 use om_book::Book;
 use om_drive::{Errand, run_freely};
+use om_seq::AllocResult;
 use om_shell_commands::{push_freed, push_full};
-use std::alloc::{AllocError, Global};
+use std::alloc::Global;
 use std::sync::Wait;
 use std::thread::Threads;
 
@@ -18,7 +19,7 @@ pub(crate) fn free<R: Threads + Wait + Sync>(
     book: &mut Book,
     rounds: u64,
     text: &mut Vec<u8>,
-) -> Result<(), AllocError>
+) -> AllocResult<()>
     ensures { OnOk result (SaysFreed book.old text.old text.new book.new) }
 {
     // Each round is a record at least, so more rounds come to no more.

@@ -15,13 +15,14 @@ use om_book_journal::{Command, Query};
 use om_code::Program;
 use om_code_places::line_of;
 use om_foot::{Name, Obj};
+use om_seq::AllocResult;
 use om_shell_commands::{
     GlobalCell, Variable, push_events, push_full, push_history, push_local, push_no_tasks,
     push_output, push_print, push_task, push_where,
 };
 use om_state::{Control, Task, Val};
 use om_undo::Machine;
-use std::alloc::{AllocError, Global};
+use std::alloc::Global;
 
 /// Answers `print VAR`.
 pub(crate) fn print(
@@ -29,7 +30,7 @@ pub(crate) fn print(
     book: &mut Book,
     cell: GlobalCell,
     text: &mut Vec<u8>,
-) -> Result<(), AllocError>
+) -> AllocResult<()>
     ensures { OnOk result (Says (print_said cell book.old) text.old text.new book.new) }
 {
     if book.is_full() {
@@ -46,7 +47,7 @@ pub(crate) fn print_local(
     variable: &Variable,
     cell: &Obj,
     text: &mut Vec<u8>,
-) -> Result<(), AllocError>
+) -> AllocResult<()>
     ensures { OnOk result (Says (local_said variable.now cell.now book.old) text.old text.new book.new) }
 {
     if book.is_full() {
@@ -69,12 +70,7 @@ fn line_in(program: &Program, control: &Control) -> u32
 }
 
 // What a worker is doing, by the value of its control.
-fn push_control(
-    text: &mut Vec<u8>,
-    program: &Program,
-    worker: u8,
-    value: &Val,
-) -> Result<(), AllocError>
+fn push_control(text: &mut Vec<u8>, program: &Program, worker: u8, value: &Val) -> AllocResult<()>
     ensures { OnOk result (Writes (control_text worker program.now value.now) text.old text.new) }
 {
     match value.control() {
@@ -89,7 +85,7 @@ pub(crate) fn place(
     book: &mut Book,
     worker: u8,
     text: &mut Vec<u8>,
-) -> Result<(), AllocError>
+) -> AllocResult<()>
     requires { worker < book.old.start.workers }
     ensures { OnOk result (Says (where_said worker book.old) text.old text.new book.new) }
 {
@@ -105,7 +101,7 @@ pub(crate) fn place(
 }
 
 /// Answers `history`.
-pub(crate) fn history(alloc: Global, book: &mut Book, text: &mut Vec<u8>) -> Result<(), AllocError>
+pub(crate) fn history(alloc: Global, book: &mut Book, text: &mut Vec<u8>) -> AllocResult<()>
     ensures { OnOk result (Says (history_said book.old) text.old text.new book.new) }
 {
     if book.is_full() {
@@ -121,7 +117,7 @@ pub(crate) fn events(
     book: &mut Book,
     worker: u8,
     text: &mut Vec<u8>,
-) -> Result<(), AllocError>
+) -> AllocResult<()>
     ensures { OnOk result (Says (events_said worker book.old) text.old text.new book.new) }
 {
     if book.is_full() {
@@ -136,7 +132,7 @@ pub(crate) fn events(
 }
 
 /// Answers `output`.
-pub(crate) fn output(alloc: Global, book: &mut Book, text: &mut Vec<u8>) -> Result<(), AllocError>
+pub(crate) fn output(alloc: Global, book: &mut Book, text: &mut Vec<u8>) -> AllocResult<()>
     ensures { OnOk result (Says (output_said book.old) text.old text.new book.new) }
 {
     if book.is_full() {
@@ -157,12 +153,7 @@ fn directive_line(task: Option<&Task>) -> u32
 }
 
 // A task that is ready, on a line.
-fn push_ready(
-    alloc: Global,
-    machine: &Machine,
-    name: &Name,
-    text: &mut Vec<u8>,
-) -> Result<(), AllocError>
+fn push_ready(alloc: Global, machine: &Machine, name: &Name, text: &mut Vec<u8>) -> AllocResult<()>
     ensures { OnOk result (Writes (ready_line (state_in machine.now) name.now) text.old text.new) }
 {
     let value = machine.look(alloc, &Obj::Task(*name))?;
@@ -177,7 +168,7 @@ fn push_all_ready(
     machine: &Machine,
     names: &[Name],
     text: &mut Vec<u8>,
-) -> Result<(), AllocError>
+) -> AllocResult<()>
     ensures { OnOk result (Writes (ready_text machine.now names.now) text.old text.new) }
 {
     for name in names {
@@ -192,7 +183,7 @@ fn push_tasks(
     machine: &Machine,
     names: &[Name],
     text: &mut Vec<u8>,
-) -> Result<(), AllocError>
+) -> AllocResult<()>
     ensures { OnOk result (Writes (tasks_text (state_in machine.now) names.now) text.old text.new) }
 {
     match names {
@@ -202,7 +193,7 @@ fn push_tasks(
 }
 
 /// Answers `tasks`.
-pub(crate) fn tasks(alloc: Global, book: &mut Book, text: &mut Vec<u8>) -> Result<(), AllocError>
+pub(crate) fn tasks(alloc: Global, book: &mut Book, text: &mut Vec<u8>) -> AllocResult<()>
     ensures { OnOk result (Says (tasks_said book.old) text.old text.new book.new) }
 {
     if book.is_full() {

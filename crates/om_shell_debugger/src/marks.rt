@@ -4,9 +4,9 @@ ghost use Rattle.std.specs.Prelude.{◌≡◌, ◌++◌, IfOk, OnOk};
 ghost use Rattle.om_shell_debugger.specs.Marked.{with_break, has_cell, with_watch, without, without_break};
 ghost use Rattle.om_shell_debugger.specs.Stops.{has_line};
 
-use om_seq::Seq;
+use om_seq::{AllocResult, Seq};
 use om_shell_commands::GlobalCell;
-use std::alloc::{AllocError, Global};
+use std::alloc::Global;
 
 /// The lines at which a run stops, and the cells of globals whose change stops it.
 #[derive(Drop)]
@@ -42,7 +42,7 @@ fn has_cell(cells: &[GlobalCell], cell: GlobalCell) -> bool
 }
 
 // The lines but this one.
-fn without(alloc: Global, lines: &[u64], line: u64) -> Result<Seq<u64>, AllocError>
+fn without(alloc: Global, lines: &[u64], line: u64) -> AllocResult<Seq<u64>>
     ensures { IfOk result (λ kept. kept ≡ without line lines.now) }
 {
     let mut kept = Seq::new(alloc);
@@ -56,7 +56,7 @@ fn without(alloc: Global, lines: &[u64], line: u64) -> Result<Seq<u64>, AllocErr
 
 impl Marks {
     /// Sets a break, unless it is set.
-    pub(crate) fn set_break(&mut self, line: u64) -> Result<(), AllocError>
+    pub(crate) fn set_break(&mut self, line: u64) -> AllocResult<()>
         ensures { OnOk result (self.new ≡ with_break line self.old) }
     {
         if has_line(self.breaks.as_slice(), line) {
@@ -66,7 +66,7 @@ impl Marks {
     }
 
     /// Sets a watch, unless it is set.
-    pub(crate) fn set_watch(&mut self, cell: GlobalCell) -> Result<(), AllocError>
+    pub(crate) fn set_watch(&mut self, cell: GlobalCell) -> AllocResult<()>
         ensures { OnOk result (self.new ≡ with_watch cell self.old) }
     {
         if has_cell(self.watches.as_slice(), cell) {
@@ -76,7 +76,7 @@ impl Marks {
     }
 
     /// Takes a break back, and answers whether it was set.
-    pub(crate) fn delete(&mut self, alloc: Global, line: u64) -> Result<bool, AllocError>
+    pub(crate) fn delete(&mut self, alloc: Global, line: u64) -> AllocResult<bool>
         ensures was_set { IfOk result (λ was_set. was_set ≡ has_line self.old.breaks line) }
         ensures deleted { OnOk result (self.new ≡ without_break line self.old) }
     {

@@ -13,10 +13,11 @@ use crate::calls;
 use om_book::Book;
 use om_book_journal::{Command, KeptUndoReply};
 use om_code::Program;
+use om_seq::AllocResult;
 use om_shell_commands::{TaskName, push_full, push_roll, push_step, push_undo, push_undone};
 use om_task::Choice;
 use om_undo::{Machine, StepReply};
-use std::alloc::{AllocError, Global};
+use std::alloc::Global;
 
 // How many steps or undos `next` and `back` make at most, besides the last one.
 const MOST_FURTHER: u32 = 9_999;
@@ -35,7 +36,7 @@ fn step_by(
     worker: u8,
     choice: &Choice,
     text: &mut Vec<u8>,
-) -> Result<(), AllocError>
+) -> AllocResult<()>
     requires { worker < book.old.start.workers }
     ensures { OnOk result (Says (step_said worker choice.now book.old) text.old text.new book.new) }
 {
@@ -52,7 +53,7 @@ pub(crate) fn step(
     book: &mut Book,
     worker: u8,
     text: &mut Vec<u8>,
-) -> Result<(), AllocError>
+) -> AllocResult<()>
     requires { worker < book.old.start.workers }
     ensures { OnOk result (Says (step_said worker Next book.old) text.old text.new book.new) }
 {
@@ -66,7 +67,7 @@ pub(crate) fn start(
     worker: u8,
     task: &TaskName,
     text: &mut Vec<u8>,
-) -> Result<(), AllocError>
+) -> AllocResult<()>
     requires { worker < book.old.start.workers }
     ensures { OnOk result (Says (start_said worker task.now book.old) text.old text.new book.new) }
 {
@@ -79,7 +80,7 @@ fn push_refused(
     program: &Program,
     worker: u8,
     reply: &KeptUndoReply,
-) -> Result<(), AllocError>
+) -> AllocResult<()>
     ensures { OnOk result (Writes (undo_text program.now worker reply.now) text.old text.new) }
 {
     push_undo(text, program, worker, &reply.get())
@@ -91,7 +92,7 @@ fn push_kept(
     program: &Program,
     worker: u8,
     reply: &KeptUndoReply,
-) -> Result<(), AllocError>
+) -> AllocResult<()>
     ensures { OnOk result (Writes (undo_text program.now worker reply.now) text.old text.new) }
 {
     match reply.undone() {
@@ -106,7 +107,7 @@ pub(crate) fn undo(
     book: &mut Book,
     worker: u8,
     text: &mut Vec<u8>,
-) -> Result<(), AllocError>
+) -> AllocResult<()>
     requires { worker < book.old.start.workers }
     ensures { OnOk result (Says (undo_said worker book.old) text.old text.new book.new) }
 {
@@ -169,7 +170,7 @@ fn next_within(
     stay: Stay,
     further: u32,
     text: &mut Vec<u8>,
-) -> Result<(), AllocError>
+) -> AllocResult<()>
     requires { stay.worker < book.old.start.workers }
     ensures { OnOk result (Says (next_from further stay book.old) text.old text.new book.new) }
 {
@@ -192,7 +193,7 @@ pub(crate) fn next(
     book: &mut Book,
     worker: u8,
     text: &mut Vec<u8>,
-) -> Result<(), AllocError>
+) -> AllocResult<()>
     requires { worker < book.old.start.workers }
     ensures { OnOk result (Says (next_said 9999 worker book.old) text.old text.new book.new) }
 {
@@ -207,7 +208,7 @@ fn back_within(
     stay: Stay,
     further: u32,
     text: &mut Vec<u8>,
-) -> Result<(), AllocError>
+) -> AllocResult<()>
     requires { stay.worker < book.old.start.workers }
     ensures { OnOk result (Says (back_from further stay book.old) text.old text.new book.new) }
 {
@@ -231,7 +232,7 @@ pub(crate) fn back(
     book: &mut Book,
     worker: u8,
     text: &mut Vec<u8>,
-) -> Result<(), AllocError>
+) -> AllocResult<()>
     requires { worker < book.old.start.workers }
     ensures { OnOk result (Says (back_said 9999 worker book.old) text.old text.new book.new) }
 {
@@ -245,7 +246,7 @@ pub(crate) fn roll(
     book: &mut Book,
     serial: u64,
     text: &mut Vec<u8>,
-) -> Result<(), AllocError>
+) -> AllocResult<()>
     ensures { OnOk result (Says (roll_said serial book.old) text.old text.new book.new) }
 {
     if book.is_full() {

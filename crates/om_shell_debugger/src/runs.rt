@@ -12,12 +12,13 @@ use crate::marks::Marks;
 use crate::stops::step_and_stop;
 use om_book::Book;
 use om_memory::Control;
+use om_seq::AllocResult;
 use om_shell_commands::{Stop, push_full, push_ran};
 use om_task::Choice;
 use om_task::laws::starts_at_scheduling_points;
 use om_undo::laws::ready_names_are_ready;
 use om_undo::{Machine, PlannedStep};
-use std::alloc::{AllocError, Global};
+use std::alloc::Global;
 
 // The step of a worker by a choice, planned, where it can be made.
 fn planned(
@@ -25,7 +26,7 @@ fn planned(
     machine: &Machine,
     worker: u8,
     choice: &Choice,
-) -> Result<Option<PlannedStep>, AllocError>
+) -> AllocResult<Option<PlannedStep>>
     requires { worker < machine.now.workers }
     ensures { IfOk result (λ step. step ≡ planned_by machine.now worker choice.now) }
 {
@@ -39,11 +40,7 @@ fn planned(
 
 // The start of the least ready task that a worker can begin. Only at a scheduling point is it asked
 // which tasks are ready, one after the other.
-fn first_start(
-    alloc: Global,
-    machine: &Machine,
-    worker: u8,
-) -> Result<Option<PlannedStep>, AllocError>
+fn first_start(alloc: Global, machine: &Machine, worker: u8) -> AllocResult<Option<PlannedStep>>
     requires { worker < machine.now.workers }
     ensures { IfOk result (λ step. step ≡ planned_start machine.now worker) }
 {
@@ -64,7 +61,7 @@ fn first_start(
 }
 
 // A worker's move: its next step, else the start of the least task that it can begin.
-fn move_of(alloc: Global, machine: &Machine, worker: u8) -> Result<Option<PlannedStep>, AllocError>
+fn move_of(alloc: Global, machine: &Machine, worker: u8) -> AllocResult<Option<PlannedStep>>
     requires { worker < machine.now.workers }
     ensures { IfOk result (λ step. step ≡ planned_of machine.now worker) }
 {
@@ -75,7 +72,7 @@ fn move_of(alloc: Global, machine: &Machine, worker: u8) -> Result<Option<Planne
 }
 
 // The move of the least of the last so many workers that has one.
-fn move_among(alloc: Global, machine: &Machine, last: u8) -> Result<Option<PlannedStep>, AllocError>
+fn move_among(alloc: Global, machine: &Machine, last: u8) -> AllocResult<Option<PlannedStep>>
     requires { last ≤ machine.now.workers }
     ensures moved { IfOk result (λ step. step ≡ planned_among machine.now last) }
     ensures in_range { IfOk result (λ step. IfSome step (IsOfWorkerBelow machine.now.workers)) }
@@ -93,7 +90,7 @@ fn move_among(alloc: Global, machine: &Machine, last: u8) -> Result<Option<Plann
 }
 
 // The move of the least worker that has one.
-fn first_move(alloc: Global, machine: &Machine) -> Result<Option<PlannedStep>, AllocError>
+fn first_move(alloc: Global, machine: &Machine) -> AllocResult<Option<PlannedStep>>
     ensures moved { IfOk result (λ step. step ≡ planned_move machine.now (first_move machine.now)) }
     ensures in_range { IfOk result (λ step. IfSome step (IsOfWorkerBelow machine.now.workers)) }
 {
@@ -124,7 +121,7 @@ fn stop_without_move(machine: &Machine) -> Stop
 }
 
 // Tells that a run stops where no worker has a move.
-fn push_without_move(book: &Book, made: u64, text: &mut Vec<u8>) -> Result<(), AllocError>
+fn push_without_move(book: &Book, made: u64, text: &mut Vec<u8>) -> AllocResult<()>
     ensures { OnOk result (Writes (rest_text book.now made) text.old text.new) }
 {
     let stop = stop_without_move(book.machine());
@@ -145,12 +142,7 @@ enum Moved {
 }
 
 // Makes a move, where there is room to record it.
-fn make(
-    alloc: Global,
-    book: &mut Book,
-    marks: &Marks,
-    step: PlannedStep,
-) -> Result<Moved, AllocError>
+fn make(alloc: Global, book: &mut Book, marks: &Marks, step: PlannedStep) -> AllocResult<Moved>
     requires planned { step.machine ≡ machine_of book.old }
     requires in_range { step.label.worker < book.old.start.workers }
     ensures moved { IfOk result
@@ -168,7 +160,7 @@ fn make(
 }
 
 // Makes the move of the least worker that has one.
-fn advance(alloc: Global, book: &mut Book, marks: &Marks) -> Result<Moved, AllocError>
+fn advance(alloc: Global, book: &mut Book, marks: &Marks) -> AllocResult<Moved>
     ensures moved { IfOk result (λ moved. moved ≡ moved_of marks.now book.old) }
     ensures after { OnOk result (book.new ≡ after_move book.old) }
 {
@@ -185,7 +177,7 @@ pub(crate) fn run(
     marks: &Marks,
     steps: u32,
     text: &mut Vec<u8>,
-) -> Result<(), AllocError>
+) -> AllocResult<()>
     ensures { OnOk result (Says (run_said steps marks.now book.old) text.old text.new book.new) }
 {
     let mut left = steps;

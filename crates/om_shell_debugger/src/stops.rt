@@ -11,9 +11,10 @@ use crate::calls::take;
 use crate::marks::{Marks, has_line};
 use om_book::Book;
 use om_code::frame::Cell;
+use om_seq::AllocResult;
 use om_shell_commands::{GlobalCell, Stop};
 use om_undo::{Machine, PlannedStep, StepReply};
-use std::alloc::{AllocError, Global};
+use std::alloc::Global;
 
 // A step that ended with a fault.
 fn fault_stop(reply: &StepReply, worker: u8) -> Option<Stop>
@@ -63,7 +64,7 @@ fn is_same_cell(a: Cell, b: Cell) -> bool
 }
 
 // What a cell of a global holds.
-fn value_of(alloc: Global, machine: &Machine, cell: GlobalCell) -> Result<Cell, AllocError>
+fn value_of(alloc: Global, machine: &Machine, cell: GlobalCell) -> AllocResult<Cell>
     ensures { IfOk result (λ value. value ≡ value_of (state_in machine.now) cell) }
 {
     let value = machine.look(alloc, &cell.object())?;
@@ -80,11 +81,7 @@ struct Watched {
 }
 
 // Cells, each with what it holds.
-fn held_by(
-    alloc: Global,
-    machine: &Machine,
-    cells: &[GlobalCell],
-) -> Result<Vec<Watched>, AllocError>
+fn held_by(alloc: Global, machine: &Machine, cells: &[GlobalCell]) -> AllocResult<Vec<Watched>>
     ensures { IfOk result (λ all. all.items ≡ map (watched (state_in machine.now)) cells.now) }
 {
     let mut all = Vec::new(alloc);
@@ -101,7 +98,7 @@ fn watch_stop(
     machine: &Machine,
     all: &[Watched],
     worker: u8,
-) -> Result<Option<Stop>, AllocError>
+) -> AllocResult<Option<Stop>>
     ensures { IfOk result (λ stop. stop ≡ watch_stop all.now (state_in machine.now) worker) }
 {
     for one in all {
@@ -131,7 +128,7 @@ pub(crate) fn step_and_stop(
     book: &mut Book,
     marks: &Marks,
     step: PlannedStep,
-) -> Result<Option<Stop>, AllocError>
+) -> AllocResult<Option<Stop>>
     requires planned { step.machine ≡ machine_of book.old }
     requires in_range { step.label.worker < book.old.start.workers }
     requires room { records_of book.old < 200000 }

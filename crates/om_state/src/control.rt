@@ -9,8 +9,8 @@ use crate::shared_team::SharedTeam;
 use om_code::frame::{Fault, Operand};
 use om_code::instruction::Schedule;
 use om_foot::{Name, Obj, Shared};
-use om_seq::{Pile, Seq};
-use std::alloc::{AllocError, Global};
+use om_seq::{AllocResult, Pile, Seq};
+use std::alloc::Global;
 
 /// Where the cells of a frame's slot lie.
 #[derive(Drop)]
@@ -27,7 +27,7 @@ pub enum Home {
 
 impl Home {
     /// A copy; its only error is out of memory.
-    pub fn copy(&self) -> Result<Home, AllocError>
+    pub fn copy(&self) -> AllocResult<Home>
         ensures { IfOk result (λ home. home ≡ self.now) }
     {
         match self {
@@ -77,7 +77,7 @@ pub struct Frame {
 
 impl Frame {
     /// A copy, with room for one more operand; its only error is out of memory.
-    pub fn copy(&self, alloc: Global) -> Result<Frame, AllocError>
+    pub fn copy(&self, alloc: Global) -> AllocResult<Frame>
         ensures { IfOk result (λ frame. frame ≡ self.now) }
     {
         let mut operands = Vec::with_capacity(alloc, self.operands.len().saturating_add(1))?;
@@ -106,7 +106,7 @@ pub struct Team {
 
 impl Team {
     /// The same place; its only error is out of memory.
-    pub fn copy(&self) -> Result<Team, AllocError>
+    pub fn copy(&self) -> AllocResult<Team>
         ensures { IfOk result (λ team. team ≡ self.now) }
     {
         Ok(Team {

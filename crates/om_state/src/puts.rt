@@ -6,8 +6,8 @@ ghost use Rattle.om_state.specs.Runs.{run_puts, runs_listed};
 use crate::runs::Run;
 use crate::step::Update;
 use crate::value::Val;
-use om_seq::Seq;
-use std::alloc::{AllocError, Global};
+use om_seq::{AllocResult, Seq};
+use std::alloc::Global;
 use std::marker::Model;
 
 // What is put behind the single updates in front: runs of puts for cells that are named at once, and
@@ -71,7 +71,7 @@ pub struct PutParts {
 }
 
 // An update in front of others, with room for no more.
-fn in_front(updates: Seq<Update>, update: Update) -> Result<Seq<Update>, AllocError>
+fn in_front(updates: Seq<Update>, update: Update) -> AllocResult<Seq<Update>>
     ensures { IfOk result (λ all. all ≡ update ∷ updates) }
 {
     let mut items = updates.into_vec();
@@ -82,7 +82,7 @@ fn in_front(updates: Seq<Update>, update: Update) -> Result<Seq<Update>, AllocEr
 }
 
 // Appends each put of a run.
-fn push_each(updates: &mut Seq<Update>, run: &Run) -> Result<(), AllocError>
+fn push_each(updates: &mut Seq<Update>, run: &Run) -> AllocResult<()>
     ensures { OnOk result (updates.new ≡ updates.old ++ run_puts run.now) }
 {
     for _index in 0..run.count {
@@ -92,7 +92,7 @@ fn push_each(updates: &mut Seq<Update>, run: &Run) -> Result<(), AllocError>
 }
 
 // Appends each put of all of these runs.
-fn list_each(updates: &mut Seq<Update>, runs: &[Run]) -> Result<(), AllocError>
+fn list_each(updates: &mut Seq<Update>, runs: &[Run]) -> AllocResult<()>
     ensures { OnOk result (updates.new ≡ updates.old ++ runs_listed runs.now) }
 {
     for run in runs {
@@ -103,14 +103,14 @@ fn list_each(updates: &mut Seq<Update>, runs: &[Run]) -> Result<(), AllocError>
 
 impl Behind {
     // Appends an update. When out of memory, no more is said of the updates.
-    fn push(&mut self, update: Update) -> Result<(), AllocError>
+    fn push(&mut self, update: Update) -> AllocResult<()>
         ensures { OnOk result (self.new ≡ self.old ++ update ∷ []) }
     {
         self.last.push(update)
     }
 
     // Appends the puts of a run. When out of memory, no more is said of the updates.
-    fn push_run(&mut self, run: Run) -> Result<(), AllocError>
+    fn push_run(&mut self, run: Run) -> AllocResult<()>
         ensures { OnOk result (self.new ≡ self.old ++ run_puts run) }
     {
         if self.last.is_empty() {
@@ -122,7 +122,7 @@ impl Behind {
 }
 
 // What stands behind the updates in front, begun with a run.
-fn begun(alloc: Global, run: Run) -> Result<Box<Behind>, AllocError>
+fn begun(alloc: Global, run: Run) -> AllocResult<Box<Behind>>
     ensures { IfOk result (λ behind. behind.value ≡ run_puts run) }
 {
     let runs = Seq::one(alloc, run)?;
@@ -164,7 +164,7 @@ impl Puts {
     }
 
     /// Appends an update. Its only error is out of memory; then no more is said of the updates.
-    pub fn push(&mut self, update: Update) -> Result<(), AllocError>
+    pub fn push(&mut self, update: Update) -> AllocResult<()>
         ensures { OnOk result (self.new ≡ self.old ++ update ∷ []) }
     {
         match &mut self.behind {
@@ -174,7 +174,7 @@ impl Puts {
     }
 
     /// Appends the puts of a run. Its only error is out of memory; then no more is said of the updates.
-    pub fn push_run(&mut self, run: Run) -> Result<(), AllocError>
+    pub fn push_run(&mut self, run: Run) -> AllocResult<()>
         ensures { OnOk result (self.new ≡ self.old ++ run_puts run) }
     {
         match &mut self.behind {
@@ -188,7 +188,7 @@ impl Puts {
 
     /// These updates behind one more. The record of a step keeps them, so there is room for no others.
     /// Its only error is out of memory.
-    pub fn behind(self, update: Update) -> Result<Puts, AllocError>
+    pub fn behind(self, update: Update) -> AllocResult<Puts>
         ensures { IfOk result (λ all. all ≡ update ∷ self) }
     {
         let Puts {
@@ -232,7 +232,7 @@ impl Puts {
     }
 
     /// Each update by itself. Its only error is out of memory.
-    pub fn into_vec(self) -> Result<Vec<Update>, AllocError>
+    pub fn into_vec(self) -> AllocResult<Vec<Update>>
         ensures { IfOk result (λ all. all.items ≡ self) }
     {
         let Puts {

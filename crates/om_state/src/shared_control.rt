@@ -5,7 +5,8 @@ ghost use Rattle.std.specs.Option.{option_copied};
 
 use crate::control::Control;
 use om_foot::Shared;
-use std::alloc::{AllocError, Global};
+use om_seq::AllocResult;
+use std::alloc::Global;
 use std::marker::Model;
 
 /// A worker's control that its copies share. It is as small for a control of any size, and one that
@@ -44,7 +45,7 @@ impl SharedControl {
     }
 
     /// A control with one owner; its only error is out of memory.
-    pub fn of(alloc: Global, control: Control) -> Result<SharedControl, AllocError>
+    pub fn of(alloc: Global, control: Control) -> AllocResult<SharedControl>
         ensures { IfOk result (λ shared. shared ≡ control) }
     {
         match control {
@@ -64,7 +65,7 @@ impl SharedControl {
 
     /// The same control for one owner more; its only error is out of memory, where it has 2^63
     /// owners.
-    pub fn copy(&self) -> Result<SharedControl, AllocError>
+    pub fn copy(&self) -> AllocResult<SharedControl>
         ensures { IfOk result (λ shared. shared ≡ self.now) }
     {
         match &self.control {

@@ -3,8 +3,8 @@
 ghost use Rattle.std.specs.Prelude.{◌≡◌, [], IfOk, reverse};
 
 use om_foot::Shared;
-use om_seq::Pile;
-use std::alloc::{AllocError, Global};
+use om_seq::{AllocResult, Pile};
+use std::alloc::Global;
 use std::marker::Model;
 
 /// A stack of items that its copies share.
@@ -26,7 +26,7 @@ impl<T> Model for SharedPile<T> {
 
 impl<T> SharedPile<T> {
     /// The empty stack; its only error is out of memory.
-    pub fn new(alloc: Global) -> Result<SharedPile<T>, AllocError>
+    pub fn new(alloc: Global) -> AllocResult<SharedPile<T>>
     where
         T: Drop,
         ensures { IfOk result (λ pile. pile ≡ []) }
@@ -37,7 +37,7 @@ impl<T> SharedPile<T> {
     }
 
     /// The stack of a vector's items, the last one on top; its only error is out of memory.
-    pub fn of(alloc: Global, items: Vec<Shared<T>>) -> Result<SharedPile<T>, AllocError>
+    pub fn of(alloc: Global, items: Vec<Shared<T>>) -> AllocResult<SharedPile<T>>
     where
         T: Drop,
         ensures { IfOk result (λ pile. pile ≡ reverse items.items) }
@@ -55,7 +55,7 @@ impl<T> SharedPile<T> {
     }
 
     /// The same stack for one owner more; its only error is out of memory, where it has 2^63 owners.
-    pub fn copy(&self) -> Result<SharedPile<T>, AllocError>
+    pub fn copy(&self) -> AllocResult<SharedPile<T>>
         ensures { IfOk result (λ pile. pile ≡ self.now) }
     {
         Ok(SharedPile {

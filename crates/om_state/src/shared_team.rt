@@ -4,7 +4,8 @@ ghost use Rattle.std.specs.Prelude.{◌≡◌, ◌<◌, IfOk};
 
 use crate::control::Team;
 use om_foot::Shared;
-use std::alloc::{AllocError, Global};
+use om_seq::AllocResult;
+use std::alloc::Global;
 use std::marker::Model;
 
 /// A member's place in its team, which its copies share. The number of the member is below the size
@@ -36,7 +37,7 @@ impl Model for SharedTeam {
 
 impl SharedTeam {
     /// A place with one owner; its only error is out of memory.
-    pub fn of(alloc: Global, team: Team) -> Result<SharedTeam, AllocError>
+    pub fn of(alloc: Global, team: Team) -> AllocResult<SharedTeam>
         requires { team.number < team.size }
         ensures { IfOk result (λ shared. shared ≡ team) }
     {
@@ -54,7 +55,7 @@ impl SharedTeam {
     }
 
     /// The same place for one owner more; its only error is out of memory.
-    pub fn copy(&self) -> Result<SharedTeam, AllocError>
+    pub fn copy(&self) -> AllocResult<SharedTeam>
         ensures { IfOk result (λ shared. shared ≡ self.now) }
     {
         Ok(SharedTeam {

@@ -10,8 +10,8 @@ use crate::step::Tail;
 use om_code::frame::Cell;
 use om_events::Record;
 use om_foot::{Name, Obj, Shared};
-use om_seq::Seq;
-use std::alloc::{AllocError, Global};
+use om_seq::{AllocResult, Seq};
+use std::alloc::Global;
 
 /// An explicit task that was made and not begun.
 #[derive(Drop)]
@@ -65,7 +65,7 @@ pub enum Val {
 
 impl Task {
     // A copy; its only error is out of memory.
-    fn copy(&self) -> Result<Task, AllocError>
+    fn copy(&self) -> AllocResult<Task>
         ensures { IfOk result (λ task. task ≡ self.now) }
     {
         match self {
@@ -187,7 +187,7 @@ impl Val {
     }
 
     /// Appends to output or to events; another value stays. When out of memory, nothing changes.
-    pub fn append(&mut self, tail: Tail) -> Result<(), AllocError>
+    pub fn append(&mut self, tail: Tail) -> AllocResult<()>
         ensures appended { OnOk result (self.new ≡ value_with tail self.old) }
         ensures unchanged_on_error { OnErr result (self.new ≡ self.old) }
     {
@@ -210,7 +210,7 @@ impl Val {
     }
 
     /// A copy; its only error is out of memory.
-    pub fn copy(&self, alloc: Global) -> Result<Val, AllocError>
+    pub fn copy(&self, alloc: Global) -> AllocResult<Val>
         ensures { IfOk result (λ value. value ≡ self.now) }
     {
         match self {
@@ -230,7 +230,7 @@ impl Val {
 }
 
 // Copies of event records, in their order.
-fn copy_records(alloc: Global, records: &[Record]) -> Result<Seq<Record>, AllocError>
+fn copy_records(alloc: Global, records: &[Record]) -> AllocResult<Seq<Record>>
     ensures { IfOk result (λ copies. copies ≡ records.now) }
 {
     let mut copies = Vec::with_capacity(alloc, records.len())?;

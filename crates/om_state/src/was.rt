@@ -8,8 +8,8 @@ ghost use Rattle.om_state.specs.declared.value.Val.TheVariants as value;
 use crate::runs::{Run, Was};
 use crate::value::Val;
 use om_code::frame::Cell;
-use om_seq::Seq;
-use std::alloc::{AllocError, Global};
+use om_seq::{AllocResult, Seq};
+use std::alloc::Global;
 use std::marker::Model;
 
 /// What cells held, noted one by one. Values that are alike are counted.
@@ -46,7 +46,7 @@ impl Noted {
     }
 
     /// Notes a value behind the others. Its only error is out of memory; then no more is said of them.
-    pub fn note(&mut self, alloc: Global, value: &Val) -> Result<(), AllocError>
+    pub fn note(&mut self, alloc: Global, value: &Val) -> AllocResult<()>
         ensures { OnOk result (self.new ≡ self.old ++ update.Put value.now ∷ []) }
     {
         if let Val::Cell(cell) = value {
@@ -59,7 +59,7 @@ impl Noted {
     }
 
     // Notes a cell behind the others.
-    fn note_cell(&mut self, cell: Cell) -> Result<(), AllocError>
+    fn note_cell(&mut self, cell: Cell) -> AllocResult<()>
         ensures { OnOk result (self.new ≡ self.old ++ update.Put (value.Cell cell) ∷ []) }
     {
         if self.run.cell == cell && self.run.count < u32::MAX {
@@ -72,7 +72,7 @@ impl Noted {
     }
 
     /// What is noted. Its only error is out of memory.
-    pub fn into_seq(self) -> Result<Seq<Was>, AllocError>
+    pub fn into_seq(self) -> AllocResult<Seq<Was>>
         ensures { IfOk result (λ was. were_listed was ≡ self) }
     {
         let Noted { was, run } = self;

@@ -8,12 +8,12 @@ ghost use Rattle.om_task.specs.Tasks.{group_count, counts, additions};
 
 use om_foot::{Mode, Name, Names, Obj};
 use om_memory::Context;
+use om_seq::AllocResult;
 use om_state::{Puts, Update};
 use om_team_serial::names::name;
-use std::alloc::AllocError;
 
 // Appends the count of a task group, where there is a group.
-fn name_group(names: &mut Names, group: &Option<Name>) -> Result<(), AllocError>
+fn name_group(names: &mut Names, group: &Option<Name>) -> AllocResult<()>
     ensures { OnOk result (names.new ≡ names.old ++ group_count group.now) }
 {
     let Some(group) = group else {
@@ -29,7 +29,7 @@ pub(crate) fn name_counts(
     parent: &Name,
     context: &Context,
     group: &Option<Name>,
-) -> Result<(), AllocError>
+) -> AllocResult<()>
     ensures { OnOk result
         (names.new ≡ names.old ++ counts parent.now (plain_context context.now) group.now) }
 {
@@ -47,7 +47,7 @@ pub(crate) fn add_to_counts(
     updates: &mut Puts,
     number: i128,
     group: &Option<Name>,
-) -> Result<(), AllocError>
+) -> AllocResult<()>
     ensures { OnOk result (updates.new ≡ updates.old ++ additions number group.now) }
 {
     updates.push(Update::Add(number))?;

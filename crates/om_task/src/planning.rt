@@ -21,13 +21,13 @@ use crate::task_start::{Starting, start};
 use om_code::Program;
 use om_foot::{Access, Names};
 use om_memory::{Control, Memory, Stack};
-use om_seq::Seq;
+use om_seq::{AllocResult, Seq};
 use om_state::{Blocked, Change, Choice, Edit, Footprint, Label, Puts};
 use om_team::Doing;
 use om_team::answers::footprint;
 use om_team::table::instruction_of;
 use om_team_serial::{Answer, Row};
-use std::alloc::{AllocError, Global};
+use std::alloc::Global;
 
 /// A choice of one of so many workers. A choice is large, so it stays where it is.
 #[derive(Clone, Copy)]
@@ -49,7 +49,7 @@ fn next_answer(
     store: &Memory,
     stack: &Stack,
     planning: &Planning<'_>,
-) -> Result<Answer, AllocError>
+) -> AllocResult<Answer>
     requires { IsWithin (2 ^ 63) (plain_stack stack.now).top }
     ensures { AnswersAt result
         (next_asked program.now planning.now.workers planning.now.worker stack.now) store.now }
@@ -72,7 +72,7 @@ fn choice_answer(
     store: &Memory,
     stack: &Stack,
     planning: &Planning<'_>,
-) -> Result<Answer, AllocError>
+) -> AllocResult<Answer>
     requires { IsWithin (2 ^ 63) (plain_stack stack.now).top }
     ensures { AnswersAt result
         (choice_asked program.now planning.now.workers
@@ -98,7 +98,7 @@ fn control_answer(
     store: &Memory,
     control: &Control,
     planning: &Planning<'_>,
-) -> Result<Answer, AllocError>
+) -> AllocResult<Answer>
     requires { ControlWithin (2 ^ 63) (plain_control control.now) }
     ensures { Gives result
         (answer_by program.now planning.now.workers
@@ -113,7 +113,7 @@ fn control_answer(
 }
 
 // The plan of a step, by what it names and by its row. A fault is an edit of the control.
-fn planned(alloc: Global, worker: u8, line: u32, names: Names, row: Row) -> Result<Plan, AllocError>
+fn planned(alloc: Global, worker: u8, line: u32, names: Names, row: Row) -> AllocResult<Plan>
     ensures plan { (c : controls.Control) → Plans result c (row_step worker names c row line) }
     ensures room { (c : controls.Control) → RowHasRoom c row → IfOk result (PlanHasRoom c) }
 {
@@ -161,7 +161,7 @@ fn control_plan(
     store: &Memory,
     control: &Control,
     planning: &Planning<'_>,
-) -> Result<Plan, AllocError>
+) -> AllocResult<Plan>
     requires control { ControlWithin (2 ^ 63) (plain_control control.now) }
     requires state { StateWithin (2 ^ 63) (state_of store.now) }
     ensures plan { PlansBy result program.now planning.now.workers
@@ -183,7 +183,7 @@ pub fn names(
     workers: u8,
     control: &Control,
     label: &Label,
-) -> Result<Seq<Access>, AllocError>
+) -> AllocResult<Seq<Access>>
     requires counters { ControlWithin (2 ^ 63) (plain_control control.now) }
     requires some { 1 ≤ workers }
     ensures { Gives result (names_of program.now workers label.now (plain_control control.now)) }
@@ -206,7 +206,7 @@ fn control_row(
     store: &Memory,
     control: &Control,
     planning: &Planning<'_>,
-) -> Result<Row, AllocError>
+) -> AllocResult<Row>
     requires { ControlWithin (2 ^ 63) (plain_control control.now) }
     ensures { Gives result
         (answer_by program.now planning.now.workers
@@ -229,7 +229,7 @@ pub fn effect(
     store: &Memory,
     workers: u8,
     label: &Label,
-) -> Result<Row, AllocError>
+) -> AllocResult<Row>
     requires counters { StateWithin (2 ^ 63) (state_of store.now) }
     requires some { 1 ≤ workers }
     ensures { Gives result (effect_at program.now workers label.now (state_of store.now)) }
@@ -252,7 +252,7 @@ pub fn plan_by(
     program: &Program,
     store: &Memory,
     planning: &Planning<'_>,
-) -> Result<Plan, AllocError>
+) -> AllocResult<Plan>
     requires { StateWithin (2 ^ 63) (state_of store.now) }
     ensures plan { IfOk result (λ plan. StandsFor plan
         (control_in (state_of store.now (obj.Control planning.now.worker)))
@@ -278,7 +278,7 @@ pub fn plan(
     store: &Memory,
     workers: u8,
     label: &Label,
-) -> Result<Plan, AllocError>
+) -> AllocResult<Plan>
     requires counters { StateWithin (2 ^ 63) (state_of store.now) }
     requires some { 1 ≤ workers }
     ensures plan { IfOk result (λ plan. StandsFor plan

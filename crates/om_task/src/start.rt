@@ -17,11 +17,11 @@ use om_code::{Body, Program};
 use om_events::{Endpoint, Record, TaskFlag, Thread};
 use om_foot::{Name, Obj, Shared};
 use om_memory::Memory;
-use om_seq::Seq;
+use om_seq::{AllocResult, Seq};
 use om_state::{Context, Control, Frame, Kind, SharedPile, Stack, Team, Val};
 use om_team_serial::begin::{first_frame, in_no_group, new_context};
 use om_team_serial::names::homes_for;
-use std::alloc::{AllocError, Global};
+use std::alloc::Global;
 
 // The body of `main`.
 fn main_body(program: &Program) -> &Body
@@ -45,7 +45,7 @@ fn first_task() -> Name
 }
 
 // The frame of the initial task, at the first instruction of `main`.
-fn main_frame(alloc: Global, program: &Program) -> Result<Frame, AllocError>
+fn main_frame(alloc: Global, program: &Program) -> AllocResult<Frame>
     ensures { Gives result (first_context program.now).frame }
 {
     let slots = main_body(program).slots.as_slice();
@@ -56,7 +56,7 @@ fn main_frame(alloc: Global, program: &Program) -> Result<Frame, AllocError>
 }
 
 // The context of the initial task, with its frame: it is alone in a team, and in no group.
-fn first_context(alloc: Global, frame: Frame) -> Result<Context, AllocError>
+fn first_context(alloc: Global, frame: Frame) -> AllocResult<Context>
     ensures { Gives result (initial_context frame) }
 {
     let team = &Team {
@@ -70,7 +70,7 @@ fn first_context(alloc: Global, frame: Frame) -> Result<Context, AllocError>
 }
 
 // The control of the worker that runs the initial task.
-fn first_control(alloc: Global, program: &Program) -> Result<Control, AllocError>
+fn first_control(alloc: Global, program: &Program) -> AllocResult<Control>
     ensures { Gives result (first_control program.now 0) }
 {
     let frame = main_frame(alloc, program)?;
@@ -85,7 +85,7 @@ fn first_control(alloc: Global, program: &Program) -> Result<Control, AllocError
 }
 
 // What is recorded of the worker that runs the initial task.
-fn initial_records(alloc: Global) -> Result<Val, AllocError>
+fn initial_records(alloc: Global) -> AllocResult<Val>
     ensures { IfOk result (λ v. v ≡ value.Events (first_records 1 0)) }
 {
     let thread = Thread::Initial;
@@ -102,7 +102,7 @@ fn initial_records(alloc: Global) -> Result<Val, AllocError>
 }
 
 // What is recorded of any other worker.
-fn worker_records(alloc: Global) -> Result<Val, AllocError>
+fn worker_records(alloc: Global) -> AllocResult<Val>
     ensures { IfOk result (λ v. v ≡ value.Events (event_record.ThreadBegin thread.Worker ∷ [])) }
 {
     let thread = Thread::Worker;
@@ -121,7 +121,7 @@ fn initial_value(global: &GlobalVariable) -> Val
 }
 
 // Puts the control of the worker that runs the initial task. Its only error is out of memory.
-fn begin_initial(alloc: Global, store: &mut Memory, program: &Program) -> Result<(), AllocError>
+fn begin_initial(alloc: Global, store: &mut Memory, program: &Program) -> AllocResult<()>
     ensures { OnOk result (state_of store.new ≡ initial_begun program.now (state_of store.old)) }
 {
     let control = first_control(alloc, program)?;
@@ -131,7 +131,7 @@ fn begin_initial(alloc: Global, store: &mut Memory, program: &Program) -> Result
 }
 
 // The store in which a program starts with one worker. Its only error is out of memory.
-fn with_globals(alloc: Global, program: &Program) -> Result<Memory, AllocError>
+fn with_globals(alloc: Global, program: &Program) -> AllocResult<Memory>
     ensures { IfOk result (λ store. state_of store ≡ start_of program.now 1) }
 {
     let mut store = Memory::new(alloc);
@@ -147,7 +147,7 @@ fn with_globals(alloc: Global, program: &Program) -> Result<Memory, AllocError>
 
 /// The store in which a program starts with so many workers, 1 to 32. Its only error is out of
 /// memory.
-pub fn started(alloc: Global, program: &Program, workers: u8) -> Result<Memory, AllocError>
+pub fn started(alloc: Global, program: &Program, workers: u8) -> AllocResult<Memory>
     requires { 1 ≤ workers }
     ensures { IfOk result (λ store. state_of store ≡ start_of program.now workers) }
 {

@@ -10,10 +10,11 @@ use crate::task::{Making, spawn, task_end, task_yield};
 use crate::wait::{group_begin, group_end, wait_begin, wait_end};
 use om_code::{Instr, Program};
 use om_memory::{Context, Memory, Stack};
+use om_seq::AllocResult;
 use om_team::Doing;
 use om_team::table::{is_of_tasks, launch, slots};
 use om_team_serial::{Answer, Row};
-use std::alloc::{AllocError, Global};
+use std::alloc::Global;
 
 // Tasks and task groups.
 fn task_answer(
@@ -22,7 +23,7 @@ fn task_answer(
     program: &Program,
     stack: &Stack,
     doing: Doing,
-) -> Result<Answer, AllocError>
+) -> AllocResult<Answer>
     requires { IsReady program.now (plain_stack stack.now) doing.instruction }
     ensures { AnswersAt result (asked_by task_row program.now stack.now doing) store.now }
 {
@@ -57,7 +58,7 @@ pub(crate) fn answer(
     program: &Program,
     stack: &Stack,
     doing: Doing,
-) -> Result<Answer, AllocError>
+) -> AllocResult<Answer>
     requires { IsReady program.now (plain_stack stack.now) doing.instruction }
     ensures { AnswersAt result (asked_by row_of program.now stack.now doing) store.now }
 {

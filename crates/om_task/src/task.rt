@@ -16,7 +16,7 @@ use om_code::raw::Slot;
 use om_events::{Record, TaskStatus};
 use om_foot::{Mode, Name, Names, Obj, Shared};
 use om_memory::{Context, Stack, Tape};
-use om_seq::Seq;
+use om_seq::{AllocResult, Seq};
 use om_state::{Edit, Kind, Puts, Ready, Task, Update, Val};
 use om_team_serial::names::{
     group_of, homes_in, name_events, name_given, name_one, operands_of, own_cells,
@@ -24,7 +24,7 @@ use om_team_serial::names::{
 use om_team_serial::parts::{go_and, one_put};
 use om_team_serial::updates::{put_deaths, put_event, put_ints};
 use om_team_serial::{Answer, Launch, Row};
-use std::alloc::{AllocError, Global};
+use std::alloc::Global;
 
 /// How a task is made.
 #[derive(Clone, Copy)]
@@ -51,7 +51,7 @@ fn made_names(
     body: &Body,
     context: &Context,
     new: &Name,
-) -> Result<Names, AllocError>
+) -> AllocResult<Names>
     ensures { Gives result (made_names worker body.now (plain_context context.now) new.now) }
 {
     let mut names = name_one(alloc, &Obj::Task(*new), Mode::Write)?;
@@ -63,12 +63,7 @@ fn made_names(
 }
 
 // What a task that is made waits with.
-fn ready_of(
-    alloc: Global,
-    making: &Making,
-    body: &Body,
-    context: &Context,
-) -> Result<Ready, AllocError>
+fn ready_of(alloc: Global, making: &Making, body: &Body, context: &Context) -> AllocResult<Ready>
     ensures { Gives result (ready_of making.now body.now (plain_context context.now)) }
 {
     let homes = homes_in(alloc, context, body.slots.as_slice())?;
@@ -92,7 +87,7 @@ fn give_values(
     context: &Context,
     new: &Name,
     values: &[i32],
-) -> Result<(), AllocError>
+) -> AllocResult<()>
     ensures { OnOk result
         (updates.new ≡ updates.old ++ values_given (plain_context context.now) new.now values.now) }
 {
@@ -106,12 +101,7 @@ fn give_values(
 }
 
 // A task that is ready, as what is put.
-fn ready_put(
-    alloc: Global,
-    making: &Making,
-    body: &Body,
-    context: &Context,
-) -> Result<Puts, AllocError>
+fn ready_put(alloc: Global, making: &Making, body: &Body, context: &Context) -> AllocResult<Puts>
     ensures { Gives result (ready_put making.now body.now (plain_context context.now)) }
 {
     let ready = ready_of(alloc, making, body, context)?;
@@ -126,7 +116,7 @@ fn made(
     body: &Body,
     context: &Context,
     values: &[i32],
-) -> Result<Answer, AllocError>
+) -> AllocResult<Answer>
     requires { context.now.births + 1 < 2 ^ 64 }
     ensures { Answers result (born_row making.now body.now (plain_context context.now) values.now) }
 {
@@ -149,12 +139,7 @@ fn made(
 /// SPAWN: a task is made of a body, which is that of the launch, with firstprivate values.
 ///
 /// These are the operands that the launch takes. The only error is out of memory.
-pub fn spawn(
-    alloc: Global,
-    making: &Making,
-    body: &Body,
-    context: &Context,
-) -> Result<Answer, AllocError>
+pub fn spawn(alloc: Global, making: &Making, body: &Body, context: &Context) -> AllocResult<Answer>
     requires { context.now.births + 1 < 2 ^ 64 }
     ensures { Answers result (spawn_row making.now body.now (plain_context context.now)) }
 {
@@ -172,7 +157,7 @@ fn ended_names(
     context: &Context,
     own: &Names,
     parent: &Name,
-) -> Result<Names, AllocError>
+) -> AllocResult<Names>
     ensures { Gives result (ended_names worker (plain_context context.now) own.now parent.now) }
 {
     let mut names = name_one(alloc, &Obj::Task(*context.task.get()), Mode::Write)?;
@@ -188,7 +173,7 @@ fn ended_updates(
     context: &Context,
     own: &Names,
     next: &Shared<Name>,
-) -> Result<Puts, AllocError>
+) -> AllocResult<Puts>
     ensures { Gives result (ended_updates (plain_context context.now) own.now next.now) }
 {
     let mut updates = one_put(alloc, Update::Put(Val::Task(Task::Done)))?;
@@ -219,7 +204,7 @@ fn next_below(below: &Tape<Box<Context>>) -> Option<&Context>
 }
 
 // The row of the end of a task, above a context that goes on.
-fn ended(alloc: Global, context: &Context, own: &Names, next: &Context) -> Result<Row, AllocError>
+fn ended(alloc: Global, context: &Context, own: &Names, next: &Context) -> AllocResult<Row>
     ensures { Gives result (ending (plain_context context.now) own.now next.now.task) }
 {
     let updates = ended_updates(alloc, context, own, &next.task)?;
@@ -230,12 +215,7 @@ fn ended(alloc: Global, context: &Context, own: &Names, next: &Context) -> Resul
 /// TEND: an explicit task ends, its frame's own cells with it, and the context below runs on.
 ///
 /// The slots are those of the frame's body. The only error is out of memory.
-pub fn task_end(
-    alloc: Global,
-    worker: u8,
-    stack: &Stack,
-    slots: &[Slot],
-) -> Result<Answer, AllocError>
+pub fn task_end(alloc: Global, worker: u8, stack: &Stack, slots: &[Slot]) -> AllocResult<Answer>
     requires { length slots.now ≤ 2 ^ 32 }
     ensures { Answers result (task_end_row worker (plain_stack stack.now) slots.now) }
 {
@@ -252,7 +232,7 @@ pub fn task_end(
 /// YIELD: a task goes on to a place, and might have started another task.
 ///
 /// The only error is out of memory.
-pub fn task_yield(alloc: Global, to: u32) -> Result<Answer, AllocError>
+pub fn task_yield(alloc: Global, to: u32) -> AllocResult<Answer>
     ensures { Answers result (task_yield_row to) }
 {
     let row = Row::goes(alloc, to, 0, None, Puts::new(alloc))?;

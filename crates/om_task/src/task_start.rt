@@ -10,12 +10,12 @@ ghost use Rattle.om_task.specs.Rows.{begun_updates, ready_for, start_row};
 use om_events::{Record, TaskStatus};
 use om_foot::{Mode, Name, Obj, Shared};
 use om_memory::{Context, Memory};
-use om_seq::Seq;
+use om_seq::{AllocResult, Seq};
 use om_state::{Blocked, Context as PlainContext, Edit, Kind, Puts, Ready, Task, Update, Val};
 use om_team_serial::begin::{Standing, first_frame, new_context};
 use om_team_serial::parts::{name_with_events, update_with_event};
 use om_team_serial::{Answer, Row};
-use std::alloc::{AllocError, Global};
+use std::alloc::Global;
 
 /// Where a task is to be started.
 #[derive(Clone, Copy)]
@@ -35,7 +35,7 @@ fn task_standing(
     name: &Shared<Name>,
     on: &Context,
     ready: &Ready,
-) -> Result<Standing, AllocError>
+) -> AllocResult<Standing>
     ensures { IfOk result
         (λ s. s ≡ record {
           task = name.now;
@@ -56,7 +56,7 @@ fn task_context(
     name: &Shared<Name>,
     on: &Context,
     ready: &Ready,
-) -> Result<PlainContext, AllocError>
+) -> AllocResult<PlainContext>
     ensures { Gives result (task_context name.now (plain_context on.now) ready.now) }
 {
     let homes = ready.homes.copy()?;
@@ -72,7 +72,7 @@ fn begun_updates(
     prior: &Shared<Name>,
     status: TaskStatus,
     next: &Shared<Name>,
-) -> Result<Puts, AllocError>
+) -> AllocResult<Puts>
     ensures { Gives result (begun_updates worker prior.now status next.now) }
 {
     let entry = Record::TaskSchedule {
@@ -89,7 +89,7 @@ fn beginning(
     name: &Shared<Name>,
     on: &Context,
     ready: &Ready,
-) -> Result<Seq<Edit>, AllocError>
+) -> AllocResult<Seq<Edit>>
     ensures { Gives result (beginning name.now (plain_context on.now) ready.now) }
 {
     let context = Shared::of(alloc, task_context(alloc, name, on, ready)?)?;
@@ -120,7 +120,7 @@ pub fn start(
     starting: &Starting,
     name: &Name,
     on: &Context,
-) -> Result<Answer, AllocError>
+) -> AllocResult<Answer>
     ensures { AnswersAt result (start_row starting.now name.now (plain_context on.now)) store.now }
 {
     let Some(status) = starting.status else {

@@ -12,7 +12,7 @@ use om_code::frame::Fault;
 use om_events::{Endpoint, Record, Sync};
 use om_foot::{Mode, Name, Obj, Shared};
 use om_memory::{Context, Memory};
-use om_seq::Seq;
+use om_seq::{AllocResult, Seq};
 use om_state::{Blocked, Construct, Edit, Update};
 use om_team_serial::counts::is_zero;
 use om_team_serial::names::innermost;
@@ -20,10 +20,10 @@ use om_team_serial::parts::{
     go_and, go_and_then, go_on, name_with_events, recorded, update_with_event,
 };
 use om_team_serial::{Answer, Row};
-use std::alloc::{AllocError, Global};
+use std::alloc::Global;
 
 // What a context's task records where it begins and ends to wait.
-fn sync_event(sync: Sync, endpoint: Endpoint, context: &Context) -> Result<Record, AllocError>
+fn sync_event(sync: Sync, endpoint: Endpoint, context: &Context) -> AllocResult<Record>
     ensures { Gives result (sync_event sync endpoint (plain_context context.now)) }
 {
     Ok(Record::SyncRegion {
@@ -37,12 +37,7 @@ fn sync_event(sync: Sync, endpoint: Endpoint, context: &Context) -> Result<Recor
 /// TWB: a task begins to wait for its children, and goes on to a place.
 ///
 /// The only error is out of memory.
-pub fn wait_begin(
-    alloc: Global,
-    worker: u8,
-    to: u32,
-    context: &Context,
-) -> Result<Answer, AllocError>
+pub fn wait_begin(alloc: Global, worker: u8, to: u32, context: &Context) -> AllocResult<Answer>
     ensures { Answers result (wait_begin_row worker to (plain_context context.now)) }
 {
     let edits = go_on(alloc, to)?;
@@ -51,7 +46,7 @@ pub fn wait_begin(
 }
 
 // What comes of a task that waits for its children.
-fn waited(alloc: Global, to: u32, context: &Context, is_over: bool) -> Result<Row, AllocError>
+fn waited(alloc: Global, to: u32, context: &Context, is_over: bool) -> AllocResult<Row>
     ensures { Gives result (waited to (plain_context context.now) is_over) }
 {
     if !is_over {
@@ -71,7 +66,7 @@ pub fn wait_end(
     worker: u8,
     to: u32,
     context: &Context,
-) -> Result<Answer, AllocError>
+) -> AllocResult<Answer>
     ensures { AnswersAt result (wait_end_row worker to (plain_context context.now)) store.now }
 {
     let kids = &Obj::Kids(*context.task.get());
@@ -81,7 +76,7 @@ pub fn wait_end(
 }
 
 // The edits by which a task group opens.
-fn opening(alloc: Global, to: u32, group: &Name) -> Result<Seq<Edit>, AllocError>
+fn opening(alloc: Global, to: u32, group: &Name) -> AllocResult<Seq<Edit>>
     ensures { Gives result (opening to group.now) }
 {
     let region = Shared::of(alloc, Construct::Group(*group))?;
@@ -91,12 +86,7 @@ fn opening(alloc: Global, to: u32, group: &Name) -> Result<Seq<Edit>, AllocError
 /// TGB: a task group opens, by a name that is born of the task, which goes on to a place.
 ///
 /// The only error is out of memory.
-pub fn group_begin(
-    alloc: Global,
-    worker: u8,
-    to: u32,
-    context: &Context,
-) -> Result<Answer, AllocError>
+pub fn group_begin(alloc: Global, worker: u8, to: u32, context: &Context) -> AllocResult<Answer>
     requires { context.now.births + 1 < 2 ^ 64 }
     ensures { Answers result (group_begin_row worker to (plain_context context.now)) }
 {
@@ -109,7 +99,7 @@ pub fn group_begin(
 }
 
 // What comes of a task that waits for the tasks of a group.
-fn closed(alloc: Global, to: u32, context: &Context, is_over: bool) -> Result<Row, AllocError>
+fn closed(alloc: Global, to: u32, context: &Context, is_over: bool) -> AllocResult<Row>
     ensures { Gives result (closed to (plain_context context.now) is_over) }
 {
     if !is_over {
@@ -142,7 +132,7 @@ pub fn group_end(
     worker: u8,
     to: u32,
     context: &Context,
-) -> Result<Answer, AllocError>
+) -> AllocResult<Answer>
     ensures { AnswersAt result (group_end_row worker to (plain_context context.now)) store.now }
 {
     let Some(group) = &innermost_group(context) else {

@@ -15,10 +15,10 @@ use crate::table::{answer, instruction_of, is_of_tasks};
 use om_code::Program;
 use om_foot::{Access, Mode, Obj};
 use om_memory::{Control, Memory, Stack};
-use om_seq::Seq;
+use om_seq::{AllocResult, Seq};
 use om_state::{Blocked, Choice, Label};
 use om_team_serial::{Answer, Row};
-use std::alloc::{AllocError, Global};
+use std::alloc::Global;
 
 // A choice of one of so many workers.
 #[derive(Clone, Copy)]
@@ -32,7 +32,7 @@ struct Planning<'a> {
 
 /// What a worker's step touches that names these objects beside its control. Its only error is out of
 /// memory.
-pub fn footprint(worker: u8, names: Seq<Access>) -> Result<Seq<Access>, AllocError>
+pub fn footprint(worker: u8, names: Seq<Access>) -> AllocResult<Seq<Access>>
     ensures { Gives result (record { object = Obj.Control worker; mode = Mode.Write } ∷ names) }
 {
     let object = Obj::Control(worker);
@@ -52,7 +52,7 @@ fn next_answer(
     store: &Memory,
     stack: &Stack,
     planning: &Planning<'_>,
-) -> Result<Option<Answer>, AllocError>
+) -> AllocResult<Option<Answer>>
     requires { IsWithin (2 ^ 63) (plain_stack stack.now).top }
     ensures { Gives result (answer_in (state_of store.now) (next_asked (site program.now
         planning.now.workers planning.now.label.now.worker (plain_stack stack.now))
@@ -80,7 +80,7 @@ fn choice_answer(
     store: &Memory,
     stack: &Stack,
     planning: &Planning<'_>,
-) -> Result<Option<Answer>, AllocError>
+) -> AllocResult<Option<Answer>>
     requires { IsWithin (2 ^ 63) (plain_stack stack.now).top }
     ensures { Gives result (answer_in (state_of store.now) (choice_asked (site program.now
         planning.now.workers planning.now.label.now.worker (plain_stack stack.now))
@@ -99,7 +99,7 @@ fn control_answer(
     store: &Memory,
     control: &Control,
     planning: &Planning<'_>,
-) -> Result<Option<Answer>, AllocError>
+) -> AllocResult<Option<Answer>>
     requires { ControlWithin (2 ^ 63) (plain_control control.now) }
     ensures { Gives result (answer_in (state_of store.now) (asked_in program.now
         planning.now.workers planning.now.label.now (plain_control control.now))) }
@@ -123,7 +123,7 @@ pub fn names(
     workers: u8,
     control: &Control,
     label: &Label,
-) -> Result<Option<Seq<Access>>, AllocError>
+) -> AllocResult<Option<Seq<Access>>>
     requires counters { ControlWithin (2 ^ 63) (plain_control control.now) }
     requires some { 1 ≤ workers }
     ensures { Gives result (names_in label.now (asked_in program.now workers label.now
@@ -146,7 +146,7 @@ fn control_row(
     store: &Memory,
     control: &Control,
     planning: &Planning<'_>,
-) -> Result<Option<Row>, AllocError>
+) -> AllocResult<Option<Row>>
     requires { ControlWithin (2 ^ 63) (plain_control control.now) }
     ensures { Gives result (row_in (state_of store.now) (asked_in program.now planning.now.workers
         planning.now.label.now (plain_control control.now))) }
@@ -172,7 +172,7 @@ pub fn effect(
     store: &Memory,
     workers: u8,
     label: &Label,
-) -> Result<Option<Row>, AllocError>
+) -> AllocResult<Option<Row>>
     requires counters { StateWithin (2 ^ 63) (state_of store.now) }
     requires some { 1 ≤ workers }
     ensures { Gives result (effect_at program.now workers label.now (state_of store.now)) }

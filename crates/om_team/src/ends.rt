@@ -9,16 +9,16 @@ use om_code::serial::int_at;
 use om_events::{Endpoint, Record, TaskFlag};
 use om_foot::{Mode, Name, Obj, Shared};
 use om_memory::{Context, Memory};
-use om_seq::Seq;
+use om_seq::{AllocResult, Seq};
 use om_state::{Blocked, Edit, Kind, Update};
 use om_team_serial::counts::is_zero;
 use om_team_serial::names::operands_of;
 use om_team_serial::parts::{name_with_events, update_with_event};
 use om_team_serial::{Answer, Row};
-use std::alloc::{AllocError, Global};
+use std::alloc::Global;
 
 // What comes of an initial task that is at its end, with this value.
-fn finished(alloc: Global, context: &Context, value: i32, is_over: bool) -> Result<Row, AllocError>
+fn finished(alloc: Global, context: &Context, value: i32, is_over: bool) -> AllocResult<Row>
     ensures { Gives result (finished (plain_context context.now) value is_over) }
 {
     if !is_over {
@@ -57,7 +57,7 @@ pub fn finish(
     worker: u8,
     context: &Context,
     has_value: bool,
-) -> Result<Answer, AllocError>
+) -> AllocResult<Answer>
     ensures { AnswersAt result (finish_row worker (plain_context context.now) has_value) store.now }
 {
     let (Kind::Initial, Some(value)) = (context.kind, value_of(context, has_value)) else {

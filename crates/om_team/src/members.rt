@@ -8,13 +8,14 @@ ghost use Rattle.om_team.specs.Teams.{member, workers_from, busy_in, member_cont
 
 use om_foot::{Mode, Name, Names, Obj};
 use om_memory::Memory;
+use om_seq::AllocResult;
 use om_state::{
     Context, Control, Frame, Kind, Puts, SharedControl, SharedPile, Stack, Team, Update, Val,
 };
 use om_team_serial::begin::{in_no_group, new_context};
 use om_team_serial::names::{name, name_given};
 use om_team_serial::updates::put_ints;
-use std::alloc::{AllocError, Global};
+use std::alloc::Global;
 
 // The name of the task of a team's member.
 fn member_name(team: &Name, number: u8) -> Name
@@ -28,7 +29,7 @@ fn member_name(team: &Name, number: u8) -> Name
 }
 
 /// Appends the controls of the workers that a team of this size needs, as what is written.
-pub(crate) fn name_workers(names: &mut Names, size: u8) -> Result<(), AllocError>
+pub(crate) fn name_workers(names: &mut Names, size: u8) -> AllocResult<()>
     ensures { OnOk result (names.new ≡ names.old ++ workers_from 1 (size - 1)) }
 {
     for worker in 1..size {
@@ -55,7 +56,7 @@ pub(crate) fn name_members(
     team: &Name,
     given: &[u32],
     size: u8,
-) -> Result<(), AllocError>
+) -> AllocResult<()>
     requires { length team.now ≤ 63 }
     ensures { OnOk result (names.new ≡ names.old ++ member_cells team.now given.now 0 size) }
 {
@@ -67,7 +68,7 @@ pub(crate) fn name_members(
 }
 
 /// A member of a team, at the start of a frame.
-pub(crate) fn member(alloc: Global, team: &Team, frame: &Frame) -> Result<Context, AllocError>
+pub(crate) fn member(alloc: Global, team: &Team, frame: &Frame) -> AllocResult<Context>
     requires named { length team.now.name ≤ 63 }
     requires member { team.now.number < team.now.size }
     ensures { Gives result (member team.now frame.now) }
@@ -78,12 +79,7 @@ pub(crate) fn member(alloc: Global, team: &Team, frame: &Frame) -> Result<Contex
 }
 
 // Appends the control that another worker becomes: a member of a team.
-fn put_member(
-    alloc: Global,
-    updates: &mut Puts,
-    team: &Team,
-    frame: &Frame,
-) -> Result<(), AllocError>
+fn put_member(alloc: Global, updates: &mut Puts, team: &Team, frame: &Frame) -> AllocResult<()>
     requires named { length team.now.name ≤ 63 }
     requires member { team.now.number < team.now.size }
     ensures { OnOk result
@@ -110,7 +106,7 @@ pub(crate) fn put_members(
     updates: &mut Puts,
     team: &Team,
     frame: &Frame,
-) -> Result<(), AllocError>
+) -> AllocResult<()>
     requires { length team.now.name ≤ 63 }
     ensures { OnOk result
         (updates.new ≡ updates.old ++ member_controls team.now frame.now 1 (team.now.size - 1)) }
@@ -128,7 +124,7 @@ pub(crate) fn put_members(
 }
 
 /// Appends what is put into the firstprivate copies of a team's members.
-pub(crate) fn put_given(updates: &mut Puts, values: &[i32], size: u8) -> Result<(), AllocError>
+pub(crate) fn put_given(updates: &mut Puts, values: &[i32], size: u8) -> AllocResult<()>
     ensures { OnOk result (updates.new ≡ updates.old ++ member_puts values.now size) }
 {
     for _number in 0..size {

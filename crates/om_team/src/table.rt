@@ -21,13 +21,14 @@ use om_code::raw::Slot;
 use om_code::serial::int_at;
 use om_code::{Instr, Program};
 use om_memory::{Context, Memory, Stack};
+use om_seq::AllocResult;
 use om_team_serial::names::operands_of;
 use om_team_serial::{Answer, At, Combining, Launch, Row};
 use om_team_worksharing::{
     Bounds, Branch, arrive, ask_critical, depart, end_masked, end_worksharing, enter_critical,
     grab, iterate, leave, leave_critical, masked, open_loop, open_sections, pick, single,
 };
-use std::alloc::{AllocError, Global};
+use std::alloc::Global;
 
 /// The instruction at which a stack stands, with what its row relies on; `None` where there is none.
 pub fn instruction_of(program: &Program, stack: &Stack) -> Option<Instr>
@@ -90,7 +91,7 @@ fn frame_answer(
     program: &Program,
     stack: &Stack,
     doing: Doing,
-) -> Result<Answer, AllocError>
+) -> AllocResult<Answer>
     requires { IsReady program.now (plain_stack stack.now) doing.instruction }
     ensures { AnswersAt result (asked_by frame_row program.now stack.now doing) store.now }
 {
@@ -136,7 +137,7 @@ fn serial_answer(
     program: &Program,
     stack: &Stack,
     doing: Doing,
-) -> Result<Answer, AllocError>
+) -> AllocResult<Answer>
     requires { IsReady program.now (plain_stack stack.now) doing.instruction }
     ensures { AnswersAt result (serial_row program.now (plain_stack stack.now).top
         doing.instruction) store.now }
@@ -152,7 +153,7 @@ fn team_answer(
     program: &Program,
     stack: &Stack,
     doing: Doing,
-) -> Result<Answer, AllocError>
+) -> AllocResult<Answer>
     requires { IsReady program.now (plain_stack stack.now) doing.instruction }
     ensures { AnswersAt result (asked_by team_row program.now stack.now doing) store.now }
 {
@@ -214,7 +215,7 @@ fn share_answer(
     program: &Program,
     stack: &Stack,
     doing: Doing,
-) -> Result<Answer, AllocError>
+) -> AllocResult<Answer>
     requires { IsReady program.now (plain_stack stack.now) doing.instruction }
     ensures { AnswersAt result (asked_by share_row program.now stack.now doing) store.now }
 {
@@ -252,7 +253,7 @@ fn region_answer(
     program: &Program,
     stack: &Stack,
     doing: Doing,
-) -> Result<Answer, AllocError>
+) -> AllocResult<Answer>
     requires { IsReady program.now (plain_stack stack.now) doing.instruction }
     ensures { AnswersAt result (asked_by region_row program.now stack.now doing) store.now }
 {
@@ -287,7 +288,7 @@ pub fn answer(
     program: &Program,
     stack: &Stack,
     doing: Doing,
-) -> Result<Answer, AllocError>
+) -> AllocResult<Answer>
     requires { IsReady program.now (plain_stack stack.now) doing.instruction }
     ensures { AnswersAt result (asked_by row_of program.now stack.now doing) store.now }
 {

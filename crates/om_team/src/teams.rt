@@ -18,14 +18,14 @@ use om_code::serial::int_at;
 use om_events::Record;
 use om_foot::{Name, Names, Shared};
 use om_memory::{Context, Memory};
-use om_seq::Seq;
+use om_seq::{AllocResult, Seq};
 use om_state::{Blocked, Edit, Frame, Puts, Team, Update};
 use om_team_serial::begin::first_frame;
 use om_team_serial::names::{homes_in, name_events, operands_of};
 use om_team_serial::parts::go_and_then;
 use om_team_serial::updates::put_event;
 use om_team_serial::{Answer, Launch, Row};
-use std::alloc::{AllocError, Global};
+use std::alloc::Global;
 
 /// A worker that carries out a FORK.
 #[derive(Clone, Copy)]
@@ -67,12 +67,7 @@ fn level_of(size: u8, level: u8) -> u8
 }
 
 // The team that the context's task makes, with the place of its first member.
-fn team_of(
-    alloc: Global,
-    workers: u8,
-    context: &Context,
-    asked: Option<u32>,
-) -> Result<Team, AllocError>
+fn team_of(alloc: Global, workers: u8, context: &Context, asked: Option<u32>) -> AllocResult<Team>
     requires births { context.now.births + 1 < 2 ^ 64 }
     requires few { length context.now.task ≤ 62 }
     requires workers { 1 ≤ workers }
@@ -93,7 +88,7 @@ fn team_of(
 }
 
 // What a FORK names that makes this team.
-fn team_names(alloc: Global, worker: u8, team: &Team, given: &[u32]) -> Result<Names, AllocError>
+fn team_names(alloc: Global, worker: u8, team: &Team, given: &[u32]) -> AllocResult<Names>
     requires { length team.now.name ≤ 63 }
     ensures { Gives result (workers_from 1 (team.now.size - 1) ++ (member_cells team.now.name
         given.now 0 team.now.size ++ events worker ∷ [])) }
@@ -112,7 +107,7 @@ fn team_updates(
     team: &Team,
     frame: &Frame,
     values: &[i32],
-) -> Result<Puts, AllocError>
+) -> AllocResult<Puts>
     requires { length team.now.name ≤ 63 }
     ensures { Gives result (team_updates task.now team.now frame.now values.now) }
 {
@@ -129,12 +124,7 @@ fn team_updates(
 }
 
 // What the maker's control becomes: it waits behind the FORK, and its part as the first member begins.
-fn fork_edits(
-    alloc: Global,
-    launch: Launch,
-    team: &Team,
-    frame: &Frame,
-) -> Result<Seq<Edit>, AllocError>
+fn fork_edits(alloc: Global, launch: Launch, team: &Team, frame: &Frame) -> AllocResult<Seq<Edit>>
     requires named { length team.now.name ≤ 63 }
     requires member { team.now.number < team.now.size }
     ensures { Gives result (Edit.Go launch.to launch.takes None ∷ Edit.CountBirth ∷
@@ -152,7 +142,7 @@ fn made(
     team: &Team,
     frame: &Frame,
     values: &[i32],
-) -> Result<Row, AllocError>
+) -> AllocResult<Row>
     requires named { length team.now.name ≤ 63 }
     requires member { team.now.number < team.now.size }
     ensures { Gives result (forked forking.now.launch forking.now.context.now.task team.now
@@ -170,7 +160,7 @@ fn forked(
     team: &Team,
     values: &[i32],
     hindrance: Option<u8>,
-) -> Result<Row, AllocError>
+) -> AllocResult<Row>
     requires named { length team.now.name ≤ 63 }
     requires member { team.now.number < team.now.size }
     ensures { Gives result (forked forking.now.launch forking.now.context.now.task team.now
@@ -193,7 +183,7 @@ fn team_answer(
     forking: &Forking<'_>,
     team: &Team,
     values: &[i32],
-) -> Result<Answer, AllocError>
+) -> AllocResult<Answer>
     requires named { length team.now.name ≤ 63 }
     requires member { team.now.number < team.now.size }
     ensures { AnswersAt result (team_row forking.now.worker forking.now.launch
@@ -213,7 +203,7 @@ fn named(
     forking: &Forking<'_>,
     asked: Option<u32>,
     values: &[i32],
-) -> Result<Answer, AllocError>
+) -> AllocResult<Answer>
     requires births { forking.now.context.now.births + 1 < 2 ^ 64 }
     requires asked { IfSome asked (λ threads. 1 ≤ threads) }
     ensures { AnswersAt result (named_row forking.now.worker forking.now.workers
@@ -234,7 +224,7 @@ fn sized_answer(
     forking: &Forking<'_>,
     size: Option<i32>,
     values: &[i32],
-) -> Result<Answer, AllocError>
+) -> AllocResult<Answer>
     requires { forking.now.context.now.births + 1 < 2 ^ 64 }
     ensures { AnswersAt result (sized_row forking.now.worker forking.now.workers
         forking.now.launch forking.now.body.now (plain_context forking.now.context.now) size
@@ -261,7 +251,7 @@ pub fn fork(
     forking: &Forking<'_>,
     sized: bool,
     values: u16,
-) -> Result<Answer, AllocError>
+) -> AllocResult<Answer>
     requires { forking.now.context.now.births + 1 < 2 ^ 64 }
     ensures { AnswersAt result (fork_row forking.now.worker forking.now.workers forking.now.launch
         forking.now.body.now (plain_context forking.now.context.now) sized (int_at values

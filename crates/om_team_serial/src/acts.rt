@@ -25,9 +25,9 @@ use om_code::serial::{Touch, Turn, touch_of, turn_of};
 use om_code::{Instr, Raw};
 use om_foot::{Access, Mode, Names, Obj};
 use om_memory::{Context, Memory};
-use om_seq::Seq;
+use om_seq::{AllocResult, Seq};
 use om_state::{Edit, Puts, Tail, Update, Val};
-use std::alloc::{AllocError, Global};
+use std::alloc::Global;
 
 /// The slots of a body, by its number; none where there is no such body.
 pub(crate) fn slots_of(raw: &Raw, body: u32) -> &[Slot]
@@ -40,14 +40,14 @@ pub(crate) fn slots_of(raw: &Raw, body: u32) -> &[Slot]
 }
 
 // A put of an int before these updates.
-fn with_put(updates: Puts, value: i32) -> Result<Puts, AllocError>
+fn with_put(updates: Puts, value: i32) -> AllocResult<Puts>
     ensures { Gives result (put_of (Some value) ++ updates) }
 {
     updates.behind(Update::Put(Val::Cell(Cell::Int(value))))
 }
 
 // What a turn makes of its worker, with these updates behind what it puts.
-fn row_of(alloc: Global, next: u32, updates: Puts, turn: Turn) -> Result<Row, AllocError>
+fn row_of(alloc: Global, next: u32, updates: Puts, turn: Turn) -> AllocResult<Row>
     requires { next + 1 < 2 ^ 32 }
     ensures { Gives result (row_of (next + 1) updates turn) }
 {
@@ -82,7 +82,7 @@ fn cells_of(slots: &[Slot], slot: u32) -> u32
 }
 
 // That cells become unset, one for each of these names.
-fn unset(alloc: Global, names: &Names) -> Result<Puts, AllocError>
+fn unset(alloc: Global, names: &Names) -> AllocResult<Puts>
     ensures { Gives result (unsets names.now) }
 {
     let mut updates = Puts::new(alloc);
@@ -110,7 +110,7 @@ fn at_cell(
     place: Place,
     index: u32,
     mode: Mode,
-) -> Result<Answer, AllocError>
+) -> AllocResult<Answer>
     requires names { NamesKnown met.now.raw.now met.now.slots.now met.now.instr }
     requires next { (plain_context met.now.context.now).frame.next + 1 < 2 ^ 32 }
     ensures { Gives result (record {
@@ -141,7 +141,7 @@ fn clearing(
     context: &Context,
     slot: u32,
     turn: Turn,
-) -> Result<Answer, AllocError>
+) -> AllocResult<Answer>
     requires { (plain_context context.now).frame.next + 1 < 2 ^ 32 }
     ensures { Gives result (cleared raw.now (plain_context context.now) slot turn) }
 {
@@ -155,7 +155,7 @@ fn clearing(
 
 // The answer where bytes are printed, and the turn is this one.
 #[inline(never)]
-fn printing(alloc: Global, next: u32, bytes: Seq<u8>, turn: Turn) -> Result<Answer, AllocError>
+fn printing(alloc: Global, next: u32, bytes: Seq<u8>, turn: Turn) -> AllocResult<Answer>
     requires { next + 1 < 2 ^ 32 }
     ensures { Gives result (record {
       names = write obj.Output ∷ [];
@@ -176,7 +176,7 @@ pub fn serial(
     store: &Memory,
     context: &Context,
     instr: Instr,
-) -> Result<Answer, AllocError>
+) -> AllocResult<Answer>
     requires names { NamesKnown raw.now (slots_in raw.now (plain_context context.now)) instr }
     requires next { (plain_context context.now).frame.next + 1 < 2 ^ 32 }
     ensures { AnswersAt result (serial_row raw.now (plain_context context.now) instr) store.now }

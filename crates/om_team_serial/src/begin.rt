@@ -5,9 +5,9 @@ ghost use Rattle.om_team_serial.specs.Begins.{first_frame, new_context};
 ghost use Rattle.om_team_serial.specs.Answers.{Gives};
 
 use om_foot::{Name, Shared};
-use om_seq::{Pile, Seq};
+use om_seq::{AllocResult, Pile, Seq};
 use om_state::{Construct, Context, Frame, Home, Kind, SharedPile, SharedTeam, Team};
-use std::alloc::{AllocError, Global};
+use std::alloc::Global;
 
 /// Where a task stands: its name, its place in its team, and the group in which it began.
 #[derive(Drop)]
@@ -19,7 +19,7 @@ pub struct Standing {
 
 /// Where a task stands that is in no group. Its thread number is below the size of its team. The only
 /// error is out of memory.
-pub fn in_no_group(alloc: Global, task: &Name, team: &Team) -> Result<Standing, AllocError>
+pub fn in_no_group(alloc: Global, task: &Name, team: &Team) -> AllocResult<Standing>
     requires { team.now.number < team.now.size }
     ensures { Gives result (record { task = task.now; team = team.now; group = None }) }
 {
@@ -44,7 +44,7 @@ pub fn first_frame(alloc: Global, body: u32, homes: Shared<Seq<Home>>) -> Frame
 }
 
 // The regions and the waiting frames of a task that begins: none.
-fn nothing_open(alloc: Global) -> Result<(SharedPile<Construct>, SharedPile<Frame>), AllocError>
+fn nothing_open(alloc: Global) -> AllocResult<(SharedPile<Construct>, SharedPile<Frame>)>
     ensures { IfOk result (λ piles. (piles.0 ≡ []) × (piles.1 ≡ [])) }
 {
     let constructs = SharedPile::new(alloc)?;
@@ -60,7 +60,7 @@ pub fn new_context(
     phase: u64,
     standing: Standing,
     frame: Frame,
-) -> Result<Context, AllocError>
+) -> AllocResult<Context>
     ensures { Gives result (new_context kind phase standing.task standing.team standing.group
         frame) }
 {

@@ -17,15 +17,15 @@ use om_code::instruction::{Place, Reduction};
 use om_code::raw::Slot;
 use om_foot::{Names, Shared};
 use om_memory::{Context, Memory};
-use om_seq::Seq;
+use om_seq::{AllocResult, Seq};
 use om_state::{Edit, Puts, Update};
-use std::alloc::{AllocError, Global};
+use std::alloc::Global;
 
 // How many frames of a task wait, at most, for the one that runs.
 const MAX_CALLERS: usize = 999;
 
 /// TNUM, TSIZE: a number of threads is pushed.
-pub fn number(alloc: Global, context: &Context, number: u8) -> Result<Answer, AllocError>
+pub fn number(alloc: Global, context: &Context, number: u8) -> AllocResult<Answer>
     requires { (plain_context context.now).frame.next + 1 < 2 ^ 32 }
     ensures { Answers result (number_row (plain_context context.now) number) }
 {
@@ -42,7 +42,7 @@ pub fn call(
     body: &Body,
     context: &Context,
     values: Option<Vec<i32>>,
-) -> Result<Answer, AllocError>
+) -> AllocResult<Answer>
     ensures { Answers result (call_row launch body.now (plain_context context.now) (option_map (λ
         v. v.items) values)) }
 {
@@ -82,7 +82,7 @@ pub fn give_back(
     context: &Context,
     slots: &[Slot],
     value: Option<Operand>,
-) -> Result<Answer, AllocError>
+) -> AllocResult<Answer>
     requires { length slots.now ≤ 2 ^ 32 }
     ensures { Answers result (return_row (plain_context context.now) slots.now (plain_context
         context.now).callers value) }
@@ -107,7 +107,7 @@ fn reduced(
     reduction: Reduction,
     copy: Cell,
     original: Cell,
-) -> Result<Row, AllocError>
+) -> AllocResult<Row>
     ensures { Gives result (reduced to reduction copy original) }
 {
     let (copy, original) = match (copy, original) {
@@ -140,7 +140,7 @@ pub fn reduce(
     store: &Memory,
     context: &Context,
     combining: Combining,
-) -> Result<Answer, AllocError>
+) -> AllocResult<Answer>
     requires { (plain_context context.now).frame.next + 1 < 2 ^ 32 }
     ensures { AnswersAt result (reduce_row (plain_context context.now) combining.reduction
         combining.copy combining.original) store.now }

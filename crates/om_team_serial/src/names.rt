@@ -11,19 +11,19 @@ use om_code::instruction::Place;
 use om_code::raw::{Slot, Source};
 use om_foot::{Access, Cells, Mode, Name, Names, Obj, Shared, SlotName};
 use om_memory::{Context, Tape};
-use om_seq::Seq;
+use om_seq::{AllocResult, Seq};
 use om_state::{Construct, Home, Kind};
-use std::alloc::{AllocError, Global};
+use std::alloc::Global;
 
 // Appends an access to a list.
-fn push(names: &mut Seq<Access>, object: Obj, mode: Mode) -> Result<(), AllocError>
+fn push(names: &mut Seq<Access>, object: Obj, mode: Mode) -> AllocResult<()>
     ensures { OnOk result (names.new ≡ names.old ++ record { object = object; mode = mode } ∷ []) }
 {
     names.push(Access { object, mode })
 }
 
 /// An object alone. An access is large: there is room for no others.
-pub fn name_one(alloc: Global, object: &Obj, mode: Mode) -> Result<Names, AllocError>
+pub fn name_one(alloc: Global, object: &Obj, mode: Mode) -> AllocResult<Names>
     ensures { Gives result (record { object = object.now; mode = mode } ∷ []) }
 {
     let mut names = Seq::of(Vec::with_capacity(alloc, 1)?);
@@ -32,14 +32,14 @@ pub fn name_one(alloc: Global, object: &Obj, mode: Mode) -> Result<Names, AllocE
 }
 
 /// Appends an access.
-pub fn name(names: &mut Names, object: Obj, mode: Mode) -> Result<(), AllocError>
+pub fn name(names: &mut Names, object: Obj, mode: Mode) -> AllocResult<()>
     ensures { OnOk result (names.new ≡ names.old ++ record { object = object; mode = mode } ∷ []) }
 {
     names.push(&Access { object, mode })
 }
 
 /// Appends the event records of a worker, as what is written.
-pub fn name_events(names: &mut Names, worker: u8) -> Result<(), AllocError>
+pub fn name_events(names: &mut Names, worker: u8) -> AllocResult<()>
     ensures { OnOk result (names.new ≡ names.old ++ write (obj.Events worker) ∷ []) }
 {
     name(names, Obj::Events(worker), Mode::Write)
@@ -69,7 +69,7 @@ struct Spot<'a> {
 
 // Appends a cell of a frame. It stands apart, so that the name in it is copied into the access at once.
 #[inline(never)]
-fn name_spot(names: &mut Seq<Access>, spot: &Spot<'_>, mode: Mode) -> Result<(), AllocError>
+fn name_spot(names: &mut Seq<Access>, spot: &Spot<'_>, mode: Mode) -> AllocResult<()>
     ensures { OnOk result (names.new ≡ names.old
         ++ record { object = obj.Cell spot.now.task.now spot.now.frame spot.now.slot spot.now.index; mode = mode } ∷ []) }
 {
@@ -84,12 +84,7 @@ fn name_spot(names: &mut Seq<Access>, spot: &Spot<'_>, mode: Mode) -> Result<(),
 
 // Appends a cell of a global variable. It stands apart, as an access is large.
 #[inline(never)]
-fn name_global(
-    names: &mut Seq<Access>,
-    variable: u32,
-    index: u32,
-    mode: Mode,
-) -> Result<(), AllocError>
+fn name_global(names: &mut Seq<Access>, variable: u32, index: u32, mode: Mode) -> AllocResult<()>
     ensures { OnOk result
         (names.new ≡ names.old ++ record { object = obj.Global variable index; mode = mode } ∷ []) }
 {
@@ -103,7 +98,7 @@ pub(crate) fn name_place(
     place: Place,
     index: u32,
     mode: Mode,
-) -> Result<(), AllocError>
+) -> AllocResult<()>
     ensures { OnOk result (names.new ≡ names.old
         ++ record { object = object_of (plain_context context.now) place index; mode = mode } ∷ []) }
 {
@@ -191,12 +186,7 @@ fn slot_of(context: &Context, slot: u32) -> SlotName
 }
 
 /// Appends the cells of a slot of the running frame, as what is written.
-pub fn name_slot(
-    names: &mut Names,
-    context: &Context,
-    slot: u32,
-    count: u32,
-) -> Result<(), AllocError>
+pub fn name_slot(names: &mut Names, context: &Context, slot: u32, count: u32) -> AllocResult<()>
     ensures { OnOk result
         (names.new ≡ names.old ++ slot_cells (plain_context context.now).task
         (plain_context context.now).frame.ordinal slot
@@ -207,12 +197,7 @@ pub fn name_slot(
 }
 
 /// Appends the first cells of these slots, in the frame of a task with this ordinal, as what is written.
-pub fn name_given(
-    names: &mut Names,
-    task: &Name,
-    frame: u64,
-    slots: &[u32],
-) -> Result<(), AllocError>
+pub fn name_given(names: &mut Names, task: &Name, frame: u64, slots: &[u32]) -> AllocResult<()>
     ensures { OnOk result (names.new ≡ names.old ++ given_cells task.now frame slots.now) }
 {
     for slot in slots {
@@ -228,7 +213,7 @@ pub fn name_given(
 }
 
 // Appends the cells of a slot of the running frame, where they lie in the frame itself.
-fn name_own(own: &mut Names, context: &Context, slot: u32, cells: u32) -> Result<(), AllocError>
+fn name_own(own: &mut Names, context: &Context, slot: u32, cells: u32) -> AllocResult<()>
     ensures { OnOk result
         (own.new ≡ own.old ++ own_slot (plain_context context.now) slot cells
         (home_at (plain_context context.now).frame.homes slot)) }
@@ -240,7 +225,7 @@ fn name_own(own: &mut Names, context: &Context, slot: u32, cells: u32) -> Result
 }
 
 /// The cells of the running frame's own slots, as what is written.
-pub fn own_cells(alloc: Global, context: &Context, slots: &[Slot]) -> Result<Names, AllocError>
+pub fn own_cells(alloc: Global, context: &Context, slots: &[Slot]) -> AllocResult<Names>
     requires { length slots.now ≤ 2 ^ 32 }
     ensures { Gives result (own_cells (plain_context context.now) slots.now) }
 {
@@ -252,7 +237,7 @@ pub fn own_cells(alloc: Global, context: &Context, slots: &[Slot]) -> Result<Nam
 }
 
 // Where the cells of a slot lie, for a frame that is begun from another one.
-fn home_from(task: &Shared<Name>, frame: u64, slot: u32, home: &Home) -> Result<Home, AllocError>
+fn home_from(task: &Shared<Name>, frame: u64, slot: u32, home: &Home) -> AllocResult<Home>
     ensures { Gives result (home_from task.now frame slot home.now) }
 {
     match home {
@@ -266,12 +251,7 @@ fn home_from(task: &Shared<Name>, frame: u64, slot: u32, home: &Home) -> Result<
 }
 
 // Where the cells of a slot lie, for a frame that is begun from one with these homes.
-fn home_for(
-    task: &Shared<Name>,
-    frame: u64,
-    homes: &[Home],
-    source: Source,
-) -> Result<Home, AllocError>
+fn home_for(task: &Shared<Name>, frame: u64, homes: &[Home], source: Source) -> AllocResult<Home>
     ensures { Gives result (home_for task.now frame homes.now source) }
 {
     match source {
@@ -288,7 +268,7 @@ pub fn homes_for(
     frame: u64,
     homes: &[Home],
     slots: &[Slot],
-) -> Result<Seq<Home>, AllocError>
+) -> AllocResult<Seq<Home>>
     ensures { Gives result (homes_for task.now frame homes.now slots.now) }
 {
     let mut all = Seq::new(alloc);
@@ -299,7 +279,7 @@ pub fn homes_for(
 }
 
 /// The same from the running frame of a context.
-pub fn homes_in(alloc: Global, context: &Context, slots: &[Slot]) -> Result<Seq<Home>, AllocError>
+pub fn homes_in(alloc: Global, context: &Context, slots: &[Slot]) -> AllocResult<Seq<Home>>
     ensures { Gives result (homes_in (plain_context context.now) slots.now) }
 {
     let frame = &context.frame;

@@ -10,9 +10,9 @@ use crate::updates::put_event;
 use crate::{Answer, Row};
 use om_events::Record;
 use om_foot::{Mode, Names, Obj};
-use om_seq::Seq;
+use om_seq::{AllocResult, Seq};
 use om_state::{Edit, Puts, Update};
-use std::alloc::{AllocError, Global};
+use std::alloc::Global;
 
 /// The worker that takes a step, from 0, and the place in its body at which it goes on.
 #[derive(Clone, Copy)]
@@ -22,7 +22,7 @@ pub struct At {
 }
 
 /// The edits that go to a place, and do nothing else.
-pub fn go_on(alloc: Global, to: u32) -> Result<Seq<Edit>, AllocError>
+pub fn go_on(alloc: Global, to: u32) -> AllocResult<Seq<Edit>>
     ensures { Gives result (Edit.Go to 0 None ∷ []) }
 {
     let go = Edit::Go {
@@ -34,7 +34,7 @@ pub fn go_on(alloc: Global, to: u32) -> Result<Seq<Edit>, AllocError>
 }
 
 /// The edits that go to a place with so many operands taken, and then make one more.
-pub fn go_and(alloc: Global, to: u32, takes: u32, then: Edit) -> Result<Seq<Edit>, AllocError>
+pub fn go_and(alloc: Global, to: u32, takes: u32, then: Edit) -> AllocResult<Seq<Edit>>
     ensures { Gives result (Edit.Go to takes None ∷ then ∷ []) }
 {
     let pushed = None;
@@ -50,7 +50,7 @@ pub fn go_and_then(
     takes: u32,
     then: Edit,
     last: Edit,
-) -> Result<Seq<Edit>, AllocError>
+) -> AllocResult<Seq<Edit>>
     ensures { Gives result (Edit.Go to takes None ∷ then ∷ last ∷ []) }
 {
     let mut edits = go_and(alloc, to, takes, then)?;
@@ -59,19 +59,14 @@ pub fn go_and_then(
 }
 
 /// An update alone.
-pub fn one_put(alloc: Global, update: Update) -> Result<Puts, AllocError>
+pub fn one_put(alloc: Global, update: Update) -> AllocResult<Puts>
     ensures { Gives result (update ∷ []) }
 {
     Ok(Puts::of(alloc, Seq::one(alloc, update)?))
 }
 
 /// An object, and behind it the event records of a worker, as what is written.
-pub fn name_with_events(
-    alloc: Global,
-    object: &Obj,
-    mode: Mode,
-    worker: u8,
-) -> Result<Names, AllocError>
+pub fn name_with_events(alloc: Global, object: &Obj, mode: Mode, worker: u8) -> AllocResult<Names>
     ensures { Gives result (record { object = object.now; mode = mode } ∷ events worker ∷ []) }
 {
     let mut names = name_one(alloc, object, mode)?;
@@ -80,14 +75,14 @@ pub fn name_with_events(
 }
 
 /// The event records of a worker alone, as what is written.
-pub fn own_events(alloc: Global, worker: u8) -> Result<Names, AllocError>
+pub fn own_events(alloc: Global, worker: u8) -> AllocResult<Names>
     ensures { Gives result (events worker ∷ []) }
 {
     name_one(alloc, &Obj::Events(worker), Mode::Write)
 }
 
 /// An update, and behind it that an event record is appended.
-pub fn update_with_event(alloc: Global, update: Update, entry: Record) -> Result<Puts, AllocError>
+pub fn update_with_event(alloc: Global, update: Update, entry: Record) -> AllocResult<Puts>
     ensures { Gives result (update ∷ event entry ∷ []) }
 {
     let mut updates = one_put(alloc, update)?;
@@ -96,7 +91,7 @@ pub fn update_with_event(alloc: Global, update: Update, entry: Record) -> Result
 }
 
 // That an event record is appended, alone.
-fn one_event(alloc: Global, entry: Record) -> Result<Puts, AllocError>
+fn one_event(alloc: Global, entry: Record) -> AllocResult<Puts>
     ensures { Gives result (event entry ∷ []) }
 {
     let mut updates = Puts::new(alloc);
@@ -105,12 +100,7 @@ fn one_event(alloc: Global, entry: Record) -> Result<Puts, AllocError>
 }
 
 /// The answer that names a worker's event records alone, and appends one.
-pub fn recorded(
-    alloc: Global,
-    worker: u8,
-    edits: Seq<Edit>,
-    entry: Record,
-) -> Result<Answer, AllocError>
+pub fn recorded(alloc: Global, worker: u8, edits: Seq<Edit>, entry: Record) -> AllocResult<Answer>
     ensures { Gives result (record {
       names = events worker ∷ [];
       row = Row.Goes edits (event entry ∷ []);

@@ -6,9 +6,9 @@ ghost use Rattle.om_team_serial.specs.Answers.{Gives};
 
 use om_code::frame::{Fault, Operand};
 use om_foot::Names;
-use om_seq::Seq;
+use om_seq::{AllocResult, Seq};
 use om_state::{Blocked, Edit, Puts, Update};
-use std::alloc::{AllocError, Global};
+use std::alloc::Global;
 
 /// What comes of an instruction, before its edits are made.
 #[derive(Drop)]
@@ -44,7 +44,7 @@ pub struct Launch {
 }
 
 /// One item alone, with room for no others: it is let go within the step.
-pub(crate) fn only<T>(alloc: Global, item: T) -> Result<Seq<T>, AllocError>
+pub(crate) fn only<T>(alloc: Global, item: T) -> AllocResult<Seq<T>>
 where
     T: Drop,
     ensures { Gives result (item ∷ []) }
@@ -74,7 +74,7 @@ impl Row {
         takes: u32,
         pushed: Option<Operand>,
         updates: Puts,
-    ) -> Result<Row, AllocError>
+    ) -> AllocResult<Row>
         ensures { Gives result (goes to takes pushed updates) }
     {
         let edits = only(alloc, Edit::Go { to, takes, pushed })?;

@@ -8,19 +8,19 @@ ghost use Rattle.om_state.specs.declared.value.Val.TheVariants as value;
 use om_code::frame::Cell;
 use om_events::Record;
 use om_foot::{Access, Cells, Names};
-use om_seq::Seq;
+use om_seq::{AllocResult, Seq};
 use om_state::{Puts, Run, Tail, Update, Val};
-use std::alloc::{AllocError, Global};
+use std::alloc::Global;
 
 /// Appends a put of a cell.
-pub fn put_cell(updates: &mut Puts, cell: Cell) -> Result<(), AllocError>
+pub fn put_cell(updates: &mut Puts, cell: Cell) -> AllocResult<()>
     ensures { OnOk result (updates.new ≡ updates.old ++ Update.Put (value.Cell cell) ∷ []) }
 {
     updates.push(Update::Put(Val::Cell(cell)))
 }
 
 /// Appends puts of ints.
-pub fn put_ints(updates: &mut Puts, ints: &[i32]) -> Result<(), AllocError>
+pub fn put_ints(updates: &mut Puts, ints: &[i32]) -> AllocResult<()>
     ensures { OnOk result (updates.new ≡ updates.old ++ puts ints.now) }
 {
     for value in ints {
@@ -30,7 +30,7 @@ pub fn put_ints(updates: &mut Puts, ints: &[i32]) -> Result<(), AllocError>
 }
 
 // Appends puts of a cell, one for each of these accesses.
-fn put_single(updates: &mut Puts, cell: Cell, names: &[Access]) -> Result<(), AllocError>
+fn put_single(updates: &mut Puts, cell: Cell, names: &[Access]) -> AllocResult<()>
     ensures { OnOk result (updates.new ≡ updates.old ++ same_puts cell names.now) }
 {
     for _name in names {
@@ -40,7 +40,7 @@ fn put_single(updates: &mut Puts, cell: Cell, names: &[Access]) -> Result<(), Al
 }
 
 // Appends runs of puts of a cell, one for the cells of each of these.
-fn put_runs(updates: &mut Puts, cell: Cell, names: &[Cells]) -> Result<(), AllocError>
+fn put_runs(updates: &mut Puts, cell: Cell, names: &[Cells]) -> AllocResult<()>
     ensures { OnOk result (updates.new ≡ updates.old ++ same_puts cell (cells_listed names.now)) }
 {
     for cells in names {
@@ -54,7 +54,7 @@ fn put_runs(updates: &mut Puts, cell: Cell, names: &[Cells]) -> Result<(), Alloc
 
 /// Appends puts of a cell, one for each of these names, at once for those that are named at once. Its only
 /// error is out of memory.
-pub(crate) fn put_each(updates: &mut Puts, cell: Cell, names: &Names) -> Result<(), AllocError>
+pub(crate) fn put_each(updates: &mut Puts, cell: Cell, names: &Names) -> AllocResult<()>
     ensures { OnOk result (updates.new ≡ updates.old ++ same_puts cell names.now) }
 {
     let (first, cells, last) = names.parts();
@@ -64,14 +64,14 @@ pub(crate) fn put_each(updates: &mut Puts, cell: Cell, names: &Names) -> Result<
 }
 
 /// Appends the deaths of cells, one for each of these names.
-pub fn put_deaths(updates: &mut Puts, names: &Names) -> Result<(), AllocError>
+pub fn put_deaths(updates: &mut Puts, names: &Names) -> AllocResult<()>
     ensures { OnOk result (updates.new ≡ updates.old ++ deaths names.now) }
 {
     put_each(updates, Cell::Dead, names)
 }
 
 /// Appends that an event record is appended.
-pub fn put_event(alloc: Global, updates: &mut Puts, entry: Record) -> Result<(), AllocError>
+pub fn put_event(alloc: Global, updates: &mut Puts, entry: Record) -> AllocResult<()>
     ensures { OnOk result (updates.new ≡ updates.old ++ event entry ∷ []) }
 {
     let records = Seq::one(alloc, entry)?;

@@ -6,13 +6,14 @@ ghost use Rattle.om_team_worksharing.specs.Barriers.{arrivals, barrier, open_in}
 
 use om_foot::{Mode, Name, Names, Obj};
 use om_memory::Memory;
+use om_seq::AllocResult;
 use om_state::{Puts, Team, Update};
 use om_team_serial::counts::is_zero;
 use om_team_serial::names::name;
-use std::alloc::{AllocError, Global};
+use std::alloc::Global;
 
 // Appends how far each member of a team of this size came, as what is read.
-fn name_arrivals(names: &mut Names, team: &Name, size: u8) -> Result<(), AllocError>
+fn name_arrivals(names: &mut Names, team: &Name, size: u8) -> AllocResult<()>
     ensures { OnOk result (names.new ≡ names.old ++ arrivals team.now 0 size) }
 {
     for number in 0..size {
@@ -26,7 +27,7 @@ fn name_arrivals(names: &mut Names, team: &Name, size: u8) -> Result<(), AllocEr
 }
 
 /// Appends what a member reads that goes on from the barrier of a phase.
-pub(crate) fn name_barrier(names: &mut Names, team: &Team, phase: u64) -> Result<(), AllocError>
+pub(crate) fn name_barrier(names: &mut Names, team: &Team, phase: u64) -> AllocResult<()>
     ensures { OnOk result (names.new ≡ names.old ++ barrier team.now phase) }
 {
     name_arrivals(names, team.name.get(), team.size)?;
@@ -58,7 +59,7 @@ pub(crate) fn is_open(alloc: Global, store: &Memory, team: &Team, phase: u64) ->
 }
 
 /// Appends that what a member of a team of this size reads at a barrier stays.
-pub(crate) fn put_kept(updates: &mut Puts, size: u8) -> Result<(), AllocError>
+pub(crate) fn put_kept(updates: &mut Puts, size: u8) -> AllocResult<()>
     ensures { OnOk result (updates.new ≡ updates.old ++ replicate (size + 1) Update.Keep) }
 {
     for _number in 0..size {

@@ -10,22 +10,22 @@ use crate::parts::opened;
 use om_events::Record;
 use om_foot::{Mode, Obj};
 use om_memory::{Context, Memory};
-use om_seq::Seq;
+use om_seq::{AllocResult, Seq};
 use om_state::{Blocked, Construct, Edit, Update, Val};
 use om_team_serial::names::innermost;
 use om_team_serial::parts::{go_and, go_on, name_with_events, recorded, update_with_event};
 use om_team_serial::{Answer, At, Row};
-use std::alloc::{AllocError, Global};
+use std::alloc::Global;
 
 // The name of a lock, for a record.
-fn copied(alloc: Global, name: &[u8]) -> Result<Seq<u8>, AllocError>
+fn copied(alloc: Global, name: &[u8]) -> AllocResult<Seq<u8>>
     ensures { Gives result name.now }
 {
     Ok(Seq::of(Vec::from_slice(alloc, name)?))
 }
 
 /// CRACQ: asks for a lock.
-pub fn ask_critical(alloc: Global, at: At, name: &[u8]) -> Result<Answer, AllocError>
+pub fn ask_critical(alloc: Global, at: At, name: &[u8]) -> AllocResult<Answer>
     ensures { Answers result (ask_critical_row at.worker at.to name.now) }
 {
     let lock = copied(alloc, name)?;
@@ -34,13 +34,7 @@ pub fn ask_critical(alloc: Global, at: At, name: &[u8]) -> Result<Answer, AllocE
 }
 
 // The row of a thread that takes a lock, unless a worker holds it.
-fn lock(
-    alloc: Global,
-    at: At,
-    number: u32,
-    name: &[u8],
-    holder: Option<u8>,
-) -> Result<Row, AllocError>
+fn lock(alloc: Global, at: At, number: u32, name: &[u8], holder: Option<u8>) -> AllocResult<Row>
     ensures { Gives result (lock_row at.worker at.to number name.now holder) }
 {
     if let Some(holder) = holder {
@@ -60,7 +54,7 @@ pub fn enter_critical(
     at: At,
     number: u32,
     name: &[u8],
-) -> Result<Answer, AllocError>
+) -> AllocResult<Answer>
     ensures { AnswersAt result (enter_critical_row at.worker at.to number name.now) store.now }
 {
     let names = name_with_events(alloc, &Obj::Lock(number), Mode::Write, at.worker)?;
@@ -82,7 +76,7 @@ fn is_critical(context: &Context, number: u32) -> bool
 }
 
 // The row of a thread that gives a lock back.
-fn unlock(alloc: Global, to: u32, name: &[u8]) -> Result<Row, AllocError>
+fn unlock(alloc: Global, to: u32, name: &[u8]) -> AllocResult<Row>
     ensures { Gives result (unlock_row to name.now) }
 {
     let lock = copied(alloc, name)?;
@@ -99,7 +93,7 @@ pub fn leave_critical(
     at: At,
     number: u32,
     name: &[u8],
-) -> Result<Answer, AllocError>
+) -> AllocResult<Answer>
     ensures { Answers result (leave_critical_row at.worker at.to number name.now (innermost
         (plain_context context.now).constructs)) }
 {

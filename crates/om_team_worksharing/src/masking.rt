@@ -11,14 +11,15 @@ ghost use Rattle.om_team_worksharing.specs.Rows.{masked_row, is_masked, end_mask
 use crate::parts::{Branch, jump, opened};
 use om_events::{Endpoint, Record};
 use om_memory::Context;
+use om_seq::AllocResult;
 use om_state::{Construct, Edit};
 use om_team_serial::names::innermost;
 use om_team_serial::parts::{go_and, own_events, recorded};
 use om_team_serial::{Answer, At, Row};
-use std::alloc::{AllocError, Global};
+use std::alloc::Global;
 
 // The record that a masked region begins or ends.
-fn masked_record(context: &Context, endpoint: Endpoint) -> Result<Record, AllocError>
+fn masked_record(context: &Context, endpoint: Endpoint) -> AllocResult<Record>
     ensures { Gives result (Record.Masked endpoint context.now.team.name context.now.task) }
 {
     Ok(Record::Masked {
@@ -35,7 +36,7 @@ fn filter(
     worker: u8,
     branch: Branch,
     runs: bool,
-) -> Result<Answer, AllocError>
+) -> AllocResult<Answer>
     ensures { Answers result (filtered_by worker branch (plain_context context.now) runs) }
 {
     if runs {
@@ -62,7 +63,7 @@ pub fn masked(
     worker: u8,
     branch: Branch,
     number: Option<i32>,
-) -> Result<Answer, AllocError>
+) -> AllocResult<Answer>
     ensures { Answers result (masked_row worker branch.to branch.otherwise (plain_context
         context.now) number) }
 {
@@ -84,7 +85,7 @@ fn is_masked(context: &Context) -> bool
 }
 
 /// ENDM: closes a masked region.
-pub fn end_masked(alloc: Global, context: &Context, at: At) -> Result<Answer, AllocError>
+pub fn end_masked(alloc: Global, context: &Context, at: At) -> AllocResult<Answer>
     ensures { Answers result (end_masked_row at.worker at.to (plain_context context.now)
         (innermost (plain_context context.now).constructs)) }
 {

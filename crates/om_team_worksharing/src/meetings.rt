@@ -17,13 +17,13 @@ use om_events::Record;
 use om_events::kind::{Endpoint, Sync, TaskFlag};
 use om_foot::{Mode, Name, Names, Obj, Shared};
 use om_memory::{Context, Memory, Stack, Tape};
-use om_seq::Seq;
+use om_seq::{AllocResult, Seq};
 use om_state::{Blocked, Edit, Kind, Puts, Tail, Team, Update, Val};
 use om_team_serial::names::{is_misplaced, name, name_events, own_cells};
 use om_team_serial::parts::{go_and, one_put};
 use om_team_serial::updates::{put_deaths, put_event};
 use om_team_serial::{Answer, At, Row};
-use std::alloc::{AllocError, Global};
+use std::alloc::Global;
 
 // The kind of synchronization that a barrier is.
 fn sync_of(barrier: Barrier) -> Sync
@@ -37,11 +37,7 @@ fn sync_of(barrier: Barrier) -> Sync
 }
 
 // The team that a barrier's end names; at the end of a parallel region it is no more.
-fn team_at_end(
-    alloc: Global,
-    barrier: Barrier,
-    team: &Shared<Name>,
-) -> Result<Shared<Name>, AllocError>
+fn team_at_end(alloc: Global, barrier: Barrier, team: &Shared<Name>) -> AllocResult<Shared<Name>>
     ensures { Gives result (team_at_end barrier team.now) }
 {
     match barrier {
@@ -62,7 +58,7 @@ fn is_misplaced_barrier(barrier: Barrier, context: &Context) -> bool
 }
 
 // The names of a member that reaches a barrier.
-fn reached_names(alloc: Global, worker: u8, team: &Team) -> Result<Names, AllocError>
+fn reached_names(alloc: Global, worker: u8, team: &Team) -> AllocResult<Names>
     ensures { Gives result (reached_names worker team.now) }
 {
     let reached = Obj::Arrived {
@@ -76,12 +72,7 @@ fn reached_names(alloc: Global, worker: u8, team: &Team) -> Result<Names, AllocE
 }
 
 // The row of a member that reaches a barrier.
-fn reached_turn(
-    alloc: Global,
-    to: u32,
-    barrier: Barrier,
-    context: &Context,
-) -> Result<Row, AllocError>
+fn reached_turn(alloc: Global, to: u32, barrier: Barrier, context: &Context) -> AllocResult<Row>
     requires { context.now.phase + 1 < 2 ^ 64 }
     ensures { Gives result (reached_turn to barrier (plain_context context.now)) }
 {
@@ -97,7 +88,7 @@ fn reached_turn(
 }
 
 // The answer of a member that reaches a barrier.
-fn reached(alloc: Global, at: At, barrier: Barrier, context: &Context) -> Result<Answer, AllocError>
+fn reached(alloc: Global, at: At, barrier: Barrier, context: &Context) -> AllocResult<Answer>
     requires { context.now.phase + 1 < 2 ^ 64 }
     ensures { Answers result (reached_row at.worker at.to barrier (plain_context context.now)) }
 {
@@ -108,12 +99,7 @@ fn reached(alloc: Global, at: At, barrier: Barrier, context: &Context) -> Result
 
 /// ARRIVE: a member reaches a barrier. The row faults where the directive `barrier` may not stand.
 /// The only error is out of memory.
-pub fn arrive(
-    alloc: Global,
-    at: At,
-    barrier: Barrier,
-    context: &Context,
-) -> Result<Answer, AllocError>
+pub fn arrive(alloc: Global, at: At, barrier: Barrier, context: &Context) -> AllocResult<Answer>
     requires { context.now.phase + 1 < 2 ^ 64 }
     ensures { Answers result (arrive_row at.worker at.to barrier (plain_context context.now)) }
 {
@@ -124,12 +110,7 @@ pub fn arrive(
 }
 
 // The names of a member at a barrier, with these cells of its own.
-fn barrier_names(
-    alloc: Global,
-    worker: u8,
-    context: &Context,
-    own: &Names,
-) -> Result<Names, AllocError>
+fn barrier_names(alloc: Global, worker: u8, context: &Context, own: &Names) -> AllocResult<Names>
     ensures { Gives result (barrier_names worker (plain_context context.now) own.now) }
 {
     let mut names = Names::new(alloc);
@@ -140,7 +121,7 @@ fn barrier_names(
 }
 
 // The updates of a member that goes on from a barrier.
-fn departed_updates(alloc: Global, barrier: Barrier, context: &Context) -> Result<Puts, AllocError>
+fn departed_updates(alloc: Global, barrier: Barrier, context: &Context) -> AllocResult<Puts>
     ensures { Gives result (departed_updates barrier (plain_context context.now)) }
 {
     let mut updates = Puts::new(alloc);
@@ -162,7 +143,7 @@ fn departed(
     barrier: Barrier,
     context: &Context,
     opens: bool,
-) -> Result<Row, AllocError>
+) -> AllocResult<Row>
     ensures { Gives result (departed to barrier (plain_context context.now) opens) }
 {
     if !opens {
@@ -181,7 +162,7 @@ pub fn depart(
     at: At,
     barrier: Barrier,
     context: &Context,
-) -> Result<Answer, AllocError>
+) -> AllocResult<Answer>
     ensures { AnswersAt result (depart_row at.worker at.to barrier (plain_context context.now))
         store.now }
 {
@@ -204,7 +185,7 @@ fn put_region_end(
     records: &mut Seq<Record>,
     team: &Team,
     below: &Tape<Box<Context>>,
-) -> Result<(), AllocError>
+) -> AllocResult<()>
     ensures { OnOk result
         (records.new ≡ records.old
         ++ region_end team.now.name team.now.number (map plain_held below.now.items)) }
@@ -226,7 +207,7 @@ fn left_records(
     alloc: Global,
     context: &Context,
     below: &Tape<Box<Context>>,
-) -> Result<Seq<Record>, AllocError>
+) -> AllocResult<Seq<Record>>
     ensures { Gives result (left_records (plain_context context.now) (held below.now.items)) }
 {
     let no_team = Shared::of(alloc, Name::empty())?;
@@ -255,7 +236,7 @@ fn left_updates(
     context: &Context,
     below: &Tape<Box<Context>>,
     own: &Names,
-) -> Result<Puts, AllocError>
+) -> AllocResult<Puts>
     ensures { Gives result (left_updates (plain_context context.now) (held below.now.items) own.now) }
 {
     let mut updates = Puts::new(alloc);
@@ -273,7 +254,7 @@ fn left(
     below: &Tape<Box<Context>>,
     own: &Names,
     opens: bool,
-) -> Result<Row, AllocError>
+) -> AllocResult<Row>
     ensures { Gives result
         (left (plain_context context.now) (held below.now.items) own.now opens) }
 {
@@ -292,7 +273,7 @@ fn left_answer(
     worker: u8,
     stack: &Stack,
     own: &Names,
-) -> Result<Answer, AllocError>
+) -> AllocResult<Answer>
     ensures { AnswersAt result (left_on worker (plain_stack stack.now) own.now) store.now }
 {
     let context = &stack.top;
@@ -313,7 +294,7 @@ pub fn leave(
     worker: u8,
     stack: &Stack,
     slots: &[Slot],
-) -> Result<Answer, AllocError>
+) -> AllocResult<Answer>
     requires { length slots.now ≤ 2 ^ 32 }
     ensures { AnswersAt result (leave_row worker (plain_stack stack.now).top (plain_stack
         stack.now).below slots.now (plain_stack stack.now).top.kind (plain_stack

@@ -11,12 +11,12 @@ ghost use Rattle.om_team_worksharing.specs.Rows.{edits, begun, share_of, share_i
 use om_events::{Endpoint, Record, Work};
 use om_foot::Shared;
 use om_memory::Context;
-use om_seq::Seq;
+use om_seq::{AllocResult, Seq};
 use om_state::{Construct, Edit, Puts, Share};
 use om_team_serial::Row;
 use om_team_serial::names::innermost;
 use om_team_serial::parts::{go_and, go_and_then};
-use std::alloc::{AllocError, Global};
+use std::alloc::Global;
 
 /// The two places at which an instruction can go on.
 #[derive(Clone, Copy)]
@@ -33,7 +33,7 @@ pub(crate) fn opened(
     to: u32,
     takes: u32,
     region: &Construct,
-) -> Result<Seq<Edit>, AllocError>
+) -> AllocResult<Seq<Edit>>
     ensures { Gives result (edits to takes (Edit.Open region.now)) }
 {
     let region = Shared::of(alloc, *region)?;
@@ -46,7 +46,7 @@ pub(crate) fn begun(
     to: u32,
     takes: u32,
     region: &Construct,
-) -> Result<Seq<Edit>, AllocError>
+) -> AllocResult<Seq<Edit>>
     ensures { Gives result (begun to takes region.now) }
 {
     let region = Shared::of(alloc, *region)?;
@@ -54,7 +54,7 @@ pub(crate) fn begun(
 }
 
 /// The row that goes on at a place, and changes nothing else.
-pub(crate) fn jump(alloc: Global, to: u32, takes: u32) -> Result<Row, AllocError>
+pub(crate) fn jump(alloc: Global, to: u32, takes: u32) -> AllocResult<Row>
     ensures { Gives result (goes to takes None []) }
 {
     Row::goes(alloc, to, takes, None, Puts::new(alloc))
@@ -66,7 +66,7 @@ pub(crate) fn work_record(
     work: Work,
     endpoint: Endpoint,
     count: u64,
-) -> Result<Record, AllocError>
+) -> AllocResult<Record>
     ensures { Gives result (work_record work endpoint (plain_context context.now) count) }
 {
     Ok(Record::Work {

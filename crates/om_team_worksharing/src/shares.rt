@@ -16,12 +16,12 @@ use om_code::instruction::{LoopForm, Place, Schedule};
 use om_events::{Endpoint, Work};
 use om_foot::{Mode, Obj, Shared};
 use om_memory::{Context, Memory};
-use om_seq::Seq;
+use om_seq::{AllocResult, Seq};
 use om_state::{Construct, Edit, OpenShare, Puts, Share, Sharing, Update, Val};
 use om_team_serial::names::{is_misplaced, name_one, object_of};
 use om_team_serial::parts::{go_and, one_put, recorded};
 use om_team_serial::{Answer, At, Row};
-use std::alloc::{AllocError, Global};
+use std::alloc::Global;
 
 /// The bounds of a loop, where they are ints.
 #[derive(Clone, Copy)]
@@ -84,7 +84,7 @@ fn open_share(
     at: At,
     takes: u32,
     share: Share,
-) -> Result<Answer, AllocError>
+) -> AllocResult<Answer>
     requires { ShareHasInts share }
     ensures { Answers result (open_row at.worker at.to takes (plain_context context.now) share) }
 {
@@ -109,7 +109,7 @@ pub fn open_loop(
     at: At,
     form: LoopForm,
     bounds: Bounds,
-) -> Result<Answer, AllocError>
+) -> AllocResult<Answer>
     ensures { Answers result (loop_row at.worker at.to (plain_context context.now) form
         bounds.lower bounds.upper) }
 {
@@ -127,12 +127,7 @@ pub fn open_loop(
 }
 
 /// SECT: opens so many sections.
-pub fn open_sections(
-    alloc: Global,
-    context: &Context,
-    at: At,
-    count: u32,
-) -> Result<Answer, AllocError>
+pub fn open_sections(alloc: Global, context: &Context, at: At, count: u32) -> AllocResult<Answer>
     ensures { Answers result (sections_row at.worker at.to (plain_context context.now) count) }
 {
     let share = Share {
@@ -164,7 +159,7 @@ fn in_chunk(share: Share, taken: u64, chunk: Chunk) -> Construct
 }
 
 // The edits that go to a place, and let a share take the place of the innermost region.
-fn replaced(alloc: Global, to: u32, share: &Construct) -> Result<Seq<Edit>, AllocError>
+fn replaced(alloc: Global, to: u32, share: &Construct) -> AllocResult<Seq<Edit>>
     ensures { Gives result (edits to 0 (Edit.Replace share.now)) }
 {
     let share = Shared::of(alloc, *share)?;
@@ -172,12 +167,7 @@ fn replaced(alloc: Global, to: u32, share: &Construct) -> Result<Seq<Edit>, Allo
 }
 
 // What comes of a member's next chunk under a static schedule.
-fn take(
-    alloc: Global,
-    branch: Branch,
-    share: Share,
-    chunk: Option<Chunk>,
-) -> Result<Row, AllocError>
+fn take(alloc: Global, branch: Branch, share: Share, chunk: Option<Chunk>) -> AllocResult<Row>
     requires few { IfSome chunk (λ c. share.taken < share.count) }
     requires within { IfSome chunk (λ c. c.end ≤ share.count) }
     requires ints { ShareHasInts share }
@@ -193,12 +183,7 @@ fn take(
 }
 
 // What comes of the team's next chunk.
-fn give(
-    alloc: Global,
-    branch: Branch,
-    share: Share,
-    chunk: Option<Chunk>,
-) -> Result<Row, AllocError>
+fn give(alloc: Global, branch: Branch, share: Share, chunk: Option<Chunk>) -> AllocResult<Row>
     requires within { IfSome chunk (λ c. c.end ≤ share.count) }
     requires ints { ShareHasInts share }
     ensures { Gives result (given_row branch.to branch.otherwise share chunk) }
@@ -219,7 +204,7 @@ fn grab_static(
     branch: Branch,
     share: Share,
     size: Option<u32>,
-) -> Result<Answer, AllocError>
+) -> AllocResult<Answer>
     requires { ShareHasInts share }
     ensures { Answers result (static_by branch (plain_context context.now) share size) }
 {
@@ -235,7 +220,7 @@ fn grab_dynamic(
     branch: Branch,
     share: Share,
     chunk: Option<Chunk>,
-) -> Result<Answer, AllocError>
+) -> AllocResult<Answer>
     requires within { IfSome chunk (λ c. c.end ≤ share.count) }
     requires ints { ShareHasInts share }
     ensures { Gives result (record {
@@ -260,12 +245,7 @@ fn work_of_team(context: &Context, share: Share) -> Obj
 }
 
 /// GRAB: takes the next chunk of iterations, or goes to the target where there is none.
-pub fn grab(
-    alloc: Global,
-    store: &Memory,
-    context: &Context,
-    branch: Branch,
-) -> Result<Answer, AllocError>
+pub fn grab(alloc: Global, store: &Memory, context: &Context, branch: Branch) -> AllocResult<Answer>
     ensures { AnswersAt result (grab_row branch.to branch.otherwise (plain_context context.now)
         (share_in (plain_context context.now))) store.now }
 {
@@ -310,7 +290,7 @@ fn is_loop(sharing: Sharing) -> bool
 }
 
 // The row that begins an iteration of this value.
-fn iterated(alloc: Global, to: u32, share: Share, value: i32) -> Result<Row, AllocError>
+fn iterated(alloc: Global, to: u32, share: Share, value: i32) -> AllocResult<Row>
     requires few { share.next + 1 < 2 ^ 64 }
     requires ints { ShareHasInts share }
     ensures { Gives result (iterated to share value) }
@@ -329,7 +309,7 @@ fn next_iteration(
     branch: Branch,
     slot: u32,
     share: Share,
-) -> Result<Answer, AllocError>
+) -> AllocResult<Answer>
     requires kind { is_loop share.sharing ≡ true }
     requires ints { ShareHasInts share }
     ensures { Answers result (iteration_by branch (plain_context context.now) slot share) }
@@ -346,12 +326,7 @@ fn next_iteration(
 }
 
 /// ITER: puts the next iteration's value into the slot, or goes to the target where none is left.
-pub fn iterate(
-    alloc: Global,
-    context: &Context,
-    branch: Branch,
-    slot: u32,
-) -> Result<Answer, AllocError>
+pub fn iterate(alloc: Global, context: &Context, branch: Branch, slot: u32) -> AllocResult<Answer>
     ensures { Answers result (iterate_row branch.to branch.otherwise (plain_context context.now)
         slot (share_in (plain_context context.now))) }
 {
@@ -372,7 +347,7 @@ fn is_section(share: Share) -> bool
 }
 
 // The row that goes to the target of a section, where it has one.
-fn go_to_section(alloc: Global, targets: &[u32], section: u64) -> Result<Row, AllocError>
+fn go_to_section(alloc: Global, targets: &[u32], section: u64) -> AllocResult<Row>
     ensures { Gives result (section_row (slice_get targets.now section)) }
 {
     match targets.get(section as usize) {
@@ -382,7 +357,7 @@ fn go_to_section(alloc: Global, targets: &[u32], section: u64) -> Result<Row, Al
 }
 
 /// PICK: goes to the target of the section that was taken.
-pub fn pick(alloc: Global, context: &Context, targets: &[u32]) -> Result<Answer, AllocError>
+pub fn pick(alloc: Global, context: &Context, targets: &[u32]) -> AllocResult<Answer>
     ensures { Answers result (pick_row targets.now (share_in (plain_context context.now))) }
 {
     let Some(share) = share_in(context) else {

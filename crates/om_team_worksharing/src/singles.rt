@@ -13,11 +13,12 @@ use om_code::frame::Fault;
 use om_events::{Endpoint, Work};
 use om_foot::{Mode, Obj};
 use om_memory::{Context, Memory};
+use om_seq::AllocResult;
 use om_state::{Construct, Edit, Update, Val};
 use om_team_serial::names::{innermost, is_misplaced};
 use om_team_serial::parts::{go_and, name_with_events, recorded, update_with_event};
 use om_team_serial::{Answer, At, Row};
-use std::alloc::{AllocError, Global};
+use std::alloc::Global;
 
 // The kind of a single region in its records, for the thread that runs it and for any other.
 fn single_work(runs: bool) -> Work
@@ -31,7 +32,7 @@ fn single_work(runs: bool) -> Work
 }
 
 // The row of the thread that runs a single region.
-fn run(alloc: Global, context: &Context, to: u32) -> Result<Row, AllocError>
+fn run(alloc: Global, context: &Context, to: u32) -> AllocResult<Row>
     ensures { Gives result (chosen_row to to (plain_context context.now) true) }
 {
     let region = &Construct::Single { runs: true };
@@ -42,7 +43,7 @@ fn run(alloc: Global, context: &Context, to: u32) -> Result<Row, AllocError>
 }
 
 // The row of any other thread.
-fn pass(alloc: Global, context: &Context, otherwise: u32) -> Result<Row, AllocError>
+fn pass(alloc: Global, context: &Context, otherwise: u32) -> AllocResult<Row>
     ensures { Gives result (chosen_row otherwise otherwise (plain_context context.now) false) }
 {
     let region = &Construct::Single { runs: false };
@@ -53,12 +54,7 @@ fn pass(alloc: Global, context: &Context, otherwise: u32) -> Result<Row, AllocEr
 }
 
 // The row of a thread that comes to a single region, first or not.
-fn choose(
-    alloc: Global,
-    context: &Context,
-    branch: Branch,
-    is_first: bool,
-) -> Result<Row, AllocError>
+fn choose(alloc: Global, context: &Context, branch: Branch, is_first: bool) -> AllocResult<Row>
     ensures { Gives result (chosen_by branch (plain_context context.now) is_first) }
 {
     if is_first {
@@ -75,7 +71,7 @@ pub fn single(
     context: &Context,
     worker: u8,
     branch: Branch,
-) -> Result<Answer, AllocError>
+) -> AllocResult<Answer>
     ensures { AnswersAt result (single_row worker branch.to branch.otherwise (plain_context
         context.now)) store.now }
 {
@@ -93,13 +89,7 @@ pub fn single(
 }
 
 // Closes a worksharing region of this kind and so many iterations.
-fn close(
-    alloc: Global,
-    context: &Context,
-    at: At,
-    work: Work,
-    count: u64,
-) -> Result<Answer, AllocError>
+fn close(alloc: Global, context: &Context, at: At, work: Work, count: u64) -> AllocResult<Answer>
     ensures { Answers result (closed_row at.worker at.to (plain_context context.now) work count) }
 {
     let edits = go_and(alloc, at.to, 0, Edit::Close)?;
@@ -108,7 +98,7 @@ fn close(
 }
 
 /// ENDW: closes a worksharing region.
-pub fn end_worksharing(alloc: Global, context: &Context, at: At) -> Result<Answer, AllocError>
+pub fn end_worksharing(alloc: Global, context: &Context, at: At) -> AllocResult<Answer>
     ensures { Answers result (end_worksharing_row at.worker at.to (plain_context context.now)
         (innermost (plain_context context.now).constructs)) }
 {

@@ -20,6 +20,7 @@ use crate::laws::{headline, shaped_rules, steady_rules};
 use om_code::Program;
 use om_foot::{Name, Obj};
 use om_memory::Control;
+use om_seq::AllocResult;
 use om_state::{Entry, Label, Val};
 use om_task::laws::low_counters;
 use om_task::planning::{Planning, is_at_scheduling_point, line, plan_by};
@@ -27,7 +28,7 @@ use om_task::start::started;
 use om_task::{Choice, Plan};
 use om_undo_history::choice::start_of;
 use om_undo_history::{History, RollReply, StepReply, Taken, UndoReply};
-use std::alloc::{AllocError, Global};
+use std::alloc::Global;
 use std::marker::Model;
 use std::snapshot::Snapshot;
 
@@ -145,7 +146,7 @@ fn planned_by(
     program: &Program,
     history: &History,
     planning: &Planning<'_>,
-) -> Result<Plan, AllocError>
+) -> AllocResult<Plan>
     requires { IsHeld (rules_of program.now planning.now.workers) history.now }
     ensures { IfOk result
         (λ plan. IsPlan (rules_of program.now planning.now.workers) history.now
@@ -162,7 +163,7 @@ fn planned(
     workers: u8,
     history: &History,
     label: &Label,
-) -> Result<Plan, AllocError>
+) -> AllocResult<Plan>
     requires held { IsHeld (rules_of program.now workers) history.now }
     requires some { 1 ≤ workers }
     ensures { IfOk result (IsPlan (rules_of program.now workers) history.now label.now) }
@@ -196,7 +197,7 @@ fn taken(
     worker: u8,
     start: Option<Box<Name>>,
     plan: Plan,
-) -> Result<StepReply, AllocError>
+) -> AllocResult<StepReply>
     requires few_made { (past_in history.old).made < 2 ^ 63 }
     requires planned { (r : Rules) × IsPlan r history.old (label_by worker start) plan }
     ensures reply { IfOk result (RepliesToPlan (label_by worker start) plan history.old) }
@@ -212,7 +213,7 @@ fn taken(
 
 impl Machine {
     /// A machine at the start of a program, with 1 to 32 workers. Its only error is out of memory.
-    pub fn new(alloc: Global, program: Program, workers: u8) -> Result<Machine, AllocError>
+    pub fn new(alloc: Global, program: Program, workers: u8) -> AllocResult<Machine>
         requires at_least_one { 1 ≤ workers }
         requires at_most_32 { workers ≤ 32 }
         ensures { IfOk result (λ m. m ≡ at_start program workers) }
@@ -232,12 +233,7 @@ impl Machine {
     ///
     /// Only `Done` changes anything: an entry is added, whose serial is one above the number of
     /// steps ever made. When out of memory, nothing changes.
-    pub fn step(
-        &mut self,
-        alloc: Global,
-        worker: u8,
-        choice: Choice,
-    ) -> Result<StepReply, AllocError>
+    pub fn step(&mut self, alloc: Global, worker: u8, choice: Choice) -> AllocResult<StepReply>
         requires in_range { worker < self.old.workers }
         requires few_made { self.old.history.made < 2 ^ 63 }
         ensures reply { IfOk result (λ x. x ≡ step_reply self.old (label_at worker choice)) }
@@ -251,7 +247,7 @@ impl Machine {
     }
 
     /// What `step` would answer now. Nothing changes; the only error is out of memory.
-    pub fn peek(&self, alloc: Global, worker: u8, choice: Choice) -> Result<StepReply, AllocError>
+    pub fn peek(&self, alloc: Global, worker: u8, choice: Choice) -> AllocResult<StepReply>
         requires { worker < self.now.workers }
         ensures { IfOk result (λ x. x ≡ step_reply self.now (label_at worker choice)) }
     {
@@ -264,12 +260,7 @@ impl Machine {
 
     /// The step that a worker would take by a choice, planned and not taken. Nothing changes; the only
     /// error is out of memory.
-    pub fn plan(
-        &self,
-        alloc: Global,
-        worker: u8,
-        choice: &Choice,
-    ) -> Result<PlannedStep, AllocError>
+    pub fn plan(&self, alloc: Global, worker: u8, choice: &Choice) -> AllocResult<PlannedStep>
         requires { worker < self.now.workers }
         ensures { IfOk result (λ p. p ≡ planned_at self.now (label_at worker choice.now)) }
     {
@@ -292,7 +283,7 @@ impl Machine {
     /// does, which plans it first.
     ///
     /// Only `Done` changes anything. When out of memory, nothing changes.
-    pub fn take(&mut self, alloc: Global, step: PlannedStep) -> Result<StepReply, AllocError>
+    pub fn take(&mut self, alloc: Global, step: PlannedStep) -> AllocResult<StepReply>
         requires planned { step.machine ≡ self.old }
         requires few_made { self.old.history.made < 2 ^ 63 }
         ensures reply { IfOk result (λ x. x ≡ step_reply self.old step.label) }
@@ -324,7 +315,7 @@ impl Machine {
     /// What a roll of the entry with a serial would take out, the latest first: its cone, the least
     /// set that holds it and, with each member, every later entry that conflicts with the member.
     /// `None` where no entry has that serial. Nothing changes; the only error is out of memory.
-    pub fn cone(&self, alloc: Global, serial: u64) -> Result<Option<Vec<Taken>>, AllocError>
+    pub fn cone(&self, alloc: Global, serial: u64) -> AllocResult<Option<Vec<Taken>>>
         ensures none { IfOk result (λ o. IsNone o ↔ IsGone serial self.now.history) }
         ensures members { IfOk result (λ o. IfSome o (λ v. v.items ≡ rolled_from self.now serial)) }
     {
@@ -346,7 +337,7 @@ impl Machine {
     ///
     /// Only `Rolled` changes anything, and the number of steps ever made stays even then. Where no
     /// entry has that serial the answer is `NoEntry`. When out of memory, nothing changes.
-    pub fn roll(&mut self, alloc: Global, serial: u64) -> Result<RollReply, AllocError>
+    pub fn roll(&mut self, alloc: Global, serial: u64) -> AllocResult<RollReply>
         ensures reply { IfOk result (λ x. x ≡ roll_reply self.old serial) }
         ensures after { OnOk result (self.new ≡ with_roll self.old serial) }
         ensures takes_cone { OnOk result (TakesItsCone serial self.old self.new) }
@@ -360,7 +351,7 @@ impl Machine {
 
     /// A copy of what an object holds: its value at the replay of the entries. Its only error is
     /// out of memory.
-    pub fn look(&self, alloc: Global, object: &Obj) -> Result<Val, AllocError>
+    pub fn look(&self, alloc: Global, object: &Obj) -> AllocResult<Val>
         ensures { IfOk result (λ v. v ≡ state_in self.now object.now) }
     {
         self.history.store().copy_at(alloc, object)
@@ -368,7 +359,7 @@ impl Machine {
 
     /// The names of all tasks that are ready to be begun at the replay of the entries, ascending.
     /// Its only error is out of memory.
-    pub fn ready(&self, alloc: Global) -> Result<Vec<Name>, AllocError>
+    pub fn ready(&self, alloc: Global) -> AllocResult<Vec<Name>>
         ensures { IfOk result (λ v. AreReady (state_in self.now) v.items) }
     {
         self.history.store().ready(alloc)
@@ -387,7 +378,7 @@ impl Machine {
     ///
     /// They can be made in turn from the start, and what they give is the state. The headline holds
     /// of the program and its number of workers. Its only error is out of memory.
-    pub fn history(&self, alloc: Global) -> Result<Vec<Entry>, AllocError>
+    pub fn history(&self, alloc: Global) -> AllocResult<Vec<Entry>>
         ensures entries { IfOk result (λ v. v.items ≡ self.now.history.entries) }
         ensures numbered { Rise 0 self.now.history.entries self.now.history.made }
         ensures reached { IsRun (rules_for self.now) self.now.history }

@@ -7,7 +7,8 @@ ghost use Rattle.std.specs.Map.{lookup, remove_entry};
 ghost use Rattle.om_undo_history.specs.Rows.{entries_in, AreRising, LastStands, IsAboveAll, IsPlaceOf};
 
 use crate::kept::Kept;
-use std::alloc::{AllocError, Global};
+use om_seq::AllocResult;
+use std::alloc::Global;
 use std::marker::Model;
 use std::mem::size_of;
 
@@ -111,7 +112,7 @@ fn close_gaps(rows: &mut Vec<Row>, has_gaps: bool)
 // Makes room for one more row. Where there is none, all rows without a record go, if there may be any,
 // and then room is asked for until half of it is free. So a row that comes costs amortized constant time,
 // as long as memory is given. When out of memory, the records are the same.
-fn make_room(rows: &mut Vec<Row>, has_gaps: &mut bool) -> Result<(), AllocError>
+fn make_room(rows: &mut Vec<Row>, has_gaps: &mut bool) -> AllocResult<()>
     requires rising { AreRising 0 rows.old.items }
     requires last { LastStands rows.old.items }
     ensures same { entries_in rows.new.items ≡ entries_in rows.old.items }

@@ -4,11 +4,12 @@ ghost use Rattle.std.specs.Prelude.{◌≡◌, IfOk};
 ghost use Rattle.om_undo_history.specs.Choices.{choice_of};
 
 use om_foot::Name;
+use om_seq::AllocResult;
 use om_state::Choice;
-use std::alloc::{AllocError, Global};
+use std::alloc::Global;
 
 /// The name of the task that a choice starts, if it does. Its only error is out of memory.
-pub fn start_of(alloc: Global, choice: &Choice) -> Result<Option<Box<Name>>, AllocError>
+pub fn start_of(alloc: Global, choice: &Choice) -> AllocResult<Option<Box<Name>>>
     ensures { IfOk result (λ start. choice_of start ≡ choice.now) }
 {
     let Choice::Start(name) = choice else {

@@ -13,10 +13,10 @@ use crate::backs::{BackParts, Backs};
 use crate::updates::{make_all, take_back_all, take_cell_back};
 use om_foot::SharedCells;
 use om_memory::Memory;
-use om_seq::Seq;
+use om_seq::{AllocResult, Seq};
 use om_state::{Run, Was};
 use om_undo_touches::Accesses;
-use std::alloc::{AllocError, Global};
+use std::alloc::Global;
 use std::mem;
 
 // Takes what is put at the cells of slots back, the last slot first. It takes no memory.
@@ -44,7 +44,7 @@ fn make_cells(
     alloc: Global,
     all: &[SharedCells],
     runs: &[Run],
-) -> Result<Vec<Seq<Was>>, AllocError>
+) -> AllocResult<Vec<Seq<Was>>>
     requires kept { Keeps store.old (cells_listed all.now) }
     requires along { are_along all.now runs.now ≡ true }
     ensures along { IfOk result (λ were. WereAlong all.now were.items) }
@@ -79,7 +79,7 @@ fn make_parts(
     footprint: &Accesses,
     runs: &[Run],
     back: &mut BackParts,
-) -> Result<(), AllocError>
+) -> AllocResult<()>
     requires kept { Keeps store.old (further_of footprint.now) }
     requires first { length footprint.now.first ≡ length back.old.first.items }
     requires along { are_along footprint.now.cells runs.now ≡ true }
@@ -121,7 +121,7 @@ pub(crate) fn make_further(
     footprint: &Accesses,
     runs: &[Run],
     back: &mut Backs,
-) -> Result<(), AllocError>
+) -> AllocResult<()>
     requires kept { Keeps store.old (further_of footprint.now) }
     requires along { CanGoAlong footprint.now back.old runs.now }
     requires fits { FitsFurther footprint.now (wanted back.old runs.now) store.old }

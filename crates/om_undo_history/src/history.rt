@@ -21,9 +21,9 @@ use crate::steps::{append, take_out};
 use om_code::frame::Fault;
 use om_foot::Name;
 use om_memory::{Control, Memory, fault_after};
-use om_seq::Seq;
+use om_seq::{AllocResult, Seq};
 use om_state::{Change, Edit, Entry, Label};
-use std::alloc::{AllocError, Global};
+use std::alloc::Global;
 
 /// The history of a run: its entries, each with a small record of what takes it back, and the store
 /// that they lead to, whose trails take the controls back.
@@ -84,7 +84,7 @@ impl History {
 
     /// A copy of the entries that stand, in their order. Their serials rise, to the number of steps
     /// ever made at most. Its only error is out of memory.
-    pub fn entries(&self, alloc: Global) -> Result<Vec<Entry>, AllocError>
+    pub fn entries(&self, alloc: Global) -> AllocResult<Vec<Entry>>
         ensures entries { IfOk result (λ v. v.items ≡ (history_in self.now).entries) }
         ensures numbered { AreNumbered self.now }
     {
@@ -148,12 +148,7 @@ impl History {
     ///
     /// An entry is added, whose serial is one above the number of steps ever made. When out of
     /// memory, nothing changes.
-    pub fn take(
-        &mut self,
-        alloc: Global,
-        label: &Label,
-        change: Change,
-    ) -> Result<StepReply, AllocError>
+    pub fn take(&mut self, alloc: Global, label: &Label, change: Change) -> AllocResult<StepReply>
         requires few_made { (past_in self.old).made < 2 ^ 63 }
         requires room { HasRoomFor label.now.worker change self.old }
         requires planned { IsPlannedChange label.now change self.old }
@@ -178,7 +173,7 @@ impl History {
         worker: u8,
         start: Option<Box<Name>>,
         change: Change,
-    ) -> Result<StepReply, AllocError>
+    ) -> AllocResult<StepReply>
         requires few_made { (past_in self.old).made < 2 ^ 63 }
         requires room { HasRoomFor worker change self.old }
         requires planned { IsPlannedChange (label_by worker start) change self.old }
@@ -201,7 +196,7 @@ impl History {
     /// What a roll of the entry with a serial would take out, the latest first: its cone, the least
     /// set that holds it and, with each member, every later entry that conflicts with the member.
     /// `None` where no entry has that serial. Nothing changes; the only error is out of memory.
-    pub fn cone(&self, alloc: Global, serial: u64) -> Result<Option<Vec<Taken>>, AllocError>
+    pub fn cone(&self, alloc: Global, serial: u64) -> AllocResult<Option<Vec<Taken>>>
         requires { (r : Rules) × IsHeld r self.now }
         ensures none { IfOk result (λ o. IsNone o ↔ HasNoEntry serial self.now) }
         ensures members { IfOk result (λ o. IfSome o (λ v. AreRolled serial self.now v.items)) }
@@ -232,7 +227,7 @@ impl History {
     ///
     /// Only `Rolled` changes anything, and the number of steps ever made stays even then. Where no
     /// entry has that serial the answer is `NoEntry`. When out of memory, nothing changes.
-    pub fn roll(&mut self, alloc: Global, serial: u64) -> Result<RollReply, AllocError>
+    pub fn roll(&mut self, alloc: Global, serial: u64) -> AllocResult<RollReply>
         requires { (r : Rules) × IsHeld r self.old }
         ensures reply { IfOk result (Replies (λ r h. reply_to_roll r h serial) self.old) }
         ensures after { OnOk result (Becomes (λ r h. after_roll r h serial) self.old self.new) }

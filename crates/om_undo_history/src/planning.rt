@@ -12,10 +12,10 @@ use crate::backs::{BackParts, Backs};
 use crate::updates::{keep_cells, keep_each};
 use om_foot::{Access, Cells, Names};
 use om_memory::Memory;
-use om_seq::Seq;
+use om_seq::{AllocResult, Seq};
 use om_state::{Footprint, PutParts, Puts, Run, Update};
 use om_undo_touches::Accesses;
-use std::alloc::{AllocError, Global};
+use std::alloc::Global;
 
 /// A step that is about to be made.
 #[derive(Drop)]
@@ -29,7 +29,7 @@ pub(crate) struct Making {
 }
 
 // Each update by itself. Its only error is out of memory.
-fn rejoined(alloc: Global, parts: PutParts) -> Result<Vec<Update>, AllocError>
+fn rejoined(alloc: Global, parts: PutParts) -> AllocResult<Vec<Update>>
     ensures { IfOk result (λ all. all.items ≡ puts_in parts) }
 {
     let PutParts { first, runs, last } = parts;
@@ -62,7 +62,7 @@ fn singles(
     alloc: Global,
     worker: u8,
     others: &[Access],
-) -> Result<Accesses, AllocError>
+) -> AllocResult<Accesses>
     ensures footprint { IfOk result (λ f. accesses_of f ≡ own_first worker others.now) }
     ensures single { IfOk result (λ f. (f.cells ≡ []) × (f.last ≡ [])) }
     ensures same { state_of store.new ≡ state_of store.old }
@@ -89,7 +89,7 @@ fn plain(
     worker: u8,
     others: &[Access],
     updates: Vec<Update>,
-) -> Result<Making, AllocError>
+) -> AllocResult<Making>
     requires { is_kept store.old (obj.Control worker) ≡ true }
     ensures footprint { IfOk result (λ m. accesses_of m.footprint ≡ own_first worker others.now) }
     ensures updates { IfOk result (λ m. wanted m.back m.runs ≡ updates.items) }
@@ -123,7 +123,7 @@ fn in_parts(
     worker: u8,
     names: &Names,
     puts: PutParts,
-) -> Result<Making, AllocError>
+) -> AllocResult<Making>
     requires { is_kept store.old (obj.Control worker) ≡ true }
     ensures footprint { IfOk result (λ m. accesses_of m.footprint ≡ own_first worker names.now) }
     ensures updates { IfOk result (λ m. wanted m.back m.runs ≡ puts_in puts) }
@@ -167,7 +167,7 @@ pub(crate) fn planned(
     alloc: Global,
     footprint: &Footprint,
     updates: Puts,
-) -> Result<Making, AllocError>
+) -> AllocResult<Making>
     ensures footprint { IfOk result (λ m. accesses_of m.footprint ≡ footprint.now) }
     ensures updates { IfOk result (λ m. wanted m.back m.runs ≡ updates) }
     ensures along { IfOk result (λ m. CanGoAlong m.footprint m.back m.runs) }

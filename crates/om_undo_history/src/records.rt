@@ -13,10 +13,10 @@ use crate::by_serial::BySerial;
 use crate::kept::Kept;
 use crate::reply::{Taken, UndoReply};
 use om_foot::Access;
-use om_seq::Seq;
+use om_seq::{AllocResult, Seq};
 use om_state::{Entry, Update};
 use om_undo_touches::{OwnEntries, TouchLists, conflict};
-use std::alloc::{AllocError, Global};
+use std::alloc::Global;
 use std::marker::Model;
 
 /// An entry, with its footprint and what takes its updates back.
@@ -58,12 +58,7 @@ impl Model for Records {
 }
 
 // Adds the touches of an entry to both lists. When out of memory, no touch changes.
-fn note(
-    lists: &mut TouchLists,
-    own: &mut OwnEntries,
-    alloc: Global,
-    made: &Kept,
-) -> Result<(), AllocError>
+fn note(lists: &mut TouchLists, own: &mut OwnEntries, alloc: Global, made: &Kept) -> AllocResult<()>
     requires { (o : Obj) (m : Mode) → has_touch lists.old o m made.now.entry.serial ≡ false }
     ensures lists { OnOk result (NotesTouches made.now lists.old lists.new) }
     ensures own { OnOk result (NotesOwn made.now own.old own.new) }
@@ -206,7 +201,7 @@ fn is_member(members: &TouchLists, made: &Kept, serial: u64) -> bool
 // What names the members of the cone of the entry with a serial, in their order: a later entry is
 // one where it conflicts with the touches of the members so far. There is none where no entry has
 // that serial.
-fn members(alloc: Global, kept: &BySerial, serial: u64) -> Result<Vec<Taken>, AllocError>
+fn members(alloc: Global, kept: &BySerial, serial: u64) -> AllocResult<Vec<Taken>>
     requires { AreBySerial 0 kept.now }
     ensures { IfOk result (λ v. v.items ≡ cone_in serial (values_of kept.now)) }
 {
@@ -295,7 +290,7 @@ impl Records {
 
     /// What a roll of the entry with a serial takes out, the latest first; nothing where no entry
     /// has it. Its only error is out of memory.
-    pub fn cone(&self, alloc: Global, serial: u64) -> Result<Vec<Taken>, AllocError>
+    pub fn cone(&self, alloc: Global, serial: u64) -> AllocResult<Vec<Taken>>
         ensures { IfOk result (λ v. v.items ≡ roll_in serial self.now) }
     {
         let mut names = members(alloc, &self.kept, serial)?;
@@ -304,7 +299,7 @@ impl Records {
     }
 
     /// The entries of the records, in their order. Its only error is out of memory.
-    pub fn entries(&self, alloc: Global) -> Result<Vec<Entry>, AllocError>
+    pub fn entries(&self, alloc: Global) -> AllocResult<Vec<Entry>>
         ensures { IfOk result (λ v. v.items ≡ entries_of self.now) }
     {
         let mut entries = Vec::with_capacity(alloc, self.kept.rows().len())?;

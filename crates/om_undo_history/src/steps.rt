@@ -14,7 +14,7 @@ use crate::kept::{Kept, SmallEntry};
 use crate::planning::{Making, planned};
 use crate::records::Records;
 use om_memory::Memory;
-use om_seq::Seq;
+use om_seq::{AllocResult, Seq};
 use om_state::{Change, Edit};
 use std::alloc::{AllocError, Global};
 
@@ -40,7 +40,7 @@ fn make_changes(
     owner: u8,
     edits: Seq<Edit>,
     making: &mut Making,
-) -> Result<(), AllocError>
+) -> AllocResult<()>
     requires room { Keeps store.old (accesses_of making.old.footprint) }
     requires along { CanGoAlong making.old.footprint making.old.back making.old.runs }
     requires can { CanMakePlanned owner edits making.old store.old }
@@ -68,12 +68,7 @@ fn make_changes(
 
 // Makes a change of an entry's worker, and answers the record of it. When out of memory, no value
 // changes, but the store may keep more objects.
-fn make(
-    store: &mut Memory,
-    alloc: Global,
-    entry: SmallEntry,
-    change: Change,
-) -> Result<Kept, AllocError>
+fn make(store: &mut Memory, alloc: Global, entry: SmallEntry, change: Change) -> AllocResult<Kept>
     requires { CanMakeChange entry.worker change store.old }
     ensures state { OnOk result (MakesChange entry.worker change store.old store.new) }
     ensures pasts { OnOk result (NotesChange entry.worker change store.old store.new) }
@@ -107,7 +102,7 @@ pub(crate) fn append(
     alloc: Global,
     entry: SmallEntry,
     change: Change,
-) -> Result<(), AllocError>
+) -> AllocResult<()>
     requires can { CanMakeChange entry.worker change store.old }
     requires some { 0 < entry.serial }
     requires latest { AreBelow entry.serial records.old }

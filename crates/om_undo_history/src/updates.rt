@@ -15,9 +15,9 @@ ghost use Rattle.om_undo_history.specs.Effects.{write_at, add_at, MakesAt, Notes
 use om_code::frame::Cell;
 use om_foot::{Access, Cells, Mode, Obj, SharedAccess, SharedCells};
 use om_memory::{Memory, worker_of};
-use om_seq::Seq;
+use om_seq::{AllocResult, Seq};
 use om_state::{Control, Update, Val};
-use std::alloc::{AllocError, Global};
+use std::alloc::Global;
 use std::mem;
 
 // Makes an update at a `Write` of a worker's control, and answers the mark of it: the trail keeps
@@ -27,7 +27,7 @@ fn make_control(
     alloc: Global,
     worker: u8,
     update: Update,
-) -> Result<Update, AllocError>
+) -> AllocResult<Update>
     requires kept { is_kept store.old (obj.Control worker) ≡ true }
     requires shaped { IsShapedAt Mode.Write update true }
     ensures small { IfOk result (λ u. u ≡ small_in (control_write worker) update store.old) }
@@ -49,7 +49,7 @@ fn make_control(
 
 // Makes an update at a `Write` of another object, and answers the one that takes it back. When out
 // of memory, no value changes.
-fn make_write(store: &mut Memory, object: &Obj, update: Update) -> Result<Update, AllocError>
+fn make_write(store: &mut Memory, object: &Obj, update: Update) -> AllocResult<Update>
     requires no_control { is_trailed object.now ≡ false }
     requires kept { is_kept store.old object.now ≡ true }
     ensures undo { IfOk result (λ u. u ≡ undo_in (write_at object.now) update store.old) }
@@ -77,7 +77,7 @@ fn make(
     alloc: Global,
     access: &SharedAccess,
     update: Update,
-) -> Result<Update, AllocError>
+) -> AllocResult<Update>
     requires kept { is_kept store.old access.now.object ≡ true }
     requires fits { FitsAt access.now.mode update (state_of store.old access.now.object) }
     requires shaped { IsShapedAt access.now.mode update (is_trailed access.now.object) }
@@ -177,7 +177,7 @@ fn exchange(
     alloc: Global,
     access: &SharedAccess,
     update: &mut Update,
-) -> Result<(), AllocError>
+) -> AllocResult<()>
     requires kept { is_kept store.old access.now.object ≡ true }
     requires fits { FitsAt access.now.mode update.old (state_of store.old access.now.object) }
     requires shaped { IsShapedAt access.now.mode update.old (is_trailed access.now.object) }
@@ -201,7 +201,7 @@ pub(crate) fn keep_each(
     alloc: Global,
     shared: &mut Vec<SharedAccess>,
     others: &[Access],
-) -> Result<(), AllocError>
+) -> AllocResult<()>
     ensures shared { OnOk result (shared.new.items ≡ shared.old.items ++ others.now) }
     ensures same { state_of store.new ≡ state_of store.old }
     ensures same_pasts { pasts_of store.new ≡ pasts_of store.old }
@@ -221,7 +221,7 @@ pub(crate) fn keep_cells(
     store: &mut Memory,
     alloc: Global,
     all: &[Cells],
-) -> Result<Seq<SharedCells>, AllocError>
+) -> AllocResult<Seq<SharedCells>>
     ensures shared { IfOk result (λ shared. shared ≡ all.now) }
     ensures same { state_of store.new ≡ state_of store.old }
     ensures same_pasts { pasts_of store.new ≡ pasts_of store.old }
@@ -242,7 +242,7 @@ pub(crate) fn make_all(
     alloc: Global,
     footprint: &[SharedAccess],
     updates: &mut Vec<Update>,
-) -> Result<(), AllocError>
+) -> AllocResult<()>
     requires kept { Keeps store.old footprint.now }
     requires fits { FitsAll footprint.now updates.old.items (state_of store.old) }
     requires shaped { AreShaped footprint.now updates.old.items }

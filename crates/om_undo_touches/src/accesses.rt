@@ -5,8 +5,8 @@ ghost use Rattle.om_foot.specs.Cells.{cells_listed};
 ghost use Rattle.om_undo_touches.specs.Accesses.{control_write, accesses_of};
 
 use om_foot::{Access, Mode, Obj, SharedAccess, SharedCells};
-use om_seq::Seq;
-use std::alloc::{AllocError, Global};
+use om_seq::{AllocResult, Seq};
+use std::alloc::Global;
 use std::marker::Model;
 use std::slice::from_ref;
 
@@ -80,7 +80,7 @@ impl Accesses {
         first: Vec<SharedAccess>,
         cells: Seq<SharedCells>,
         last: Vec<SharedAccess>,
-    ) -> Result<Accesses, AllocError>
+    ) -> AllocResult<Accesses>
         ensures { IfOk result
             (λ a. a ≡ record { worker = worker; first = first.items; cells = cells; last = last.items }) }
     {

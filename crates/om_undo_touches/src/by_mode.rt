@@ -8,7 +8,8 @@ ghost use Rattle.om_undo_touches.specs.Touches.{list_of, mode_eq, meets_at};
 ghost use Rattle.om_foot.specs.Firsts.{IsFirst};
 
 use om_foot::{Mode, Serials, Touch, first_touch, sooner};
-use std::alloc::{AllocError, Global};
+use om_seq::AllocResult;
+use std::alloc::Global;
 
 /// The touches of one object: the serials of the entries that name it, apart by mode. So a search
 /// for a write or an addition goes through no reads.
@@ -43,7 +44,7 @@ impl Touches {
     }
 
     /// Adds a touch. When out of memory, nothing changes.
-    pub(crate) fn add(&mut self, alloc: Global, mode: Mode, serial: u64) -> Result<(), AllocError>
+    pub(crate) fn add(&mut self, alloc: Global, mode: Mode, serial: u64) -> AllocResult<()>
         ensures added { OnOk result
             ((m : Mode) (s : ℕ) → has (list_of self.new m) s
             ≡ cond (mode_eq mode m && nat_eq serial s) true (has (list_of self.old m) s)) }

@@ -8,7 +8,8 @@ ghost use Rattle.om_undo_touches.specs.Touches.{meets_at, has_control_touch, Sam
 
 use crate::by_mode::Touches;
 use om_foot::Mode;
-use std::alloc::{AllocError, Global};
+use om_seq::AllocResult;
+use std::alloc::Global;
 
 /// For each worker the touches of its control.
 ///
@@ -38,7 +39,7 @@ impl ControlTouches {
     }
 
     // Has a place for each worker up to this one. No touch changes, also when out of memory.
-    fn know(&mut self, worker: u8) -> Result<(), AllocError>
+    fn know(&mut self, worker: u8) -> AllocResult<()>
         ensures same { SameControls self.old self.new }
         ensures known { OnOk result (worker < length self.new.workers.items) }
     {
@@ -49,13 +50,7 @@ impl ControlTouches {
     }
 
     // Adds a touch of a known worker's control. When out of memory, no touch changes.
-    fn add_known(
-        &mut self,
-        alloc: Global,
-        worker: u8,
-        mode: Mode,
-        serial: u64,
-    ) -> Result<(), AllocError>
+    fn add_known(&mut self, alloc: Global, worker: u8, mode: Mode, serial: u64) -> AllocResult<()>
         requires { worker < length self.old.workers.items }
         ensures added { OnOk result (ControlsWith worker mode serial self.old self.new) }
         ensures unchanged_on_error { OnErr result (SameControls self.old self.new) }
@@ -65,13 +60,7 @@ impl ControlTouches {
 
     // Makes a worker known, and adds the first touch of its control. When out of memory, no touch
     // changes.
-    fn add_first(
-        &mut self,
-        alloc: Global,
-        worker: u8,
-        mode: Mode,
-        serial: u64,
-    ) -> Result<(), AllocError>
+    fn add_first(&mut self, alloc: Global, worker: u8, mode: Mode, serial: u64) -> AllocResult<()>
         ensures added { OnOk result (ControlsWith worker mode serial self.old self.new) }
         ensures unchanged_on_error { OnErr result (SameControls self.old self.new) }
     {
@@ -86,7 +75,7 @@ impl ControlTouches {
         worker: u8,
         mode: Mode,
         serial: u64,
-    ) -> Result<(), AllocError>
+    ) -> AllocResult<()>
         ensures added { OnOk result (ControlsWith worker mode serial self.old self.new) }
         ensures unchanged_on_error { OnErr result (SameControls self.old self.new) }
     {

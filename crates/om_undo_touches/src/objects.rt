@@ -12,7 +12,8 @@ ghost use Rattle.om_foot.specs.Serials.{has};
 
 use crate::by_mode::Touches;
 use om_foot::{Cells, Mode, Obj, SharedAccess, SharedCells, SharedObject, sooner};
-use std::alloc::{AllocError, Global};
+use om_seq::AllocResult;
+use std::alloc::Global;
 use std::collections::BTreeMap;
 use std::ops::Bound;
 
@@ -67,7 +68,7 @@ impl ObjectTouches {
     }
 
     // Makes an object known. No touch changes, also when out of memory.
-    fn know(&mut self, object: &SharedObject) -> Result<(), AllocError>
+    fn know(&mut self, object: &SharedObject) -> AllocResult<()>
         ensures same { SameObjects self.old self.new }
         ensures known { OnOk result (knows self.new object.now ≡ true) }
     {
@@ -80,12 +81,7 @@ impl ObjectTouches {
     }
 
     // Adds a touch of an object that is known. When out of memory, no touch changes.
-    fn add_known(
-        &mut self,
-        alloc: Global,
-        access: &SharedAccess,
-        serial: u64,
-    ) -> Result<(), AllocError>
+    fn add_known(&mut self, alloc: Global, access: &SharedAccess, serial: u64) -> AllocResult<()>
         requires { knows self.old access.now.object ≡ true }
         ensures added { OnOk result (ObjectsWith access.now serial self.old self.new) }
         ensures unchanged_on_error { OnErr result (SameObjects self.old self.new) }
@@ -97,12 +93,7 @@ impl ObjectTouches {
     }
 
     // Makes an object known, and adds its first touch. When out of memory, no touch changes.
-    fn add_first(
-        &mut self,
-        alloc: Global,
-        access: &SharedAccess,
-        serial: u64,
-    ) -> Result<(), AllocError>
+    fn add_first(&mut self, alloc: Global, access: &SharedAccess, serial: u64) -> AllocResult<()>
         ensures added { OnOk result (ObjectsWith access.now serial self.old self.new) }
         ensures unchanged_on_error { OnErr result (SameObjects self.old self.new) }
     {
@@ -116,7 +107,7 @@ impl ObjectTouches {
         alloc: Global,
         access: &SharedAccess,
         serial: u64,
-    ) -> Result<(), AllocError>
+    ) -> AllocResult<()>
         ensures added { OnOk result (ObjectsWith access.now serial self.old self.new) }
         ensures unchanged_on_error { OnErr result (SameObjects self.old self.new) }
     {

@@ -6,7 +6,8 @@ ghost use Rattle.om_undo_touches.specs.Touches.{is_own, SameOwn, WithOwn, Withou
 ghost use Rattle.om_foot.specs.Firsts.{IsGreatest};
 
 use om_foot::Serials;
-use std::alloc::{AllocError, Global};
+use om_seq::AllocResult;
+use std::alloc::Global;
 
 /// For each worker the serials of its entries. Another worker's step may touch its control too, as
 /// the start of a team does, so the touches of its control don't tell them.
@@ -43,7 +44,7 @@ impl OwnEntries {
     }
 
     // Has a place for each worker up to this one. No entry is added, also when out of memory.
-    fn know(&mut self, worker: u8) -> Result<(), AllocError>
+    fn know(&mut self, worker: u8) -> AllocResult<()>
         ensures same { SameOwn self.old self.new }
         ensures known { OnOk result (worker < length self.new.workers.items) }
     {
@@ -54,7 +55,7 @@ impl OwnEntries {
     }
 
     // Adds an entry of a worker that is known. When out of memory, nothing changes.
-    fn add_known(&mut self, alloc: Global, worker: u8, serial: u64) -> Result<(), AllocError>
+    fn add_known(&mut self, alloc: Global, worker: u8, serial: u64) -> AllocResult<()>
         requires { worker < length self.old.workers.items }
         ensures added { OnOk result (WithOwn worker serial self.old self.new) }
         ensures unchanged_on_error { OnErr result (SameOwn self.old self.new) }
@@ -63,7 +64,7 @@ impl OwnEntries {
     }
 
     // Makes a worker known, and adds its first entry. When out of memory, nothing changes.
-    fn add_first(&mut self, alloc: Global, worker: u8, serial: u64) -> Result<(), AllocError>
+    fn add_first(&mut self, alloc: Global, worker: u8, serial: u64) -> AllocResult<()>
         ensures added { OnOk result (WithOwn worker serial self.old self.new) }
         ensures unchanged_on_error { OnErr result (SameOwn self.old self.new) }
     {
@@ -72,7 +73,7 @@ impl OwnEntries {
     }
 
     /// Adds an entry of a worker. When out of memory, nothing changes.
-    pub fn add(&mut self, alloc: Global, worker: u8, serial: u64) -> Result<(), AllocError>
+    pub fn add(&mut self, alloc: Global, worker: u8, serial: u64) -> AllocResult<()>
         ensures added { OnOk result (WithOwn worker serial self.old self.new) }
         ensures unchanged_on_error { OnErr result (SameOwn self.old self.new) }
     {

@@ -13,7 +13,8 @@ ghost use Rattle.om_foot.specs.Firsts.{IsFirst};
 use crate::controls::ControlTouches;
 use crate::objects::ObjectTouches;
 use om_foot::{Mode, Obj, SharedAccess, SharedCells};
-use std::alloc::{AllocError, Global};
+use om_seq::AllocResult;
+use std::alloc::Global;
 
 // The worker whose control an object is.
 fn control_of(object: &Obj) -> Option<u8>
@@ -47,7 +48,7 @@ impl SingleTouches {
     }
 
     // Adds a touch. When out of memory, no touch changes.
-    fn add(&mut self, alloc: Global, access: &SharedAccess, serial: u64) -> Result<(), AllocError>
+    fn add(&mut self, alloc: Global, access: &SharedAccess, serial: u64) -> AllocResult<()>
         ensures added { OnOk result
             (IsSet true (access.now ∷ []) serial (has_single_touch self.old) (has_single_touch self.new)) }
         ensures unchanged_on_error { OnErr result
@@ -65,7 +66,7 @@ impl SingleTouches {
         alloc: Global,
         footprint: &[SharedAccess],
         serial: u64,
-    ) -> Result<(), AllocError>
+    ) -> AllocResult<()>
         ensures added { OnOk result
             (IsSet true footprint.now serial (has_single_touch self.old) (has_single_touch self.new)) }
         ensures some_on_error { OnErr result ((n : ℕ) × IsSet true (first_so_many n footprint.now) serial
@@ -88,7 +89,7 @@ impl SingleTouches {
         worker: u8,
         others: &[SharedAccess],
         serial: u64,
-    ) -> Result<(), AllocError>
+    ) -> AllocResult<()>
         ensures added { OnOk result (IsSet true (control_write worker ∷ others.now) serial
             (has_single_touch self.old) (has_single_touch self.new)) }
         ensures some_on_error { OnErr result

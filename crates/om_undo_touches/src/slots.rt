@@ -11,7 +11,8 @@ ghost use Rattle.om_undo_touches.specs.Touches.{meets, has_slot_write, has_slot_
 use crate::spans::Spans;
 use om_foot::cells::spot_of;
 use om_foot::{Obj, SharedCells, SlotName};
-use std::alloc::{AllocError, Global};
+use om_seq::AllocResult;
+use std::alloc::Global;
 use std::collections::BTreeMap;
 
 /// For each slot the writes of its beginnings, each so many of its first cells. A run without arrays has
@@ -40,7 +41,7 @@ impl SlotTouches {
         slot: &SlotName,
         count: u32,
         serial: u64,
-    ) -> Result<(), AllocError>
+    ) -> AllocResult<()>
         requires { (i s : ℕ) → has_span (spans_of self.old slot.now) i s ≡ false }
         ensures added { OnOk result (SlotsWith slot.now count serial self.old self.new) }
         ensures unchanged_on_error { OnErr result (SameSlots self.old self.new) }
@@ -52,13 +53,7 @@ impl SlotTouches {
     }
 
     // Adds the writes of so many cells of a slot. When out of memory, no touch changes.
-    fn add_of(
-        &mut self,
-        alloc: Global,
-        slot: &SlotName,
-        count: u32,
-        serial: u64,
-    ) -> Result<(), AllocError>
+    fn add_of(&mut self, alloc: Global, slot: &SlotName, count: u32, serial: u64) -> AllocResult<()>
         ensures added { OnOk result (SlotsWith slot.now count serial self.old self.new) }
         ensures unchanged_on_error { OnErr result (SameSlots self.old self.new) }
     {
@@ -69,12 +64,7 @@ impl SlotTouches {
     }
 
     /// Adds the touches of cells. When out of memory, no touch changes.
-    pub(crate) fn add(
-        &mut self,
-        alloc: Global,
-        cells: &SharedCells,
-        serial: u64,
-    ) -> Result<(), AllocError>
+    pub(crate) fn add(&mut self, alloc: Global, cells: &SharedCells, serial: u64) -> AllocResult<()>
         ensures added { OnOk result
             (IsSet true (cells_of cells.now) serial (has_slot_touch self.old) (has_slot_touch self.new)) }
         ensures unchanged_on_error { OnErr result
@@ -91,7 +81,7 @@ impl SlotTouches {
         alloc: Global,
         all: &[SharedCells],
         serial: u64,
-    ) -> Result<(), AllocError>
+    ) -> AllocResult<()>
         ensures added { OnOk result
             (IsSet true (cells_listed all.now) serial (has_slot_touch self.old) (has_slot_touch self.new)) }
         ensures some_on_error { OnErr result ((n : ℕ) × IsSet true (first_so_many n (cells_listed all.now)) serial

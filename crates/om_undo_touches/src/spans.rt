@@ -6,7 +6,8 @@ ghost use Rattle.om_undo_touches.specs.Slots.{has_span};
 ghost use Rattle.om_foot.specs.Firsts.{IsFirst};
 
 use om_foot::{Serials, sooner};
-use std::alloc::{AllocError, Global};
+use om_seq::AllocResult;
+use std::alloc::Global;
 
 /// The entries that wrote the first cells of a slot at once, so many of them.
 #[derive(Drop)]
@@ -46,7 +47,7 @@ impl Spans {
     }
 
     /// Adds a write of so many cells. When out of memory, no write changes.
-    pub(crate) fn add(&mut self, alloc: Global, count: u32, serial: u64) -> Result<(), AllocError>
+    pub(crate) fn add(&mut self, alloc: Global, count: u32, serial: u64) -> AllocResult<()>
         ensures added { OnOk result ((i s : ℕ) → has_span self.new.spans.items i s
             ≡ cond (nat_eq serial s && nat_lt i count) true (has_span self.old.spans.items i s)) }
         ensures unchanged_on_error { OnErr result ((i s : ℕ) → has_span self.new.spans.items i s

@@ -13,7 +13,8 @@ use crate::accesses::Accesses;
 use crate::singles::SingleTouches;
 use crate::slots::SlotTouches;
 use om_foot::{SharedAccess, SharedCells, sooner};
-use std::alloc::{AllocError, Global};
+use om_seq::AllocResult;
+use std::alloc::Global;
 
 /// For each object its touches.
 ///
@@ -46,12 +47,7 @@ impl TouchLists {
     }
 
     /// Adds the touches of an entry. When out of memory, those of some accesses in front are added.
-    pub fn add_each(
-        &mut self,
-        alloc: Global,
-        footprint: &Accesses,
-        serial: u64,
-    ) -> Result<(), AllocError>
+    pub fn add_each(&mut self, alloc: Global, footprint: &Accesses, serial: u64) -> AllocResult<()>
         ensures added { OnOk result (AreWith (accesses_of footprint.now) serial self.old self.new) }
         ensures some_on_error { OnErr result
             ((n : ℕ) × AreWith (first_so_many n (accesses_of footprint.now)) serial self.old self.new) }
@@ -64,12 +60,7 @@ impl TouchLists {
     }
 
     /// Adds the touches of an entry that has none yet. When out of memory, no touch changes.
-    pub fn add_all(
-        &mut self,
-        alloc: Global,
-        footprint: &Accesses,
-        serial: u64,
-    ) -> Result<(), AllocError>
+    pub fn add_all(&mut self, alloc: Global, footprint: &Accesses, serial: u64) -> AllocResult<()>
         requires { (o : Obj) (m : Mode) → has_touch self.old o m serial ≡ false }
         ensures added { OnOk result (AreWith (accesses_of footprint.now) serial self.old self.new) }
         ensures unchanged_on_error { OnErr result (AreSame self.old self.new) }

@@ -9,6 +9,7 @@ mod words;
 
 use crate::words::{Words, words_in};
 use om_parser::STACK_SIZE;
+use om_seq::AllocResult;
 use om_shell::{Options, Outcome, ShellFault, read_named, run, status, words_of};
 use std::alloc::{AllocError, Global};
 use std::io::{Read, Write};
@@ -65,7 +66,7 @@ fn outcome_for<R: Runtime + AllocGlobal + Threads + Wait + Sync>(
     rt: &R,
     alloc: Global,
     words: &[&str],
-) -> Result<Outcome, AllocError> {
+) -> AllocResult<Outcome> {
     match words_in(alloc, words) {
         Ok(words) => Ok(session(rt, alloc, words)),
         Err(error) if error.kind() == clap::error::ErrorKind::OutOfMemory => Err(AllocError),
@@ -80,7 +81,7 @@ fn outcome_for<R: Runtime + AllocGlobal + Threads + Wait + Sync>(
 fn program<R: Runtime + AllocGlobal + Threads + Wait + Sync>(
     rt: &R,
     alloc: Global,
-) -> Result<Outcome, AllocError> {
+) -> AllocResult<Outcome> {
     let Some(words) = words_of(rt, alloc)? else {
         return Ok(Outcome::Words);
     };

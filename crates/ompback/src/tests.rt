@@ -2,8 +2,9 @@
 
 use crate::words::words_in;
 use crate::{outcome_for, run_over};
+use om_seq::AllocResult;
 use om_shell::{Options, Outcome, ShellFault, status};
-use std::alloc::{AllocError, Global};
+use std::alloc::Global;
 use std::io;
 use std::io::{ErrorKind, Read, Write};
 use std::test::Fail;
@@ -100,7 +101,7 @@ fn is_3_for_each_fault(rt: HostRuntime) -> Result<(), Fail> {
 }
 
 // What words ask for, as `WORKERS FILE`, with `-` for no file; `wrong` where they ask for no run.
-fn told(alloc: Global, words: &[&str]) -> Result<String, AllocError> {
+fn told(alloc: Global, words: &[&str]) -> AllocResult<String> {
     match words_in(alloc, words) {
         Ok(asked) => {
             let file = asked.file.unwrap_or("-");

@@ -3,13 +3,16 @@
 
 ghost use Rattle.std.specs.Prelude.{◌<◌, ◌≤◌};
 
+mod command;
 mod meter;
 mod subcommands;
+mod words;
 
 use crate::subcommands::{Host, Search, check, draw, explain, hunt, keep};
+use crate::words::{Asked, Words, words_in};
 use om_parser::STACK_SIZE;
+use om_seq::AllocResult;
 use om_shell::{Options, Outcome, ShellFault, read_named, status, words_of};
-use om_subcommands::{Asked, Words, words_in};
 use std::alloc::{AllocError, Global};
 use std::io::{self, IsTerminal};
 use std::process::ExitCode;
@@ -100,7 +103,7 @@ fn outcome_for<R: Runtime + AllocGlobal + Threads + Wait + Sync>(
     alloc: Global,
     words: &[&str],
     is_watched: bool,
-) -> Result<Outcome, AllocError> {
+) -> AllocResult<Outcome> {
     match words_in(alloc, words) {
         Ok(words) => Ok(outcome_of(rt, alloc, words, is_watched)),
         Err(error) if error.kind() == clap::error::ErrorKind::OutOfMemory => Err(AllocError),
@@ -116,7 +119,7 @@ fn program<R: Runtime + AllocGlobal + Threads + Wait + Sync>(
     rt: &R,
     alloc: Global,
     is_watched: bool,
-) -> Result<Outcome, AllocError> {
+) -> AllocResult<Outcome> {
     let Some(words) = words_of(rt, alloc)? else {
         return Ok(Outcome::Words);
     };

@@ -8,8 +8,9 @@ use lab_draw::{Page, page};
 use lab_hunt::{Aims, Hunted, push_report};
 use lab_notes::annotate;
 use lab_script::{Script, ScriptFault, cone, script};
+use om_seq::AllocResult;
 use om_shell::{Options, ShellFault, send};
-use std::alloc::{AllocError, Global};
+use std::alloc::Global;
 use std::io::{Read, Write};
 use std::rt::Runtime;
 use std::sync::Wait;
@@ -69,7 +70,7 @@ fn escape_of(byte: u8) -> u8 {
 }
 
 // The bytes that a word stands for, in which a line end is written `\n`, as a report writes it.
-fn unescaped(alloc: Global, text: &str) -> Result<Vec<u8>, AllocError> {
+fn unescaped(alloc: Global, text: &str) -> AllocResult<Vec<u8>> {
     let mut bytes = Vec::new(alloc);
     let mut is_escaped = false;
     for byte in text.as_bytes() {
@@ -86,7 +87,7 @@ fn unescaped(alloc: Global, text: &str) -> Result<Vec<u8>, AllocError> {
 }
 
 // What the program is to print, where that is told.
-fn wanted(alloc: Global, expected: Option<&str>) -> Result<Option<Vec<u8>>, AllocError> {
+fn wanted(alloc: Global, expected: Option<&str>) -> AllocResult<Option<Vec<u8>>> {
     expected.map(|text| unescaped(alloc, text)).transpose()
 }
 

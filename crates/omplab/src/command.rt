@@ -1,7 +1,8 @@
 //! Which words there are.
 
 use clap::{Arg, ArgAction, Command};
-use std::alloc::{AllocError, Global};
+use om_seq::AllocResult;
+use std::alloc::Global;
 
 const ABOUT: &str = "Finds, explains, keeps and draws the schedules of an OpenMP program in C.";
 
@@ -48,10 +49,7 @@ fn number<'a>(alloc: Global, name: &'a str, letter: &'a str, help: &'a str) -> A
 
 // A command with one more argument. In its callers there is then no way out at which a command or an argument is
 // alive.
-fn with<'a>(
-    command: Result<Command<'a>, AllocError>,
-    arg: Arg<'a>,
-) -> Result<Command<'a>, AllocError> {
+fn with<'a>(command: AllocResult<Command<'a>>, arg: Arg<'a>) -> AllocResult<Command<'a>> {
     match command {
         Ok(command) => command.arg(arg),
         Err(error) => {
@@ -63,9 +61,9 @@ fn with<'a>(
 
 // A command with one more subcommand.
 fn over<'a>(
-    command: Result<Command<'a>, AllocError>,
-    subcommand: Result<Command<'a>, AllocError>,
-) -> Result<Command<'a>, AllocError> {
+    command: AllocResult<Command<'a>>,
+    subcommand: AllocResult<Command<'a>>,
+) -> AllocResult<Command<'a>> {
     match subcommand {
         Ok(subcommand) => match command {
             Ok(command) => command.subcommand(subcommand),
@@ -81,13 +79,13 @@ fn over<'a>(
     }
 }
 
-fn check<'a>(alloc: Global) -> Result<Command<'a>, AllocError> {
+fn check<'a>(alloc: Global) -> AllocResult<Command<'a>> {
     Command::new(alloc, "check")
         .about("Says whether ompback runs a source, and else why not and what to write")
         .arg(file(alloc, true))
 }
 
-fn hunt<'a>(alloc: Global) -> Result<Command<'a>, AllocError> {
+fn hunt<'a>(alloc: Global) -> AllocResult<Command<'a>> {
     let command = Command::new(alloc, "hunt")
         .about("Tries schedules by chance, and shortens the first bad one to a script for ompback")
         .after_help(
@@ -124,7 +122,7 @@ fn expect<'a>(alloc: Global) -> Arg<'a> {
         .action(ArgAction::Set)
 }
 
-fn script<'a>(alloc: Global) -> Result<Command<'a>, AllocError> {
+fn script<'a>(alloc: Global) -> AllocResult<Command<'a>> {
     let command = Command::new(alloc, "script")
         .about("Writes the steps that a session leaves as a script for ompback")
         .after_help(SESSION);
@@ -141,13 +139,13 @@ fn cone<'a>(alloc: Global) -> Arg<'a> {
     )
 }
 
-fn notes<'a>(alloc: Global) -> Result<Command<'a>, AllocError> {
+fn notes<'a>(alloc: Global) -> AllocResult<Command<'a>> {
     Command::new(alloc, "notes")
         .about("Passes the answers of `ompback FILE` on, with words behind them")
         .arg(file(alloc, true))
 }
 
-fn draw<'a>(alloc: Global) -> Result<Command<'a>, AllocError> {
+fn draw<'a>(alloc: Global) -> AllocResult<Command<'a>> {
     Command::new(alloc, "draw")
         .about("Draws the steps that a session leaves, and what depends on what, as a page of HTML")
         .after_help(SESSION)
@@ -155,7 +153,7 @@ fn draw<'a>(alloc: Global) -> Result<Command<'a>, AllocError> {
 }
 
 /// The command line of omplab. Its only error is out of memory.
-pub(crate) fn omplab<'a>(alloc: Global) -> Result<Command<'a>, AllocError> {
+pub(crate) fn omplab<'a>(alloc: Global) -> AllocResult<Command<'a>> {
     let command = Command::new(alloc, "omplab")
         .about(ABOUT)
         .after_help(STATUSES)
