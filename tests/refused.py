@@ -1,7 +1,7 @@
 #!/usr/bin/env python3
 """refused.py PROGRAM [INPUT]: each request for memory, each read and each write of a run is refused in turn.
 refused.py PROGRAM INPUT -- WORD..: the same of a program that is called with these words.
-refused.py PROGRAM --sessions: the same of each session of bench/refused, by its name.
+refused.py PROGRAM --sessions: the same of each session of tests/refused, by its name.
 refused.py CASES --case TITLE: each request for memory of one case is refused in turn.
 refused.py PROGRAM --requests: counts the requests for memory of the first load in frame 900 of a recursion.
 

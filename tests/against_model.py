@@ -1,5 +1,5 @@
 #!/usr/bin/env python3
-"""against_model.py PROGRAM [SESSIONS] [SEED]: whether PROGRAM answers random sessions and sources as the model in bench/model does.
+"""against_model.py PROGRAM [SESSIONS] [SEED]: whether PROGRAM answers random sessions and sources as the model in tests/model does.
 
 It makes that many sessions, and as many changed sources (200 of each, of seed 1, if nothing else is said). The sources of
 sessions have teams, worksharing, tasks, locks, reductions, recursion and faults of the run; one in eight is changed. Their

@@ -1,7 +1,7 @@
 #!/usr/bin/env python3
 """mistakes.py [CRATE..]: mistakes that the prover has to refuse, beside those that the gate tries.
 
-The folder bench/mistakes/CRATE holds edits in the form of crates/CRATE/must-fail: each turns the meaning of a function.
+The folder tools/mistakes/CRATE holds edits in the form of crates/CRATE/must-fail: each turns the meaning of a function.
 The gate does not try them, since each crate that has one would be proved once more. This script lays those of each crate
 (of all crates, if none is named) beside the crate's own, has `rt must-fail` try them, and takes them away again. It runs
 at the top of the repository, over what `rt all check` kept. The status is 1 where one was not refused.
