@@ -1,8 +1,16 @@
-//! Cases of the gate. It runs the cases of its standard input, and prints what is said of them. They are C
-//! sources, each with the verdict that is wanted of the front end; the beginnings of a source; and whole
-//! sessions of several workers, of which it tells what the debugger writes. Where the last line is `== checks`,
-//! it then says of sessions what no contract says: that free runs end, what their books hold, and that reads and
-//! writes may fail.
+//! Cases and checks: a program that runs the cases of its input: C sources with verdicts, sessions with answers.
+//!
+//! Cases are the sections of `stdin`; what is said of them is compared with `stdout`. A section `== STAGE
+//! TITLE` has sources, each with the verdict that is wanted of that stage of the front end: `lexer`, `line`,
+//! `parser`, `resolver` or `code`. In a section `== beginnings TITLE` each beginning of a source is tried.
+//! Any other section is a session of several workers.
+//!
+//! - `table` and `written` read the cases of a section. `stage` has the stages, `sources` the verdicts,
+//!   `beginnings` the beginnings of a source, and `sessions` runs the sessions. `judge` goes through all
+//!   sections.
+//! - Where the last line is `== checks`, `checks` then asks what no text says: `books`, `code`, `ends` and
+//!   `free_tasks` ask it, over the streams of `memory`. `laws` calls the laws of the front end and of
+//!   scripts.
 #![tactic(auto)]
 
 mod beginnings;

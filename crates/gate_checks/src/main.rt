@@ -1,6 +1,12 @@
-//! Checks of the gate, of the machine, the book, sessions and drives, that no contract and no session script can
-//! make. Threads of their own step the workers, gates are asked, calls are answered at all, and a long history
-//! is undone in time. It prints one line a check, which ends with ` is WRONG` where it failed.
+//! Cases and checks: a program that checks machine, books, seats, threads and the validator, as no session can.
+//!
+//! It reads nothing, and prints one line for each check, which ends with ` is WRONG` where it failed. The
+//! gate compares these lines with `stdout`.
+//!
+//! - `checks` lists the checks: each is a function of a module of its own, as `undos`, `full`, `gates` or
+//!   `late`. `valid` has those of the validator.
+//! - `machine_of_two`, `book_of_two` and `table` make what they are over. `laws` calls the laws of the
+//!   machine.
 #![tactic(auto)]
 
 mod book_of_two;

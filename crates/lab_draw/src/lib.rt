@@ -1,4 +1,10 @@
-//! omplab: the page of a session: its source beside the picture of its causal history.
+//! omplab draw: the page of a session in HTML and SVG: source, lanes, boxes, arrows, what was taken back or refused.
+//!
+//! - `page` runs a session, and draws the history that it leaves (`drawing`, `outcome`).
+//! - `front` and `style` write the page with its source and lanes. `marks` write boxes, `strokes` arrows,
+//!   `object` the words on arrows; `scale` says where each stands, and `escape` escapes markup.
+//! - `story` tells from the journal what was taken back and which undos were refused; `beside` draws these
+//!   beside the steps that stand.
 #![tactic(auto)]
 
 mod beside;

@@ -1,4 +1,9 @@
-//! omplab: the picture of a history, as data: its entries with what each touched, as boxes and arrows.
+//! omplab draw: a history as a graph: a box for each step, and an arrow where steps of two workers conflict.
+//!
+//! - `picture_of` makes a `Picture` of the `traced` steps. `arrows` finds the arrows: to each step from the
+//!   last earlier step of each other worker that conflicts with it.
+//! - `sets` and `sketch` spare it most looks at footprints: two steps whose objects are in other sets do not
+//!   conflict.
 #![tactic(auto)]
 
 mod arrows;

@@ -1,4 +1,9 @@
-//! omplab, words: what each code means, and what to write in place of C that is left out. It knows no streams.
+//! omplab: tables of words: what each code means, and what to write in place of C or OpenMP that is left out.
+//!
+//! - `refusal`, `code`, `answer` and `number` have the words for codes, one line each: refusals of a source,
+//!   blocked steps, faults, errors of commands, and other answers.
+//! - `left_out`, `library` and `openmp` say what to write in place of what is left out, and `help` which of
+//!   them a refused token asks for. In a `table` the first row of a name answers.
 #![tactic(auto)]
 
 mod answer;

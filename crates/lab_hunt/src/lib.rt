@@ -1,4 +1,7 @@
-//! omplab, the hunt: what it shows of the first schedule by chance that is bad.
+//! omplab hunt: the search itself: tries seed after seed, and has the debugger show the first bad schedule.
+//!
+//! `hunting` makes one machine, on which lab_schedules plays its schedules. It judges the book that the
+//! debugger leaves, and answers what the debugger wrote.
 #![tactic(auto)]
 
 mod hunting;

@@ -1,4 +1,13 @@
-//! omplab, notes: a filter that puts words behind the answers of a session, and changes nothing else of them.
+//! omplab notes: a filter that adds words after a session's answers, for codes, lines, functions, variables, objects.
+//!
+//! `annotate` is the filter. Without what stands after the mark, every line is the one that came. Bytes that
+//! a line announces are passed on as they are.
+//!
+//! - `filter` passes bytes on, line by line, from what `waiting` holds. `remark` finds what stands after a
+//!   line, by the `words` in it.
+//! - `names` runs the front end for what a source says of these answers. `function` finds its functions and
+//!   their lines, by its tokens. `cell` tells which variable a cell may be, and `object` puts the object of a
+//!   refused undo into words.
 #![tactic(auto)]
 
 mod cell;

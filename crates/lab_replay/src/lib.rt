@@ -1,4 +1,8 @@
-//! omplab: the steps of a history, made again one by one: what each touched, and in words what it did.
+//! omplab draw: makes the steps of a history once more, to learn what each touched, and tells in words what it did.
+//!
+//! `trace` makes the steps again from the start (`replay`), which answers the steps that lab_graph draws.
+//! `words` has the instruction, the variable and the value in words, and `variable` the variable that an
+//! instruction names.
 #![tactic(auto)]
 
 mod replay;

@@ -1,5 +1,13 @@
-//! omplab, schedules: by chance, played on a machine, judged by what they lead to, made short, and written as
-//! commands.
+//! omplab hunt: schedules: made by chance from a seed, played on a machine, judged, made short, written and reported.
+//!
+//! A schedule is a list of blocks, each of some steps of one worker (`Block`).
+//!
+//! - `chance` gives the numbers of a seed, and `wander` makes a schedule of them. `player` plays one over a
+//!   machine, which it winds back (`trial`). `seeds` does this for one seed after the other, all on one
+//!   machine.
+//! - `judge` says whether what is left is bad (`Badness`), and `outcome` says it of a book. `shorten` drops
+//!   and joins blocks by `edits`.
+//! - `commands` writes a schedule as commands. `report` writes the report of what was found (`hunted`).
 #![tactic(auto)]
 
 mod block;

@@ -1,4 +1,9 @@
-//! omplab, scripts: the steps that a session leaves, as commands that make them again.
+//! omplab script: the steps that a session leaves, as commands that make them again; the steps a roll would take.
+//!
+//! - `script` writes the steps of a book as commands, runs these, and compares the two histories (`steps`).
+//! - `cone` lists the causal cone of a step, and takes nothing (`cones`).
+//! - `run` lets the debugger run commands, and keeps what it writes and its book (`Ran`). `answer` has what
+//!   is answered.
 #![tactic(auto)]
 
 mod answer;

@@ -1,5 +1,8 @@
-//! omplab, lines that it writes, to the byte: a report behind its head, steps as commands, a line with words
-//! behind it.
+//! omplab: texts that several subcommands write: a report's head, steps as commands, a note after a line.
+//!
+//! - `report` puts a report together (`Report`), of which `head` writes the place and the code.
+//! - `commands` writes steps as commands of the debugger (`commands_for`).
+//! - `tail` puts a mark and words after a line, or nothing where they would end the line (`noted`).
 #![tactic(auto)]
 
 mod commands;

@@ -1,8 +1,18 @@
-//! Sessions: books and seats. A book is a machine with the journal of its calls. In a session seats share a book
-//! under one lock; here are their receipts, orders and answers. An answer to an order is kept where a receipt
-//! of its seat backs it.
+//! Sessions: a machine beside the journal of its calls; seats that share it under a lock; orders, answers, receipts.
 //!
-//! The commands, replies and records of om_book_journal are at this root too.
+//! - `book` has the journal over a machine: 200,000 records at most. `call` and `undo` answer by the record
+//!   alone, where the caller reads the reply. `take` makes a planned step, and answers its reply too.
+//!   `apply_with_copy` answers the reply twice, for a seat; `apply` answers it once, and gate_checks alone
+//!   calls it.
+//! - `session` has the lock and the seats (`Session`, `Seat`), through which threads call one book. `receipt`
+//!   has what a seat remembers of a call (`Receipt`), and which receipts stand in a journal.
+//! - `order` has numbered calls and their answers (`Order`, `Answer`), `rounds` the order in which they come,
+//!   and `numbers` says whether the numbers differ. `backing` keeps the answers that the receipts of the
+//!   seats back. Drives need these: no command does.
+//! - `specs/Crossing` says that a session may be shared by threads.
+//!
+//! The commands, replies and records of om_book_journal are at this root too. Checks: gate_checks, of books
+//! and seats.
 #![tactic(auto)]
 
 mod backing;

@@ -1,5 +1,12 @@
-//! Sessions: commands, replies and records, of which a journal of calls is made; and whether two values of the
-//! machine are the same.
+//! Sessions: commands, replies and records of a journal of machine calls; whether two values are the same.
+//!
+//! - `journal` has the records (`JournalRecord`), and what is asked for before a call. `command`, `reply` and
+//!   `replies` have the calls and their answers; `replies` makes a machine's reply once or three times.
+//!   `kept` has small forms of them.
+//! - `same` has the question whether two values are the same (`Same`): numbers, options and lists. `code`,
+//!   `control`, `event`, `foot`, `machine_reply`, `step` and `value` answer it for one family of types each.
+//! - `specs/Growing` says what one more record leaves, and `RunLeft` that a journal leaves a run. They are
+//!   matter of proofs, for om_book.
 #![tactic(auto)]
 
 mod code;

@@ -1,5 +1,13 @@
-//! Sessions: threads that carry orders to the seats of a session, and bring the answers back; and free runs, through a
-//! session or over a book.
+//! Sessions: threads: free runs, where each worker steps in a thread of its own; drives, which carry orders to seats.
+//!
+//! - `free_run` opens a session over a book, lets its workers make their rounds, and closes it
+//!   (`run_freely`). `freely` does that over the seats of a session (`free`). `runner` is a worker that makes
+//!   its rounds, and `sitter` a seat beside its session.
+//! - `worker` answers orders after its gate said yes (`Gate`, `Debuggee`, `Worker`). `rounds` asks and
+//!   gathers, `driving` starts and joins the threads, and `seats` drives the seats of a session, and has the
+//!   answers compared. No command starts a drive, but gate_checks does.
+//!
+//! Checks: gate_checks, of drives, gates and free runs.
 #![tactic(auto)]
 
 mod driving;

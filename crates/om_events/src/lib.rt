@@ -1,4 +1,12 @@
-//! State and rows: the event records of a run, after OMPT, and their texts.
+//! State: the event records of a run: their kinds, numbers and texts, after OMPT, OpenMP's interface for tools.
+//!
+//! - `event` has the records (`Record`). `kind` has the values of a record's kind, endpoint and status, with
+//!   their numbers.
+//! - `text_of` writes a record as `events W` shows it, and `words` writes the words of such a text.
+//! - `specs/Records` says which text a record has, and `Numbers` which numbers OMPT gives. `Words` has the
+//!   words of a text as the code has them.
+//! - The rows of the machine say which step makes a record. A new record adds a variant of `Record`, and its
+//!   text in `text` and in `specs/Records`.
 #![tactic(auto)]
 
 pub mod event;

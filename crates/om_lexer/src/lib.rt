@@ -1,5 +1,21 @@
-//! Text, tokens, trees: the lexer and the preprocessor, from bytes of a C source to tokens (C17 5.1.1.2, phases
-//! 2 to 4; 6.4 and 6.10).
+//! Text, tokens, trees: the lexer and preprocessor: words, literals, comments, macros, `#` lines; codes of refusals.
+//!
+//! From the bytes of a C source to its tokens (C17 5.1.1.2, phases 2 to 4; 6.4 and 6.10). The type of every
+//! refusal of a source, `SourceFault` with its `FaultCode`, is here too.
+//!
+//! `lex` answers the tokens (`Token`: a `TokenKind` and a `Span`), or the first fault. Tokens are the longest
+//! spellings, in order, each with its exact span. Between them stand only white space, comments and lines
+//! that are taken out.
+//!
+//! - `piece` and `scan` read what stands at one byte (phase 3). `lexeme` reads its tokens, `white_space` the
+//!   gaps, `hash_line` and `define` the `#` lines.
+//! - `state` says what a line is so far, and `macros` what is defined. `lexer` goes from piece to piece,
+//!   replaces macros, and gives each directive line a begin and an end (phase 4).
+//! - `specs/Pieces`, `Folding` and `Sources` say the same as relations between places of the source.
+//! - A new token adds a case to `Spells` and to `lexeme`. A new `#` line adds a variant of `HashLine`, and
+//!   cases of `IsHashLine`, `state_of_line` and `tokens_of_line`.
+//!
+//! Cases: gate_cases, "== lexer".
 #![tactic(auto)]
 
 mod character;

@@ -1,6 +1,25 @@
-//! Lowering: a resolved tree to its code.
+//! Lowering: writes code for statements, loops, regions, whole bodies, within limits; makes the program and its texts.
 //!
-//! What a program still knows of its source is answered by om_code_places, whose calls stand here too.
+//! `lower` turns a `Resolved` into a `Program`. The code is that of om_lower_rules, with a line for each
+//! instruction and the scopes of its names. A function that passes a limit is refused with S11 at its name.
+//!
+//! - After it is resolved, a statement is looked at four times: `tables_of` gives things their numbers,
+//!   `sites_of` finds the bodies, `add_slots` the variables of each body, and `statement` writes the code.
+//! - `lowering` makes the program, `functions` goes through the functions, `bodies` makes the bodies of each.
+//!   `body` writes one body (`write_function`, `write_parallel`, `write_task`), and settles its labels where
+//!   it is within the limit. `input` has what they all read (`Input`).
+//! - `statement` has the recursion over statements. `repeated` has the begins and ends of `if` and loops,
+//!   `worksharing` those of worksharing loops and `sections`; om_lower_emit has those of constructs. `region`
+//!   writes what stands for a `parallel` or `task` in the body that meets it. `loop_form` has comparisons and
+//!   schedules.
+//! - `names` says what names mean in a body by its slots. `frames` and `heights` keep limits, `program` lays
+//!   bodies and tables side by side, `texts` cuts formats.
+//! - `specs/Limits` says which functions are too large, `specs/Made` what is made before all of the program
+//!   is, `specs/Refusals` why a tree has no program.
+//! - A new statement is a row of om_lower_rules, an arm of `statement` here, and a case of `see_statement` in
+//!   om_lower_tables. A new kind of body is a row of `body_row` there, and a `write_..` here.
+//!
+//! The calls of om_code_places stand at this root too. Cases: gate_cases, "== code".
 #![tactic(auto)]
 
 mod bodies;

@@ -1,5 +1,23 @@
-//! Lowering, without an emitter: the code of a resolved tree as a relation, its laws, what serial code
-//! means, and the tables by which code names variables, bodies, formats and locks.
+//! Lowering: which code a tree has, as a relation with laws; tables of slots, cells, formats, locks and bodies for it.
+//!
+//! A row of code is the code that a form of the tree has, as a relation that knows no emitter. So the crates
+//! that find tables and those that write code are proved side by side.
+//!
+//! - `specs/Rows` and what it uses say which code a tree has, and `specs/Scopes` which scopes of names.
+//!   `laws` has the laws of both: a tree has one code, and that of a whole tree is valid but for operand
+//!   heights.
+//! - `specs/Meaning` says what serial code means: expressions and statements without calls and directives.
+//!   `meaning` has its laws.
+//! - `tables` has the tables of a program; `texts` (formats, names of critical regions), `extents` (cells of
+//!   declared variables) and `variables` (of a body, by slots) are what they hold. `body` answers what the
+//!   instructions of a body name by numbers (`BodyTables`).
+//! - `copies` has a `parallel` or a `task` by its parts, and its firstprivate copies. `slots` has the slots
+//!   of a body, `numbers` the numbers of bodies and of lists of PICK. `scope` is a stretch of code in which a
+//!   name means a variable, before slots are known.
+//! - `specs/Ends` says what is known of a region before its code is written: the numbers after it and its
+//!   variables.
+//!
+//! Cases: gate_cases, "== code".
 #![tactic(auto)]
 
 mod body;

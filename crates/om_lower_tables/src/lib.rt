@@ -1,5 +1,17 @@
-//! Lowering, before code is written: what a resolved tree mentions and uses, in the order of the text. From it
-//! come the tables of a program, and the variables of its bodies.
+//! Lowering: walks a tree before its code is written: fills the tables, and finds the slots and regions of each body.
+//!
+//! - `tables_of` makes the tables of a program in one walk (`mentions`). They have the numbers of formats, of
+//!   critical regions and of bodies, how many cells the variables of each function have, and the numbers
+//!   after each body.
+//! - `function_variables` and `region_variables` of `sights` find the variables of a body by their slots:
+//!   what is declared in it, and what its expressions use (`om_scope_tree::uses`).
+//! - `sites_of` finds the bodies of a function (`Site`): its own, and that of each `parallel` and `task` in
+//!   it.
+//! - What they find is what the relation of om_lower_rules says. `specs/Room` says when numbers of 32 bits
+//!   are enough, and `specs/Weighed` why they stay enough from one part of a tree to the next. A new form
+//!   adds a case there.
+//!
+//! Cases: gate_cases, "== code".
 #![tactic(auto, using(crate::proofs::Ending::end_placed, crate::proofs::Ending::end_there, crate::proofs::Copied::original_seen, crate::proofs::Copied::combined_seen, crate::proofs::SiteBodies::round_below, crate::proofs::SiteBodies::round_kept, crate::proofs::SiteBodies::kept_then, crate::proofs::Noting::cells_next, crate::proofs::Noting::cells_done, crate::proofs::Cells::cells_measured), unfolding(om_lower_rules::specs::Mentions::expression_formats, om_lower_rules::specs::Mentions::values_formats, crate::specs::Room::IsRoomFor, om_lower_rules::specs::Mentions::mentioned, om_lower_rules::specs::Mentions::all_mentioned, om_lower_rules::specs::Mentions::parts_mentioned, om_lower_rules::specs::Slots::statement_sights, om_lower_rules::specs::Slots::statements_sights, om_lower_rules::specs::Slots::parts_sights, om_lower_rules::specs::Bodies::regions, om_lower_rules::specs::Bodies::all_regions, om_lower_rules::specs::Bodies::parts_regions))]
 
 mod mentions;

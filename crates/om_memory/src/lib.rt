@@ -1,7 +1,20 @@
-//! State and rows: the store of a run's objects, in which workers' controls are changed in place.
+//! State: the memory of a run: workers' controls (stacks, frames) edited in place, and trails that take edits back.
 //!
-//! It depends on om_state, and makes its edits in controls of a form of its own. Each control has a
-//! trail that leads it back; the other objects' values are kept as om_cells keeps them.
+//! It is a total map from objects to values. The workers' controls are here, each in a `Trail`; the other
+//! values are in the `Store` of om_cells. An edit is made in place, and taken back exactly and without
+//! memory.
+//!
+//! - `control` has a control in the form that is changed in place, and what takes an edit of it back
+//!   (`Inverse`). `frame`, `context`, `stack` and `edit` make the edits, each of the least part that it
+//!   changes.
+//! - `tape` is a stack in which what is taken stays above the top until something is pushed over it. `log` is
+//!   a list that grows and shrinks at its end.
+//! - `trail` is a control with what takes its changes back, up to its first. `live` makes such a control of a
+//!   plain one, and `copy` a plain one of it.
+//! - `fault` finds the fault to which edits would lead, without making them.
+//! - `specs/Plain` says which plain control such a control stands for. So what an edit does is said by
+//!   `om_state/specs/Edits` alone. `specs/Inverses` says what an inverse makes of a control, and
+//!   `specs/Memories` which state a memory is.
 #![tactic(auto)]
 
 pub mod context;

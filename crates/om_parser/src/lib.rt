@@ -1,4 +1,22 @@
-//! Text, tokens, trees: the parser, from the tokens of a C source to its tree (C17 6.8, 6.9).
+//! Text, tokens, trees: the upper half of the parser: reads statements, constructs, functions and a whole source.
+//!
+//! `parse` turns tokens into a `Unit` (C17 6.8 and 6.9). It answers Ok exactly for the well-formed tree
+//! within the limits that has these tokens, and where each `atomic` has one of its forms. No second tree has
+//! them.
+//!
+//! - `statement` has the recursion over statements and blocks. `start` and `construct` tell by the first
+//!   token or word what a statement is.
+//! - `opening` reads what stands in front of a body. `ending` has what follows the body of a `do`, and tests
+//!   the form of an `atomic`. `simple` reads what has no statement in it.
+//! - `function` reads the heads of functions, and `unit` the items of a source.
+//! - `specs/Parsing`, `Refusals`, `LineFaults` and `BlockFaults` say what is promised, and why a source is
+//!   refused. The `..Reading` files are for proofs.
+//! - The lower half is known by its laws alone (`om_parser_parts/specs/Laws`). Blocks are known to what
+//!   stands around them by `specs/Laws` too: they are sound, are read again, and stop where it says.
+//! - `proofs/` has files for each part: what is read (`..Sound`), what is read again (`..Complete`), where it
+//!   is stopped (`..Cut`), and by which codes it refuses (`..Refusals`).
+//!
+//! Cases: gate_cases, "== parser".
 #![tactic(auto, using(crate::proofs::AtomicKinds::atomic_viewed), unfolding(crate::specs::StatementReading::do_end, crate::specs::ConstructReading::atomic_of, crate::specs::FunctionReading::head_after, crate::specs::FunctionReading::named_head, crate::specs::FunctionReading::named_parameters, crate::specs::FunctionReading::named_parameter, crate::specs::FunctionReading::parameters_at, crate::specs::FunctionReading::listed_at, crate::specs::FunctionReading::further_parameter_at, crate::specs::FunctionReading::parameter_at, om_parser_parts::specs::Reading::name_at, om_parser_parts::specs::Reading::take_name, om_parser_parts::specs::Reading::take, crate::specs::StatementReading::opening_of, crate::specs::StatementReading::condition_at, crate::specs::StatementReading::for_head_after, crate::specs::StatementReading::for_start_at, crate::specs::StatementReading::optional_before, crate::specs::StatementReading::simple_of, crate::specs::StatementReading::return_after, crate::specs::StatementReading::jump_after, crate::specs::StatementReading::expression_statement_at, crate::specs::ConstructReading::stand_alone_at, crate::specs::ConstructReading::unknown_line, crate::specs::ConstructReading::misplaced, crate::specs::ConstructReading::section_of, crate::specs::StatementReading::no_room, crate::specs::UnitReading::unit_at, crate::specs::UnitReading::take_end, crate::specs::UnitReading::item_at, crate::specs::UnitReading::void_after, crate::specs::UnitReading::int_after, crate::specs::UnitReading::prototype_after, crate::specs::UnitReading::function_after))]
 
 mod construct;

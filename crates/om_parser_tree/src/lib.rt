@@ -1,6 +1,19 @@
-//! Text, tokens, trees: the tree of a C source (C17 6.5 to 6.9). It has parts; which trees are well-formed,
-//! which tokens they have, and how large they may be, is defined here. The parser puts its statements
-//! together by `assembly`.
+//! Text, tokens, trees: the syntax tree: types, grammar, limits, and the forms of `atomic`; puts statements together.
+//!
+//! `Unit` is a whole source, with `Function`, `Statement` and `Expression` in it (C17 6.5 to 6.9). A tree
+//! keeps the span of every token, so its spelling is the very token list. `Statement` is also the type of the
+//! items of a block.
+//!
+//! - The grammar is what a reader must believe: `specs/Tree`, `Spelling`, `Formed`, `Limits`, `AtomicForms`,
+//!   `Sizes` (how large a tree is) and `Places` (where a limit is passed).
+//! - A declaration has a type parameter for what its variables hold at the start. The head of a function has
+//!   one for the names of its parameters. So the type says that a global has its number, and a parameter of a
+//!   definition its name.
+//! - `atomic` tells which statements have a form that `atomic` allows.
+//! - `assembly` puts statements together of parts that are already read, for the recursion of om_parser.
+//!   `boxed` puts a value into a box. `specs/Making` says what both promise.
+//!
+//! Cases: gate_cases, "== parser".
 #![tactic(auto, using(crate::specs::CallViews::view_call), unfolding(crate::specs::AtomicForms::same_expression, crate::specs::AtomicForms::contains, crate::specs::AtomicForms::is_operation_on, crate::specs::AtomicForms::is_updated, crate::specs::AtomicForms::is_update, crate::specs::AtomicForms::is_read, crate::specs::AtomicForms::is_write, crate::specs::AtomicForms::has_atomic_form))]
 
 pub mod assembly;

@@ -1,6 +1,17 @@
-//! Names and rules: resolving. A tree is checked by the rules of om_scope_rules, on names, calls, loops, sharing
-//! and nesting, and becomes the tree in which every use has its variable (C17 6.2.1; OpenMP API 5.2, sections
-//! 4.4.1, 5.1 and 17.1).
+//! Names and rules: checks and resolves statements, constructs, functions and a whole source.
+//!
+//! `resolve` turns a `Unit` into a `Resolved` (C17 6.2.1; OpenMP API 5.2, sections 4.4.1, 5.1 and 17.1). It
+//! answers Ok exactly where no rule of om_scope_rules is broken, and else the first breach.
+//!
+//! - `statement` has the recursion over statements. `simple` has the statements without a statement in them,
+//!   and `head` what a `for` has before its body.
+//! - `entering` has what comes before the statement of a construct, and `assembly` puts constructs together.
+//! - `function` has the rules and variables of functions. `unit` has the items of a source, the rules on
+//!   `main`, and the call `resolve`.
+//! - `specs/Resolving` names what several clauses say.
+//! - A new rule adds a check here, or in om_scope_parts, of the same name as its breaches.
+//!
+//! Cases: gate_cases, "== resolver".
 #![tactic(auto, unfolding(om_scope_rules::specs::Breaches::breaches_of, om_scope_rules::specs::StatementResolution::construct_of, om_scope_rules::specs::StatementResolution::resolved_start, om_scope_rules::specs::UnitResolution::item_functions, om_scope_rules::specs::UnitResolution::resolution_of, om_scope_rules::specs::UnitResolution::resolved_function, om_parser_tree::specs::Formed::IsFunction, om_parser_tree::specs::Formed::IsItem, om_scope_rules::specs::StatementRules::statements_breaches, om_scope_rules::specs::StatementResolution::resolved_statements, om_scope_rules::specs::StatementRules::statement_breaches, om_scope_rules::specs::StatementResolution::resolved_statement, om_parser_tree::specs::Formed::IsStatement, om_parser_tree::specs::Sizes::HasForms, om_scope_rules::specs::StatementRules::body_breaches, om_scope_rules::specs::StatementResolution::resolved_repeated, om_scope_rules::specs::StatementRules::parts_breaches, om_scope_rules::specs::StatementResolution::resolved_parts))]
 
 mod assembly;

@@ -1,5 +1,18 @@
-//! Names and rules: the uses of names, in expressions, declarations, directives and the bounds of loops.
-//! Each has its breaches or its resolution.
+//! Names and rules: checks, resolves expressions, calls, declarations, globals, clauses, loop bounds; orders refusals.
+//!
+//! These are the parts of statements that are no statements: om_scope does the same for statements,
+//! constructs and functions. One walk asks the rules of om_scope_rules and makes the resolved tree.
+//!
+//! - `expression` and `call` resolve expressions, and `target` what is assigned to. `declaration` and
+//!   `globals` declare variables. `directive` takes clauses, and `bounds` resolves the bounds of a loop.
+//!   `fault` says which of two refusals goes first.
+//! - Most parts are a function with the clause `Resolves`: its first breach is refused, or its resolution is
+//!   found. The clause `in_scope` says what is in scope after the part. What adds to a list promises `Adds`
+//!   or `Appends`.
+//! - `specs/Views`, `Declares` and `Lists` name what several clauses say.
+//! - A new rule adds a check here of the same name as its breaches.
+//!
+//! Cases: gate_cases, "== resolver".
 #![tactic(auto, unfolding(om_scope_rules::specs::ExpressionRules::is_target, om_scope_rules::specs::ExpressionRules::leading_breaches, om_scope_rules::specs::DirectiveRules::clause_breaches, om_scope_rules::specs::DirectiveRules::after_clause, om_scope_rules::specs::StatementRules::local_breaches, om_scope_rules::specs::StatementResolution::resolved_clause, om_scope_rules::specs::StatementResolution::resolved_declarator, om_scope_rules::specs::StatementResolution::resolved_loop, om_scope_rules::specs::ExpressionRules::expression_breaches, om_scope_rules::specs::Resolution::resolved_expression, om_scope_rules::specs::ExpressionRules::target_breaches, om_scope_rules::specs::Resolution::resolved_target, om_scope_rules::specs::ExpressionRules::printed_breaches, om_scope_rules::specs::ExpressionRules::arguments_breaches))]
 
 mod bounds;

@@ -1,11 +1,29 @@
-//! Names and rules: what breaks a rule, the resolution of a tree, the laws of both, and how forms are read.
+//! Names and rules: rules as definitions, their laws; reads canonical loops, formats, `atomic` updates; sets of names.
 //!
-//! The rules are lists of breaches, and the resolution is a function of the tree; both stand in
-//! `specs/`. Here are the types that they speak of, and their laws: what breaks no rule resolves, and
-//! to a whole tree, in which each variable and each region has a place of its own in the source.
+//! What a reader must believe of resolving stands here. The rules are lists of breaches, and the resolution
+//! is a function of the tree; both are in `specs/`. No pass is in here. The laws say that what breaks no rule
+//! resolves, and to a whole tree.
 //!
-//! The forms are canonical loops, formats, updates of `atomic`, and where a part begins. Each is read exactly
-//! as it is written.
+//! - `canonical` reads canonical loops, and `direction` says how such a loop goes through its values. `print`
+//!   and `reading` read formats, and `update` reads the updates of `atomic`. `place` says where a part
+//!   begins.
+//! - What the passes share is here too. `meaning` says what a name is declared as, `region` and `traits` what
+//!   a construct is and how it shares variables. `flow` has what statements may do at a place, `names` is a
+//!   set of names, and `limits` has the limits on numbers.
+//! - `specs/Scopes` and `Sharing` say what a name means. `ExpressionRules`, `DirectiveRules`,
+//!   `StatementRules`, `UnitRules` and `Breaches` have the rules in the order of the text. `Resolution`,
+//!   `StatementResolution` and `UnitResolution` have the resolved tree. `Loops`, `Formats`, `Places` and
+//!   `Updates` say how forms are read.
+//! - A global is known by its number, and a variable of a function by the byte where it is declared or
+//!   listed.
+//! - `Checks` says what the check of a part answers: its first breach, unless memory ran out. `Resolves` says
+//!   what resolving it answers: that, or its resolution. `Proper` says what is asked of a tree.
+//! - `laws` has the laws, of which `WholeLaws`, `PlaceLaws` and `WeightLaws` say more. `InRow`,
+//!   `ProperConstructs` and `NameKeys` hold lemmas for proofs only.
+//! - A new rule adds a part to a `.._breaches`. A new form adds a case there and in `resolved_..`; a new
+//!   place for declarations adds an `after_..`.
+//!
+//! Cases: gate_cases, "== resolver".
 #![tactic(auto)]
 
 mod canonical;

@@ -1,5 +1,17 @@
-//! Names and rules: the names in scope at a place, what a use of one means there, and how the constructs
-//! round it share that (C17 6.2.1; OpenMP API 5.2, section 5.1).
+//! Names and rules: the symbol table: scopes, look-up of a name, what its use means, the constructs around a place.
+//!
+//! `Symbols` has the names in scope at a place, and what they are declared as (C17 6.2.1). It also says how
+//! the constructs around that place share a variable (OpenMP API 5.2, section 5.1).
+//!
+//! - `name` says what a name means where it is used, and whether it may be used so. `listed` holds what the
+//!   clauses of a directive list, and `construct` is the table of constructs.
+//! - `table` is one scope, as a list of its declarations. `sightings` finds the innermost declaration of a
+//!   name by one search of one map, at any depth.
+//! - `nesting` has the constructs around a place. `stacks` and `listing` keep for each name its declarations
+//!   and the constructs that list it as shared. No use looks at one construct after the other: `landmark`
+//!   finds one by its depth.
+//!
+//! Cases: gate_cases, "== resolver".
 #![tactic(auto)]
 
 mod construct;

@@ -1,8 +1,17 @@
-//! Commands and answers: the shell. A source and commands go in as bytes, answers come out, and each way to end
-//! has its status.
+//! Commands and answers: a session over byte streams: reads files, source and lines, writes answers; exit status.
 //!
-//! Files read whole, the words that a program was called with, and what else both programs do with bytes are here
-//! too: an input that is read on, its lines, its places, and a session cut into source and commands.
+//! `run` reads a source and then commands, and writes each answer before it reads on. It answers how the run
+//! ended (`Ended`), or what broke it off (`ShellFault`).
+//!
+//! - `source` reads up to the line `%%`. `serve` tells a refusal or opens a session, and `conversation`
+//!   answers each line. `session` holds the debugger and the answers that are not written yet. `refusal`
+//!   writes the line of a refusal.
+//! - `output` alone writes, and `input` alone reads a session.
+//! - Both programs use `file`, which reads a file or a reader whole. They use `outcome`, which names how a
+//!   program ends, and `words`, those that it was called with. omplab uses `cut`, which parts a session that
+//!   was read whole into its source and its commands, `place`, which counts lines and columns, and `lines`.
+//!
+//! Cases: the sessions of gate_cases.
 #![tactic(auto)]
 
 mod conversation;

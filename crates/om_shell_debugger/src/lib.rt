@@ -1,4 +1,14 @@
-//! Commands and answers: what each command does to a book, with breaks and watches, and is answered.
+//! Commands and answers: carries out each command on a book: steps, undos, runs, breaks, watches, values of variables.
+//!
+//! A `Debugger` is a book with its breaks and watches. A line comes in, and a text goes out.
+//!
+//! - `debugger` hands each command to its function. `moves` has the commands of one worker's steps and undos,
+//!   and rolls. `runs` has runs, and `stops` what stops one. `freed` has `free`. `looks` has the commands
+//!   that look and change nothing.
+//! - `calls` makes one call of the debugger's book, through one seat, and reads its reply there.
+//! - `marks` keeps breaks and watches. `variable` and `local` find the cell that a name means.
+//!
+//! Cases: the sessions of gate_cases.
 #![tactic(auto)]
 
 mod calls;

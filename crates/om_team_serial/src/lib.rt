@@ -1,5 +1,17 @@
-//! State and rows: what a step is made of, which are the objects that an instruction names and its
-//! row; and the rows of the frame machine.
+//! Rows: a row says which objects an instruction touches, how, and what it changes. Here: rows of serial code,
+//! calls, returns, reductions; what rows are made of: names of objects, homes of slots, updates, counts of tasks.
+//!
+//! A row is a function. It answers which objects an instruction names beside its worker's control, and what
+//! comes of their values (`Answer`, `Row`). That is edits of the control with updates, a fault, why the
+//! worker is blocked, or that something is missing. It changes nothing, and its only error is out of memory.
+//!
+//! - `specs/Rows` has that form, and `specs/SerialRows` the rows of serial code. `acts` has the rows of the
+//!   frame machine of om_code (`serial`); `frames` has calls, returns, reductions and the numbers of threads.
+//! - What several rows are made of: `names` finds the objects that instructions name, and `updates` makes
+//!   what is put there. `parts` has edits, names and updates, `begin` what a task begins with, and `counts`
+//!   the counts of unfinished tasks.
+//! - om_team_worksharing has the rows of what members of a team share, om_team those of teams, and om_task
+//!   those of tasks.
 #![tactic(auto)]
 
 pub mod acts;

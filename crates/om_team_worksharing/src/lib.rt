@@ -1,8 +1,13 @@
-//! State and rows: the rows of what the members of a team share: barriers, worksharing, masked and
-//! critical regions. And how iterations are shared out.
+//! Rows: what barriers, loops, sections, single, masked and critical regions touch and change; chunks of iterations.
 //!
-//! A row is a function that answers what an instruction names and what comes of it. Its only error is
-//! out of memory, and it changes nothing.
+//! These are the rows of what the members of a team share. What a row is says om_team_serial.
+//!
+//! - `meetings` has a member's way through barriers (ARRIVE, DEPART), up to the one where its task ends
+//!   (LEAVE). `barrier` has what is read there.
+//! - `shares` has loops and sections: how they are opened, and how their iterations are given out. `chunk`
+//!   counts iterations, and `laws` has the laws of static schedules.
+//! - `singles` has single regions and the end of each worksharing region, `masking` masked regions, and
+//!   `critical` critical regions with their locks. `parts` has what several of them are made of.
 #![tactic(auto)]
 
 mod barrier;

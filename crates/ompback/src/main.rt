@@ -1,4 +1,7 @@
-//! The debugger as a program: the words of its command line, its files, its thread and its exit status.
+//! Commands and answers: ompback, the debugger as a program: its command line, files, threads, exit status; tests.
+//!
+//! `words` reads the command line: 1 to 32 workers, and perhaps a file. `main` joins it with files and the
+//! shell, on a thread with the stack that the parser asks for (`STACK_SIZE` of om_parser).
 #![tactic(auto)]
 
 ghost use Rattle.std.specs.Prelude.{◌<◌, ◌≤◌};

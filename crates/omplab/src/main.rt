@@ -1,4 +1,11 @@
-//! The program for people who hunt races: its words, its files, its thread and its exit status.
+//! omplab: the program: its command line, what each subcommand does with files and streams, a meter, exit status.
+//!
+//! - `command` names the subcommands, and `words` reads the command line. `main` joins it with files and
+//!   streams.
+//! - `subcommands` does each over any streams: `check`, `hunt`, `script`, `notes`, `draw`. `meter` tells how
+//!   far a hunt is.
+//! - A new subcommand is a crate of its own, with its part in `command`, `words` and `subcommands`, and a row
+//!   of `tests/subcommands.py`.
 #![tactic(auto)]
 
 ghost use Rattle.std.specs.Prelude.{◌<◌, ◌≤◌};
