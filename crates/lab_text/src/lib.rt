@@ -1,5 +1,7 @@
 //! omplab: texts that several subcommands write: a report's head, steps as commands, a note after a line.
 //!
+//! Each of these is its text, to the byte (`specs/Heads`, `Commands`, `Tails`).
+//!
 //! - `report` puts a report together (`Report`), of which `head` writes the place and the code.
 //! - `commands` writes steps as commands of the debugger (`commands_for`).
 //! - `tail` puts a mark and words after a line, or nothing where they would end the line (`noted`).

@@ -5,7 +5,8 @@
 //!   its rounds, and `sitter` a seat beside its session.
 //! - `worker` answers orders after its gate said yes (`Gate`, `Debuggee`, `Worker`). `rounds` asks and
 //!   gathers, `driving` starts and joins the threads, and `seats` drives the seats of a session, and has the
-//!   answers compared. No command starts a drive, but gate_checks does.
+//!   answers compared. Free runs use `Gate` and `Debuggee` too. No command starts a drive, but gate_checks
+//!   does.
 //!
 //! Checks: gate_checks, of drives, gates and free runs.
 #![tactic(auto)]

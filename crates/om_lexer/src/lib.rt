@@ -1,7 +1,7 @@
 //! Text, tokens, trees: the lexer and preprocessor: words, literals, comments, macros, `#` lines; codes of refusals.
 //!
 //! From the bytes of a C source to its tokens (C17 5.1.1.2, phases 2 to 4; 6.4 and 6.10). The type of every
-//! refusal of a source, `SourceFault` with its `FaultCode`, is here too.
+//! refusal of a source, `SourceFault` with its `FaultCode`, is here too. S0 is out of memory, in every pass.
 //!
 //! `lex` answers the tokens (`Token`: a `TokenKind` and a `Span`), or the first fault. Tokens are the longest
 //! spellings, in order, each with its exact span. Between them stand only white space, comments and lines

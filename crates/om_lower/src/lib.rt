@@ -1,7 +1,8 @@
 //! Lowering: writes code for statements, loops, regions, whole bodies, within limits; makes the program and its texts.
 //!
 //! `lower` turns a `Resolved` into a `Program`. The code is that of om_lower_rules, with a line for each
-//! instruction and the scopes of its names. A function that passes a limit is refused with S11 at its name.
+//! instruction and the scopes of its names. The first function that passes a limit is refused with S11 at its
+//! name.
 //!
 //! - After it is resolved, a statement is looked at four times: `tables_of` gives things their numbers,
 //!   `sites_of` finds the bodies, `add_slots` the variables of each body, and `statement` writes the code.
@@ -17,7 +18,7 @@
 //! - `specs/Limits` says which functions are too large, `specs/Made` what is made before all of the program
 //!   is, `specs/Refusals` why a tree has no program.
 //! - A new statement is a row of om_lower_rules, an arm of `statement` here, and a case of `see_statement` in
-//!   om_lower_tables. A new kind of body is a row of `body_row` there, and a `write_..` here.
+//!   om_lower_tables. A new kind of body is a row of `body_row` in om_lower_rules, and a `write_..` here.
 //!
 //! The calls of om_code_places stand at this root too. Cases: gate_cases, "== code".
 #![tactic(auto)]

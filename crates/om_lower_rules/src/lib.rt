@@ -4,8 +4,8 @@
 //! that find tables and those that write code are proved side by side.
 //!
 //! - `specs/Rows` and what it uses say which code a tree has, and `specs/Scopes` which scopes of names.
-//!   `laws` has the laws of both: a tree has one code, and that of a whole tree is valid but for operand
-//!   heights.
+//!   `laws` has the laws of both: a tree has at most one code, and that of a whole tree is valid where its
+//!   numbers and operands are few enough.
 //! - `specs/Meaning` says what serial code means: expressions and statements without calls and directives.
 //!   `meaning` has its laws.
 //! - `tables` has the tables of a program; `texts` (formats, names of critical regions), `extents` (cells of

@@ -1,8 +1,7 @@
 //! Text, tokens, trees: the upper half of the parser: reads statements, constructs, functions and a whole source.
 //!
-//! `parse` turns tokens into a `Unit` (C17 6.8 and 6.9). It answers Ok exactly for the well-formed tree
-//! within the limits that has these tokens, and where each `atomic` has one of its forms. No second tree has
-//! them.
+//! `parse` turns tokens into a `Unit` (C17 6.8 and 6.9). But for memory, it is Ok exactly where a well-formed
+//! tree with these tokens keeps the limits and has the forms of `atomic`. No second tree has these tokens.
 //!
 //! - `statement` has the recursion over statements and blocks. `start` and `construct` tell by the first
 //!   token or word what a statement is.

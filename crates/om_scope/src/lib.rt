@@ -1,7 +1,7 @@
 //! Names and rules: checks and resolves statements, constructs, functions and a whole source.
 //!
-//! `resolve` turns a `Unit` into a `Resolved` (C17 6.2.1; OpenMP API 5.2, sections 4.4.1, 5.1 and 17.1). It
-//! answers Ok exactly where no rule of om_scope_rules is broken, and else the first breach.
+//! `resolve` turns a `Unit` into a `Resolved` (C17 6.2.1; OpenMP API 5.2, sections 4.4.1, 5.1 and 17.1). But
+//! for memory, it answers Ok exactly where no rule of om_scope_rules is broken, and else the first breach.
 //!
 //! - `statement` has the recursion over statements. `simple` has the statements without a statement in them,
 //!   and `head` what a `for` has before its body.

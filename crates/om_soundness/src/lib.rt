@@ -1,4 +1,4 @@
-//! Laws: valid code never lacks what it needs; serial code on the machine does what its source means.
+//! Laws: valid code never lacks an operand or what it names; a worker alone does what its serial source means.
 //!
 //! It has laws alone: no program runs them, and no other crate depends on this one. `laws` has those of the
 //! runs of valid programs.

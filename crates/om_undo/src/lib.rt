@@ -5,7 +5,7 @@
 //!
 //! - `machine` has the calls. `plan` asks om_task, and answers a `PlannedStep`, which contracts see as the
 //!   machine where it was planned, with the step's label. `take` hands its change to om_undo_history. So
-//!   whoever asks whether a step can be made need not plan it again.
+//!   whoever asks whether a step can be made need not plan it again to make it.
 //! - `laws` says what is true of the runs of every program, and that its rules are those that a history asks
 //!   for.
 //! - `specs/ReadyNames` computes the names of ready tasks from the steps of a run; `next_ready` answers them
