@@ -1,4 +1,4 @@
-//! omplab draw: a history as a graph: a box for each step, and an arrow where steps of two workers conflict.
+//! omplab draw: a history as a graph: a box for each step, an arrow where two conflict; sets of objects to find these.
 //!
 //! - `picture_of` makes a `Picture` of the `traced` steps. `arrows` finds the arrows: to each step from the
 //!   last earlier step of each other worker that conflicts with it.

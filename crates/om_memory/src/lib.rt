@@ -1,4 +1,4 @@
-//! State: the memory of a run: workers' controls (stacks, frames) edited in place, and trails that take edits back.
+//! State: the memory of a run: the store with the workers' controls (stacks, frames), edited in place and taken back.
 //!
 //! It is a total map from objects to values. The workers' controls are here, each in a `Trail`; the other
 //! values are in the `Store` of om_cells. An edit is made in place, and taken back exactly and without

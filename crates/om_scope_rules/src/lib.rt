@@ -1,4 +1,4 @@
-//! Names and rules: rules as definitions, their laws; reads canonical loops, formats, `atomic` updates; sets of names.
+//! Names and rules: rules as definitions, with laws; reads canonical loops, formats, `atomic` updates, begins of parts.
 //!
 //! What a reader must believe of resolving stands here. The rules are lists of breaches, and the resolution
 //! is a function of the tree; both are in `specs/`. No pass is in here. The laws say that what breaks no rule
