@@ -5,12 +5,11 @@
 //! `parser`, `resolver` or `code`. In a section `== beginnings TITLE` each beginning of a source is tried.
 //! Any other section is a session of several workers.
 //!
-//! - `table` and `written` read the cases of a section. `stage` has the stages, `sources` the verdicts,
-//!   `beginnings` the beginnings of a source, and `sessions` runs the sessions. `judge` goes through all
-//!   sections.
-//! - Where the last line is `== checks`, `checks` then asks what no text says: `books`, `code`, `ends` and
-//!   `free_tasks` ask it, over the streams of `memory`. `laws` calls the laws of the front end and of
-//!   scripts.
+//! - `written` reads sources as cases have them. `stage` has the stages, `beginnings` the beginnings of a
+//!   source, and `sessions` runs the sessions. `judge` goes through all sections.
+//! - Where the last line is `== checks`, `checks` then asks what no text says: `books`, `ends` and
+//!   `free_tasks` ask it; `memory` has the streams of `ends`. `call_laws` calls the laws of the front end and
+//!   of scripts.
 #![tactic(auto)]
 
 mod beginnings;

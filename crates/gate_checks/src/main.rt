@@ -5,8 +5,7 @@
 //!
 //! - `checks` lists the checks: each is a function of a module of its own, as `undos`, `full`, `gates` or
 //!   `late`. `valid` has those of the validator.
-//! - `machine_of_two`, `book_of_two` and `table` make what they are over. `laws` calls the laws of the
-//!   machine.
+//! - `machine_of_two` and `table` make what they are over. `call_laws` calls the laws of the machine.
 #![tactic(auto)]
 
 mod book_of_two;

@@ -3,7 +3,7 @@
 //! `report` runs the front end, and says whether the source is accepted, or why not and where.
 //!
 //! - `verdict` makes the report. `excerpt` writes the line with its mark, and the words and help of lab_help.
-//!   `token` finds the text of the token at a place. `team` has the notes on `num_threads`.
+//!   `token_at` finds the text of the token at a place. `team` has the notes on `num_threads`.
 #![tactic(auto)]
 
 mod excerpt;

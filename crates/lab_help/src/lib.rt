@@ -1,7 +1,7 @@
 //! omplab: tables of words: what each code means, and what to write in place of C or OpenMP that is left out.
 //!
-//! - `refusal`, `code`, `answer` and `number` have the words for codes, one line each: refusals of a source,
-//!   blocked steps, faults, errors of commands, and other answers.
+//! - `refusal_words`, `blocked_words`, `fault_words`, `command_words` and `answer_words` answer the words for
+//!   codes and answers, one line each. `code_words` reads a code as answers write it.
 //! - `left_out`, `library` and `openmp` say what to write in place of what is left out, and `help` which of
 //!   them a refused token asks for. In a `table` the first row of a name answers.
 #![tactic(auto)]

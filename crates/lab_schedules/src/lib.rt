@@ -2,7 +2,7 @@
 //!
 //! A schedule is a list of blocks, each of some steps of one worker (`Block`).
 //!
-//! - `chance` gives the numbers of a seed, and `wander` makes a schedule of them. `player` plays one over a
+//! - `Chance` gives the numbers of a seed, and `wander` makes a schedule of them. `player` plays one over a
 //!   machine, which it winds back (`trial`). `seeds` does this for one seed after the other, all on one
 //!   machine.
 //! - `judge` says whether what is left is bad (`Badness`), and `outcome` says it of a book. `shorten` drops

@@ -2,8 +2,8 @@
 //!
 //! - `script` writes the steps of a book as commands, runs these, and compares the two histories (`steps`).
 //! - `cone` lists the causal cone of a step, and takes nothing (`cones`).
-//! - `run` lets the debugger run commands, and keeps what it writes and its book (`Ran`). `answer` has what
-//!   is answered.
+//! - `run` lets the debugger run commands, and keeps what it writes and its book (`Ran`). What is answered is
+//!   a `Script`, or a `ScriptFault`.
 #![tactic(auto)]
 
 mod answer;

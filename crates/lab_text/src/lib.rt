@@ -2,7 +2,7 @@
 //!
 //! Each of these is its text, to the byte (`specs/Heads`, `Commands`, `Tails`).
 //!
-//! - `report` puts a report together (`Report`), of which `head` writes the place and the code.
+//! - `report` puts a report together (`Report`): the verdict with its place, and what stands after it.
 //! - `commands` writes steps as commands of the debugger (`commands_for`).
 //! - `tail` puts a mark and words after a line, or nothing where they would end the line (`noted`).
 #![tactic(auto)]

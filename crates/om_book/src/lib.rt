@@ -7,8 +7,8 @@
 //! - `session` has the lock and the seats (`Session`, `Seat`), through which threads call one book. `receipt`
 //!   has what a seat remembers of a call (`Receipt`), and which receipts stand in a journal.
 //! - `order` has numbered calls and their answers (`Order`, `Answer`), `rounds` the order in which they come,
-//!   and `numbers` says whether the numbers differ. `backing` keeps the answers that the receipts of the
-//!   seats back. Drives need these: no command does.
+//!   and `numbers_differ` says whether the numbers differ. `backing` keeps the answers that the receipts of
+//!   the seats back. Drives need these: no command does.
 //! - `specs/Crossing` says that a session may be shared by threads.
 //!
 //! The commands, replies and records of om_book_journal are at this root too. Checks: gate_checks, of books

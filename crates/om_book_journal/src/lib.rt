@@ -3,8 +3,8 @@
 //! - `journal` has the records (`JournalRecord`), and what is asked for before a call. `command`, `reply` and
 //!   `replies` have the calls and their answers; `replies` makes a machine's reply once or three times.
 //!   `kept` has small forms of them.
-//! - `same` has the question whether two values are the same (`Same`): numbers, options and lists. `code`,
-//!   `control`, `event`, `foot`, `machine_reply`, `step` and `value` answer it for one family of types each.
+//! - `Same` is the question whether two values are the same. `same` answers it for numbers, options and
+//!   lists, `event` for event records, and `value` for what objects hold.
 //! - `specs/Growing` says what one more record leaves, and `RunLeft` that a journal leaves a run. They are
 //!   matter of proofs, for om_book.
 #![tactic(auto)]

@@ -4,7 +4,7 @@
 //! instruction, and `global_named` a global one (`Var`). `specs/Visible` says what these are. It knows the
 //! code of a program and no tree, so the debugger does not depend on the front end.
 //!
-//! Cases: `has_lines`, `has_names` and `has_meanings` in crates/gate_cases/src/code.rt.
+//! Cases: `has_lines`, `has_names` and `has_meanings` of gate_cases.
 #![tactic(auto)]
 
 mod visible;

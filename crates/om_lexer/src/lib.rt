@@ -7,12 +7,12 @@
 //! spellings, in order, each with its exact span. Between them stand only white space, comments and lines
 //! that are taken out.
 //!
-//! - `piece` and `scan` read what stands at one byte (phase 3). `lexeme` reads its tokens, `white_space` the
-//!   gaps, `hash_line` and `define` the `#` lines.
-//! - `state` says what a line is so far, and `macros` what is defined. `lexer` goes from piece to piece,
+//! - `scan` reads what stands at one byte (`Piece`, phase 3), and `token_at` the token there. `white_space`
+//!   reads the gaps, `hash_line` and `define` the `#` lines.
+//! - `LineState` says what a line is so far, and `macros` what is defined. `lexer` goes from piece to piece,
 //!   replaces macros, and gives each directive line a begin and an end (phase 4).
 //! - `specs/Pieces`, `Folding` and `Sources` say the same as relations between places of the source.
-//! - A new token adds a case to `Spells` and to `lexeme`. A new `#` line adds a variant of `HashLine`, and
+//! - A new token adds a case to `Spells` and to `token_at`. A new `#` line adds a variant of `HashLine`, and
 //!   cases of `IsHashLine`, `state_of_line` and `tokens_of_line`.
 //!
 //! Cases: gate_cases, "== lexer".

@@ -11,7 +11,7 @@
 //!   what no expression stands in. `operator` has the operators of instructions.
 //! - `declaration` has declarations, tests and `return`, `clause` what copies begin with and reductions,
 //!   `construct` the begins and ends of constructs. `alone` has barriers, `atomic`, and jumps out of a loop.
-//! - `here` says where code is written: the tables of the body, and where the construct stands in the source.
+//! - `Here` says where code is written: the tables of the body, and where the construct stands in the source.
 //!   `spot` says where a statement stands: the numbers of the next body and list, and the labels to which
 //!   jumps go.
 //! - `specs/Emits` gives every promise its form. Take any finished body that agrees with what was written:

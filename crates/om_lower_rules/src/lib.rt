@@ -7,13 +7,13 @@
 //!   `laws` has the laws of both: a tree has at most one code, and that of a whole tree is valid where its
 //!   numbers and operands are few enough.
 //! - `specs/Meaning` says what serial code means: expressions and statements without calls and directives.
-//!   `meaning` has its laws.
+//!   `value_means` and `statement_means` are its laws.
 //! - `tables` has the tables of a program; `texts` (formats, names of critical regions), `extents` (cells of
 //!   declared variables) and `variables` (of a body, by slots) are what they hold. `body` answers what the
 //!   instructions of a body name by numbers (`BodyTables`).
 //! - `copies` has a `parallel` or a `task` by its parts, and its firstprivate copies. `slots` has the slots
-//!   of a body, `numbers` the numbers of bodies and of lists of PICK. `scope` is a stretch of code in which a
-//!   name means a variable, before slots are known.
+//!   of a body, and `Numbers` the numbers of bodies and of lists of PICK. A `VariableScope` is a stretch of
+//!   code in which a name means a variable, before slots are known.
 //! - `specs/Ends` says what is known of a region before its code is written: the numbers after it and its
 //!   variables.
 //!

@@ -5,13 +5,12 @@
 //! memory.
 //!
 //! - `control` has a control in the form that is changed in place, and what takes an edit of it back
-//!   (`Inverse`). `frame`, `context`, `stack` and `edit` make the edits, each of the least part that it
-//!   changes.
+//!   (`Inverse`). `frame`, `context` and `edit` make the edits, each of the least part that it changes.
 //! - `tape` is a stack in which what is taken stays above the top until something is pushed over it. `log` is
 //!   a list that grows and shrinks at its end.
 //! - `trail` is a control with what takes its changes back, up to its first. `live` makes such a control of a
 //!   plain one, and `copy` a plain one of it.
-//! - `fault` finds the fault to which edits would lead, without making them.
+//! - `fault_after` finds the fault to which edits would lead, without making them.
 //! - `specs/Plain` says which plain control such a control stands for. So what an edit does is said by
 //!   `om_state/specs/Edits` alone. `specs/Inverses` says what an inverse makes of a control, and
 //!   `specs/Memories` which state a memory is.

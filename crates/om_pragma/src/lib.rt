@@ -3,8 +3,7 @@
 //! `directive` turns the tokens of one line into a `Directive` (OpenMP API 5.2). Its expressions are slices
 //! of these tokens, which om_parser_parts reads. Any other line is refused with S3, S5 or S6.
 //!
-//! - `tree`, `clause`, `kind` and `name` are the types. Their lists are `Seq`, so contracts need no second
-//!   tree.
+//! - `tree` and `clause` have the types. Their lists are `Seq`, so contracts need no second tree.
 //! - `word` knows the words, `table` the clauses of each directive, `argument` what stands after the word of
 //!   a clause. `filling` puts an expression in place of its tokens.
 //! - A part that cannot be read says where it stops (`Stop`). Its caller decides whether that is S3 or the

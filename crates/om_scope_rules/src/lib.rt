@@ -4,11 +4,10 @@
 //! is a function of the tree; both are in `specs/`. No pass is in here. The laws say that what breaks no rule
 //! resolves, and to a whole tree.
 //!
-//! - `canonical` reads canonical loops, and `direction` says how such a loop goes through its values. `print`
-//!   and `reading` read formats, and `update` reads the updates of `atomic`. `place` says where a part
-//!   begins.
-//! - What the passes share is here too. `meaning` says what a name is declared as, `region` and `traits` what
-//!   a construct is and how it shares variables. `flow` has what statements may do at a place, `names` is a
+//! - `canonical` reads canonical loops; a `Direction` says how such a loop goes through its values. `print`
+//!   reads formats, and `update` reads the updates of `atomic`. `place` says where a part begins.
+//! - What the passes share is here too. `Meaning` says what a name is declared as, `Region` and `Traits` what
+//!   a construct is and how it shares variables. `Flow` has what statements may do at a place, `Names` is a
 //!   set of names, and `limits` has the limits on numbers.
 //! - `specs/Scopes` and `Sharing` say what a name means. `ExpressionRules`, `DirectiveRules`,
 //!   `StatementRules`, `UnitRules` and `Breaches` have the rules in the order of the text. `Resolution`,

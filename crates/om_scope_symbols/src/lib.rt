@@ -5,11 +5,11 @@
 //!
 //! - `name` says what a name means where it is used, and whether it may be used so. `listed` holds what the
 //!   clauses of a directive list, and `construct` is the table of constructs.
-//! - `table` is one scope, as a list of its declarations. `sightings` finds the innermost declaration of a
-//!   name by one search of one map, at any depth.
-//! - `nesting` has the constructs around a place. `stacks` and `listing` keep for each name its declarations
-//!   and the constructs that list it as shared. No use looks at one construct after the other: `landmark`
-//!   finds one by its depth.
+//! - `table` is one scope, as a list of its declarations. A `Sighting` is a declaration with its depth: a
+//!   look-up finds the innermost one by one search of one map.
+//! - `nesting` has the constructs around a place. `stacks` keep for each name its declarations, and the
+//!   constructs that list it as shared. No use looks at one construct after the other: `landmark` finds one
+//!   by its depth.
 //!
 //! Cases: gate_cases, "== resolver".
 #![tactic(auto)]

@@ -7,9 +7,10 @@
 //!   answers each line. `session` holds the debugger and the answers that are not written yet. `refusal`
 //!   writes the line of a refusal.
 //! - `output` alone writes, and `input` alone reads a session.
-//! - Both programs use `file`, which reads a file or a reader whole. They use `outcome`, which names how a
-//!   program ends, and `words`, those that it was called with. omplab uses `cut`, which parts a session that
-//!   was read whole into its source and its commands, `place`, which counts lines and columns, and `lines`.
+//! - Both programs use `file`, which reads a file or a reader whole. They use `Outcome`, which names how a
+//!   program ends, and `words_of`, the words that it was called with. omplab uses `session_bytes`, which cuts
+//!   a session that was read whole into its source and its commands. It uses `line_behind` and
+//!   `column_behind`, which count lines and columns.
 //!
 //! Cases: the sessions of gate_cases.
 #![tactic(auto)]

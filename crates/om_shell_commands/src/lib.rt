@@ -1,9 +1,9 @@
 //! Commands and answers: a line becomes a command, and each reply becomes text, to the byte. Nothing is run here.
 //!
 //! - `request_of` answers the `Request` of a line: a `Command`, or why it is none (`CommandFault`, H1 or H2).
-//!   `verb` names the first word, `arguments` reads the others: numbers, workers, `task` names, variables.
-//! - `step`, `value`, `place`, `list` and `stop` write one kind of reply each (`push_..`). `object` writes
-//!   the text of an object, `number` numbers, and `ending` the end of a line.
+//!   `verb` names the first word, `arguments` reads the others: numbers, workers, names of tasks, variables.
+//! - `step`, `value`, `list` and `stop` write the replies (`push_..`). `object` writes the text of an object,
+//!   and `number` numbers.
 //! - `specs/Commands` says which words spell which command; `specs/Steps`, `Values`, `Places`, `Lists` and
 //!   `Stops` which text a reply has.
 #![tactic(auto)]

@@ -8,8 +8,8 @@
 //! - `specs/Ints` says when a state has ints: each operand, each cell and each iteration of an open loop is
 //!   one. `programs` shows of every program what these laws ask, by a walk over its constants.
 //! - `specs/Reasons` is the table of what an instruction of valid code may still lack.
-//! - `alone` has the laws of a worker that steps while no other does (`specs/Alone`, `AloneLaws`). They join
-//!   the meaning of serial code in om_lower_rules and the rules of om_task.
+//! - `functions_run` and `programs_run` are laws of a worker that steps while no other does (`specs/Alone`,
+//!   `AloneLaws`). They join the meaning of serial code in om_lower_rules and the rules of om_task.
 //! - A new instruction adds a line to `proofs/Walk`, to `Lacking` and to `IntRuns`. A new row has a lemma in
 //!   `proofs/TaskRows` or `ShareRows`, one in `IntTasks` or `IntShares`, and one in `RowReasons`. A new
 //!   serial instruction is also a case of `proofs/Instructions` and of `proofs/Table`.

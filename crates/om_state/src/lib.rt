@@ -9,9 +9,9 @@
 //!   stands for. `Values` has the defaults of objects, and `Homes` says where the cells of a slot lie.
 //! - `footprint` is what a step touches, as a plan has it. The worker stands in the place of the access of
 //!   its control.
-//! - `puts` is what a step changes beside its control, in three parts as the `names` of om_foot. `runs` has
-//!   one value for several cells of a slot (`Run`), and the values that cells held (`Was`), which `was`
-//!   notes. Contracts see one plain list.
+//! - `puts` is what a step changes beside its control, in three parts as the `names` of om_foot. A `Run` is
+//!   one value for several cells of a slot, and a `Was` the values that cells held, which `was` notes.
+//!   Contracts see one plain list.
 //! - `shared_control`, `shared_pile` and `shared_team` are such values that several owners share.
 //!   `open_share` is a place in a loop or in sections. What holds of each is an invariant of its type.
 //! - `specs/Ready` says which names of tasks are ready, and which is the next one after a name.

@@ -8,8 +8,8 @@
 //! - `specs/Rows` has that form, and `specs/SerialRows` the rows of serial code. `acts` has the rows of the
 //!   frame machine of om_code (`serial`); `frames` has calls, returns, reductions and the numbers of threads.
 //! - What several rows are made of: `names` finds the objects that instructions name, and `updates` makes
-//!   what is put there. `parts` has edits, names and updates, `begin` what a task begins with, and `counts`
-//!   the counts of unfinished tasks.
+//!   what is put there. `parts` has edits, names and updates, and `begin` what a task begins with. `count_at`
+//!   and `is_zero` read the counts of unfinished tasks.
 //! - om_team_worksharing has the rows of what members of a team share, om_team those of teams, and om_task
 //!   those of tasks.
 #![tactic(auto)]

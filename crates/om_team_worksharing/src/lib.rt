@@ -3,7 +3,7 @@
 //! These are the rows of what the members of a team share. What a row is says om_team_serial.
 //!
 //! - `meetings` has a member's way through barriers (ARRIVE, DEPART), up to the one where its task ends
-//!   (LEAVE). `barrier` has what is read there.
+//!   (LEAVE). `is_open` says whether a barrier is open.
 //! - `shares` has loops and sections: how they are opened, and how their iterations are given out. `chunk`
 //!   counts iterations, and `laws` has the laws of static schedules.
 //! - `singles` has single regions and the end of each worksharing region, `masking` masked regions, and

@@ -7,7 +7,7 @@
 //! - `history` has the calls, `reply` their answers, and `laws` the laws over any rules.
 //! - `records` has the undo records by serial, with the touch lists beside them; that these are those of the
 //!   entries is an invariant of `Records`. `by_serial` is the list in which they stand. `kept` is the form in
-//!   which one is kept, and `backs` what takes it back. `choice` is how a planned step keeps its choice.
+//!   which one is kept, and `Backs` what takes it back.
 //! - `planning` has a step that is about to be made, and keeps its objects in the memory. `steps` makes its
 //!   change with its record, and takes the change of a record back. `updates` changes single values,
 //!   `further` those of a step in parts.

@@ -2,8 +2,8 @@
 //!
 //! - `command` names the subcommands, and `words` reads the command line. `main` joins it with files and
 //!   streams.
-//! - `subcommands` does each over any streams: `check`, `hunt`, `script`, `notes`, `draw`. `meter` tells how
-//!   far a hunt is.
+//! - `subcommands` does each over any streams: `check`, `hunt`, `script`, `notes`, `draw`. A `Meter` tells
+//!   how far a hunt is.
 //! - A new subcommand is a crate of its own, with its part in `command`, `words` and `subcommands`, and a row
 //!   of `tests/subcommands.py`.
 #![tactic(auto)]
