@@ -5,8 +5,9 @@
 //! - `text_of` writes a record as `events W` shows it, and `words` writes the words of such a text.
 //! - `specs/Records` says which text a record has, and `Numbers` which numbers OMPT gives. `Words` has the
 //!   words of a text as the code has them.
-//! - The rows of the machine say which step makes a record. A new record adds a variant of `Record`, and its
-//!   text in `text` and in `specs/Records`.
+//! - The row of an instruction, which says what a step touches and changes, makes the records too
+//!   (om_team_serial). A new record adds a variant of `Record`, and its text in `text` and in
+//!   `specs/Records`.
 #![tactic(auto)]
 
 pub mod event;

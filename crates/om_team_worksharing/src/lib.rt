@@ -1,6 +1,6 @@
 //! Rows: what barriers, loops, sections, single, masked and critical regions touch and change; chunks of iterations.
 //!
-//! These are the rows of what the members of a team share. What a row is says om_team_serial.
+//! These are the rows of what the members of a team share. om_team_serial says what a row is.
 //!
 //! - `meetings` has a member's way through barriers (ARRIVE, DEPART), up to the one where its task ends
 //!   (LEAVE). `is_open` says whether a barrier is open.
