@@ -1,20 +1,17 @@
--- The scopes of what is written before the statement of a loop, and before the parts of a `sections`.
-use Rattle.std.proofs.Common.{◌≡◌, ℕ, List, Option, Some, None, length, refl, sym, ap}
+-- The scopes of what is written before the statement of a worksharing loop, and before the parts of a `sections`.
+use Rattle.std.proofs.Common.{◌≡◌, ℕ, List, None, length, refl, sym, ap}
 use Rattle.om_code.specs.declared.instruction.Instr.{Instr}
 use Rattle.om_lower_emit.specs.Drafts.{Written, Defines, Fresh, FreshList, Puts}
 use Rattle.om_lower_emit.specs.Emits.{Writes, Emits, site}
-use Rattle.om_scope_tree.specs.ResolvedTree.{ResolvedClauseTree, ResolvedExpressionTree, ResolvedLoopTree, ResolvedStartTree}
+use Rattle.om_scope_tree.specs.ResolvedTree.{ResolvedClauseTree, ResolvedLoopTree}
 use Rattle.om_lower_rules.specs.Expressions.{value}
-use Rattle.om_lower_rules.specs.Rows.{Site, end, perhaps}
-use Rattle.om_lower_rules.specs.Scopes.{Scoping, after, bounds_scopes, clause_scope, each_scope, for_head, instructions}
-use Rattle.om_lower_rules.specs.Scopes.{loop_head, opens, sections_head, start_scopes, tested}
-use Rattle.om_lower_rules.specs.Statements.{test}
-use Rattle.om_lower_emit.specs.declared.spot.TurnLabels.{TurnLabels}
+use Rattle.om_lower_rules.specs.Rows.{Site, end}
+use Rattle.om_lower_rules.specs.Scopes.{Scoping, after, bounds_scopes, clause_scope, each_scope, instructions}
+use Rattle.om_lower_rules.specs.Scopes.{loop_head, opens, sections_head}
 use Rattle.om_lower_emit.specs.declared.writing.ScopeStack.{ScopeStack}
 use Rattle.om_lower_emit.specs.Scoped.{BeginsOneScope, ScopesStand}
 use Rattle.om_lower_emit.specs.Scoping.{counted, stand_after, stand_before, stand_behind, stand_both, stand_opens}
-use Rattle.om_lower_emit.specs.Scoping.{writes_as, writes_behind, writes_fresh, writes_here, writes_put}
-use Rattle.om_lower_emit.specs.Stretches.{FreshTurn}
+use Rattle.om_lower_emit.specs.Scoping.{writes_behind, writes_fresh, writes_here, writes_put}
 use Rattle.om_lower_rules.specs.Numbered.{Numbered}
 use Rattle.om_lower.proofs.PartsOpened.{grows_listed}
 
@@ -32,29 +29,6 @@ module _ (names : Numbered) where
 
   one : (l : ℕ) (x : Instr) (a b : Written) → Puts l x a b → Writes (λ done at. instructions 1) a b
   one l x a b h = writes_put names l x a b h
-
-  three_fresh : (labels : TurnLabels) (a b : Written) → FreshTurn labels a b → Writes (λ done at. end) a b
-  three_fresh labels a b h =
-      writes_behind (λ done at. end) a h.second b (writes_fresh labels.again a h.second h.again)
-      (writes_behind (λ done at. end) h.second h.third b (writes_fresh labels.next h.second h.third h.next)
-      (writes_fresh labels.over h.third b h.over))
-
-  tested_perhaps : (at : Site) (l f : ℕ) (c : Option ResolvedExpressionTree) (p q : ℕ) → perhaps (test at l f) c p q
-      → perhaps (tested at l) c p q
-  tested_perhaps at l f None p q r = r
-  tested_perhaps at l f (Some c) p q r = (f, r)
-
-  pub for_begins : (l : ℕ) (begin : ResolvedStartTree) (c : Option ResolvedExpressionTree) (labels : TurnLabels)
-      (a b d e f : Written) (x y : ScopeStack) → FreshTurn labels a b → Stand (λ at. start_scopes at l begin) b x d y
-      → Defines labels.again d e
-      → Emits (λ done at. perhaps (test (site names done) l (at labels.over)) c) e f
-      → Stand (λ at. for_head at l begin c) a x f y
-  for_begins l begin c labels a b d e f x y fresh begun defined test =
-      stand_behind names (λ at. for_head at l begin c) a b x f y (three_fresh labels a b fresh)
-      (stand_before names (λ at. start_scopes at l begin) (λ at. perhaps (tested at l) c) b x d y f begun
-      (writes_behind (λ done at. perhaps (tested (site names done) l) c) d e f (writes_here labels.again d e defined)
-      (writes_as _ (λ done at. perhaps (tested (site names done) l) c) e f
-      (λ done at p q r. tested_perhaps (site names done) l (at labels.over) c p q r) test.writes)))
 
   pub bounds_stand : (l : ℕ) (clauses : List ResolvedClauseTree) (loop : ResolvedLoopTree) (a b d e : Written)
       (x y : ScopeStack) → Emits (λ done at. value (site names done) loop.at.line loop.from) a b

@@ -20,9 +20,8 @@ pub use Rattle.om_lower.specs.Regions.{GivesBehind}
 pub use Rattle.om_lower.specs.There.{EmitsAllThere, EmitsThere, GivesAllBehind, HasCodeThere, HasEndsThere}
 pub use Rattle.om_lower.specs.There.{EmitsPartsThere, GivesPartsBehind, HaveCodeThere, HaveEndsThere}
 pub use Rattle.om_lower.specs.There.{HavePartsEndsThere, ScopesOf, ScopesOfAll, ScopesOfBlock, ScopesOfParts}
-pub use Rattle.om_lower.specs.BeginsAndEnds.{BeginsElse, BeginsFor, BeginsIf, BeginsSharedLoop, BeginsParts, BeginsWhile}
-pub use Rattle.om_lower.specs.BeginsAndEnds.{EndsDo, EndsFor, EndsLoop, EndsWorksharing, ScopesFor, ScopesSharedLoop}
-pub use Rattle.om_lower.specs.BeginsAndEnds.{ScopesParts}
+pub use Rattle.om_lower.specs.BeginsAndEnds.{BeginsParts, BeginsSharedLoop, EndsWorksharing, ScopesParts}
+pub use Rattle.om_lower.specs.BeginsAndEnds.{ScopesSharedLoop}
 pub use Rattle.om_lower_emit.specs.Drafts.{settled_code}
 pub use Rattle.om_lower_emit.specs.Settled.{ListsStand, number_of, settled_lists}
 pub use Rattle.om_scope_tree.specs.Beside.{TreeAtomicsAssign, TreeCopiesBehind}
@@ -33,7 +32,7 @@ pub use Rattle.om_scope_tree.specs.Whole.{IsWholeTree}
 pub use Rattle.om_lower_rules.specs.Bodies.{FunctionBody, variables_of}
 pub use Rattle.om_lower_rules.specs.Code.{IsCodeOf, captures_of, given_of, global_of}
 pub use Rattle.om_lower_rules.specs.Coded.{BodyHasCode, PartsHaveCode, StatementHasCode}
-pub use Rattle.om_lower_rules.specs.Coded.{EffectHasCode, LoopHasCode, StartHasCode, ValueHasCode}
+pub use Rattle.om_lower_rules.specs.Coded.{LoopHasCode, ValueHasCode}
 pub use Rattle.om_lower_rules.specs.Copies.{GivesSlots, copied_variables}
 pub use Rattle.om_lower_rules.specs.Ends.{HasEnds}
 pub use Rattle.om_lower_rules.specs.MeaningLaws.{KeepsMeaning}
@@ -46,4 +45,4 @@ pub use Rattle.om_lower_tables.specs.Regions.{statement_of}
 pub use Rattle.om_lower_tables.specs.Sites.{bodies_in, body_in, body_round, innermost, part_tree, round_with, site_variables}
 pub use Rattle.om_lower_tables.specs.Trees.{part_trees}
 pub use Rattle.om_lower_emit.specs.Scoped.{AreInside, IsInside}
-pub use Rattle.om_lower_emit.specs.Stretches.{BeginsTurn, FreshTurn, do_begin, value_in}
+pub use Rattle.om_lower_emit.specs.Stretches.{value_in}

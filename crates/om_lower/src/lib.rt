@@ -34,7 +34,6 @@ mod lowering;
 mod names;
 mod program;
 mod region;
-mod repeated;
 mod statement;
 pub mod texts;
 mod worksharing;

@@ -8,9 +8,6 @@ ghost use Rattle.om_lower.specs.Words.{ScopesOfBlock, ScopesOfParts, part_trees}
 ghost use Rattle.om_scope_tree.specs.ResolvedView as view;
 
 use crate::region::{parallel, task};
-use crate::repeated::{
-    begin_do, begin_else, begin_for, begin_if, begin_while, end_do, end_for, end_loop,
-};
 use crate::worksharing::{
     PartsSpot, SectionsHead, begin_parts, begin_worksharing, end_worksharing,
 };
@@ -19,6 +16,9 @@ use om_lower_emit::alone::{assignment, jump, stand_alone, update};
 use om_lower_emit::construct::{begin_construct, end_construct};
 use om_lower_emit::declaration::{declarators, returned};
 use om_lower_emit::draft::Jump;
+use om_lower_emit::repeated::{
+    begin_do, begin_else, begin_for, begin_if, begin_while, end_do, end_for, end_loop,
+};
 use om_lower_emit::spot::Spot;
 use om_lower_emit::unused::effect;
 use om_lower_emit::writing::Writing;

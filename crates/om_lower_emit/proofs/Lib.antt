@@ -5,5 +5,7 @@ pub mod Labels
 pub mod Leaves
 pub mod Effects
 pub mod Opened
+pub mod Loops
+pub mod LoopScopes
 pub mod Scoped
 pub mod ScopeStacks

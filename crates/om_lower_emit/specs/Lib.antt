@@ -16,4 +16,5 @@ pub mod Declarations
 pub mod Scoping
 pub mod Spots
 pub mod Effects
+pub mod BeginsAndEnds
 pub mod Words

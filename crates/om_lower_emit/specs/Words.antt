@@ -7,6 +7,8 @@ pub use Rattle.om_lower_rules.specs.Operators.{side_of, update_of}
 pub use Rattle.om_lower_rules.specs.Scopes.{clause_scope, closed_at, parameter_scope, task_scope, team_scope}
 pub use Rattle.om_lower_rules.specs.Statements.{alone_row, assignment_row, barrier, clause_start, combine_clause}
 pub use Rattle.om_lower_rules.specs.Statements.{reductions, starts, update_row, worksharing_end}
+pub use Rattle.om_lower_emit.specs.BeginsAndEnds.{BeginsElse, BeginsFor, BeginsIf, BeginsWhile, EndsDo, EndsFor}
+pub use Rattle.om_lower_emit.specs.BeginsAndEnds.{EndsLoop, ScopesFor}
 pub use Rattle.om_lower_emit.specs.Declarations.{AppendsPerhapsEffect, AppendsReturn, AppendsStart, Initializes}
 pub use Rattle.om_lower_emit.specs.Declarations.{InitializesAll, ScopesDeclarator, ScopesDeclarators, ScopesStart}
 pub use Rattle.om_lower_emit.specs.Drafts.{HasNoTarget, PutsAll, nothing}
@@ -19,4 +21,5 @@ pub use Rattle.om_lower_emit.specs.Spots.{spot_with}
 pub use Rattle.om_lower_emit.specs.Stretches.{AppendsAnywhere, AppendsClause, AppendsClauses, AppendsPerhapsTest}
 pub use Rattle.om_lower_emit.specs.Stretches.{AppendsStatement, AppendsTest, BeginHasCode, BeginsConstruct}
 pub use Rattle.om_lower_emit.specs.Stretches.{BeginsReduction, BeginsReductions, EmitsJump, EndsConstruct, IsNoAtomic}
-pub use Rattle.om_lower_emit.specs.Stretches.{identity_start, original_start, value_in}
+pub use Rattle.om_lower_emit.specs.Stretches.{BeginsTurn, FreshTurn, do_begin, identity_start, original_start}
+pub use Rattle.om_lower_emit.specs.Stretches.{value_in}

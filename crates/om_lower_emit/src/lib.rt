@@ -31,6 +31,7 @@ pub mod draft;
 mod expression;
 pub mod here;
 mod operator;
+pub mod repeated;
 mod single;
 pub mod spot;
 pub mod unused;

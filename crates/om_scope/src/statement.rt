@@ -26,8 +26,8 @@ use crate::simple::{
 use om_lexer::SourceResult;
 use om_parser_tree::{Expression, ForHead, Part, Statement};
 use om_pragma::Directive;
-use om_scope_parts::{add, boxed, boxed_expression, enter_loop, loop_fault};
-use om_scope_rules::{Flow, Loop, loop_in, statement_side, statement_start};
+use om_scope_parts::{add, boxed, boxed_expression, enter_loop};
+use om_scope_rules::{Flow, Loop, loop_fault, loop_in, statement_side, statement_start};
 use om_scope_symbols::{Symbols, constructing, traits_of};
 use om_scope_tree::{ResolvedPart, ResolvedStatement};
 use std::alloc::Global;

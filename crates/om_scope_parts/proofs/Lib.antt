@@ -1,4 +1,3 @@
-pub mod Firsts
 pub mod Items
 pub mod Targets
 pub mod Arguments

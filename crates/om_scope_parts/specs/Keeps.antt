@@ -1,27 +1,11 @@
--- What is promised where a refusal of a part is answered as it is, or beside a further rule.
-use Rattle.std.specs.Prelude.{◌≡◌, ◌++◌, [], ◌∷◌, Bool, ℕ, List, Ok, Result}
-use Rattle.om_lexer.specs.declared.fault.FaultCode.{FaultCode}
-use Rattle.om_lexer.specs.declared.fault.FaultCode.TheVariants as faults
+-- What is promised where a refusal of a part is answered as it is.
+use Rattle.std.specs.Prelude.{◌≡◌, ◌++◌, [], ◌∷◌, List, Ok, Result}
 use Rattle.om_lexer.specs.declared.fault.SourceFault.{SourceFault}
 use Rattle.om_scope_rules.specs.Checks.{Checks}
-use Rattle.om_scope_rules.specs.Faults.{perhaps_with, with_breach}
-use Rattle.om_scope_rules.specs.Outcomes.{Refuses}
 
 -- whatever breaches a part has, the result is refused for them as the part is
 abbrev pub KeepsRefusals : {X Y : Type 0} → Result X SourceFault → Result Y SourceFault → Type 0
 KeepsRefusals found result = (breaches : List SourceFault) → Checks found breaches → Checks result breaches
-
--- whatever breaches a part has, the first of them and of this rule, where it is broken, is refused
-abbrev pub RefusesAmong : {X Y : Type 0} → Result X SourceFault → (broken : Bool) → FaultCode → (at : ℕ)
-    → Result Y SourceFault → Type 0
-RefusesAmong checked broken code at result =
-    (breaches : List SourceFault) → Checks checked breaches → Checks result (perhaps_with broken code at breaches)
-
--- Whatever breaches a statement has, this fault is the first of them and of S12 at this byte, unless memory ran out.
-abbrev pub IsFaultOfLoop : {X : Type 0} → Result X SourceFault → (at : ℕ) → SourceFault → Type 0
-IsFaultOfLoop checked at fault =
-    (breaches : List SourceFault) → Checks checked breaches
-    → Refuses (with_breach (record { code = faults.LoopForm; at = at }) breaches) fault
 
 -- what was found stands behind the items of a list
 abbrev pub IsPushed : {X : Type 0} → Result X SourceFault → List X → List X → Type 0

@@ -12,12 +12,11 @@ ghost use Rattle.om_scope_parts.specs.Expressions.{ResolvesTarget, ResolvesUnary
 ghost use Rattle.om_scope_parts.specs.Views.{ResolvesExpression, view_boxed};
 
 use crate::call::{argument_count, call_of, resolve_format};
-use crate::fault::refuse_among;
 use crate::kept::{add, boxed};
 use crate::target::{Target, assigned, is_target, misplaced, stepped};
 use om_lexer::{FaultCode, SourceFault, SourceResult};
 use om_parser_tree::{Argument, AssignOperator, Expression, Name, Number, PrefixOperator};
-use om_scope_rules::{PRINTED_LIMIT, expression_start};
+use om_scope_rules::{PRINTED_LIMIT, expression_start, refuse_among};
 use om_scope_symbols::{Symbols, is_printf, misuse, resolve_array, resolve_callee, resolve_scalar};
 use om_scope_tree::{ResolvedExpression, UnaryOperator, Variable};
 use std::alloc::Global;

@@ -2,6 +2,7 @@ pub mod Faults
 pub mod Outcomes
 pub mod Checks
 pub mod Resolves
+pub mod FirstBreach
 pub mod Perhaps
 pub mod InRow
 pub mod Places

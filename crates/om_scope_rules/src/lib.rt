@@ -27,6 +27,7 @@
 
 mod canonical;
 mod direction;
+mod fault;
 mod flow;
 pub mod laws;
 mod limits;
@@ -41,6 +42,7 @@ mod update;
 
 pub use canonical::{Loop, LoopStart, loop_in};
 pub use direction::{Direction, Step};
+pub use fault::{loop_fault, refuse_among};
 pub use flow::Flow;
 pub use limits::{
     FUNCTION_LIMIT, GLOBAL_CELL_LIMIT, PARAMETER_LIMIT, PRINTED_LIMIT, SECTION_LIMIT,

@@ -1,6 +1,6 @@
 use Rattle.om_lower_emit.specs.Emits.{names_at}
-use Rattle.om_lower.proofs.Opened.{ends_turn}
-use Rattle.om_lower.proofs.repeated.end_do.Goals as goal
+use Rattle.om_lower_emit.proofs.Loops.{ends_turn}
+use Rattle.om_lower_emit.proofs.repeated.end_do.Goals as goal
 
 pub returns : goal.returns
 returns c = ends_turn _ _ _ _ _ _ _ _ c.requires.next c.requires.apart c.define.ensures c.in_ok-test.ensures

@@ -1,6 +1,6 @@
 use Rattle.om_lexer.specs.declared.fault.FaultCode.TheVariants as faults
-use Rattle.om_scope_parts.proofs.Firsts.{among_refuses}
-use Rattle.om_scope_parts.proofs.fault.loop_fault.Goals as goal
+use Rattle.om_scope_rules.proofs.Firsts.{among_refuses}
+use Rattle.om_scope_rules.proofs.fault.loop_fault.Goals as goal
 
 pub returns : goal.returns
 returns g c = λ breaches checked. rw (c.fault_among.ensures, c.err.ensures.value)

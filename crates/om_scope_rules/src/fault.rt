@@ -1,8 +1,8 @@
-//! Refusals at a place.
+//! Which of two refusals is answered: that of a part, or that of a further rule.
 
 ghost use Rattle.std.specs.Prelude.{◌≡◌, IfOk, Ok};
 ghost use Rattle.om_scope_rules.specs.Faults.{answered_among, goes_first};
-ghost use Rattle.om_scope_parts.specs.Keeps.{IsFaultOfLoop, RefusesAmong};
+ghost use Rattle.om_scope_rules.specs.FirstBreach.{IsFaultOfLoop, RefusesAmong};
 
 use om_lexer::{FaultCode, SourceFault, SourceResult};
 use om_scope_tree::ResolvedExpression;

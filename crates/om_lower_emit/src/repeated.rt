@@ -1,21 +1,21 @@
 //! The heads and the ends of `if`, `while`, `do` and `for`.
 
 ghost use Rattle.std.specs.Prelude.{◌≡◌, ◌<◌, IfOk, IfSome, None, OnOk, Some, option_map, slice_get};
-ghost use Rattle.om_lower.specs.Words.{BeginsElse, BeginsFor, BeginsIf, BeginsTurn, BeginsWhile, EffectHasCode};
-ghost use Rattle.om_lower.specs.Words.{EndsDo, EndsFor, EndsLoop, FreshTurn, ScopesFor, StartHasCode};
-ghost use Rattle.om_lower.specs.Words.{ValueHasCode, do_begin};
+ghost use Rattle.om_lower_emit.specs.Words.{BeginsElse, BeginsFor, BeginsIf, BeginsTurn, BeginsWhile, EffectHasCode};
+ghost use Rattle.om_lower_emit.specs.Words.{EndsDo, EndsFor, EndsLoop, FreshTurn, ScopesFor, StartHasCode};
+ghost use Rattle.om_lower_emit.specs.Words.{ValueHasCode, do_begin};
 ghost use Rattle.om_scope_tree.specs.ResolvedView as view;
 
-use om_lower_emit::Here;
-use om_lower_emit::declaration::{perhaps_effect, perhaps_test, start, test};
-use om_lower_emit::draft::{Draft, Jump};
-use om_lower_emit::spot::{LoopLabels, TurnLabels};
-use om_lower_emit::writing::Writing;
+use crate::declaration::{perhaps_effect, perhaps_test, start, test};
+use crate::draft::{Draft, Jump};
+use crate::here::Here;
+use crate::spot::{LoopLabels, TurnLabels};
+use crate::writing::Writing;
 use om_scope_tree::{ResolvedExpression, ResolvedStart};
 use om_seq::AllocResult;
 
 /// Writes the head of a `while` (C17 6.8.5.1).
-pub(crate) fn begin_while(
+pub fn begin_while(
     draft: &mut Draft,
     here: &Here<'_>,
     condition: &ResolvedExpression,
@@ -31,7 +31,7 @@ pub(crate) fn begin_while(
 }
 
 /// Writes the end of a loop: it begins again.
-pub(crate) fn end_loop(draft: &mut Draft, line: u32, labels: LoopLabels) -> AllocResult<()>
+pub fn end_loop(draft: &mut Draft, line: u32, labels: LoopLabels) -> AllocResult<()>
     requires { slice_get draft.old.places labels.over ≡ Some None }
     ensures { OnOk result (EndsLoop line labels draft.old draft.new) }
 {
@@ -51,7 +51,7 @@ fn turn_labels(draft: &mut Draft) -> AllocResult<TurnLabels>
 }
 
 /// Writes the head of a `do` (C17 6.8.5.2).
-pub(crate) fn begin_do(draft: &mut Draft) -> AllocResult<TurnLabels>
+pub fn begin_do(draft: &mut Draft) -> AllocResult<TurnLabels>
     ensures { IfOk result (λ labels. BeginsTurn labels (do_begin labels) draft.old draft.new) }
 {
     let labels = turn_labels(draft)?;
@@ -60,7 +60,7 @@ pub(crate) fn begin_do(draft: &mut Draft) -> AllocResult<TurnLabels>
 }
 
 /// Writes the end of a `do`: its condition is tested, and it begins again.
-pub(crate) fn end_do(
+pub fn end_do(
     draft: &mut Draft,
     here: &Here<'_>,
     labels: TurnLabels,
@@ -80,7 +80,7 @@ pub(crate) fn end_do(
 }
 
 /// Writes the head of a `for` (C17 6.8.5.3): without a condition nothing is tested.
-pub(crate) fn begin_for(
+pub fn begin_for(
     writing: &mut Writing,
     here: &Here<'_>,
     begin: &ResolvedStart,
@@ -99,7 +99,7 @@ pub(crate) fn begin_for(
 }
 
 /// Writes the end of a `for`: its step is taken, and it begins again.
-pub(crate) fn end_for(
+pub fn end_for(
     draft: &mut Draft,
     here: &Here<'_>,
     labels: TurnLabels,
@@ -119,7 +119,7 @@ pub(crate) fn end_for(
 }
 
 /// Writes the head of an `if` (C17 6.8.4.1). The label is to be placed behind what it guards.
-pub(crate) fn begin_if(
+pub fn begin_if(
     draft: &mut Draft,
     here: &Here<'_>,
     condition: &ResolvedExpression,
@@ -134,7 +134,7 @@ pub(crate) fn begin_if(
 
 /// Writes what stands between the two statements of an `if` with `else`: the first goes on behind the
 /// second, which begins at the head's label. The new label is to be placed behind the second.
-pub(crate) fn begin_else(draft: &mut Draft, line: u32, head: usize) -> AllocResult<usize>
+pub fn begin_else(draft: &mut Draft, line: u32, head: usize) -> AllocResult<usize>
     requires { slice_get draft.old.places head ≡ Some None }
     ensures { BeginsElse result line head draft.old draft.new }
 {
