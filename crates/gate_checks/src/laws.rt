@@ -13,8 +13,8 @@ pub(crate) fn call_laws() {
     om_undo_history::laws::step_then_undo();
     om_undo_history::laws::remaining_steps();
     om_undo_history::laws::exactly_where();
-    om_undo_history::laws::serials_rise();
-    om_undo_history::laws::serials_identify();
+    om_undo_history::laws::serials();
+    om_undo_history::laws::equivalence();
     om_undo_history::laws::roll_is_cone();
     om_undo_history::laws::roll_takes_cone();
     om_undo_history::laws::roll_is_undos();

@@ -6,3 +6,4 @@ mod Inserted
 mod Touched
 mod ReadyNames
 mod Planned
+mod Exactness

@@ -11,12 +11,12 @@ ghost use Rattle.om_undo_history.specs.Choices.{choice_of, label_by};
 ghost use Rattle.om_undo_history.specs.Runs.{reply_to_step, reply_to_undo};
 ghost use Rattle.om_undo_history.specs.Commands.{IsRun, IsGone, Rise};
 ghost use Rattle.om_undo_history.specs.Pasts.{past_in, IsHeld, Stays};
-ghost use Rattle.om_undo.specs.Headline.{Headline};
-ghost use Rattle.om_undo.specs.Machines.{rules_for, state_in, control_at, at_start, step_reply, with_step, with_undo, rolled_from, roll_reply, with_roll, TakesOut, TakesItsCone, StateIsReplay, IsPlan, RepliesToPlan, RepliesToWorker, TakesPlan};
+ghost use Rattle.om_undo.specs.Exactness.{IsExact, UndoesExactly};
+ghost use Rattle.om_undo.specs.Machines.{rules_for, state_in, control_at, at_start, step_reply, with_step, with_undo, rolled_from, roll_reply, with_roll, TakesOut, TakesItsCone, IsPlan, RepliesToPlan, RepliesToWorker, TakesPlan};
 ghost use Rattle.om_undo.specs.PlannedSteps.{is_made, planned_at};
 ghost use Rattle.om_undo.specs.ReadyNames.{ready_names};
 
-use crate::laws::{headline, shaped_rules, steady_rules};
+use crate::laws::{exactly_where, headline, shaped_rules, steady_rules};
 use om_code::Program;
 use om_foot::{Name, Obj};
 use om_memory::Control;
@@ -300,15 +300,18 @@ impl Machine {
     }
 
     /// Takes a worker's last step out of the history, wherever it stands, unless a later step
-    /// conflicts with it: the reply that the definition of a run gives (`reply_to_undo`).
+    /// conflicts with it: the reply that the definition of a run gives (`reply_to_undo`). It is refused
+    /// exactly where a later step of this very history conflicts, and names the first.
     ///
     /// Only `Undone` changes anything, and the number of steps ever made stays even then, so no
     /// serial is given again. It takes no memory.
     pub fn undo(&mut self, worker: u8) -> UndoReply
         requires { worker < self.old.workers }
         ensures reply { result ≡ reply_to_undo (rules_for self.old) self.old.history worker }
+        ensures exactly { UndoesExactly self.old worker }
         ensures after { self.new ≡ with_undo self.old worker }
     {
+        exactly_where();
         self.history.undo(worker)
     }
 
@@ -376,14 +379,15 @@ impl Machine {
     /// A copy of the entries that stand, in their order. Their serials rise, to the number of steps
     /// ever made at most, and what is true after every run is true of them.
     ///
-    /// They can be made in turn from the start, and what they give is the state. The headline holds
-    /// of the program and its number of workers. Its only error is out of memory.
+    /// The headline holds of this very machine. The entries can be made in turn from the start, and what they
+    /// give is its state. A step that is done and then an undo of its worker restore that state. An undo is
+    /// refused exactly where a later entry conflicts, and the refusal names the first. A step or an undo that
+    /// is not done changes nothing. The only error is out of memory.
     pub fn history(&self, alloc: Global) -> AllocResult<Vec<Entry>>
         ensures entries { IfOk result (λ v. v.items ≡ self.now.history.entries) }
         ensures numbered { Rise 0 self.now.history.entries self.now.history.made }
         ensures reached { IsRun (rules_for self.now) self.now.history }
-        ensures replayed { StateIsReplay self.now }
-        ensures headline { Headline self.now.program self.now.workers }
+        ensures headline { IsExact self.now }
     {
         headline();
         self.history.entries(alloc)

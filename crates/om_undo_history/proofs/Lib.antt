@@ -3,6 +3,7 @@ pub mod Back
 pub mod Exchange
 pub mod Bounds
 pub mod Removal
+pub mod Equivalence
 pub mod Places
 pub mod Logs
 pub mod Fills

@@ -1,4 +1,5 @@
 pub mod Laws
+pub mod Equivalence
 pub mod Shapes
 pub mod Fills
 pub mod Runs

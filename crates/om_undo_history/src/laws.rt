@@ -1,6 +1,7 @@
 //! Laws of steps, undos and rolls, over any rules of a program.
 
 ghost use Rattle.om_undo_history.specs.Laws.{Dependence, Commutation, Removal};
+ghost use Rattle.om_undo_history.specs.Equivalence.{Diamonds, Swaps, Untouched, EquivalentRuns};
 ghost use Rattle.om_undo_history.specs.Runs.{StepThenUndo};
 ghost use Rattle.om_undo_history.specs.Undos.{ExactlyWhere};
 ghost use Rattle.om_undo_history.specs.Leaves.{EachLeaves};
@@ -17,6 +18,17 @@ pub fn dependence()
 /// are the same steps there, and they end at the same state (Danos and Krivine 2004, the square).
 pub fn commutation()
     ensures { Commutation }
+{}
+
+/// Runs that differ by exchanges of neighbours that don't conflict end at the same state: they are causally
+/// equivalent (Danos and Krivine 2004; traces, Mazurkiewicz 1977). Two steps that can each be made at a state
+/// and don't conflict can be made in either order. A step stays the same after one with which it doesn't
+/// conflict, also where it is blocked or its worker has ended.
+pub fn equivalence()
+    ensures diamonds { Diamonds }
+    ensures swaps { Swaps }
+    ensures untouched { Untouched }
+    ensures same_end { EquivalentRuns }
 {}
 
 /// A step with which no later one conflicts can be taken out of a history. The rest can be made in turn,
@@ -53,14 +65,11 @@ pub fn what_is_left()
     ensures { EachLeaves }
 {}
 
-/// After any run the serials of the entries rise, and none is above the number of steps ever made.
-pub fn serials_rise()
-    ensures { SerialsRise }
-{}
-
-/// After any run a serial identifies an entry.
-pub fn serials_identify()
-    ensures { SerialsIdentify }
+/// After any run the serials of the entries rise, and none is above the number of steps ever made. So a
+/// serial identifies an entry.
+pub fn serials()
+    ensures rise { SerialsRise }
+    ensures identify { SerialsIdentify }
 {}
 
 /// After any run the list of what a roll takes out is the cone: the least set that holds the entry

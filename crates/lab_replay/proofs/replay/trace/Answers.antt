@@ -7,4 +7,4 @@ retraced-requires-clause-replayed c =
     all_replay c.args.machine.now c.program.result.now c.workers.result c.deref.result.now
     c.program.ensures c.workers.ensures.same
     (c.deref.ensures.value ∙ c.in_ok-entries.ensures.entries)
-    c.history.ensures.replayed
+    c.history.ensures.headline.replayed
