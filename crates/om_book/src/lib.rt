@@ -17,7 +17,6 @@
 
 mod backing;
 mod book;
-mod numbers;
 mod order;
 mod receipt;
 mod rounds;
@@ -25,11 +24,10 @@ mod session;
 
 pub use backing::{KeptAnswers, Rows, keep_backed};
 pub use book::{Book, CallError, MAX_RECORDS};
-pub use numbers::numbers_differ;
 pub use om_book_journal::{
     Command, JournalRecord, KeptCommand, KeptUndoReply, Query, Reply, ReplyIn,
 };
 pub use order::{Answer, Fault, Order};
 pub use receipt::Receipt;
-pub use rounds::{most_rounds, order_at};
+pub use rounds::{most_rounds, numbers_differ, order_at};
 pub use session::{Blank, Closed, NotOpened, Seat, Session, Sitting, Unclosed};

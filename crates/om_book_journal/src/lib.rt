@@ -9,18 +9,13 @@
 //!   matter of proofs, for om_book.
 #![tactic(auto)]
 
-mod code;
 mod command;
-mod control;
 mod event;
-mod foot;
 mod journal;
 mod kept;
-mod machine_reply;
 pub mod replies;
 mod reply;
 mod same;
-mod step;
 mod value;
 
 pub use command::{Command, Query};

@@ -1,10 +1,14 @@
-//! Whether two values are the same: numbers, options and lists.
+//! Whether two values are the same: numbers, options and lists, what code works on, names, entries, and
+//! replies of the machine.
 
 ghost use Rattle.std.specs.Prelude.{◌≡◌, ◌↔◌, IsTrue};
 
-use om_foot::Shared;
+use om_code::frame::{Cell, Fault, Operand};
+use om_foot::{Name, Shared};
 use om_seq::{Pile, Seq};
 use om_state::SharedPile;
+use om_undo::Entry;
+use om_undo_history::{RollReply, StepReply, Taken, UndoReply};
 
 /// A type whose values can be told apart at run time: every part of them counts.
 pub trait Same {
@@ -71,5 +75,66 @@ impl<T: Same> Same for Seq<T> {
 impl<T: Same> Same for Pile<T> {
     fn is_same(&self, other: &Pile<T>) -> bool {
         same_items(self.as_slice(), other.as_slice())
+    }
+}
+
+impl Same for Operand {
+    fn is_same(&self, other: &Operand) -> bool {
+        self == other
+    }
+}
+
+impl Same for Cell {
+    fn is_same(&self, other: &Cell) -> bool {
+        self == other
+    }
+}
+
+impl Same for Fault {
+    fn is_same(&self, other: &Fault) -> bool {
+        self == other
+    }
+}
+
+impl Same for Name {
+    fn is_same(&self, other: &Name) -> bool {
+        self.as_slice() == other.as_slice()
+    }
+}
+
+impl Same for Entry {
+    fn is_same(&self, other: &Entry) -> bool {
+        self.serial == other.serial
+            && self.worker == other.worker
+            && self.choice == other.choice
+            && self.line == other.line
+    }
+}
+
+impl Same for StepReply {
+    fn is_same(&self, other: &StepReply) -> bool {
+        self == other
+    }
+}
+
+impl Same for UndoReply {
+    fn is_same(&self, other: &UndoReply) -> bool {
+        self == other
+    }
+}
+
+impl Same for Taken {
+    fn is_same(&self, other: &Taken) -> bool {
+        self == other
+    }
+}
+
+impl Same for RollReply {
+    fn is_same(&self, other: &RollReply) -> bool {
+        match (self, other) {
+            (RollReply::Rolled(one), RollReply::Rolled(two)) => one.is_same(two),
+            (RollReply::NoEntry, RollReply::NoEntry) => true,
+            _ => false,
+        }
     }
 }

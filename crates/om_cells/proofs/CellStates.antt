@@ -12,10 +12,10 @@ use Rattle.om_foot.specs.declared.object.Obj.TheVariants as obj
 use Rattle.om_foot.specs.declared.footprint.Access.{Access}
 use Rattle.om_foot.specs.Footprint.{obj_eq}
 use Rattle.om_foot.specs.Objects.{obj_eq-true}
-use Rattle.om_foot.specs.declared.cells.SlotName.{SlotName}
-use Rattle.om_foot.specs.declared.cells.Cells.{Cells}
-use Rattle.om_state.specs.declared.runs.Was.{Was}
-use Rattle.om_state.specs.declared.runs.Was.TheVariants as was
+use Rattle.om_foot.specs.declared.object.SlotName.{SlotName}
+use Rattle.om_foot.specs.declared.object.Cells.{Cells}
+use Rattle.om_state.specs.declared.value.Was.{Was}
+use Rattle.om_state.specs.declared.value.Was.TheVariants as was
 use Rattle.om_state.specs.declared.step.Update.{Update}
 use Rattle.om_state.specs.declared.step.Update.TheVariants.{Put}
 use Rattle.om_state.specs.declared.value.Val.{Val}

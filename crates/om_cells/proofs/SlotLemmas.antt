@@ -18,8 +18,8 @@ use Rattle.om_foot.specs.declared.footprint.Access.{Access}
 use Rattle.om_foot.specs.Footprint.{obj_eq}
 use Rattle.om_foot.specs.Objects.{obj_eq-true, cmp-is_eq}
 use Rattle.om_foot.specs.Below.{same_list, two_true, both_true}
-use Rattle.om_foot.specs.declared.cells.SlotName.{SlotName}
-use Rattle.om_foot.specs.declared.cells.Cells.{Cells}
+use Rattle.om_foot.specs.declared.object.SlotName.{SlotName}
+use Rattle.om_foot.specs.declared.object.Cells.{Cells}
 use Rattle.om_state.specs.declared.step.Update.{Update}
 use Rattle.om_state.specs.declared.step.Update.TheVariants.{Put}
 use Rattle.om_state.specs.declared.value.Val.{Val}

@@ -13,8 +13,7 @@ ghost use Rattle.om_state.specs.Ready.{is_ready, is_from, is_the, AreAll, IsNext
 ghost use Rattle.om_cells.specs.ReadyEntries.{is_ready_in, name_if_ready};
 ghost use Rattle.om_state.specs.Values.{task_in};
 
-use crate::place::Place;
-use crate::places::Places;
+use crate::places::{Place, Places};
 use om_foot::part::Part;
 use om_foot::{Access, Name, SharedAccess, SlotName};
 use om_seq::AllocResult;

@@ -1,4 +1,4 @@
-//! The places of the objects of one name.
+//! What a store keeps at an object, and the places of the objects of one name.
 
 ghost use Rattle.std.specs.Prelude.{◌≡◌, ◌<◌, ℕ, None, Some, true, is_some, IfOk, IfSome, OnOk, OnErr};
 ghost use Rattle.std.specs.Option.{option_copied};
@@ -7,14 +7,56 @@ ghost use Rattle.om_foot.specs.declared.part.Part.TheVariants as parts;
 ghost use Rattle.om_foot.specs.Parts.{part_of};
 ghost use Rattle.om_cells.specs.Places.{value_at, PutsAt, StaysAt};
 
-use crate::place::Place;
 use om_foot::part::{Part, part_of};
-use om_foot::{Access, SharedAccess, SlotName};
+use om_foot::{Access, ObjectAccesses, SharedAccess, SlotName};
 use om_seq::AllocResult;
 use om_state::Val;
 use std::alloc::Global;
 use std::collections::BTreeMap;
 use std::marker::Model;
+use std::mem;
+
+/// The value that is kept at an object.
+///
+/// Contracts see the value alone.
+#[derive(Drop)]
+pub struct Place {
+    /// The object, with its accesses, for all that name it.
+    pub(crate) accesses: ObjectAccesses,
+    value: Val,
+}
+
+impl Model for Place {
+    ghost use Rattle.om_state.specs.declared.value.Val.{Val};
+
+    ghost Value = { Val };
+
+    ghost view = { λ p. p.value };
+}
+
+impl Place {
+    /// The place of an object with a value.
+    pub fn of(accesses: ObjectAccesses, value: Val) -> Place
+        ensures { result ≡ value }
+    {
+        Place { accesses, value }
+    }
+
+    /// The value.
+    pub fn value(&self) -> &Val
+        ensures { result.now ≡ self.now }
+    {
+        &self.value
+    }
+
+    /// Puts a value, and answers the one before. It takes no memory.
+    pub fn put(&mut self, value: Val) -> Val
+        ensures before { result ≡ self.old }
+        ensures after { self.new ≡ value }
+    {
+        mem::replace(&mut self.value, value)
+    }
+}
 
 /// The places that are kept of the objects of one name, or of those without a name.
 ///

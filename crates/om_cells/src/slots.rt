@@ -4,7 +4,7 @@ ghost use Rattle.std.specs.Prelude.{◌≡◌, ◌<◌, ◌≤◌, set, slice_ge
 ghost use Rattle.std.specs.Prelude.{List};
 ghost use Rattle.std.specs.Option.{option_copied};
 ghost use Rattle.om_foot.specs.declared.object.Obj.{Obj};
-ghost use Rattle.om_foot.specs.declared.cells.SlotName.{SlotName};
+ghost use Rattle.om_foot.specs.declared.object.SlotName.{SlotName};
 ghost use Rattle.om_state.specs.declared.step.Update.TheVariants as update;
 ghost use Rattle.om_state.specs.declared.value.Val.{Val};
 ghost use Rattle.om_state.specs.declared.value.Val.TheVariants as value;
@@ -14,7 +14,7 @@ ghost use Rattle.om_state.specs.State.{State, updated};
 ghost use Rattle.om_cells.specs.Slots.{value_among, values_in, value_in, slot_value, ResetsIn, values_of, ReplacesAll, PutsIn, Grows, SlotsGrow, HasCells, KeepsCells, Mirrors, Writes, WritesAll, olds};
 
 use om_code::frame::Cell;
-use om_foot::cells::spot_of;
+use om_foot::object::spot_of;
 use om_foot::{Access, Cells, Obj, ObjectAccesses, SharedAccess, SharedCells, SlotName};
 use om_seq::{AllocResult, Seq};
 use om_state::was::Noted;

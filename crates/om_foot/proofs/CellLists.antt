@@ -2,8 +2,8 @@
 use Rattle.std.proofs.Common.{◌≡◌, sym, ◌∙◌, ap, ℕ, suc, ◌+◌, ◌-◌, ◌<◌, List, [], ◌∷◌, ◌++◌, drop, slice_get, Some}
 use Rattle.std.proofs.lemmas.List.{append_assoc, append-nil}
 use Rattle.om_foot.specs.declared.footprint.Access.{Access}
-use Rattle.om_foot.specs.declared.cells.SlotName.{SlotName}
-use Rattle.om_foot.specs.declared.cells.Cells.{Cells}
+use Rattle.om_foot.specs.declared.object.SlotName.{SlotName}
+use Rattle.om_foot.specs.declared.object.Cells.{Cells}
 use Rattle.om_foot.specs.Cells.{cell_access, cells_from, cells_of, cells_listed}
 use Rattle.om_foot.specs.ListParts.{one_less, from_item}
 

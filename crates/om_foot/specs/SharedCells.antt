@@ -1,7 +1,7 @@
 -- Cells of a slot by the objects at their two ends.
 use Rattle.std.specs.Prelude.{ℕ, Option, None, Some, []}
 use Rattle.om_foot.specs.declared.object.Obj.{Obj}
-use Rattle.om_foot.specs.declared.cells.Cells.{Cells}
+use Rattle.om_foot.specs.declared.object.Cells.{Cells}
 use Rattle.om_foot.specs.Cells.{Spot, cell_at, spot_of}
 
 -- a cell at an index of the slot of some cells

@@ -4,8 +4,8 @@ ghost use Rattle.std.specs.Prelude.{◌≡◌, ◌++◌, ◌∷◌, [], IfOk, On
 ghost use Rattle.om_foot.specs.declared.footprint.Access.{Access};
 ghost use Rattle.om_foot.specs.Cells.{cell_access, cells_of, cells_listed, boxed_list};
 
-use crate::cells::{Cells, SlotName};
 use crate::footprint::{Access, Mode};
+use crate::object::{Cells, SlotName};
 use om_seq::{AllocResult, Seq};
 use std::alloc::Global;
 use std::marker::Model;

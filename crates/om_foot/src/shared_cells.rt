@@ -3,8 +3,8 @@
 ghost use Rattle.std.specs.Prelude.{◌≡◌, IfOk};
 ghost use Rattle.om_foot.specs.SharedCells.{cell_in};
 
-use crate::cells::{Cells, SlotName, spot_of};
 use crate::name::Name;
+use crate::object::{Cells, SlotName, spot_of};
 use crate::shared_object::SharedObject;
 use om_seq::AllocResult;
 use std::alloc::Global;
@@ -22,7 +22,7 @@ pub struct SharedCells {
 impl Model for SharedCells {
     ghost use Rattle.std.specs.Prelude.{◌≡◌};
     ghost use Rattle.om_foot.specs.SharedCells.{cell_in, cells_before};
-    ghost use Rattle.om_foot.specs.declared.cells.Cells.{Cells};
+    ghost use Rattle.om_foot.specs.declared.object.Cells.{Cells};
 
     ghost Value = { Cells };
 

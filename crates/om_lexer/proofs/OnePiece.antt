@@ -15,8 +15,8 @@ use Rattle.om_lexer.specs.declared.piece.Piece.{Piece}
 use Rattle.om_lexer.specs.declared.piece.PieceKind.{PieceKind}
 use Rattle.om_lexer.specs.declared.piece.PieceKind.TheVariants as pieces
 use Rattle.om_lexer.specs.declared.piece.HashLine.{HashLine}
-use Rattle.om_lexer.specs.declared.state.LineState.{LineState}
-use Rattle.om_lexer.specs.declared.state.LineState.TheVariants as states
+use Rattle.om_lexer.specs.declared.piece.LineState.{LineState}
+use Rattle.om_lexer.specs.declared.piece.LineState.TheVariants as states
 use Rattle.om_lexer.specs.Characters.{is_word_byte, is_blank}
 use Rattle.om_lexer.specs.Constants.{IsConstant}
 use Rattle.om_lexer.specs.Spellings.{keyword_text, punctuator_text}

@@ -11,8 +11,8 @@ use Rattle.om_lexer.specs.declared.piece.PieceKind.{PieceKind}
 use Rattle.om_lexer.specs.declared.piece.PieceKind.TheVariants as pieces
 use Rattle.om_lexer.specs.declared.piece.HashLine.{HashLine}
 use Rattle.om_lexer.specs.declared.piece.HashLine.TheVariants as lines
-use Rattle.om_lexer.specs.declared.state.LineState.{LineState}
-use Rattle.om_lexer.specs.declared.state.LineState.TheVariants as states
+use Rattle.om_lexer.specs.declared.piece.LineState.{LineState}
+use Rattle.om_lexer.specs.declared.piece.LineState.TheVariants as states
 use Rattle.om_lexer.specs.Folding.{directive_end, tokens_in, tokens_of, directive_begin}
 use Rattle.om_lexer.specs.HashLines.{IsDirective}
 use Rattle.om_lexer.specs.Macros.{MacroList, number_of_macro, constant_or, replaced}

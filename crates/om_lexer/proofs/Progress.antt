@@ -16,8 +16,8 @@ use Rattle.om_lexer.specs.declared.piece.PieceKind.{PieceKind}
 use Rattle.om_lexer.specs.declared.piece.PieceKind.TheVariants as pieces
 use Rattle.om_lexer.specs.declared.piece.HashLine.{HashLine}
 use Rattle.om_lexer.specs.declared.piece.HashLine.TheVariants as lines
-use Rattle.om_lexer.specs.declared.state.LineState.{LineState}
-use Rattle.om_lexer.specs.declared.state.LineState.TheVariants as states
+use Rattle.om_lexer.specs.declared.piece.LineState.{LineState}
+use Rattle.om_lexer.specs.declared.piece.LineState.TheVariants as states
 use Rattle.om_lexer.specs.Tokens.{IsToken}
 use Rattle.om_lexer.specs.Macros.{MacroList}
 use Rattle.om_lexer.specs.HashLines.{IsHashLine}

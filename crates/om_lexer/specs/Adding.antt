@@ -6,7 +6,7 @@ use Rattle.om_lexer.specs.declared.lexer.Output.{Output}
 use Rattle.om_lexer.specs.declared.lexer.Placed.{Placed}
 use Rattle.om_lexer.specs.declared.piece.HashLine.{HashLine}
 use Rattle.om_lexer.specs.declared.piece.PieceKind.{PieceKind}
-use Rattle.om_lexer.specs.declared.state.LineState.{LineState}
+use Rattle.om_lexer.specs.declared.piece.LineState.{LineState}
 use Rattle.om_lexer.specs.declared.token.Span.{Span}
 use Rattle.om_lexer.specs.declared.token.Token.{Token}
 use Rattle.om_lexer.specs.declared.token.TokenKind.{TokenKind}

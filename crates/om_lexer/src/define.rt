@@ -6,12 +6,11 @@ ghost use Rattle.om_lexer.specs.HashLines.{IsHashWord, IsReadHashLine, IsHashLin
 ghost use Rattle.om_lexer.specs.Macros.{IsAnswer};
 ghost use Rattle.om_lexer.specs.Sources.{source_limit};
 
-use crate::constant::{are_digits, value_in};
 use crate::fault::{FaultCode, SourceFault, SourceResult, bad_hash_line};
 use crate::macros::Macros;
 use crate::piece::HashLine;
 use crate::white_space::{ends_line, gap_end};
-use crate::word::{LONGEST_NAME, word_end};
+use crate::word::{LONGEST_NAME, are_digits, value_in, word_end};
 use om_seq::Seq;
 use std::alloc::Global;
 

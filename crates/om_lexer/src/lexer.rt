@@ -8,9 +8,8 @@ ghost use Rattle.om_lexer.specs.Sources.{IsTokens, IsRefusal};
 
 use crate::fault::{FaultCode, SourceFault, SourceResult};
 use crate::macros::Macros;
-use crate::piece::{HashLine, PieceKind};
+use crate::piece::{HashLine, LineState, PieceKind};
 use crate::scan::piece_at;
-use crate::state::LineState;
 use crate::token::{Span, Token, TokenKind};
 use om_seq::{AllocResult, Seq};
 use std::alloc::Global;

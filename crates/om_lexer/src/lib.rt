@@ -19,18 +19,15 @@
 #![tactic(auto)]
 
 mod character;
-mod constant;
 mod define;
 mod fault;
 mod hash_line;
 mod laws;
-mod lexeme;
 mod lexer;
 mod macros;
 mod piece;
 mod scan;
 mod spelling;
-mod state;
 mod text;
 mod token;
 mod white_space;

@@ -9,9 +9,9 @@
 //! - `lowering` makes the program, `functions` goes through the functions, `bodies` makes the bodies of each.
 //!   `body` writes one body (`write_function`, `write_parallel`, `write_task`), and settles its labels where
 //!   it is within the limit. An `Input` is what they all read.
-//! - `statement` has the recursion over statements. `repeated` has the begins and ends of `if` and loops,
-//!   `worksharing` those of worksharing loops and `sections`; om_lower_emit has those of constructs. `region`
-//!   writes what stands for a `parallel` or `task` in the body that meets it.
+//! - `statement` has the recursion over statements. `worksharing` has the begins and ends of worksharing loops
+//!   and of `sections`; om_lower_emit has those of `if`, loops and constructs. `region` writes what stands for
+//!   a `parallel` or `task` in the body that meets it.
 //! - `names` says what names mean in a body by its slots. `frame_of` and `first_high` keep limits, on slots
 //!   and on operands. `program` lays bodies and tables side by side, and `texts` cuts formats.
 //! - `specs/Limits` says which functions are too large, `specs/Made` what is made before all of the program

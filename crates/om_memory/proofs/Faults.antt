@@ -4,8 +4,8 @@ use Rattle.om_state.specs.declared.control.Context.{Context}
 use Rattle.om_state.specs.declared.control.Control.{Control}
 use Rattle.om_state.specs.declared.control.Control.TheVariants.{Idle, Running, Faulted, Ended}
 use Rattle.om_state.specs.declared.control.Stack.{Stack}
-use Rattle.om_state.specs.declared.edit.Edit.{Edit}
-use Rattle.om_state.specs.declared.edit.Edit.TheVariants as edit
+use Rattle.om_state.specs.declared.control.Edit.{Edit}
+use Rattle.om_state.specs.declared.control.Edit.TheVariants as edit
 use Rattle.om_state.specs.Edits.{context_ended, edited, changed_by, changed}
 use Rattle.om_memory.specs.Faults.{fault_in, fault_ahead, outlook_of, below_ended, ahead, outlook_after, outlook_behind}
 

@@ -6,7 +6,7 @@ use Rattle.om_state.specs.declared.control.Construct.{Construct}
 use Rattle.om_state.specs.declared.control.Frame as plain_frames
 use Rattle.om_state.specs.declared.control.Context as plain_contexts
 use Rattle.om_state.specs.declared.control.Control.TheVariants as plain
-use Rattle.om_state.specs.declared.edit.Edit.{Edit}
+use Rattle.om_state.specs.declared.control.Edit.{Edit}
 use Rattle.om_state.specs.Edits.{frame_at, context_at, frame_begun, value_given, context_ended, edited, changed_by}
 use Rattle.om_state.specs.Edits.{changed}
 use Rattle.om_memory.specs.declared.control.Frame.{Frame}

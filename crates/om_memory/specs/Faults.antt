@@ -3,10 +3,10 @@ use Rattle.std.specs.Prelude.{ℕ, zero, suc, ◌+◌, ◌<◌, ◌^◌, Option,
 use Rattle.om_code.specs.declared.frame.Fault.{Fault}
 use Rattle.om_state.specs.declared.control.Control.{Control}
 use Rattle.om_state.specs.declared.control.Control.TheVariants.{Idle, Running, Faulted, Ended}
-use Rattle.om_state.specs.declared.edit.Edit.{Edit}
-use Rattle.om_state.specs.declared.edit.Edit.TheVariants as edit
-use Rattle.om_memory.specs.declared.fault.Outlook.{Outlook}
-use Rattle.om_memory.specs.declared.fault.Outlook.TheVariants.{Runs, Rests}
+use Rattle.om_state.specs.declared.control.Edit.{Edit}
+use Rattle.om_state.specs.declared.control.Edit.TheVariants as edit
+use Rattle.om_memory.specs.declared.edit.Outlook.{Outlook}
+use Rattle.om_memory.specs.declared.edit.Outlook.TheVariants.{Runs, Rests}
 
 -- the fault that a worker met, if it did
 abbrev pub fault_in : Control → Option Fault

@@ -16,8 +16,8 @@ use Rattle.om_memory.specs.declared.control.Laid.TheVariants.{Nothing, Pushed}
 use Rattle.om_memory.specs.declared.control.Went.{Went}
 use Rattle.om_memory.specs.declared.control.Inverse.{Inverse}
 use Rattle.om_memory.specs.declared.control.Inverse.TheVariants as inverse
-use Rattle.om_state.specs.declared.edit.Edit.{Edit}
-use Rattle.om_state.specs.declared.edit.Edit.TheVariants as edit
+use Rattle.om_state.specs.declared.control.Edit.{Edit}
+use Rattle.om_state.specs.declared.control.Edit.TheVariants as edit
 
 -- the first item, else the other one
 abbrev pub first_or : {T : Type 0} → T → List T → T

@@ -1,7 +1,7 @@
 -- Trails: a worker's control, with what takes its changes back, the latest first.
 use Rattle.std.specs.Prelude.{Bool, true, false, List, [], ◌∷◌}
 use Rattle.om_state.specs.declared.control.Control as plain_controls
-use Rattle.om_state.specs.declared.edit.Edit.{Edit}
+use Rattle.om_state.specs.declared.control.Edit.{Edit}
 use Rattle.om_state.specs.Edits.{changed}
 use Rattle.om_memory.specs.declared.control.Control.{Control}
 use Rattle.om_memory.specs.declared.control.Logged.{Logged}

@@ -1,12 +1,15 @@
-//! Edits of a control in place, each with what takes it back.
+//! Edits of a control in place, each with what takes it back. In a stack a context begins or ends, or the
+//! one that runs is edited. The fault that a worker would come to by edits is told without making them.
 
-ghost use Rattle.std.specs.Prelude.{◌≡◌, IfOk, OnOk, OnErr};
-ghost use Rattle.om_state.specs.Edits.{HasRoom};
-ghost use Rattle.om_memory.specs.Plain.{plain_control};
-ghost use Rattle.om_memory.specs.Changed.{HasChanged};
-ghost use Rattle.om_memory.specs.Inverses.{reverted, CanRevert};
+ghost use Rattle.std.specs.Prelude.{◌≡◌, IfOk, OnOk, OnErr, ◌<◌, length, ◌^◌};
+ghost use Rattle.om_state.specs.Edits.{HasRoom, Counts, changed};
+ghost use Rattle.om_memory.specs.Plain.{plain_control, plain_stack};
+ghost use Rattle.om_memory.specs.Changed.{HasChanged, IsEnded, RunsOn};
+ghost use Rattle.om_memory.specs.Inverses.{reverted, CanRevert, stack_back, CanStackBack, StaysRunning};
+ghost use Rattle.om_memory.specs.Faults.{fault_in, outlook_of, outlook_after, IsLow};
 
-use crate::control::{Control, Inverse};
+use crate::control::{Control, Inverse, Stack};
+use crate::live::context_of;
 use om_code::frame::Fault;
 use om_seq::AllocResult;
 use om_state::Edit;
@@ -109,4 +112,110 @@ pub fn revert(control: &mut Control, inverse: Inverse)
             _ => unreachable!(),
         },
     }
+}
+
+impl Stack {
+    /// Ends the running context where another one waits below it, which runs on. It takes no
+    /// memory.
+    pub(crate) fn end_context(&mut self) -> Inverse
+        requires { 0 < length self.old.below.items }
+        ensures changed { IsEnded self.old self.new }
+        ensures can { CanStackBack result self.new }
+        ensures back { stack_back result self.new ≡ self.old }
+    {
+        self.below.swap_down(&mut self.top);
+        Inverse::EndedContext
+    }
+
+    /// Makes an edit after which the worker runs on with the stack. When out of memory, nothing
+    /// changes.
+    pub(crate) fn apply(&mut self, alloc: Global, edit: Edit) -> AllocResult<Inverse>
+        requires stays { StaysRunning edit }
+        requires counts { Counts edit (plain_stack self.old) }
+        ensures changed { OnOk result (RunsOn edit self.old self.new) }
+        ensures can { IfOk result (λ i. CanStackBack i self.new) }
+        ensures back { IfOk result (λ i. stack_back i self.new ≡ self.old) }
+        ensures unchanged_on_error { OnErr result (self.new ≡ self.old) }
+    {
+        match edit {
+            Edit::BeginContext(context) => {
+                let begun = context_of(alloc, context.get())?;
+                let over = self.below.push_under(begun, &mut self.top)?;
+                Ok(Inverse::BeganContext(over))
+            }
+            Edit::EndContext | Edit::Fail(_) | Edit::End(_) => unreachable!(),
+            turn => match self.top.apply(alloc, turn) {
+                Ok(inverse) => Ok(inverse),
+                Err(error) => Err(error),
+            },
+        }
+    }
+
+    /// Takes an edit back. It takes no memory.
+    pub(crate) fn turn_back(&mut self, inverse: Inverse)
+        requires { CanStackBack inverse self.old }
+        ensures { self.new ≡ stack_back inverse self.old }
+    {
+        match inverse {
+            Inverse::BeganContext(over) => self.below.unpush_under(over, &mut self.top),
+            Inverse::EndedContext => self.below.swap_up(&mut self.top),
+            turn => self.top.turn_back(turn),
+        }
+    }
+}
+
+// What of a worker's control decides whether it comes to a fault.
+#[derive(Clone, Copy)]
+enum Outlook {
+    // It runs, with so many contexts below the one that runs.
+    Runs(u128),
+    // It doesn't run, and met this fault, if any.
+    Rests(Option<Fault>),
+}
+
+// The outlook of a worker with this control.
+fn outlook_of(control: &Control) -> Outlook
+    ensures outlook { result ≡ outlook_of (plain_control control.now) }
+    ensures low { IsLow 0 result }
+{
+    match control {
+        Control::Idle | Control::Ended(_) => Outlook::Rests(None),
+        Control::Running(stack) => Outlook::Runs(stack.below.len() as u128),
+        Control::Faulted(fault, _) => Outlook::Rests(Some(*fault)),
+    }
+}
+
+// The outlook after an edit.
+fn outlook_after(outlook: Outlook, edit: &Edit) -> Outlook
+    requires { IsLow (2 ^ 64) outlook }
+    ensures { result ≡ outlook_after edit.now outlook }
+{
+    let Outlook::Runs(below) = outlook else {
+        return outlook;
+    };
+    match edit {
+        Edit::BeginContext(_) => Outlook::Runs(below + 1),
+        Edit::EndContext => match below.checked_sub(1) {
+            Some(below) => Outlook::Runs(below),
+            None => Outlook::Rests(None),
+        },
+        Edit::Fail(fault) => Outlook::Rests(Some(*fault)),
+        Edit::End(_) => Outlook::Rests(None),
+        _ => Outlook::Runs(below),
+    }
+}
+
+/// The fault that a worker with this control comes to by edits, or met before them. It makes none of
+/// them, and takes no memory.
+pub fn fault_after(control: &Control, edits: &[Edit]) -> Option<Fault>
+    ensures { result ≡ fault_in (changed edits.now (plain_control control.now)) }
+{
+    let mut outlook = outlook_of(control);
+    for edit in edits {
+        outlook = outlook_after(outlook, edit);
+    }
+    let Outlook::Rests(fault) = outlook else {
+        return None;
+    };
+    fault
 }

@@ -1,11 +1,10 @@
-//! Names and rules: checks, resolves expressions, calls, declarations, globals, clauses, loop bounds; orders refusals.
+//! Names and rules: checks, resolves expressions, calls, declarations, globals, clauses, loop bounds.
 //!
 //! These are the parts of statements that are no statements: om_scope does the same for statements,
 //! constructs and functions. One walk asks the rules of om_scope_rules and makes the resolved tree.
 //!
 //! - `expression` and `call` resolve expressions, and `target` what is assigned to. `declaration` and
 //!   `globals` declare variables. `directive` takes clauses, and `bounds` resolves the bounds of a loop.
-//!   `fault` says which of two refusals goes first.
 //! - Most parts are a function with the clause `Resolves`: its first breach is refused, or its resolution is
 //!   found. The clause `in_scope` says what is in scope after the part. What adds to a list promises `Adds`
 //!   or `Appends`.

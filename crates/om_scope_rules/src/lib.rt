@@ -1,11 +1,12 @@
-//! Names and rules: rules as definitions, with laws; reads canonical loops, formats, `atomic` updates, begins of parts.
+//! Names and rules: rules as definitions, laws; reads canonical loops, formats, `atomic` updates; orders refusals.
 //!
 //! What a reader must believe of resolving stands here. The rules are lists of breaches, and the resolution
 //! is a function of the tree; both are in `specs/`. No pass is in here. The laws say that what breaks no rule
 //! resolves, and to a whole tree.
 //!
 //! - `canonical` reads canonical loops; a `Direction` says how such a loop goes through its values. `print`
-//!   reads formats, and `update` reads the updates of `atomic`. `place` says where a part begins.
+//!   reads formats, and `update` reads the updates of `atomic`. `place` says where a part begins, and
+//!   `fault` which of two refusals is answered.
 //! - What the passes share is here too. `Meaning` says what a name is declared as, `Region` and `Traits` what
 //!   a construct is and how it shares variables. `Flow` has what statements may do at a place, `Names` is a
 //!   set of names, and `limits` has the limits on numbers.

@@ -3,8 +3,7 @@ ghost use Rattle.std.specs.Prelude.{◌≡◌, ◌++◌, OnOk};
 ghost use Rattle.om_foot.specs.Names.{name_text};
 ghost use Rattle.om_shell_commands.specs.Objects.{global_text, index_text, lock_text, object_text, region_text, slot_text, team_text, variable_text};
 
-use crate::number::push_numbered;
-use crate::value::GlobalCell;
+use crate::value::{GlobalCell, push_numbered};
 use om_code::Program;
 use om_foot::{Name, Obj};
 use om_seq::AllocResult;

@@ -8,8 +8,7 @@ ghost use Rattle.om_shell_commands.specs.declared.command.Request.TheVariants as
 use crate::arguments::{
     one_count, one_number, one_variable, one_worker, task, variable_of, worker,
 };
-use crate::command::{Command, CommandFault, Request};
-use crate::task::TaskName;
+use crate::command::{Command, CommandFault, Request, TaskName};
 use crate::verb::{Verb, verb_of};
 use om_seq::AllocResult;
 use std::alloc::Global;

@@ -3,9 +3,8 @@
 ghost use Rattle.std.specs.Prelude.{◌≡◌, ◌++◌, OnOk};
 ghost use Rattle.om_shell_commands.specs.Stops.{break_text, watch_text, deleted_text, stop_text, ran_text, freed_text};
 
-use crate::number::push_numbered;
 use crate::object::push_variable;
-use crate::value::GlobalCell;
+use crate::value::{GlobalCell, push_numbered};
 use om_code::Program;
 use om_code::frame::Fault;
 use om_seq::AllocResult;

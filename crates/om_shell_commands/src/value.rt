@@ -1,4 +1,4 @@
-//! The values of variables.
+//! Numbers in decimal, and the values of variables.
 
 ghost use Rattle.std.specs.Prelude.{◌≡◌, ◌++◌, OnOk};
 ghost use Rattle.om_shell_commands.specs.Objects.{variable_text};
@@ -6,13 +6,29 @@ ghost use Rattle.om_shell_commands.specs.Texts.{Writes};
 ghost use Rattle.om_shell_commands.specs.Values.{cell_text, local_text, print_text, written_index};
 
 use crate::command::Variable;
-use crate::number::{push_number, push_numbered};
 use crate::object::push_variable;
+use itoa::{Buffer, Integer};
 use om_code::Program;
 use om_code::frame::Cell;
 use om_foot::Obj;
 use om_seq::AllocResult;
 use om_state::Val;
+
+/// Appends a number in decimal, with a `-` before it where it is below 0.
+pub fn push_number<I: Integer>(text: &mut Vec<u8>, number: I) -> AllocResult<()>
+    ensures { OnOk result (text.new.items ≡ text.old.items ++ I.text number) }
+{
+    let mut buffer = Buffer::new();
+    text.extend_from_slice(buffer.format(number).as_bytes())
+}
+
+/// Appends bytes, and behind them a number in decimal.
+pub fn push_numbered<I: Integer>(text: &mut Vec<u8>, before: &[u8], number: I) -> AllocResult<()>
+    ensures { OnOk result (text.new.items ≡ text.old.items ++ (before.now ++ I.text number)) }
+{
+    text.extend_from_slice(before)?;
+    push_number(text, number)
+}
 
 /// A cell of a global variable.
 #[derive(Clone, Copy)]

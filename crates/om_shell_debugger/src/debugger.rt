@@ -6,13 +6,11 @@ ghost use Rattle.om_shell_commands.specs.declared.command.Request.TheVariants as
 ghost use Rattle.om_shell_debugger.specs.Views.{opened, is_quit, rounds_asked, AnswersRequest, IsAnswered, Obeys, PrintsFor};
 ghost use Rattle.om_shell_commands.specs.declared.command.Command.TheVariants.{Break, Delete, Print, Watch};
 
-use crate::freed::free;
-use crate::local::{Seen, worker_sees};
+use crate::local::{Seen, cell_of, worker_sees};
 use crate::looks::{events, history, output, place, print, print_local, tasks};
 use crate::marks::Marks;
 use crate::moves::{back, next, roll, start, step, undo};
-use crate::runs::run;
-use crate::variable::cell_of;
+use crate::runs::{free, run};
 use om_book::Book;
 use om_code::Program;
 use om_seq::{AllocResult, Seq};

@@ -14,14 +14,12 @@
 
 mod calls;
 mod debugger;
-mod freed;
 mod local;
 mod looks;
 mod marks;
 mod moves;
 mod runs;
 mod stops;
-mod variable;
 
 pub use debugger::Debugger;
 pub use marks::Marks;

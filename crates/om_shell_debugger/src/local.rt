@@ -1,18 +1,60 @@
-//! The cell that a worker sees by the name of a variable.
+//! The cell of a variable that a command names: a global, or what a worker sees by the name.
 
 ghost use Rattle.std.specs.Prelude.{◌≡◌};
 ghost use Rattle.om_memory.specs.Plain.{plain_context, plain_control};
+ghost use Rattle.om_shell_commands.specs.Objects.{length_of};
 ghost use Rattle.om_shell_debugger.specs.Locals.{cell_seen, global_seen, seen_by, seen_in, var_seen, worker_sees};
+ghost use Rattle.om_shell_debugger.specs.Variables.{cell_at, cell_of, element_at};
 
-use crate::variable::{cell_at, cell_of, element_at, length_of};
 use om_code::Program;
 use om_code::instruction::Place;
-use om_code_places::{Var, variable_at};
+use om_code_places::{Var, global_named, variable_at};
 use om_foot::Obj;
 use om_memory::{Context, Control};
 use om_shell_commands::{GlobalCell, Variable};
 use om_team_serial::names::object_of;
 use om_undo::Machine;
+
+/// How many cells a global variable has, where it is an array.
+pub(crate) fn length_of(program: &Program, variable: u32) -> Option<u32>
+    ensures { result ≡ length_of program.now variable }
+{
+    program.globals().get(variable as usize)?.length
+}
+
+/// The element of a variable at an index: an array has one below its length, a scalar none.
+pub(crate) fn element_at(length: Option<u32>, index: Option<u64>) -> Option<u32>
+    ensures { result ≡ element_at length index }
+{
+    match (length, index) {
+        (None, None) => Some(0),
+        (Some(length), Some(index)) => {
+            if index < u64::from(length) {
+                Some(index as u32)
+            } else {
+                None
+            }
+        }
+        (None, Some(_)) | (Some(_), None) => None,
+    }
+}
+
+/// The cell of a global variable at an index.
+pub(crate) fn cell_at(variable: u32, length: Option<u32>, index: Option<u64>) -> Option<GlobalCell>
+    ensures { result ≡ cell_at variable length index }
+{
+    let index = element_at(length, index)?;
+    Some(GlobalCell { variable, index })
+}
+
+/// The cell that a variable names; `None` exactly where the program has no such global, or where
+/// an index is missing, one too many or out of range.
+pub(crate) fn cell_of(program: &Program, variable: &Variable) -> Option<GlobalCell>
+    ensures { result ≡ cell_of program.now variable.now }
+{
+    let number = global_named(program, variable.name.as_slice())?;
+    cell_at(number, length_of(program, number), variable.index)
+}
 
 /// What a worker sees by the name of a variable.
 #[derive(Clone, Copy)]

@@ -1,24 +1,29 @@
-//! Runs: the least worker that has a move makes it, so many times at most.
+//! Runs: the least worker that has a move makes it, so many times at most. In a free run all workers step
+//! at once, each in a thread of its own.
 
 ghost use Rattle.std.specs.Prelude.{◌≡◌, ◌<◌, ◌≤◌, IfOk, IfSome, OnOk, Some};
 ghost use Rattle.std.specs.Option.{option_copied};
 ghost use Rattle.om_memory.specs.Memories.{plain_or_idle};
 ghost use Rattle.om_book.specs.Books.{machine_of};
-ghost use Rattle.om_shell_debugger.specs.Runs.{planned_by, planned_start, planned_of, planned_among, planned_move, first_move, IsOfWorkerBelow, has_ended, stop_without_move, rest_text, moved_by, behind_move, moved_of, after_move, run_said};
 ghost use Rattle.om_shell_commands.specs.Texts.{Writes};
+ghost use Rattle.om_shell_debugger.specs.Runs.{planned_by, planned_start, planned_of, planned_among, planned_move, first_move, IsOfWorkerBelow, has_ended, stop_without_move, rest_text, moved_by, behind_move, moved_of, after_move, run_said};
 ghost use Rattle.om_shell_debugger.specs.Says.{Says};
+ghost use Rattle.om_shell_debugger.specs.Freed.{SaysFreed};
 
 use crate::marks::Marks;
 use crate::stops::step_and_stop;
 use om_book::Book;
+use om_drive::{Errand, run_freely};
 use om_memory::Control;
 use om_seq::AllocResult;
-use om_shell_commands::{Stop, push_full, push_ran};
+use om_shell_commands::{Stop, push_freed, push_full, push_ran};
 use om_task::Choice;
 use om_task::laws::starts_at_scheduling_points;
 use om_undo::laws::ready_names_are_ready;
 use om_undo::{Machine, PlannedStep};
 use std::alloc::Global;
+use std::sync::Wait;
+use std::thread::Threads;
 
 // The step of a worker by a choice, planned, where it can be made.
 fn planned(
@@ -195,4 +200,24 @@ pub(crate) fn run(
         left -= 1;
     }
     push_ran(text, book.machine().program(), made, Stop::Limit)
+}
+
+/// Answers `free K`, by the calls that the workers made: their own steps, and questions which tasks
+/// are ready.
+pub(crate) fn free<R: Threads + Wait + Sync>(
+    rt: &R,
+    alloc: Global,
+    book: &mut Book,
+    rounds: u64,
+    text: &mut Vec<u8>,
+) -> AllocResult<()>
+    ensures { OnOk result (SaysFreed book.old text.old text.new book.new) }
+{
+    // Each round is a record at least, so more rounds come to no more.
+    let rounds = u32::try_from(rounds).unwrap_or(u32::MAX);
+    let count = run_freely(book, Errand { rt, alloc, rounds })?;
+    if count.full {
+        return push_full(text);
+    }
+    push_freed(text, count.done)
 }

@@ -9,10 +9,10 @@ use Rattle.om_state.specs.declared.control.Frame.{Frame}
 use Rattle.om_state.specs.declared.control.Stack.{Stack}
 use Rattle.om_state.specs.declared.control.Control as controls
 use Rattle.om_state.specs.declared.control.Control.TheVariants.{Idle, Running, Faulted, Ended}
-use Rattle.om_state.specs.declared.edit.Edit.{Edit}
-use Rattle.om_state.specs.declared.edit.Edit.TheVariants.{Go, BeginFrame, EndFrame, BeginContext, EndContext, Open}
-use Rattle.om_state.specs.declared.edit.Edit.TheVariants.{Close, Replace, CountBirth, CountRegion, CountPhase, Fail}
-use Rattle.om_state.specs.declared.edit.Edit.TheVariants.{End}
+use Rattle.om_state.specs.declared.control.Edit.{Edit}
+use Rattle.om_state.specs.declared.control.Edit.TheVariants.{Go, BeginFrame, EndFrame, BeginContext, EndContext, Open}
+use Rattle.om_state.specs.declared.control.Edit.TheVariants.{Close, Replace, CountBirth, CountRegion, CountPhase, Fail}
+use Rattle.om_state.specs.declared.control.Edit.TheVariants.{End}
 use Rattle.om_state.specs.declared.step.Update.{Update}
 use Rattle.om_state.specs.declared.step.Update.TheVariants.{Put}
 use Rattle.om_foot.specs.declared.footprint.Access.{Access}

@@ -20,7 +20,7 @@ use Rattle.om_code.specs.Printing.{ints_on}
 use Rattle.om_state.specs.declared.control.Control as controls
 use Rattle.om_state.specs.declared.control.Control.TheVariants.{Idle, Running, Faulted, Ended}
 use Rattle.om_state.specs.declared.control.Team.{Team}
-use Rattle.om_state.specs.declared.edit.Edit.TheVariants.{Fail}
+use Rattle.om_state.specs.declared.control.Edit.TheVariants.{Fail}
 use Rattle.om_state.specs.declared.step.Choice.{Choice}
 use Rattle.om_state.specs.declared.step.Choice.TheVariants.{Next, Start}
 use Rattle.om_state.specs.declared.step.Label.{Label}

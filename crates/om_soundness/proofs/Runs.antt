@@ -10,8 +10,8 @@ use Rattle.om_code.specs.Validity.{IsValid, NamesKnown}
 use Rattle.om_state.specs.declared.control.Control as controls
 use Rattle.om_state.specs.declared.control.Control.TheVariants.{Idle, Running, Faulted, Ended}
 use Rattle.om_state.specs.declared.control.Stack.{Stack}
-use Rattle.om_state.specs.declared.edit.Edit.{Edit}
-use Rattle.om_state.specs.declared.edit.Edit.TheVariants.{Fail}
+use Rattle.om_state.specs.declared.control.Edit.{Edit}
+use Rattle.om_state.specs.declared.control.Edit.TheVariants.{Fail}
 use Rattle.om_state.specs.declared.step.Label.{Label}
 use Rattle.om_state.specs.declared.step.Update.{Update}
 use Rattle.om_state.specs.declared.step.Update.TheVariants.{Put}

@@ -31,7 +31,7 @@ use Rattle.om_state.specs.declared.control.Kind.TheVariants as kind
 use Rattle.om_state.specs.declared.control.Stack.{Stack}
 use Rattle.om_state.specs.declared.control.Team.{Team}
 use Rattle.om_state.specs.declared.control.Control.TheVariants.{Running}
-use Rattle.om_state.specs.declared.edit.Edit.TheVariants.{BeginFrame, EndFrame, EndContext}
+use Rattle.om_state.specs.declared.control.Edit.TheVariants.{BeginFrame, EndFrame, EndContext}
 use Rattle.om_state.specs.declared.step.Update.{Update}
 use Rattle.om_state.specs.declared.value.Ready.{Ready}
 use Rattle.om_state.specs.declared.value.Task as tasks

@@ -21,7 +21,7 @@ use Rattle.om_code.specs.Places.{slots_of}
 use Rattle.om_state.specs.declared.control.Control.{Control}
 use Rattle.om_state.specs.declared.control.Control.TheVariants.{Running, Faulted, Ended}
 use Rattle.om_state.specs.declared.control.Stack.{Stack}
-use Rattle.om_state.specs.declared.edit.Edit.TheVariants.{Go}
+use Rattle.om_state.specs.declared.control.Edit.TheVariants.{Go}
 use Rattle.om_state.specs.declared.step.Tail.TheVariants.{Bytes}
 use Rattle.om_state.specs.declared.step.Update.TheVariants.{Put, Append}
 use Rattle.om_state.specs.declared.value.Val.TheVariants as value

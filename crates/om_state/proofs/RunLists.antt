@@ -2,7 +2,7 @@
 use Rattle.std.proofs.Common.{◌≡◌, sym, ◌∙◌, ap, ℕ, suc, ◌+◌, ◌-◌, ◌<◌, List, [], ◌∷◌, ◌++◌, drop, slice_get, Some}
 use Rattle.std.proofs.lemmas.List.{append_assoc, append-nil}
 use Rattle.om_code.specs.declared.frame.Cell as cell
-use Rattle.om_state.specs.declared.runs.Run.{Run}
+use Rattle.om_state.specs.declared.value.Run.{Run}
 use Rattle.om_state.specs.declared.step.Update.{Update}
 use Rattle.om_state.specs.declared.step.Update.TheVariants.{Put}
 use Rattle.om_state.specs.declared.value.Val.TheVariants as value

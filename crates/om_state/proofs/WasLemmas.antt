@@ -2,9 +2,9 @@
 use Rattle.std.proofs.Common.{◌≡◌, refl, sym, ◌∙◌, ap, ℕ, zero, suc, ◌+◌, List, [], ◌∷◌, ◌++◌, arith}
 use Rattle.std.proofs.lemmas.List.{append_assoc, append-nil}
 use Rattle.om_code.specs.declared.frame.Cell as cell
-use Rattle.om_state.specs.declared.runs.Run.{Run}
-use Rattle.om_state.specs.declared.runs.Was.{Was}
-use Rattle.om_state.specs.declared.runs.Was.TheVariants as was
+use Rattle.om_state.specs.declared.value.Run.{Run}
+use Rattle.om_state.specs.declared.value.Was.{Was}
+use Rattle.om_state.specs.declared.value.Was.TheVariants as was
 use Rattle.om_state.specs.declared.step.Update.TheVariants.{Put}
 use Rattle.om_state.specs.declared.value.Val.{Val}
 use Rattle.om_state.specs.declared.value.Val.TheVariants as value

@@ -8,10 +8,10 @@ use Rattle.om_state.specs.declared.control.Construct.{Construct}
 use Rattle.om_state.specs.declared.control.Stack.{Stack}
 use Rattle.om_state.specs.declared.control.Control.{Control}
 use Rattle.om_state.specs.declared.control.Control.TheVariants.{Idle, Running, Faulted, Ended}
-use Rattle.om_state.specs.declared.edit.Edit.{Edit}
-use Rattle.om_state.specs.declared.edit.Edit.TheVariants.{Go, BeginFrame, EndFrame, BeginContext, EndContext, Open}
-use Rattle.om_state.specs.declared.edit.Edit.TheVariants.{Close, Replace, CountBirth, CountRegion, CountPhase, Fail}
-use Rattle.om_state.specs.declared.edit.Edit.TheVariants.{End}
+use Rattle.om_state.specs.declared.control.Edit.{Edit}
+use Rattle.om_state.specs.declared.control.Edit.TheVariants.{Go, BeginFrame, EndFrame, BeginContext, EndContext, Open}
+use Rattle.om_state.specs.declared.control.Edit.TheVariants.{Close, Replace, CountBirth, CountRegion, CountPhase, Fail}
+use Rattle.om_state.specs.declared.control.Edit.TheVariants.{End}
 
 -- a frame at a place, with so many operands taken and then one pushed
 abbrev pub frame_at : ℕ → ℕ → Option Operand → Frame → Frame

@@ -1,9 +1,9 @@
 -- The updates that runs stand for.
 use Rattle.std.specs.Prelude.{ℕ, zero, suc, List, [], ◌∷◌, ◌++◌}
 use Rattle.om_code.specs.declared.frame.Cell as cells
-use Rattle.om_state.specs.declared.runs.Run.{Run}
-use Rattle.om_state.specs.declared.runs.Was as wases
-use Rattle.om_state.specs.declared.runs.Was.TheVariants as was
+use Rattle.om_state.specs.declared.value.Run.{Run}
+use Rattle.om_state.specs.declared.value.Was as wases
+use Rattle.om_state.specs.declared.value.Was.TheVariants as was
 use Rattle.om_state.specs.declared.step.Update.{Update}
 use Rattle.om_state.specs.declared.step.Update.TheVariants.{Put}
 use Rattle.om_state.specs.declared.value.Val.TheVariants as value

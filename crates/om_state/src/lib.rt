@@ -18,11 +18,9 @@
 #![tactic(auto)]
 
 pub mod control;
-pub mod edit;
 pub mod footprint;
 pub mod open_share;
 pub mod puts;
-pub mod runs;
 pub mod shared_control;
 pub mod shared_pile;
 pub mod shared_team;
@@ -30,15 +28,15 @@ pub mod step;
 pub mod value;
 pub mod was;
 
-pub use control::{Construct, Context, Control, Frame, Home, Kind, Share, Sharing, Stack, Team};
-pub use edit::Edit;
+pub use control::{
+    Construct, Context, Control, Edit, Frame, Home, Kind, Share, Sharing, Stack, Team,
+};
 pub use footprint::Footprint;
 pub use open_share::OpenShare;
 pub use puts::{PutParts, Puts};
-pub use runs::{Run, Was};
 pub use shared_control::SharedControl;
 pub use shared_pile::SharedPile;
 pub use shared_team::SharedTeam;
 pub use step::{Blocked, Change, Choice, Entry, Label, Outcome, Step, Tail, Update};
-pub use value::{Ready, Task, Val};
+pub use value::{Ready, Run, Task, Val, Was};
 pub use was::Noted;

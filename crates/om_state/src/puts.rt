@@ -3,9 +3,8 @@
 ghost use Rattle.std.specs.Prelude.{◌≡◌, ◌++◌, ◌∷◌, [], IfOk, OnOk};
 ghost use Rattle.om_state.specs.Runs.{run_puts, runs_listed};
 
-use crate::runs::Run;
 use crate::step::Update;
-use crate::value::Val;
+use crate::value::{Run, Val};
 use om_seq::{AllocResult, Seq};
 use std::alloc::Global;
 use std::marker::Model;

@@ -3,7 +3,7 @@
 ghost use Rattle.std.specs.Prelude.{◌≡◌};
 ghost use Rattle.om_state.specs.Values.{blocked_number};
 
-use crate::edit::Edit;
+use crate::control::Edit;
 use crate::footprint::Footprint;
 use crate::puts::Puts;
 use crate::value::Val;

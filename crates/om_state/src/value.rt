@@ -1,4 +1,4 @@
-//! The values that objects hold.
+//! The values that objects hold, and those that are put into the cells of a slot at once.
 
 ghost use Rattle.std.specs.Prelude.{◌≡◌, IfOk, OnOk, OnErr, unwrap_or};
 ghost use Rattle.std.specs.Option.{option_copied};
@@ -238,4 +238,22 @@ fn copy_records(alloc: Global, records: &[Record]) -> AllocResult<Seq<Record>>
         copies.push(event.copy(alloc)?)?;
     }
     Ok(Seq::of(copies))
+}
+
+/// A value that is put into so many cells, one after the other.
+///
+/// Contracts see the put of each cell as `run_puts`.
+#[derive(Clone, Copy)]
+pub struct Run {
+    pub cell: Cell,
+    pub count: u32,
+}
+
+/// What cells held, one after the other: so many alike, or another value.
+///
+/// Contracts see the put of each value as `were_listed`.
+#[derive(Drop)]
+pub enum Was {
+    Cells(Run),
+    Value(Val),
 }

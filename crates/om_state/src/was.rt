@@ -5,8 +5,7 @@ ghost use Rattle.om_state.specs.Runs.{were_listed};
 ghost use Rattle.om_state.specs.declared.step.Update.TheVariants as update;
 ghost use Rattle.om_state.specs.declared.value.Val.TheVariants as value;
 
-use crate::runs::{Run, Was};
-use crate::value::Val;
+use crate::value::{Run, Val, Was};
 use om_code::frame::Cell;
 use om_seq::{AllocResult, Seq};
 use std::alloc::Global;

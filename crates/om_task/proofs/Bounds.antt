@@ -2,8 +2,8 @@
 -- than before, puts no count, and adds at most one.
 use Rattle.std.proofs.Common.{ℕ, ◌+◌, ◌≤◌, pos, List, [], ◌∷◌}
 use Rattle.std.specs.Prelude.{neg_ℤ, ◌≤ℤ◌}
-use Rattle.om_state.specs.declared.edit.Edit.{Edit}
-use Rattle.om_state.specs.declared.edit.Edit.TheVariants.{BeginFrame, BeginContext, CountBirth, CountRegion, CountPhase}
+use Rattle.om_state.specs.declared.control.Edit.{Edit}
+use Rattle.om_state.specs.declared.control.Edit.TheVariants.{BeginFrame, BeginContext, CountBirth, CountRegion, CountPhase}
 use Rattle.om_state.specs.declared.step.Update.{Update}
 use Rattle.om_state.specs.declared.step.Update.TheVariants.{Put, Add}
 use Rattle.om_state.specs.declared.value.Val.{Val}

@@ -6,10 +6,10 @@ use Rattle.om_state.specs.declared.control.Frame.{Frame}
 use Rattle.om_state.specs.declared.control.Stack.{Stack}
 use Rattle.om_state.specs.declared.control.Control as controls
 use Rattle.om_state.specs.declared.control.Control.TheVariants.{Idle, Running, Faulted, Ended}
-use Rattle.om_state.specs.declared.edit.Edit.{Edit}
-use Rattle.om_state.specs.declared.edit.Edit.TheVariants.{Go, BeginFrame, EndFrame, BeginContext, EndContext, Open}
-use Rattle.om_state.specs.declared.edit.Edit.TheVariants.{Close, Replace, CountBirth, CountRegion, CountPhase, Fail}
-use Rattle.om_state.specs.declared.edit.Edit.TheVariants.{End}
+use Rattle.om_state.specs.declared.control.Edit.{Edit}
+use Rattle.om_state.specs.declared.control.Edit.TheVariants.{Go, BeginFrame, EndFrame, BeginContext, EndContext, Open}
+use Rattle.om_state.specs.declared.control.Edit.TheVariants.{Close, Replace, CountBirth, CountRegion, CountPhase, Fail}
+use Rattle.om_state.specs.declared.control.Edit.TheVariants.{End}
 use Rattle.om_state.specs.Edits.{changed_by, changed, edited, HasRoom, HaveRoom, context_ended, value_given}
 use Rattle.om_team.specs.Counters.{IsWithin, AreWithin, ControlWithin}
 use Rattle.om_task.proofs.Bounds.{counted, counts, BeginsWithin, BeginWithin}

@@ -8,7 +8,7 @@ use Rattle.om_state.specs.declared.control.Context.{Context}
 use Rattle.om_state.specs.declared.control.Kind.{Kind}
 use Rattle.om_state.specs.declared.control.Kind.TheVariants as kind
 use Rattle.om_state.specs.declared.control.Stack.{Stack}
-use Rattle.om_state.specs.declared.edit.Edit.TheVariants.{EndContext}
+use Rattle.om_state.specs.declared.control.Edit.TheVariants.{EndContext}
 use Rattle.om_state.specs.State.{State}
 use Rattle.om_team_serial.specs.declared.row.Answer.{Answer}
 use Rattle.om_team_serial.specs.declared.row.Row.{Row}

@@ -9,7 +9,7 @@ use Rattle.om_foot.specs.declared.footprint.Mode.{Mode}
 use Rattle.om_foot.specs.declared.footprint.Mode.TheVariants as mode
 use Rattle.om_state.specs.declared.control.Control as controls
 use Rattle.om_state.specs.declared.control.Control.TheVariants.{Idle, Running}
-use Rattle.om_state.specs.declared.edit.Edit.TheVariants.{Fail}
+use Rattle.om_state.specs.declared.control.Edit.TheVariants.{Fail}
 use Rattle.om_state.specs.declared.step.Label.{Label}
 use Rattle.om_state.specs.declared.step.Tail.{Tail}
 use Rattle.om_state.specs.declared.step.Tail.TheVariants as tail

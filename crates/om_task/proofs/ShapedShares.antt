@@ -12,7 +12,7 @@ use Rattle.om_state.specs.declared.control.Context.{Context}
 use Rattle.om_state.specs.declared.control.Construct.{Construct}
 use Rattle.om_state.specs.declared.control.Construct.TheVariants as construct
 use Rattle.om_state.specs.declared.control.Share.{Share}
-use Rattle.om_state.specs.declared.edit.Edit.{Edit}
+use Rattle.om_state.specs.declared.control.Edit.{Edit}
 use Rattle.om_state.specs.OpenShares.{is_loop, value_of}
 use Rattle.om_team_serial.specs.declared.row.Row.TheVariants.{Faults, Lacks}
 use Rattle.om_team_serial.specs.Rows.{goes}

@@ -2,7 +2,7 @@
 use Rattle.std.proofs.Common.{◌≡◌, subst, List, [], ◌∷◌}
 use Rattle.om_foot.specs.declared.footprint.Access.{Access}
 use Rattle.om_state.specs.declared.control.Control as controls
-use Rattle.om_state.specs.declared.edit.Edit.TheVariants.{Fail}
+use Rattle.om_state.specs.declared.control.Edit.TheVariants.{Fail}
 use Rattle.om_state.specs.declared.step.Label.{Label}
 use Rattle.om_state.specs.declared.step.Outcome.TheVariants.{Updates}
 use Rattle.om_state.specs.declared.step.Update.{Update}

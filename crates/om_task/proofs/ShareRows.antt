@@ -12,8 +12,8 @@ use Rattle.om_state.specs.declared.control.Context.{Context}
 use Rattle.om_state.specs.declared.control.Construct.{Construct}
 use Rattle.om_state.specs.declared.control.Construct.TheVariants as construct
 use Rattle.om_state.specs.declared.control.Share.{Share}
-use Rattle.om_state.specs.declared.edit.Edit.{Edit}
-use Rattle.om_state.specs.declared.edit.Edit.TheVariants.{Go, Open, Close}
+use Rattle.om_state.specs.declared.control.Edit.{Edit}
+use Rattle.om_state.specs.declared.control.Edit.TheVariants.{Go, Open, Close}
 use Rattle.om_state.specs.declared.value.Val.{Val}
 use Rattle.om_state.specs.OpenShares.{is_loop, value_of}
 use Rattle.om_state.specs.Values.{number_in, holder_in}

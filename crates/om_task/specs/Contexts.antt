@@ -13,8 +13,8 @@ use Rattle.om_state.specs.declared.control.Context.{Context}
 use Rattle.om_state.specs.declared.control.Frame.{Frame}
 use Rattle.om_state.specs.declared.control.Kind.TheVariants as kind
 use Rattle.om_state.specs.declared.control.Stack.{Stack}
-use Rattle.om_state.specs.declared.edit.Edit.{Edit}
-use Rattle.om_state.specs.declared.edit.Edit.TheVariants.{Go, BeginContext, EndContext, Open, CountBirth}
+use Rattle.om_state.specs.declared.control.Edit.{Edit}
+use Rattle.om_state.specs.declared.control.Edit.TheVariants.{Go, BeginContext, EndContext, Open, CountBirth}
 use Rattle.om_state.specs.declared.step.Update.{Update}
 use Rattle.om_state.specs.declared.step.Update.TheVariants.{Put}
 use Rattle.om_state.specs.declared.value.Ready.{Ready}

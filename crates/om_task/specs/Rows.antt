@@ -22,7 +22,7 @@ use Rattle.om_state.specs.declared.control.Construct.TheVariants as construct
 use Rattle.om_state.specs.declared.control.Kind.{Kind}
 use Rattle.om_state.specs.declared.control.Kind.TheVariants as kind
 use Rattle.om_state.specs.declared.control.Stack.{Stack}
-use Rattle.om_state.specs.declared.edit.Edit.TheVariants.{Go, BeginContext, EndContext, Open, Close, CountBirth}
+use Rattle.om_state.specs.declared.control.Edit.TheVariants.{Go, BeginContext, EndContext, Open, Close, CountBirth}
 use Rattle.om_state.specs.declared.step.Blocked.TheVariants as blocked
 use Rattle.om_state.specs.declared.step.Update.{Update}
 use Rattle.om_state.specs.declared.step.Update.TheVariants.{Put, Keep}

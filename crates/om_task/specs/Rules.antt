@@ -22,7 +22,7 @@ use Rattle.om_state.specs.declared.control.Stack.{Stack}
 use Rattle.om_state.specs.declared.control.Kind.TheVariants as kind
 use Rattle.om_state.specs.declared.control.Control as controls
 use Rattle.om_state.specs.declared.control.Control.TheVariants.{Idle, Running, Faulted}
-use Rattle.om_state.specs.declared.edit.Edit.TheVariants.{Fail}
+use Rattle.om_state.specs.declared.control.Edit.TheVariants.{Fail}
 use Rattle.om_state.specs.declared.step.Label.{Label}
 use Rattle.om_state.specs.declared.step.Choice.{Choice}
 use Rattle.om_state.specs.declared.step.Choice.TheVariants.{Next, Start}

@@ -1,5 +1,5 @@
-//! What the choice of a worker names, what comes of it, and the plan of its step. No program calls `names` and
-//! `effect`: `plan` gives both.
+//! What the choice of a worker names, what comes of it, and the plan of its step. No program calls `names`
+//! and `effect`: `plan` gives both.
 
 ghost use Rattle.std.specs.Prelude.{◌≡◌, ◌≤◌, ◌^◌, IfOk};
 ghost use Rattle.om_foot.specs.declared.object.Obj.TheVariants as obj;
@@ -8,14 +8,13 @@ ghost use Rattle.om_state.specs.Rules.{step_at};
 ghost use Rattle.om_state.specs.Values.{control_in};
 ghost use Rattle.om_memory.specs.Plain.{plain_control, plain_stack};
 ghost use Rattle.om_memory.specs.Memories.{state_of};
-ghost use Rattle.om_team.specs.Counters.{IsWithin, ControlWithin, StateWithin};
 ghost use Rattle.om_team_serial.specs.Answers.{Gives, AnswersAt};
+ghost use Rattle.om_team.specs.Counters.{IsWithin, ControlWithin, StateWithin};
 ghost use Rattle.om_task.specs.Planned.{next_asked, choice_asked, answer_by, row_step, Plans, PlansBy};
 ghost use Rattle.om_task.specs.Plans.{label_at, RowHasRoom, names_of, effect_at, StandsFor, PlanHasRoom};
 ghost use Rattle.om_task.specs.Rules.{is_at_scheduling_point, line_in, rules_of};
 
 use crate::admit::{admits, instruction, leaving};
-use crate::planned::Plan;
 use crate::table::answer;
 use crate::task_start::{Starting, start};
 use om_code::Program;
@@ -28,6 +27,18 @@ use om_team::answers::footprint;
 use om_team::table::instruction_of;
 use om_team_serial::{Answer, Row};
 use std::alloc::Global;
+
+/// What comes of a worker's choice: the plan of its step.
+#[derive(Drop)]
+pub enum Plan {
+    /// It can be taken.
+    Updates(Change),
+    /// It can't be taken now.
+    Blocked(Blocked),
+    /// The worker has nothing more to do: its program has ended, it met a fault, or its code lacks
+    /// what the instruction needs.
+    Ended,
+}
 
 /// A choice of one of so many workers. A choice is large, so it stays where it is.
 #[derive(Clone, Copy)]

@@ -1,14 +1,15 @@
-//! The rows that make and end explicit tasks.
+//! The rows that make and end explicit tasks, and the counts of unfinished ones.
 
-ghost use Rattle.std.specs.Prelude.{◌≡◌, ◌+◌, ◌<◌, ◌≤◌, ◌^◌, ◌++◌, OnOk, length, option_map};
+ghost use Rattle.std.specs.Prelude.{◌≡◌, ◌+◌, ◌<◌, ◌≤◌, ◌^◌, ◌++◌, OnOk, length, option_map, ◌∷◌, []};
+ghost use Rattle.om_foot.specs.declared.object.Obj.TheVariants as obj;
 ghost use Rattle.om_foot.specs.Names.{above};
 ghost use Rattle.om_memory.specs.Plain.{plain_context, plain_stack};
 ghost use Rattle.om_team_serial.specs.Answers.{Gives, Answers};
+ghost use Rattle.om_team_serial.specs.Objects.{add};
 ghost use Rattle.om_task.specs.Contexts.{born_row, held_at, ending, ready_put};
-ghost use Rattle.om_task.specs.Tasks.{group_of, ready_of};
+ghost use Rattle.om_task.specs.Tasks.{group_of, ready_of, group_count, counts, additions};
 ghost use Rattle.om_task.specs.Rows.{made_names, values_given, spawn_row, ended_names, ended_updates, task_end_row, task_yield_row};
 
-use crate::count::{add_to_counts, name_counts};
 use om_code::Body;
 use om_code::frame::Fault;
 use om_code::print::ints_on;
@@ -19,7 +20,7 @@ use om_memory::{Context, Stack, Tape};
 use om_seq::{AllocResult, Seq};
 use om_state::{Edit, Kind, Puts, Ready, Task, Update, Val};
 use om_team_serial::names::{
-    group_of, homes_in, name_events, name_given, name_one, operands_of, own_cells,
+    group_of, homes_in, name, name_events, name_given, name_one, operands_of, own_cells,
 };
 use om_team_serial::parts::{go_and, one_put};
 use om_team_serial::updates::{put_deaths, put_event, put_ints};
@@ -237,4 +238,50 @@ pub fn task_yield(alloc: Global, to: u32) -> AllocResult<Answer>
 {
     let row = Row::goes(alloc, to, 0, None, Puts::new(alloc))?;
     Ok(Answer::decided(alloc, row))
+}
+
+// Appends the count of a task group, where there is a group.
+fn name_group(names: &mut Names, group: &Option<Name>) -> AllocResult<()>
+    ensures { OnOk result (names.new ≡ names.old ++ group_count group.now) }
+{
+    let Some(group) = group else {
+        return Ok(());
+    };
+    name(names, Obj::Group(*group), Mode::Add)
+}
+
+/// Appends the counts in which a context's phase has a task of this parent and group, as what is
+/// added to.
+pub(crate) fn name_counts(
+    names: &mut Names,
+    parent: &Name,
+    context: &Context,
+    group: &Option<Name>,
+) -> AllocResult<()>
+    ensures { OnOk result
+        (names.new ≡ names.old ++ counts parent.now (plain_context context.now) group.now) }
+{
+    let pending = Obj::Pending {
+        team: *context.team.get().name.get(),
+        phase: context.phase,
+    };
+    name(names, Obj::Kids(*parent), Mode::Add)?;
+    name(names, pending, Mode::Add)?;
+    name_group(names, group)
+}
+
+/// Appends the additions to the counts in which a task of this group stands.
+pub(crate) fn add_to_counts(
+    updates: &mut Puts,
+    number: i128,
+    group: &Option<Name>,
+) -> AllocResult<()>
+    ensures { OnOk result (updates.new ≡ updates.old ++ additions number group.now) }
+{
+    updates.push(Update::Add(number))?;
+    updates.push(Update::Add(number))?;
+    match group {
+        Some(_) => updates.push(Update::Add(number)),
+        None => Ok(()),
+    }
 }

@@ -14,10 +14,9 @@ use om_foot::{Mode, Name, Obj, Shared};
 use om_memory::{Context, Memory};
 use om_seq::{AllocResult, Seq};
 use om_state::{Blocked, Construct, Edit, Update};
-use om_team_serial::counts::is_zero;
 use om_team_serial::names::innermost;
 use om_team_serial::parts::{
-    go_and, go_and_then, go_on, name_with_events, recorded, update_with_event,
+    go_and, go_and_then, go_on, is_zero, name_with_events, recorded, update_with_event,
 };
 use om_team_serial::{Answer, Row};
 use std::alloc::Global;

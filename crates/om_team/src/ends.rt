@@ -11,9 +11,8 @@ use om_foot::{Mode, Name, Obj, Shared};
 use om_memory::{Context, Memory};
 use om_seq::{AllocResult, Seq};
 use om_state::{Blocked, Edit, Kind, Update};
-use om_team_serial::counts::is_zero;
 use om_team_serial::names::operands_of;
-use om_team_serial::parts::{name_with_events, update_with_event};
+use om_team_serial::parts::{is_zero, name_with_events, update_with_event};
 use om_team_serial::{Answer, Row};
 use std::alloc::Global;
 

@@ -11,10 +11,9 @@ ghost use Rattle.om_team.specs.Doings.{asked_by};
 ghost use Rattle.om_team.specs.Sites.{lock_of, targets_of};
 ghost use Rattle.om_team.specs.Table.{is_of_tasks, frame_row, team_row, share_row, region_row, row_of};
 
-use crate::begin::begin;
 use crate::doing::Doing;
 use crate::ends::finish;
-use crate::teams::{Forking, fork};
+use crate::teams::{Forking, begin, fork};
 use om_code::frame::Operand;
 use om_code::print::ints_on;
 use om_code::raw::Slot;

@@ -1,14 +1,14 @@
-//! FORK: a team is made.
+//! FORK: a team is made. BEGIN: a member's task begins.
 
 ghost use Rattle.std.specs.Prelude.{◌≡◌, ◌++◌, ◌∷◌, [], ◌+◌, ◌-◌, ◌<◌, ◌≤◌, ◌^◌, IfOk, IfSome, length, None};
-ghost use Rattle.om_memory.specs.Plain.{plain_context};
 ghost use Rattle.om_code.specs.Frames.{int_at};
 ghost use Rattle.om_code.specs.Printing.{ints_on};
+ghost use Rattle.om_memory.specs.Plain.{plain_context};
 ghost use Rattle.om_team_serial.specs.Objects.{events, homes_in};
-ghost use Rattle.om_team.specs.Teams.{member, workers_from, member_cells, size_of, level_of};
 ghost use Rattle.om_team_serial.specs.Begins.{first_frame};
 ghost use Rattle.om_team_serial.specs.Answers.{Gives, AnswersAt};
-ghost use Rattle.om_team.specs.Rows.{team_updates, forked, team_row, team_of, named_row, sized_row, fork_row};
+ghost use Rattle.om_team.specs.Teams.{member, workers_from, member_cells, size_of, level_of};
+ghost use Rattle.om_team.specs.Rows.{team_updates, forked, team_row, team_of, named_row, sized_row, fork_row, begin_row};
 
 use crate::members::{busy, member, name_members, name_workers, put_given, put_members};
 use om_code::Body;
@@ -16,15 +16,16 @@ use om_code::frame::Fault;
 use om_code::print::ints_on;
 use om_code::serial::int_at;
 use om_events::Record;
+use om_events::kind::{Endpoint, TaskFlag};
 use om_foot::{Name, Names, Shared};
 use om_memory::{Context, Memory};
 use om_seq::{AllocResult, Seq};
 use om_state::{Blocked, Edit, Frame, Puts, Team, Update};
 use om_team_serial::begin::first_frame;
 use om_team_serial::names::{homes_in, name_events, operands_of};
-use om_team_serial::parts::go_and_then;
+use om_team_serial::parts::{go_and_then, go_on, recorded};
 use om_team_serial::updates::put_event;
-use om_team_serial::{Answer, Launch, Row};
+use om_team_serial::{Answer, At, Launch, Row};
 use std::alloc::Global;
 
 /// A worker that carries out a FORK.
@@ -267,4 +268,23 @@ pub fn fork(
     }
     let size = int_at(operands, values as usize);
     sized_answer(alloc, store, forking, size, ints.as_slice())
+}
+
+/// BEGIN: the begin of a member's task is recorded. The only error is out of memory.
+pub fn begin(alloc: Global, at: At, context: &Context) -> AllocResult<Answer>
+    ensures { Gives result (record {
+      names = (begin_row at.worker at.to (plain_context context.now)).names;
+      row = (begin_row at.worker at.to (plain_context context.now)).row [];
+    }) }
+{
+    let edits = go_on(alloc, at.to)?;
+    let begun = Record::ImplicitTask {
+        endpoint: Endpoint::Begin,
+        team: context.team.get().name.copy()?,
+        task: context.task.copy()?,
+        size: context.team.get().size,
+        number: context.team.get().number,
+        flag: TaskFlag::Implicit,
+    };
+    recorded(alloc, at.worker, edits, begun)
 }

@@ -5,7 +5,7 @@ use Rattle.std.specs.declared.alloc.Global.{Global}
 use Rattle.om_code.specs.declared.frame.Operand.{Operand}
 use Rattle.om_code.specs.declared.raw.Slot.{Slot}
 use Rattle.om_state.specs.declared.control.Context.{Context}
-use Rattle.om_state.specs.declared.edit.Edit.TheVariants.{EndFrame}
+use Rattle.om_state.specs.declared.control.Edit.TheVariants.{EndFrame}
 use Rattle.om_memory.specs.declared.control.Frame.{Frame}
 use Rattle.om_memory.specs.Plain.{plain_box}
 use Rattle.om_team_serial.specs.declared.row.Row.TheVariants.{Goes}

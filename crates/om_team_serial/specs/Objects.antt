@@ -13,7 +13,7 @@ use Rattle.om_code.specs.declared.raw.Source.TheVariants as source
 use Rattle.om_code.specs.declared.frame.Cell as cells
 use Rattle.om_code.specs.declared.frame.Cell.TheVariants as cell
 use Rattle.om_events.specs.declared.event.Record.{Record}
-use Rattle.om_foot.specs.declared.cells.SlotName.{SlotName}
+use Rattle.om_foot.specs.declared.object.SlotName.{SlotName}
 use Rattle.om_state.specs.declared.control.Home.{Home}
 use Rattle.om_state.specs.declared.control.Home.TheVariants.{Own, Elsewhere}
 use Rattle.om_state.specs.declared.control.Context.{Context}

@@ -4,7 +4,7 @@ use Rattle.std.specs.Ordering.{int_eq}
 use Rattle.om_foot.specs.declared.footprint.Access.{Access}
 use Rattle.om_code.specs.declared.frame.Operand.{Operand}
 use Rattle.om_code.specs.declared.frame.Cell.TheVariants as cell
-use Rattle.om_state.specs.declared.edit.Edit.TheVariants.{Go}
+use Rattle.om_state.specs.declared.control.Edit.TheVariants.{Go}
 use Rattle.om_state.specs.declared.step.Update.{Update}
 use Rattle.om_state.specs.declared.value.Val.{Val}
 use Rattle.om_state.specs.declared.value.Val.TheVariants as value

@@ -25,7 +25,7 @@ use Rattle.om_code.specs.Places.{slots_of}
 use Rattle.om_code.specs.Arithmetic.{combine}
 use Rattle.om_state.specs.declared.control.Context.{Context}
 use Rattle.om_state.specs.declared.control.Frame.{Frame}
-use Rattle.om_state.specs.declared.edit.Edit.TheVariants.{Go, BeginFrame, EndFrame}
+use Rattle.om_state.specs.declared.control.Edit.TheVariants.{Go, BeginFrame, EndFrame}
 use Rattle.om_state.specs.declared.step.Tail.TheVariants.{Bytes}
 use Rattle.om_state.specs.declared.step.Update.{Update}
 use Rattle.om_state.specs.declared.step.Update.TheVariants.{Put, Keep, Append}

@@ -16,7 +16,6 @@
 
 pub mod acts;
 pub mod begin;
-pub mod counts;
 pub mod frames;
 pub mod names;
 pub mod parts;

@@ -1,8 +1,12 @@
-//! What rows are made of: edits, names and updates that many of them have.
+//! What rows are made of: edits, names and updates that many of them have, and whether a count of
+//! unfinished tasks is 0.
 
-ghost use Rattle.std.specs.Prelude.{◌∷◌, [], None};
+ghost use Rattle.std.specs.Prelude.{◌∷◌, [], None, ◌≡◌};
+ghost use Rattle.om_state.specs.Values.{count_in};
+ghost use Rattle.om_memory.specs.Memories.{state_of};
 ghost use Rattle.om_team_serial.specs.Objects.{events, event};
 ghost use Rattle.om_team_serial.specs.Answers.{Gives};
+ghost use Rattle.om_team_serial.specs.Rows.{is_zero};
 
 use crate::names::{name_events, name_one};
 use crate::row::only;
@@ -10,6 +14,7 @@ use crate::updates::put_event;
 use crate::{Answer, Row};
 use om_events::Record;
 use om_foot::{Mode, Names, Obj};
+use om_memory::Memory;
 use om_seq::{AllocResult, Seq};
 use om_state::{Edit, Puts, Update};
 use std::alloc::Global;
@@ -110,4 +115,18 @@ pub fn recorded(alloc: Global, worker: u8, edits: Seq<Edit>, entry: Record) -> A
     let names = own_events(alloc, worker)?;
     let row = Row::Goes { edits, updates };
     Ok(Answer { names, row })
+}
+
+// The count that an object holds, or 0.
+fn count_at(alloc: Global, store: &Memory, object: &Obj) -> i128
+    ensures { result ≡ count_in (state_of store.now object.now) }
+{
+    store.count(alloc, object).unwrap_or(0)
+}
+
+/// Whether the count that an object holds is 0; one that holds no count has 0.
+pub fn is_zero(alloc: Global, store: &Memory, object: &Obj) -> bool
+    ensures { result ≡ is_zero (count_in (state_of store.now object.now)) }
+{
+    count_at(alloc, store, object) == 0
 }

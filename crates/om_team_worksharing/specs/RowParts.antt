@@ -16,7 +16,7 @@ use Rattle.om_state.specs.declared.control.Context.{Context}
 use Rattle.om_state.specs.declared.control.Share.{Share}
 use Rattle.om_state.specs.declared.control.Stack.{Stack}
 use Rattle.om_state.specs.declared.control.Team.{Team}
-use Rattle.om_state.specs.declared.edit.Edit.TheVariants.{Replace}
+use Rattle.om_state.specs.declared.control.Edit.TheVariants.{Replace}
 use Rattle.om_state.specs.declared.step.Tail.TheVariants.{Events}
 use Rattle.om_state.specs.declared.step.Update.{Update}
 use Rattle.om_state.specs.declared.step.Update.TheVariants.{Put, Append}

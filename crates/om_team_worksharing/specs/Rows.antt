@@ -29,8 +29,8 @@ use Rattle.om_state.specs.declared.control.Kind.TheVariants as kind
 use Rattle.om_state.specs.declared.control.Share.{Share}
 use Rattle.om_state.specs.declared.control.Sharing as sharings
 use Rattle.om_state.specs.declared.control.Sharing.TheVariants as sharing
-use Rattle.om_state.specs.declared.edit.Edit.{Edit}
-use Rattle.om_state.specs.declared.edit.Edit.TheVariants.{Go, EndContext, Open, Close, Replace, CountRegion, CountPhase}
+use Rattle.om_state.specs.declared.control.Edit.{Edit}
+use Rattle.om_state.specs.declared.control.Edit.TheVariants.{Go, EndContext, Open, Close, Replace, CountRegion, CountPhase}
 use Rattle.om_state.specs.declared.step.Blocked.TheVariants as blocked
 use Rattle.om_state.specs.declared.step.Tail.TheVariants.{Events}
 use Rattle.om_state.specs.declared.step.Update.{Update}

@@ -10,7 +10,6 @@
 //!   `critical` critical regions with their locks. `parts` has what several of them are made of.
 #![tactic(auto)]
 
-mod barrier;
 mod chunk;
 mod critical;
 pub mod laws;

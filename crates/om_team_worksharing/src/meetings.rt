@@ -1,15 +1,14 @@
-//! ARRIVE, DEPART and LEAVE: a member at a barrier, and at the end of its region.
+//! ARRIVE, DEPART and LEAVE: a member at a barrier, what it reads there, and the end of its region.
 
-ghost use Rattle.std.specs.Prelude.{◌≡◌, ◌++◌, ◌≤◌, ◌<◌, ◌+◌, ◌^◌, OnOk, length, map, option_map, slice_get};
+ghost use Rattle.std.specs.Prelude.{◌≡◌, ◌++◌, ◌≤◌, ◌<◌, ◌+◌, ◌^◌, OnOk, length, map, option_map, slice_get, replicate};
 ghost use Rattle.om_memory.specs.Plain.{plain_context, plain_held, plain_stack};
+ghost use Rattle.om_memory.specs.Memories.{state_of};
 ghost use Rattle.om_team_serial.specs.Objects.{own_cells};
 ghost use Rattle.om_team_serial.specs.Answers.{Gives, Answers, AnswersAt};
-ghost use Rattle.om_team_worksharing.specs.RowParts.{reached_names, reached_turn, departed_updates, held};
-ghost use Rattle.om_team_worksharing.specs.RowParts.{barrier_names, left_updates, left_on};
-ghost use Rattle.om_team_worksharing.specs.Barriers.{barrier};
+ghost use Rattle.om_team_worksharing.specs.RowParts.{reached_names, reached_turn, departed_updates, held, barrier_names, left_updates, left_on};
+ghost use Rattle.om_team_worksharing.specs.Barriers.{barrier, arrivals, open_in};
 ghost use Rattle.om_team_worksharing.specs.Rows.{sync_of, team_at_end, reached_row, is_misplaced_barrier, arrive_row, departed, depart_row, region_end, left_records, left, leave_row};
 
-use crate::barrier::{is_open, name_barrier, put_kept};
 use om_code::frame::Fault;
 use om_code::instruction::Barrier;
 use om_code::raw::Slot;
@@ -20,7 +19,7 @@ use om_memory::{Context, Memory, Stack, Tape};
 use om_seq::{AllocResult, Seq};
 use om_state::{Blocked, Edit, Kind, Puts, Tail, Team, Update, Val};
 use om_team_serial::names::{is_misplaced, name, name_events, own_cells};
-use om_team_serial::parts::{go_and, one_put};
+use om_team_serial::parts::{go_and, is_zero, one_put};
 use om_team_serial::updates::{put_deaths, put_event};
 use om_team_serial::{Answer, At, Row};
 use std::alloc::Global;
@@ -309,4 +308,60 @@ pub fn leave(
     }
     let own = own_cells(alloc, &stack.top, slots)?;
     left_answer(alloc, store, worker, stack, &own)
+}
+
+// Appends how far each member of a team of this size came, as what is read.
+fn name_arrivals(names: &mut Names, team: &Name, size: u8) -> AllocResult<()>
+    ensures { OnOk result (names.new ≡ names.old ++ arrivals team.now 0 size) }
+{
+    for number in 0..size {
+        let reached = Obj::Arrived {
+            team: *team,
+            number,
+        };
+        name(names, reached, Mode::Read)?;
+    }
+    Ok(())
+}
+
+/// Appends what a member reads that goes on from the barrier of a phase.
+pub(crate) fn name_barrier(names: &mut Names, team: &Team, phase: u64) -> AllocResult<()>
+    ensures { OnOk result (names.new ≡ names.old ++ barrier team.now phase) }
+{
+    name_arrivals(names, team.name.get(), team.size)?;
+    let pending = Obj::Pending {
+        team: *team.name.get(),
+        phase,
+    };
+    name(names, pending, Mode::Read)
+}
+
+/// Whether all members have reached the barrier of a phase, and no task of it is unfinished.
+pub(crate) fn is_open(alloc: Global, store: &Memory, team: &Team, phase: u64) -> bool
+    ensures { result ≡ open_in (state_of store.now) team.now.name phase 0 team.now.size }
+{
+    for number in 0..team.size {
+        let reached = &Obj::Arrived {
+            team: *team.name.get(),
+            number,
+        };
+        if store.number(alloc, reached) <= phase {
+            return false;
+        }
+    }
+    let pending = &Obj::Pending {
+        team: *team.name.get(),
+        phase,
+    };
+    is_zero(alloc, store, pending)
+}
+
+/// Appends that what a member of a team of this size reads at a barrier stays.
+pub(crate) fn put_kept(updates: &mut Puts, size: u8) -> AllocResult<()>
+    ensures { OnOk result (updates.new ≡ updates.old ++ replicate (size + 1) Update.Keep) }
+{
+    for _number in 0..size {
+        updates.push(Update::Keep)?;
+    }
+    updates.push(Update::Keep)
 }

@@ -4,10 +4,10 @@ use Rattle.std.proofs.MapsCrossingOver.{crosses as maps}
 use denote.Param.Send.{IsSend, IsSync, sendable}
 use Rattle.om_foot.specs.contracts.object.Obj as object
 use Rattle.om_foot.specs.contracts.part.Part as part
-use Rattle.om_cells.specs.contracts.place.Place as place
+use Rattle.om_cells.specs.contracts.places.Place as place
 use Rattle.om_cells.specs.contracts.places.Places as places
 use Rattle.om_foot.specs.contracts.shared.Shared as shared
-use Rattle.om_state.specs.contracts.runs.Was as was
+use Rattle.om_state.specs.contracts.value.Was as was
 use Rattle.om_foot.specs.contracts.shared_cells.SharedCells as shared_cells
 use Rattle.om_foot.specs.contracts.shared_object.SharedObject as shared_object
 use Rattle.om_cells.specs.contracts.slots.SlotPlace as slot_place
@@ -29,7 +29,7 @@ use Rattle.om_undo_touches.specs.contracts.singles.SingleTouches as single_touch
 use Rattle.om_undo_touches.specs.contracts.slots.SlotTouches as slot_touches
 use Rattle.om_undo_touches.specs.contracts.spans.Spans as spans
 use Rattle.om_undo_touches.specs.contracts.touches.TouchLists as lists
-use Rattle.om_undo_history.specs.contracts.backs.Backs as backs
+use Rattle.om_undo_history.specs.contracts.kept.Backs as backs
 use Rattle.om_undo_history.specs.contracts.history.History as history
 use Rattle.om_undo_history.specs.contracts.kept.Kept as kept
 use Rattle.om_undo_history.specs.contracts.kept.SmallEntry as small_entry

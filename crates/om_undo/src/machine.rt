@@ -26,7 +26,7 @@ use om_task::laws::low_counters;
 use om_task::planning::{Planning, is_at_scheduling_point, line, plan_by};
 use om_task::start::started;
 use om_task::{Choice, Plan};
-use om_undo_history::choice::start_of;
+use om_undo_history::history::start_of;
 use om_undo_history::{History, RollReply, StepReply, Taken, UndoReply};
 use std::alloc::Global;
 use std::marker::Model;

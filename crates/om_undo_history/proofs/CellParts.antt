@@ -7,10 +7,10 @@ use Rattle.std.proofs.lemmas.List.{append-nil, length-append}
 use Rattle.std.proofs.lemmas.List.Elements.{All-from_recursion, recursion_from_All, All-append}
 use Rattle.om_foot.specs.declared.footprint.Access.{Access}
 use Rattle.om_code.specs.declared.frame.Cell as cells
-use Rattle.om_foot.specs.declared.cells.SlotName.{SlotName}
-use Rattle.om_foot.specs.declared.cells.Cells.{Cells}
-use Rattle.om_state.specs.declared.runs.Run.{Run}
-use Rattle.om_state.specs.declared.runs.Was.{Was}
+use Rattle.om_foot.specs.declared.object.SlotName.{SlotName}
+use Rattle.om_foot.specs.declared.object.Cells.{Cells}
+use Rattle.om_state.specs.declared.value.Run.{Run}
+use Rattle.om_state.specs.declared.value.Was.{Was}
 use Rattle.om_state.specs.declared.step.Update.{Update}
 use Rattle.om_foot.specs.Cells.{cells_from, cells_of, cells_listed}
 use Rattle.om_state.specs.Runs.{puts_of, run_puts, runs_listed, were_listed}

@@ -3,9 +3,9 @@ use Rattle.std.proofs.Common.{◌≡◌, sym, ◌∙◌, ap, subst, true, List, 
 use Rattle.std.specs.Prelude.{All}
 use Rattle.std.proofs.lemmas.List.{append-nil}
 use Rattle.om_foot.specs.declared.footprint.Access.{Access}
-use Rattle.om_foot.specs.declared.cells.Cells.{Cells}
-use Rattle.om_state.specs.declared.runs.Run.{Run}
-use Rattle.om_state.specs.declared.runs.Was.{Was}
+use Rattle.om_foot.specs.declared.object.Cells.{Cells}
+use Rattle.om_state.specs.declared.value.Run.{Run}
+use Rattle.om_state.specs.declared.value.Was.{Was}
 use Rattle.om_state.specs.declared.step.Update.{Update}
 use Rattle.om_foot.specs.Cells.{cells_listed}
 use Rattle.om_state.specs.Runs.{runs_listed}

@@ -12,7 +12,7 @@ use Rattle.om_foot.specs.declared.footprint.Access.{Access}
 use Rattle.om_state.specs.declared.control.Control as controls
 use Rattle.om_state.specs.declared.control.Control.TheVariants.{Idle, Running, Faulted, Ended}
 use Rattle.om_state.specs.declared.value.Val.TheVariants as value
-use Rattle.om_state.specs.declared.edit.Edit.{Edit}
+use Rattle.om_state.specs.declared.control.Edit.{Edit}
 use Rattle.om_state.specs.declared.step.Change.{Change}
 use Rattle.om_state.specs.declared.step.Entry.{Entry}
 use Rattle.om_state.specs.declared.step.Label.{Label}

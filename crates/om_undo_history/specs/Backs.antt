@@ -1,20 +1,20 @@
 -- For proofs: what takes the updates of a step back, as its record keeps it. That is what one cell held, one list,
 -- or parts that go along with those of its accesses, where cells of slots were named at once.
 use Rattle.std.specs.Prelude.{◌≡◌, ℕ, Bool, true, false, ◌&&◌, nat_eq, List, [], ◌∷◌, ◌++◌, drop, length}
-use Rattle.om_foot.specs.declared.cells.Cells.{Cells}
+use Rattle.om_foot.specs.declared.object.Cells.{Cells}
 use Rattle.om_foot.specs.declared.footprint.Access.{Access}
 use Rattle.om_state.specs.declared.puts.PutParts.{PutParts}
-use Rattle.om_state.specs.declared.runs.Run.{Run}
-use Rattle.om_state.specs.declared.runs.Was.{Was}
+use Rattle.om_state.specs.declared.value.Run.{Run}
+use Rattle.om_state.specs.declared.value.Was.{Was}
 use Rattle.om_state.specs.declared.step.Entry.{Entry}
 use Rattle.om_state.specs.declared.step.Update.{Update}
 use Rattle.om_state.specs.declared.step.Update.TheVariants as update
 use Rattle.om_state.specs.declared.value.Val.TheVariants as value
 use Rattle.om_state.specs.Runs.{runs_listed, were_listed}
 use Rattle.om_undo_touches.specs.Accesses.{Parts, control_write, accesses_of}
-use Rattle.om_undo_history.specs.declared.backs.BackParts.{BackParts}
-use Rattle.om_undo_history.specs.declared.backs.Backs.{Backs}
-use Rattle.om_undo_history.specs.declared.backs.Backs.TheVariants as backs
+use Rattle.om_undo_history.specs.declared.kept.BackParts.{BackParts}
+use Rattle.om_undo_history.specs.declared.kept.Backs.{Backs}
+use Rattle.om_undo_history.specs.declared.kept.Backs.TheVariants as backs
 use Rattle.om_undo_history.specs.declared.records.UndoRecord.{UndoRecord}
 
 -- a worker's control, and then these

@@ -4,15 +4,15 @@
 use Rattle.std.specs.Prelude.{◌≡◌, ℕ, List, [], ◌∷◌, ◌++◌, take, drop}
 use Rattle.om_foot.specs.declared.object.Obj.{Obj}
 use Rattle.om_foot.specs.declared.object.Obj.TheVariants as obj
-use Rattle.om_foot.specs.declared.cells.Cells.{Cells}
+use Rattle.om_foot.specs.declared.object.Cells.{Cells}
 use Rattle.om_foot.specs.declared.footprint.Mode.TheVariants.{Write, Add}
 use Rattle.om_foot.specs.declared.footprint.Access.{Access}
 use Rattle.om_foot.specs.Cells.{cells_listed}
 use Rattle.om_code.specs.declared.frame.Cell as cells
 use Rattle.om_state.specs.declared.control.Control.{Control}
-use Rattle.om_state.specs.declared.edit.Edit.{Edit}
-use Rattle.om_state.specs.declared.runs.Run.{Run}
-use Rattle.om_state.specs.declared.runs.Was.{Was}
+use Rattle.om_state.specs.declared.control.Edit.{Edit}
+use Rattle.om_state.specs.declared.value.Run.{Run}
+use Rattle.om_state.specs.declared.value.Was.{Was}
 use Rattle.om_state.specs.declared.step.Change.{Change}
 use Rattle.om_state.specs.declared.step.Entry.{Entry}
 use Rattle.om_state.specs.declared.step.Update.{Update}
@@ -24,8 +24,8 @@ use Rattle.om_state.specs.Values.{control_in}
 use Rattle.om_memory.specs.declared.memory.Memory.{Memory}
 use Rattle.om_memory.specs.Memories.{state_of, pasts_of}
 use Rattle.om_undo_touches.specs.Accesses.{Parts, accesses_of}
-use Rattle.om_undo_history.specs.declared.backs.BackParts.{BackParts}
-use Rattle.om_undo_history.specs.declared.backs.Backs.{Backs}
+use Rattle.om_undo_history.specs.declared.kept.BackParts.{BackParts}
+use Rattle.om_undo_history.specs.declared.kept.Backs.{Backs}
 use Rattle.om_undo_history.specs.declared.planning.Making.{Making}
 use Rattle.om_undo_history.specs.declared.records.UndoRecord.{UndoRecord}
 use Rattle.om_undo_history.specs.Backs.{backs_listed, back_in, wanted, parts_wanted, parts_back, further_of}

@@ -3,7 +3,7 @@ use Rattle.std.specs.Prelude.{◌≡◌, ℕ, List, ◌∷◌, drop}
 use Rattle.om_foot.specs.declared.object.Obj.TheVariants as obj
 use Rattle.om_foot.specs.declared.footprint.Mode.TheVariants as mode
 use Rattle.om_foot.specs.declared.footprint.Access.{Access}
-use Rattle.om_state.specs.declared.edit.Edit.{Edit}
+use Rattle.om_state.specs.declared.control.Edit.{Edit}
 use Rattle.om_state.specs.declared.value.Val.TheVariants as value
 use Rattle.om_state.specs.declared.step.Change.{Change}
 use Rattle.om_state.specs.declared.step.Entry.{Entry}

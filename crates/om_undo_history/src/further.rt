@@ -9,7 +9,7 @@ ghost use Rattle.om_undo_history.specs.Records.{Keeps};
 ghost use Rattle.om_undo_history.specs.Shapes.{AreShaped};
 ghost use Rattle.om_undo_history.specs.Effects.{PutsCells, WereCells, PutsCellsBack, FitsFurther, MakesFurther, NotesFurther, SavesFurther, MakesParts, NotesParts, SavesParts, CanTakeFurtherBack, TakesFurtherBack, PopsFurther};
 
-use crate::backs::{BackParts, Backs};
+use crate::kept::{BackParts, Backs};
 use crate::updates::{make_all, take_back_all, take_cell_back};
 use om_foot::SharedCells;
 use om_memory::Memory;

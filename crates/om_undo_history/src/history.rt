@@ -8,12 +8,11 @@ ghost use Rattle.om_memory.specs.Memories.{state_of};
 ghost use Rattle.om_undo_history.specs.Runs.{reply_to_undo, after_undo};
 ghost use Rattle.om_undo_history.specs.Cones.{reply_to_roll, after_roll};
 ghost use Rattle.om_undo_history.specs.Commands.{undone_by};
-ghost use Rattle.om_undo_history.specs.Choices.{label_by};
+ghost use Rattle.om_undo_history.specs.Choices.{label_by, choice_of};
 ghost use Rattle.om_undo_history.specs.Effects.{control_of};
 ghost use Rattle.om_undo_history.specs.Records.{LastHasSerial};
 ghost use Rattle.om_undo_history.specs.Pasts.{past_in, history_in, IsHeld, IsHeldFrom, IsReplay, AreNumbered, Replies, IsPlannedChange, HasRoomFor, RepliesToChange, RepliesToWorker, Becomes, TakesChange, TakesOut, TakesItsCone, Stays, StaysIfNone, HasNoEntry, AreRolled};
 
-use crate::choice::start_of;
 use crate::kept::SmallEntry;
 use crate::records::Records;
 use crate::reply::{RollReply, StepReply, Taken, UndoReply};
@@ -22,7 +21,7 @@ use om_code::frame::Fault;
 use om_foot::Name;
 use om_memory::{Control, Memory, fault_after};
 use om_seq::{AllocResult, Seq};
-use om_state::{Change, Edit, Entry, Label};
+use om_state::{Change, Choice, Edit, Entry, Label};
 use std::alloc::Global;
 
 /// The history of a run: its entries, each with a small record of what takes it back, and the store
@@ -243,4 +242,14 @@ impl History {
         self.take_out(taken.as_slice());
         Ok(RollReply::Rolled(Seq::of(taken)))
     }
+}
+
+/// The name of the task that a choice starts, if it does. Its only error is out of memory.
+pub fn start_of(alloc: Global, choice: &Choice) -> AllocResult<Option<Box<Name>>>
+    ensures { IfOk result (λ start. choice_of start ≡ choice.now) }
+{
+    let Choice::Start(name) = choice else {
+        return Ok(None);
+    };
+    Ok(Some(Box::new(alloc, *name)?))
 }

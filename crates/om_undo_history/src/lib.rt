@@ -19,9 +19,7 @@
 //!   contracts speak.
 #![tactic(auto)]
 
-mod backs;
 mod by_serial;
-pub mod choice;
 mod further;
 pub mod history;
 mod kept;

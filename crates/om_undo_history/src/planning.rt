@@ -8,7 +8,7 @@ ghost use Rattle.om_undo_touches.specs.Accesses.{accesses_of};
 ghost use Rattle.om_undo_history.specs.Backs.{own_first, puts_in, wanted, are_along, CanGoAlong};
 ghost use Rattle.om_undo_history.specs.Records.{Keeps};
 
-use crate::backs::{BackParts, Backs};
+use crate::kept::{BackParts, Backs};
 use crate::updates::{keep_cells, keep_each};
 use om_foot::{Access, Cells, Names};
 use om_memory::Memory;

@@ -10,8 +10,8 @@ use Rattle.om_foot.specs.declared.footprint.Mode.TheVariants.{Read, Write, Add}
 use Rattle.om_foot.specs.declared.footprint.Access.{Access}
 use Rattle.om_foot.specs.Footprint.{obj_eq, modes_conflict}
 use Rattle.om_foot.specs.Objects.{obj_eq-true}
-use Rattle.om_foot.specs.declared.cells.SlotName.{SlotName}
-use Rattle.om_foot.specs.declared.cells.Cells.{Cells}
+use Rattle.om_foot.specs.declared.object.SlotName.{SlotName}
+use Rattle.om_foot.specs.declared.object.Cells.{Cells}
 use Rattle.om_foot.specs.Cells.{cell_at, cells_from, cells_of, spot_of}
 use Rattle.om_foot.specs.SharedCells.{cell_in}
 use Rattle.om_undo_touches.specs.declared.slots.SlotTouches.{SlotTouches}

@@ -11,8 +11,8 @@ use Rattle.om_foot.specs.declared.footprint.Mode.TheVariants.{Write}
 use Rattle.om_foot.specs.declared.object.Obj.{Obj}
 use Rattle.om_foot.specs.declared.footprint.Access.{Access}
 use Rattle.om_foot.specs.Footprint.{obj_eq, modes_conflict, conflicts_with_any, conflict_of}
-use Rattle.om_foot.specs.declared.cells.SlotName.{SlotName}
-use Rattle.om_foot.specs.declared.cells.Cells.{Cells}
+use Rattle.om_foot.specs.declared.object.SlotName.{SlotName}
+use Rattle.om_foot.specs.declared.object.Cells.{Cells}
 use Rattle.om_foot.specs.Cells.{Spot, cell_at, spot_of, cell_access, cells_from, cells_of, cells_listed}
 
 pub cells_next : (slot : SlotName) (n count : ℕ) → n < count

@@ -20,7 +20,7 @@ use Rattle.om_foot.specs.declared.footprint.Mode.TheVariants.{Read, Write, Add}
 use Rattle.om_foot.specs.Footprint.{obj_eq}
 use Rattle.om_foot.specs.Objects.{obj_eq-true, obj_eq-same, lookup-is_at}
 use Rattle.om_foot.specs.contracts.object.ObjOrd.TheImpl.{cmp-value}
-use Rattle.om_foot.specs.declared.cells.Cells.{Cells}
+use Rattle.om_foot.specs.declared.object.Cells.{Cells}
 use Rattle.om_foot.specs.Cells.{cells_of}
 use Rattle.om_foot.specs.SharedCells.{cell_in}
 use Rattle.om_undo_touches.specs.declared.by_mode.Touches.{Touches}

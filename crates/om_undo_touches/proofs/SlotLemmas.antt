@@ -12,8 +12,8 @@ use Rattle.std.proofs.lemmas.Bool.Decides.{nat_tests, Decides-eqb}
 use Rattle.om_foot.specs.Below.{same_list, two_true, both_true}
 use Rattle.om_foot.specs.declared.object.Obj.{Obj}
 use Rattle.om_foot.specs.declared.object.Obj.TheVariants as object
-use Rattle.om_foot.specs.declared.cells.SlotName.{SlotName}
-use Rattle.om_foot.specs.contracts.cells.SlotNameOrd.TheImpl.{cmp-value}
+use Rattle.om_foot.specs.declared.object.SlotName.{SlotName}
+use Rattle.om_foot.specs.contracts.object.SlotNameOrd.TheImpl.{cmp-value}
 use Rattle.om_undo_touches.specs.declared.spans.SpanTouches.{SpanTouches}
 use Rattle.om_undo_touches.specs.declared.spans.Spans.{Spans}
 use Rattle.om_undo_touches.specs.declared.slots.SlotTouches.{SlotTouches}

@@ -4,7 +4,7 @@ use Rattle.om_foot.specs.declared.object.Obj.TheVariants as object
 use Rattle.om_foot.specs.declared.footprint.Mode.TheVariants as mode
 use Rattle.om_foot.specs.declared.footprint.Access.{Access}
 use Rattle.om_foot.specs.Cells.{cells_listed}
-use Rattle.om_foot.specs.declared.cells.Cells.{Cells}
+use Rattle.om_foot.specs.declared.object.Cells.{Cells}
 use Rattle.om_undo_touches.specs.declared.accesses.Forms.{Forms}
 use Rattle.om_undo_touches.specs.declared.accesses.Forms.TheVariants as forms
 

@@ -4,8 +4,8 @@ use Rattle.std.specs.Cmp.Lexicographic.{pointwise}
 use Rattle.std.specs.Map.{lookup}
 use Rattle.om_foot.specs.declared.object.Obj.{Obj}
 use Rattle.om_foot.specs.declared.object.Obj.TheVariants as object
-use Rattle.om_foot.specs.declared.cells.SlotName.{SlotName}
-use Rattle.om_foot.specs.declared.cells.Cells.{Cells}
+use Rattle.om_foot.specs.declared.object.SlotName.{SlotName}
+use Rattle.om_foot.specs.declared.object.Cells.{Cells}
 use Rattle.om_undo_touches.specs.declared.spans.SpanTouches.{SpanTouches}
 use Rattle.om_undo_touches.specs.declared.spans.Spans.{Spans}
 use Rattle.om_undo_touches.specs.declared.slots.SlotTouches.{SlotTouches}

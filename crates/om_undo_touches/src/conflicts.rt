@@ -6,7 +6,7 @@ ghost use Rattle.om_foot.specs.Cells.{cells_of, cells_listed};
 ghost use Rattle.om_undo_touches.specs.Accesses.{accesses_of};
 
 use crate::accesses::Accesses;
-use om_foot::cells::spot_of;
+use om_foot::object::spot_of;
 use om_foot::{Access, Cells, Mode, Obj, SharedAccess, SharedCells, is_in_conflict};
 
 // Whether an access conflicts with one of these.

@@ -9,7 +9,7 @@ ghost use Rattle.om_foot.specs.Firsts.{IsFirst};
 ghost use Rattle.om_undo_touches.specs.Touches.{meets, has_slot_write, has_slot_touch, IsSet, LosesOfEntry};
 
 use crate::spans::Spans;
-use om_foot::cells::spot_of;
+use om_foot::object::spot_of;
 use om_foot::{Obj, SharedCells, SlotName};
 use om_seq::AllocResult;
 use std::alloc::Global;

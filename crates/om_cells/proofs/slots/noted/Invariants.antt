@@ -1,5 +1,5 @@
 use Rattle.std.proofs.Common.{◌≡◌, ◌++◌, ◌-◌, List}
-use Rattle.om_foot.specs.declared.cells.SlotName.{SlotName}
+use Rattle.om_foot.specs.declared.object.SlotName.{SlotName}
 use Rattle.om_state.specs.declared.value.Val.{Val}
 use Rattle.om_state.specs.State.{State}
 use Rattle.om_cells.specs.Slots.{Mirrors, olds}

@@ -1,6 +1,6 @@
 use Rattle.std.proofs.Common.{◌≡◌, ◌≤◌, ◌-◌, length, List}
 use Rattle.std.specs.Vec.Iter.{into_iter_items}
-use Rattle.om_foot.specs.declared.cells.SlotName.{SlotName}
+use Rattle.om_foot.specs.declared.object.SlotName.{SlotName}
 use Rattle.om_state.specs.declared.value.Val.{Val}
 use Rattle.om_state.specs.State.{State, updated}
 use Rattle.om_foot.specs.Cells.{cells_from}

@@ -3,8 +3,8 @@ use Rattle.std.specs.Prelude.{All}
 use Rattle.std.proofs.lemmas.List.{take_more}
 use Rattle.std.proofs.lemmas.List.Elements.{All-weaker}
 use Rattle.om_foot.specs.declared.footprint.Access.{Access}
-use Rattle.om_foot.specs.declared.cells.Cells.{Cells}
-use Rattle.om_state.specs.declared.runs.Run.{Run}
+use Rattle.om_foot.specs.declared.object.Cells.{Cells}
+use Rattle.om_state.specs.declared.value.Run.{Run}
 use Rattle.om_foot.specs.Cells.{cells_of, cells_listed}
 use Rattle.om_state.specs.Runs.{runs_listed}
 use Rattle.om_state.specs.State.{updated, undo_record}

@@ -3,7 +3,7 @@ use Rattle.std.specs.Prelude.{All}
 use Rattle.std.proofs.lemmas.List.{take_more}
 use Rattle.std.proofs.lemmas.List.Elements.{All-weaker, All-append}
 use Rattle.om_foot.specs.declared.footprint.Access.{Access}
-use Rattle.om_foot.specs.declared.cells.Cells.{Cells}
+use Rattle.om_foot.specs.declared.object.Cells.{Cells}
 use Rattle.om_foot.specs.Cells.{cells_of, cells_listed}
 use Rattle.om_memory.specs.Memories.{is_kept}
 use Rattle.om_undo_history.proofs.CellParts.{cells_listed-more}

@@ -1,6 +1,6 @@
 use Rattle.std.proofs.Common.{◌≡◌, ◌∙◌, sym, ap, drop, ◌+◌, Some, None}
 use Rattle.om_foot.specs.Footprint.{conflict_of}
-use Rattle.om_foot.specs.declared.cells.Cells.{Cells}
+use Rattle.om_foot.specs.declared.object.Cells.{Cells}
 use Rattle.om_foot.specs.Cells.{cells_of, cells_listed}
 use Rattle.om_undo_touches.specs.Accesses.{accesses_of}
 use Rattle.om_undo_touches.proofs.ConflictLemmas.{slots_next, conflict_first, conflict_not_first}

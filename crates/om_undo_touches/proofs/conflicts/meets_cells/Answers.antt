@@ -1,6 +1,6 @@
 use Rattle.std.proofs.Common.{◌≡◌, ◌∙◌, sym, ap, true, false, drop, ◌+◌, ◌++◌}
 use Rattle.om_foot.specs.Footprint.{conflicts_with_any}
-use Rattle.om_foot.specs.declared.cells.Cells.{Cells}
+use Rattle.om_foot.specs.declared.object.Cells.{Cells}
 use Rattle.om_foot.specs.Cells.{cells_of, cells_listed}
 use Rattle.om_undo_touches.proofs.ConflictLemmas.{slots_next, met_first, met_not_first}
 use Rattle.om_undo_touches.proofs.conflicts.meets_cells.Goals as goal
