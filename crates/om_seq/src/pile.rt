@@ -96,16 +96,6 @@ impl<T> Pile<T> {
         self.items.get(self.items.len() - 1 - depth)
     }
 
-    /// Takes so many items off the top, or all where there are fewer.
-    pub fn drop_top(&mut self, count: usize)
-    where
-        T: Drop,
-        ensures { self.new ≡ drop count self.old }
-    {
-        let left = self.items.len().saturating_sub(count);
-        self.items.truncate(left);
-    }
-
     /// A copy of a stack of plain items; its only error is out of memory.
     pub fn copy(&self, alloc: Global) -> AllocResult<Pile<T>>
     where
