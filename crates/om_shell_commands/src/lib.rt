@@ -3,7 +3,7 @@
 //! - `request_of` answers the `Request` of a line: a `Command`, or why it is none (`CommandFault`, H1 or H2).
 //!   `verb` names the first word, `arguments` reads the others: numbers, workers, names of tasks, variables.
 //! - `step`, `value`, `list` and `stop` write the replies (`push_..`). `object` writes the text of an object,
-//!   and `number` numbers.
+//!   and `value` writes numbers too.
 //! - `specs/Commands` says which words spell which command; `specs/Steps`, `Values`, `Places`, `Lists` and
 //!   `Stops` which text a reply has.
 #![tactic(auto)]
