@@ -17,6 +17,6 @@ int main(void)
         for (int i = 0; i < 2; i++)
             deposit(10);
     }
-    printf("%d\n", balance);
+    printf("balance = %d, expected 140\n", balance);
     return 0;
 }
