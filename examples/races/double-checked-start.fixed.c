@@ -1,4 +1,4 @@
-/* config.c, mended: lazy initialisation, the value is set before the flag */
+/* config.c, mended: the value is set before the flag, and atomics read and write the flag */
 #include <stdio.h>
 #include <omp.h>
 
@@ -12,11 +12,15 @@ int read_config(void)
 
 int get_config(void)
 {
-    if (!ready) {
+    int seen;
+    #pragma omp atomic read seq_cst
+    seen = ready;
+    if (!seen) {
         #pragma omp critical(init)
         {
             if (!ready) {
                 config = read_config();
+                #pragma omp atomic write seq_cst
                 ready = 1;
             }
         }

@@ -1,4 +1,4 @@
-/* prodcons.c, mended: the data are stored before the flag */
+/* prodcons.c, mended: the data are stored before the flag, and atomics read and write the flag */
 #include <stdio.h>
 #include <omp.h>
 
@@ -10,16 +10,16 @@ int main()
         #pragma omp section
         {
             data = 17;
-            #pragma omp flush(flag, data)
+            #pragma omp atomic write seq_cst
             flag = 1;
-            #pragma omp flush(flag)
         }
         #pragma omp section
         {
-            while (!flag) {
-                #pragma omp flush(flag)
+            int seen = 0;
+            while (!seen) {
+                #pragma omp atomic read seq_cst
+                seen = flag;
             }
-            #pragma omp flush(flag, data)
             printf("data = %d\n", data);
         }
     }
