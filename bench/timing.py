@@ -1,4 +1,7 @@
-"""What the benchmarks share: the words of their command lines, the texts that they make, and the best time of three runs."""
+"""What the benchmarks share: the words of their command lines, the texts that they make, and the best time of some runs.
+
+It needs Python 3 with its standard library alone.
+"""
 import os, subprocess, sys, time
 
 
@@ -47,12 +50,6 @@ def both_seconds(program, text, times=3, arguments=()):
         if run.returncode != 0:
             sys.exit(f"{program} ended with status {run.returncode}")
     return min(clocks), min(used_times)
-
-
-def seconds_to_end(program, text, code):
-    """The same of a text that is refused by this code, `S3` for one, behind its last byte."""
-    line, column = text.count(b"\n") + 1, len(text) - text.rfind(b"\n")
-    return seconds(program, text, f"refused {code} line {line} column {column}\n".encode())
 
 
 def peak(program, text):
