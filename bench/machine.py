@@ -5,6 +5,7 @@ Each program counts for ever. It runs in three ways, on one core: without a step
 every undo. The differences give steps and undos a second, by the clock and by processor time. Each way counts by the best of that
 many runs (3 if not given): on a host that others share, more runs come nearer to an idle core. For the frames it is what a step
 costs by the clock once `f` has called itself so often. Nothing here is a test: nothing fails.
+It needs Python 3 with its standard library alone.
 """
 from timing import both_seconds, seconds, words
 

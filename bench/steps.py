@@ -4,6 +4,7 @@
 It runs one source of that many assignments (16,000 if not given, 32,000 at most) three times, on one core: with no
 command, with every step, and with every step and then every undo. The differences give steps a second and undos a
 second; a source of half as many assignments gives the ratio of the whole times. Nothing here is a test: nothing fails.
+It needs Python 3 with its standard library alone.
 """
 from timing import compared, seconds, words
 

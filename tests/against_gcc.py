@@ -4,6 +4,7 @@
 It makes that many sources at random (200 if not given) of the accepted C: globals, arrays, functions, all operators, branches, loops
 and `printf`, with no undefined behaviour. Each is built by gcc and run, and run by PROGRAM with `run`; `output` must be the same bytes.
 Then all steps are undone, and `output` must be empty. A difference prints the source and ends the script with status 1.
+It needs Python 3 with its standard library, and gcc.
 """
 import os, random, subprocess, sys, tempfile
 

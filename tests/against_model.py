@@ -8,6 +8,7 @@ malformed lines. A changed source is one of examples/ or a random one, with one 
 for 300 steps. The output and the status have to be the same. Each difference is printed with its number and the seed, the first
 line that differs, the command and the source, then the sums. A turn that takes more than a minute is left out, and told. The
 status is 1 where one differs, or where nothing was compared.
+It needs Python 3 with its standard library alone.
 """
 import collections, glob, json, os, random, subprocess, sys, tempfile
 

@@ -7,7 +7,7 @@ without a report in each run. Of a race one run at least has to be reported, or 
 to report two-critical-names, so that one may stay silent. Each row says in how many runs a report came; the last line counts
 the rows, and the status is 1 where one of them is wrong.
 Where clang or Archer is not there, a line says so, and the status is 2. In Debian both come with clang-19 and libomp-19-dev.
-Python 3 and its standard library suffice otherwise.
+It needs Python 3 with its standard library, and clang with Archer.
 """
 import os, shutil, subprocess, sys, tempfile
 

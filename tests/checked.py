@@ -5,6 +5,7 @@ Each source is one of examples/, or a file `*.c` of a FOLDER, with one to four c
 changes places or is another one, or the rest is cut off. Where PROGRAM accepts it, `LAB check` has to say `accepted` with
 status 0, and else the same code, line and column with status 1. Each mismatch is printed, then the numbers of both kinds
 and of the codes. The status is 1 where one does not agree. 5,000 sources are tried if nothing else is said.
+It needs Python 3 with its standard library alone.
 """
 import collections, glob, os, random, re, subprocess, sys, tempfile
 

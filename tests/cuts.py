@@ -5,6 +5,7 @@ The sources are the NAME.c of FOLDER, and of each NAME.in what stands before its
 bytes, and PROGRAM gets the beginning as its input. It has to print nothing, with status 0, or one line
 `refused S.. line .. column ..` with status 1, whose place is a byte of the beginning or its end. Each other answer is
 printed, then how many beginnings had which answer. The status is 1 where one was wrong.
+It needs Python 3 with its standard library alone.
 """
 import collections, os, re, subprocess, sys
 

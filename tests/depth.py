@@ -4,6 +4,7 @@
 Each source is at the limits of statements, brackets and tokens, in one kind of nesting or in several together, and is
 neither refused for its depth nor for its syntax. PROGRAM gets it as its input, and has to end with status 0 or 1; what it
 printed is printed. The status of this script is 1 where one ended otherwise.
+It needs Python 3 with its standard library alone.
 """
 import os, subprocess, sys
 

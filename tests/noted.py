@@ -5,6 +5,7 @@ Each FOLDER has sessions NAME.in, a source, a line `%%` and commands, with the w
 a line, where there are any. The source is written to a file and the commands are handed to `PROGRAM FILE`. What that
 answers goes through `LAB notes FILE`. Without what stands behind the mark ` | ` each line has to be the one that came.
 Each mismatch is printed, then the numbers of sessions, of lines and of lines with words. The status is 1 where one differs.
+It needs Python 3 with its standard library alone.
 """
 import glob, os, subprocess, sys, tempfile
 

@@ -4,6 +4,7 @@
 LAB is the program `omplab`. Each row says what came of a session; the last line counts the rows, and the status is 1 where a page
 differs in any byte. With --draw the pages are stored anew instead. How many threads a session has stands in the table of
 examples/races/README.md.
+It needs Python 3 with its standard library alone.
 """
 import os, re, subprocess, sys
 
@@ -74,4 +75,5 @@ def main():
     sys.exit(1 if wrong or not all_sessions else 0)
 
 
-main()
+if __name__ == "__main__":
+    main()

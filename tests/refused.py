@@ -13,6 +13,7 @@ CASES is the program of cases, crates/gate_cases/out/gate_cases, and TITLE that 
 runs ends as the whole run does, or out of memory: an answer that changes in place of that is wrong.
 With --requests the library refuses nothing: it counts the requests between two answers. More than 20 of them are wrong.
 The last line counts the runs; the status is 1 where one of them is wrong.
+It needs Python 3 with its standard library, and cc.
 """
 import itertools, os, subprocess, sys, tempfile
 

@@ -5,6 +5,7 @@ Beside each NAME.c of FOLDER stands NAME.refusal: one line, the refusal that is 
 or the word `accepted`. `PROGRAM NAME.c` is run with no input, and has to print that line with status 1, or nothing with
 status 0. Cases go by their code (the line's second word), then by name; with CODEs only theirs are run. Each mismatch is
 printed, then a line a code, then the sum. The status is 1 where a case failed.
+It needs Python 3 with its standard library alone.
 """
 import collections, os, re, shlex, subprocess, sys
 

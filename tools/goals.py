@@ -4,6 +4,7 @@
 Run it behind `rt check` from nothing in the crate's folder: what the check keeps in out/incremental has for each goal its name and the
 steps that were spent on it, and a million steps are some two thirds of a second. Records of goals that are gone stay there. With MODULE it
 lists the goals of modules whose name has that word. It changes nothing.
+It needs Python 3 with its standard library alone.
 """
 import collections, glob, os, re, sys
 
@@ -37,4 +38,5 @@ def main():
         print(f"{steps:12,}  {module}  {name}")
 
 
-main()
+if __name__ == "__main__":
+    main()

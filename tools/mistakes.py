@@ -5,6 +5,7 @@ The folder tools/mistakes/CRATE holds edits in the form of crates/CRATE/must-fai
 The gate does not try them, since each crate that has one would be proved once more. This script lays those of each crate
 (of all crates, if none is named) beside the crate's own, has `rt must-fail` try them, and takes them away again. It runs
 at the top of the repository, over what `rt all check` kept. The status is 1 where one was not refused.
+It needs Python 3 with its standard library, and the command `rt`.
 """
 import os, shutil, subprocess, sys
 
@@ -42,4 +43,5 @@ def main():
     sys.exit(1 if failed else 0)
 
 
-main()
+if __name__ == "__main__":
+    main()

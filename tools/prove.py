@@ -5,6 +5,7 @@ It is `rt ci` over a copy that has the program, its tests and the crates below i
 must-fail edits. So it proves crates side by side, and nothing that the program does not need. Where all is proved,
 and the stored runs and the tests of the program pass, it leaves the program in crates/NAME/out, and tells how long
 it took. The status is that of `rt ci`.
+It needs Python 3 with its standard library, and the command `rt`.
 """
 import os, resource, shutil, subprocess, sys, tempfile, time
 

@@ -4,6 +4,7 @@
 It says what docs/LANGUAGE.md, docs/MACHINE.md and docs/COMMANDS.md say in the plainest way, and shares no code with the
 program. It leaves out free runs of several workers at once (here they step in turn), want of memory, failed reads and
 writes, and the texts of help.
+It needs Python 3 with its standard library alone.
 """
 import sys
 import threading

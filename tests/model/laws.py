@@ -5,6 +5,7 @@ On random programs, after random steps: what a plan looks at stands in its footp
 change places, and each entry of the replay keeps its plan, and the state is the same. An entry with which no later one
 conflicts is taken out, and each object holds what it held before that step, that much less, or what it holds now.
 The status is 1 where a law does not hold, or where nothing was tried.
+It needs Python 3 with its standard library alone.
 """
 import random
 import sys
