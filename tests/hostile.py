@@ -3,6 +3,7 @@
 
 PROGRAM is the debugger, LAB the program `omplab` beside it, which is tried too where it is given. Each row says what is tried;
 the last line counts the rows, and the status is 1 where one of them is wrong.
+It needs Python 3 with its standard library alone.
 """
 import os, resource, subprocess, sys, tempfile
 
@@ -45,6 +46,16 @@ def cut_off(got, length):
     return status, output[:length], fault
 
 
+def of_version(name, program):
+    """Rows of the version, and of words that only look like a call for it."""
+    yield f"{name}: the version", (0, f"{name} 0.9.0\n".encode(), b""), run([program, "--version"])
+    yield f"{name}: the version, and a pipe that nobody reads", (3, None, b"H4\n"), with_closed_output([program, "--version"], b"")
+    with open(FULL, "wb") as full:
+        yield f"{name}: the version, and a disk that is full", (3, None, b"H4\n"), run([program, "--version"], stdout=full)
+    for words in ["-V"], ["--version", "--version"], ["--version=1"], ["--threads", "2", "--version"]:
+        yield f"{name}: {' '.join(words)}", (2, b"", None), run([program, *words])
+
+
 def of_debugger(program, folder):
     """Rows of what is tried with the debugger, what is wanted, and what came."""
     good = os.path.join(folder, "good.c")
@@ -73,6 +84,7 @@ def of_debugger(program, folder):
     yield "a word of the command line that is no text", (2, b"", None), run([program.encode(), b"\xff\xfe.c"])
     yield "an option that is no text", (2, b"", None), run([program.encode(), b"--threads=\xff"])
     yield "an empty word of the command line", (3, b"", b"H3\n"), run([program, ""])
+    yield from of_version("ompback", program)
 
 
 def of_lab(lab, folder):
@@ -99,6 +111,7 @@ def of_lab(lab, folder):
     yield "omplab hunt: no seed", (2, b"", None), run([lab, "hunt", "--seeds", "0", good])
     yield "omplab hunt: a fault", (1, None, b""), run([lab, "hunt", faulty])
     yield "omplab hunt: a race, and a standard error that is no terminal", (1, None, b""), run([lab, "hunt", racy])
+    yield from of_version("omplab", lab)
     for word in "hunt", "script", "draw":
         yield f"omplab {word}: a pipe that nobody reads", (3, None, b"H4\n"), with_closed_output([lab, word, racy], b"step 0\n")
         with open(FULL, "wb") as full:

@@ -1,9 +1,10 @@
 #!/usr/bin/env python3
-"""subcommands.py LAB: each subcommand of the program `omplab` but `draw` over a source, and what it writes.
+"""subcommands.py LAB: each subcommand of the program `omplab` but `draw` over a source, and what it writes; and its version.
 
 LAB is the program `omplab`. Each row says what is tried; the last line counts the rows, and the status is 1 where one of them
 is wrong. What is wanted stands in each row. Which seed finds a bad schedule, only the generator says.
 The run that is stored in crates/omplab draws a session, and pages.py nine more.
+It needs Python 3 with its standard library alone.
 """
 import os, subprocess, sys, tempfile
 
@@ -99,12 +100,18 @@ BEGUN = [
     ("nothing was compared", ["hunt", "--seeds", "1", "--steps", "10"], ENDLESS, "", 0, "`run` came to no end, so no output was compared: say by"),
 ]
 
+# The same, where no source is named.
+ALONE = [
+    ("the version is told", ["--version"], "", "", 0, "omplab 0.9.0\n"),
+]
+
 
 def written(lab, folder, words, source, text):
-    """The status, and what is written to standard output and to standard error."""
+    """The status, and what is written to standard output and to standard error; where there is a source, it is named."""
     with open(os.path.join(folder, "a.c"), "w", newline="") as f:
         f.write(source)
-    done = subprocess.run([lab, words[0], *words[1:], "a.c"], cwd=folder, input=text.encode(), capture_output=True, timeout=60)
+    named = ["a.c"] if source else []
+    done = subprocess.run([lab, *words, *named], cwd=folder, input=text.encode(), capture_output=True, timeout=60)
     return done.returncode, done.stdout.decode(), done.stderr.decode()
 
 
@@ -121,9 +128,10 @@ def main():
         sys.exit(__doc__)
     lab = os.path.abspath(sys.argv[1])
     with tempfile.TemporaryDirectory() as folder:
-        right = [is_as_wanted(lab, folder, row, False) for row in ROWS] + [is_as_wanted(lab, folder, row, True) for row in BEGUN]
+        right = [is_as_wanted(lab, folder, row, False) for row in ROWS + ALONE] + [is_as_wanted(lab, folder, row, True) for row in BEGUN]
     print(f"{len(right)} rows, {right.count(False)} wrong")
     sys.exit(0 if all(right) else 1)
 
 
-main()
+if __name__ == "__main__":
+    main()

@@ -10,10 +10,10 @@ ghost use Rattle.std.specs.Prelude.{◌<◌, ◌≤◌};
 mod tests;
 mod words;
 
-use crate::words::{Words, words_in};
+use crate::words::{Words, ask_for_version, words_in};
 use om_parser::STACK_SIZE;
 use om_seq::AllocResult;
-use om_shell::{Options, Outcome, ShellFault, read_named, run, status, words_of};
+use om_shell::{Options, Outcome, ShellFault, read_named, run, send, status, words_of};
 use std::alloc::{AllocError, Global};
 use std::io::{Read, Write};
 use std::process::ExitCode;
@@ -21,6 +21,9 @@ use std::rt::{Files, Runtime};
 use std::sync::Wait;
 use std::thread::{Builder, Threads};
 use std::{io, mem};
+
+// What is written where the version is asked for.
+const VERSION: &[u8] = b"ompback 0.9.0\n";
 
 // Runs the shell over these ends, and tells how it ended.
 fn run_over<H: Threads + Wait + Sync, R: Read, W: Write>(
@@ -64,12 +67,23 @@ fn session<R: Files + Input + Print + Threads + Wait + Sync>(
     run_over(rt, alloc, &mut rt.reader(), &mut io::writer(rt), options)
 }
 
+// Writes the version, and tells how that ended.
+fn version<W: Write>(writer: &mut W) -> Outcome {
+    match send(writer, VERSION) {
+        Ok(()) => Outcome::Ran(0),
+        Err(fault) => Outcome::Fault(fault),
+    }
+}
+
 // Does what the words of the command line ask for, the first of which names the program.
 fn outcome_for<R: Runtime + AllocGlobal + Threads + Wait + Sync>(
     rt: &R,
     alloc: Global,
     words: &[&str],
 ) -> AllocResult<Outcome> {
+    if ask_for_version(words) {
+        return Ok(version(&mut io::writer(rt)));
+    }
     match words_in(alloc, words) {
         Ok(words) => Ok(session(rt, alloc, words)),
         Err(error) if error.kind() == clap::error::ErrorKind::OutOfMemory => Err(AllocError),

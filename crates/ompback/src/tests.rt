@@ -1,7 +1,7 @@
 //! The exit status of each way to end, and what words ask for.
 
-use crate::words::words_in;
-use crate::{outcome_for, run_over};
+use crate::words::{ask_for_version, words_in};
+use crate::{outcome_for, run_over, version};
 use om_seq::AllocResult;
 use om_shell::{Options, Outcome, ShellFault, status};
 use std::alloc::Global;
@@ -63,12 +63,23 @@ fn is_1_where_the_source_is_refused(rt: HostRuntime) {
 }
 
 #[test]
+fn is_0_for_the_version(rt: HostRuntime) {
+    let mut text = Vec::new(rt.alloc());
+    let outcome = version(&mut text);
+    assert_eq!(rt; status(outcome), 0);
+    assert_eq!(rt; text.as_slice(), b"ompback 0.9.0\n".as_slice());
+    let broken = version(&mut Broken);
+    assert!(rt; matches!(broken, Outcome::Fault(ShellFault::Write)));
+}
+
+#[test]
 fn is_2_for_wrong_words_and_for_help(rt: HostRuntime) -> Result<(), Fail> {
     for word in [
         "--threads=0",
         "--threads=33",
         "--threads=x",
         "--what",
+        "-V",
         "--help",
     ] {
         let outcome = outcome_for(&rt, rt.alloc(), ["ompback", word].as_slice())?;
@@ -129,4 +140,18 @@ fn takes_words(rt: HostRuntime) -> Result<(), Fail> {
         assert_eq!(rt; found.as_str(), wanted);
     }
     Ok(())
+}
+
+#[test]
+fn asks_for_the_version(rt: HostRuntime) {
+    for (words, wanted) in [
+        (["ompback", "--version"].as_slice(), true),
+        (["ompback"].as_slice(), false),
+        (["--version"].as_slice(), false),
+        (["ompback", "-V"].as_slice(), false),
+        (["ompback", "--version", "a.c"].as_slice(), false),
+        (["ompback", "a.c", "--version"].as_slice(), false),
+    ] {
+        assert_eq!(rt; ask_for_version(words), wanted);
+    }
 }

@@ -40,11 +40,18 @@ With FILE, standard input holds commands alone. Each is a line:
   tasks         the tasks that are ready
   quit          ends the session
 
+With --version alone, standard output tells the version.
+
 Exit status:
-  0  at `quit` or the end of the commands
+  0  at `quit` or the end of the commands, or the version is told
   1  the source is refused; standard output tells why and where
   2  wrong words, or help
   3  a fault, told on standard error: H3 a read failed, H4 a write failed, H5 no memory";
+
+/// Whether the words, the first of which names the program, ask for its version and for nothing else.
+pub fn ask_for_version(words: &[&str]) -> bool {
+    matches!(words, [_, "--version"])
+}
 
 /// What the words ask for. An error is wrong words, a call for help, or out of memory.
 pub fn words_in<'a>(alloc: Global, words: &'a [&'a str]) -> Result<Words<'a>, Error>

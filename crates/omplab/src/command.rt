@@ -6,7 +6,9 @@ use std::alloc::Global;
 
 const ABOUT: &str = "Finds, explains, keeps and draws the schedules of an OpenMP program in C.";
 
-const STATUSES: &str = "Exit status:
+const STATUSES: &str = "With --version alone, standard output tells the version.
+
+Exit status:
   0  it is done; `check` has accepted the source, and `hunt` has found no bad schedule
   1  the source is refused, or `hunt` has found a bad schedule
   2  wrong words, or help

@@ -16,16 +16,19 @@ mod subcommands;
 mod words;
 
 use crate::subcommands::{Host, Search, check, draw, explain, hunt, keep};
-use crate::words::{Asked, Words, words_in};
+use crate::words::{Asked, Words, ask_for_version, words_in};
 use om_parser::STACK_SIZE;
 use om_seq::AllocResult;
-use om_shell::{Options, Outcome, ShellFault, read_named, status, words_of};
+use om_shell::{Options, Outcome, ShellFault, read_named, send, status, words_of};
 use std::alloc::{AllocError, Global};
-use std::io::{self, IsTerminal};
+use std::io::{self, IsTerminal, Write};
 use std::process::ExitCode;
 use std::rt::{Files, Runtime};
 use std::sync::Wait;
 use std::thread::{Builder, Threads};
+
+// What is written where the version is asked for.
+const VERSION: &[u8] = b"omplab 0.9.0\n";
 
 // The file that a subcommand reads, if it is given one.
 fn file_of<'a>(asked: Asked<'a>) -> Option<&'a str> {
@@ -104,6 +107,14 @@ fn outcome_of<R: Runtime + Threads + Wait + Sync>(
     }
 }
 
+// Writes the version, and tells how that ended.
+fn version<W: Write>(writer: &mut W) -> Outcome {
+    match send(writer, VERSION) {
+        Ok(()) => Outcome::Ran(0),
+        Err(fault) => Outcome::Fault(fault),
+    }
+}
+
 // Does what the words of the command line ask for, the first of which names the program.
 fn outcome_for<R: Runtime + AllocGlobal + Threads + Wait + Sync>(
     rt: &R,
@@ -111,6 +122,9 @@ fn outcome_for<R: Runtime + AllocGlobal + Threads + Wait + Sync>(
     words: &[&str],
     is_watched: bool,
 ) -> AllocResult<Outcome> {
+    if ask_for_version(words) {
+        return Ok(version(&mut io::writer(rt)));
+    }
     match words_in(alloc, words) {
         Ok(words) => Ok(outcome_of(rt, alloc, words, is_watched)),
         Err(error) if error.kind() == clap::error::ErrorKind::OutOfMemory => Err(AllocError),

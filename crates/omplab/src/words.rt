@@ -48,6 +48,11 @@ pub enum Asked<'a> {
     },
 }
 
+/// Whether the words, the first of which names the program, ask for its version and for nothing else.
+pub fn ask_for_version(words: &[&str]) -> bool {
+    matches!(words, [_, "--version"])
+}
+
 /// What the words ask for, the first of which names the program. An error is wrong words, a call for help, or out of
 /// memory.
 pub fn words_in<'a>(alloc: Global, words: &'a [&'a str]) -> Result<Words<'a>, Error>
