@@ -1,5 +1,6 @@
 //! Sessions over ends that give or take little at a time, or fail.
 
+use crate::fibonacci::fibonacci;
 use crate::memory::{Pieces, Sink, session_over};
 use om_shell::ShellFault;
 use std::alloc::Global;
@@ -90,31 +91,17 @@ x = 0
         calls: 33,
     },
     Script {
-        input: r#"#include <stdio.h>
-int fib(int n){
-int a, b;
-if (n < 2) return n;
-#pragma omp task shared(a)
-a = fib(n - 1);
-#pragma omp task shared(b)
-b = fib(n - 2);
-#pragma omp taskwait
-return a + b;
-}
-int main(void){
-#pragma omp parallel
-#pragma omp single
-printf("%d\n", fib(2));
-}
-%%
-run 100000
+        input: fibonacci!(
+            2,
+            r#"run 100000
 output
 events 0
 undo 1
 undo 1
 undo 0
 undo 0
-"#,
+"#
+        ),
         output: r#"ran 68 ended
 output 2 bytes
 1

@@ -1,5 +1,6 @@
 //! Free runs of a program of tasks, until it has ended.
 
+use crate::fibonacci::fibonacci;
 use crate::sessions::told_of;
 use om_seq::AllocResult;
 use std::alloc::Global;
@@ -8,24 +9,9 @@ use std::thread::Threads;
 
 // A program that makes 188 steps in all, whoever makes them. Behind each free run at least one
 // more of its waits has ended: so ten suffice, in whatever order the workers come.
-const SESSION: &str = r#"#include <stdio.h>
-int fib(int n){
-int a, b;
-if (n < 2) return n;
-#pragma omp task shared(a)
-a = fib(n - 1);
-#pragma omp task shared(b)
-b = fib(n - 2);
-#pragma omp taskwait
-return a + b;
-}
-int main(void){
-#pragma omp parallel
-#pragma omp single
-printf("%d\n", fib(4));
-}
-%%
-free 1000
+const SESSION: &str = fibonacci!(
+    4,
+    r#"free 1000
 free 1000
 free 1000
 free 1000
@@ -38,7 +24,8 @@ free 1000
 history
 where 0
 output
-"#;
+"#
+);
 
 // How many steps the program makes.
 const STEPS: u64 = 188;

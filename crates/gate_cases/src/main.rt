@@ -17,6 +17,7 @@ mod books;
 mod checks;
 mod code;
 mod ends;
+mod fibonacci;
 mod free_tasks;
 mod judge;
 mod laws;
