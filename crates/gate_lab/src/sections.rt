@@ -1,0 +1,68 @@
+//! The sections of the input, and what is told of each.
+//!
+//! A section begins with a line `== HEAD`. The next line is a subcommand with its numbers: `check`, `script`,
+//! `cone SERIAL`, `notes`, `draw` or `hunt SEEDS STEPS`. Below stands a C source, and behind a line `%%` the
+//! input: commands, answers, or what the program is to print in a hunt. The line end before the next head is no
+//! part of the input, so an input that ends with a line end is followed by an empty line.
+//!
+//! What is told has the same form: the head, the exit status, and the text that was written.
+
+use crate::subcommands::written_by;
+use lab_script::ScriptFault;
+use std::alloc::Global;
+use std::sync::Wait;
+use std::thread::Threads;
+
+/// The source of a section, and its input where it has a line `%%`.
+#[derive(Clone, Copy)]
+pub(crate) struct Given<'a> {
+    pub source: &'a [u8],
+    pub input: Option<&'a [u8]>,
+}
+
+/// What is told of all sections.
+pub(crate) fn told<R: Threads + Wait + Sync>(
+    rt: &R,
+    alloc: Global,
+    input: &str,
+) -> Result<String, ScriptFault> {
+    let mut told = String::new(alloc);
+    for section in input.split("\n== ").skip(1) {
+        add_section(rt, alloc, &mut told, section)?;
+    }
+    Ok(told)
+}
+
+// Adds what is told of a section.
+fn add_section<R: Threads + Wait + Sync>(
+    rt: &R,
+    alloc: Global,
+    told: &mut String,
+    section: &str,
+) -> Result<(), ScriptFault> {
+    let (head, body) = cut(section, '\n');
+    let (words, rest) = cut(body, '\n');
+    let written = written_by(rt, alloc, words, given_in(rest))?;
+    let text = str::from_utf8(written.text.as_slice()).unwrap_or("no text");
+    write!(told, "== {head}\nstatus {}\n{text}\n", written.status)?;
+    Ok(())
+}
+
+// What stands below the first two lines of a section.
+fn given_in(rest: &str) -> Given<'_> {
+    match rest.split_once("%%\n") {
+        Some((source, input)) => Given {
+            source: source.as_bytes(),
+            input: Some(input.as_bytes()),
+        },
+        None => Given {
+            source: rest.as_bytes(),
+            input: None,
+        },
+    }
+}
+
+/// What stands before and behind a character; nothing behind, where a text does not have it.
+pub(crate) fn cut(text: &str, mark: char) -> (&str, &str) {
+    text.split_once(mark).unwrap_or((text, ""))
+}
