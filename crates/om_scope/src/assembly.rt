@@ -13,6 +13,7 @@ ghost use Rattle.om_scope_rules.specs.Updates.{update_of};
 ghost use Rattle.om_scope.specs.Resolving.{view_body, view_clauses};
 
 use om_lexer::{SourceResult, Span};
+use om_parser_tree::boxed::boxed;
 use om_parser_tree::{Expression, Name};
 use om_pragma::{
     AtomicKind, Clause, ClauseItem, ClauseKind, Directive, DirectiveName, Schedule, ScheduleKind,
@@ -283,13 +284,6 @@ fn shared_loop(
         repeated,
         body,
     }
-}
-
-// An item in a box. When out of memory, it is gone.
-fn boxed<T: Drop>(alloc: Global, item: T) -> AllocResult<Box<T>>
-    ensures { IfOk result (λ made. made.value ≡ item) }
-{
-    Ok(Box::new(alloc, item)?)
 }
 
 /// A construct of parts.
