@@ -6,10 +6,10 @@ use Rattle.om_lower_emit.specs.declared.draft.PickList.{PickList}
 use Rattle.om_lower_emit.specs.Settled.{ListsStand, number_of}
 use Rattle.om_lower_emit.specs.Writing.{get_left, get_seam}
 use Rattle.om_scope_tree.specs.ResolvedTree.{ResolvedStatementTree, Declaration, Block, Empty, Expression, If, IfElse}
-use Rattle.om_scope_tree.specs.ResolvedTree.{While, Do, For, Return, Break, Continue, Parallel, Task, Loop, Sections}
+use Rattle.om_scope_tree.specs.ResolvedTree.{While, Do, For, Return, Break, Continue, Region, Loop, Sections}
 use Rattle.om_scope_tree.specs.ResolvedTree.{Construct, Update, StandAlone, ResolvedStatementsTree, NoStatements}
 use Rattle.om_scope_tree.specs.ResolvedTree.{Statement, ResolvedPartsTree, NoParts, Part, ResolvedFunctionTree}
-use Rattle.om_lower_rules.specs.Bodies.{BodyTree, FunctionBody, Numbers, ParallelBody, TaskBody, behind, behind_all}
+use Rattle.om_lower_rules.specs.Bodies.{BodyTree, FunctionBody, Numbers, RegionBody, behind, behind_all}
 use Rattle.om_lower_rules.specs.Bodies.{behind_parts, next_body, next_pick}
 use Rattle.om_lower_rules.specs.Picks.{all_own_picks, body_picks, own_picks, parts_own_picks}
 
@@ -47,9 +47,7 @@ mutual
   own_ascends (Return at value) n = omega arith
   own_ascends (Break at) n = omega arith
   own_ascends (Continue at) n = omega arith
-  own_ascends (Parallel at clauses captures s) n = ascends-bound n.picks (behind (next_body n) s).picks
-      (own_picks (next_body n) s) (own_ascends s (next_body n))
-  own_ascends (Task at clauses captures s) n = ascends-bound n.picks (behind (next_body n) s).picks
+  own_ascends (Region at kind clauses captures s) n = ascends-bound n.picks (behind (next_body n) s).picks
       (own_picks (next_body n) s) (own_ascends s (next_body n))
   own_ascends (Loop at clauses nowait l s) n = own_ascends s n
   own_ascends (Sections at clauses nowait parts) n = (omega arith, parts_ascend parts (next_pick n))
@@ -128,9 +126,7 @@ body_ascends n f FunctionBody = (
   ascends-lower 0 n.picks (behind_all n f.body).picks (all_own_picks n f.body)
       (omega arith) (all_ascend f.body n),
 )
-body_ascends n f (ParallelBody first clauses captures s) =
-    ((behind n s).picks, ascends-lower 0 n.picks (behind n s).picks (own_picks n s) (omega arith) (own_ascends s n))
-body_ascends n f (TaskBody first clauses captures s) =
+body_ascends n f (RegionBody first kind clauses captures s) =
     ((behind n s).picks, ascends-lower 0 n.picks (behind n s).picks (own_picks n s) (omega arith) (own_ascends s n))
 
 -- there is a table in which the lists of a body stand

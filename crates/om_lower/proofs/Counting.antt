@@ -3,11 +3,11 @@ use Rattle.std.proofs.Common.{◌≡◌, ℕ, ◌+◌, List, [], ◌∷◌, ◌+
 use Rattle.std.specs.List.{flat_map}
 use Rattle.std.proofs.lemmas.Bool.Decides.{nat_tests}
 use Rattle.om_scope_tree.specs.ResolvedTree.{ResolvedStatementTree, Declaration, Block, Empty, Expression, If, IfElse}
-use Rattle.om_scope_tree.specs.ResolvedTree.{While, Do, For, Return, Break, Continue, Parallel, Task, Loop, Sections}
+use Rattle.om_scope_tree.specs.ResolvedTree.{While, Do, For, Return, Break, Continue, Region, Loop, Sections}
 use Rattle.om_scope_tree.specs.ResolvedTree.{Construct, Update, StandAlone, ResolvedStatementsTree, NoStatements}
 use Rattle.om_scope_tree.specs.ResolvedTree.{Statement, ResolvedPartsTree, NoParts, Part, ResolvedFunctionTree}
 use Rattle.om_lower_rules.specs.Bodies.{Numbers, next_body, next_pick, behind, behind_all, behind_parts, behind_function}
-use Rattle.om_lower_rules.specs.Bodies.{behind_functions, first_numbers, BodySite, ParallelBody, TaskBody, FunctionBody}
+use Rattle.om_lower_rules.specs.Bodies.{behind_functions, first_numbers, BodySite, RegionBody, FunctionBody}
 use Rattle.om_lower_rules.specs.Bodies.{region_variables, function_variables, regions, all_regions, parts_regions}
 use Rattle.om_lower_rules.specs.Bodies.{function_bodies, bodies_from}
 use Rattle.om_lower_rules.specs.Picks.{own_picks, all_own_picks, parts_own_picks}
@@ -64,14 +64,9 @@ module _ (k : ℕ) (f : ResolvedFunctionTree) where
     part (Return first value) outer n = omega (arith, counts-nil k)
     part (Break first) outer n = omega (arith, counts-nil k)
     part (Continue first) outer n = omega (arith, counts-nil k)
-    part (Parallel first clauses captures s) outer n =
+    part (Region first kind clauses captures s) outer n =
         let inner = regions f (region_variables clauses s) (next_body n) s in
-        let body = ParallelBody first clauses captures s in
-        let own : BodySite = record { function = f; tree = body; outer = outer; numbers = next_body n } in
-        omega (arith, counts-cons k own inner, part s (region_variables clauses s) (next_body n))
-    part (Task first clauses captures s) outer n =
-        let inner = regions f (region_variables clauses s) (next_body n) s in
-        let body = TaskBody first clauses captures s in
+        let body = RegionBody first kind clauses captures s in
         let own : BodySite = record { function = f; tree = body; outer = outer; numbers = next_body n } in
         omega (arith, counts-cons k own inner, part s (region_variables clauses s) (next_body n))
     part (Loop first clauses nowait l s) outer n = part s outer n

@@ -11,12 +11,12 @@ use Rattle.om_lower.specs.Limits.{HasFewSlots}
 use Rattle.om_lower.specs.Ready.{IsListed, IsPlaced}
 use Rattle.om_lower.proofs.Items.{all_at, take_pushed}
 use Rattle.om_scope_tree.specs.ResolvedTree.{ResolvedStatementTree, Declaration, Block, Empty, Expression, If, IfElse}
-use Rattle.om_scope_tree.specs.ResolvedTree.{While, Do, For, Return, Break, Continue, Parallel, Task, Loop, Sections}
+use Rattle.om_scope_tree.specs.ResolvedTree.{While, Do, For, Return, Break, Continue, Region, Loop, Sections}
 use Rattle.om_scope_tree.specs.ResolvedTree.{Construct, Update, StandAlone, ResolvedStatementsTree, NoStatements}
 use Rattle.om_scope_tree.specs.ResolvedTree.{Statement, ResolvedPartsTree, NoParts, Part, ResolvedFunctionTree}
 use Rattle.om_scope_tree.specs.Weights.{function_weight, parts_weight, statement_weight, statements_weight}
 use Rattle.om_lower_tables.specs.Weighed.{statement_few, statements_few}
-use Rattle.om_lower_rules.specs.Bodies.{BodySite, BodyTree, FunctionBody, Numbers, ParallelBody, TaskBody, all_regions}
+use Rattle.om_lower_rules.specs.Bodies.{BodySite, BodyTree, FunctionBody, Numbers, RegionBody, all_regions}
 use Rattle.om_lower_rules.specs.Bodies.{behind, behind_all, behind_function, behind_functions, first_numbers}
 use Rattle.om_lower_rules.specs.Bodies.{function_bodies, function_variables, next_body, next_pick, parts_regions}
 use Rattle.om_lower_rules.specs.Bodies.{region_variables, regions, variables_of}
@@ -31,8 +31,7 @@ use Rattle.om_lower_rules.specs.ProgramTables.{AreCellsOf}
 
 abbrev body_end : Numbers → ResolvedFunctionTree → BodyTree → Numbers
 body_end n f FunctionBody = behind_all n f.body
-body_end n f (ParallelBody first clauses captures s) = behind n s
-body_end n f (TaskBody first clauses captures s) = behind n s
+body_end n f (RegionBody first kind clauses captures s) = behind n s
 
 abbrev end_of : BodySite → Numbers
 end_of b = body_end b.numbers b.function b.tree
@@ -62,9 +61,7 @@ mutual
   same_ends f outer n (Return at value) = refl
   same_ends f outer n (Break at) = refl
   same_ends f outer n (Continue at) = refl
-  same_ends f outer n (Parallel at clauses captures s) =
-      ap (λ rest. behind (next_body n) s ∷ rest) (same_ends f (region_variables clauses s) (next_body n) s)
-  same_ends f outer n (Task at clauses captures s) =
+  same_ends f outer n (Region at kind clauses captures s) =
       ap (λ rest. behind (next_body n) s ∷ rest) (same_ends f (region_variables clauses s) (next_body n) s)
   same_ends f outer n (Loop at clauses nowait l s) = same_ends f outer n s
   same_ends f outer n (Sections at clauses nowait parts) = same_parts f outer (next_pick n) parts
@@ -203,25 +200,10 @@ mutual
   knows known f outer n (Return at value) r h = (tt, All-nil (IsPlaced known))
   knows known f outer n (Break at) r h = (tt, All-nil (IsPlaced known))
   knows known f outer n (Continue at) r h = (tt, All-nil (IsPlaced known))
-  knows known f outer n (Parallel at clauses captures s) r h =
+  knows known f outer n (Region at kind clauses captures s) r h =
       let here : BodySite = record {
         function = f;
-        tree = ParallelBody at clauses captures s;
-        outer = outer;
-        numbers = next_body n;
-      } in
-      let inner = regions f (region_variables clauses s) (next_body n) s in
-      let head = known_head known here inner n.bodies h in
-      let rest = knows known f (region_variables clauses s) (next_body n) s (omega (arith, r))
-      (known_tail known here inner n.bodies h) in (
-        head,
-        All-cons (IsPlaced known) here inner (record { listed = listed_at known here n.bodies head refl; regions = rest.0 })
-            rest.1,
-      )
-  knows known f outer n (Task at clauses captures s) r h =
-      let here : BodySite = record {
-        function = f;
-        tree = TaskBody at clauses captures s;
+        tree = RegionBody at kind clauses captures s;
         outer = outer;
         numbers = next_body n;
       } in

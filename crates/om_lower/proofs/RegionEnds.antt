@@ -10,7 +10,7 @@ use Rattle.om_lower_emit.specs.declared.spot.Spot.{Spot}
 use Rattle.om_lower_rules.specs.Ends.{HasAllEnds, HasEnds, HasPartsEnds, IsKnown, KnownBodies}
 use Rattle.om_lower_rules.specs.Numbering.{numbers_of}
 use Rattle.om_lower.proofs.Views.{view_construct, view_do, view_for, view_if, view_if_else, view_loop}
-use Rattle.om_lower.proofs.Views.{view_parallel, view_sections, view_task, view_while}
+use Rattle.om_lower.proofs.Views.{view_region, view_sections, view_while}
 
 pub if_ends : (ends : KnownBodies) (n : Numbers) (tree : ResolvedStatement) (at : _) (c : _) (s : _)
     → tree ≡ v.If at c s → HasEnds ends n (view.statement tree)
@@ -64,29 +64,15 @@ pub sections_ends : (ends : KnownBodies) (n : Numbers) (tree : ResolvedStatement
 sections_ends ends n tree at clauses nowait parts is has =
     subst (λ z. HasEnds ends n z) (ap view.statement is ∙ view_sections at clauses nowait parts) has
 
-pub parallel_ends : (ends : KnownBodies) (n : Numbers) (tree x : ResolvedStatement) (at : _) (clauses : _)
-    (captures : _) (s : _) (xs : _) → tree ≡ v.Parallel at clauses captures s → x ≡ s.value → xs ≡ clauses.items
+pub region_ends : (ends : KnownBodies) (n : Numbers) (tree x : ResolvedStatement) (at : _) (kind : _) (clauses : _)
+    (captures : _) (s : _) (xs : _) → tree ≡ v.Region at kind clauses captures s → x ≡ s.value → xs ≡ clauses.items
     → HasEnds ends n (view.statement tree)
     → IsKnown ends n.bodies (behind (next_body n) (view.statement x))
     (region_variables (map view.clause xs) (view.statement x))
-parallel_ends ends n tree x at clauses captures s xs is same listed has =
-    let known : HasEnds ends n (trees.Parallel at (map view.clause clauses.items) captures
+region_ends ends n tree x at kind clauses captures s xs is same listed has =
+    let known : HasEnds ends n (trees.Region at kind (map view.clause clauses.items) captures
     (view.statement s.value)) =
-    subst (λ z. HasEnds ends n z) (ap view.statement is ∙ view_parallel at clauses captures s) has in
-    subst (λ ys. IsKnown ends n.bodies (behind (next_body n) (view.statement x))
-    (region_variables (map view.clause ys) (view.statement x))) (sym listed)
-    (subst (λ z. IsKnown ends n.bodies (behind (next_body n) (view.statement z))
-    (region_variables (map view.clause clauses.items) (view.statement z))) (sym same) known)
-
-pub task_ends : (ends : KnownBodies) (n : Numbers) (tree x : ResolvedStatement) (at : _) (clauses : _)
-    (captures : _) (s : _) (xs : _) → tree ≡ v.Task at clauses captures s → x ≡ s.value → xs ≡ clauses.items
-    → HasEnds ends n (view.statement tree)
-    → IsKnown ends n.bodies (behind (next_body n) (view.statement x))
-    (region_variables (map view.clause xs) (view.statement x))
-task_ends ends n tree x at clauses captures s xs is same listed has =
-    let known : HasEnds ends n (trees.Task at (map view.clause clauses.items) captures
-    (view.statement s.value)) =
-    subst (λ z. HasEnds ends n z) (ap view.statement is ∙ view_task at clauses captures s) has in
+    subst (λ z. HasEnds ends n z) (ap view.statement is ∙ view_region at kind clauses captures s) has in
     subst (λ ys. IsKnown ends n.bodies (behind (next_body n) (view.statement x))
     (region_variables (map view.clause ys) (view.statement x))) (sym listed)
     (subst (λ z. IsKnown ends n.bodies (behind (next_body n) (view.statement z))

@@ -8,7 +8,8 @@ use Rattle.om_lower_emit.specs.Drafts.{Written}
 use Rattle.om_lower_emit.specs.Emits.{EmitsRow, site}
 use Rattle.om_lexer.specs.declared.token.Span.{Span}
 use Rattle.om_scope_tree.specs.declared.resolved.Capture.{Capture}
-use Rattle.om_scope_tree.specs.ResolvedTree.{ResolvedClauseTree, ResolvedStatementTree, Parallel, Task}
+use Rattle.om_scope_tree.specs.declared.resolved.RegionKind.TheVariants as kinds
+use Rattle.om_scope_tree.specs.ResolvedTree.{ResolvedClauseTree, ResolvedStatementTree, Region}
 use Rattle.om_lower_rules.specs.Bodies.{Numbers}
 use Rattle.om_lower_rules.specs.Expressions.{value}
 use Rattle.om_lower_rules.specs.Rows.{each, perhaps}
@@ -62,7 +63,7 @@ pub emits_task : (names : Numbered) (n : Numbers) (first : Span) (clauses : List
     → values ≡ length (given_copies clauses captures s)
     → EmitsRow names (λ at. each (load_original at first.line) (given_copies clauses captures s)) a b
     → EmitsRow names (spawn_row first.line n.bodies values) b c
-    → EmitsStatement names n (Task first clauses captures s) jumps a c
+    → EmitsStatement names n (Region first kinds.Task clauses captures s) jumps a c
 emits_task names n first clauses captures s jumps values a b c count h1 h2 =
     let e2 = subst (λ z. EmitsRow names (spawn_row first.line n.bodies z) b c) count h2 in
     with_none _ _ a c (goes_then _ _ _ (λ done at. each (load_original (site names done) first.line)
@@ -77,7 +78,7 @@ pub emits_parallel : (names : Numbered) (n : Numbers) (first : Span) (clauses : 
     → EmitsRow names (λ at. perhaps (value at first.line) (clause_value clauses)) a b
     → EmitsRow names (λ at. each (load_original at first.line) (given_copies clauses captures s)) b c
     → EmitsRow names (fork_row first.line n.bodies sized values) c d
-    → EmitsStatement names n (Parallel first clauses captures s) jumps a d
+    → EmitsStatement names n (Region first kinds.Parallel clauses captures s) jumps a d
 emits_parallel names n first clauses captures s jumps sized values a b c d count size h1 h2 h3 =
     let e3 = subst (λ z. EmitsRow names (fork_row first.line n.bodies (is_some (clause_value clauses)) z) c d) count
     (subst (λ z. EmitsRow names (fork_row first.line n.bodies z values) c d) size h3) in

@@ -4,10 +4,10 @@ use Rattle.std.proofs.lemmas.List.Elements.{All-nil, All-cons, All-head, All-tai
 use Rattle.om_lower.specs.Limits.{HasFewSlots}
 use Rattle.om_lower.proofs.FunctionBodies.{all_behind, all_front}
 use Rattle.om_scope_tree.specs.ResolvedTree.{ResolvedStatementTree, Declaration, Block, Empty, Expression, If, IfElse}
-use Rattle.om_scope_tree.specs.ResolvedTree.{While, Do, For, Return, Break, Continue, Parallel, Task, Loop, Sections}
+use Rattle.om_scope_tree.specs.ResolvedTree.{While, Do, For, Return, Break, Continue, Region, Loop, Sections}
 use Rattle.om_scope_tree.specs.ResolvedTree.{Construct, Update, StandAlone, ResolvedStatementsTree, NoStatements}
 use Rattle.om_scope_tree.specs.ResolvedTree.{Statement, ResolvedPartsTree, NoParts, Part, ResolvedFunctionTree}
-use Rattle.om_lower_rules.specs.Bodies.{BodySite, FunctionBody, Numbers, ParallelBody, TaskBody, all_regions, behind}
+use Rattle.om_lower_rules.specs.Bodies.{BodySite, FunctionBody, Numbers, RegionBody, all_regions, behind}
 use Rattle.om_lower_rules.specs.Bodies.{behind_all, function_bodies, function_variables, next_body, next_pick, parts_regions}
 use Rattle.om_lower_rules.specs.Bodies.{region_variables, regions}
 
@@ -35,21 +35,10 @@ mutual
   round_in f outer n (Return at value) le few = All-nil (IsRound f)
   round_in f outer n (Break at) le few = All-nil (IsRound f)
   round_in f outer n (Continue at) le few = All-nil (IsRound f)
-  round_in f outer n (Parallel at clauses captures s) le few =
+  round_in f outer n (Region at kind clauses captures s) le few =
       let here : BodySite = record {
         function = f;
-        tree = ParallelBody at clauses captures s;
-        outer = outer;
-        numbers = next_body n;
-      } in
-      let inner = regions f (region_variables clauses s) (next_body n) s in
-      All-cons (IsRound f) here inner (refl, le)
-      (round_in f (region_variables clauses s) (next_body n) s (All-head HasFewSlots here inner few)
-      (All-tail HasFewSlots here inner few))
-  round_in f outer n (Task at clauses captures s) le few =
-      let here : BodySite = record {
-        function = f;
-        tree = TaskBody at clauses captures s;
+        tree = RegionBody at kind clauses captures s;
         outer = outer;
         numbers = next_body n;
       } in

@@ -11,8 +11,9 @@ use Rattle.om_lower_emit.specs.declared.draft.Pick.{Pick}
 use Rattle.om_lower_emit.specs.Drafts.{Labels, Written, known, nothing, place_in, settled, settled_code}
 use Rattle.om_lower_emit.specs.Emits.{Finished, Fits}
 use Rattle.om_lower_emit.specs.Settled.{ListsStand, number_of, settled_list, settled_lists}
+use Rattle.om_scope_tree.specs.declared.resolved.RegionKind.TheVariants as kinds
 use Rattle.om_scope_tree.specs.ResolvedTree.{ResolvedFunctionTree}
-use Rattle.om_lower_rules.specs.Bodies.{BodyTree, FunctionBody, Numbers, ParallelBody, TaskBody}
+use Rattle.om_lower_rules.specs.Bodies.{BodyTree, FunctionBody, Numbers, RegionBody}
 use Rattle.om_lower_rules.specs.Code.{body_row}
 use Rattle.om_lower_rules.specs.Rows.{Site}
 use Rattle.om_lower_rules.specs.Scopes.{Found, body_scopes}
@@ -81,9 +82,9 @@ lists_are names n f tree start final made first lists emitted =
 all_over : (at : Site) (f : ResolvedFunctionTree) (tree : BodyTree) (p q : ℕ) (found : Found)
     → body_scopes at f tree p q found → found ≡ record { opened = []; closed = found.closed }
 all_over at f FunctionBody p q found r = λ i. record { opened = (ap (λ (x : Found). x.opened) r.2) i; closed = found.closed }
-all_over at f (ParallelBody first clauses captures s) p q found r =
+all_over at f (RegionBody first kinds.Parallel clauses captures s) p q found r =
     λ i. record { opened = (ap (λ (x : Found). x.opened) r.2) i; closed = found.closed }
-all_over at f (TaskBody first clauses captures s) p q found r =
+all_over at f (RegionBody first kinds.Task clauses captures s) p q found r =
     λ i. record { opened = (ap (λ (x : Found). x.opened) r.2) i; closed = found.closed }
 
 -- what begins and ends in a body that is written from nothing are its scopes, in its own code

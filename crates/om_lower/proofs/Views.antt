@@ -62,18 +62,12 @@ view_stand_alone at directive = ap view.statement (sym (v.rolls-StandAlone at di
     ∙ fold-roll-ResolvedStatement ResolvedStatementTree ResolvedStatementsTree statement_layer part_layer
     (ResolvedStatement-F.StandAlone at directive)
 
-pub view_parallel : (at : _) (clauses : _) (captures : _) (s : _) → view.statement
-    (v.Parallel at clauses captures s)
-    ≡ trees.Parallel at (map view.clause clauses.items) captures (view.statement s.value)
-view_parallel at clauses captures s = ap view.statement (sym (v.rolls-Parallel at clauses captures s))
+pub view_region : (at : _) (kind : _) (clauses : _) (captures : _) (s : _) → view.statement
+    (v.Region at kind clauses captures s)
+    ≡ trees.Region at kind (map view.clause clauses.items) captures (view.statement s.value)
+view_region at kind clauses captures s = ap view.statement (sym (v.rolls-Region at kind clauses captures s))
     ∙ fold-roll-ResolvedStatement ResolvedStatementTree ResolvedStatementsTree statement_layer part_layer
-    (ResolvedStatement-F.Parallel at clauses captures s)
-
-pub view_task : (at : _) (clauses : _) (captures : _) (s : _) → view.statement (v.Task at clauses captures s)
-    ≡ trees.Task at (map view.clause clauses.items) captures (view.statement s.value)
-view_task at clauses captures s = ap view.statement (sym (v.rolls-Task at clauses captures s))
-    ∙ fold-roll-ResolvedStatement ResolvedStatementTree ResolvedStatementsTree statement_layer part_layer
-    (ResolvedStatement-F.Task at clauses captures s)
+    (ResolvedStatement-F.Region at kind clauses captures s)
 
 pub view_block : (at : _) (items : _) → view.statement (v.Block at items)
     ≡ trees.Block at (trees.statements (map view.statement items.items))

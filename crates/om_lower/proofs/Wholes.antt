@@ -11,13 +11,14 @@ use Rattle.om_lexer.specs.declared.token.Span.{Span}
 use Rattle.om_scope_tree.specs.declared.resolved.Capture.{Capture}
 use Rattle.om_scope_tree.specs.ResolvedTree.{ResolvedClauseTree, ResolvedFunctionTree, ResolvedStatementTree}
 use Rattle.om_scope_tree.specs.ResolvedTree.{ResolvedStatementsTree}
-use Rattle.om_lower_rules.specs.Bodies.{FunctionBody, ParallelBody, TaskBody}
+use Rattle.om_lower_rules.specs.Bodies.{FunctionBody, RegionBody}
 use Rattle.om_lower_rules.specs.Rows.{end, ins, part}
 use Rattle.om_lower_rules.specs.Statements.{last_instruction, nowhere, reduction_starts, reductions, statement, statements}
 use Rattle.om_lower_emit.specs.declared.spot.JumpLabels.{JumpLabels}
 use Rattle.om_lower_emit.specs.declared.spot.Spot.{Spot}
 use Rattle.om_lower_emit.specs.Statements.{EmitsStatement, EmitsStatements, EmitsWith}
 use Rattle.om_scope_tree.specs.declared.resolved.LocalVariable.{LocalVariable}
+use Rattle.om_scope_tree.specs.declared.resolved.RegionKind.TheVariants as kinds
 use Rattle.om_lower_rules.specs.Scopes.{after, all_scopes, before, block, body_scopes, both, each_scope, instructions}
 use Rattle.om_lower_rules.specs.Scopes.{parameter_scope, scopes, task_scope, team_scope}
 use Rattle.om_lower_emit.specs.declared.writing.ScopeStack.{ScopeStack}
@@ -72,7 +73,7 @@ pub task_emits : (names : Numbered) (numbers : tables.Numbers) (spot : Spot) (fi
     (clauses : List ResolvedClauseTree) (captures : List Capture) (s : ResolvedStatementTree)
     (a b c : Written) → IsOutside numbers spot
     → EmitsStatement names (numbers_of spot.numbers) s spot.jumps a b → Puts first.line i.TaskEnd b c
-    → EmitsRegion names (numbers_of numbers) (TaskBody first clauses captures s) a c
+    → EmitsRegion names (numbers_of numbers) (RegionBody first kinds.Task clauses captures s) a c
 task_emits names numbers spot first clauses captures s a b c outside emitted put f =
     part_then _ (λ done at. statement (site names done) (numbers_of numbers) s nowhere)
     (λ done at. ins (site names done) first.line i.TaskEnd end) a b c
@@ -86,7 +87,7 @@ pub parallel_emits : (names : Numbered) (numbers : tables.Numbers) (spot : Spot)
     → EmitsStatement names (numbers_of spot.numbers) s spot.jumps c d
     → EmitsRow names (λ at. reductions at first.line clauses) d e
     → Puts first.line (i.Arrive barriers.Parallel) e g → Puts first.line i.Leave g h
-    → EmitsRegion names (numbers_of numbers) (ParallelBody first clauses captures s) a h
+    → EmitsRegion names (numbers_of numbers) (RegionBody first kinds.Parallel clauses captures s) a h
 parallel_emits names numbers spot first clauses captures s a b c d e g h outside begin starts emitted combined
     arrive leave f =
     with_as k _ (λ done at. part (ins (site names done) first.line i.Begin end) (begun done at)) _ a h
@@ -142,7 +143,8 @@ pub task_scopes : (names : Numbered) (first : Span) (clauses : List ResolvedClau
     → ScopesStand names (λ at. each_scope task_scope clauses) a x a y
     → ScopesStand names (λ at. block (scopes at s)) a y b z → Puts first.line last b c
     → (height ≤ length z.opened.items → EndsScopes height to z w)
-    → (f : ResolvedFunctionTree) → ScopesStand names (λ at. body_scopes at f (TaskBody first clauses captures s)) a x c w
+    → (f : ResolvedFunctionTree)
+    → ScopesStand names (λ at. body_scopes at f (RegionBody first kinds.Task clauses captures s)) a x c w
 task_scopes names first clauses captures s height to last a b c x y z w high here head inside put ends f =
     stand_block names (λ at. both (each_scope task_scope clauses) (before (block (scopes at s)) (instructions 1))) a x c z
     w height to high here
@@ -159,7 +161,7 @@ pub parallel_scopes : (names : Numbered) (first : Span) (clauses : List Resolved
     → EmitsRow names (λ at. reductions at first.line clauses) d e → Puts first.line v e g → Puts first.line t g h
     → (height ≤ length z.opened.items → EndsScopes height to z w)
     → (f : ResolvedFunctionTree)
-    → ScopesStand names (λ at. body_scopes at f (ParallelBody first clauses captures s)) a x h w
+    → ScopesStand names (λ at. body_scopes at f (RegionBody first kinds.Parallel clauses captures s)) a x h w
 parallel_scopes names first clauses captures s height to u v t a b c d e g h x y z w high here begin starts inside
     combined arrive leave ends f =
     stand_block names (λ at. both (after (instructions 1) (each_scope (team_scope at first.line) clauses))

@@ -5,6 +5,8 @@ use Rattle.om_lower.specs.declared.body.Emitted.{Emitted}
 use Rattle.om_lower_emit.specs.Drafts.{Written}
 use Rattle.om_lower_emit.specs.Emits.{site}
 use Rattle.om_lower_emit.specs.Settled.{ListsStand, number_of}
+use Rattle.om_scope_tree.specs.declared.resolved.RegionKind.{RegionKind}
+use Rattle.om_scope_tree.specs.declared.resolved.RegionKind.TheVariants as kinds
 use Rattle.om_scope_tree.specs.declared.resolved.ResolvedFunction.{ResolvedFunction}
 use Rattle.om_scope_tree.specs.ResolvedTree.{ResolvedFunctionTree}
 use Rattle.om_scope_tree.specs.ResolvedView as view
@@ -19,7 +21,7 @@ use Rattle.om_lower_rules.specs.Scopes.{body_scopes}
 use Rattle.om_lower_rules.specs.declared.body.BodyTables.{BodyTables}
 use Rattle.om_lower_rules.specs.declared.copies.Region.{Region}
 use Rattle.om_lower_rules.specs.declared.numbers.Numbers as tables
-use Rattle.om_lower_tables.specs.Regions.{parallel_tree, task_tree}
+use Rattle.om_lower_tables.specs.Regions.{tree_as}
 use Rattle.om_lower_tables.specs.Sites.{body_in}
 use Rattle.om_lower_tables.specs.declared.sites.Site.{Site}
 use Rattle.om_lower_emit.specs.declared.writing.Writing.{Writing}
@@ -112,22 +114,37 @@ abbrev pub WritesOwnScopes : {T E : Type 0} → Result T E → BodyTables → Re
 WritesOwnScopes result tables f old new =
     OnOk result (EmitsScopes (numbered_by tables) (λ at. body_scopes at (view.function f) FunctionBody) old new)
 
+-- the body of a region, as one of this kind
+abbrev pub WritesBodyAs : {T E : Type 0} → RegionKind → Result T E → BodyTables → tables.Numbers → Region → Writing
+    → Writing → Type 0
+WritesBodyAs kind result tables numbers region old new = OnOk result
+    (EmitsRegion (numbered_by tables) (numbers_of numbers) (tree_as kind region) old.draft new.draft)
+
+abbrev pub WritesScopesAs : {T E : Type 0} → RegionKind → Result T E → BodyTables → Region → Writing → Writing → Type 0
+WritesScopesAs kind result tables region old new =
+    OnOk result (EmitsRegionScopes (numbered_by tables) (tree_as kind region) old new)
+
+abbrev pub WritesRegionBody : {T E : Type 0} → Result T E → BodyTables → tables.Numbers → Region → Writing → Writing
+    → Type 0
+WritesRegionBody result tables numbers region old new = WritesBodyAs region.kind result tables numbers region old new
+
+abbrev pub WritesRegionScopes : {T E : Type 0} → Result T E → BodyTables → Region → Writing → Writing → Type 0
+WritesRegionScopes result tables region old new = WritesScopesAs region.kind result tables region old new
+
 -- the body of a `parallel`, which each thread of a team runs
 abbrev pub WritesParallelBody : {T E : Type 0} → Result T E → BodyTables → tables.Numbers → Region → Writing → Writing
     → Type 0
-WritesParallelBody result tables numbers region old new = OnOk result
-    (EmitsRegion (numbered_by tables) (numbers_of numbers) (parallel_tree region) old.draft new.draft)
+WritesParallelBody result tables numbers region old new =
+    WritesBodyAs kinds.Parallel result tables numbers region old new
 
 abbrev pub WritesParallelScopes : {T E : Type 0} → Result T E → BodyTables → Region → Writing → Writing → Type 0
-WritesParallelScopes result tables region old new =
-    OnOk result (EmitsRegionScopes (numbered_by tables) (parallel_tree region) old new)
+WritesParallelScopes result tables region old new = WritesScopesAs kinds.Parallel result tables region old new
 
 -- the body of a `task`
 abbrev pub WritesTaskBody : {T E : Type 0} → Result T E → BodyTables → tables.Numbers → Region → Writing → Writing
     → Type 0
-WritesTaskBody result tables numbers region old new = OnOk result
-    (EmitsRegion (numbered_by tables) (numbers_of numbers) (task_tree region) old.draft new.draft)
+WritesTaskBody result tables numbers region old new =
+    WritesBodyAs kinds.Task result tables numbers region old new
 
 abbrev pub WritesTaskScopes : {T E : Type 0} → Result T E → BodyTables → Region → Writing → Writing → Type 0
-WritesTaskScopes result tables region old new =
-    OnOk result (EmitsRegionScopes (numbered_by tables) (task_tree region) old new)
+WritesTaskScopes result tables region old new = WritesScopesAs kinds.Task result tables region old new

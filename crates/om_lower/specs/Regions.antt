@@ -1,11 +1,14 @@
 -- What is promised of what stands in the place of a `parallel` or a `task`.
 use Rattle.std.specs.Prelude.{◌≡◌, ℕ, List, IfOk, OnOk, Result, map}
+use Rattle.om_scope_tree.specs.declared.resolved.RegionKind.{RegionKind}
+use Rattle.om_scope_tree.specs.declared.resolved.RegionKind.TheVariants as kinds
 use Rattle.om_scope_tree.specs.declared.resolved.ResolvedClause.{ResolvedClause}
 use Rattle.om_scope_tree.specs.ResolvedTree.{ResolvedClauseTree, ResolvedStatementTree}
 use Rattle.om_scope_tree.specs.ResolvedTree as trees
 use Rattle.om_scope_tree.specs.ResolvedView as view
 use Rattle.om_lower_rules.specs.Bodies as rows
 use Rattle.om_lower_rules.specs.BodyTables.{numbered_by}
+use Rattle.om_lower_rules.specs.Coded.{RegionIsCoded}
 use Rattle.om_lower_rules.specs.Copies.{first_copies_of}
 use Rattle.om_lower_rules.specs.Ends.{IsKnown}
 use Rattle.om_lower_rules.specs.Expressions.{value}
@@ -28,13 +31,23 @@ use Rattle.om_lower_emit.specs.declared.spot.JumpLabels.{JumpLabels}
 abbrev pub clauses_of : Region → List ResolvedClauseTree
 clauses_of region = map view.clause region.clauses.now
 
+-- the statement that has these parts, as a region of this kind
+abbrev pub tree_as : RegionKind → Region → ResolvedStatementTree
+tree_as kind region =
+    trees.Region region.at kind (clauses_of region) region.captures.now (view.statement region.statement.now)
+
+abbrev pub tree_of : Region → ResolvedStatementTree
+tree_of region = tree_as region.kind region
+
 abbrev pub parallel_of : Region → ResolvedStatementTree
-parallel_of region =
-    trees.Parallel region.at (clauses_of region) region.captures.now (view.statement region.statement.now)
+parallel_of region = tree_as kinds.Parallel region
 
 abbrev pub task_of : Region → ResolvedStatementTree
-task_of region =
-    trees.Task region.at (clauses_of region) region.captures.now (view.statement region.statement.now)
+task_of region = tree_as kinds.Task region
+
+-- what stands in its place has code
+abbrev pub RegionHasCode : Region → Type 0
+RegionHasCode region = RegionIsCoded false region.kind (clauses_of region)
 
 -- the slots of its body, by the variables that they hold
 abbrev pub slots_of : Region → List ℕ
@@ -61,13 +74,6 @@ abbrev pub EmitsRegion : {T E : Type 0} → Result T E → BodyTables → Number
     → Written → Type 0
 EmitsRegion result tables numbers tree old new = OnOk result ((jumps : JumpLabels)
     → EmitsStatement (numbered_by tables) (numbers_of numbers) tree jumps old new)
-
--- that of a `parallel`, and that of a `task`
-abbrev pub EmitsParallel : {T E : Type 0} → Result T E → BodyTables → Numbers → Region → Written → Written → Type 0
-EmitsParallel result tables numbers region old new = EmitsRegion result tables numbers (parallel_of region) old new
-
-abbrev pub EmitsTask : {T E : Type 0} → Result T E → BodyTables → Numbers → Region → Written → Written → Type 0
-EmitsTask result tables numbers region old new = EmitsRegion result tables numbers (task_of region) old new
 
 -- the originals of its firstprivate copies are loaded
 abbrev pub LoadsGiven : BodyTables → Region → Written → Written → Type 0

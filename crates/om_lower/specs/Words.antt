@@ -1,7 +1,8 @@
 -- The words of the clauses of this crate, so that a file takes them from one place.
 pub use Rattle.om_lexer.specs.Faults.{no_memory}
 pub use Rattle.om_lower.specs.Emitted.{FitsSite, HasOwnEnds, HasSiteCode, HasSiteEnds, WritesOwnBody, WritesOwnScopes}
-pub use Rattle.om_lower.specs.Emitted.{WritesParallelBody, WritesParallelScopes, WritesSiteBody, WritesSiteScopes}
+pub use Rattle.om_lower.specs.Emitted.{WritesParallelBody, WritesParallelScopes, WritesRegionBody, WritesRegionScopes}
+pub use Rattle.om_lower.specs.Emitted.{WritesSiteBody, WritesSiteScopes}
 pub use Rattle.om_lower.specs.Emitted.{WritesTaskBody, WritesTaskScopes}
 pub use Rattle.om_lower.specs.Frames.{FitsSlots, FitsVariables}
 pub use Rattle.om_lower.specs.Heights.{AreLow}

@@ -58,9 +58,7 @@ fn variables_in(alloc: Global, site: &Site<'_>) -> AllocResult<Variables>
 {
     match &site.part {
         BodyPart::Function => function_variables(alloc, site.function),
-        BodyPart::Parallel(region) | BodyPart::Task(region) => {
-            region_variables(alloc, region.clauses, region.statement)
-        }
+        BodyPart::Region(region) => { region_variables(alloc, region.clauses, region.statement) }
     }
 }
 
@@ -172,7 +170,7 @@ fn captures_in<'a>(part: &BodyPart<'a>) -> &'a [Capture]
 {
     match part {
         BodyPart::Function => &[],
-        BodyPart::Parallel(region) | BodyPart::Task(region) => region.captures,
+        BodyPart::Region(region) => region.captures,
     }
 }
 
@@ -245,9 +243,7 @@ fn given_in(seen: &SeenBody<'_>) -> AllocResult<Seq<u32>>
     let parameters = seen.site.function.parameters.as_slice();
     match &seen.site.part {
         BodyPart::Function => parameter_slots(alloc, seen.variables, parameters),
-        BodyPart::Parallel(region) | BodyPart::Task(region) => {
-            copies_given(alloc, region, seen.variables)
-        }
+        BodyPart::Region(region) => { copies_given(alloc, region, seen.variables) }
     }
 }
 

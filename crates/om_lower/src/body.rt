@@ -3,7 +3,8 @@
 ghost use Rattle.std.specs.Prelude.{◌≡◌, ◌≤◌, IfOk, false, length};
 ghost use Rattle.om_lower.specs.Words.{BodyHasCode, FitsSite, FunctionBody, HasEnds, HasOwnEnds, HasSiteCode};
 ghost use Rattle.om_lower.specs.Words.{HasSiteEnds, StatementHasCode, WritesOwnBody, WritesOwnScopes};
-ghost use Rattle.om_lower.specs.Words.{WritesParallelBody, WritesParallelScopes, WritesSiteBody, WritesSiteScopes};
+ghost use Rattle.om_lower.specs.Words.{WritesParallelBody, WritesParallelScopes, WritesRegionBody};
+ghost use Rattle.om_lower.specs.Words.{WritesRegionScopes, WritesSiteBody, WritesSiteScopes};
 ghost use Rattle.om_lower.specs.Words.{WritesTaskBody, WritesTaskScopes, known_in, numbers_of, settled_code};
 ghost use Rattle.om_lower.specs.Words.{settled_lists, statement_of};
 ghost use Rattle.om_scope_tree.specs.ResolvedView as view;
@@ -21,7 +22,7 @@ use om_lower_emit::spot::Spot;
 use om_lower_emit::writing::Writing;
 use om_lower_rules::{BodyTables, Numbers, Region, VariableScope};
 use om_lower_tables::{BodyPart, Site};
-use om_scope_tree::ResolvedFunction;
+use om_scope_tree::{RegionKind, ResolvedFunction};
 use om_seq::{AllocResult, Seq};
 use std::alloc::Global;
 
@@ -67,8 +68,7 @@ fn write(
 {
     match &site.part {
         BodyPart::Function => write_function(alloc, writing, tables, site.numbers, site.function),
-        BodyPart::Parallel(region) => write_parallel(alloc, writing, tables, site.numbers, region),
-        BodyPart::Task(region) => write_task(alloc, writing, tables, site.numbers, region),
+        BodyPart::Region(region) => write_region(alloc, writing, tables, site.numbers, region),
     }
 }
 
@@ -93,6 +93,26 @@ fn write_function(
     writing.draft.put(function.closing_line, last)?;
     let to = writing.draft.place();
     writing.scopes.end(height, to)
+}
+
+// Writes the statement of a region, and what stands around it.
+fn write_region(
+    alloc: Global,
+    writing: &mut Writing,
+    tables: &BodyTables<'_>,
+    numbers: Numbers,
+    region: &Region<'_>,
+) -> AllocResult<()>
+    requires code { StatementHasCode false false (statement_of region.now) }
+    requires ends { HasEnds (known_in tables.now) (numbers_of numbers)
+        (statement_of region.now) }
+    ensures code { WritesRegionBody result tables.now numbers region.now writing.old writing.new }
+    ensures scopes { WritesRegionScopes result tables.now region.now writing.old writing.new }
+{
+    match region.kind {
+        RegionKind::Parallel => write_parallel(alloc, writing, tables, numbers, region),
+        RegionKind::Task => write_task(alloc, writing, tables, numbers, region),
+    }
 }
 
 // Writes what each thread of a team does (OpenMP API 5.2, section 10.1): its implicit task begins,

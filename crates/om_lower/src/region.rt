@@ -1,8 +1,8 @@
 //! A `parallel` and a `task`, in the body that meets them. Their own bodies stand by themselves.
 
 ghost use Rattle.std.specs.Prelude.{◌≡◌, ◌≤◌, IfOk, IfSome, OnOk, is_some, length};
-ghost use Rattle.om_lower.specs.Regions.{AppendsTeamSize, EmitsParallel, EmitsTask, IsKnownThere, LoadsGiven};
-ghost use Rattle.om_lower.specs.Regions.{LoadsOriginals, given_to, parallel_of, slots_of, task_of};
+ghost use Rattle.om_lower.specs.Regions.{AppendsTeamSize, EmitsRegion, IsKnownThere, LoadsGiven, LoadsOriginals};
+ghost use Rattle.om_lower.specs.Regions.{RegionHasCode, given_to, parallel_of, slots_of, task_of, tree_of};
 ghost use Rattle.om_lower.specs.Words.{GivesBehind, ValueHasCode, value_in};
 
 use om_code::Instr;
@@ -10,13 +10,32 @@ use om_lower_emit::clause::clause_value;
 use om_lower_emit::draft::Draft;
 use om_lower_emit::{Here, value};
 use om_lower_rules::{BodyTables, FirstCopy, Numbers, Region, Variables, given_copies};
-use om_scope_tree::ResolvedClause;
+use om_scope_tree::{RegionKind, ResolvedClause};
 use om_seq::AllocResult;
 use std::alloc::Global;
 
-/// Writes what stands in the place of a `parallel`, and gives the numbers behind it. Its body gets
-/// the number of the next one.
-pub(crate) fn parallel(
+/// Writes what stands in the place of a region, and gives the numbers behind it. Its body gets the
+/// number of the next one.
+pub(crate) fn region_there(
+    alloc: Global,
+    draft: &mut Draft,
+    tables: &BodyTables<'_>,
+    numbers: Numbers,
+    region: &Region<'_>,
+) -> AllocResult<Numbers>
+    requires code { RegionHasCode region.now }
+    requires known { IsKnownThere tables.now numbers region.now }
+    ensures behind { GivesBehind result numbers (tree_of region.now) }
+    ensures emitted { EmitsRegion result tables.now numbers (tree_of region.now) draft.old draft.new }
+{
+    match region.kind {
+        RegionKind::Parallel => parallel(alloc, draft, tables, numbers, region),
+        RegionKind::Task => task(alloc, draft, tables, numbers, region),
+    }
+}
+
+// Writes what stands in the place of a `parallel`.
+fn parallel(
     alloc: Global,
     draft: &mut Draft,
     tables: &BodyTables<'_>,
@@ -26,7 +45,7 @@ pub(crate) fn parallel(
     requires code { IfSome (value_in region.now.clauses.now) ValueHasCode }
     requires known { IsKnownThere tables.now numbers region.now }
     ensures behind { GivesBehind result numbers (parallel_of region.now) }
-    ensures emitted { EmitsParallel result tables.now numbers region.now draft.old draft.new }
+    ensures emitted { EmitsRegion result tables.now numbers (parallel_of region.now) draft.old draft.new }
 {
     let at = region.at;
     let sized = team_size(draft, &Here { tables, at }, region.clauses)?;
@@ -46,9 +65,8 @@ pub(crate) fn parallel(
     Ok(tables.behind_region(numbers.bodies))
 }
 
-/// Writes what stands in the place of a `task`, and gives the numbers behind it. Its body gets the
-/// number of the next one.
-pub(crate) fn task(
+// Writes what stands in the place of a `task`.
+fn task(
     alloc: Global,
     draft: &mut Draft,
     tables: &BodyTables<'_>,
@@ -57,7 +75,7 @@ pub(crate) fn task(
 ) -> AllocResult<Numbers>
     requires known { IsKnownThere tables.now numbers region.now }
     ensures behind { GivesBehind result numbers (task_of region.now) }
-    ensures emitted { EmitsTask result tables.now numbers region.now draft.old draft.new }
+    ensures emitted { EmitsRegion result tables.now numbers (task_of region.now) draft.old draft.new }
 {
     let variables = tables.region_variables(numbers.bodies);
     let count = load_given(alloc, draft, tables, region, variables)?;

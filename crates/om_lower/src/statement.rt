@@ -7,7 +7,7 @@ ghost use Rattle.om_lower.specs.Words.{HaveEndsThere, HavePartsEndsThere, PartsH
 ghost use Rattle.om_lower.specs.Words.{ScopesOfBlock, ScopesOfParts, part_trees};
 ghost use Rattle.om_scope_tree.specs.ResolvedView as view;
 
-use crate::region::{parallel, task};
+use crate::region::region_there;
 use crate::worksharing::{
     PartsSpot, SectionsHead, begin_parts, begin_worksharing, end_worksharing,
 };
@@ -144,36 +144,22 @@ pub(crate) fn statement(
             jump(&mut writing.draft, at.line, spot.jumps.next)?;
             Ok(numbers)
         }
-        ResolvedStatement::Parallel {
+        ResolvedStatement::Region {
             at,
+            kind,
             clauses,
             captures,
             body,
         } => {
             let region = Region {
                 at: *at,
+                kind: *kind,
                 clauses: clauses.as_slice(),
                 captures: captures.as_slice(),
                 statement: body,
             };
             // Named for the prover alone: a goal in `proofs/` speaks of what is behind it.
-            let after = parallel(alloc, &mut writing.draft, tables, numbers, &region)?;
-            Ok(after)
-        }
-        ResolvedStatement::Task {
-            at,
-            clauses,
-            captures,
-            body,
-        } => {
-            let region = Region {
-                at: *at,
-                clauses: clauses.as_slice(),
-                captures: captures.as_slice(),
-                statement: body,
-            };
-            // Named for the prover alone: a goal in `proofs/` speaks of what is behind it.
-            let after = task(alloc, &mut writing.draft, tables, numbers, &region)?;
+            let after = region_there(alloc, &mut writing.draft, tables, numbers, &region)?;
             Ok(after)
         }
         ResolvedStatement::Loop {

@@ -14,13 +14,14 @@ use Rattle.om_code.specs.declared.raw.Raw.{Raw}
 use Rattle.om_code.specs.Validity.{HasOneHeight}
 use Rattle.om_code.specs.Ways.{pops, pushes, successors, Way, starts, follows}
 use Rattle.om_scope_tree.specs.declared.resolved.ConstructKind.TheVariants as constructs
+use Rattle.om_scope_tree.specs.declared.resolved.RegionKind.TheVariants as kinds
 use Rattle.om_scope_tree.specs.ResolvedTree.{ResolvedStatementTree, Declaration, Block, Empty, Expression, If, IfElse}
-use Rattle.om_scope_tree.specs.ResolvedTree.{While, Do, For, Return, Break, Continue, Parallel, Task, Loop, Sections}
+use Rattle.om_scope_tree.specs.ResolvedTree.{While, Do, For, Return, Break, Continue, Region, Loop, Sections}
 use Rattle.om_scope_tree.specs.ResolvedTree.{Construct, Update, StandAlone, ResolvedStatementsTree, NoStatements}
 use Rattle.om_scope_tree.specs.ResolvedTree.{Statement, ResolvedPartsTree, NoParts, Part, ResolvedFunctionTree}
 use Rattle.om_scope_tree.specs.ResolvedTree.{ResolvedTree}
-use Rattle.om_lower_rules.specs.Bodies.{Numbers, next_pick, behind, behind_all, BodyTree, BodySite, FunctionBody, ParallelBody}
-use Rattle.om_lower_rules.specs.Bodies.{TaskBody, bodies_of}
+use Rattle.om_lower_rules.specs.Bodies.{Numbers, next_pick, behind, behind_all, BodyTree, BodySite, FunctionBody, RegionBody}
+use Rattle.om_lower_rules.specs.Bodies.{bodies_of}
 use Rattle.om_lower_rules.specs.Code.{body_row, site_of, IsBodyOf}
 use Rattle.om_lower_rules.specs.Expressions.{effect}
 use Rattle.om_lower_rules.specs.Laws.{CodeIsLevel, IsLevel}
@@ -126,10 +127,10 @@ module _ (at : Site) where
         (λ hs k. k.0)
     statement_levels (Continue first) n j h p q r = level_more (heads.jump_levels at first.line j.next h p q r)
         (λ hs k. k.1)
-    statement_levels (Parallel first clauses captures s) n j h p q r =
+    statement_levels (Region first kinds.Parallel clauses captures s) n j h p q r =
         level_free (heads.parallel_levels at first.line n.bodies (clause_value clauses)
         (given_copies clauses captures s) h p q r)
-    statement_levels (Task first clauses captures s) n j h p q r =
+    statement_levels (Region first kinds.Task clauses captures s) n j h p q r =
         level_free (heads.task_levels at first.line n.bodies (given_copies clauses captures s) h p q r)
     statement_levels (Loop first clauses nowait loop s) n j h p q r =
         level_free
@@ -325,7 +326,7 @@ body_levels at n f FunctionBody r =
     finished at.picks at.code r.0 f.closing_line (last_instruction at.is_main false)
     (level_more (statements_levels at f.body n nowhere 0 0 r.0 r.1) (λ hs k. (tt, tt)))
     r.2.0 r.2.1 (last_pops at.is_main) (last_ways at.picks r.0 at.is_main)
-body_levels at n f (ParallelBody first clauses captures s) r =
+body_levels at n f (RegionBody first kinds.Parallel clauses captures s) r =
     let b = r.1.2.2 in
     finished at.picks at.code (b.0 + 1) first.line i.Leave
     (level_next {R = Unit {0}} {next = 0} 0 (r.0, tt) refl (omega arith) (omega arith) (λ u.
@@ -334,7 +335,7 @@ body_levels at n f (ParallelBody first clauses captures s) r =
     (level_join (heads.reductions_levels at first.line clauses 0 r.1.2.0 b.0 b.1)
     (level_next {R = Unit {0}} {next = 0} 0 (b.2.0, tt) refl (omega arith) (omega arith) (λ u. level_end refl))))))
     b.2.1.0 b.2.1.1 refl refl
-body_levels at n f (TaskBody first clauses captures s) r =
+body_levels at n f (RegionBody first kinds.Task clauses captures s) r =
     finished at.picks at.code r.0 first.line i.TaskEnd
     (level_more (statement_levels at s n nowhere 0 0 r.0 r.1) (λ hs k. (tt, tt)))
     r.2.0 r.2.1 refl refl

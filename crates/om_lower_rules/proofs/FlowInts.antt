@@ -11,7 +11,7 @@ use Rattle.om_scope_tree.specs.ResolvedTree.{TeamSize, Print, Unary, Binary, Con
 use Rattle.om_scope_tree.specs.ResolvedTree.{PostfixElement, ValuesTree, NoValues, Value, ResolvedDeclaratorTree}
 use Rattle.om_scope_tree.specs.ResolvedTree.{ResolvedStartTree, StartNothing, StartExpression, StartDeclaration}
 use Rattle.om_scope_tree.specs.ResolvedTree.{ResolvedStatementTree, Declaration, Block, Empty, Expression, If, IfElse}
-use Rattle.om_scope_tree.specs.ResolvedTree.{While, Do, For, Return, Break, Continue, Parallel, Task, Loop, Sections}
+use Rattle.om_scope_tree.specs.ResolvedTree.{While, Do, For, Return, Break, Continue, Region, Loop, Sections}
 use Rattle.om_scope_tree.specs.ResolvedTree.{Construct, Update, StandAlone, ResolvedStatementsTree, NoStatements}
 use Rattle.om_scope_tree.specs.ResolvedTree.{Statement}
 use Rattle.om_lower_rules.specs.Operators.{step_of}
@@ -204,8 +204,7 @@ module _ (at : Layout) where
     statement_keeps (Return first e) n g w h = returned_keeps e g w h
     statement_keeps (Break first) n g w h = h
     statement_keeps (Continue first) n g w h = h
-    statement_keeps (Parallel first clauses captures s) n g w h = h
-    statement_keeps (Task first clauses captures s) n g w h = h
+    statement_keeps (Region first kind clauses captures s) n g w h = h
     statement_keeps (Loop first clauses nowait l s) n g w h = h
     statement_keeps (Sections first clauses nowait parts) n g w h = h
     statement_keeps (Construct first kind clauses s) n g w h = h

@@ -16,9 +16,10 @@ use Rattle.om_code.specs.declared.raw.Slot.{Slot}
 use Rattle.om_code.specs.Validity.{FitsOuter, CanBegin, IsKnownBody, IsKnown, IsGiven, NamesKnown, HasNames}
 use Rattle.om_code.specs.Validity.{IsScopeOf}
 use Rattle.om_scope_tree.specs.declared.resolved.LocalVariable.{LocalVariable}
+use Rattle.om_scope_tree.specs.declared.resolved.RegionKind.TheVariants as kinds
 use Rattle.om_scope_tree.specs.ResolvedTree.{ResolvedFunctionTree, ResolvedTree}
 use Rattle.om_scope_tree.specs.Whole.{within, of_parallel}
-use Rattle.om_lower_rules.specs.Bodies.{Numbers, first_numbers, called_body, BodyTree, FunctionBody, ParallelBody, TaskBody}
+use Rattle.om_lower_rules.specs.Bodies.{Numbers, first_numbers, called_body, BodyTree, FunctionBody, RegionBody}
 use Rattle.om_lower_rules.specs.Bodies.{BodySite, variables_of, region_variables, function_variables, bodies_of}
 use Rattle.om_lower_rules.specs.Code.{given_variables, captures_of, slots_of, given_of, site_of, IsBodyOf}
 use Rattle.om_lower_rules.specs.Code.{IsCodeOf}
@@ -214,10 +215,10 @@ module _ (tree : ResolvedTree) (raw : Raw) (code : IsCodeOf tree raw) where
             (λ m r. named_ins r (last_known body.slots (at b body is p).is_main) named_end));
         named = has_names b body is p;
       }
-  known_site f (ParallelBody first clauses captures s) outer n body is p small =
+  known_site f (RegionBody first kinds.Parallel clauses captures s) outer n body is p small =
       let b : BodySite = record {
         function = f;
-        tree = ParallelBody first clauses captures s;
+        tree = RegionBody first kinds.Parallel clauses captures s;
         outer = outer;
         numbers = n;
       } in
@@ -248,10 +249,10 @@ module _ (tree : ResolvedTree) (raw : Raw) (code : IsCodeOf tree raw) where
             named_ins r tt (λ r. named_ins r tt named_end))))));
         named = has_names b body is p;
       }
-  known_site f (TaskBody first clauses captures s) outer n body is p small =
+  known_site f (RegionBody first kinds.Task clauses captures s) outer n body is p small =
       let b : BodySite = record {
         function = f;
-        tree = TaskBody first clauses captures s;
+        tree = RegionBody first kinds.Task clauses captures s;
         outer = outer;
         numbers = n;
       } in

@@ -12,18 +12,19 @@ use Rattle.om_code.specs.declared.raw.Slot.{Slot}
 use Rattle.om_code.specs.Validity.{IsKnownBody}
 use Rattle.om_scope_tree.specs.declared.resolved.Capture.{Capture}
 use Rattle.om_scope_tree.specs.declared.resolved.ConstructKind.TheVariants as constructs
+use Rattle.om_scope_tree.specs.declared.resolved.RegionKind.TheVariants as kinds
 use Rattle.om_scope_tree.specs.Captures.{expression_uses, perhaps_uses, clause_uses, captured_variable}
 use Rattle.om_scope_tree.specs.ResolvedTree.{ResolvedExpressionTree, ResolvedDeclaratorTree, ResolvedClauseTree}
 use Rattle.om_scope_tree.specs.ResolvedTree.{ResolvedStartTree, StartNothing, StartExpression, StartDeclaration}
 use Rattle.om_scope_tree.specs.ResolvedTree.{ResolvedStatementTree, Declaration, Block, Empty, Expression, If, IfElse}
-use Rattle.om_scope_tree.specs.ResolvedTree.{While, Do, For, Return, Break, Continue, Parallel, Task, Loop, Sections}
+use Rattle.om_scope_tree.specs.ResolvedTree.{While, Do, For, Return, Break, Continue, Region, Loop, Sections}
 use Rattle.om_scope_tree.specs.ResolvedTree.{Construct, Update, StandAlone, ResolvedStatementsTree, NoStatements}
 use Rattle.om_scope_tree.specs.ResolvedTree.{Statement, ResolvedPartsTree, NoParts, Part, ResolvedFunctionTree}
 use Rattle.om_scope_tree.specs.ResolvedTree.{ResolvedTree}
 use Rattle.om_scope_tree.specs.Whole.{Around, IsWhole, repeated, after_start, after_item, after_declarators, declared}
 use Rattle.om_scope_tree.specs.Whole.{within, iterated, of_parallel, of_task, of_worksharing, of_construct}
 use Rattle.om_scope_tree.specs.Whole.{IsWholeStatement, AreWholeItems, AreWholeParts}
-use Rattle.om_lower_rules.specs.Bodies.{Numbers, next_body, next_pick, behind, behind_all, BodySite, ParallelBody, TaskBody}
+use Rattle.om_lower_rules.specs.Bodies.{Numbers, next_body, next_pick, behind, behind_all, BodySite, RegionBody}
 use Rattle.om_lower_rules.specs.Bodies.{region_variables, regions, all_regions, parts_regions, bodies_of}
 use Rattle.om_lower_rules.specs.Code.{captures_of, given_of}
 use Rattle.om_lower_rules.specs.Expressions.{value}
@@ -257,7 +258,7 @@ module _ (tree : ResolvedTree) (raw : Raw) (at : Site) (slots : List Slot) (prog
         first.line j.over p q r
     statement_names (Continue first) n j around g w v t k b p q r = heads.jump_names tree raw at slots program
         first.line j.next p q r
-    statement_names (Parallel first clauses captures s) n j around g w v t k b p q r =
+    statement_names (Region first kinds.Parallel clauses captures s) n j around g w v t k b p q r =
         let copies = given_copies clauses captures s in
         heads.parallel_names tree raw at slots program first.line n.bodies (clause_value clauses) copies
         (λ e is. heads.clause_value_named tree raw at slots program first.line clauses around of_parallel
@@ -268,7 +269,7 @@ module _ (tree : ResolvedTree) (raw : Raw) (at : Site) (slots : List Slot) (prog
         clauses captures s around of_parallel g w.0 v))
         (region_known n.bodies (record {
           function = f;
-          tree = ParallelBody first clauses captures s;
+          tree = RegionBody first kinds.Parallel clauses captures s;
           outer = at.slots;
           numbers = next_body n;
         }) clauses captures s
@@ -276,14 +277,14 @@ module _ (tree : ResolvedTree) (raw : Raw) (at : Site) (slots : List Slot) (prog
         refl refl (given_long copies (region_variables clauses s))
         (slots_back (flat_map clause_uses clauses) (map captured_variable captures) v))
         p q r
-    statement_names (Task first clauses captures s) n j around g w v t k b p q r =
+    statement_names (Region first kinds.Task clauses captures s) n j around g w v t k b p q r =
         let copies = given_copies clauses captures s in
         heads.task_names tree raw at slots program first.line n.bodies copies
         (heads.loads_names tree raw at slots program first.line copies (heads.copies_known tree raw at slots program
         clauses captures s around of_task g w.0 v))
         (region_known n.bodies (record {
           function = f;
-          tree = TaskBody first clauses captures s;
+          tree = RegionBody first kinds.Task clauses captures s;
           outer = at.slots;
           numbers = next_body n;
         }) clauses captures s

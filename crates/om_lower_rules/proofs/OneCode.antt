@@ -11,9 +11,10 @@ use Rattle.om_code.specs.declared.raw.Piece.{Piece}
 use Rattle.om_code.specs.declared.raw.Raw.{Raw}
 use Rattle.om_code.specs.declared.raw.Line.{Line}
 use Rattle.om_code.specs.Ways.{exits, places, Way, starts, follows}
+use Rattle.om_scope_tree.specs.declared.resolved.RegionKind.TheVariants as kinds
 use Rattle.om_scope_tree.specs.ResolvedTree.{ResolvedFunctionTree, ResolvedTree}
 use Rattle.om_lower_rules.specs.declared.scope.VariableScope.{VariableScope}
-use Rattle.om_lower_rules.specs.Bodies.{Numbers, next_body, BodyTree, BodySite, FunctionBody, ParallelBody, TaskBody}
+use Rattle.om_lower_rules.specs.Bodies.{Numbers, next_body, BodyTree, BodySite, FunctionBody, RegionBody}
 use Rattle.om_lower_rules.specs.Bodies.{function_variables, function_bodies, behind_function, behind_functions, bodies_from}
 use Rattle.om_lower_rules.specs.Bodies.{bodies_of, first_numbers, variables_of}
 use Rattle.om_lower_rules.specs.Code.{body_row, IsBodyOf}
@@ -71,7 +72,7 @@ module _ (functions : List ResolvedFunctionTree) (formats locks picks picks' : L
       (λ m m' r t. twin_next r t (last_list base.is_main) twin_end))
       (λ g. tt) in
       (a.same refl, a.agree refl tt)
-  body_agrees f (ParallelBody first clauses captures s) n base code code' q q' r t =
+  body_agrees f (RegionBody first kinds.Parallel clauses captures s) n base code code' q q' r t =
       let a : Alike code code' picks picks' (Unit {0}) (Unit {0}) 0 q 0 q' =
       twin_as
       (twin_next r t tt (λ r t.
@@ -82,7 +83,7 @@ module _ (functions : List ResolvedFunctionTree) (formats locks picks picks' : L
       twin_next r t tt (λ r t. twin_next r t tt twin_end))))))
       (λ g. tt) in
       (a.same refl, a.agree refl tt)
-  body_agrees f (TaskBody first clauses captures s) n base code code' q q' r t =
+  body_agrees f (RegionBody first kinds.Task clauses captures s) n base code code' q q' r t =
       let a : Alike code code' picks picks' (Unit {0}) (Unit {0}) 0 q 0 q' =
       twin_as
       (twin_within r t (λ k. (refl, refl)) (twins.statement_twin functions formats locks picks picks' f s n [] base

@@ -12,14 +12,14 @@ use Rattle.om_scope_tree.specs.Beside.{TreeCopiesBehind}
 use Rattle.om_scope_tree.specs.ResolvedTree.{ResolvedDeclaratorTree, ResolvedClauseTree, ResolvedStartTree, StartNothing}
 use Rattle.om_scope_tree.specs.ResolvedTree.{StartExpression, StartDeclaration, ResolvedStatementTree, Declaration, Block}
 use Rattle.om_scope_tree.specs.ResolvedTree.{Empty, Expression, If, IfElse, While, Do, For, Return, Break, Continue}
-use Rattle.om_scope_tree.specs.ResolvedTree.{Parallel, Task, Loop, Sections, Construct, Update, StandAlone}
+use Rattle.om_scope_tree.specs.ResolvedTree.{Region, Loop, Sections, Construct, Update, StandAlone}
 use Rattle.om_scope_tree.specs.ResolvedTree.{ResolvedStatementsTree, NoStatements, Statement, ResolvedPartsTree, NoParts}
 use Rattle.om_scope_tree.specs.ResolvedTree.{Part, ResolvedFunctionTree, ResolvedTree}
 use Rattle.om_scope_tree.specs.Whole.{Around, Admitted, declared, after_declarators, repeated, after_start, after_item}
-use Rattle.om_scope_tree.specs.Whole.{within, iterated, of_parallel, of_task, IsRegion, AreWholeClauses, IsWholeStatement}
+use Rattle.om_scope_tree.specs.Whole.{within, iterated, of_region, IsRegion, AreWholeClauses, IsWholeStatement}
 use Rattle.om_scope_tree.specs.Whole.{AreWholeItems, AreWholeParts, IsWholeFunction, IsWholeTree, at_function}
 use Rattle.om_lower_rules.specs.Bodies.{Numbers, next_body, next_pick, behind, behind_all, behind_function, BodyTree}
-use Rattle.om_lower_rules.specs.Bodies.{FunctionBody, ParallelBody, TaskBody, BodySite, variables_of, region_variables}
+use Rattle.om_lower_rules.specs.Bodies.{FunctionBody, RegionBody, BodySite, variables_of, region_variables}
 use Rattle.om_lower_rules.specs.Bodies.{function_variables, regions, all_regions, parts_regions, function_bodies, bodies_from}
 use Rattle.om_lower_rules.specs.Bodies.{bodies_of, first_numbers}
 use Rattle.om_lower_rules.specs.Mentions.{Mention, format_mention, lock_mention, extent_mention, perhaps_mentioned}
@@ -43,19 +43,17 @@ pub record IsWholeRegion (around : Around) (admitted : Admitted) (first : Span) 
 
 abbrev pub IsWholeBody : Around → ResolvedFunctionTree → BodyTree → Type 0
 IsWholeBody around f FunctionBody = AreWholeItems around f.body
-IsWholeBody around f (ParallelBody first clauses captures s) = IsWholeRegion around of_parallel first clauses captures s
-IsWholeBody around f (TaskBody first clauses captures s) = IsWholeRegion around of_task first clauses captures s
+IsWholeBody around f (RegionBody first kind clauses captures s) =
+    IsWholeRegion around (of_region kind) first clauses captures s
 
 -- what a body mentions, and the bodies in it
 abbrev pub body_mentioned : {A : Type 0} → Mention A → ResolvedFunctionTree → BodyTree → List A
 body_mentioned m f FunctionBody = all_mentioned m f.body
-body_mentioned m f (ParallelBody first clauses captures s) = mentioned m s
-body_mentioned m f (TaskBody first clauses captures s) = mentioned m s
+body_mentioned m f (RegionBody first kind clauses captures s) = mentioned m s
 
 abbrev pub inner : ResolvedFunctionTree → BodyTree → List ℕ → Numbers → List BodySite
 inner f FunctionBody variables n = all_regions f variables n f.body
-inner f (ParallelBody first clauses captures s) variables n = regions f variables n s
-inner f (TaskBody first clauses captures s) variables n = regions f variables n s
+inner f (RegionBody first kind clauses captures s) variables n = regions f variables n s
 
 abbrev pub HasCells : Extent → Type 0
 HasCells extent = 1 ≤ extent.cells
@@ -165,22 +163,7 @@ module _ (tree : ResolvedTree) where
           (locks_back (start_mentioned lock_mention start) (perhaps_mentioned lock_mention c
           ++ (perhaps_mentioned lock_mention step ++ mentioned lock_mention s)) k)))
           b
-      placed (Parallel first clauses captures s) around outer n g w a t k b =
-          let ts = formats_back (flat_map (clause_mentioned format_mention) clauses) (mentioned format_mention s) t in
-          let ks = locks_back (flat_map (clause_mentioned lock_mention) clauses) (mentioned lock_mention s) k in
-          let bs = stands_tail (bodies_of tree) _ (regions f (region_variables clauses s) (next_body n) s) n.bodies b in
-          All-cons (IsPlaced tree) _ (regions f (region_variables clauses s) (next_body n) s)
-          (record {
-            around = around;
-            here = g;
-            whole = record { listed = w.0; region = w.1; copies = a.0; body = w.2 };
-            formats = ts;
-            locks = ks;
-            inside = bs;
-            extents = extents;
-          })
-          (placed s (within around clauses) (region_variables clauses s) (next_body n) g w.2 a.1 ts ks bs)
-      placed (Task first clauses captures s) around outer n g w a t k b =
+      placed (Region first kind clauses captures s) around outer n g w a t k b =
           let ts = formats_back (flat_map (clause_mentioned format_mention) clauses) (mentioned format_mention s) t in
           let ks = locks_back (flat_map (clause_mentioned lock_mention) clauses) (mentioned lock_mention s) k in
           let bs = stands_tail (bodies_of tree) _ (regions f (region_variables clauses s) (next_body n) s) n.bodies b in

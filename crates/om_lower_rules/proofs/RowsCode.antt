@@ -9,6 +9,7 @@ use Rattle.om_code.specs.declared.instruction.Instr.TheVariants as i
 use Rattle.om_code.specs.declared.instruction.Side.{Side}
 use Rattle.om_scope_tree.specs.declared.resolved.ConstructKind.TheVariants as constructs
 use Rattle.om_scope_tree.specs.declared.resolved.LocalVariable.{LocalVariable}
+use Rattle.om_scope_tree.specs.declared.resolved.RegionKind.TheVariants as kinds
 use Rattle.om_scope_tree.specs.declared.resolved.UnaryOperator.{UnaryOperator}
 use Rattle.om_scope_tree.specs.declared.resolved.UnaryOperator.TheVariants as unaries
 use Rattle.om_scope_tree.specs.declared.resolved.Variable as variables
@@ -18,10 +19,10 @@ use Rattle.om_scope_tree.specs.ResolvedTree.{PostfixElement, ValuesTree, NoValue
 use Rattle.om_scope_tree.specs.ResolvedTree.{ResolvedClauseTree, ResolvedLoopTree, ResolvedStartTree, StartNothing}
 use Rattle.om_scope_tree.specs.ResolvedTree.{StartExpression, StartDeclaration, ResolvedStatementTree, Declaration, Block}
 use Rattle.om_scope_tree.specs.ResolvedTree.{Empty, Expression, If, IfElse, While, Do, For, Return, Break, Continue}
-use Rattle.om_scope_tree.specs.ResolvedTree.{Parallel, Task, Loop, Sections, Construct, Update, StandAlone}
+use Rattle.om_scope_tree.specs.ResolvedTree.{Region, Loop, Sections, Construct, Update, StandAlone}
 use Rattle.om_scope_tree.specs.ResolvedTree.{ResolvedStatementsTree, NoStatements, Statement, ResolvedPartsTree, NoParts}
 use Rattle.om_scope_tree.specs.ResolvedTree.{Part, ResolvedFunctionTree}
-use Rattle.om_lower_rules.specs.Bodies.{Numbers, next_pick, behind, behind_all, BodyTree, FunctionBody, ParallelBody, TaskBody}
+use Rattle.om_lower_rules.specs.Bodies.{Numbers, next_pick, behind, behind_all, BodyTree, FunctionBody, RegionBody}
 use Rattle.om_lower_rules.specs.Code.{body_row}
 use Rattle.om_lower_rules.specs.Coded.{ValueIsCoded, ValuesAreCoded, EffectIsCoded, DeclaratorIsCoded, StartIsCoded}
 use Rattle.om_lower_rules.specs.Coded.{AssignmentIsCoded, StatementIsCoded, StatementsAreCoded, PartsAreCoded, BodyIsCoded}
@@ -225,9 +226,9 @@ module _ (at : Site) where
     statement_says (Return first e) n j p q r = returned_says first.line at.is_main e p q r
     statement_says (Break first) n j p q r = jump_says first.line j.over p q r
     statement_says (Continue first) n j p q r = jump_says first.line j.next p q r
-    statement_says (Parallel first clauses captures s) n j p q r =
+    statement_says (Region first kinds.Parallel clauses captures s) n j p q r =
         perhaps_says (value at first.line) (ValueIsCoded false) (clause_value clauses) (value_says first.line) p r.0 r.1
-    statement_says (Task first clauses captures s) n j p q r = tt
+    statement_says (Region first kinds.Task clauses captures s) n j p q r = tt
     statement_says (Loop first clauses nowait loop s) n j p q r =
         loop_says first.line clauses nowait loop (λ next. statement at n s (in_iteration next))
         (StatementIsCoded false false true s) (comparison_of loop.comparison)
@@ -277,6 +278,6 @@ module _ (at : Site) where
   pub body_says : (n : Numbers) (f : ResolvedFunctionTree) (tree : BodyTree) → Says (body_row at n f tree)
       (BodyIsCoded false f tree)
   body_says n f FunctionBody p q r = statements_say f.body n nowhere p r.0 r.1
-  body_says n f (ParallelBody first clauses captures s) p q r = let u = r.1.2 in statement_says s n nowhere r.1.0
+  body_says n f (RegionBody first kinds.Parallel clauses captures s) p q r = let u = r.1.2 in statement_says s n nowhere r.1.0
       u.0 u.1
-  body_says n f (TaskBody first clauses captures s) p q r = statement_says s n nowhere p r.0 r.1
+  body_says n f (RegionBody first kinds.Task clauses captures s) p q r = statement_says s n nowhere p r.0 r.1

@@ -6,15 +6,16 @@ use Rattle.om_scope_tree.specs.declared.resolved.ConstructKind.TheVariants as co
 use Rattle.om_scope_tree.specs.declared.resolved.CopyKind.{CopyKind}
 use Rattle.om_scope_tree.specs.declared.resolved.CopyKind.TheVariants as copies
 use Rattle.om_scope_tree.specs.declared.resolved.LocalVariable.{LocalVariable}
+use Rattle.om_scope_tree.specs.declared.resolved.RegionKind.TheVariants as kinds
 use Rattle.om_scope_tree.specs.declared.resolved.Variable as variables
 use Rattle.om_scope_tree.specs.ResolvedTree.{ResolvedExpressionTree, ResolvedDeclaratorTree, ResolvedClauseTree}
 use Rattle.om_scope_tree.specs.ResolvedTree.{ClauseValue, Shared, Copied, ResolvedLoopTree, ResolvedStartTree}
 use Rattle.om_scope_tree.specs.ResolvedTree.{StartNothing, StartExpression, StartDeclaration, ResolvedStatementTree}
 use Rattle.om_scope_tree.specs.ResolvedTree.{Declaration, Block, Empty, Expression, If, IfElse, While, Do, For, Return}
-use Rattle.om_scope_tree.specs.ResolvedTree.{Break, Continue, Parallel, Task, Loop, Sections, Construct, Update}
+use Rattle.om_scope_tree.specs.ResolvedTree.{Break, Continue, Region, Loop, Sections, Construct, Update}
 use Rattle.om_scope_tree.specs.ResolvedTree.{StandAlone, ResolvedStatementsTree, NoStatements, Statement}
 use Rattle.om_scope_tree.specs.ResolvedTree.{ResolvedPartsTree, NoParts, Part, ResolvedFunctionTree}
-use Rattle.om_lower_rules.specs.Bodies.{BodyTree, FunctionBody, ParallelBody, TaskBody}
+use Rattle.om_lower_rules.specs.Bodies.{BodyTree, FunctionBody, RegionBody}
 use Rattle.om_lower_rules.specs.Expressions.{value, effect}
 use Rattle.om_lower_rules.specs.Rows.{Site, Row, end, ins, part, perhaps}
 use Rattle.om_lower_rules.specs.Scopes.{Found, ◌then◌, ending, Scoping, plain, after, before, both, each_scope, opens_at, opens}
@@ -232,13 +233,13 @@ module _ (base : Site) (code code' : List Line) (picks picks' : List (List ℕ))
     statement_match (Continue first) =
         plain_match _ _ (λ p q q' x y. ends _ _
         (heads.jump_twin base code code' picks picks' first.line x.1.next y.1.next) p q q' x.2 y.2)
-    statement_match (Parallel first clauses captures s) =
+    statement_match (Region first kinds.Parallel clauses captures s) =
         plain_match _ _ (λ p q q' x y. parts_end _ _ _ _
         (perhaps_end (value c first.line) (value d first.line) (clause_value clauses) (value_ends first.line))
         (parts_end _ _ _ _
         (ends _ _ (heads.loads_twin base code code' picks picks' first.line (given_copies clauses captures s)))
         (ins_ends first.line _ _)) p q q' x.2 y.2)
-    statement_match (Task first clauses captures s) =
+    statement_match (Region first kinds.Task clauses captures s) =
         plain_match _ _ (λ p q q' x y. parts_end _ _ _ _
         (ends _ _ (heads.loads_twin base code code' picks picks' first.line (given_copies clauses captures s)))
         (ins_ends first.line _ _) p q q' x.2 y.2)
@@ -290,13 +291,13 @@ module _ (base : Site) (code code' : List Line) (picks picks' : List (List ℕ))
       block_match _ _ (both_match _ _ _ _
       (each_match parameter_scope parameter_scope f.parameters (λ x. opens_at_match 0 None x end end end_ends))
       (before_match _ _ _ _ (statements_match f.body) (instructions_end 1)))
-  body_match f (ParallelBody first clauses captures s) =
+  body_match f (RegionBody first kinds.Parallel clauses captures s) =
       block_match _ _ (both_match _ _ _ _
       (after_match _ _ _ _ (instructions_end 1)
       (each_match (team_scope c first.line) (team_scope d first.line) clauses (team_match first.line)))
       (before_match _ _ _ _ (inner s (statement_match s))
       (parts_end _ _ _ _ (ends _ _ (heads.reductions_twin base code code' picks picks' first.line clauses))
       (instructions_end 2))))
-  body_match f (TaskBody first clauses captures s) =
+  body_match f (RegionBody first kinds.Task clauses captures s) =
       block_match _ _ (both_match _ _ _ _ (each_match task_scope task_scope clauses task_match)
       (before_match _ _ _ _ (inner s (statement_match s)) (instructions_end 1)))

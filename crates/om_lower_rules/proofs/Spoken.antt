@@ -8,8 +8,8 @@ use Rattle.om_scope_tree.specs.ResolvedTree.{ResolvedExpressionTree, Constant, V
 use Rattle.om_scope_tree.specs.ResolvedTree.{TeamSize, Unary, Binary, Conditional, Assign, AssignElement, Postfix}
 use Rattle.om_scope_tree.specs.ResolvedTree.{PostfixElement, Print, ResolvedStartTree, StartNothing, StartExpression}
 use Rattle.om_scope_tree.specs.ResolvedTree.{StartDeclaration, ResolvedStatementTree, Declaration, Block, Empty}
-use Rattle.om_scope_tree.specs.ResolvedTree.{Expression, If, IfElse, While, Do, For, Return, Break, Continue, Parallel}
-use Rattle.om_scope_tree.specs.ResolvedTree.{Task, Loop, Sections, Construct, Update, StandAlone, ResolvedStatementsTree}
+use Rattle.om_scope_tree.specs.ResolvedTree.{Expression, If, IfElse, While, Do, For, Return, Break, Continue, Region}
+use Rattle.om_scope_tree.specs.ResolvedTree.{Loop, Sections, Construct, Update, StandAlone, ResolvedStatementsTree}
 use Rattle.om_scope_tree.specs.ResolvedTree.{NoStatements, Statement}
 use Rattle.om_lower_rules.specs.Mentions.{expression_formats, values_formats, format_mention, perhaps_mentioned}
 use Rattle.om_lower_rules.specs.Mentions.{start_mentioned, mentioned, all_mentioned}
@@ -127,8 +127,7 @@ module _ (formats : List (List ℕ)) where
     spoken (Return first e) g h = g
     spoken (Break first) g h = g
     spoken (Continue first) g h = g
-    spoken (Parallel first clauses captures s) g h = absurd g
-    spoken (Task first clauses captures s) g h = absurd g
+    spoken (Region first kind clauses captures s) g h = absurd g
     spoken (Loop first clauses nowait l s) g h = absurd g
     spoken (Sections first clauses nowait parts) g h = absurd g
     spoken (Construct first kind clauses s) g h = absurd g

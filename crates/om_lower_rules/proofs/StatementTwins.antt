@@ -9,13 +9,14 @@ use Rattle.om_code.specs.declared.instruction.Instr.TheVariants as i
 use Rattle.om_code.specs.declared.raw.Line.{Line}
 use Rattle.om_scope_tree.specs.declared.resolved.Capture.{Capture}
 use Rattle.om_scope_tree.specs.declared.resolved.ConstructKind.TheVariants as constructs
+use Rattle.om_scope_tree.specs.declared.resolved.RegionKind.TheVariants as kinds
 use Rattle.om_scope_tree.specs.ResolvedTree.{ResolvedClauseTree, ResolvedStatementTree, Declaration, Block, Empty}
-use Rattle.om_scope_tree.specs.ResolvedTree.{Expression, If, IfElse, While, Do, For, Return, Break, Continue, Parallel}
-use Rattle.om_scope_tree.specs.ResolvedTree.{Task, Loop, Sections, Construct, Update, StandAlone, ResolvedStatementsTree}
+use Rattle.om_scope_tree.specs.ResolvedTree.{Expression, If, IfElse, While, Do, For, Return, Break, Continue, Region}
+use Rattle.om_scope_tree.specs.ResolvedTree.{Loop, Sections, Construct, Update, StandAlone, ResolvedStatementsTree}
 use Rattle.om_scope_tree.specs.ResolvedTree.{NoStatements, Statement, ResolvedPartsTree, NoParts, Part}
 use Rattle.om_scope_tree.specs.ResolvedTree.{ResolvedFunctionTree}
 use Rattle.om_lower_rules.specs.Bodies.{Numbers, next_body, next_pick, behind, behind_all, behind_parts, BodySite}
-use Rattle.om_lower_rules.specs.Bodies.{ParallelBody, TaskBody, variables_of, region_variables, regions, all_regions}
+use Rattle.om_lower_rules.specs.Bodies.{RegionBody, variables_of, region_variables, regions, all_regions}
 use Rattle.om_lower_rules.specs.Bodies.{parts_regions}
 use Rattle.om_lower_rules.specs.Code.{body_row}
 use Rattle.om_lower_rules.specs.Expressions.{effect}
@@ -154,7 +155,7 @@ module _ (functions : List ResolvedFunctionTree) (formats locks picks picks' : L
         (s : ResolvedStatementTree) (n : Numbers) (outer : List ℕ)
         (h : HasCodes (record {
           function = f;
-          tree = ParallelBody first clauses captures s;
+          tree = RegionBody first kinds.Parallel clauses captures s;
           outer = outer;
           numbers = next_body n;
         }))
@@ -173,7 +174,7 @@ module _ (functions : List ResolvedFunctionTree) (formats locks picks picks' : L
         (s : ResolvedStatementTree) (n : Numbers) (outer : List ℕ)
         (h : HasCodes (record {
           function = f;
-          tree = TaskBody first clauses captures s;
+          tree = RegionBody first kinds.Task clauses captures s;
           outer = outer;
           numbers = next_body n;
         }))
@@ -266,14 +267,14 @@ module _ (functions : List ResolvedFunctionTree) (formats locks picks picks' : L
       statement_twin (Continue first) n outer base code code' j j' p p' q q' r t =
           own n (twin_more (heads.jump_twin base code code' picks picks' first.line j.next j'.next p p' q q' r t)
           (λ k. k.1))
-      statement_twin (Parallel first clauses captures s) n outer base code code' j j' p p' q q' r t =
+      statement_twin (Region first kinds.Parallel clauses captures s) n outer base code code' j j' p p' q q' r t =
           twin_as
           (twin_more (heads.parallel_twin base code code' picks picks' first.line n.bodies (clause_value clauses)
           (given_copies clauses captures s) p p' q q' r t) (λ k. tt))
           (λ g h. parallel_covers first clauses captures s n outer h.0
           (statement_twin s (next_body n) (region_variables clauses s) (region_base clauses s) h.0.code h.0.code'
           nowhere nowhere) h.1)
-      statement_twin (Task first clauses captures s) n outer base code code' j j' p p' q q' r t =
+      statement_twin (Region first kinds.Task clauses captures s) n outer base code code' j j' p p' q q' r t =
           twin_as
           (twin_more (heads.task_twin base code code' picks picks' first.line n.bodies
           (given_copies clauses captures s) p p' q q' r t) (λ k. tt))

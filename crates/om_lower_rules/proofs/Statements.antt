@@ -18,7 +18,7 @@ use Rattle.om_scope_tree.specs.ResolvedTree.{TeamSize, Print, Unary, Binary, Con
 use Rattle.om_scope_tree.specs.ResolvedTree.{PostfixElement, ValuesTree, NoValues, Value, ResolvedDeclaratorTree}
 use Rattle.om_scope_tree.specs.ResolvedTree.{ResolvedStartTree, StartNothing, StartExpression, StartDeclaration}
 use Rattle.om_scope_tree.specs.ResolvedTree.{ResolvedStatementTree, Declaration, Block, Empty, Expression, If, IfElse}
-use Rattle.om_scope_tree.specs.ResolvedTree.{While, Do, For, Return, Break, Continue, Parallel, Task, Loop, Sections}
+use Rattle.om_scope_tree.specs.ResolvedTree.{While, Do, For, Return, Break, Continue, Region, Loop, Sections}
 use Rattle.om_scope_tree.specs.ResolvedTree.{Construct, Update, StandAlone, ResolvedStatementsTree, NoStatements}
 use Rattle.om_scope_tree.specs.ResolvedTree.{Statement}
 use Rattle.om_lower_rules.specs.Bodies.{Numbers, behind}
@@ -379,8 +379,7 @@ module _ (raw : Raw) (body : Body) (at : Site) (same : at.code ≡ body.code) (t
     statement_runs (Return first e) m n jumps p q s w g h = returned_runs at.is_main e first.line n p q jumps s w g h
     statement_runs (Break first) m n jumps p q s w g h = jump_runs jumps.over first.line p q s w h
     statement_runs (Continue first) m n jumps p q s w g h = jump_runs jumps.next first.line p q s w h
-    statement_runs (Parallel first clauses captures y) m n jumps p q s w g h = absurd g
-    statement_runs (Task first clauses captures y) m n jumps p q s w g h = absurd g
+    statement_runs (Region first kind clauses captures y) m n jumps p q s w g h = absurd g
     statement_runs (Loop first clauses nowait l y) m n jumps p q s w g h = absurd g
     statement_runs (Sections first clauses nowait parts) m n jumps p q s w g h = absurd g
     statement_runs (Construct first kind clauses y) m n jumps p q s w g h = absurd g

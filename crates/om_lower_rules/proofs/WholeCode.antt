@@ -7,6 +7,7 @@ use Rattle.om_parser_tree.specs.declared.tree.BinaryOperator.{BinaryOperator}
 use Rattle.om_parser_tree.specs.declared.tree.BinaryOperator.TheVariants as binaries
 use Rattle.om_scope_tree.specs.declared.resolved.ConstructKind.TheVariants as constructs
 use Rattle.om_scope_tree.specs.declared.resolved.GlobalVariable.{GlobalVariable}
+use Rattle.om_scope_tree.specs.declared.resolved.RegionKind.TheVariants as kinds
 use Rattle.om_scope_tree.specs.declared.resolved.Variable as variables
 use Rattle.om_scope_tree.specs.Beside.{Everywhere, EverywhereIn, EverywhereInParts, Assigns, AtomicAssigns}
 use Rattle.om_scope_tree.specs.ResolvedTree.{ResolvedExpressionTree, Constant, Variable, Element, Call, ThreadNumber}
@@ -15,7 +16,7 @@ use Rattle.om_scope_tree.specs.ResolvedTree.{PostfixElement, ValuesTree, NoValue
 use Rattle.om_scope_tree.specs.ResolvedTree.{ResolvedClauseTree, ClauseValue, Shared, Copied, ResolvedStartTree}
 use Rattle.om_scope_tree.specs.ResolvedTree.{StartNothing, StartExpression, StartDeclaration, ResolvedStatementTree}
 use Rattle.om_scope_tree.specs.ResolvedTree.{Declaration, Block, Empty, Expression, If, IfElse, While, Do, For, Return}
-use Rattle.om_scope_tree.specs.ResolvedTree.{Break, Continue, Parallel, Task, Loop, Sections, Construct, Update}
+use Rattle.om_scope_tree.specs.ResolvedTree.{Break, Continue, Region, Loop, Sections, Construct, Update}
 use Rattle.om_scope_tree.specs.ResolvedTree.{StandAlone, ResolvedStatementsTree, NoStatements, Statement}
 use Rattle.om_scope_tree.specs.ResolvedTree.{ResolvedPartsTree, NoParts, Part, ResolvedFunctionTree}
 use Rattle.om_scope_tree.specs.Whole.{Around, Admitted, IsWhole, AreWhole, IsWholeIfAny, AreWholeDeclarators}
@@ -233,9 +234,9 @@ mutual
   whole_statement (Return first e) around few b c eb ec w a = whole_return e around few w.1
   whole_statement (Break first) around few b c eb ec w a = sym eb ∙ w
   whole_statement (Continue first) around few b c eb ec w a = sym ec ∙ w
-  whole_statement (Parallel first clauses captures s) around few b c eb ec w a = whole_clauses clauses around few
+  whole_statement (Region first kinds.Parallel clauses captures s) around few b c eb ec w a = whole_clauses clauses around few
       of_parallel w.0
-  whole_statement (Task first clauses captures s) around few b c eb ec w a = tt
+  whole_statement (Region first kinds.Task clauses captures s) around few b c eb ec w a = tt
   whole_statement (Loop first clauses nowait l s) around few b c eb ec w a = (
     (
       whole_comparison l.comparison l.step w.1.step,
@@ -308,11 +309,7 @@ module _ (f : ResolvedFunctionTree) where
     whole_regions (Do first s x) around few outer n w a = whole_regions s (repeated around) few outer n w.0 a.1
     whole_regions (For first start x step s) around few outer n w a = whole_regions s
         (repeated (after_start around start)) (few_after_start start around few) outer n w.3 a.1
-    whole_regions (Parallel first clauses captures s) around few outer n w a =
-        All-cons SiteHasCode _ (regions f (region_variables clauses s) (next_body n) s)
-        (whole_statement s (within around clauses) few false false refl refl w.2 a.1)
-        (whole_regions s (within around clauses) few (region_variables clauses s) (next_body n) w.2 a.1)
-    whole_regions (Task first clauses captures s) around few outer n w a =
+    whole_regions (Region first kind clauses captures s) around few outer n w a =
         All-cons SiteHasCode _ (regions f (region_variables clauses s) (next_body n) s)
         (whole_statement s (within around clauses) few false false refl refl w.2 a.1)
         (whole_regions s (within around clauses) few (region_variables clauses s) (next_body n) w.2 a.1)

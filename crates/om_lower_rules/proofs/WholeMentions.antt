@@ -11,12 +11,12 @@ use Rattle.om_scope_tree.specs.ResolvedTree.{ResolvedExpressionTree, ResolvedDec
 use Rattle.om_scope_tree.specs.ResolvedTree.{ClauseValue, Shared, Copied, ResolvedStartTree, StartNothing}
 use Rattle.om_scope_tree.specs.ResolvedTree.{StartExpression, StartDeclaration, ResolvedStatementTree, Declaration, Block}
 use Rattle.om_scope_tree.specs.ResolvedTree.{Empty, Expression, If, IfElse, While, Do, For, Return, Break, Continue}
-use Rattle.om_scope_tree.specs.ResolvedTree.{Parallel, Task, Loop, Sections, Construct, Update, StandAlone}
+use Rattle.om_scope_tree.specs.ResolvedTree.{Region, Loop, Sections, Construct, Update, StandAlone}
 use Rattle.om_scope_tree.specs.ResolvedTree.{ResolvedStatementsTree, NoStatements, Statement, ResolvedPartsTree, NoParts}
 use Rattle.om_scope_tree.specs.ResolvedTree.{Part, ResolvedFunctionTree}
 use Rattle.om_scope_tree.specs.Whole.{Around, Admitted, IsWhole, IsWholeIfAny, AreWholeDeclarators, declared}
 use Rattle.om_scope_tree.specs.Whole.{AreWholeClauses, IsWholeClause, IsWholeStart, after_start, IsWholeReturn}
-use Rattle.om_scope_tree.specs.Whole.{IsWholeTarget, after_item, repeated, within, iterated, of_parallel, of_task}
+use Rattle.om_scope_tree.specs.Whole.{IsWholeTarget, after_item, repeated, within, iterated, of_region}
 use Rattle.om_scope_tree.specs.Whole.{of_worksharing, of_construct, IsWholeStatement, AreWholeItems, AreWholeParts}
 use Rattle.om_scope_tree.specs.Whole.{IsWholeFunction, at_function}
 use Rattle.om_lower_rules.specs.Mentions.{Mention, perhaps_mentioned, declarator_mentioned, start_mentioned, clause_mentioned}
@@ -116,11 +116,8 @@ module _ {A : Type 0} (m : Mention A) (P : A → Type 0)
     statement_all (Return first e) around w = returned_all e around w.1
     statement_all (Break first) around w = All-nil P
     statement_all (Continue first) around w = All-nil P
-    statement_all (Parallel first clauses captures s) around w =
-        both (flat_map (clause_mentioned m) clauses) (mentioned m s) (clauses_all clauses around of_parallel w.0)
-        (statement_all s (within around clauses) w.2)
-    statement_all (Task first clauses captures s) around w =
-        both (flat_map (clause_mentioned m) clauses) (mentioned m s) (clauses_all clauses around of_task w.0)
+    statement_all (Region first kind clauses captures s) around w =
+        both (flat_map (clause_mentioned m) clauses) (mentioned m s) (clauses_all clauses around (of_region kind) w.0)
         (statement_all s (within around clauses) w.2)
     statement_all (Loop first clauses nowait l s) around w =
         both (flat_map (clause_mentioned m) clauses) (loop_mentioned m l ++ mentioned m s)

@@ -4,9 +4,10 @@ use Rattle.std.specs.Prelude.{ℕ, ◌+◌, List, [], ◌∷◌, ◌++◌, map, 
 use Rattle.std.specs.List.{flat_map}
 use Rattle.om_lexer.specs.declared.token.Span.{Span}
 use Rattle.om_scope_tree.specs.declared.resolved.Capture.{Capture}
+use Rattle.om_scope_tree.specs.declared.resolved.RegionKind.{RegionKind}
 use Rattle.om_scope_tree.specs.ResolvedTree.{ResolvedClauseTree, ResolvedStatementTree, Declaration, Block, Empty}
-use Rattle.om_scope_tree.specs.ResolvedTree.{Expression, If, IfElse, While, Do, For, Return, Break, Continue, Parallel}
-use Rattle.om_scope_tree.specs.ResolvedTree.{Task, Loop, Sections, Construct, Update, StandAlone, ResolvedStatementsTree}
+use Rattle.om_scope_tree.specs.ResolvedTree.{Expression, If, IfElse, While, Do, For, Return, Break, Continue, Region}
+use Rattle.om_scope_tree.specs.ResolvedTree.{Loop, Sections, Construct, Update, StandAlone, ResolvedStatementsTree}
 use Rattle.om_scope_tree.specs.ResolvedTree.{NoStatements, Statement, ResolvedPartsTree, NoParts, Part}
 use Rattle.om_scope_tree.specs.ResolvedTree.{ResolvedFunctionTree, ResolvedTree}
 use Rattle.om_lower_rules.specs.Slots.{parameter_sight, region_clause_sights, statement_sights, statements_sights}
@@ -40,8 +41,7 @@ abbrev mutual
   behind n (Return at value) = n
   behind n (Break at) = n
   behind n (Continue at) = n
-  behind n (Parallel at clauses captures s) = behind (next_body n) s
-  behind n (Task at clauses captures s) = behind (next_body n) s
+  behind n (Region at kind clauses captures s) = behind (next_body n) s
   behind n (Loop at clauses nowait l s) = behind n s
   behind n (Sections at clauses nowait parts) = behind_parts (next_pick n) parts
   behind n (Construct at kind clauses s) = behind n s
@@ -77,8 +77,7 @@ called_body functions function = (behind_functions first_numbers (take function 
 pub data BodyTree : Type 0 where
   -- the whole of its function
   FunctionBody : BodyTree
-  ParallelBody : Span → List ResolvedClauseTree → List Capture → ResolvedStatementTree → BodyTree
-  TaskBody : Span → List ResolvedClauseTree → List Capture → ResolvedStatementTree → BodyTree
+  RegionBody : Span → RegionKind → List ResolvedClauseTree → List Capture → ResolvedStatementTree → BodyTree
 
 -- a body, where it stands: in a function, in a body with these variables by their slots, and with these
 -- numbers at its begin
@@ -98,8 +97,7 @@ function_variables f = table_of nat_eq (map parameter_sight f.parameters ++ stat
 -- the variables of a body, by their slots
 abbrev pub variables_in : ResolvedFunctionTree → BodyTree → List ℕ
 variables_in f FunctionBody = function_variables f
-variables_in f (ParallelBody at clauses captures s) = region_variables clauses s
-variables_in f (TaskBody at clauses captures s) = region_variables clauses s
+variables_in f (RegionBody at kind clauses captures s) = region_variables clauses s
 
 abbrev pub variables_of : BodySite → List ℕ
 variables_of b = variables_in b.function b.tree
@@ -119,11 +117,8 @@ unfoldable mutual
   regions f outer n (Return at value) = []
   regions f outer n (Break at) = []
   regions f outer n (Continue at) = []
-  regions f outer n (Parallel at clauses captures s) =
-      record { function = f; tree = ParallelBody at clauses captures s; outer = outer; numbers = next_body n }
-      ∷ regions f (region_variables clauses s) (next_body n) s
-  regions f outer n (Task at clauses captures s) =
-      record { function = f; tree = TaskBody at clauses captures s; outer = outer; numbers = next_body n }
+  regions f outer n (Region at kind clauses captures s) =
+      record { function = f; tree = RegionBody at kind clauses captures s; outer = outer; numbers = next_body n }
       ∷ regions f (region_variables clauses s) (next_body n) s
   regions f outer n (Loop at clauses nowait l s) = regions f outer n s
   regions f outer n (Sections at clauses nowait parts) = parts_regions f outer (next_pick n) parts

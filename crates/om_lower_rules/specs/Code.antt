@@ -10,10 +10,11 @@ use Rattle.om_code.specs.declared.raw.Raw.{Raw}
 use Rattle.om_code.specs.declared.raw.Slot.{Slot}
 use Rattle.om_scope_tree.specs.declared.resolved.Capture.{Capture}
 use Rattle.om_scope_tree.specs.declared.resolved.GlobalVariable.{GlobalVariable}
+use Rattle.om_scope_tree.specs.declared.resolved.RegionKind.TheVariants as kinds
 use Rattle.om_scope_tree.specs.Uses.{is_main_function}
 use Rattle.om_scope_tree.specs.ResolvedTree.{ResolvedFunctionTree, ResolvedTree}
 use Rattle.om_lower_rules.specs.declared.scope.VariableScope.{VariableScope}
-use Rattle.om_lower_rules.specs.Bodies.{Numbers, BodyTree, FunctionBody, ParallelBody, TaskBody, BodySite, variables_of}
+use Rattle.om_lower_rules.specs.Bodies.{Numbers, BodyTree, FunctionBody, RegionBody, BodySite, variables_of}
 use Rattle.om_lower_rules.specs.Bodies.{bodies_of, behind_functions, first_numbers, called_body}
 use Rattle.om_lower_rules.specs.Mentions.{extents_of, formats_of, locks_of, IsTextOf}
 use Rattle.om_lower_rules.specs.Rows.{Site, Row, end, ins, part, ◌▸◌}
@@ -28,25 +29,23 @@ use Rattle.om_lower_rules.specs.Statements.{given_copies}
 abbrev pub body_row : Site → Numbers → ResolvedFunctionTree → BodyTree → Row
 body_row at n f FunctionBody =
     part (statements at n f.body nowhere) ▸ ins at f.closing_line (last_instruction at.is_main false) ▸ end
-body_row at n f (ParallelBody first clauses captures s) =
+body_row at n f (RegionBody first kinds.Parallel clauses captures s) =
     ins at first.line i.Begin ▸ part (reduction_starts at first.line clauses) ▸ part (statement at n s nowhere)
     ▸ part (reductions at first.line clauses) ▸ ins at first.line (i.Arrive barriers.Parallel) ▸ ins at first.line
     i.Leave ▸ end
-body_row at n f (TaskBody first clauses captures s) =
+body_row at n f (RegionBody first kinds.Task clauses captures s) =
     part (statement at n s nowhere) ▸ ins at first.line i.TaskEnd ▸ end
 
 -- the variables that get the values with which a frame of a body begins
 abbrev pub given_variables : ResolvedFunctionTree → BodyTree → List ℕ
 given_variables f FunctionBody = map parameter_sight f.parameters
-given_variables f (ParallelBody first clauses captures s) = map (λ copy. copy.variable)
+given_variables f (RegionBody first kind clauses captures s) = map (λ copy. copy.variable)
     (given_copies clauses captures s)
-given_variables f (TaskBody first clauses captures s) = map (λ copy. copy.variable) (given_copies clauses captures s)
 
 -- what a body takes from the body round it
 abbrev pub captures_of : BodyTree → List Capture
 captures_of FunctionBody = []
-captures_of (ParallelBody first clauses captures s) = captures
-captures_of (TaskBody first clauses captures s) = captures
+captures_of (RegionBody first kind clauses captures s) = captures
 
 abbrev pub slots_of : BodySite → List Slot
 slots_of b = map (slot_with (extents_of b.function) b.outer (captures_of b.tree)) (variables_of b)

@@ -2,21 +2,23 @@
 -- has no value, a jump is in a loop, a canonical loop has one of the four comparisons, and an `atomic` that
 -- reads or writes is about an expression statement. Where `few` asks it, no call or `printf` has more than 16
 -- values, and no `sections` more than 256 parts.
-use Rattle.std.specs.Prelude.{◌≡◌, ◌≤◌, ℕ, Bool, true, false, All, Any, IfSome, IsSome}
+use Rattle.std.specs.Prelude.{◌≡◌, ◌≤◌, ℕ, Bool, true, false, List, All, Any, IfSome, IsSome}
 use Rattle.om_scope_tree.specs.declared.resolved.ConstructKind.TheVariants as constructs
+use Rattle.om_scope_tree.specs.declared.resolved.RegionKind.{RegionKind}
+use Rattle.om_scope_tree.specs.declared.resolved.RegionKind.TheVariants as kinds
 use Rattle.om_scope_tree.specs.Formats.{pieces_of}
 use Rattle.om_scope_tree.specs.Uses.{is_main_function}
 use Rattle.om_scope_tree.specs.ResolvedTree.{ResolvedExpressionTree, Element, Call, Print, Unary, Binary, Conditional}
 use Rattle.om_scope_tree.specs.ResolvedTree.{Assign, AssignElement, PostfixElement, ValuesTree, NoValues, Value}
-use Rattle.om_scope_tree.specs.ResolvedTree.{ResolvedDeclaratorTree, ResolvedLoopTree, ResolvedUpdateTree}
+use Rattle.om_scope_tree.specs.ResolvedTree.{ResolvedDeclaratorTree, ResolvedClauseTree, ResolvedLoopTree, ResolvedUpdateTree}
 use Rattle.om_scope_tree.specs.ResolvedTree.{ResolvedStartTree, StartNothing, StartExpression, StartDeclaration}
 use Rattle.om_scope_tree.specs.ResolvedTree.{ResolvedStatementTree, Declaration, Block, Empty, Expression, If, IfElse}
-use Rattle.om_scope_tree.specs.ResolvedTree.{While, Do, For, Return, Break, Continue, Parallel, Task, Loop, Sections}
+use Rattle.om_scope_tree.specs.ResolvedTree.{While, Do, For, Return, Break, Continue, Region, Loop, Sections}
 use Rattle.om_scope_tree.specs.ResolvedTree.{Construct, Update, StandAlone, ResolvedStatementsTree, NoStatements}
 use Rattle.om_scope_tree.specs.ResolvedTree.{Statement, ResolvedPartsTree, NoParts, Part, ResolvedFunctionTree}
 use Rattle.om_scope_tree.specs.ResolvedTree.{ResolvedTree}
 use Rattle.om_scope_tree.specs.Whole.{part_count}
-use Rattle.om_lower_rules.specs.Bodies.{BodyTree, FunctionBody, ParallelBody, TaskBody, bodies_of}
+use Rattle.om_lower_rules.specs.Bodies.{BodyTree, FunctionBody, RegionBody, bodies_of}
 use Rattle.om_lower_rules.specs.Expressions.{value_count}
 use Rattle.om_lower_rules.specs.Mentions.{formats_of}
 use Rattle.om_lower_rules.specs.Operators.{comparison_of}
@@ -72,6 +74,11 @@ abbrev pub AssignmentIsCoded : (few : Bool) → ResolvedStatementTree → Type 0
 AssignmentIsCoded few (Expression first e) = EffectIsCoded few e
 AssignmentIsCoded few _ = ⊥
 
+-- what stands in the place of a region: a `parallel` may ask for a number of threads
+abbrev pub RegionIsCoded : (few : Bool) → RegionKind → List ResolvedClauseTree → Type 0
+RegionIsCoded few kinds.Parallel clauses = IfSome (clause_value clauses) (ValueIsCoded few)
+RegionIsCoded few kinds.Task clauses = Unit {0}
+
 abbrev mutual
   -- a statement, where a `break` or a `continue` can go somewhere or not; the bodies of its regions stand by
   -- themselves, and `sections` have 256 parts at most
@@ -91,9 +98,7 @@ abbrev mutual
   StatementIsCoded few breaks continues (Return first e) = IfSome e (ValueIsCoded few)
   StatementIsCoded few breaks continues (Break first) = breaks ≡ true
   StatementIsCoded few breaks continues (Continue first) = continues ≡ true
-  StatementIsCoded few breaks continues (Parallel first clauses captures s) =
-      IfSome (clause_value clauses) (ValueIsCoded few)
-  StatementIsCoded few breaks continues (Task first clauses captures s) = Unit {0}
+  StatementIsCoded few breaks continues (Region first kind clauses captures s) = RegionIsCoded few kind clauses
   StatementIsCoded few breaks continues (Loop first clauses nowait loop s) =
       LoopIsCoded few loop × StatementIsCoded few false true s
   StatementIsCoded few breaks continues (Sections first clauses nowait sections) =
@@ -118,8 +123,7 @@ abbrev mutual
 -- a body, which no `break` or `continue` leaves
 abbrev pub BodyIsCoded : (few : Bool) → ResolvedFunctionTree → BodyTree → Type 0
 BodyIsCoded few f FunctionBody = StatementsAreCoded few false false f.body
-BodyIsCoded few f (ParallelBody first clauses captures s) = StatementIsCoded few false false s
-BodyIsCoded few f (TaskBody first clauses captures s) = StatementIsCoded few false false s
+BodyIsCoded few f (RegionBody first kind clauses captures s) = StatementIsCoded few false false s
 
 -- a tree: each of its bodies has code, each of its formats is one, and there is a `main`
 pub record TreeIsCoded (few : Bool) (tree : ResolvedTree) : Type 0 where

@@ -2,10 +2,10 @@
 -- numbers.
 use Rattle.std.specs.Prelude.{◌≡◌, ◌<◌, ◌≤◌, ℕ, List, [], ◌∷◌, ◌++◌, Some, length, slice_get}
 use Rattle.om_scope_tree.specs.ResolvedTree.{ResolvedStatementTree, Declaration, Block, Empty, Expression, If, IfElse}
-use Rattle.om_scope_tree.specs.ResolvedTree.{While, Do, For, Return, Break, Continue, Parallel, Task, Loop, Sections}
+use Rattle.om_scope_tree.specs.ResolvedTree.{While, Do, For, Return, Break, Continue, Region, Loop, Sections}
 use Rattle.om_scope_tree.specs.ResolvedTree.{Construct, Update, StandAlone, ResolvedStatementsTree, NoStatements}
 use Rattle.om_scope_tree.specs.ResolvedTree.{Statement, ResolvedPartsTree, NoParts, Part, ResolvedFunctionTree}
-use Rattle.om_lower_rules.specs.Bodies.{Numbers, BodyTree, FunctionBody, ParallelBody, TaskBody, behind, behind_all}
+use Rattle.om_lower_rules.specs.Bodies.{Numbers, BodyTree, FunctionBody, RegionBody, behind, behind_all}
 use Rattle.om_lower_rules.specs.Bodies.{behind_function, next_body, next_pick, region_variables}
 
 -- those behind the regions in a part of a body, and in those regions
@@ -23,8 +23,7 @@ abbrev mutual
   region_ends n (Return at value) = []
   region_ends n (Break at) = []
   region_ends n (Continue at) = []
-  region_ends n (Parallel at clauses captures s) = behind (next_body n) s ∷ region_ends (next_body n) s
-  region_ends n (Task at clauses captures s) = behind (next_body n) s ∷ region_ends (next_body n) s
+  region_ends n (Region at kind clauses captures s) = behind (next_body n) s ∷ region_ends (next_body n) s
   region_ends n (Loop at clauses nowait l s) = region_ends n s
   region_ends n (Sections at clauses nowait parts) = parts_region_ends (next_pick n) parts
   region_ends n (Construct at kind clauses s) = region_ends n s
@@ -80,9 +79,7 @@ abbrev mutual
   HasEnds known n (Return at value) = Unit {0}
   HasEnds known n (Break at) = Unit {0}
   HasEnds known n (Continue at) = Unit {0}
-  HasEnds known n (Parallel at clauses captures s) =
-      IsKnown known n.bodies (behind (next_body n) s) (region_variables clauses s)
-  HasEnds known n (Task at clauses captures s) =
+  HasEnds known n (Region at kind clauses captures s) =
       IsKnown known n.bodies (behind (next_body n) s) (region_variables clauses s)
   HasEnds known n (Loop at clauses nowait l s) = HasEnds known n s
   HasEnds known n (Sections at clauses nowait parts) =
@@ -102,5 +99,4 @@ abbrev mutual
 -- the same of a body
 abbrev pub HasBodyEnds : (known : KnownBodies) → Numbers → ResolvedFunctionTree → BodyTree → Type 0
 HasBodyEnds known n f FunctionBody = HasAllEnds known n f.body
-HasBodyEnds known n f (ParallelBody first clauses captures s) = HasEnds known n s
-HasBodyEnds known n f (TaskBody first clauses captures s) = HasEnds known n s
+HasBodyEnds known n f (RegionBody first kind clauses captures s) = HasEnds known n s

@@ -15,8 +15,8 @@ use Rattle.om_scope_tree.specs.ResolvedTree.{PostfixElement, ValuesTree, NoValue
 use Rattle.om_scope_tree.specs.ResolvedTree.{ResolvedClauseTree, ClauseValue, Shared, Copied, ResolvedLoopTree}
 use Rattle.om_scope_tree.specs.ResolvedTree.{ResolvedUpdateTree, ResolvedStartTree, StartNothing, StartExpression}
 use Rattle.om_scope_tree.specs.ResolvedTree.{StartDeclaration, ResolvedStatementTree, Declaration, Block, Empty}
-use Rattle.om_scope_tree.specs.ResolvedTree.{Expression, If, IfElse, While, Do, For, Return, Break, Continue, Parallel}
-use Rattle.om_scope_tree.specs.ResolvedTree.{Task, Loop, Sections, Construct, Update, StandAlone, ResolvedStatementsTree}
+use Rattle.om_scope_tree.specs.ResolvedTree.{Expression, If, IfElse, While, Do, For, Return, Break, Continue, Region}
+use Rattle.om_scope_tree.specs.ResolvedTree.{Loop, Sections, Construct, Update, StandAlone, ResolvedStatementsTree}
 use Rattle.om_scope_tree.specs.ResolvedTree.{NoStatements, Statement, ResolvedPartsTree, NoParts, Part}
 use Rattle.om_scope_tree.specs.ResolvedTree.{ResolvedFunctionTree, ResolvedTree}
 use Rattle.om_lower_rules.specs.Slots.{Extent, extent_of}
@@ -66,8 +66,7 @@ unfoldable mutual
   mentioned m (Return at value) = perhaps_mentioned m value
   mentioned m (Break at) = []
   mentioned m (Continue at) = []
-  mentioned m (Parallel at clauses captures s) = flat_map (clause_mentioned m) clauses ++ mentioned m s
-  mentioned m (Task at clauses captures s) = flat_map (clause_mentioned m) clauses ++ mentioned m s
+  mentioned m (Region at kind clauses captures s) = flat_map (clause_mentioned m) clauses ++ mentioned m s
   mentioned m (Loop at clauses nowait l s) = flat_map (clause_mentioned m) clauses
       ++ (loop_mentioned m l ++ mentioned m s)
   mentioned m (Sections at clauses nowait parts) = flat_map (clause_mentioned m) clauses ++ parts_mentioned m parts

@@ -1,10 +1,10 @@
 -- The lists of PICK that a body has.
 use Rattle.std.specs.Prelude.{ℕ, List, [], ◌∷◌, ◌++◌}
 use Rattle.om_scope_tree.specs.ResolvedTree.{ResolvedStatementTree, Declaration, Block, Empty, Expression, If, IfElse}
-use Rattle.om_scope_tree.specs.ResolvedTree.{While, Do, For, Return, Break, Continue, Parallel, Task, Loop, Sections}
+use Rattle.om_scope_tree.specs.ResolvedTree.{While, Do, For, Return, Break, Continue, Region, Loop, Sections}
 use Rattle.om_scope_tree.specs.ResolvedTree.{Construct, Update, StandAlone, ResolvedStatementsTree, NoStatements}
 use Rattle.om_scope_tree.specs.ResolvedTree.{Statement, ResolvedPartsTree, NoParts, Part, ResolvedFunctionTree}
-use Rattle.om_lower_rules.specs.Bodies.{Numbers, BodyTree, FunctionBody, ParallelBody, TaskBody, behind, behind_all, next_pick}
+use Rattle.om_lower_rules.specs.Bodies.{Numbers, BodyTree, FunctionBody, RegionBody, behind, behind_all, next_pick}
 
 -- the numbers of the lists of the `sections` in a part of a body, in the order of the text; regions in it are
 -- bodies of their own
@@ -22,8 +22,7 @@ abbrev mutual
   own_picks n (Return at value) = []
   own_picks n (Break at) = []
   own_picks n (Continue at) = []
-  own_picks n (Parallel at clauses captures s) = []
-  own_picks n (Task at clauses captures s) = []
+  own_picks n (Region at kind clauses captures s) = []
   own_picks n (Loop at clauses nowait l s) = own_picks n s
   own_picks n (Sections at clauses nowait parts) = n.picks ∷ parts_own_picks (next_pick n) parts
   own_picks n (Construct at kind clauses s) = own_picks n s
@@ -41,5 +40,4 @@ abbrev mutual
 -- those of a body
 abbrev pub body_picks : Numbers → ResolvedFunctionTree → BodyTree → List ℕ
 body_picks n f FunctionBody = all_own_picks n f.body
-body_picks n f (ParallelBody first clauses captures s) = own_picks n s
-body_picks n f (TaskBody first clauses captures s) = own_picks n s
+body_picks n f (RegionBody first kind clauses captures s) = own_picks n s

@@ -3,7 +3,7 @@ use Rattle.std.proofs.Common.{◌≡◌, ℕ, zero, suc, ◌+◌, List, [], ◌�
 use Rattle.std.proofs.Common.{length-append}
 use Rattle.std.specs.Prelude.{slice_get, take}
 use Rattle.om_scope_tree.specs.ResolvedTree.{ResolvedStatementTree, Declaration, Block, Empty, Expression, If, IfElse}
-use Rattle.om_scope_tree.specs.ResolvedTree.{While, Do, For, Return, Break, Continue, Parallel, Task, Loop, Sections}
+use Rattle.om_scope_tree.specs.ResolvedTree.{While, Do, For, Return, Break, Continue, Region, Loop, Sections}
 use Rattle.om_scope_tree.specs.ResolvedTree.{Construct, Update, StandAlone, ResolvedStatementsTree, NoStatements}
 use Rattle.om_scope_tree.specs.ResolvedTree.{Statement, ResolvedPartsTree, NoParts, Part, ResolvedFunctionTree}
 use Rattle.om_lower_rules.specs.Bodies.{Numbers, next_body, next_pick, behind, behind_all, behind_parts, behind_function}
@@ -72,9 +72,7 @@ module _ (f : ResolvedFunctionTree) where
     regions_long (Return first e) outer n = omega arith
     regions_long (Break first) outer n = omega arith
     regions_long (Continue first) outer n = omega arith
-    regions_long (Parallel first clauses captures s) outer n =
-        let a = regions_long s (region_variables clauses s) (next_body n) in omega (arith, a)
-    regions_long (Task first clauses captures s) outer n =
+    regions_long (Region first kind clauses captures s) outer n =
         let a = regions_long s (region_variables clauses s) (next_body n) in omega (arith, a)
     regions_long (Loop first clauses nowait l s) outer n = regions_long s outer n
     regions_long (Sections first clauses nowait parts) outer n = parts_regions_long parts outer (next_pick n)

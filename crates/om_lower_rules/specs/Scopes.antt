@@ -23,6 +23,7 @@ use Rattle.om_scope_tree.specs.declared.resolved.ConstructKind.TheVariants as co
 use Rattle.om_scope_tree.specs.declared.resolved.CopyKind.{CopyKind}
 use Rattle.om_scope_tree.specs.declared.resolved.CopyKind.TheVariants as copies
 use Rattle.om_scope_tree.specs.declared.resolved.LocalVariable.{LocalVariable}
+use Rattle.om_scope_tree.specs.declared.resolved.RegionKind.TheVariants as kinds
 use Rattle.om_scope_tree.specs.declared.resolved.Variable as variables
 use Rattle.om_scope_tree.specs.ResolvedTree.{ResolvedExpressionTree, ResolvedDeclaratorTree, ResolvedClauseTree}
 use Rattle.om_scope_tree.specs.ResolvedTree.{ClauseValue, Shared, Copied, ResolvedLoopTree, ResolvedStartTree}
@@ -31,7 +32,7 @@ use Rattle.om_scope_tree.specs.ResolvedTree.{Declaration, Block, If, IfElse, Whi
 use Rattle.om_scope_tree.specs.ResolvedTree.{ResolvedStatementsTree, NoStatements, Statement, ResolvedPartsTree}
 use Rattle.om_scope_tree.specs.ResolvedTree.{NoParts, Part, ResolvedFunctionTree}
 use Rattle.om_lower_rules.specs.declared.scope.VariableScope.{VariableScope}
-use Rattle.om_lower_rules.specs.Bodies.{Numbers, BodyTree, FunctionBody, ParallelBody, TaskBody}
+use Rattle.om_lower_rules.specs.Bodies.{Numbers, BodyTree, FunctionBody, RegionBody}
 use Rattle.om_lower_rules.specs.Expressions.{value, effect}
 use Rattle.om_lower_rules.specs.Rows.{Site, Row, end, never, part, ◌▸◌, perhaps}
 use Rattle.om_lower_rules.specs.Statements.{Jumps, declarator, test, copy_start, reductions, clause_value}
@@ -241,10 +242,10 @@ abbrev mutual
 abbrev pub body_scopes : Site → ResolvedFunctionTree → BodyTree → Scoping
 body_scopes at f FunctionBody =
     block (both (each_scope parameter_scope f.parameters) (before (all_scopes at f.body) (instructions 1)))
-body_scopes at f (ParallelBody first clauses captures s) =
+body_scopes at f (RegionBody first kinds.Parallel clauses captures s) =
     block (both (after (instructions 1) (each_scope (team_scope at first.line) clauses))
     (before (block (scopes at s)) (part (reductions at first.line clauses) ▸ instructions 2)))
-body_scopes at f (TaskBody first clauses captures s) =
+body_scopes at f (RegionBody first kinds.Task clauses captures s) =
     block (both (each_scope task_scope clauses) (before (block (scopes at s)) (instructions 1)))
 
 -- ---- by the slots of a body

@@ -23,8 +23,8 @@ use Rattle.om_scope_tree.specs.Captures.{stand_alone_uses, update_uses}
 use Rattle.om_scope_tree.specs.ResolvedTree.{ResolvedDeclaratorTree, ResolvedClauseTree, ClauseValue, Shared, Copied}
 use Rattle.om_scope_tree.specs.ResolvedTree.{ResolvedLoopTree, ResolvedStartTree, StartNothing, StartExpression}
 use Rattle.om_scope_tree.specs.ResolvedTree.{StartDeclaration, ResolvedStatementTree, Declaration, Block, Empty}
-use Rattle.om_scope_tree.specs.ResolvedTree.{Expression, If, IfElse, While, Do, For, Return, Break, Continue, Parallel}
-use Rattle.om_scope_tree.specs.ResolvedTree.{Task, Loop, Sections, Construct, Update, StandAlone, ResolvedStatementsTree}
+use Rattle.om_scope_tree.specs.ResolvedTree.{Expression, If, IfElse, While, Do, For, Return, Break, Continue, Region}
+use Rattle.om_scope_tree.specs.ResolvedTree.{Loop, Sections, Construct, Update, StandAlone, ResolvedStatementsTree}
 use Rattle.om_scope_tree.specs.ResolvedTree.{NoStatements, Statement, ResolvedPartsTree, NoParts, Part}
 use Rattle.om_lower_rules.specs.Rows.{Site}
 use Rattle.om_lower_rules.specs.Tables.{number_in}
@@ -87,8 +87,7 @@ unfoldable mutual
   statement_sights (Return at value) = perhaps_uses value
   statement_sights (Break at) = []
   statement_sights (Continue at) = []
-  statement_sights (Parallel at clauses captures s) = region_uses clauses captures
-  statement_sights (Task at clauses captures s) = region_uses clauses captures
+  statement_sights (Region at kind clauses captures s) = region_uses clauses captures
   statement_sights (Loop at clauses nowait l s) = flat_map clause_sights clauses
       ++ (loop_sights l ++ statement_sights s)
   statement_sights (Sections at clauses nowait parts) = flat_map clause_sights clauses ++ parts_sights parts

@@ -17,6 +17,7 @@ use Rattle.om_scope_tree.specs.declared.resolved.ConstructKind.TheVariants as co
 use Rattle.om_scope_tree.specs.declared.resolved.CopyKind.{CopyKind}
 use Rattle.om_scope_tree.specs.declared.resolved.CopyKind.TheVariants as copies
 use Rattle.om_scope_tree.specs.declared.resolved.LocalVariable.{LocalVariable}
+use Rattle.om_scope_tree.specs.declared.resolved.RegionKind.TheVariants as kinds
 use Rattle.om_scope_tree.specs.declared.resolved.StandAlone as alone
 use Rattle.om_scope_tree.specs.declared.resolved.StandAlone.TheVariants as alones
 use Rattle.om_scope_tree.specs.declared.resolved.Variable as variables
@@ -25,7 +26,7 @@ use Rattle.om_scope_tree.specs.ResolvedTree.{ResolvedExpressionTree, ResolvedDec
 use Rattle.om_scope_tree.specs.ResolvedTree.{ClauseValue, Shared, Copied, ResolvedLoopTree, ResolvedUpdateTree}
 use Rattle.om_scope_tree.specs.ResolvedTree.{ResolvedStartTree, StartNothing, StartExpression, StartDeclaration}
 use Rattle.om_scope_tree.specs.ResolvedTree.{ResolvedStatementTree, Declaration, Block, Empty, Expression, If, IfElse}
-use Rattle.om_scope_tree.specs.ResolvedTree.{While, Do, For, Return, Break, Continue, Parallel, Task, Loop, Sections}
+use Rattle.om_scope_tree.specs.ResolvedTree.{While, Do, For, Return, Break, Continue, Region, Loop, Sections}
 use Rattle.om_scope_tree.specs.ResolvedTree.{Construct, Update, StandAlone, ResolvedStatementsTree, NoStatements}
 use Rattle.om_scope_tree.specs.ResolvedTree.{Statement, ResolvedPartsTree, NoParts, Part}
 use Rattle.om_lower_rules.specs.Bodies.{Numbers, next_pick, behind, behind_all, region_variables}
@@ -293,9 +294,9 @@ abbrev mutual
   statement at n (Return first e) jumps = returned at first.line at.is_main e
   statement at n (Break first) jumps = given jumps.over (jump at first.line)
   statement at n (Continue first) jumps = given jumps.next (jump at first.line)
-  statement at n (Parallel first clauses captures s) jumps =
+  statement at n (Region first kinds.Parallel clauses captures s) jumps =
       parallel_row at first.line n.bodies (clause_value clauses) (given_copies clauses captures s)
-  statement at n (Task first clauses captures s) jumps = task_row at first.line n.bodies
+  statement at n (Region first kinds.Task clauses captures s) jumps = task_row at first.line n.bodies
       (given_copies clauses captures s)
   statement at n (Loop first clauses nowait loop s) jumps =
       loop_row at first.line clauses nowait loop (λ next. statement at n s (in_iteration next))

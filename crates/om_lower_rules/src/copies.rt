@@ -8,7 +8,9 @@ ghost use Rattle.om_lower_rules.specs.Copies.{AddsCopies, GivesCopies, clauses_f
 
 use crate::variables::Variables;
 use om_lexer::Span;
-use om_scope_tree::{Capture, CopyKind, ResolvedClause, ResolvedStatement, Taking, Variable};
+use om_scope_tree::{
+    Capture, CopyKind, RegionKind, ResolvedClause, ResolvedStatement, Taking, Variable,
+};
 use om_seq::AllocResult;
 use std::alloc::Global;
 
@@ -16,6 +18,7 @@ use std::alloc::Global;
 #[derive(Clone, Copy)]
 pub struct Region<'a> {
     pub at: Span,
+    pub kind: RegionKind,
     pub clauses: &'a [ResolvedClause],
     /// What it takes from outside.
     pub captures: &'a [Capture],

@@ -17,7 +17,7 @@ use Rattle.om_scope_tree.specs.declared.resolved.ResolvedStatement.TheOpen.{Reso
 use Rattle.om_scope_tree.specs.declared.resolved.ResolvedStatement.TheVariants as v
 use Rattle.om_scope_tree.specs.declared.resolved.ResolvedStatement.TheViews.{size-ResolvedStatement, sized-Construct}
 use Rattle.om_scope_tree.specs.declared.resolved.ResolvedStatement.TheViews.{sized-Do, sized-For, sized-If, sized-Loop}
-use Rattle.om_scope_tree.specs.declared.resolved.ResolvedStatement.TheViews.{sized-Parallel, sized-Task, sized-While}
+use Rattle.om_scope_tree.specs.declared.resolved.ResolvedStatement.TheViews.{sized-While}
 use Rattle.om_scope_tree.specs.ResolvedTree as trees
 use Rattle.om_scope_tree.specs.ResolvedTree.{ResolvedExpressionTree, ResolvedStatementTree, ResolvedStatementsTree}
 use Rattle.om_scope_tree.specs.ResolvedView.{expression_layer, part_layer, statement_layer}
@@ -177,19 +177,14 @@ weight_for t at h s is = ap all_weight_of (is ∙ sym (v.rolls-For at h s)) ∙ 
     (fold-roll-ResolvedStatement ResolvedStatementTree ResolvedStatementsTree statement_layer part_layer
     (ResolvedStatement-F.For at h s))
 
-pub weight_parallel : (t : ResolvedStatement) (at : _) (clauses : _) (captures : _) (s : _) → t ≡ v.Parallel at clauses captures s
+pub weight_region : (t : ResolvedStatement) (at : _) (kind : _) (clauses : _) (captures : _) (s : _)
+    → t ≡ v.Region at kind clauses captures s
     → all_weight_of t ≡ 1 + (sum (map clause_weight (map view.clause clauses.items)) + all_weight_of s.value)
 unfolding statement_weight
-weight_parallel t at clauses captures s is = ap all_weight_of (is ∙ sym (v.rolls-Parallel at clauses captures s)) ∙ ap statement_weight
+weight_region t at kind clauses captures s is = ap all_weight_of (is ∙ sym (v.rolls-Region at kind clauses captures s))
+    ∙ ap statement_weight
     (fold-roll-ResolvedStatement ResolvedStatementTree ResolvedStatementsTree statement_layer part_layer
-    (ResolvedStatement-F.Parallel at clauses captures s))
-
-pub weight_task : (t : ResolvedStatement) (at : _) (clauses : _) (captures : _) (s : _) → t ≡ v.Task at clauses captures s
-    → all_weight_of t ≡ 1 + (sum (map clause_weight (map view.clause clauses.items)) + all_weight_of s.value)
-unfolding statement_weight
-weight_task t at clauses captures s is = ap all_weight_of (is ∙ sym (v.rolls-Task at clauses captures s)) ∙ ap statement_weight
-    (fold-roll-ResolvedStatement ResolvedStatementTree ResolvedStatementsTree statement_layer part_layer
-    (ResolvedStatement-F.Task at clauses captures s))
+    (ResolvedStatement-F.Region at kind clauses captures s))
 
 pub weight_loop : (t : ResolvedStatement) (at : _) (clauses : _) (nowait : _) (l : _) (s : _) → t ≡ v.Loop at clauses nowait l s
     → all_weight_of t ≡ sum (map clause_weight (map view.clause clauses.items)) + (loop_weight (view.loop l.value)
@@ -220,13 +215,6 @@ pub weight_tested : (t : ResolvedStatement) (c : _) (s : _)
 weight_tested t c s (inl is) = weight_if t is.0 c s is.1
 weight_tested t c s (inr is) = weight_while t is.0 c s is.1
 
-pub weight_region : (t : ResolvedStatement) (clauses : _) (s : _)
-    → ((at : Span) × (captures : _) × (t ≡ v.Parallel at clauses captures s))
-    ⊎ ((at : Span) × (captures : _) × (t ≡ v.Task at clauses captures s))
-    → all_weight_of t ≡ 1 + (sum (map clause_weight (map view.clause clauses.items)) + all_weight_of s.value)
-weight_region t clauses s (inl is) = weight_parallel t is.0 clauses is.1 s is.2
-weight_region t clauses s (inr is) = weight_task t is.0 clauses is.1 s is.2
-
 -- ---- what stands in one of several forms is smaller
 
 pub smaller_tested : (t : ResolvedStatement) (c : _) (s : _)
@@ -234,14 +222,6 @@ pub smaller_tested : (t : ResolvedStatement) (c : _) (s : _)
     → size-ResolvedStatement s.value < size-ResolvedStatement t
 smaller_tested t c s (inl is) = omega (arith, ap size-ResolvedStatement is.1, sized-If is.0 c s)
 smaller_tested t c s (inr is) = omega (arith, ap size-ResolvedStatement is.1, sized-While is.0 c s)
-
-pub smaller_region : (t : ResolvedStatement) (clauses : _) (s : _)
-    → ((at : Span) × (captures : _) × (t ≡ v.Parallel at clauses captures s))
-    ⊎ ((at : Span) × (captures : _) × (t ≡ v.Task at clauses captures s))
-    → size-ResolvedStatement s.value < size-ResolvedStatement t
-smaller_region t clauses s (inl is) =
-    omega (arith, ap size-ResolvedStatement is.2, sized-Parallel is.0 clauses is.1 s)
-smaller_region t clauses s (inr is) = omega (arith, ap size-ResolvedStatement is.2, sized-Task is.0 clauses is.1 s)
 
 -- the one statement of a form, and its weight
 pub inside : (t : ResolvedStatement) (s : _)

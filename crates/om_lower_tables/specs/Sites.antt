@@ -2,7 +2,7 @@
 use Rattle.std.specs.Prelude.{◌≡◌, ◌+◌, ◌-◌, ℕ, IfOk, List, [], ◌∷◌, ◌++◌, Result, Some, Vec, length}
 use Rattle.std.specs.Prelude.{slice_get, take, unwrap_or}
 use Rattle.std.specs.declared.alloc.Global.{Global}
-use Rattle.om_lower_tables.specs.Regions.{parallel_tree, task_tree}
+use Rattle.om_lower_tables.specs.Regions.{region_tree}
 use Rattle.om_lower_tables.specs.declared.sites.BodyPart.{BodyPart}
 use Rattle.om_lower_tables.specs.declared.sites.BodyPart.TheVariants as parts
 use Rattle.om_lower_tables.specs.declared.sites.Site.{Site}
@@ -19,8 +19,7 @@ use Rattle.om_lower_tables.specs.Trees.{part_trees, statement_trees}
 
 abbrev pub part_tree : BodyPart → BodyTree
 part_tree parts.Function = FunctionBody
-part_tree (parts.Parallel region) = parallel_tree region
-part_tree (parts.Task region) = task_tree region
+part_tree (parts.Region region) = region_tree region
 
 -- the variables of a body, by their slots
 abbrev pub variables_at : ResolvedFunctionTree → BodyPart → List ℕ

@@ -15,8 +15,8 @@ use Rattle.om_scope_tree.specs.ResolvedTree.{PostfixElement, ValuesTree, NoValue
 use Rattle.om_scope_tree.specs.ResolvedTree.{ResolvedClauseTree, ClauseValue, Shared, Copied, ResolvedLoopTree}
 use Rattle.om_scope_tree.specs.ResolvedTree.{ResolvedUpdateTree, ResolvedStartTree, StartNothing, StartExpression}
 use Rattle.om_scope_tree.specs.ResolvedTree.{StartDeclaration, ResolvedStatementTree, Declaration, Block, Empty}
-use Rattle.om_scope_tree.specs.ResolvedTree.{Expression, If, IfElse, While, Do, For, Return, Break, Continue, Parallel}
-use Rattle.om_scope_tree.specs.ResolvedTree.{Task, Loop, Sections, Construct, Update, StandAlone, ResolvedStatementsTree}
+use Rattle.om_scope_tree.specs.ResolvedTree.{Expression, If, IfElse, While, Do, For, Return, Break, Continue, Region}
+use Rattle.om_scope_tree.specs.ResolvedTree.{Loop, Sections, Construct, Update, StandAlone, ResolvedStatementsTree}
 use Rattle.om_scope_tree.specs.ResolvedTree.{NoStatements, Statement, ResolvedPartsTree, NoParts, Part}
 use Rattle.om_scope_tree.specs.Weights.{expression_weight, values_weight, perhaps_weight, declarator_weight, start_weight}
 use Rattle.om_scope_tree.specs.Weights.{clause_weight, loop_weight, update_weight, statement_weight, statements_weight}
@@ -205,9 +205,7 @@ mutual
   statement_few n (Return at value) = let few = perhaps_few value in omega (arith, few)
   statement_few n (Break at) = omega arith
   statement_few n (Continue at) = omega arith
-  statement_few n (Parallel at clauses captures s) =
-      omega (arith, with_clauses clauses s, clauses_few clauses, statement_few (next_body n) s)
-  statement_few n (Task at clauses captures s) =
+  statement_few n (Region at kind clauses captures s) =
       omega (arith, with_clauses clauses s, clauses_few clauses, statement_few (next_body n) s)
   statement_few n (Loop at clauses nowait l s) =
       let bounds = two (loop_mentioned format_mention l) (mentioned format_mention s) (loop_mentioned lock_mention l)

@@ -296,8 +296,7 @@ fn note_statement(walk: &mut Walk, statement: &ResolvedStatement) -> AllocResult
             note_statement(walk, body)
         }
         ResolvedStatement::Return { value, .. } => note_perhaps(&mut walk.found, value),
-        ResolvedStatement::Parallel { clauses, body, .. }
-        | ResolvedStatement::Task { clauses, body, .. } => {
+        ResolvedStatement::Region { clauses, body, .. } => {
             note_clauses(&mut walk.found, clauses.as_slice())?;
             note_region(walk, body)
         }

@@ -203,12 +203,7 @@ fn see_statement(seen: &mut Variables, statement: &ResolvedStatement) -> AllocRe
             see_statement(seen, body)
         }
         ResolvedStatement::Return { value, .. } => take_perhaps(seen, value),
-        ResolvedStatement::Parallel {
-            clauses,
-            captures,
-            ..
-        }
-        | ResolvedStatement::Task {
+        ResolvedStatement::Region {
             clauses,
             captures,
             ..

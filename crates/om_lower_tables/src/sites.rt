@@ -18,8 +18,7 @@ use std::alloc::Global;
 #[derive(Clone, Copy)]
 pub enum BodyPart<'a> {
     Function,
-    Parallel(Region<'a>),
-    Task(Region<'a>),
+    Region(Region<'a>),
 }
 
 /// A body of a function, and the numbers at its begin.
@@ -116,28 +115,16 @@ fn see_statement<'a>(
             let between = see_statement(sites, round, numbers, then)?;
             see_statement(sites, round, between, other)
         }
-        ResolvedStatement::Parallel {
+        ResolvedStatement::Region {
             at,
+            kind,
             clauses,
             captures,
             body,
         } => {
-            let part = BodyPart::Parallel(Region {
+            let part = BodyPart::Region(Region {
                 at: *at,
-                clauses: clauses.as_slice(),
-                captures: captures.as_slice(),
-                statement: body,
-            });
-            see_region(sites, round, numbers, &part, body)
-        }
-        ResolvedStatement::Task {
-            at,
-            clauses,
-            captures,
-            body,
-        } => {
-            let part = BodyPart::Task(Region {
-                at: *at,
+                kind: *kind,
                 clauses: clauses.as_slice(),
                 captures: captures.as_slice(),
                 statement: body,

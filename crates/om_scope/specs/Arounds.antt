@@ -31,8 +31,7 @@ use Rattle.om_scope_parts.specs.Bounds.{view_repeated}
 -- a statement with what a construct puts round it; an update takes the place of one that is an update
 abbrev pub with_around : Around → Span → List ResolvedClauseTree → ResolvedStatementTree
     → Option ResolvedStatementTree
-with_around (arounds.Parallel captures) at cs body = Some (resolved.Parallel at cs captures body)
-with_around (arounds.Task captures) at cs body = Some (resolved.Task at cs captures body)
+with_around (arounds.Region kind captures) at cs body = Some (resolved.Region at kind cs captures body)
 with_around (arounds.Construct kind) at cs body = Some (resolved.Construct at kind cs body)
 with_around (arounds.Update side) at cs body = with_update at (update_of side body)
 

@@ -9,7 +9,7 @@ use Rattle.om_parser_tree.specs.View.{view_directive}
 use Rattle.om_scope_tree.specs.declared.resolved.ResolvedClause.{ResolvedClause}
 use Rattle.om_scope_tree.specs.declared.resolved.ResolvedLoop.{ResolvedLoop}
 use Rattle.om_scope_rules.specs.declared.flow.Flow.{Flow}
-use Rattle.om_scope_rules.specs.declared.region.RegionKind.{RegionKind}
+use Rattle.om_scope_rules.specs.declared.region.SharingKind.{SharingKind}
 use Rattle.om_scope_rules.specs.Checks.{Checks}
 use Rattle.om_scope_rules.specs.DirectiveRules.{Listed, directive_breaches, in_kind, traits_of}
 use Rattle.om_scope_rules.specs.Loops.{Loop}
@@ -23,7 +23,7 @@ use Rattle.om_scope.specs.Resolving.{view_clauses}
 use Rattle.om_scope_parts.specs.Bounds.{ResolvesLoop, view_repeated}
 
 -- the kind of the region that a directive begins
-abbrev pub region_of : Directive Expression → RegionKind
+abbrev pub region_of : Directive Expression → SharingKind
 region_of d = (traits_of (view_directive d).name).region
 
 -- a directive is refused where it stands, or its clauses are resolved; they alone are answered

@@ -2,7 +2,7 @@
 use Rattle.std.specs.Prelude.{Option, Some, if◌then◌else◌}
 use Rattle.om_lexer.specs.declared.token.Span.{Span}
 use Rattle.om_parser_tree.specs.Tree.{ExpressionTree, DeclarationTree}
-use Rattle.om_scope_rules.specs.declared.region.RegionKind.{RegionKind}
+use Rattle.om_scope_rules.specs.declared.region.SharingKind.{SharingKind}
 use Rattle.om_scope_rules.specs.DirectiveRules.{Listed, in_kind}
 use Rattle.om_scope_rules.specs.Perhaps.{◌>>=◌}
 use Rattle.om_scope_rules.specs.Places.{expression_first}
@@ -27,5 +27,5 @@ abbrev pub resolved_return : Scopes → Span → Option ExpressionTree → Optio
 resolved_return scopes at value = resolved_perhaps scopes value >>= λ x. Some (resolved.Return at x)
 
 -- the scopes of the bounds of a loop whose construct is of this kind, and whose clauses say this
-abbrev pub round_listed : RegionKind → Listed → Scopes → Scopes
+abbrev pub round_listed : SharingKind → Listed → Scopes → Scopes
 round_listed kind listed scopes = if is_parallel kind then in_kind kind listed scopes else scopes

@@ -22,8 +22,8 @@ use om_scope_parts::copy_of;
 use om_scope_rules::update_of;
 use om_scope_symbols::{is_parallel, traits_of};
 use om_scope_tree::{
-    Capture, ConstructKind, ResolvedClause, ResolvedLoop, ResolvedPart, ResolvedSchedule,
-    ResolvedStatement, Side, TaskSharing, captures_of_parallel, captures_of_task,
+    Capture, ConstructKind, RegionKind, ResolvedClause, ResolvedLoop, ResolvedPart,
+    ResolvedSchedule, ResolvedStatement, Side, TaskSharing, captures_of_parallel, captures_of_task,
 };
 use om_seq::{AllocResult, Seq};
 use std::alloc::Global;
@@ -62,8 +62,9 @@ fn parallel_of(
     let at = directive.hash;
     let body = boxed(alloc, inner)?;
     let captures = captures_of_parallel(alloc, at.start, clauses.as_slice(), &body)?;
-    Ok(ResolvedStatement::Parallel {
+    Ok(ResolvedStatement::Region {
         at,
+        kind: RegionKind::Parallel,
         clauses,
         captures,
         body,
@@ -83,10 +84,8 @@ fn critical_name(alloc: Global, name: &Option<(Span, Name, Span)>) -> AllocResul
 /// What a construct puts round its statement, beside its clauses.
 #[derive(Drop)]
 pub(crate) enum Around {
-    /// A `parallel`, with what it takes from outside.
-    Parallel(Seq<Capture>),
-    /// A `task`, with what it takes from outside.
-    Task(Seq<Capture>),
+    /// A `parallel` or a `task`, with what it takes from outside.
+    Region(RegionKind, Seq<Capture>),
     Construct(ConstructKind),
     /// An `atomic` that updates; its statement has the target on this side.
     Update(Side),
@@ -107,7 +106,7 @@ fn around_task(
         parallel,
     };
     let captures = captures_of_task(alloc, sharing, directive.hash.start, clauses, body)?;
-    Ok(Around::Task(captures))
+    Ok(Around::Region(RegionKind::Task, captures))
 }
 
 // What a `parallel` puts round a statement.
@@ -120,7 +119,7 @@ fn around_parallel(
     ensures { IfOk result (MakesParallel directive.now clauses.now body.now) }
 {
     let captures = captures_of_parallel(alloc, directive.hash.start, clauses, body)?;
-    Ok(Around::Parallel(captures))
+    Ok(Around::Region(RegionKind::Parallel, captures))
 }
 
 // What a `critical` of this name puts round a statement.
@@ -192,14 +191,9 @@ fn with_around(
     ensures { IfOk result (IsTree (with_around around at (view_clauses clauses) (view_body body))) }
 {
     match around {
-        Around::Parallel(captures) => Ok(ResolvedStatement::Parallel {
+        Around::Region(kind, captures) => Ok(ResolvedStatement::Region {
             at,
-            clauses,
-            captures,
-            body,
-        }),
-        Around::Task(captures) => Ok(ResolvedStatement::Task {
-            at,
+            kind,
             clauses,
             captures,
             body,

@@ -12,7 +12,7 @@ use om_lexer::SourceResult;
 use om_parser_tree::Expression;
 use om_pragma::Directive;
 use om_scope_parts::{resolve_directive, resolve_loop};
-use om_scope_rules::{Flow, Loop, RegionKind};
+use om_scope_rules::{Flow, Loop, SharingKind};
 use om_scope_symbols::{Listed, Symbols, is_parallel, traits_of};
 use om_scope_tree::{ResolvedClause, ResolvedLoop};
 use om_seq::AllocResult;
@@ -37,7 +37,7 @@ pub fn enter_construct(
 fn enter_listed(
     alloc: Global,
     symbols: &mut Symbols,
-    kind: RegionKind,
+    kind: SharingKind,
     listed: Listed,
 ) -> AllocResult<()>
     ensures { OnOk result (symbols.new ≡ in_kind kind listed symbols.old) }

@@ -89,7 +89,7 @@ unfolding construct_of
 construct_whole around parallel side d (directives.Parallel s) cs body is plain hc hb once =
     (hc, region _ d.hash.start cs body, hb, once)
 construct_whole around parallel side d (directives.Task s) cs body is plain hc hb once =
-    (hc, region _ d.hash.start cs body, hb)
+    (hc, region _ d.hash.start cs body, hb, tt)
 construct_whole around parallel side d (directives.Single s) cs body is plain hc hb once = (hc, hb, once)
 construct_whole around parallel side d (directives.Masked s) cs body is plain hc hb once = (hc, hb, once)
 construct_whole around parallel side d (directives.Master s) cs body is plain hc hb once = (hc, hb, once)

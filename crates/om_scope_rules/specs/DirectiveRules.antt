@@ -25,8 +25,8 @@ use Rattle.om_scope_rules.specs.declared.traits.Traits.{Traits}
 use Rattle.om_scope_rules.specs.declared.flow.Flow.{Flow}
 use Rattle.om_scope_rules.specs.declared.meaning.Meaning.{Meaning}
 use Rattle.om_scope_rules.specs.declared.meaning.Meaning.TheVariants as meanings
-use Rattle.om_scope_rules.specs.declared.region.RegionKind.{RegionKind}
-use Rattle.om_scope_rules.specs.declared.region.RegionKind.TheVariants as regions
+use Rattle.om_scope_rules.specs.declared.region.SharingKind.{SharingKind}
+use Rattle.om_scope_rules.specs.declared.region.SharingKind.TheVariants as regions
 use Rattle.om_scope_tree.specs.declared.resolved.Shape.TheVariants as shapes
 use Rattle.om_scope_tree.specs.declared.resolved.CopyKind.{CopyKind}
 use Rattle.om_scope_tree.specs.declared.resolved.CopyKind.TheVariants as copies
@@ -38,7 +38,7 @@ use Rattle.om_scope_rules.specs.Sharing.{declares, is_parallel, is_unlisted}
 
 -- ---- directives
 
-abbrev pub row : RegionKind → (is_bound : Bool) → Inside → (takes_loop : Bool) → Traits
+abbrev pub row : SharingKind → (is_bound : Bool) → Inside → (takes_loop : Bool) → Traits
 row region is_bound inside takes_loop = record {
   region = region;
   is_bound = is_bound;
@@ -199,7 +199,7 @@ abbrev pub listed_by : Directive ExpressionTree → Listed
 listed_by d = fold after_item nothing_listed d.clauses
 
 -- the scopes in a construct of a kind whose clauses say this
-abbrev pub in_kind : RegionKind → Listed → Scopes → Scopes
+abbrev pub in_kind : SharingKind → Listed → Scopes → Scopes
 in_kind kind listed scopes = within listed.copies
     (record { kind = kind; default = listed.default; shared = listed.shared }) scopes
 

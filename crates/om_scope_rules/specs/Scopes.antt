@@ -18,7 +18,7 @@ use Rattle.om_scope_tree.specs.declared.resolved.Variable.TheVariants as variabl
 use Rattle.om_scope_rules.specs.declared.meaning.Meaning.{Meaning}
 use Rattle.om_scope_rules.specs.declared.meaning.Meaning.TheVariants as meanings
 use Rattle.om_scope_rules.specs.declared.region.Region.{Region}
-use Rattle.om_scope_rules.specs.declared.region.RegionKind.TheVariants as regions
+use Rattle.om_scope_rules.specs.declared.region.SharingKind.TheVariants as regions
 use Rattle.om_scope_tree.specs.declared.resolved.Shape.{Shape}
 use Rattle.om_scope_tree.specs.declared.resolved.Shape.TheVariants as shapes
 use Rattle.om_scope_rules.specs.declared.meaning.Signature.{Signature}

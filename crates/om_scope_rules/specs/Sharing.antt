@@ -7,8 +7,8 @@ use Rattle.std.specs.Str.{bytes_eq}
 use Rattle.om_pragma.specs.declared.clause.Sharing.{Sharing}
 use Rattle.om_pragma.specs.declared.clause.Sharing.TheVariants as sharings
 use Rattle.om_scope_rules.specs.declared.region.Region.{Region}
-use Rattle.om_scope_rules.specs.declared.region.RegionKind.{RegionKind}
-use Rattle.om_scope_rules.specs.declared.region.RegionKind.TheVariants as regions
+use Rattle.om_scope_rules.specs.declared.region.SharingKind.{SharingKind}
+use Rattle.om_scope_rules.specs.declared.region.SharingKind.TheVariants as regions
 use Rattle.om_scope_rules.specs.Scopes.{Scope, Scopes, Enclosing, is_declared}
 
 abbrev pub declares : Scope → List ℕ → Bool
@@ -34,12 +34,12 @@ unlisted_outside (e ∷ outer) name = lacks_clause e.region name || (not (declar
 abbrev pub is_unlisted : Scopes → List ℕ → Bool
 is_unlisted scopes name = not (is_declared scopes name) && unlisted_outside scopes.outer name
 
-abbrev pub is_parallel : RegionKind → Bool
+abbrev pub is_parallel : SharingKind → Bool
 is_parallel regions.Parallel = true
 is_parallel regions.Task = false
 is_parallel regions.Plain = false
 
-abbrev pub is_task : RegionKind → Bool
+abbrev pub is_task : SharingKind → Bool
 is_task regions.Task = true
 is_task regions.Parallel = false
 is_task regions.Plain = false

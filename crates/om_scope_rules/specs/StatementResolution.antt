@@ -26,6 +26,7 @@ use Rattle.om_scope_tree.specs.declared.resolved.ConstructKind.TheVariants as co
 use Rattle.om_scope_tree.specs.declared.resolved.CopyKind.{CopyKind}
 use Rattle.om_scope_tree.specs.declared.resolved.CopyKind.TheVariants as copies
 use Rattle.om_scope_tree.specs.declared.resolved.LocalVariable.{LocalVariable}
+use Rattle.om_scope_tree.specs.declared.resolved.RegionKind.TheVariants as regions
 use Rattle.om_scope_tree.specs.declared.resolved.ResolvedSchedule.{ResolvedSchedule}
 use Rattle.om_scope_tree.specs.declared.resolved.Side.{Side}
 use Rattle.om_scope_tree.specs.declared.resolved.StandAlone.TheVariants as alones
@@ -131,14 +132,14 @@ has_default d = has_clause kinds.Default d
 
 abbrev pub parallel_of : Directive ExpressionTree → List ResolvedClauseTree → ResolvedStatementTree
     → ResolvedStatementTree
-parallel_of d cs body = resolved.Parallel d.hash cs (captures_of taken_by_parallel d.hash.start cs body) body
+parallel_of d cs body = resolved.Region d.hash regions.Parallel cs (captures_of taken_by_parallel d.hash.start cs body) body
 
 -- in the innermost `parallel` that begins there
 abbrev pub task_of : Option ℕ → Directive ExpressionTree → List ResolvedClauseTree → ResolvedStatementTree
     → ResolvedStatementTree
 task_of parallel d cs body =
     let taking = taken_by_task (has_default d) parallel (listed_variables d.hash.start cs) in
-    resolved.Task d.hash cs (captures_of taking d.hash.start cs body) body
+    resolved.Region d.hash regions.Task cs (captures_of taking d.hash.start cs body) body
 
 abbrev pub critical_name : Option (Span × names.Name × Span) → Option (List ℕ)
 critical_name name = option_map (λ n. n.1.text) name

@@ -8,7 +8,7 @@ use Rattle.om_scope_tree.specs.declared.resolved.LocalVariable.{LocalVariable}
 use Rattle.om_scope_tree.specs.ResolvedTree.{ResolvedDeclaratorTree, ResolvedClauseTree, ClauseValue, Shared, Copied}
 use Rattle.om_scope_tree.specs.ResolvedTree.{ResolvedStartTree, StartNothing, StartExpression, StartDeclaration}
 use Rattle.om_scope_tree.specs.ResolvedTree.{ResolvedStatementTree, Declaration, Block, Empty, Expression, If, IfElse}
-use Rattle.om_scope_tree.specs.ResolvedTree.{While, Do, For, Return, Break, Continue, Parallel, Task, Loop, Sections}
+use Rattle.om_scope_tree.specs.ResolvedTree.{While, Do, For, Return, Break, Continue, Region, Loop, Sections}
 use Rattle.om_scope_tree.specs.ResolvedTree.{Construct, Update, StandAlone, ResolvedStatementsTree, NoStatements}
 use Rattle.om_scope_tree.specs.ResolvedTree.{Statement, ResolvedPartsTree, NoParts, Part, ResolvedFunctionTree}
 use Rattle.om_scope_tree.specs.ResolvedTree.{ResolvedTree}
@@ -50,8 +50,7 @@ abbrev mutual
   statement_places (Return at value) = []
   statement_places (Break at) = []
   statement_places (Continue at) = []
-  statement_places (Parallel at clauses captures s) = Begun at ∷ (flat_map clause_places clauses ++ statement_places s)
-  statement_places (Task at clauses captures s) = Begun at ∷ (flat_map clause_places clauses ++ statement_places s)
+  statement_places (Region at kind clauses captures s) = Begun at ∷ (flat_map clause_places clauses ++ statement_places s)
   -- a canonical loop has a copy of its iteration variable (OpenMP API 5.2, section 5.1.1)
   statement_places (Loop at clauses nowait l s) = flat_map clause_places clauses
       ++ Declared l.variable ∷ statement_places s

@@ -53,6 +53,6 @@ pub use names::Names;
 pub use place::{expression_first, expression_start, head_first, statement_first, statement_start};
 pub use print::is_format;
 pub use reading::Reading;
-pub use region::{Region, RegionKind};
+pub use region::{Region, SharingKind};
 pub use traits::{Inside, Traits};
 pub use update::{statement_side, update_of};

@@ -5,7 +5,7 @@ use om_pragma::Sharing;
 
 /// How a construct shares the variables round it.
 #[derive(Clone, Copy)]
-pub enum RegionKind {
+pub enum SharingKind {
     /// `parallel`.
     Parallel,
     /// `task`.
@@ -17,7 +17,7 @@ pub enum RegionKind {
 /// What a construct says of the variables round it.
 #[derive(Drop)]
 pub struct Region {
-    pub kind: RegionKind,
+    pub kind: SharingKind,
     /// What its `default` says of those that no clause lists.
     pub default: Option<Sharing>,
     /// Those that it lists as shared.

@@ -1,6 +1,6 @@
 //! What a directive is as a construct.
 
-use crate::region::RegionKind;
+use crate::region::SharingKind;
 
 /// Whether worksharing constructs and barriers may stand in a construct.
 #[derive(Clone, Copy)]
@@ -17,7 +17,7 @@ pub enum Inside {
 #[derive(Clone, Copy)]
 pub struct Traits {
     /// How it shares the variables round it.
-    pub region: RegionKind,
+    pub region: SharingKind,
     /// Whether it is a worksharing construct or a barrier.
     pub is_bound: bool,
     pub inside: Inside,

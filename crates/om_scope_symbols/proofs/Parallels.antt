@@ -7,8 +7,8 @@ use Rattle.std.specs.Option.{option_or}
 use Rattle.om_scope_symbols.specs.declared.landmark.Landmark.{Landmark}
 use Rattle.om_scope_symbols.specs.declared.nesting.Construct.{Construct}
 use Rattle.om_scope_rules.specs.declared.region.Region.{Region}
-use Rattle.om_scope_rules.specs.declared.region.RegionKind.{RegionKind}
-use Rattle.om_scope_rules.specs.declared.region.RegionKind.TheVariants as regions
+use Rattle.om_scope_rules.specs.declared.region.SharingKind.{SharingKind}
+use Rattle.om_scope_rules.specs.declared.region.SharingKind.TheVariants as regions
 use Rattle.om_scope_rules.specs.Sharing.{is_parallel, is_task_without}
 use Rattle.om_scope_symbols.specs.Landmarks.{first_deeper, last_within, marks_behind}
 use Rattle.om_scope_symbols.specs.Nesting.{AreNested, alone_since, copied_since, copies, end_of, innermost_without}
@@ -168,7 +168,7 @@ listed-within (construct ∷ outer) end depth name nested = by (alone_since oute
 no-task : (region : Region) (name : List ℕ) → is_parallel region.kind ≡ true → is_task_without region name ≡ false
 no-task region name parallel = by region.kind parallel
   where
-    by : (kind : RegionKind) → is_parallel kind ≡ true
+    by : (kind : SharingKind) → is_parallel kind ≡ true
         → is_task_without (record { kind = kind; default = region.default; shared = region.shared }) name ≡ false
     by regions.Parallel e = refl
     by regions.Task e = absurd (true≢false (sym e))

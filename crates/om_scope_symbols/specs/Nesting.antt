@@ -8,7 +8,7 @@ use Rattle.om_scope_symbols.specs.declared.nesting.Construct.{Construct}
 use Rattle.om_scope_symbols.specs.declared.landmark.Landmark.{Landmark}
 use Rattle.om_scope_symbols.specs.declared.landmark.Marks.{Marks}
 use Rattle.om_scope_rules.specs.declared.region.Region.{Region}
-use Rattle.om_scope_rules.specs.declared.region.RegionKind.{RegionKind}
+use Rattle.om_scope_rules.specs.declared.region.SharingKind.{SharingKind}
 use Rattle.om_scope_rules.specs.DirectiveRules as rules
 use Rattle.om_scope_rules.specs.Scopes.{Enclosing, Scope, plain}
 use Rattle.om_scope_rules.specs.Sharing.{asks_for_clauses, is_parallel, is_task, is_task_without, lacks_clause}
@@ -130,7 +130,7 @@ abbrev pub AddsListings : ℕ → Marks → (before now : List (List ℕ × List
 AddsListings inside all before now names = ChangedFor (with_listing inside all) before now names
 
 -- what a construct of this kind says of the variables round it, by what its clauses list
-abbrev pub region_listing : RegionKind → rules.Listed → Region
+abbrev pub region_listing : SharingKind → rules.Listed → Region
 region_listing kind listed = record { kind = kind; default = listed.default; shared = listed.shared }
 
 -- ---- each `parallel`
@@ -145,7 +145,7 @@ abbrev pub landmark_of : List Construct → Landmark
 landmark_of constructs = record { depth = end_of constructs; marks = marks_of constructs }
 
 -- one more construct of a kind, if it is a `parallel`
-abbrev pub with_parallel : RegionKind → Landmark → List Landmark → List Landmark
+abbrev pub with_parallel : SharingKind → Landmark → List Landmark → List Landmark
 with_parallel kind landmark seen = if is_parallel kind then seen ++ landmark ∷ [] else seen
 
 -- each that is one, the innermost last
@@ -154,7 +154,7 @@ parallels [] = []
 parallels (construct ∷ outer) = with_parallel construct.region.kind (landmark_of (construct ∷ outer)) (parallels outer)
 
 -- once the innermost construct is left, which is of this kind
-abbrev pub without_parallel : RegionKind → List Landmark → List Landmark
+abbrev pub without_parallel : SharingKind → List Landmark → List Landmark
 without_parallel kind seen = if is_parallel kind then without_innermost seen else seen
 
 -- ---- what constructs make of a name

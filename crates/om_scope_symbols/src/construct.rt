@@ -7,10 +7,10 @@ ghost use Rattle.om_scope_rules.specs.DirectiveRules.{constructing, is_closed_in
 use crate::nesting::is_parallel;
 use om_parser_tree::Expression;
 use om_pragma::{Directive, DirectiveName};
-use om_scope_rules::{Flow, Inside, RegionKind, Traits};
+use om_scope_rules::{Flow, Inside, SharingKind, Traits};
 
 // A row of the table.
-fn row(region: RegionKind, is_bound: bool, inside: Inside, takes_loop: bool) -> Traits
+fn row(region: SharingKind, is_bound: bool, inside: Inside, takes_loop: bool) -> Traits
     ensures { result ≡ row region is_bound inside takes_loop }
 {
     Traits {
@@ -26,28 +26,28 @@ pub fn traits_of(name: &DirectiveName) -> Traits
     ensures { result ≡ traits_of name.now }
 {
     match name {
-        DirectiveName::Parallel(_) => row(RegionKind::Parallel, false, Inside::Opens, false),
-        DirectiveName::For(_) => row(RegionKind::Plain, true, Inside::Closes, true),
-        DirectiveName::Sections(_) => row(RegionKind::Plain, true, Inside::Closes, false),
-        DirectiveName::Section(_) => row(RegionKind::Plain, false, Inside::Keeps, false),
-        DirectiveName::Single(_) => row(RegionKind::Plain, true, Inside::Closes, false),
-        DirectiveName::ParallelFor(_, _) => row(RegionKind::Parallel, false, Inside::Closes, true),
+        DirectiveName::Parallel(_) => row(SharingKind::Parallel, false, Inside::Opens, false),
+        DirectiveName::For(_) => row(SharingKind::Plain, true, Inside::Closes, true),
+        DirectiveName::Sections(_) => row(SharingKind::Plain, true, Inside::Closes, false),
+        DirectiveName::Section(_) => row(SharingKind::Plain, false, Inside::Keeps, false),
+        DirectiveName::Single(_) => row(SharingKind::Plain, true, Inside::Closes, false),
+        DirectiveName::ParallelFor(_, _) => row(SharingKind::Parallel, false, Inside::Closes, true),
         DirectiveName::ParallelSections(_, _) => row(
-            RegionKind::Parallel,
+            SharingKind::Parallel,
             false,
             Inside::Closes,
             false,
         ),
-        DirectiveName::Masked(_) => row(RegionKind::Plain, false, Inside::Closes, false),
-        DirectiveName::Master(_) => row(RegionKind::Plain, false, Inside::Closes, false),
-        DirectiveName::Critical(_, _) => row(RegionKind::Plain, false, Inside::Closes, false),
-        DirectiveName::Atomic(_) => row(RegionKind::Plain, false, Inside::Keeps, false),
-        DirectiveName::Task(_) => row(RegionKind::Task, false, Inside::Closes, false),
-        DirectiveName::Taskgroup(_) => row(RegionKind::Plain, false, Inside::Keeps, false),
-        DirectiveName::Barrier(_) => row(RegionKind::Plain, true, Inside::Keeps, false),
-        DirectiveName::Taskwait(_) => row(RegionKind::Plain, false, Inside::Keeps, false),
-        DirectiveName::Taskyield(_) => row(RegionKind::Plain, false, Inside::Keeps, false),
-        DirectiveName::Flush(_, _) => row(RegionKind::Plain, false, Inside::Keeps, false),
+        DirectiveName::Masked(_) => row(SharingKind::Plain, false, Inside::Closes, false),
+        DirectiveName::Master(_) => row(SharingKind::Plain, false, Inside::Closes, false),
+        DirectiveName::Critical(_, _) => row(SharingKind::Plain, false, Inside::Closes, false),
+        DirectiveName::Atomic(_) => row(SharingKind::Plain, false, Inside::Keeps, false),
+        DirectiveName::Task(_) => row(SharingKind::Task, false, Inside::Closes, false),
+        DirectiveName::Taskgroup(_) => row(SharingKind::Plain, false, Inside::Keeps, false),
+        DirectiveName::Barrier(_) => row(SharingKind::Plain, true, Inside::Keeps, false),
+        DirectiveName::Taskwait(_) => row(SharingKind::Plain, false, Inside::Keeps, false),
+        DirectiveName::Taskyield(_) => row(SharingKind::Plain, false, Inside::Keeps, false),
+        DirectiveName::Flush(_, _) => row(SharingKind::Plain, false, Inside::Keeps, false),
     }
 }
 

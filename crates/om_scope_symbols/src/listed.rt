@@ -9,7 +9,7 @@ ghost use Rattle.std.specs.Str.{bytes_eq};
 use crate::table::Table;
 use om_parser_tree::Name;
 use om_pragma::{DataSharing, Sharing};
-use om_scope_rules::{Meaning, Names, Region, RegionKind};
+use om_scope_rules::{Meaning, Names, Region, SharingKind};
 use om_scope_tree::{Shape, Variable};
 use om_seq::AllocResult;
 use std::alloc::Global;
@@ -116,7 +116,7 @@ impl Listed {
     }
 
     /// The copies, and what else a construct of this kind says of the variables round it.
-    pub fn into_region(self, kind: RegionKind) -> (Table, Region)
+    pub fn into_region(self, kind: SharingKind) -> (Table, Region)
         ensures copies { result.0 ≡ self.copies }
         ensures region { result.1 ≡ region_listing kind self }
     {

@@ -9,7 +9,7 @@ use crate::landmark::{Landmark, Marks, first_deeper, last_within, marks_behind};
 use crate::listing::{list, unlist};
 use crate::stacks::Stacks;
 use om_pragma::Sharing;
-use om_scope_rules::{Region, RegionKind};
+use om_scope_rules::{Region, SharingKind};
 use om_seq::AllocResult;
 use std::alloc::Global;
 use std::marker::Model;
@@ -40,17 +40,17 @@ fn copies(region: &Region) -> bool
 }
 
 /// Whether it is a `parallel`.
-pub fn is_parallel(kind: RegionKind) -> bool
+pub fn is_parallel(kind: SharingKind) -> bool
     ensures { result ≡ is_parallel kind }
 {
-    matches!(kind, RegionKind::Parallel)
+    matches!(kind, SharingKind::Parallel)
 }
 
 // Whether it is a `task`.
-fn is_task(kind: RegionKind) -> bool
+fn is_task(kind: SharingKind) -> bool
     ensures { result ≡ is_task kind }
 {
-    matches!(kind, RegionKind::Task)
+    matches!(kind, SharingKind::Task)
 }
 
 // The marks in a construct, round whose inner scope so many stand.
@@ -96,7 +96,7 @@ fn stands_in(constructs: &[Construct], depth: usize) -> bool
 }
 
 // Notes a construct of a kind, if it is a `parallel`.
-fn note_parallel(parallels: &mut Vec<Landmark>, kind: RegionKind, landmark: Landmark)
+fn note_parallel(parallels: &mut Vec<Landmark>, kind: SharingKind, landmark: Landmark)
     requires has_room { vec_len parallels.old < vec_capacity parallels.old }
     ensures { parallels.new.items ≡ with_parallel kind landmark parallels.old.items }
 {
@@ -109,7 +109,7 @@ fn note_parallel(parallels: &mut Vec<Landmark>, kind: RegionKind, landmark: Land
 }
 
 // Forgets the innermost construct, which is of this kind, if it is a `parallel`.
-fn forget_parallel(parallels: &mut Vec<Landmark>, kind: RegionKind)
+fn forget_parallel(parallels: &mut Vec<Landmark>, kind: SharingKind)
     ensures { parallels.new.items ≡ without_parallel kind parallels.old.items }
 {
     if is_parallel(kind) {

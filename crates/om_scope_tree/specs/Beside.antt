@@ -5,7 +5,7 @@ use Rattle.om_scope_tree.specs.declared.resolved.ConstructKind.{ConstructKind}
 use Rattle.om_scope_tree.specs.declared.resolved.ConstructKind.TheVariants as constructs
 use Rattle.om_scope_tree.specs.ResolvedTree.{ResolvedExpressionTree, Assign, AssignElement, ResolvedClauseTree, Copied}
 use Rattle.om_scope_tree.specs.ResolvedTree.{ResolvedStatementTree, Block, Expression, If, IfElse, While, Do, For}
-use Rattle.om_scope_tree.specs.ResolvedTree.{Parallel, Task, Loop, Sections, Construct, ResolvedStatementsTree}
+use Rattle.om_scope_tree.specs.ResolvedTree.{Region, Loop, Sections, Construct, ResolvedStatementsTree}
 use Rattle.om_scope_tree.specs.ResolvedTree.{NoStatements, Statement, ResolvedPartsTree, NoParts, Part}
 use Rattle.om_scope_tree.specs.ResolvedTree.{ResolvedFunctionTree, ResolvedTree}
 
@@ -18,8 +18,7 @@ abbrev mutual
   Everywhere P (While at c s) = P (While at c s) × Everywhere P s
   Everywhere P (Do at s c) = P (Do at s c) × Everywhere P s
   Everywhere P (For at start condition step s) = P (For at start condition step s) × Everywhere P s
-  Everywhere P (Parallel at clauses captures s) = P (Parallel at clauses captures s) × Everywhere P s
-  Everywhere P (Task at clauses captures s) = P (Task at clauses captures s) × Everywhere P s
+  Everywhere P (Region at kind clauses captures s) = P (Region at kind clauses captures s) × Everywhere P s
   Everywhere P (Loop at clauses nowait l s) = P (Loop at clauses nowait l s) × Everywhere P s
   Everywhere P (Sections at clauses nowait parts) = P (Sections at clauses nowait parts) × EverywhereInParts P parts
   Everywhere P (Construct at kind clauses s) = P (Construct at kind clauses s) × Everywhere P s
@@ -71,8 +70,7 @@ IsCopyBehind start _ = Unit {0}
 
 -- the copies that the clauses of a `parallel` or a `task` make stand behind its beginning
 abbrev pub CopiesBehind : ResolvedStatementTree → Type 0
-CopiesBehind (Parallel at clauses captures s) = All (IsCopyBehind at.start) clauses
-CopiesBehind (Task at clauses captures s) = All (IsCopyBehind at.start) clauses
+CopiesBehind (Region at kind clauses captures s) = All (IsCopyBehind at.start) clauses
 CopiesBehind _ = Unit {0}
 
 abbrev pub TreeCopiesBehind : ResolvedTree → Type 0

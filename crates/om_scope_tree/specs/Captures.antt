@@ -17,7 +17,7 @@ use Rattle.om_scope_tree.specs.ResolvedTree.{PostfixElement, ValuesTree, NoValue
 use Rattle.om_scope_tree.specs.ResolvedTree.{ResolvedClauseTree, ClauseValue, Shared, Copied, ResolvedStartTree}
 use Rattle.om_scope_tree.specs.ResolvedTree.{StartNothing, StartExpression, StartDeclaration, ResolvedUpdateTree}
 use Rattle.om_scope_tree.specs.ResolvedTree.{ResolvedStatementTree, Declaration, Block, Empty, Expression, If, IfElse}
-use Rattle.om_scope_tree.specs.ResolvedTree.{While, Do, For, Return, Break, Continue, Parallel, Task, Loop, Sections}
+use Rattle.om_scope_tree.specs.ResolvedTree.{While, Do, For, Return, Break, Continue, Region, Loop, Sections}
 use Rattle.om_scope_tree.specs.ResolvedTree.{Construct, Update, StandAlone, ResolvedStatementsTree, NoStatements}
 use Rattle.om_scope_tree.specs.ResolvedTree.{Statement, ResolvedPartsTree, NoParts, Part}
 
@@ -99,8 +99,7 @@ own_uses (For at start condition step s) = start_uses start ++ (perhaps_uses con
 own_uses (Return at value) = perhaps_uses value
 own_uses (Break at) = []
 own_uses (Continue at) = []
-own_uses (Parallel at clauses captures s) = flat_map clause_uses clauses ++ map captured_variable captures
-own_uses (Task at clauses captures s) = flat_map clause_uses clauses ++ map captured_variable captures
+own_uses (Region at kind clauses captures s) = flat_map clause_uses clauses ++ map captured_variable captures
 own_uses (Loop at clauses nowait l s) = flat_map clause_uses clauses ++ (expression_uses l.from ++ expression_uses l.to)
 own_uses (Sections at clauses nowait parts) = flat_map clause_uses clauses
 own_uses (Construct at kind clauses s) = flat_map clause_uses clauses
@@ -123,8 +122,7 @@ unfoldable mutual
   statement_uses (Return at value) = perhaps_uses value
   statement_uses (Break at) = []
   statement_uses (Continue at) = []
-  statement_uses (Parallel at clauses captures s) = flat_map clause_uses clauses ++ map captured_variable captures
-  statement_uses (Task at clauses captures s) = flat_map clause_uses clauses ++ map captured_variable captures
+  statement_uses (Region at kind clauses captures s) = flat_map clause_uses clauses ++ map captured_variable captures
   statement_uses (Loop at clauses nowait l s) = flat_map clause_uses clauses
       ++ (expression_uses l.from ++ (expression_uses l.to ++ statement_uses s))
   statement_uses (Sections at clauses nowait parts) = flat_map clause_uses clauses ++ parts_uses parts

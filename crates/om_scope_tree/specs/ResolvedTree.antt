@@ -10,6 +10,7 @@ use Rattle.om_scope_tree.specs.declared.resolved.ConstructKind.{ConstructKind}
 use Rattle.om_scope_tree.specs.declared.resolved.CopyKind.{CopyKind}
 use Rattle.om_scope_tree.specs.declared.resolved.GlobalVariable.{GlobalVariable}
 use Rattle.om_scope_tree.specs.declared.resolved.LocalVariable.{LocalVariable}
+use Rattle.om_scope_tree.specs.declared.resolved.RegionKind.{RegionKind}
 use Rattle.om_scope_tree.specs.declared.resolved.ResolvedSchedule.{ResolvedSchedule}
 use Rattle.om_scope_tree.specs.declared.resolved.Side.{Side}
 use Rattle.om_scope_tree.specs.declared.resolved.StandAlone as alone
@@ -101,8 +102,8 @@ mutual
     Return : Span → Option ResolvedExpressionTree → ResolvedStatementTree
     Break : Span → ResolvedStatementTree
     Continue : Span → ResolvedStatementTree
-    Parallel : Span → List ResolvedClauseTree → List Capture → ResolvedStatementTree → ResolvedStatementTree
-    Task : Span → List ResolvedClauseTree → List Capture → ResolvedStatementTree → ResolvedStatementTree
+    Region : Span → RegionKind → List ResolvedClauseTree → List Capture → ResolvedStatementTree
+        → ResolvedStatementTree
     Loop : Span → List ResolvedClauseTree → (nowait : Bool) → ResolvedLoopTree → ResolvedStatementTree
         → ResolvedStatementTree
     Sections : Span → List ResolvedClauseTree → (nowait : Bool) → ResolvedPartsTree → ResolvedStatementTree

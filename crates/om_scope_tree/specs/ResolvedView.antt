@@ -96,9 +96,7 @@ statement_layer (ResolvedStatement-F.For at head s) =
 statement_layer (ResolvedStatement-F.Return at value) = trees.Return at (option_map expression value)
 statement_layer (ResolvedStatement-F.Break at) = trees.Break at
 statement_layer (ResolvedStatement-F.Continue at) = trees.Continue at
-statement_layer (ResolvedStatement-F.Parallel at clauses captures s) = trees.Parallel at
-    (map clause clauses.items) captures s.value
-statement_layer (ResolvedStatement-F.Task at clauses captures s) = trees.Task at
+statement_layer (ResolvedStatement-F.Region at kind clauses captures s) = trees.Region at kind
     (map clause clauses.items) captures s.value
 statement_layer (ResolvedStatement-F.Loop at clauses nowait l s) = trees.Loop at
     (map clause clauses.items) nowait (loop l.value) s.value

@@ -11,7 +11,7 @@ use Rattle.om_scope_tree.specs.ResolvedTree.{PostfixElement, ValuesTree, NoValue
 use Rattle.om_scope_tree.specs.ResolvedTree.{ResolvedClauseTree, ClauseValue, Shared, Copied, ResolvedStartTree}
 use Rattle.om_scope_tree.specs.ResolvedTree.{StartNothing, StartExpression, StartDeclaration, ResolvedUpdateTree}
 use Rattle.om_scope_tree.specs.ResolvedTree.{ResolvedStatementTree, Declaration, Block, Empty, Expression, If, IfElse}
-use Rattle.om_scope_tree.specs.ResolvedTree.{While, Do, For, Return, Break, Continue, Parallel, Task, Loop, Sections}
+use Rattle.om_scope_tree.specs.ResolvedTree.{While, Do, For, Return, Break, Continue, Region, Loop, Sections}
 use Rattle.om_scope_tree.specs.ResolvedTree.{Construct, Update, StandAlone, ResolvedStatementsTree, NoStatements}
 use Rattle.om_scope_tree.specs.ResolvedTree.{Statement, ResolvedPartsTree, NoParts, Part, ResolvedFunctionTree}
 use Rattle.om_scope_tree.specs.ResolvedTree.{ResolvedTree}
@@ -91,9 +91,7 @@ abbrev mutual
   StatementUsesVariables globals (Return at value) = PerhapsUsesVariables globals value
   StatementUsesVariables globals (Break at) = Unit {0}
   StatementUsesVariables globals (Continue at) = Unit {0}
-  StatementUsesVariables globals (Parallel at clauses captures s) = ClausesUseVariables globals clauses
-      × StatementUsesVariables globals s
-  StatementUsesVariables globals (Task at clauses captures s) = ClausesUseVariables globals clauses
+  StatementUsesVariables globals (Region at kind clauses captures s) = ClausesUseVariables globals clauses
       × StatementUsesVariables globals s
   StatementUsesVariables globals (Loop at clauses nowait l s) =
       ClausesUseVariables globals clauses × UsesVariables globals l.from × UsesVariables globals l.to

@@ -8,8 +8,8 @@ use Rattle.om_scope_tree.specs.ResolvedTree.{PostfixElement, ValuesTree, NoValue
 use Rattle.om_scope_tree.specs.ResolvedTree.{ResolvedClauseTree, ClauseValue, Shared, Copied, ResolvedLoopTree}
 use Rattle.om_scope_tree.specs.ResolvedTree.{ResolvedUpdateTree, ResolvedStartTree, StartNothing, StartExpression}
 use Rattle.om_scope_tree.specs.ResolvedTree.{StartDeclaration, ResolvedStatementTree, Declaration, Block, Empty}
-use Rattle.om_scope_tree.specs.ResolvedTree.{Expression, If, IfElse, While, Do, For, Return, Break, Continue, Parallel}
-use Rattle.om_scope_tree.specs.ResolvedTree.{Task, Loop, Sections, Construct, Update, StandAlone, ResolvedStatementsTree}
+use Rattle.om_scope_tree.specs.ResolvedTree.{Expression, If, IfElse, While, Do, For, Return, Break, Continue, Region}
+use Rattle.om_scope_tree.specs.ResolvedTree.{Loop, Sections, Construct, Update, StandAlone, ResolvedStatementsTree}
 use Rattle.om_scope_tree.specs.ResolvedTree.{NoStatements, Statement, ResolvedPartsTree, NoParts, Part}
 use Rattle.om_scope_tree.specs.ResolvedTree.{ResolvedFunctionTree, ResolvedTree}
 
@@ -76,8 +76,7 @@ unfoldable mutual
   statement_weight (Return at value) = perhaps_weight value
   statement_weight (Break at) = 0
   statement_weight (Continue at) = 0
-  statement_weight (Parallel at clauses captures s) = 1 + (sum (map clause_weight clauses) + statement_weight s)
-  statement_weight (Task at clauses captures s) = 1 + (sum (map clause_weight clauses) + statement_weight s)
+  statement_weight (Region at kind clauses captures s) = 1 + (sum (map clause_weight clauses) + statement_weight s)
   statement_weight (Loop at clauses nowait l s) = sum (map clause_weight clauses) + (loop_weight l + statement_weight s)
   statement_weight (Sections at clauses nowait parts) = 1 + (sum (map clause_weight clauses) + parts_weight parts)
   statement_weight (Construct at kind clauses s) = 1 + (sum (map clause_weight clauses) + statement_weight s)

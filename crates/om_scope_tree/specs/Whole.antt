@@ -16,6 +16,8 @@ use Rattle.om_scope_tree.specs.declared.resolved.CopyKind.{CopyKind}
 use Rattle.om_scope_tree.specs.declared.resolved.CopyKind.TheVariants as copies
 use Rattle.om_scope_tree.specs.declared.resolved.GlobalVariable.{GlobalVariable}
 use Rattle.om_scope_tree.specs.declared.resolved.LocalVariable.{LocalVariable}
+use Rattle.om_scope_tree.specs.declared.resolved.RegionKind.{RegionKind}
+use Rattle.om_scope_tree.specs.declared.resolved.RegionKind.TheVariants as kinds
 use Rattle.om_scope_tree.specs.declared.resolved.Shape.{Shape}
 use Rattle.om_scope_tree.specs.declared.resolved.Shape.TheVariants as shapes
 use Rattle.om_scope_tree.specs.declared.resolved.StandAlone as alone
@@ -30,8 +32,8 @@ use Rattle.om_scope_tree.specs.ResolvedTree.{PostfixElement, ValuesTree, NoValue
 use Rattle.om_scope_tree.specs.ResolvedTree.{ResolvedClauseTree, ClauseValue, Shared, Copied, ResolvedLoopTree}
 use Rattle.om_scope_tree.specs.ResolvedTree.{ResolvedStartTree, StartNothing, StartExpression, StartDeclaration}
 use Rattle.om_scope_tree.specs.ResolvedTree.{ResolvedUpdateTree, ResolvedStatementTree, Declaration, Block, Empty}
-use Rattle.om_scope_tree.specs.ResolvedTree.{Expression, If, IfElse, While, Do, For, Return, Break, Continue, Parallel}
-use Rattle.om_scope_tree.specs.ResolvedTree.{Task, Loop, Sections, Construct, Update, StandAlone, ResolvedStatementsTree}
+use Rattle.om_scope_tree.specs.ResolvedTree.{Expression, If, IfElse, While, Do, For, Return, Break, Continue, Region}
+use Rattle.om_scope_tree.specs.ResolvedTree.{Loop, Sections, Construct, Update, StandAlone, ResolvedStatementsTree}
 use Rattle.om_scope_tree.specs.ResolvedTree.{NoStatements, Statement, ResolvedPartsTree, NoParts, Part}
 use Rattle.om_scope_tree.specs.ResolvedTree.{ResolvedFunctionTree, ResolvedTree}
 
@@ -163,6 +165,10 @@ of_parallel = record { value = Some values.NumThreads; shared = true; copies = t
 abbrev pub of_task : Admitted
 of_task = record { value = None; shared = true; copies = true; reductions = false }
 
+abbrev pub of_region : RegionKind → Admitted
+of_region kinds.Parallel = of_parallel
+of_region kinds.Task = of_task
+
 -- of a worksharing-loop construct, and of `sections`
 abbrev pub of_worksharing : Admitted
 of_worksharing = record { value = None; shared = false; copies = true; reductions = true }
@@ -221,6 +227,11 @@ HaveOneValueAtMost [] = Unit {0}
 HaveOneValueAtMost (ClauseValue kind e ∷ rest) = HaveNoValue rest
 HaveOneValueAtMost (Shared v ∷ rest) = HaveOneValueAtMost rest
 HaveOneValueAtMost (Copied kind original copy ∷ rest) = HaveOneValueAtMost rest
+
+-- a `parallel` asks for a number of threads once at most; a `task` has no value
+abbrev pub RegionAsksOnce : RegionKind → List ResolvedClauseTree → Type 0
+RegionAsksOnce kinds.Parallel clauses = HaveOneValueAtMost clauses
+RegionAsksOnce kinds.Task clauses = Unit {0}
 
 -- the copies that clauses make, which are seen inside of the construct in place of the originals
 abbrev pub copies_in : ResolvedClauseTree → List Local
@@ -325,12 +336,9 @@ abbrev mutual
   IsWholeStatement around (Return at value) = (around.in_construct ≡ false) × IsWholeReturn around value
   IsWholeStatement around (Break at) = around.breaks ≡ true
   IsWholeStatement around (Continue at) = around.continues ≡ true
-  IsWholeStatement around (Parallel at clauses captures s) =
-      AreWholeClauses around of_parallel clauses × IsRegion at.start clauses captures s × IsWholeStatement
-      (within around clauses) s × HaveOneValueAtMost clauses
-  IsWholeStatement around (Task at clauses captures s) =
-      AreWholeClauses around of_task clauses × IsRegion at.start clauses captures s × IsWholeStatement
-      (within around clauses) s
+  IsWholeStatement around (Region at kind clauses captures s) =
+      AreWholeClauses around (of_region kind) clauses × IsRegion at.start clauses captures s × IsWholeStatement
+      (within around clauses) s × RegionAsksOnce kind clauses
   IsWholeStatement around (Loop at clauses nowait l s) =
       AreWholeClauses around of_worksharing clauses × IsWholeLoop around l × IsWholeStatement
       (iterated around clauses l) s

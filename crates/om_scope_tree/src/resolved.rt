@@ -224,6 +224,15 @@ pub struct ResolvedHead {
     pub step: Option<ResolvedExpression>,
 }
 
+/// A construct that has a body of its own in the code.
+#[derive(Clone, Copy)]
+pub enum RegionKind {
+    /// `parallel`, whose body each thread of a team runs.
+    Parallel,
+    /// `task`, whose body a task runs.
+    Task,
+}
+
 /// A construct that makes no team and no task, and is for no loop.
 #[derive(Drop)]
 pub enum ConstructKind {
@@ -351,17 +360,10 @@ pub enum ResolvedStatement {
     },
     Break(Span),
     Continue(Span),
-    /// `parallel`
-    Parallel {
+    /// `parallel` or `task`
+    Region {
         at: Span,
-        clauses: Vec<ResolvedClause>,
-        /// What it takes from outside.
-        captures: Seq<Capture>,
-        body: Box<ResolvedStatement>,
-    },
-    /// `task`
-    Task {
-        at: Span,
+        kind: RegionKind,
         clauses: Vec<ResolvedClause>,
         /// What it takes from outside.
         captures: Seq<Capture>,

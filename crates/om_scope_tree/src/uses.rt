@@ -274,12 +274,7 @@ fn take_own<S: Sighting>(seen: &mut S, statement: &ResolvedStatement) -> AllocRe
         } => take_expression(seen, used),
         ResolvedStatement::For { head, .. } => take_head(seen, head),
         ResolvedStatement::Return { value, .. } => take_perhaps(seen, value),
-        ResolvedStatement::Parallel {
-            clauses,
-            captures,
-            ..
-        }
-        | ResolvedStatement::Task {
+        ResolvedStatement::Region {
             clauses,
             captures,
             ..
@@ -336,8 +331,7 @@ pub(crate) fn take_statement<S: Sighting>(
         | ResolvedStatement::Return { .. }
         | ResolvedStatement::Break(_)
         | ResolvedStatement::Continue(_)
-        | ResolvedStatement::Parallel { .. }
-        | ResolvedStatement::Task { .. }
+        | ResolvedStatement::Region { .. }
         | ResolvedStatement::Update { .. }
         | ResolvedStatement::StandAlone { .. } => Ok(()),
     }

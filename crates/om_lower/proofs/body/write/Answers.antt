@@ -22,30 +22,16 @@ returns-in-Function-clause-scopes c =
     (λ at. body_scopes at b.function (part_tree part)) c.args.writing.now c.write_function.new.writing))
     (sym c.in-Function.is) c.write_function.ensures.scopes
 
-pub returns-in-Parallel-clause-code : goal.returns-in-Parallel-clause-code
-returns-in-Parallel-clause-code c =
+pub returns-in-Region-clause-code : goal.returns-in-Region-clause-code
+returns-in-Region-clause-code c =
     let b = body_in [] c.args.site.now in
-    subst (λ part. OnOk c.write_parallel.result (EmitsBody (numbered_by c.args.tables.now) b.numbers b.function
-    (part_tree part) c.args.writing.now.draft c.write_parallel.new.writing.draft))
-    (sym c.in-Parallel.is) (on_ok_weaker c.write_parallel.result (λ h. h b.function) c.write_parallel.ensures.code)
+    subst (λ part. OnOk c.write_region.result (EmitsBody (numbered_by c.args.tables.now) b.numbers b.function
+    (part_tree part) c.args.writing.now.draft c.write_region.new.writing.draft))
+    (sym c.in-Region.is) (on_ok_weaker c.write_region.result (λ h. h b.function) c.write_region.ensures.code)
 
-pub returns-in-Parallel-clause-scopes : goal.returns-in-Parallel-clause-scopes
-returns-in-Parallel-clause-scopes c =
+pub returns-in-Region-clause-scopes : goal.returns-in-Region-clause-scopes
+returns-in-Region-clause-scopes c =
     let b = body_in [] c.args.site.now in
-    subst (λ part. OnOk c.write_parallel.result (EmitsScopes (numbered_by c.args.tables.now)
-    (λ at. body_scopes at b.function (part_tree part)) c.args.writing.now c.write_parallel.new.writing))
-    (sym c.in-Parallel.is) (on_ok_weaker c.write_parallel.result (λ h. h b.function) c.write_parallel.ensures.scopes)
-
-pub returns-in-Task-clause-code : goal.returns-in-Task-clause-code
-returns-in-Task-clause-code c =
-    let b = body_in [] c.args.site.now in
-    subst (λ part. OnOk c.write_task.result (EmitsBody (numbered_by c.args.tables.now) b.numbers b.function
-    (part_tree part) c.args.writing.now.draft c.write_task.new.writing.draft))
-    (sym c.in-Task.is) (on_ok_weaker c.write_task.result (λ h. h b.function) c.write_task.ensures.code)
-
-pub returns-in-Task-clause-scopes : goal.returns-in-Task-clause-scopes
-returns-in-Task-clause-scopes c =
-    let b = body_in [] c.args.site.now in
-    subst (λ part. OnOk c.write_task.result (EmitsScopes (numbered_by c.args.tables.now)
-    (λ at. body_scopes at b.function (part_tree part)) c.args.writing.now c.write_task.new.writing))
-    (sym c.in-Task.is) (on_ok_weaker c.write_task.result (λ h. h b.function) c.write_task.ensures.scopes)
+    subst (λ part. OnOk c.write_region.result (EmitsScopes (numbered_by c.args.tables.now)
+    (λ at. body_scopes at b.function (part_tree part)) c.args.writing.now c.write_region.new.writing))
+    (sym c.in-Region.is) (on_ok_weaker c.write_region.result (λ h. h b.function) c.write_region.ensures.scopes)

@@ -19,12 +19,11 @@ use Rattle.om_lower_emit.specs.Going.{free_with, with_none}
 use Rattle.om_lower.proofs.Lists.{left_item, left_next, no_atomic, numbers_are, onward_begin, onward_done, spot_is}
 use Rattle.om_lower.proofs.Lists.{nothing_on_error, statement_is}
 use Rattle.om_lower.proofs.RegionEnds.{sections_ends}
-use Rattle.om_lower.proofs.RegionEnds.{ends_here, ends_next, parallel_ends, parts_ends_here, parts_ends_next}
-use Rattle.om_lower.proofs.RegionEnds.{task_ends}
+use Rattle.om_lower.proofs.RegionEnds.{ends_here, ends_next, parts_ends_here, parts_ends_next, region_ends}
 use Rattle.om_lower.proofs.Views.{view_block, view_break, view_construct, view_continue, view_declaration, view_do}
 use Rattle.om_lower.proofs.Views.{view_empty}
-use Rattle.om_lower.proofs.Views.{view_expression, view_for, view_if, view_if_else, view_loop, view_parallel}
-use Rattle.om_lower.proofs.Views.{view_return, view_sections, view_stand_alone, view_task, view_update, view_while}
+use Rattle.om_lower.proofs.Views.{view_expression, view_for, view_if, view_if_else, view_loop, view_region}
+use Rattle.om_lower.proofs.Views.{view_return, view_sections, view_stand_alone, view_update, view_while}
 use Rattle.om_lower.proofs.Forms.{close_clauses_are, construct_clauses_are, emits_construct, emits_do, emits_for}
 use Rattle.om_lower.proofs.Forms.{emits_if, emits_if_else, emits_loop, emits_while, loop_clauses_are}
 use Rattle.om_lower.proofs.PartLists.{free_first, free_start, items_are, left_count, left_part, onward_parts_begin}
@@ -362,32 +361,19 @@ statements-returns-clause-emitted t c =
     (ap (λ xs. trees.statements (map view.statement xs))
     (drop_all c.loop-item.item-index c.args.items.now c.loop-item-test.false)) c.loop-item.invariant.2
 
-pub statement-returns-in_ok-after-in-Parallel-clause-emitted :
-    goal.statement-returns-in_ok-after-in-Parallel-clause-emitted
-statement-returns-in_ok-after-in-Parallel-clause-emitted t c =
+pub statement-returns-in_ok-after-in-Region-clause-emitted :
+    goal.statement-returns-in_ok-after-in-Region-clause-emitted
+statement-returns-in_ok-after-in-Region-clause-emitted t c =
     statement_is (numbered_by c.args.tables.now) (numbers_of c.args.spot.numbers) _ _ c.args.spot.jumps _ _
-    (ap (λ x. trees.Parallel c.in-Parallel.at (map view.clause x) c.as_slice-in-Parallel-2.result.now
-    (view.statement c.deref-in-Parallel.result.now)) c.as_slice-in-Parallel.ensures.value
-    ∙ ap (λ x. trees.Parallel c.in-Parallel.at (map view.clause c.in-Parallel.clauses.items) x
-    (view.statement c.deref-in-Parallel.result.now)) c.as_slice-in-Parallel-2.ensures
-    ∙ ap (λ z. trees.Parallel c.in-Parallel.at (map view.clause c.in-Parallel.clauses.items)
-    c.in-Parallel.captures (view.statement z)) c.deref-in-Parallel.ensures
-    ∙ sym (ap view.statement c.in-Parallel.is ∙ view_parallel c.in-Parallel.at c.in-Parallel.clauses
-    c.in-Parallel.captures c.in-Parallel.body))
-    (c.in_ok-after-in-Parallel.ensures.emitted c.args.spot.jumps)
-
-pub statement-returns-in_ok-after-in-Task-clause-emitted : goal.statement-returns-in_ok-after-in-Task-clause-emitted
-statement-returns-in_ok-after-in-Task-clause-emitted t c =
-    statement_is (numbered_by c.args.tables.now) (numbers_of c.args.spot.numbers) _ _ c.args.spot.jumps _ _
-    (ap (λ x. trees.Task c.in-Task.at (map view.clause x) c.as_slice-in-Task-2.result.now
-    (view.statement c.deref-in-Task.result.now)) c.as_slice-in-Task.ensures.value
-    ∙ ap (λ x. trees.Task c.in-Task.at (map view.clause c.in-Task.clauses.items) x
-    (view.statement c.deref-in-Task.result.now)) c.as_slice-in-Task-2.ensures
-    ∙ ap (λ z. trees.Task c.in-Task.at (map view.clause c.in-Task.clauses.items) c.in-Task.captures
-    (view.statement z)) c.deref-in-Task.ensures
-    ∙ sym (ap view.statement c.in-Task.is ∙ view_task c.in-Task.at c.in-Task.clauses c.in-Task.captures
-    c.in-Task.body))
-    (c.in_ok-after-in-Task.ensures.emitted c.args.spot.jumps)
+    (ap (λ x. trees.Region c.in-Region.at c.in-Region.kind (map view.clause x) c.as_slice-in-Region-2.result.now
+    (view.statement c.deref-in-Region.result.now)) c.as_slice-in-Region.ensures.value
+    ∙ ap (λ x. trees.Region c.in-Region.at c.in-Region.kind (map view.clause c.in-Region.clauses.items) x
+    (view.statement c.deref-in-Region.result.now)) c.as_slice-in-Region-2.ensures
+    ∙ ap (λ z. trees.Region c.in-Region.at c.in-Region.kind (map view.clause c.in-Region.clauses.items)
+    c.in-Region.captures (view.statement z)) c.deref-in-Region.ensures
+    ∙ sym (ap view.statement c.in-Region.is ∙ view_region c.in-Region.at c.in-Region.kind c.in-Region.clauses
+    c.in-Region.captures c.in-Region.body))
+    (c.in_ok-after-in-Region.ensures.emitted c.args.spot.jumps)
 
 pub parts-loop-index-init : goal.parts-loop-index-init
 parts-loop-index-init t c =
@@ -576,17 +562,10 @@ pub statement-begin_while-requires : goal.statement-begin_while-requires
 statement-begin_while-requires t c =
     (while_code _ _ c.args.tree.now c.in-While.at c.in-While.condition c.in-While.body c.in-While.is c.requires.code).0
 
-pub statement-parallel-requires-clause-known : goal.statement-parallel-requires-clause-known
-statement-parallel-requires-clause-known t c =
-    parallel_ends _ _ c.args.tree.now _ c.in-Parallel.at c.in-Parallel.clauses c.in-Parallel.captures c.in-Parallel.body
-    _ c.in-Parallel.is c.deref-in-Parallel.ensures c.as_slice-in-Parallel.ensures.value c.requires.ends
-
-pub statement-task-requires : goal.statement-task-requires
-statement-task-requires t c =
-    record {
-      known = task_ends _ _ c.args.tree.now _ c.in-Task.at c.in-Task.clauses c.in-Task.captures c.in-Task.body _
-          c.in-Task.is c.deref-in-Task.ensures c.as_slice-in-Task.ensures.value c.requires.ends;
-    }
+pub statement-region_there-requires-clause-known : goal.statement-region_there-requires-clause-known
+statement-region_there-requires-clause-known t c =
+    region_ends _ _ c.args.tree.now _ c.in-Region.at c.in-Region.kind c.in-Region.clauses c.in-Region.captures
+    c.in-Region.body _ c.in-Region.is c.deref-in-Region.ensures c.as_slice-in-Region.ensures.value c.requires.ends
 
 pub statement-returns-in_ok-jump-in-Break-clause-scopes : goal.statement-returns-in_ok-jump-in-Break-clause-scopes
 statement-returns-in_ok-jump-in-Break-clause-scopes t c =
@@ -610,35 +589,20 @@ statement-returns-in_ok-stand_alone-in-StandAlone-clause-scopes t c =
     (trees.StandAlone c.in-StandAlone.at c.in-StandAlone.directive)
     c.args.spot.jumps _ _ _ (c.in_ok-stand_alone-in-StandAlone.ensures (numbered_by c.args.tables.now)).writes)
 
-pub statement-returns-in_ok-after-in-Parallel-clause-scopes : goal.statement-returns-in_ok-after-in-Parallel-clause-scopes
-statement-returns-in_ok-after-in-Parallel-clause-scopes t c =
-    scopes_are (numbered_by c.args.tables.now) _ _ _ _ _ _ (ap (λ x. trees.Parallel c.in-Parallel.at (map view.clause x) c.as_slice-in-Parallel-2.result.now
-    (view.statement c.deref-in-Parallel.result.now)) c.as_slice-in-Parallel.ensures.value
-    ∙ ap (λ x. trees.Parallel c.in-Parallel.at (map view.clause c.in-Parallel.clauses.items) x
-    (view.statement c.deref-in-Parallel.result.now)) c.as_slice-in-Parallel-2.ensures
-    ∙ ap (λ z. trees.Parallel c.in-Parallel.at (map view.clause c.in-Parallel.clauses.items)
-    c.in-Parallel.captures (view.statement z)) c.deref-in-Parallel.ensures
-    ∙ sym (ap view.statement c.in-Parallel.is ∙ view_parallel c.in-Parallel.at c.in-Parallel.clauses
-    c.in-Parallel.captures c.in-Parallel.body))
+pub statement-returns-in_ok-after-in-Region-clause-scopes : goal.statement-returns-in_ok-after-in-Region-clause-scopes
+statement-returns-in_ok-after-in-Region-clause-scopes t c =
+    scopes_are (numbered_by c.args.tables.now) _ _ _ _ _ _ (ap (λ x. trees.Region c.in-Region.at c.in-Region.kind (map view.clause x) c.as_slice-in-Region-2.result.now
+    (view.statement c.deref-in-Region.result.now)) c.as_slice-in-Region.ensures.value
+    ∙ ap (λ x. trees.Region c.in-Region.at c.in-Region.kind (map view.clause c.in-Region.clauses.items) x
+    (view.statement c.deref-in-Region.result.now)) c.as_slice-in-Region-2.ensures
+    ∙ ap (λ z. trees.Region c.in-Region.at c.in-Region.kind (map view.clause c.in-Region.clauses.items)
+    c.in-Region.captures (view.statement z)) c.deref-in-Region.ensures
+    ∙ sym (ap view.statement c.in-Region.is ∙ view_region c.in-Region.at c.in-Region.kind c.in-Region.clauses
+    c.in-Region.captures c.in-Region.body))
     (alone (numbered_by c.args.tables.now) (numbers_of c.args.spot.numbers)
-    (trees.Parallel c.in-Parallel.at (map view.clause c.as_slice-in-Parallel.result.now) c.as_slice-in-Parallel-2.result.now
-    (view.statement c.deref-in-Parallel.result.now))
-    c.args.spot.jumps _ _ _ (c.in_ok-after-in-Parallel.ensures.emitted c.args.spot.jumps).writes)
-
-pub statement-returns-in_ok-after-in-Task-clause-scopes : goal.statement-returns-in_ok-after-in-Task-clause-scopes
-statement-returns-in_ok-after-in-Task-clause-scopes t c =
-    scopes_are (numbered_by c.args.tables.now) _ _ _ _ _ _ (ap (λ x. trees.Task c.in-Task.at (map view.clause x) c.as_slice-in-Task-2.result.now
-    (view.statement c.deref-in-Task.result.now)) c.as_slice-in-Task.ensures.value
-    ∙ ap (λ x. trees.Task c.in-Task.at (map view.clause c.in-Task.clauses.items) x
-    (view.statement c.deref-in-Task.result.now)) c.as_slice-in-Task-2.ensures
-    ∙ ap (λ z. trees.Task c.in-Task.at (map view.clause c.in-Task.clauses.items) c.in-Task.captures
-    (view.statement z)) c.deref-in-Task.ensures
-    ∙ sym (ap view.statement c.in-Task.is ∙ view_task c.in-Task.at c.in-Task.clauses c.in-Task.captures
-    c.in-Task.body))
-    (alone (numbered_by c.args.tables.now) (numbers_of c.args.spot.numbers)
-    (trees.Task c.in-Task.at (map view.clause c.as_slice-in-Task.result.now) c.as_slice-in-Task-2.result.now
-    (view.statement c.deref-in-Task.result.now))
-    c.args.spot.jumps _ _ _ (c.in_ok-after-in-Task.ensures.emitted c.args.spot.jumps).writes)
+    (trees.Region c.in-Region.at c.in-Region.kind (map view.clause c.as_slice-in-Region.result.now) c.as_slice-in-Region-2.result.now
+    (view.statement c.deref-in-Region.result.now))
+    c.args.spot.jumps _ _ _ (c.in_ok-after-in-Region.ensures.emitted c.args.spot.jumps).writes)
 
 pub statement-returns-in_ok-end-in-Sections-clause-scopes : goal.statement-returns-in_ok-end-in-Sections-clause-scopes
 statement-returns-in_ok-end-in-Sections-clause-scopes t c =

@@ -5,7 +5,7 @@ use denote.Param.Weighed.{most}
 use Rattle.om_scope_tree.specs.declared.resolved.ResolvedStatement.TheViews.{size-ResolvedPart, size-ResolvedStatement}
 use Rattle.om_scope_tree.specs.declared.resolved.ResolvedStatement.TheViews.{sized-Block, sized-Construct, sized-Do}
 use Rattle.om_scope_tree.specs.declared.resolved.ResolvedStatement.TheViews.{sized-For, sized-IfElse, sized-Loop}
-use Rattle.om_scope_tree.specs.declared.resolved.ResolvedStatement.TheViews.{size_is-ResolvedPart, sized-Sections}
+use Rattle.om_scope_tree.specs.declared.resolved.ResolvedStatement.TheViews.{size_is-ResolvedPart, sized-Region, sized-Sections}
 use Rattle.om_scope_tree.specs.ResolvedTree as trees
 use Rattle.om_scope_tree.specs.ResolvedView as view
 use Rattle.om_scope_tree.specs.Weights.{clause_weight, declarator_weight, loop_weight, parts_weight, statements_weight, update_weight}
@@ -18,7 +18,7 @@ use Rattle.om_lower_tables.proofs.Rooms.{statements_behind}
 use Rattle.om_lower_tables.proofs.Rooms.{value_behind}
 use Rattle.om_lower_tables.proofs.Weights.{all_weight_of, weight_block, weight_construct, weight_do, weight_for}
 use Rattle.om_lower_tables.proofs.Noting.{parts_next}
-use Rattle.om_lower_tables.proofs.Weights.{next_part, smaller_region, smaller_tested}
+use Rattle.om_lower_tables.proofs.Weights.{next_part, smaller_tested}
 use Rattle.om_lower_tables.proofs.Weights.{item_left, part_left, weight_declaration, weight_expression}
 use Rattle.om_lower_tables.proofs.Weights.{weight_return, weight_update, weight_tested, weight_region, with_depth}
 use Rattle.om_lower_tables.proofs.Weights.{weight_if_else, weight_loop, weight_sections}
@@ -320,13 +320,13 @@ note_statement-note_update-requires t c =
       c.requires.room,
     )
 
-pub note_statement-note_clauses-requires-in-Parallel : goal.note_statement-note_clauses-requires-in-Parallel
+pub note_statement-note_clauses-requires-in-Region : goal.note_statement-note_clauses-requires-in-Region
 unfolding IsRoomFor
-note_statement-note_clauses-requires-in-Parallel t c =
+note_statement-note_clauses-requires-in-Region t c =
     omega (
       arith,
-      weight_region _ _ _ c.in-Parallel.is,
-      ap (λ xs. sum (map clause_weight (map view.clause xs))) c.as_slice-in-Parallel.ensures.value,
+      weight_region _ _ _ _ _ _ c.in-Region.is,
+      ap (λ xs. sum (map clause_weight (map view.clause xs))) c.as_slice-in-Region.ensures.value,
       c.requires.room,
     )
 
@@ -335,16 +335,17 @@ unfolding IsRoomFor
 note_statement-note_region-requires t c = (
   omega (
     arith,
-    smaller_region _ _ _ c.in-Parallel.is,
-    ap size-ResolvedStatement c.deref-in-Parallel.ensures,
+    ap size-ResolvedStatement c.in-Region.is,
+    sized-Region c.in-Region.at c.in-Region.kind c.in-Region.clauses c.in-Region.captures c.in-Region.body,
+    ap size-ResolvedStatement c.deref-in-Region.ensures,
     c.decreases,
   ),
   omega (
     arith,
-    weight_region _ _ _ c.in-Parallel.is,
-    ap (λ xs. sum (map clause_weight (map view.clause xs))) c.as_slice-in-Parallel.ensures.value,
-    ap all_weight_of c.deref-in-Parallel.ensures,
-    clauses_behind (map view.clause c.as_slice-in-Parallel.result.now) c.args.walk.now.found c.note_clauses-in-Parallel.new.found c.in_ok-note_clauses-in-Parallel.ensures,
+    weight_region _ _ _ _ _ _ c.in-Region.is,
+    ap (λ xs. sum (map clause_weight (map view.clause xs))) c.as_slice-in-Region.ensures.value,
+    ap all_weight_of c.deref-in-Region.ensures,
+    clauses_behind (map view.clause c.as_slice-in-Region.result.now) c.args.walk.now.found c.note_clauses-in-Region.new.found c.in_ok-note_clauses-in-Region.ensures,
     c.requires.room,
   ),
 )

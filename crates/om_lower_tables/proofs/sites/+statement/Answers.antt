@@ -3,8 +3,7 @@ use Rattle.std.proofs.lemmas.Result.{on_ok_weaker}
 use denote.Param.Weighed.{most}
 use Rattle.om_scope_tree.specs.declared.resolved.ResolvedStatement.TheViews.{size-ResolvedPart, size-ResolvedStatement}
 use Rattle.om_scope_tree.specs.declared.resolved.ResolvedStatement.TheViews.{size_is-ResolvedPart, sized-Block}
-use Rattle.om_scope_tree.specs.declared.resolved.ResolvedStatement.TheViews.{sized-IfElse, sized-Parallel, sized-Sections}
-use Rattle.om_scope_tree.specs.declared.resolved.ResolvedStatement.TheViews.{sized-Task}
+use Rattle.om_scope_tree.specs.declared.resolved.ResolvedStatement.TheViews.{sized-IfElse, sized-Region, sized-Sections}
 use Rattle.om_scope_tree.specs.ResolvedTree as trees
 use Rattle.om_scope_tree.specs.ResolvedView as view
 use Rattle.om_scope_tree.specs.Weights.{parts_weight, statements_weight}
@@ -14,7 +13,7 @@ use Rattle.om_lower_tables.specs.Room.{IsRoomFor}
 use Rattle.om_lower_tables.specs.Sites.{AddsBodies, function_of, site_variables}
 use Rattle.om_lower_tables.proofs.Rooms.{all_numbers_behind, given, numbers_behind}
 use Rattle.om_lower_tables.proofs.Weights.{all_weight_of, inside, item_left, next_item, next_part, part_left, view_if_else}
-use Rattle.om_lower_tables.proofs.Weights.{weight_block, weight_if_else, weight_parallel, weight_sections, weight_task}
+use Rattle.om_lower_tables.proofs.Weights.{weight_block, weight_if_else, weight_region, weight_sections}
 use Rattle.om_lower_tables.proofs.Weights.{with_depth}
 use Rattle.om_lower_tables.proofs.SiteBodies.{if_else_regions, items_regions, left_added, part_regions, region_added}
 use Rattle.om_lower_tables.proofs.SiteBodies.{region_round, round_kept, two_added}
@@ -139,38 +138,17 @@ unfolding IsRoomFor
 see_statement-see_region-requires t c = (
   omega (
     arith,
-    ap size-ResolvedStatement c.in-Parallel.is,
-    sized-Parallel c.in-Parallel.at c.in-Parallel.clauses c.in-Parallel.captures c.in-Parallel.body,
-    ap size-ResolvedStatement c.deref-in-Parallel-2.ensures,
+    ap size-ResolvedStatement c.in-Region.is,
+    sized-Region c.in-Region.at c.in-Region.kind c.in-Region.clauses c.in-Region.captures c.in-Region.body,
+    ap size-ResolvedStatement c.deref-in-Region-2.ensures,
     c.decreases,
   ),
   (
     c.requires.round,
     omega (
       arith,
-      weight_parallel _ _ _ _ _ c.in-Parallel.is,
-      ap all_weight_of c.deref-in-Parallel-2.ensures,
-      c.requires.room,
-    ),
-  ),
-)
-
-pub see_statement-see_region-requires-in-Task : goal.see_statement-see_region-requires-in-Task
-unfolding IsRoomFor
-see_statement-see_region-requires-in-Task t c = (
-  omega (
-    arith,
-    ap size-ResolvedStatement c.in-Task.is,
-    sized-Task c.in-Task.at c.in-Task.clauses c.in-Task.captures c.in-Task.body,
-    ap size-ResolvedStatement c.deref-in-Task-2.ensures,
-    c.decreases,
-  ),
-  (
-    c.requires.round,
-    omega (
-      arith,
-      weight_task _ _ _ _ _ c.in-Task.is,
-      ap all_weight_of c.deref-in-Task-2.ensures,
+      weight_region _ _ _ _ _ _ c.in-Region.is,
+      ap all_weight_of c.deref-in-Region-2.ensures,
       c.requires.room,
     ),
   ),
