@@ -1,3 +1,4 @@
+mod Auto
 pub mod Outcomes
 pub mod Taken
 pub mod SameKinds

@@ -10,7 +10,7 @@
 //!   clause's S6.
 //!
 //! Cases: gate_cases, "== line".
-#![tactic(auto, using(crate::proofs::SameKinds::excluded, crate::proofs::SameKinds::none_excluded), unfolding(crate::specs::Reading::clause_after, crate::specs::Reading::value_after, crate::specs::Reading::default_after, crate::specs::Reading::take_word, crate::specs::Reading::data_after, crate::specs::Reading::list_at, crate::specs::Reading::list_after, crate::specs::Reading::names_at, crate::specs::Reading::further_at, crate::specs::Reading::reduction_after, crate::specs::Reading::schedule_after, crate::specs::Reading::chunk_at, crate::specs::Reading::expression_at, crate::specs::Reading::in_parentheses, crate::specs::Reading::directive_at, crate::specs::Reading::opening_at, crate::specs::Reading::directive_name_at, crate::specs::Reading::name_after, crate::specs::Reading::parallel_at, crate::specs::Reading::critical_at, crate::specs::Reading::critical_after, crate::specs::Reading::flush_at, crate::specs::Reading::item_at, crate::specs::Reading::comma_at, crate::specs::Reading::clause_at, crate::specs::Table::same_clause, crate::specs::Table::may_stand, crate::specs::Reading::take_kind, crate::specs::Reading::take_end, crate::specs::Reading::take_chunk, crate::specs::Reading::mark_at, crate::specs::Reading::name_at, crate::specs::Reading::take_name, crate::specs::Words::same_keyword, crate::specs::Words::same_mark))]
+#![tactic(auto, using(crate::proofs::Auto::lemmas), unfolding(crate::proofs::Auto::definitions))]
 
 mod argument;
 mod before;
