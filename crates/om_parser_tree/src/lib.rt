@@ -14,7 +14,7 @@
 //!   `boxed` puts a value into a box. `specs/Making` says what both promise.
 //!
 //! Cases: gate_cases, "== parser".
-#![tactic(auto, using(crate::specs::CallViews::view_call), unfolding(crate::specs::AtomicForms::same_expression, crate::specs::AtomicForms::contains, crate::specs::AtomicForms::is_operation_on, crate::specs::AtomicForms::is_updated, crate::specs::AtomicForms::is_update, crate::specs::AtomicForms::is_read, crate::specs::AtomicForms::is_write, crate::specs::AtomicForms::has_atomic_form))]
+#![tactic(auto, using(crate::proofs::Auto::lemmas), unfolding(crate::proofs::Auto::definitions))]
 
 pub mod assembly;
 mod atomic;
