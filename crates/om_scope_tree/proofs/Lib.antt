@@ -1,1 +1,2 @@
+mod Auto
 pub mod FoundBehind

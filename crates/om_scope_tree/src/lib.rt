@@ -17,7 +17,7 @@
 //!   and `Whole`.
 //!
 //! Cases: gate_cases, "== resolver".
-#![tactic(auto, using(crate::proofs::FoundBehind::found_behind), unfolding(crate::specs::Captures::expression_uses, crate::specs::Captures::values_uses, crate::specs::Captures::statement_uses, crate::specs::Captures::statements_uses, crate::specs::Captures::parts_uses))]
+#![tactic(auto, using(crate::proofs::Auto::lemmas), unfolding(crate::proofs::Auto::definitions))]
 
 mod captures;
 mod found;
