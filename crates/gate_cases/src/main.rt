@@ -15,17 +15,13 @@
 mod beginnings;
 mod books;
 mod checks;
-mod code;
 mod ends;
 mod fibonacci;
 mod free_tasks;
 mod judge;
-mod laws;
 mod memory;
 mod sessions;
-mod sources;
 mod stage;
-mod table;
 mod written;
 
 use crate::judge::judge;

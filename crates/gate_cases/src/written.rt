@@ -1,10 +1,33 @@
-//! Sources as they are written in a case.
+//! Tables of sources, and sources as they are written in a case.
 //!
-//! A control character stands there as its picture: `␊` is the end of a line, `␍`, `␉`, `␌` and `␁` are the
-//! others. `⟨1023 if(1)⟩` is so many times `if(1)`; a `№` in there is the number of the time, from 0 on.
+//! A section of the input begins with `== STAGE TITLE`. Its cases stand below, each on a line, as `SOURCE
+//! => S3 1:36`: the source is refused by S3 at line 1, column 36. A section with lines `%%` has its cases
+//! between them, and in each the `=> S3 1:36` stands on a line of its own, below the source. A case without
+//! a refusal is accepted.
+//!
+//! A control character stands in a source as its picture: `␊` is the end of a line, `␍`, `␉`, `␌` and `␁`
+//! are the others. `⟨1023 if(1)⟩` is so many times `if(1)`; a `№` in there is the number of the time, from
+//! 0 on.
 
-use crate::table::cut;
 use om_seq::AllocResult;
+
+/// What stands between two cases of a table.
+pub(crate) fn divider(table: &str) -> &'static str {
+    if table.contains("%%\n") { "%%\n" } else { "\n" }
+}
+
+/// The source of a case as it is written there, and what is wanted of it.
+pub(crate) fn parts(case: &str) -> (&str, &str) {
+    if let Some((source, wanted)) = case.split_once("\n=> ") {
+        return (source, wanted.trim_end());
+    }
+    case.split_once(" => ").unwrap_or((case, "accepted"))
+}
+
+/// What stands before and behind a character; nothing behind, where a text does not have it.
+pub(crate) fn cut(text: &str, mark: char) -> (&str, &str) {
+    text.split_once(mark).unwrap_or((text, ""))
+}
 
 /// Adds the source that a text stands for.
 pub(crate) fn write_out(source: &mut String, text: &str) -> AllocResult<()> {

@@ -1,6 +1,5 @@
-//! All checks, and what is said of each.
+//! All checks, what is said of each, and the calls of the laws.
 
-use crate::counts::counts_follow_an_undo;
 use crate::driven::{all_are_answered, places_are_those_of_the_journal};
 use crate::free_runs::free_runs_are_recorded;
 use crate::full::journal_gets_full;
@@ -8,9 +7,8 @@ use crate::gates::both_are_inside_at_once;
 use crate::gathered::faults_are_told;
 use crate::holding::{drives_are_side_by_side, free_runs_are_side_by_side};
 use crate::late::answers_may_be_late;
-use crate::laws::call_laws;
 use crate::unbacked::unbacked_answers_are_left_out;
-use crate::undos::long_history_is_undone;
+use crate::undos::{counts_follow_an_undo, long_history_is_undone};
 use crate::valid::code_is_judged;
 use om_seq::AllocResult;
 use std::alloc::Global;
@@ -91,4 +89,31 @@ fn add_drive_checks<R: Threads + Wait + Sync>(
 fn add_line(told: &mut String, check: &str, is_right: bool) -> AllocResult<()> {
     let verdict = if is_right { "" } else { " is WRONG" };
     write!(told, "{check}{verdict}\n")
+}
+
+/// Calls each law.
+pub(crate) fn call_laws() {
+    om_team::laws::partition();
+    om_team::laws::shares();
+    om_task::laws::low_counters();
+    om_task::laws::calm_rules();
+    om_task::laws::shaped_rules();
+    om_undo_history::laws::dependence();
+    om_undo_history::laws::commutation();
+    om_undo_history::laws::removal();
+    om_undo_history::laws::step_then_undo();
+    om_undo_history::laws::remaining_steps();
+    om_undo_history::laws::exactly_where();
+    om_undo_history::laws::serials();
+    om_undo_history::laws::equivalence();
+    om_undo_history::laws::roll_is_cone();
+    om_undo_history::laws::roll_takes_cone();
+    om_undo_history::laws::roll_is_undos();
+    om_undo_history::laws::least();
+    om_undo_history::laws::small_counts();
+    om_undo::laws::headline();
+    om_undo::laws::steady_rules();
+    om_undo::laws::shaped_rules();
+    om_undo::laws::small_counts();
+    om_undo::laws::one_ready_list();
 }

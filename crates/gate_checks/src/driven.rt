@@ -2,9 +2,8 @@
 
 ghost use Rattle.std.specs.Prelude.{◌≡◌, IfOk, length, vec_len};
 
-use crate::book_of_two::BookOfTwo;
-use crate::orders::steps_of;
-use crate::places::are_places;
+use crate::machine_of_two::BookOfTwo;
+use crate::orders::{are_places, steps_of};
 use crate::table::{Drove, Table};
 use om_drive::{Answer, Gate, Order};
 use om_seq::AllocResult;

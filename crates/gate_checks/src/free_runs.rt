@@ -1,9 +1,9 @@
 //! Free runs of programs of tasks, one behind the other, until the programs have ended.
 
-use crate::book_of_two::{BookOfTwo, Lengths};
-use crate::counts::TASKS;
 use crate::driven::two_gates;
+use crate::machine_of_two::{BookOfTwo, Lengths};
 use crate::table::{Ran, Table};
+use crate::undos::TASKS;
 use om_drive::Errand;
 use om_seq::AllocResult;
 use std::alloc::Global;

@@ -1,6 +1,6 @@
 //! A journal without room for another record.
 
-use crate::book_of_two::BookOfTwo;
+use crate::machine_of_two::BookOfTwo;
 use om_book::{CallError, Command, Query, Reply};
 use om_foot::Obj;
 use om_seq::AllocResult;

@@ -2,8 +2,8 @@
 
 ghost use Rattle.std.specs.Prelude.{◌≡◌, IfOk, vec_len};
 
-use crate::book_of_two::BookOfTwo;
 use crate::driven::ADDING;
+use crate::machine_of_two::BookOfTwo;
 use crate::orders::two_lists_of_looks;
 use crate::table::{Drove, Ran, Table};
 use om_drive::{Errand, Gate, Order};

@@ -8,9 +8,7 @@
 //! - `machine_of_two` and `table` make what they are over. `call_laws` calls the laws of the machine.
 #![tactic(auto)]
 
-mod book_of_two;
 mod checks;
-mod counts;
 mod driven;
 mod free_runs;
 mod full;
@@ -18,10 +16,8 @@ mod gates;
 mod gathered;
 mod holding;
 mod late;
-mod laws;
 mod machine_of_two;
 mod orders;
-mod places;
 mod table;
 mod unbacked;
 mod undos;

@@ -4,7 +4,7 @@ ghost use Rattle.std.specs.Prelude.{◌≡◌, ◌≢◌, length, vec_len};
 ghost use Rattle.std.specs.List.{AllPairs};
 ghost use Rattle.om_book.specs.Rounds.{in_rounds};
 
-use crate::book_of_two::BookOfTwo;
+use crate::machine_of_two::BookOfTwo;
 use om_book::{Blank, Closed, Session, Sitting};
 use om_drive::{Answer, Driven, Errand, Fault, Freed, Gate, Order, drive, free, numbers_differ};
 use std::alloc::Global;

@@ -2,8 +2,8 @@
 
 ghost use Rattle.std.specs.Prelude.{◌≡◌, length};
 
-use crate::book_of_two::BookOfTwo;
 use crate::driven::ADDING;
+use crate::machine_of_two::BookOfTwo;
 use crate::orders::{answer, are_answers, two_lists_of_looks};
 use om_book::{Blank, Command, Query, Reply, Seat, Session, Sitting};
 use om_drive::{Answer, KeptAnswers, Order, Rows, keep_backed};

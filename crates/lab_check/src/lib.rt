@@ -8,7 +8,6 @@
 
 mod excerpt;
 mod team;
-mod token;
 mod verdict;
 
 pub use lab_text::Report;

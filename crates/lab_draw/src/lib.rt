@@ -13,12 +13,10 @@ mod escape;
 mod front;
 mod marks;
 mod object;
-mod outcome;
 mod scale;
 mod story;
 mod strokes;
 mod style;
 
-pub use drawing::page;
-pub use outcome::Page;
+pub use drawing::{Page, page};
 pub use scale::Scale;

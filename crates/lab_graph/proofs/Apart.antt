@@ -11,7 +11,7 @@ use Rattle.om_foot.specs.declared.object.Obj.{Obj}
 use Rattle.om_foot.specs.declared.footprint.Access.{Access}
 use Rattle.om_foot.specs.Footprint.{obj_eq, modes_conflict, conflicts_with_any, conflict_of}
 use Rattle.om_foot.specs.Objects.{obj_eq-true}
-use Rattle.lab_graph.specs.declared.traced.Traced.{Traced}
+use Rattle.lab_graph.specs.declared.sketch.Traced.{Traced}
 use Rattle.lab_graph.specs.Pictures.{arrow_if}
 use Rattle.lab_graph.specs.Sets.{set_of, sets_behind, sets_of}
 

@@ -6,7 +6,7 @@ use Rattle.std.specs.List.{AllByRecursion}
 use Rattle.om_foot.specs.declared.object.Obj.{Obj}
 use Rattle.om_foot.specs.Footprint.{conflict_of}
 use Rattle.om_undo_history.specs.Laws.{Apart}
-use Rattle.lab_graph.specs.declared.traced.Traced.{Traced}
+use Rattle.lab_graph.specs.declared.sketch.Traced.{Traced}
 use Rattle.lab_graph.specs.declared.picture.StepBox.{StepBox}
 use Rattle.lab_graph.specs.declared.picture.End.{End}
 use Rattle.lab_graph.specs.declared.picture.Arrow.{Arrow}

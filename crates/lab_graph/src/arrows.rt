@@ -5,8 +5,7 @@ ghost use Rattle.std.specs.Prelude.{◌≡◌, IfOk, OnOk};
 ghost use Rattle.lab_graph.specs.Pictures.{hides, is_hidden, meets_other, object_between, first_named, arrow_at, arrows_of, AddsBetween, AddsInto};
 
 use crate::picture::{Arrow, end_of};
-use crate::sketch::{Sketch, sketches_of};
-use crate::traced::Traced;
+use crate::sketch::{Sketch, Traced, sketches_of};
 use om_foot::{Obj, conflict};
 use om_seq::{AllocResult, Seq};
 use std::alloc::Global;

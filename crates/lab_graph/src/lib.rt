@@ -10,7 +10,6 @@ mod arrows;
 mod picture;
 mod sets;
 mod sketch;
-mod traced;
 
 pub use picture::{Arrow, End, Picture, StepBox, picture_of};
-pub use traced::Traced;
+pub use sketch::Traced;

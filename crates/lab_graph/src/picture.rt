@@ -4,7 +4,7 @@ ghost use Rattle.std.specs.Prelude.{◌≡◌, map, IfOk};
 ghost use Rattle.lab_graph.specs.Pictures.{box_of, end_of, arrows_of, AreArrows};
 
 use crate::arrows::arrows_of;
-use crate::traced::Traced;
+use crate::sketch::Traced;
 use om_foot::Obj;
 use om_seq::{AllocResult, Seq};
 use std::alloc::Global;

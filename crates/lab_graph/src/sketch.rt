@@ -1,13 +1,34 @@
-//! A step as a walk over many steps looks at it: its worker and the sets that its objects are in.
+//! The entries of a history, each with what its step touched and what it did. A walk over many of them
+//! looks at a step's worker and the sets that its objects are in.
 
 ghost use Rattle.std.specs.Prelude.{◌≡◌, is_some, IfOk};
 ghost use Rattle.om_foot.specs.Footprint.{conflict_of};
 
 use crate::sets::{is_conflict_by_sets, sets_of};
-use crate::traced::Traced;
-use om_seq::AllocResult;
+use om_foot::Access;
+use om_seq::{AllocResult, Seq};
+use om_state::Entry;
 use std::alloc::Global;
 use std::marker::Model;
+
+/// An entry of a history, with the footprint of its step at its place in the replay.
+#[derive(Drop)]
+pub struct Traced {
+    pub entry: Entry,
+    /// The objects that the step touched, its worker's control first.
+    pub footprint: Seq<Access>,
+    /// The name of its instruction.
+    pub instruction: Seq<u8>,
+    /// The cell of a local variable that the instruction names, as `x` or `a[2]`; no bytes where it
+    /// names none.
+    pub variable: Seq<u8>,
+    /// The variable that the instruction names and a value, as far as it has them, as `x = 1` or
+    /// `a[2] = 1`: what the step put there, or else what it left on its stack. Where it met a fault, that
+    /// stands in place of the value, as `x: F4 a variable is read in which nothing was stored`.
+    pub value: Seq<u8>,
+    /// Whether it met a fault.
+    pub is_fault: bool,
+}
 
 /// A step, with what a walk over many of them looks at first. Contracts see the step.
 #[derive(Drop)]
@@ -21,7 +42,7 @@ pub(crate) struct Sketch<'a> {
 
 impl<'a> Model for Sketch<'a> {
     ghost use Rattle.std.specs.Prelude.{◌≡◌};
-    ghost use Rattle.lab_graph.specs.declared.traced.Traced.{Traced};
+    ghost use Rattle.lab_graph.specs.declared.sketch.Traced.{Traced};
     ghost use Rattle.lab_graph.specs.Sets.{sets_of};
 
     ghost Value = { Traced };

@@ -6,8 +6,7 @@ ghost use Rattle.om_code.specs.Faults.{fault_number};
 ghost use Rattle.om_lexer.specs.Faults.{number_of};
 ghost use Rattle.lab_help.specs.Words.{IsOneLine};
 
-use crate::code::{blocked_words, fault_words};
-use crate::refusal::refusal_words;
+use crate::code::{blocked_words, fault_words, refusal_words};
 use om_code::frame::Fault;
 use om_lexer::FaultCode;
 use om_state::Blocked;

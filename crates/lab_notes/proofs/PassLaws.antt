@@ -6,7 +6,7 @@ use Rattle.std.specs.List.{position}
 use Rattle.std.specs.Io.KnownBytes.{Consumes, Appends, IsAtEnd}
 use Rattle.std.proofs.KnownBytes.{Appends-nil, Appends-trans, Consumes-nil, Consumes-trans}
 use Rattle.om_shell_commands.specs.Words.{words_of}
-use Rattle.om_shell.specs.declared.fault.ShellFault.{ShellFault}
+use Rattle.om_shell.specs.declared.ended.ShellFault.{ShellFault}
 use Rattle.om_shell.specs.Lines.{HasNoLineEnd}
 use Rattle.om_shell.specs.Progress.{AppendsPart, ReadFails}
 use Rattle.lab_text.specs.Tails.{IsNoted}

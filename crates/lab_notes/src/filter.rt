@@ -1,20 +1,20 @@
-//! The filter: what is read is passed on part by part, with words behind its lines.
+//! The filter: what is read is passed on part by part, with words after its lines. Until then it waits.
+
 ghost use Rattle.std.specs.Prelude.{◌≡◌, ◌==◌, ◌+◌, ◌<◌, ◌≤◌, true, false, [], Some, length, take, IfOk, OnErr, OnOk};
+ghost use Rattle.std.specs.Prelude.{drop};
 ghost use Rattle.std.specs.List.{position};
 ghost use Rattle.om_shell_commands.specs.Words.{words_of};
 ghost use Rattle.om_shell.specs.Lines.{HasNoLineEnd};
-ghost use Rattle.lab_notes.specs.Parts.{announced};
 ghost use Rattle.lab_text.specs.Tails.{IsNoted};
-ghost use Rattle.lab_notes.specs.Passing.{BreaksOff, BreaksPart, GoesOn};
-ghost use Rattle.lab_notes.specs.Passing.{PassesAll, PassesBeginning, PassesPart};
+ghost use Rattle.lab_notes.specs.Parts.{announced};
+ghost use Rattle.lab_notes.specs.Passing.{BreaksOff, BreaksPart, GoesOn, PassesAll, PassesBeginning, PassesPart};
 
 use crate::names::Names;
 use crate::remark::remark;
-use crate::waiting::Waiting;
 use crate::words::{announced, words_of};
 use lab_text::noted;
 use om_seq::AllocResult;
-use om_shell::{ShellFault, first_line_end, send};
+use om_shell::{Input, ShellFault, first_line_end, send};
 use std::alloc::Global;
 use std::io::{Read, Write};
 
@@ -192,4 +192,36 @@ pub fn annotate<R: Read, W: Write>(
 {
     let names = Names::of(alloc, source)?;
     pass_all(&names, &mut Waiting::new(alloc), reader, writer)
+}
+
+/// The bytes that were read and not yet passed on.
+#[derive(Drop)]
+pub(crate) struct Waiting {
+    pub(crate) read: Input,
+    /// How many of the next bytes are passed on as they are.
+    pub(crate) due: usize,
+}
+
+impl Waiting {
+    /// Nothing is read yet. It takes no memory.
+    pub(crate) fn new(alloc: Global) -> Waiting
+        ensures pending { result.read.pending.items ≡ [] }
+        ensures due { result.due ≡ 0 }
+    {
+        Waiting {
+            read: Input::new(alloc),
+            due: 0,
+        }
+    }
+
+    /// Lets the first `used` pending bytes go, behind which so many are due as they are.
+    pub(crate) fn discard(&mut self, used: usize, due: usize)
+        requires { used ≤ length self.old.read.pending.items }
+        ensures pending { self.new.read.pending.items ≡ drop used self.old.read.pending.items }
+        ensures due { self.new.due ≡ due }
+        ensures reads { self.new.read.reads_left ≡ self.old.read.reads_left }
+    {
+        self.read.discard(used);
+        self.due = due;
+    }
 }

@@ -14,9 +14,7 @@ mod cell;
 mod filter;
 mod function;
 mod names;
-mod object;
 mod remark;
-mod waiting;
 mod words;
 
 pub use filter::annotate;

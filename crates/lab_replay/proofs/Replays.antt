@@ -31,7 +31,7 @@ use Rattle.om_undo_history.specs.Cones.{Transition, with_footprints, transitions
 use Rattle.om_undo_history.specs.Records.{entries_of, ReplaysTo}
 use Rattle.om_undo_history.specs.Pasts.{past_in, history_in, IsHeld, IsPlanned, IsReplay, step_for}
 use Rattle.om_undo.specs.Machines.{IsPlan, PlansAt}
-use Rattle.lab_graph.specs.declared.traced.Traced.{Traced}
+use Rattle.lab_graph.specs.declared.sketch.Traced.{Traced}
 use Rattle.lab_replay.specs.Traces.{transition_of, CanBeMade, footprint_for, transition_for, IsLonger, IsRemade}
 
 -- ---- a plan, and the step that it stands for

@@ -13,7 +13,7 @@ use Rattle.om_undo_history.specs.Pasts.{past_in, history_in, IsHeld}
 use Rattle.om_task.specs.declared.planning.Plan.{Plan}
 use Rattle.om_task.specs.Rules.{rules_of}
 use Rattle.om_undo.specs.Machines.{IsPlan, MachineView, rules_for}
-use Rattle.lab_graph.specs.declared.traced.Traced.{Traced}
+use Rattle.lab_graph.specs.declared.sketch.Traced.{Traced}
 
 -- an entry with what its step touched; what it did is left out
 abbrev pub transition_of : Traced → Transition

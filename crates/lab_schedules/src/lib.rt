@@ -11,7 +11,6 @@
 #![tactic(auto)]
 
 mod block;
-mod chance;
 mod commands;
 mod edits;
 mod hunted;

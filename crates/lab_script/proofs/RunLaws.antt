@@ -9,8 +9,8 @@ use Rattle.om_shell.specs.Progress.{moment_of}
 use Rattle.om_shell.specs.Script.{IsScript, book_of, commands_of, source_of, script_by, transcript_of}
 use Rattle.om_frontend.specs.Verdict.{IsVerdict}
 use Rattle.om_state.specs.declared.step.Entry.{Entry}
-use Rattle.lab_script.specs.declared.answer.Script.{Script}
-use Rattle.lab_script.specs.declared.answer.Script.TheVariants.{Steps, Refused}
+use Rattle.lab_script.specs.declared.run.Script.{Script}
+use Rattle.lab_script.specs.declared.run.Script.TheVariants.{Steps, Refused}
 use Rattle.lab_script.specs.Runs.{Leaves, IsRun, entries_in}
 use Rattle.lab_script.specs.Sessions.{LeadsTo, IsScriptFor, IsConeFor}
 

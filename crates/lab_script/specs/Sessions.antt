@@ -2,12 +2,12 @@
 use Rattle.std.specs.Prelude.{◌≡◌, ℕ, IfSome, List, map, Option, None, Some, option_copied}
 use Rattle.om_state.specs.declared.step.Entry.{Entry}
 use Rattle.om_book.specs.Books.{BookView, machine_of}
-use Rattle.om_shell.specs.declared.cut.SessionBytes.{SessionBytes}
-use Rattle.om_shell.specs.declared.options.Options.{Options}
+use Rattle.om_shell.specs.declared.source.SessionBytes.{SessionBytes}
+use Rattle.om_shell.specs.declared.shell.Options.{Options}
 use Rattle.om_shell.specs.Script.{source_of}
 use Rattle.lab_text.specs.Commands.{script_text}
-use Rattle.lab_script.specs.declared.answer.Script.{Script}
-use Rattle.lab_script.specs.declared.answer.Script.TheVariants.{Steps, Refused}
+use Rattle.lab_script.specs.declared.run.Script.{Script}
+use Rattle.lab_script.specs.declared.run.Script.TheVariants.{Steps, Refused}
 use Rattle.lab_script.specs.declared.steps.Steps as made
 use Rattle.lab_script.specs.Cones.{IsConeOf}
 use Rattle.lab_script.specs.Runs.{Leaves, entries_in}

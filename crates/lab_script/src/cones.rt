@@ -6,8 +6,7 @@ ghost use Rattle.om_shell_commands.specs.Lists.{joined, roll_text};
 ghost use Rattle.lab_script.specs.Cones.{cone_line, cone_text, IsConeOf};
 ghost use Rattle.lab_script.specs.Sessions.{IsConeIn, IsConeOver};
 
-use crate::answer::{Script, ScriptFault};
-use crate::run::{Ran, run_over};
+use crate::run::{Ran, Script, ScriptFault, run_over};
 use om_book::Book;
 use om_seq::AllocResult;
 use om_shell::{Options, SessionBytes, read_all, session_bytes};

@@ -6,12 +6,10 @@
 //!   a `Script`, or a `ScriptFault`.
 #![tactic(auto)]
 
-mod answer;
 mod cones;
 mod run;
 mod steps;
 
-pub use answer::{Script, ScriptFault};
 pub use cones::cone;
-pub use run::{Ran, run_over};
+pub use run::{Ran, Script, ScriptFault, run_over};
 pub use steps::script;

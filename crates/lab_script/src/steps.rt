@@ -6,8 +6,7 @@ ghost use Rattle.lab_script.specs.Steps.{bare, unnumbered};
 ghost use Rattle.lab_script.specs.Runs.{entries_in};
 ghost use Rattle.lab_script.specs.Sessions.{IsScriptIn, IsScriptOver, LeadBack};
 
-use crate::answer::{Script, ScriptFault};
-use crate::run::{Ran, run_over};
+use crate::run::{Ran, Script, ScriptFault, run_over};
 use lab_text::commands_for;
 use om_book::Book;
 use om_book_journal::same_items;

@@ -8,11 +8,9 @@
 #![tactic(auto)]
 
 mod commands;
-mod head;
 mod report;
 mod tail;
 
 pub use commands::commands_for;
-pub use head::push_place;
-pub use report::{Report, accepted_report, refused_report};
+pub use report::{Report, accepted_report, push_place, refused_report};
 pub use tail::noted;

@@ -19,7 +19,7 @@ use Rattle.om_scope_tree.specs.Whole.{part_count}
 use Rattle.om_lower_rules.specs.Bodies.{Numbers, behind}
 use Rattle.om_lower_rules.specs.Coded.{AssignmentHasCode, EffectHasCode, LoopHasCode, PartsHaveCode, StartHasCode}
 use Rattle.om_lower_rules.specs.Coded.{StatementHasCode, StatementsHaveCode, ValueHasCode}
-use Rattle.om_lower_rules.specs.declared.numbers.Numbers as tables
+use Rattle.om_lower_rules.specs.declared.tables.Numbers as tables
 use Rattle.om_lower.proofs.Views.{view_construct, view_do, view_for, view_if, view_if_else, view_loop, view_sections}
 use Rattle.om_lower.proofs.Views.{view_while}
 

@@ -24,7 +24,7 @@ use Rattle.om_lower_emit.specs.declared.spot.Spot.{Spot}
 use Rattle.om_lower_emit.specs.Statements.{EmitsStatements}
 use Rattle.om_lower.specs.Parts.{AreFree, EmitsParts, GoesParts, OpensParts, part_head, part_labels}
 use Rattle.om_lower_emit.specs.Going.{before_with, free_with, free_within, goes_place, then_with, with_as, with_none}
-use Rattle.om_lower_rules.specs.declared.numbers.Numbers as tables
+use Rattle.om_lower_rules.specs.declared.tables.Numbers as tables
 use Rattle.om_lower_rules.specs.Numbered.{Numbered}
 use Rattle.om_lower_rules.specs.Numbering.{numbers_of}
 use Rattle.om_lower_rules.specs.Picks.{all_own_picks, parts_own_picks}

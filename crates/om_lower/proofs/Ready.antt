@@ -10,7 +10,7 @@ use Rattle.om_lower.proofs.Rounds.{IsRound, round_function}
 use Rattle.om_scope_tree.specs.ResolvedTree.{ResolvedFunctionTree}
 use Rattle.om_scope_tree.specs.Weights.{function_weight}
 use Rattle.om_lower_rules.specs.Numbering.{numbers_of}
-use Rattle.om_lower_rules.specs.declared.numbers.Numbers as numbers
+use Rattle.om_lower_rules.specs.declared.tables.Numbers as numbers
 use Rattle.om_lower_tables.specs.Room.{HasNumbers, IsRoomFor}
 use Rattle.om_lower_rules.specs.Bodies.{BodySite, Numbers, function_bodies, variables_of}
 use Rattle.om_lower_rules.specs.Coded.{BodyHasCode}

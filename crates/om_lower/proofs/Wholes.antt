@@ -25,7 +25,7 @@ use Rattle.om_lower_emit.specs.declared.writing.ScopeStack.{ScopeStack}
 use Rattle.om_lower_emit.specs.Going.{before_with, goes_then, with_as, with_behind, writes_then}
 use Rattle.om_lower_emit.specs.Scoped.{EndsScopes, ScopesStand}
 use Rattle.om_lower_emit.specs.Scoping.{stand_after, stand_before, stand_block, stand_both, writes_as, writes_put}
-use Rattle.om_lower_rules.specs.declared.numbers.Numbers as tables
+use Rattle.om_lower_rules.specs.declared.tables.Numbers as tables
 use Rattle.om_lower_rules.specs.Numbered.{Numbered}
 use Rattle.om_lower_rules.specs.Numbering.{numbers_of}
 

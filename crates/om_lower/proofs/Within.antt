@@ -16,7 +16,7 @@ use Rattle.om_scope_tree.specs.ResolvedTree as trees
 use Rattle.om_scope_tree.specs.ResolvedView as view
 use Rattle.om_lower_rules.specs.Bodies.{Numbers, behind, next_pick}
 use Rattle.om_lower_rules.specs.Coded.{PartsHaveCode, StatementHasCode, StatementsHaveCode}
-use Rattle.om_lower_rules.specs.declared.numbers.Numbers as tables
+use Rattle.om_lower_rules.specs.declared.tables.Numbers as tables
 use Rattle.om_lower_rules.specs.Ends.{HasAllEnds, HasEnds, HasPartsEnds, KnownBodies}
 use Rattle.om_lower_rules.specs.Numbering.{numbers_of}
 use Rattle.om_lower.proofs.Inside.{code_at, construct_code, construct_inside, do_code, do_inside, else_inside, sections_code}

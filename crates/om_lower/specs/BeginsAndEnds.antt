@@ -1,6 +1,6 @@
 -- What is promised of the begins and the ends of worksharing constructs.
 use Rattle.std.specs.Prelude.{ℕ, Bool, IfOk, List, Result, map}
-use Rattle.om_lower_emit.specs.declared.here.Here.{Here}
+use Rattle.om_lower_emit.specs.declared.spot.Here.{Here}
 use Rattle.om_lower_emit.specs.Drafts.{Written}
 use Rattle.om_lower_emit.specs.Emits.{Appends, names_at}
 use Rattle.om_lower.specs.Parts.{OpensParts, part_head}

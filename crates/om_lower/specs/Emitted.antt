@@ -20,7 +20,7 @@ use Rattle.om_lower_rules.specs.ProgramTables.{known_in}
 use Rattle.om_lower_rules.specs.Scopes.{body_scopes}
 use Rattle.om_lower_rules.specs.declared.body.BodyTables.{BodyTables}
 use Rattle.om_lower_rules.specs.declared.copies.Region.{Region}
-use Rattle.om_lower_rules.specs.declared.numbers.Numbers as tables
+use Rattle.om_lower_rules.specs.declared.tables.Numbers as tables
 use Rattle.om_lower_tables.specs.Regions.{tree_as}
 use Rattle.om_lower_tables.specs.Sites.{body_in}
 use Rattle.om_lower_tables.specs.declared.sites.Site.{Site}

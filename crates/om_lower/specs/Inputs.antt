@@ -2,9 +2,9 @@
 use Rattle.std.specs.Prelude.{◌≡◌, ℕ, Bool, List, map}
 use denote.Ref.{Bor}
 use Rattle.om_lower.specs.declared.bodies.Bodies.{Bodies}
-use Rattle.om_lower.specs.declared.input.Input.{Input}
-use Rattle.om_lower.specs.declared.input.Known.{Known}
-use Rattle.om_lower.specs.declared.input.SeenBody.{SeenBody}
+use Rattle.om_lower.specs.declared.functions.Input.{Input}
+use Rattle.om_lower.specs.declared.functions.Known.{Known}
+use Rattle.om_lower.specs.declared.functions.SeenBody.{SeenBody}
 use Rattle.om_lower.specs.Made.{AddsBody}
 use Rattle.om_lower.specs.Ready.{IsReady}
 use Rattle.om_scope_tree.specs.Beside.{TreeCopiesBehind}

@@ -12,7 +12,7 @@ use Rattle.om_scope_tree.specs.Uses.{is_main_function}
 use Rattle.om_lower_rules.specs.Bodies.{BodySite, behind_functions, bodies_from, bodies_of, first_numbers, function_bodies}
 use Rattle.om_lower_rules.specs.Bodies.{variables_of}
 use Rattle.om_lower_rules.specs.Code.{body_row, slots_of}
-use Rattle.om_lower_rules.specs.declared.scope.VariableScope.{VariableScope}
+use Rattle.om_lower_rules.specs.declared.variables.VariableScope.{VariableScope}
 use Rattle.om_lower_rules.specs.Scopes.{body_scopes}
 use Rattle.om_lower_rules.specs.Numbered.{numbered_in, site_with}
 

@@ -17,7 +17,7 @@ use Rattle.om_lower.specs.declared.functions.Placed.{Placed}
 use Rattle.om_lower.specs.Heights.{AreLow, IsFirst}
 use Rattle.om_lower.specs.Limits.{AreScopesAt, HasRoom, IsCodeAt, IsOver}
 use Rattle.om_lower.specs.Once.{site_picks}
-use Rattle.om_lower_rules.specs.declared.scope.VariableScope.{VariableScope}
+use Rattle.om_lower_rules.specs.declared.variables.VariableScope.{VariableScope}
 use Rattle.om_scope_tree.specs.ResolvedTree.{ResolvedFunctionTree, ResolvedTree}
 use Rattle.om_scope_tree.specs.Weights.{function_weight}
 use Rattle.om_lower_tables.specs.Room.{HasNumbers}

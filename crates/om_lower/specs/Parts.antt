@@ -9,7 +9,7 @@ use Rattle.om_lower_rules.specs.Bodies.{Numbers, next_pick}
 use Rattle.om_lower_rules.specs.Statements.{parts}
 use Rattle.om_lower.specs.declared.worksharing.PartsSpot.{PartsSpot}
 use Rattle.om_lower_emit.specs.Statements.{GoesWith}
-use Rattle.om_lower_rules.specs.declared.numbers.Numbers as tables
+use Rattle.om_lower_rules.specs.declared.tables.Numbers as tables
 use Rattle.om_lower_rules.specs.Numbered.{Numbered}
 use Rattle.om_lower_rules.specs.Numbering.{numbers_of}
 use Rattle.om_lower_rules.specs.Picks.{parts_own_picks}

@@ -18,11 +18,11 @@ use Rattle.om_lower_rules.specs.Slots.{FirstCopy}
 use Rattle.om_lower_rules.specs.Rows.{each, perhaps}
 use Rattle.om_lower_rules.specs.Statements.{given_copies, load_original}
 use Rattle.om_lower_rules.specs.declared.body.BodyTables.{BodyTables}
-use Rattle.om_lower_rules.specs.declared.numbers.Numbers.{Numbers}
+use Rattle.om_lower_rules.specs.declared.tables.Numbers.{Numbers}
 use Rattle.om_lower_rules.specs.declared.copies.FirstCopy as copies
 use Rattle.om_lower_rules.specs.declared.copies.Region.{Region}
 use Rattle.om_lower_emit.specs.Drafts.{Written}
-use Rattle.om_lower_emit.specs.declared.here.Here.{Here}
+use Rattle.om_lower_emit.specs.declared.spot.Here.{Here}
 use Rattle.om_lower_emit.specs.Emits.{Appends, EmitsRow}
 use Rattle.om_lower_emit.specs.Statements.{EmitsStatement}
 use Rattle.om_lower_emit.specs.Stretches.{value_in}

@@ -21,7 +21,7 @@ use Rattle.om_lower_rules.specs.ProgramTables.{known_in}
 use Rattle.om_lower_rules.specs.Rows.{Site}
 use Rattle.om_lower_rules.specs.Scopes.{Scoping, all_scopes, block, part_scopes, scopes}
 use Rattle.om_lower_rules.specs.declared.body.BodyTables.{BodyTables}
-use Rattle.om_lower_rules.specs.declared.numbers.Numbers.{Numbers}
+use Rattle.om_lower_rules.specs.declared.tables.Numbers.{Numbers}
 use Rattle.om_lower_tables.specs.Trees.{part_trees, statement_trees}
 use Rattle.om_lower_emit.specs.Statements.{EmitsStatement, EmitsStatements}
 use Rattle.om_lower_emit.specs.Scoped.{EmitsScopes}

@@ -1,22 +1,23 @@
-//! The bodies of a function, each within its limits.
+//! The bodies of a function, each within its limits, and the slots of their frames.
 
 ghost use Rattle.std.specs.Prelude.{◌≡◌, ◌≤◌, ◌∷◌, ◌++◌, [], All, Any, IfOk, OnOk, false, length, true};
 ghost use Rattle.om_lower.specs.Regions.{given_to, slots_of};
 ghost use Rattle.om_lower.specs.Words.{AddsAllVariables, AddsBody, AddsSite, AddsVariables, AreAdded, FitsCode};
-ghost use Rattle.om_lower.specs.Words.{FitsSlots, GivesSlots, HasFewSlots, HasManySlots, HasSlots, IsInput};
-ghost use Rattle.om_lower.specs.Words.{IsListed, IsReadyIn, IsSeen, bodies_in, body_in, body_round, captures_of};
+ghost use Rattle.om_lower.specs.Words.{FitsSlots, GivesSlots, HasFewSlots, HasManySlots, HasSlots, IsInput, IsListed};
+ghost use Rattle.om_lower.specs.Words.{IsReadyIn, IsSeen, bodies_in, body_in, body_round, captures_of};
 ghost use Rattle.om_lower.specs.Words.{copied_variables, given_of, innermost, known_tree, part_tree, round_with};
-ghost use Rattle.om_lower.specs.Words.{seen_body, seen_round, seen_tree, site_variables, variables_of};
+ghost use Rattle.om_lower.specs.Words.{seen_body, seen_round, seen_tree, site_variables, variables_of, FitsVariables};
+ghost use Rattle.om_lower.specs.Words.{frame_cells, own_cells};
 
 use crate::body::{Emitted, emitted_in};
-use crate::frames::{SLOT_LIMIT, frame_of};
-use crate::functions::is_main;
-use crate::input::{Known, SeenBody};
+use crate::functions::{Known, SeenBody, is_main};
 use crate::names::names_with;
 use om_code::Body;
-use om_code::raw::Slot;
+use om_code::raw::{Slot, Source};
 use om_lower_emit::draft::PickList;
-use om_lower_rules::{BodyTables, Region, Variables, copy_slots, given_copies, parameter_slots};
+use om_lower_rules::{
+    BodyTables, Extents, Region, Variables, copy_slots, given_copies, parameter_slots, slots_with,
+};
 use om_lower_tables::{BodyPart, Site, function_variables, region_variables};
 use om_scope_tree::Capture;
 use om_seq::{AllocResult, Seq};
@@ -255,4 +256,53 @@ fn copies_given(alloc: Global, region: &Region<'_>, variables: &Variables) -> Al
 {
     let copies = given_copies(alloc, region.clauses, region.captures, variables)?;
     copy_slots(alloc, variables, copies.as_slice())
+}
+
+/// How many slots a body may have.
+pub const SLOT_LIMIT: usize = 256;
+
+/// How many cells of its own a body may have.
+pub const CELL_LIMIT: u64 = 4_096;
+
+/// The slots of a body with these variables, in the body round it; `None` where it passes a limit.
+pub(crate) fn frame_of(
+    alloc: Global,
+    extents: &Extents,
+    outer: &Variables,
+    captures: &[Capture],
+    variables: &Variables,
+) -> AllocResult<Option<Seq<Slot>>>
+    requires { length outer.now ≤ 256 }
+    ensures { IfOk result (FitsVariables extents.now outer.now captures.now variables.now) }
+{
+    if variables.len() > SLOT_LIMIT {
+        return Ok(None);
+    }
+    let slots = slots_with(alloc, extents, outer, captures, variables)?;
+    if frame_cells(slots.as_slice()) > CELL_LIMIT {
+        return Ok(None);
+    }
+    Ok(Some(slots))
+}
+
+// How many cells of its own a frame with these slots has.
+fn frame_cells(slots: &[Slot]) -> u64
+    requires { length slots.now ≤ 256 }
+    ensures { result ≡ frame_cells slots.now }
+{
+    let mut cells = 0;
+    for slot in slots {
+        cells += u64::from(own_cells(*slot));
+    }
+    cells
+}
+
+// How many cells of its own a frame has for a slot.
+fn own_cells(slot: Slot) -> u32
+    ensures { result ≡ own_cells slot }
+{
+    match slot.source {
+        Source::Own => slot.cells,
+        Source::Outer(_) => 0,
+    }
 }

@@ -1,19 +1,47 @@
-//! The bodies of functions, each within its limits.
+//! What is lowered, a program and a body of it, and the bodies of functions, each within its limits.
 
 ghost use Rattle.std.specs.Prelude.{◌≡◌, ◌<◌, ◌∷◌, [], All, IfOk, Ok, OnOk, Some, length, slice_get};
+ghost use Rattle.om_scope_tree.specs.ResolvedView as view;
 ghost use Rattle.om_lower.specs.Words.{AddsAllVariables, AddsNext, AreGathered, IsInput, IsNext, IsPut, IsReadyIn};
 ghost use Rattle.om_lower.specs.Words.{PutsBodies, PutsLists, bodies_in, ends_in, is_main_function, known_tree};
 ghost use Rattle.om_lower.specs.Words.{next_bodies, numbers_of, tree_of};
-ghost use Rattle.om_scope_tree.specs.ResolvedView as view;
 
 use crate::bodies::{Bodies, add_sites, add_slots, put_both};
-use crate::input::{Input, Known};
 use om_code::Body;
 use om_lower_emit::draft::PickList;
 use om_lower_rules::{Extents, Numbers, Tables, Variables};
 use om_lower_tables::{Site, sites_of};
-use om_scope_tree::ResolvedFunction;
+use om_scope_tree::{Resolved, ResolvedFunction};
 use om_seq::{AllocResult, Seq};
+use std::alloc::Global;
+
+/// A program that is lowered: its tree, and the tables of that.
+#[derive(Drop)]
+pub(crate) struct Input<'a> {
+    pub(crate) alloc: Global,
+    pub(crate) resolved: &'a Resolved,
+    pub(crate) tables: &'a Tables,
+}
+
+/// What the bodies of a function are lowered with.
+#[derive(Clone, Copy)]
+pub(crate) struct Known<'a> {
+    pub(crate) input: &'a Input<'a>,
+    /// The variables of the first bodies of the program by their numbers, these bodies among them.
+    pub(crate) slots: &'a [Variables],
+    /// How many cells the variables of the function have.
+    pub(crate) extents: &'a Extents,
+}
+
+/// A body that is lowered, with its variables and those of the body round it; a function's own body
+/// has none round it.
+#[derive(Clone, Copy)]
+pub(crate) struct SeenBody<'a> {
+    pub(crate) known: &'a Known<'a>,
+    pub(crate) site: &'a Site<'a>,
+    pub(crate) variables: &'a Variables,
+    pub(crate) outer: &'a Variables,
+}
 
 /// How many instructions a body may have.
 pub const INSTRUCTION_LIMIT: usize = 65_536;

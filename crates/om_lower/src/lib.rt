@@ -24,12 +24,8 @@
 
 mod bodies;
 mod body;
-mod frames;
 mod functions;
-mod heights;
-mod input;
 pub mod laws;
-mod loop_form;
 mod lowering;
 mod names;
 mod program;

@@ -1,25 +1,25 @@
-//! From a resolved tree to its code.
+//! From a resolved tree to its code, and which functions have a body with more than 256 operands at once.
 
-ghost use Rattle.std.specs.Prelude.{◌≡◌, ◌<◌, IfErr, IfOk, OnOk, length, map, slice_set};
+ghost use Rattle.std.specs.Prelude.{◌≡◌, ◌<◌, IfErr, IfOk, OnOk, length, map, slice_set, All, false, true};
+ghost use Rattle.om_scope_tree.specs.ResolvedView as view;
+ghost use Rattle.om_code.specs.Validity.{IsLow};
 ghost use Rattle.om_lower.specs.Words.{ArePlaced, AreWithin, HasSmallWeight, IsCodeOf, IsEachOnce, IsIndexIn};
 ghost use Rattle.om_lower.specs.Words.{IsInput, IsOverIn, IsRefusal, IsWholeTree, KeepsMeaning, ListsStand};
 ghost use Rattle.om_lower.specs.Words.{TreeAtomicsAssign, TreeCopiesBehind, number_of, too_many, tree_of};
-ghost use Rattle.om_scope_tree.specs.ResolvedView as view;
+ghost use Rattle.om_lower.specs.Heights.{AreLevel, AreLow, IsFirstHigh, IsHigh, IsLevelBody};
 
-use crate::functions::{Lowered, Placed, lower_functions};
-use crate::heights::first_high;
-use crate::input::Input;
+use crate::functions::{Input, Lowered, Placed, lower_functions};
 use crate::laws::each_once;
 use crate::program::program_of;
-use om_code::Program;
+use om_code::height::check_heights;
+use om_code::{Body, CodeFault, Program};
 use om_lexer::{FaultCode, SourceFault, SourceResult};
 use om_lower_emit::draft::PickList;
-use om_lower_rules::laws::{body_is_level, whole_has_code};
-use om_lower_rules::meaning::serial_meaning;
+use om_lower_rules::laws::{body_is_level, serial_meaning, whole_has_code};
 use om_lower_tables::tables_of;
 use om_scope_tree::{Resolved, ResolvedFunction};
 use om_seq::{AllocResult, Seq};
-use std::alloc::Global;
+use std::alloc::{AllocError, Global};
 
 /// The program whose bodies are the code of the tree's functions.
 ///
@@ -157,4 +157,52 @@ fn put_list(picks: &mut Vec<Seq<u32>>, list: PickList)
     ensures { picks.new.items ≡ slice_set picks.old.items list.number list.places }
 {
     picks[list.number as usize] = list.places;
+}
+
+/// The first function that has a body with more than 256 operands at once; the bodies stand function
+/// by function.
+pub(crate) fn first_high(
+    alloc: Global,
+    picks: &[Seq<u32>],
+    functions: &[Seq<Body>],
+) -> AllocResult<Option<usize>>
+    requires { All (λ bodies. AreLevel picks.now bodies) functions.now }
+    ensures { IfOk result (λ index. IsFirstHigh picks.now functions.now index) }
+{
+    for (index, bodies) in functions.iter().enumerate() {
+        if !are_low(alloc, picks, bodies.as_slice())? {
+            return Ok(Some(index));
+        }
+    }
+    Ok(None)
+}
+
+// Whether bodies have at most 256 operands at once.
+fn are_low(alloc: Global, picks: &[Seq<u32>], bodies: &[Body]) -> AllocResult<bool>
+    requires { AreLevel picks.now bodies.now }
+    ensures low { IfOk result (λ low. low ≡ true → AreLow picks.now bodies.now) }
+    ensures high { IfOk result (λ low. low ≡ false → IsHigh picks.now bodies.now) }
+{
+    for body in bodies {
+        if !is_low(alloc, picks, body)? {
+            return Ok(false);
+        }
+    }
+    Ok(true)
+}
+
+// Whether a body has at most 256 operands at once.
+fn is_low(alloc: Global, picks: &[Seq<u32>], body: &Body) -> AllocResult<bool>
+    requires { IsLevelBody picks.now body.now }
+    ensures low { IfOk result (λ low. low ≡ true → IsLow picks.now body.now.code) }
+    ensures high { IfOk result (λ low. low ≡ false → ¬ (IsLow picks.now body.now.code)) }
+{
+    match check_heights(alloc, picks, body.code.as_slice()) {
+        Ok(()) => Ok(true),
+        Err(CodeFault::TooHigh) => Ok(false),
+        Err(CodeFault::Memory) => Err(AllocError),
+        Err(CodeFault::Heights) => unreachable!(),
+        Err(CodeFault::JumpOut) => unreachable!(),
+        Err(CodeFault::Unknown) => unreachable!(),
+    }
 }

@@ -7,8 +7,7 @@ ghost use Rattle.om_lower.specs.Words.{flattened, global_of, is_main_function, m
 ghost use Rattle.om_lower.specs.Words.{tree_of};
 ghost use Rattle.om_scope_tree.specs.ResolvedView as view;
 
-use crate::functions::{Placed, is_main};
-use crate::input::Input;
+use crate::functions::{Input, Placed, is_main};
 use crate::texts::text_of;
 use om_code::raw::{self, Piece};
 use om_code::{Body, Program, Raw};

@@ -1,6 +1,6 @@
 -- What is promised of the heads and the ends of `if`, `while`, `do` and `for`.
 use Rattle.std.specs.Prelude.{ℕ, IfOk, Option, Result, option_map}
-use Rattle.om_lower_emit.specs.declared.here.Here.{Here}
+use Rattle.om_lower_emit.specs.declared.spot.Here.{Here}
 use Rattle.om_lower_emit.specs.declared.spot.LoopLabels.{LoopLabels}
 use Rattle.om_lower_emit.specs.declared.spot.TurnLabels.{TurnLabels}
 use Rattle.om_lower_emit.specs.declared.writing.Writing.{Writing}

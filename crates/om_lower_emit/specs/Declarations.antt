@@ -9,7 +9,7 @@ use Rattle.om_lower_rules.specs.Expressions.{effect}
 use Rattle.om_lower_rules.specs.Rows.{each, perhaps}
 use Rattle.om_lower_rules.specs.Scopes.{declarator_scope, each_scope, start_scopes}
 use Rattle.om_lower_rules.specs.Statements.{declarator, returned, start}
-use Rattle.om_lower_emit.specs.declared.here.Here.{Here}
+use Rattle.om_lower_emit.specs.declared.spot.Here.{Here}
 use Rattle.om_lower_emit.specs.declared.writing.Writing.{Writing}
 use Rattle.om_lower_emit.specs.Drafts.{Written}
 use Rattle.om_lower_emit.specs.Emits.{Appends}

@@ -15,7 +15,7 @@ use Rattle.om_lower_rules.specs.Rows.{Site, Row}
 use Rattle.om_lower_rules.specs.Numbered.{Numbered, site_with}
 use Rattle.om_lower_rules.specs.Slots.{place_of}
 use Rattle.om_lower_emit.specs.declared.draft.Pick.{Pick}
-use Rattle.om_lower_emit.specs.declared.here.Here.{Here}
+use Rattle.om_lower_emit.specs.declared.spot.Here.{Here}
 use Rattle.om_lower_emit.specs.Drafts.{Labels, Puts, Written, settled}
 
 -- ---- where code is written

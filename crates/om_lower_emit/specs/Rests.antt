@@ -6,7 +6,7 @@ use Rattle.om_code.specs.declared.instruction.Instr.{Instr}
 use Rattle.om_code.specs.declared.instruction.Instr.TheVariants as i
 use Rattle.om_code.specs.declared.instruction.UnaryOperator.TheVariants as unary
 use Rattle.om_lower_emit.specs.declared.expression.Target.{Target}
-use Rattle.om_lower_emit.specs.declared.here.Here.{Here}
+use Rattle.om_lower_emit.specs.declared.spot.Here.{Here}
 use Rattle.om_lower_emit.specs.Drafts.{Written}
 use Rattle.om_lower_emit.specs.Emits.{Appends, AppendsBy, Goes, site}
 use Rattle.om_scope_tree.specs.declared.resolved.ResolvedExpression.{ResolvedExpression}

@@ -2,7 +2,7 @@
 use Rattle.std.specs.Prelude.{◌≡◌, ◌≤◌, ℕ, All, List, [], ◌∷◌, ◌++◌, OnOk, Option, None, Result, drop, length, map}
 use Rattle.std.specs.Prelude.{reverse, take}
 use Rattle.om_lower_emit.specs.Drafts.{Labels, Written}
-use Rattle.om_lower_emit.specs.declared.here.Here.{Here}
+use Rattle.om_lower_emit.specs.declared.spot.Here.{Here}
 use Rattle.om_lower_emit.specs.Emits.{Finished, Fits, Grows, names_at, site}
 use Rattle.om_scope_tree.specs.declared.resolved.ConstructKind.{ConstructKind}
 use Rattle.om_scope_tree.specs.declared.resolved.CopyKind.TheVariants as copies
@@ -10,7 +10,7 @@ use Rattle.om_scope_tree.specs.declared.resolved.LocalVariable.{LocalVariable}
 use Rattle.om_scope_tree.specs.declared.resolved.ResolvedClause.{ResolvedClause}
 use Rattle.om_scope_tree.specs.ResolvedTree.{ResolvedClauseTree, Copied}
 use Rattle.om_scope_tree.specs.ResolvedView as view
-use Rattle.om_lower_rules.specs.declared.scope.VariableScope.{VariableScope}
+use Rattle.om_lower_rules.specs.declared.variables.VariableScope.{VariableScope}
 use Rattle.om_lower_rules.specs.Rows.{Site}
 use Rattle.om_lower_rules.specs.Scopes.{Found, Scoping, closed_at, construct_head, each_scope, opened_with}
 use Rattle.om_lower_emit.specs.declared.writing.ScopeStack.{ScopeStack}

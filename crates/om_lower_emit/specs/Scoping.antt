@@ -11,7 +11,7 @@ use Rattle.om_lower_emit.specs.Emits.{Finished, Part, Writes, site}
 use Rattle.om_lower_emit.specs.Writing.{fits_back, fits_from, goes_end, goes_fresh, goes_here, goes_put, grows_on}
 use Rattle.om_scope_tree.specs.declared.resolved.LocalVariable.{LocalVariable}
 use Rattle.om_lower_rules.specs.Rows.{Site, Row, end, ins, part, here}
-use Rattle.om_lower_rules.specs.declared.scope.VariableScope.{VariableScope}
+use Rattle.om_lower_rules.specs.declared.variables.VariableScope.{VariableScope}
 use Rattle.om_lower_rules.specs.Scopes.{Found, nothing, opening, ◌then◌, ending, closed_at, opened_with, Scoping, plain, after}
 use Rattle.om_lower_rules.specs.Scopes.{before, both, each_scope, opens_at, opens, block, instructions}
 use Rattle.om_lower_emit.specs.declared.writing.ScopeStack.{ScopeStack}

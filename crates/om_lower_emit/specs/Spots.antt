@@ -1,6 +1,6 @@
 -- Where a statement stands.
 use Rattle.std.specs.Prelude.{ℕ, Option}
-use Rattle.om_lower_rules.specs.declared.numbers.Numbers.{Numbers}
+use Rattle.om_lower_rules.specs.declared.tables.Numbers.{Numbers}
 use Rattle.om_lower_emit.specs.declared.spot.Spot.{Spot}
 
 -- with these numbers, and these labels for `break` and `continue`

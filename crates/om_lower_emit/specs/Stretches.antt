@@ -7,7 +7,7 @@ use Rattle.om_lower_emit.specs.declared.spot.LoopLabels.{LoopLabels}
 use Rattle.om_lower_emit.specs.declared.spot.TurnLabels.{TurnLabels}
 use Rattle.om_lower_emit.specs.declared.writing.Writing.{Writing}
 use Rattle.om_lower_emit.specs.Drafts.{Written, Fresh}
-use Rattle.om_lower_emit.specs.declared.here.Here.{Here}
+use Rattle.om_lower_emit.specs.declared.spot.Here.{Here}
 use Rattle.om_lower_emit.specs.Emits.{Appends, Part, names_at, site, Goes, Emits, EmitsRow}
 use Rattle.om_pragma.specs.declared.clause.ReductionOperator.{ReductionOperator}
 use Rattle.om_scope_tree.specs.declared.resolved.ConstructKind.{ConstructKind}

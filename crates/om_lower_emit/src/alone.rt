@@ -8,8 +8,8 @@ ghost use Rattle.om_scope_tree.specs.ResolvedView as view;
 
 use crate::draft::{Draft, Jump};
 use crate::expression::value;
-use crate::here::Here;
 use crate::operator::{side_of, update_of};
+use crate::spot::Here;
 use crate::unused::effect;
 use om_code::Instr;
 use om_code::instruction::Barrier;

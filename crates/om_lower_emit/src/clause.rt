@@ -9,9 +9,9 @@ ghost use Rattle.om_lower_emit.specs.Words.{team_from, team_scope, value_in};
 ghost use Rattle.om_scope_tree.specs.ResolvedView as view;
 
 use crate::draft::Draft;
-use crate::here::Here;
 use crate::operator::{identity_of, reduction_of};
 use crate::single::{load, store};
+use crate::spot::Here;
 use crate::writing::{ScopeStack, Writing};
 use om_code::Instr;
 use om_pragma::ReductionOperator;

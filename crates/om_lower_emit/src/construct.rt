@@ -10,7 +10,7 @@ use crate::alone::worksharing_end;
 use crate::clause::{clause_value, starts};
 use crate::draft::{Draft, Jump};
 use crate::expression::value;
-use crate::here::Here;
+use crate::spot::Here;
 use crate::writing::Writing;
 use om_code::Instr;
 use om_scope_tree::{ConstructKind, ResolvedClause};

@@ -10,8 +10,8 @@ ghost use Rattle.om_lower_rules.specs.Statements as rows;
 
 use crate::draft::{Draft, Jump};
 use crate::expression::value;
-use crate::here::Here;
 use crate::single::store;
+use crate::spot::Here;
 use crate::unused::effect;
 use crate::writing::Writing;
 use om_code::Instr;

@@ -8,11 +8,11 @@ ghost use Rattle.om_scope_tree.specs.ResolvedView as view;
 ghost use Rattle.om_lower_emit.specs.Words.{Both, Either, form_of, listed, value, values};
 
 use crate::draft::{Draft, Jump};
-use crate::here::Here;
 use crate::operator::{Form, compound_of, form_of};
 use crate::single::{
     load, load_element, one_unless_zero, postfix, postfix_element, store, truth, unary_end,
 };
+use crate::spot::Here;
 use om_code::Instr;
 use om_parser_tree::AssignOperator;
 use om_scope_tree::{ResolvedExpression, Variable};

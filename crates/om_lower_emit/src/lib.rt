@@ -30,7 +30,6 @@ pub mod construct;
 pub mod declaration;
 pub mod draft;
 mod expression;
-pub mod here;
 mod operator;
 pub mod repeated;
 mod single;
@@ -39,4 +38,4 @@ pub mod unused;
 pub mod writing;
 
 pub use expression::value;
-pub use here::Here;
+pub use spot::Here;

@@ -8,8 +8,7 @@ ghost use Rattle.om_scope_tree.specs.ResolvedView as view;
 
 use crate::declaration::{perhaps_effect, perhaps_test, start, test};
 use crate::draft::{Draft, Jump};
-use crate::here::Here;
-use crate::spot::{LoopLabels, TurnLabels};
+use crate::spot::{Here, LoopLabels, TurnLabels};
 use crate::writing::Writing;
 use om_scope_tree::{ResolvedExpression, ResolvedStart};
 use om_seq::AllocResult;

@@ -8,8 +8,8 @@ ghost use Rattle.om_lower_emit.specs.Words.{PutsAll, inverse_step_of, one_unless
 ghost use Rattle.om_scope_tree.specs.ResolvedTree as trees;
 
 use crate::draft::{Draft, Jump};
-use crate::here::Here;
 use crate::operator::{inverse_step_of, step_of};
+use crate::spot::Here;
 use om_code::{Instr, instruction};
 use om_parser_tree::PostfixOperator;
 use om_scope_tree::{UnaryOperator, Variable};

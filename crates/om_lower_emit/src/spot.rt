@@ -1,9 +1,20 @@
-//! Where a statement stands, and where jumps go.
+//! Where code is written, where a statement stands, and where jumps go.
 
 ghost use Rattle.std.specs.Prelude.{◌≡◌, None, Some};
 ghost use Rattle.om_lower_emit.specs.Words.{spot_with};
 
-use om_lower_rules::Numbers;
+use om_lexer::Span;
+use om_lower_rules::{BodyTables, Numbers};
+use om_seq::AllocResult;
+
+/// Where code is written, and for what.
+#[derive(Clone, Copy)]
+pub struct Here<'a> {
+    /// The tables of the body that is written.
+    pub tables: &'a BodyTables<'a>,
+    /// The place in the source of what is written. Its line is that of the instructions.
+    pub at: Span,
+}
 
 /// Where a statement stands: the numbers of the next body and of the next list of PICK, and where
 /// jumps go.

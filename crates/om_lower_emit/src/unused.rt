@@ -7,8 +7,8 @@ ghost use Rattle.om_scope_tree.specs.ResolvedView as view;
 
 use crate::draft::Draft;
 use crate::expression::{assign, assign_element, assigned, call, value, values};
-use crate::here::Here;
 use crate::single::{step, step_element};
+use crate::spot::Here;
 use om_code::Instr;
 use om_scope_tree::ResolvedExpression;
 use om_seq::AllocResult;

@@ -23,7 +23,7 @@ use Rattle.om_lower_rules.specs.Bodies.{Numbers, first_numbers, called_body, Bod
 use Rattle.om_lower_rules.specs.Bodies.{BodySite, variables_of, region_variables, function_variables, bodies_of}
 use Rattle.om_lower_rules.specs.Code.{given_variables, captures_of, slots_of, given_of, site_of, IsBodyOf}
 use Rattle.om_lower_rules.specs.Code.{IsCodeOf}
-use Rattle.om_lower_rules.specs.declared.scope.VariableScope.{VariableScope}
+use Rattle.om_lower_rules.specs.declared.variables.VariableScope.{VariableScope}
 use Rattle.om_lower_rules.specs.Scopes.{scope_in, slot_among}
 use Rattle.om_lower_rules.specs.Mentions.{extents_of, format_mention, formats_of, tree_mentioned}
 use Rattle.om_lower_rules.specs.Laws.{FunctionBodies, FormatsAreNumbered}

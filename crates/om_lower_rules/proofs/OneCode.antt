@@ -13,7 +13,7 @@ use Rattle.om_code.specs.declared.raw.Line.{Line}
 use Rattle.om_code.specs.Ways.{exits, places, Way, starts, follows}
 use Rattle.om_scope_tree.specs.declared.resolved.RegionKind.TheVariants as kinds
 use Rattle.om_scope_tree.specs.ResolvedTree.{ResolvedFunctionTree, ResolvedTree}
-use Rattle.om_lower_rules.specs.declared.scope.VariableScope.{VariableScope}
+use Rattle.om_lower_rules.specs.declared.variables.VariableScope.{VariableScope}
 use Rattle.om_lower_rules.specs.Bodies.{Numbers, next_body, BodyTree, BodySite, FunctionBody, RegionBody}
 use Rattle.om_lower_rules.specs.Bodies.{function_variables, function_bodies, behind_function, behind_functions, bodies_from}
 use Rattle.om_lower_rules.specs.Bodies.{bodies_of, first_numbers, variables_of}

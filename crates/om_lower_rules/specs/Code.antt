@@ -13,7 +13,7 @@ use Rattle.om_scope_tree.specs.declared.resolved.GlobalVariable.{GlobalVariable}
 use Rattle.om_scope_tree.specs.declared.resolved.RegionKind.TheVariants as kinds
 use Rattle.om_scope_tree.specs.Uses.{is_main_function}
 use Rattle.om_scope_tree.specs.ResolvedTree.{ResolvedFunctionTree, ResolvedTree}
-use Rattle.om_lower_rules.specs.declared.scope.VariableScope.{VariableScope}
+use Rattle.om_lower_rules.specs.declared.variables.VariableScope.{VariableScope}
 use Rattle.om_lower_rules.specs.Bodies.{Numbers, BodyTree, FunctionBody, RegionBody, BodySite, variables_of}
 use Rattle.om_lower_rules.specs.Bodies.{bodies_of, behind_functions, first_numbers, called_body}
 use Rattle.om_lower_rules.specs.Mentions.{extents_of, formats_of, locks_of, IsTextOf}

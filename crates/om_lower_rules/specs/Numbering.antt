@@ -3,7 +3,7 @@ use Rattle.std.specs.Prelude.{ℕ, List, [], ◌∷◌}
 use Rattle.om_scope_tree.specs.ResolvedTree.{ResolvedFunctionTree}
 use Rattle.om_lower_rules.specs.Bodies as rows
 use Rattle.om_lower_rules.specs.Bodies.{behind_function}
-use Rattle.om_lower_rules.specs.declared.numbers.Numbers.{Numbers}
+use Rattle.om_lower_rules.specs.declared.tables.Numbers.{Numbers}
 
 abbrev pub numbers_of : Numbers → rows.Numbers
 numbers_of n = record { bodies = n.bodies; picks = n.picks }

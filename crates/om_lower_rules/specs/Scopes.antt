@@ -31,7 +31,7 @@ use Rattle.om_scope_tree.specs.ResolvedTree.{StartNothing, StartExpression, Star
 use Rattle.om_scope_tree.specs.ResolvedTree.{Declaration, Block, If, IfElse, While, Do, For, Loop, Sections, Construct}
 use Rattle.om_scope_tree.specs.ResolvedTree.{ResolvedStatementsTree, NoStatements, Statement, ResolvedPartsTree}
 use Rattle.om_scope_tree.specs.ResolvedTree.{NoParts, Part, ResolvedFunctionTree}
-use Rattle.om_lower_rules.specs.declared.scope.VariableScope.{VariableScope}
+use Rattle.om_lower_rules.specs.declared.variables.VariableScope.{VariableScope}
 use Rattle.om_lower_rules.specs.Bodies.{Numbers, BodyTree, FunctionBody, RegionBody}
 use Rattle.om_lower_rules.specs.Expressions.{value, effect}
 use Rattle.om_lower_rules.specs.Rows.{Site, Row, end, never, part, ◌▸◌, perhaps}

@@ -5,8 +5,7 @@ ghost use Rattle.om_scope_tree.specs.ResolvedView as view;
 ghost use Rattle.om_lower_rules.specs.Bodies as rows;
 ghost use Rattle.om_lower_rules.specs.Numbering.{function_numbers};
 
-use crate::numbers::Numbers;
-use crate::tables::Tables;
+use crate::tables::{Numbers, Tables};
 use crate::variables::Variables;
 use om_code::instruction::Place;
 use om_scope_tree::{LocalVariable, Resolved, ResolvedFunction, Variable};

@@ -1,14 +1,29 @@
-//! The variables of a body, by their slots.
+//! The variables of a body, by their slots, and the scopes of their names.
 
 ghost use Rattle.std.specs.Prelude.{◌≡◌, ◌≤◌, [], OnOk, length, nat_eq};
 ghost use Rattle.om_lower_rules.specs.Slots.{slot_of};
 ghost use Rattle.om_lower_rules.specs.Tables.{with_sight};
 
 use om_scope_tree::uses::Sighting;
-use om_seq::AllocResult;
+use om_seq::{AllocResult, Seq};
 use std::alloc::Global;
 use std::collections::BTreeMap;
 use std::marker::Model;
+
+/// A stretch of a body's code in which a name means a variable of the function (C17 6.2.1).
+#[derive(Drop)]
+pub struct VariableScope {
+    /// The bytes of the name.
+    pub name: Seq<u8>,
+    /// The number of the variable in its function.
+    pub variable: u32,
+    /// How many elements the variable has, where it is an array.
+    pub length: Option<u32>,
+    /// The place of the first instruction in the stretch.
+    pub from: usize,
+    /// The place behind the last one; that of the first one while the scope is open.
+    pub to: usize,
+}
 
 /// The variables of a function that a body has, each once. Contracts see them in the order of their
 /// slots, which are numbered from 0.

@@ -9,7 +9,7 @@ use Rattle.om_lower_rules.specs.Bodies.{Numbers, behind_all, behind_parts}
 use Rattle.om_lower_rules.specs.Ends.{all_region_ends, parts_region_ends}
 use Rattle.om_lower_rules.specs.Numbering.{numbers_of}
 use Rattle.om_lower_rules.specs.Tables.{with_sight}
-use Rattle.om_lower_rules.specs.declared.numbers.Numbers as tables
+use Rattle.om_lower_rules.specs.declared.tables.Numbers as tables
 use Rattle.om_lower_rules.specs.Mentions.{Mention, all_mentioned, extent_mention, format_mention, lock_mention}
 use Rattle.om_lower_rules.specs.Mentions.{parts_mentioned}
 use Rattle.om_lower_tables.specs.declared.mentions.Mentions.{Mentions}

@@ -14,7 +14,7 @@ use Rattle.om_lower_rules.specs.Mentions.{Mention, all_mentioned, clause_mention
 use Rattle.om_lower_rules.specs.Mentions.{format_mention, function_mentioned, lock_mention}
 use Rattle.om_lower_rules.specs.Mentions.{loop_mentioned, mentioned, perhaps_mentioned, start_mentioned}
 use Rattle.om_lower_rules.specs.Numbering.{numbers_of}
-use Rattle.om_lower_rules.specs.declared.numbers.Numbers as tables
+use Rattle.om_lower_rules.specs.declared.tables.Numbers as tables
 use Rattle.om_lower_rules.specs.Tables.{with_sight}
 use Rattle.om_lower_tables.specs.declared.mentions.Mentions.{Mentions}
 use Rattle.om_lower_tables.specs.Noted.{AreNoted, noted}

@@ -1,6 +1,6 @@
 -- Whether numbers of 32 bits are enough for what a part of a tree mentions, and for the regions in it.
 use Rattle.std.specs.Prelude.{◌+◌, ◌<◌, ◌^◌, ℕ, List, length}
-use Rattle.om_lower_rules.specs.declared.numbers.Numbers.{Numbers}
+use Rattle.om_lower_rules.specs.declared.tables.Numbers.{Numbers}
 use Rattle.om_lower_tables.specs.declared.mentions.Mentions.{Mentions}
 use Rattle.om_lower_tables.specs.declared.mentions.Walk.{Walk}
 

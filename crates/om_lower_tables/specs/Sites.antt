@@ -14,7 +14,7 @@ use Rattle.om_scope_tree.specs.ResolvedView as view
 use Rattle.om_lower_rules.specs.Bodies.{BodySite, BodyTree, FunctionBody, Numbers, all_regions, function_bodies, next_body}
 use Rattle.om_lower_rules.specs.Bodies.{parts_regions, regions, variables_in}
 use Rattle.om_lower_rules.specs.Numbering.{numbers_of}
-use Rattle.om_lower_rules.specs.declared.numbers.Numbers as tables
+use Rattle.om_lower_rules.specs.declared.tables.Numbers as tables
 use Rattle.om_lower_tables.specs.Trees.{part_trees, statement_trees}
 
 abbrev pub part_tree : BodyPart → BodyTree

@@ -12,7 +12,7 @@ use Rattle.om_lexer.specs.declared.token.TokenKind.TheVariants as kinds
 use Rattle.om_pragma.specs.declared.tree.Directive.{Directive}
 use Rattle.om_pragma.specs.declared.tree.DirectiveName.{DirectiveName}
 use Rattle.om_pragma.specs.declared.tree.DirectiveName.TheVariants as directives
-use Rattle.om_pragma.specs.declared.kind.DirectiveKind.TheVariants as words
+use Rattle.om_pragma.specs.declared.tree.DirectiveKind.TheVariants as words
 use Rattle.om_pragma.specs.Questions.{is_stand_alone, is_section, is_sections, is_atomic, atomic_kind}
 use Rattle.om_pragma.specs.Spelling.{opening_spelling, name_spelling, directive_spelling}
 use Rattle.om_pragma.specs.Table.{EachBehind, IsDirective}

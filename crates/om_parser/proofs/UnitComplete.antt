@@ -10,7 +10,7 @@ use Rattle.om_lexer.specs.declared.token.TokenKind.TheVariants as kinds
 use Rattle.om_parser_tree.specs.declared.tree.ResultType.{ResultType}
 use Rattle.om_parser_tree.specs.declared.tree.ResultType.TheVariants as results
 use Rattle.om_parser_tree.specs.declared.tree.SignedNumber.{SignedNumber}
-use Rattle.om_pragma.specs.declared.name.Name as names
+use Rattle.om_pragma.specs.declared.clause.Name as names
 use Rattle.om_parser_tree.specs.Formed.{IsGlobalDeclaration, IsFunction, IsItem, IsUnit}
 use Rattle.om_parser_tree.specs.Limits.{Limits}
 use Rattle.om_parser_parts.specs.Reading.{take, same_mark, take_mark}

@@ -16,8 +16,7 @@ ghost use Rattle.om_parser_tree.specs.View.{view_directive, view_inner, view_sta
 use crate::opening::condition;
 use om_lexer::{FaultCode, Keyword, Punctuator, SourceFault, SourceResult, Span, Token};
 use om_parser_parts::front::{mark, word};
-use om_parser_tree::assembly::construct_of;
-use om_parser_tree::boxed::boxed_before;
+use om_parser_tree::assembly::{boxed_before, construct_of};
 use om_parser_tree::{Expression, Statement, has_atomic_form};
 use om_pragma::Directive;
 use std::alloc::Global;

@@ -10,7 +10,7 @@ ghost use Rattle.om_parser_tree.specs.View.{view_parameters, view_head};
 
 use om_lexer::{Keyword, Punctuator, SourceResult, Span, Token, TokenKind};
 use om_parser_parts::front::{mark, name, syntax, take_mark, take_word, word};
-use om_parser_tree::boxed::{boxed, boxed_before};
+use om_parser_tree::assembly::{boxed, boxed_before};
 use om_parser_tree::{FunctionHead, Parameter, Parameters, ResultType};
 use om_pragma::Name;
 use std::alloc::Global;

@@ -12,7 +12,7 @@ use crate::start::Start;
 use om_lexer::{Keyword, Punctuator, SourceResult, Span, Token};
 use om_parser_parts::front::{mark, syntax, take_mark, take_word};
 use om_parser_parts::part::{enclosed, enclosed_declaration};
-use om_parser_tree::boxed::boxed_before;
+use om_parser_tree::assembly::boxed_before;
 use om_parser_tree::{Condition, Expression, ForHead, ForStart};
 use std::alloc::Global;
 

@@ -15,7 +15,7 @@ use crate::start::Start;
 use om_lexer::{Punctuator, SourceResult, Span, Token};
 use om_parser_parts::front::{mark, syntax, take_mark};
 use om_parser_parts::part::{declaration, directive_line, expression};
-use om_parser_tree::boxed::{boxed, boxed_before};
+use om_parser_tree::assembly::{boxed, boxed_before};
 use om_parser_tree::{Expression, Statement};
 use om_pragma::Directive;
 use std::alloc::Global;

@@ -8,7 +8,7 @@ use Rattle.om_lexer.specs.declared.token.Punctuator.{Punctuator}
 use Rattle.om_lexer.specs.declared.token.Punctuator.TheVariants as punctuators
 use Rattle.om_lexer.specs.declared.token.Span.{Span}
 use Rattle.om_lexer.specs.declared.token.Token.{Token}
-use Rattle.om_pragma.specs.declared.name.Name as names
+use Rattle.om_pragma.specs.declared.clause.Name as names
 use Rattle.om_parser_tree.specs.declared.tree.AssignOperator.TheVariants as assigns
 use Rattle.om_parser_tree.specs.declared.tree.BinaryOperator.TheVariants as binaries
 use Rattle.om_parser_tree.specs.declared.tree.PostfixOperator.TheVariants as postfixes

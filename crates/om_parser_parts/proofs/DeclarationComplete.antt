@@ -7,7 +7,7 @@ use Rattle.om_lexer.specs.declared.token.Punctuator.TheVariants as punctuators
 use Rattle.om_lexer.specs.declared.token.Span.{Span}
 use Rattle.om_lexer.specs.declared.token.Token.{Token}
 use Rattle.om_parser_tree.specs.declared.tree.ArrayLength.{ArrayLength}
-use Rattle.om_pragma.specs.declared.name.Number.{Number}
+use Rattle.om_pragma.specs.declared.clause.Number.{Number}
 use Rattle.om_parser_tree.specs.declared.tree.SignedNumber.{SignedNumber}
 use Rattle.om_parser_parts.specs.DeclarationReading.{signed_at, array_after, declarator_after, further_at, declaration_after}
 use Rattle.om_parser_parts.specs.DeclarationReading.{declared_at}

@@ -2,7 +2,7 @@
 use Rattle.std.proofs.Common.{ℕ, suc, length, Some, None}
 use Rattle.om_lexer.specs.declared.token.Punctuator.TheVariants as punctuators
 use Rattle.om_lexer.specs.declared.token.Span.{Span}
-use Rattle.om_pragma.specs.declared.name.Name as names
+use Rattle.om_pragma.specs.declared.clause.Name as names
 use Rattle.om_parser_parts.specs.DeclarationReading.{signed_at, array_after, declarator_after, further_at, declaration_after}
 use Rattle.om_parser_parts.specs.DeclarationReading.{declared_at}
 use Rattle.om_parser_parts.specs.Local.{Measure, pair, triple, IsLocal, done, bind, either, mark_taker, mark_local, name_local}

@@ -3,7 +3,7 @@ use Rattle.std.proofs.Common.{List, length}
 use Rattle.om_lexer.specs.declared.token.Punctuator.TheVariants as punctuators
 use Rattle.om_lexer.specs.declared.token.Span.{Span}
 use Rattle.om_lexer.specs.declared.token.Token.{Token}
-use Rattle.om_pragma.specs.declared.name.Name as names
+use Rattle.om_pragma.specs.declared.clause.Name as names
 use Rattle.om_parser_parts.specs.DeclarationReading.{signed_at, array_after, declarator_after, further_at, declaration_after}
 use Rattle.om_parser_parts.specs.DeclarationReading.{declared_at}
 use Rattle.om_parser_parts.specs.Reading.{Reader, mark_at, name_at, number_at}

@@ -8,7 +8,7 @@ use Rattle.om_lexer.specs.declared.token.Punctuator.TheVariants as punctuators
 use Rattle.om_lexer.specs.declared.token.Span.{Span}
 use Rattle.om_lexer.specs.declared.token.Token.{Token}
 use Rattle.om_parser_tree.specs.declared.tree.ArrayLength.{ArrayLength}
-use Rattle.om_pragma.specs.declared.name.Name as names
+use Rattle.om_pragma.specs.declared.clause.Name as names
 use Rattle.om_parser_parts.specs.DeclarationReading.{signed_at, array_after, declarator_after, further_at}
 use Rattle.om_parser_parts.specs.DeclarationReading.{declaration_after, declared_at}
 use Rattle.om_parser_tree.specs.Formed.{IsDeclarator, IsDeclaration}

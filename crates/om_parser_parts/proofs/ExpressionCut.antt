@@ -7,7 +7,7 @@ use Rattle.om_lexer.specs.declared.token.Punctuator.TheVariants as punctuators
 use Rattle.om_lexer.specs.declared.token.Span.{Span}
 use Rattle.om_lexer.specs.declared.token.Token.{Token}
 use Rattle.om_lexer.specs.declared.token.TokenKind.TheVariants as kinds
-use Rattle.om_pragma.specs.declared.name.Name as names
+use Rattle.om_pragma.specs.declared.clause.Name as names
 use Rattle.om_parser_parts.specs.ExpressionReading.{prefix_of, postfix_of, level_operator, take_operator, take_assign, Inside, named_after, primary_step, More, chain_at, postfix_more, binary_more, postfix_step, unary_step, binary_at, conditional_after, expression_after, expression_step, deeper, unary_at, expression_at, operand_at, whole_at}
 use Rattle.om_parser_tree.specs.Formed.{level, IsExpression}
 use Rattle.om_parser_tree.specs.Limits.{Limits, IsOpening, IsTooMuch, still_open}

@@ -9,7 +9,7 @@ use Rattle.om_lexer.specs.declared.token.Span.{Span}
 use Rattle.om_lexer.specs.declared.token.Token.{Token}
 use Rattle.om_lexer.specs.declared.token.TokenKind.{TokenKind}
 use Rattle.om_lexer.specs.declared.token.TokenKind.TheVariants as kinds
-use Rattle.om_pragma.specs.declared.name.Name as names
+use Rattle.om_pragma.specs.declared.clause.Name as names
 use Rattle.om_parser_parts.specs.ExpressionReading.{prefix_of, postfix_of, level_operator, assign_of, text_of, take_operator}
 use Rattle.om_parser_parts.specs.ExpressionReading.{take_assign, take_text, enter, closed_by, paren_after, index_after}
 use Rattle.om_parser_parts.specs.ExpressionReading.{first_at, argument_at, arguments_at, arguments_after, call_after}

@@ -2,7 +2,7 @@
 use Rattle.std.proofs.Common.{◌≡◌, ℕ, zero, suc, ◌-◌, List, length, Some, None, Err, subst, Bool, true, false, inl, inr}
 use Rattle.om_lexer.specs.declared.token.Span.{Span}
 use Rattle.om_lexer.specs.declared.token.Token.{Token}
-use Rattle.om_pragma.specs.declared.name.Name as names
+use Rattle.om_pragma.specs.declared.clause.Name as names
 use Rattle.om_parser_parts.specs.ExpressionReading.{prefix_of, postfix_of, level_operator, take_operator, take_assign}
 use Rattle.om_parser_parts.specs.ExpressionReading.{take_text, Inside, enter, closed_by, paren_after, index_after, first_at}
 use Rattle.om_parser_parts.specs.ExpressionReading.{argument_at, arguments_at, arguments_after, call_after, named_after}

@@ -7,7 +7,7 @@ use denote.Ref.{Bor}
 use Rattle.om_lexer.specs.Faults.{no_memory}
 use Rattle.om_lexer.specs.declared.fault.SourceFault.{SourceFault}
 use Rattle.om_lexer.specs.declared.token.Token.{Token}
-use Rattle.om_pragma.specs.declared.name.Number.{Number}
+use Rattle.om_pragma.specs.declared.clause.Number.{Number}
 use Rattle.om_pragma.specs.declared.tree.Directive.{Directive}
 use Rattle.om_pragma.specs.Expressions.{expressions, first_expression, map_directive, tokens_in, with_tokens, IsValue}
 use Rattle.om_pragma.specs.Reading.{directive_at, expression_at, expression_before}

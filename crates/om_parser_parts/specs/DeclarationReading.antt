@@ -4,7 +4,7 @@ use Rattle.om_lexer.specs.declared.token.Punctuator.TheVariants as punctuators
 use Rattle.om_lexer.specs.declared.token.Span.{Span}
 use Rattle.om_lexer.specs.declared.token.Token.{Token}
 use Rattle.om_parser_tree.specs.declared.tree.ArrayLength.{ArrayLength}
-use Rattle.om_pragma.specs.declared.name.Name as names
+use Rattle.om_pragma.specs.declared.clause.Name as names
 use Rattle.om_parser_tree.specs.declared.tree.SignedNumber.{SignedNumber}
 use Rattle.om_parser_parts.specs.Reading.{◌>>=◌, choose, Outcome, Reader, take_mark, mark_at, name_at, number_at}
 use Rattle.om_parser_parts.specs.Repetition.{until}

@@ -24,7 +24,7 @@ use Rattle.om_parser_parts.specs.Reading.{word_of, name_of, number_of, take_mark
 use Rattle.om_parser_parts.specs.Reading.{word_at, name_at, number_at}
 use Rattle.om_parser_parts.specs.PartReading.{Parts, parts, global_at}
 use Rattle.om_parser_parts.specs.Repetition.{until}
-use Rattle.om_pragma.specs.declared.name.Name as names
+use Rattle.om_pragma.specs.declared.clause.Name as names
 use Rattle.om_pragma.specs.declared.tree.Directive.{Directive}
 use Rattle.om_pragma.specs.Spelling.{directive_spelling}
 use Rattle.om_parser_tree.specs.Limits.{Limits}

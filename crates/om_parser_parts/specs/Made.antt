@@ -10,7 +10,7 @@ use Rattle.om_lexer.specs.Faults.{no_memory}
 use Rattle.om_lexer.specs.declared.fault.SourceFault.{SourceFault}
 use Rattle.om_lexer.specs.declared.token.Span.{Span}
 use Rattle.om_lexer.specs.declared.token.Token.{Token}
-use Rattle.om_pragma.specs.declared.name.Name as names
+use Rattle.om_pragma.specs.declared.clause.Name as names
 use Rattle.om_pragma.specs.declared.tree.Directive.{Directive}
 use Rattle.om_parser_parts.specs.declared.expression.Budget.{Budget}
 use Rattle.om_parser_parts.specs.ExpressionReading.{Inside, arguments_at, behind, binary_at, binary_more, call_after, chain_at}

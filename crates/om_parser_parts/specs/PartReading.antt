@@ -1,7 +1,7 @@
 -- For proofs: reading the parts of statements that are no statements.
 use Rattle.std.specs.Prelude.{◌-◌}
 use Rattle.om_lexer.specs.declared.token.Span.{Span}
-use Rattle.om_pragma.specs.declared.name.Name as names
+use Rattle.om_pragma.specs.declared.clause.Name as names
 use Rattle.om_pragma.specs.declared.tree.Directive.{Directive}
 use Rattle.om_parser_parts.specs.DeclarationReading.{signed_at, declaration_after, declared_at}
 use Rattle.om_parser_parts.specs.ExpressionReading.{whole_at}

@@ -9,8 +9,8 @@ use Rattle.om_lexer.specs.declared.token.Span.{Span}
 use Rattle.om_lexer.specs.declared.token.Token.{Token}
 use Rattle.om_lexer.specs.declared.token.TokenKind.{TokenKind}
 use Rattle.om_lexer.specs.declared.token.TokenKind.TheVariants as kinds
-use Rattle.om_pragma.specs.declared.name.Name as names
-use Rattle.om_pragma.specs.declared.name.Number.{Number}
+use Rattle.om_pragma.specs.declared.clause.Name as names
+use Rattle.om_pragma.specs.declared.clause.Number.{Number}
 use Rattle.om_parser_parts.specs.Reading.{take, same_mark, same_word, mark_of, word_of, name_of, number_of, take_mark}
 use Rattle.om_parser_parts.specs.Reading.{take_word, take_name, take_number, mark_at, word_at, name_at, number_at}
 use Rattle.om_parser_tree.specs.Spelling.{token, mark, word, name, number}

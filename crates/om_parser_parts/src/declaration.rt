@@ -13,7 +13,7 @@ ghost use Rattle.om_parser_tree.specs.View.{view_expression, view_further, view_
 use crate::expression::whole;
 use crate::front::{mark, name, number, take_mark};
 use om_lexer::{Punctuator, SourceResult, Span, Token};
-use om_parser_tree::boxed::boxed_before;
+use om_parser_tree::assembly::boxed_before;
 use om_parser_tree::{ArrayLength, Declaration, Declarator, Expression, Initializer, SignedNumber};
 use om_pragma::Name;
 use std::alloc::Global;

@@ -12,7 +12,7 @@ use crate::operator::{
     joined, postfixed, prefixed, take_assign, take_looser, take_postfix, take_prefix, take_text,
 };
 use om_lexer::{Punctuator, SourceResult, Span, Token};
-use om_parser_tree::boxed::boxed_before;
+use om_parser_tree::assembly::boxed_before;
 use om_parser_tree::{Argument, Expression, PrefixOperator, TOKEN_LIMIT};
 use om_pragma::Name;
 use std::alloc::Global;

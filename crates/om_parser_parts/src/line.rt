@@ -15,7 +15,7 @@ use crate::front::syntax;
 use crate::part::enclosed;
 use om_lexer::{FaultCode, SourceFault, SourceResult, Token, TokenKind};
 use om_parser_tree::Expression;
-use om_parser_tree::boxed::boxed_before;
+use om_parser_tree::assembly::boxed_before;
 use om_pragma::{Directive, directive, expression_before, first_value, one_answer};
 use std::alloc::Global;
 

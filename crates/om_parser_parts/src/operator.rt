@@ -8,7 +8,7 @@ ghost use Rattle.om_parser_tree.specs.Tree.{Binary, Postfix, Prefix};
 ghost use Rattle.om_parser_tree.specs.View.{view_expression};
 
 use om_lexer::{Punctuator, Span, Token, TokenKind};
-use om_parser_tree::boxed::boxed;
+use om_parser_tree::assembly::boxed;
 use om_parser_tree::{
     AssignOperator, BinaryOperator, Expression, PostfixOperator, PrefixOperator, Text,
 };

@@ -6,7 +6,7 @@ use Rattle.om_lexer.specs.declared.token.Punctuator.TheVariants as punctuators
 use Rattle.om_lexer.specs.declared.token.Token.{Token}
 use Rattle.om_lexer.specs.declared.token.TokenKind.{TokenKind}
 use Rattle.om_lexer.specs.declared.token.TokenKind.TheVariants as kinds
-use Rattle.om_parser_tree.specs.declared.limit.TheConstants.{NESTING_LIMIT, TOKEN_LIMIT, BLOCK_LIMIT, STATEMENT_LIMIT}
+use Rattle.om_parser_tree.specs.declared.tree.TheConstants.{NESTING_LIMIT, TOKEN_LIMIT, BLOCK_LIMIT, STATEMENT_LIMIT}
 use Rattle.om_parser_tree.specs.Spelling.{expression_spelling}
 use Rattle.om_parser_tree.specs.Tree.{ExpressionTree, Name, Constant, Text, Paren, Index, Call, Prefix, Postfix, Binary}
 use Rattle.om_parser_tree.specs.Tree.{Conditional, Assign, ArgumentsTree, NoArguments, Argument, InitializerTree}

@@ -15,7 +15,7 @@ use Rattle.om_parser_tree.specs.declared.tree.AssignOperator.{AssignOperator}
 use Rattle.om_parser_tree.specs.declared.tree.AssignOperator.TheVariants as assigns
 use Rattle.om_parser_tree.specs.declared.tree.BinaryOperator.{BinaryOperator}
 use Rattle.om_parser_tree.specs.declared.tree.BinaryOperator.TheVariants as binaries
-use Rattle.om_pragma.specs.declared.name.Name as names
+use Rattle.om_pragma.specs.declared.clause.Name as names
 use Rattle.om_parser_tree.specs.declared.tree.Parameter.{Parameter}
 use Rattle.om_parser_tree.specs.declared.tree.PostfixOperator.{PostfixOperator}
 use Rattle.om_parser_tree.specs.declared.tree.PostfixOperator.TheVariants as postfixes

@@ -5,8 +5,8 @@ use Rattle.om_pragma.specs.declared.tree.Directive.{Directive}
 use Rattle.om_parser_tree.specs.declared.tree.ArrayLength.{ArrayLength}
 use Rattle.om_parser_tree.specs.declared.tree.AssignOperator.{AssignOperator}
 use Rattle.om_parser_tree.specs.declared.tree.BinaryOperator.{BinaryOperator}
-use Rattle.om_pragma.specs.declared.name.Name as names
-use Rattle.om_pragma.specs.declared.name.Number.{Number}
+use Rattle.om_pragma.specs.declared.clause.Name as names
+use Rattle.om_pragma.specs.declared.clause.Number.{Number}
 use Rattle.om_parser_tree.specs.declared.tree.Parameter.{Parameter}
 use Rattle.om_parser_tree.specs.declared.tree.PostfixOperator.{PostfixOperator}
 use Rattle.om_parser_tree.specs.declared.tree.PrefixOperator.{PrefixOperator}

@@ -1,17 +1,39 @@
-//! Statements put together of their parts.
+//! Statements put together of their parts, and values in boxes.
 //!
-//! The functions of the parser's recursion hold a statement and its parts in boxes, and leave it to
-//! these to put them together, so that their frames are small: none of these may be inlined into them.
+//! The functions of the parser's recursion hold a statement and its parts in boxes, and leave it to these
+//! to put them together, so that their frames are small: none of these may be inlined into them.
 
-ghost use Rattle.om_parser_tree.specs.Making.{if_else_of, sections_of, MakesStatement};
+ghost use Rattle.std.specs.Prelude.{◌≡◌, IfOk};
+ghost use Rattle.om_parser_tree.specs.Making.{if_else_of, sections_of, MakesStatement, Makes};
 ghost use Rattle.om_parser_tree.specs.Tree.{Block, Construct, For, If, While};
 ghost use Rattle.om_parser_tree.specs.View.{view_braced, view_for_head, view_inner, view_line, view_test};
 
-use crate::boxed::boxed_before;
 use crate::tree::{Condition, Expression, ForHead, Part, Statement};
 use om_lexer::{SourceResult, Span, Token};
 use om_pragma::Directive;
+use om_seq::AllocResult;
 use std::alloc::Global;
+
+/// This value in a box. It is not inlined, so that a caller's frame need not hold what becomes of
+/// the value where there is no memory.
+#[inline(never)]
+pub fn boxed<T: Drop>(alloc: Global, value: T) -> AllocResult<Box<T>>
+    ensures { IfOk result (λ made. made.value ≡ value) }
+{
+    Ok(Box::new(alloc, value)?)
+}
+
+/// This value in a box, and the tokens behind it.
+#[inline(never)]
+pub fn boxed_before<'a, T: Drop>(
+    alloc: Global,
+    value: T,
+    rest: &'a [Token],
+) -> SourceResult<(Box<T>, &'a [Token])>
+    ensures { Makes (λ x. (x.0.value, x.1.now)) result value rest.now }
+{
+    Ok((boxed(alloc, value)?, rest))
+}
 
 /// A block of these parts.
 #[inline(never)]

@@ -18,16 +18,13 @@
 
 pub mod assembly;
 mod atomic;
-pub mod boxed;
-mod limit;
 mod tree;
 
 pub use atomic::{has_atomic_form, same_expression};
-pub use limit::{BLOCK_LIMIT, NESTING_LIMIT, STATEMENT_LIMIT, TOKEN_LIMIT};
 pub use om_pragma::{Name, Number};
 pub use tree::{
-    Argument, ArrayLength, AssignOperator, BinaryOperator, Block, Condition, Declaration,
-    Declarator, Expression, ForHead, ForStart, Function, FunctionHead, Initializer, Item,
-    Parameter, Parameters, Part, PostfixOperator, PrefixOperator, ResultType, SignedNumber,
-    Statement, Text, Unit,
+    Argument, ArrayLength, AssignOperator, BLOCK_LIMIT, BinaryOperator, Block, Condition,
+    Declaration, Declarator, Expression, ForHead, ForStart, Function, FunctionHead, Initializer,
+    Item, NESTING_LIMIT, Parameter, Parameters, Part, PostfixOperator, PrefixOperator, ResultType,
+    STATEMENT_LIMIT, SignedNumber, Statement, TOKEN_LIMIT, Text, Unit,
 };

@@ -1,8 +1,21 @@
-//! The tree of a source. It keeps the span of each of its tokens.
+//! The tree of a source, and how large that of an accepted one is at most. It keeps the span of each of its
+//! tokens.
 
 use om_lexer::Span;
 use om_pragma::{Directive, Name, Number};
 use om_seq::Seq;
+
+/// How deep parentheses and brackets may nest in an expression, with those of its statement or clause.
+pub const NESTING_LIMIT: usize = 128;
+
+/// How many tokens a whole expression may have.
+pub const TOKEN_LIMIT: usize = 4096;
+
+/// How deep blocks may nest.
+pub const BLOCK_LIMIT: usize = 128;
+
+/// How many statements may stand round a statement, the function's block among them.
+pub const STATEMENT_LIMIT: usize = 1024;
 
 /// A string literal where it stands.
 #[derive(Drop)]

@@ -25,9 +25,9 @@ use Rattle.om_pragma.specs.declared.clause.Sharing.{Sharing}
 use Rattle.om_pragma.specs.declared.clause.Sharing.TheVariants as sharings
 use Rattle.om_pragma.specs.declared.clause.ValueClause.{ValueClause}
 use Rattle.om_pragma.specs.declared.clause.ValueClause.TheVariants as value_kinds
-use Rattle.om_pragma.specs.declared.name.Name as names
-use Rattle.om_pragma.specs.declared.name.NameList as lists
-use Rattle.om_pragma.specs.declared.name.Number.{Number}
+use Rattle.om_pragma.specs.declared.clause.Name as names
+use Rattle.om_pragma.specs.declared.clause.NameList as lists
+use Rattle.om_pragma.specs.declared.clause.Number.{Number}
 use Rattle.om_pragma.specs.Expressions.{open_behind, Closes, IsClosed}
 use Rattle.om_pragma.specs.Reading.{◌>>=◌, choose, place, known, take_kind, take_word, take_chunk, number_of, mark_at}
 use Rattle.om_pragma.specs.Reading.{name_at, until, further_at, names_at, list_after, list_at, closing, value_in}

@@ -14,7 +14,7 @@ use Rattle.om_pragma.specs.declared.clause.ClauseKind.TheVariants as clause_kind
 use Rattle.om_pragma.specs.declared.tree.Directive.{Directive}
 use Rattle.om_pragma.specs.declared.tree.DirectiveName.{DirectiveName}
 use Rattle.om_pragma.specs.declared.tree.DirectiveName.TheVariants as directives
-use Rattle.om_pragma.specs.declared.kind.DirectiveKind.TheVariants as words
+use Rattle.om_pragma.specs.declared.tree.DirectiveKind.TheVariants as words
 use Rattle.om_pragma.specs.Expressions.{IsClosed}
 use Rattle.om_pragma.specs.Reading.{◌>>=◌, Outcome, stopped, syntax_at, opening_at, directive_name_at, take_end, is_end}
 use Rattle.om_pragma.specs.Reading.{until, item_at, clauses_at, directive_at}

@@ -15,12 +15,12 @@ use Rattle.om_pragma.specs.declared.clause.Clause.TheVariants as clauses
 use Rattle.om_pragma.specs.declared.clause.ClauseItem.{ClauseItem}
 use Rattle.om_pragma.specs.declared.clause.ClauseKind.{ClauseKind}
 use Rattle.om_pragma.specs.declared.clause.PlainClause.TheVariants as plain_kinds
-use Rattle.om_pragma.specs.declared.name.Name as names
+use Rattle.om_pragma.specs.declared.clause.Name as names
 use Rattle.om_pragma.specs.declared.tree.Directive.{Directive}
 use Rattle.om_pragma.specs.declared.tree.DirectiveName.{DirectiveName}
 use Rattle.om_pragma.specs.declared.tree.DirectiveName.TheVariants as directives
-use Rattle.om_pragma.specs.declared.kind.DirectiveKind.{DirectiveKind}
-use Rattle.om_pragma.specs.declared.kind.DirectiveKind.TheVariants as words
+use Rattle.om_pragma.specs.declared.tree.DirectiveKind.{DirectiveKind}
+use Rattle.om_pragma.specs.declared.tree.DirectiveKind.TheVariants as words
 use Rattle.om_pragma.specs.Expressions.{IsClosed}
 use Rattle.om_pragma.specs.Reading.{choose, place, fault, stopped, in_clause, no_word, all_clauses, take_kind, take_word, take_end, is_end, opening_at, critical_after, critical_at, list_after, names_at, flush_at, name_after, directive_name_at, clause_after, clause_at, comma_at, item_at, syntax_at, until, clauses_at, directive_at}
 use Rattle.om_pragma.specs.Refusals.{IsWhole, IsWrittenItem, BeginsDirective, StopsAt, EndsOnce}

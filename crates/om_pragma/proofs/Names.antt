@@ -8,11 +8,11 @@ use Rattle.om_lexer.specs.declared.token.Span.{Span}
 use Rattle.om_lexer.specs.declared.token.Token.{Token}
 use Rattle.om_lexer.specs.declared.token.TokenKind.{TokenKind}
 use Rattle.om_lexer.specs.declared.token.TokenKind.TheVariants as kinds
-use Rattle.om_pragma.specs.declared.name.Name as names
+use Rattle.om_pragma.specs.declared.clause.Name as names
 use Rattle.om_pragma.specs.declared.tree.DirectiveName.{DirectiveName}
 use Rattle.om_pragma.specs.declared.tree.DirectiveName.TheVariants as directives
-use Rattle.om_pragma.specs.declared.kind.DirectiveKind.{DirectiveKind}
-use Rattle.om_pragma.specs.declared.kind.DirectiveKind.TheVariants as words
+use Rattle.om_pragma.specs.declared.tree.DirectiveKind.{DirectiveKind}
+use Rattle.om_pragma.specs.declared.tree.DirectiveKind.TheVariants as words
 use Rattle.om_pragma.specs.Reading.{Outcome, stopped, known, take_kind, take_word, mark_at, name_at, list_after}
 use Rattle.om_pragma.specs.Reading.{critical_after, critical_at, flush_at, parallel_at, name_after, directive_name_at}
 use Rattle.om_pragma.specs.Reading.{opening_at}

@@ -13,8 +13,8 @@ use Rattle.om_pragma.specs.declared.clause.Clause.{Clause}
 use Rattle.om_pragma.specs.declared.clause.ClauseKind.{ClauseKind}
 use Rattle.om_pragma.specs.declared.tree.Directive.{Directive}
 use Rattle.om_pragma.specs.declared.tree.DirectiveName.{DirectiveName}
-use Rattle.om_pragma.specs.declared.kind.DirectiveKind.{DirectiveKind}
-use Rattle.om_pragma.specs.declared.kind.DirectiveKind.TheVariants as words
+use Rattle.om_pragma.specs.declared.tree.DirectiveKind.{DirectiveKind}
+use Rattle.om_pragma.specs.declared.tree.DirectiveKind.TheVariants as words
 use Rattle.om_pragma.specs.Expressions.{IsClosed}
 use Rattle.om_pragma.specs.Reading.{fault, stopped, in_clause, no_word, all_clauses, take_kind, take_word, take_end}
 use Rattle.om_pragma.specs.Reading.{opening_at, critical_after, critical_at, list_after, flush_at, name_after}

@@ -5,8 +5,8 @@ use Rattle.om_lexer.specs.Faults.{no_memory}
 use Rattle.om_lexer.specs.declared.fault.SourceFault.{SourceFault}
 use Rattle.om_lexer.specs.declared.token.Span.{Span}
 use Rattle.om_lexer.specs.declared.token.Token.{Token}
-use Rattle.om_pragma.specs.declared.stop.Stop.{Stop}
-use Rattle.om_pragma.specs.declared.stop.Stop.TheVariants as stops
+use Rattle.om_pragma.specs.declared.token.Stop.{Stop}
+use Rattle.om_pragma.specs.declared.token.Stop.TheVariants as stops
 use Rattle.om_pragma.specs.Reading.{Outcome, until, place, syntax_at, IsStopped}
 use Rattle.om_pragma.proofs.Outcomes.{ok, err, some}
 

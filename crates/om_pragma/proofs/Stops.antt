@@ -10,7 +10,7 @@ use Rattle.om_lexer.specs.declared.token.Span.{Span}
 use Rattle.om_lexer.specs.declared.token.Token.{Token}
 use Rattle.om_lexer.specs.declared.token.TokenKind.{TokenKind}
 use Rattle.om_lexer.specs.declared.token.TokenKind.TheVariants as kinds
-use Rattle.om_pragma.specs.declared.name.Name as names
+use Rattle.om_pragma.specs.declared.clause.Name as names
 use Rattle.om_pragma.specs.Reading.{choose, Part, place, known, take_kind, take_name, name_of, mark_at, name_at, until}
 use Rattle.om_pragma.specs.Reading.{further_at, names_at, critical_after, opening_at}
 use Rattle.om_pragma.specs.Spelling.{token, mark, name, further_spelling, names_spelling, opening_spelling}

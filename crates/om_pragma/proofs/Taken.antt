@@ -9,7 +9,7 @@ use Rattle.om_lexer.specs.declared.token.Span.{Span}
 use Rattle.om_lexer.specs.declared.token.Token.{Token}
 use Rattle.om_lexer.specs.declared.token.TokenKind.{TokenKind}
 use Rattle.om_lexer.specs.declared.token.TokenKind.TheVariants as kinds
-use Rattle.om_pragma.specs.declared.name.Name as names
+use Rattle.om_pragma.specs.declared.clause.Name as names
 use Rattle.om_pragma.specs.Reading.{take_kind, take_word, take_name, name_of, mark_at, name_at}
 use Rattle.om_pragma.specs.Spelling.{token, mark, name}
 use Rattle.om_pragma.specs.Words.{same_kind, same_mark, same_keyword, among}

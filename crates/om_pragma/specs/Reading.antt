@@ -28,16 +28,16 @@ use Rattle.om_pragma.specs.declared.clause.Sharing.{Sharing}
 use Rattle.om_pragma.specs.declared.clause.Sharing.TheVariants as sharings
 use Rattle.om_pragma.specs.declared.clause.ValueClause.{ValueClause}
 use Rattle.om_pragma.specs.declared.clause.ValueClause.TheVariants as value_kinds
-use Rattle.om_pragma.specs.declared.name.Name as names
-use Rattle.om_pragma.specs.declared.name.NameList as lists
-use Rattle.om_pragma.specs.declared.name.Number.{Number}
-use Rattle.om_pragma.specs.declared.stop.Stop.{Stop}
-use Rattle.om_pragma.specs.declared.stop.Stop.TheVariants as stops
+use Rattle.om_pragma.specs.declared.clause.Name as names
+use Rattle.om_pragma.specs.declared.clause.NameList as lists
+use Rattle.om_pragma.specs.declared.clause.Number.{Number}
+use Rattle.om_pragma.specs.declared.token.Stop.{Stop}
+use Rattle.om_pragma.specs.declared.token.Stop.TheVariants as stops
 use Rattle.om_pragma.specs.declared.tree.Directive.{Directive}
 use Rattle.om_pragma.specs.declared.tree.DirectiveName.{DirectiveName}
 use Rattle.om_pragma.specs.declared.tree.DirectiveName.TheVariants as directives
-use Rattle.om_pragma.specs.declared.kind.DirectiveKind.{DirectiveKind}
-use Rattle.om_pragma.specs.declared.kind.DirectiveKind.TheVariants as words
+use Rattle.om_pragma.specs.declared.tree.DirectiveKind.{DirectiveKind}
+use Rattle.om_pragma.specs.declared.tree.DirectiveKind.TheVariants as words
 use Rattle.om_pragma.specs.Expressions.{open_behind, or_else}
 use Rattle.om_pragma.specs.Table.{may_stand, kinds_of}
 use Rattle.om_pragma.specs.Words.{same_kind, is_word, among, directive_word, directive_words, clause_word, sharing_word}

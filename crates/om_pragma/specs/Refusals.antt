@@ -17,8 +17,8 @@ use Rattle.om_pragma.specs.declared.clause.ClauseKind.{ClauseKind}
 use Rattle.om_pragma.specs.declared.tree.Directive.{Directive}
 use Rattle.om_pragma.specs.declared.tree.DirectiveName.{DirectiveName}
 use Rattle.om_pragma.specs.declared.tree.DirectiveName.TheVariants as directives
-use Rattle.om_pragma.specs.declared.kind.DirectiveKind.{DirectiveKind}
-use Rattle.om_pragma.specs.declared.kind.DirectiveKind.TheVariants as words
+use Rattle.om_pragma.specs.declared.tree.DirectiveKind.{DirectiveKind}
+use Rattle.om_pragma.specs.declared.tree.DirectiveKind.TheVariants as words
 use Rattle.om_pragma.specs.Expressions.{IsClosed, with_tokens}
 use Rattle.om_pragma.specs.Spelling.{token, name_spelling, opening_spelling, item_spelling, comma_spelling}
 use Rattle.om_pragma.specs.Spelling.{clause_spelling, directive_spelling}

@@ -17,8 +17,8 @@ use Rattle.om_pragma.specs.declared.clause.ScheduleKind.{ScheduleKind}
 use Rattle.om_pragma.specs.declared.clause.ScheduleKind.TheVariants as schedules
 use Rattle.om_pragma.specs.declared.clause.Sharing.{Sharing}
 use Rattle.om_pragma.specs.declared.clause.Sharing.TheVariants as sharings
-use Rattle.om_pragma.specs.declared.kind.DirectiveKind.{DirectiveKind}
-use Rattle.om_pragma.specs.declared.kind.DirectiveKind.TheVariants as directives
+use Rattle.om_pragma.specs.declared.tree.DirectiveKind.{DirectiveKind}
+use Rattle.om_pragma.specs.declared.tree.DirectiveKind.TheVariants as directives
 
 -- whether two punctuators are one
 unfoldable pub same_mark : Punctuator → Punctuator → Bool

@@ -6,12 +6,10 @@ ghost use Rattle.om_pragma.specs.Reading.{further_at, further_names_at, names_at
 ghost use Rattle.om_pragma.specs.Views.{part_and_rest, clause_and_rest};
 
 use crate::clause::{
-    Clause, ClauseKind, DataSharing, DefaultArgument, PlainClause, Reduction, ReductionOperator,
-    Schedule, ScheduleKind, Sharing, Value, ValueClause,
+    Clause, ClauseKind, DataSharing, DefaultArgument, FurtherName, Name, NameList, Number,
+    PlainClause, Reduction, ReductionOperator, Schedule, ScheduleKind, Sharing, Value, ValueClause,
 };
-use crate::name::{FurtherName, Name, NameList, Number};
-use crate::stop::Stop;
-use crate::token::{mark, name, place, take_chunk, take_first, take_mark};
+use crate::token::{Stop, mark, name, place, take_chunk, take_first, take_mark};
 use crate::word::{is_mark, reduction_operator, schedule_kind, sharing};
 use om_lexer::{Punctuator, Span, Token, TokenKind};
 use om_seq::Seq;

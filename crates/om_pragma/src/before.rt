@@ -6,8 +6,7 @@ ghost use Rattle.om_pragma.specs.Reading.{in_parentheses, tokens_before, express
 ghost use Rattle.om_pragma.specs.Values.{StandsAsValue, IsFirstValue};
 
 use crate::argument::closing;
-use crate::stop::Stop;
-use crate::token::{mark, take_first};
+use crate::token::{Stop, mark, take_first};
 use crate::word::is_named;
 use om_lexer::{Punctuator, Span, Token};
 

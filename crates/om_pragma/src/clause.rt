@@ -1,10 +1,9 @@
-//! Clauses of directives (OpenMP API 5.2, chapter 3).
+//! Clauses of directives (OpenMP API 5.2, chapter 3), with the names and constants in them.
 
 ghost use Rattle.std.specs.Prelude.{◌≡◌, option_copied};
 ghost use Rattle.om_pragma.specs.Expressions.{clause_expression};
 ghost use Rattle.om_pragma.specs.Spelling.{value_kind, data_kind, plain_kind, kind_of};
 
-use crate::name::{FurtherName, Name, NameList, Number};
 use om_lexer::Span;
 use om_seq::Seq;
 
@@ -207,4 +206,32 @@ impl<E> Clause<E> {
         };
         Some(&value.expression)
     }
+}
+
+/// A name where it stands.
+#[derive(Drop)]
+pub struct Name {
+    /// Its letters, digits and `_`.
+    pub text: Seq<u8>,
+    pub span: Span,
+}
+
+/// A constant where it stands.
+#[derive(Clone, Copy)]
+pub struct Number {
+    /// At most 2147483647.
+    pub value: u32,
+    pub span: Span,
+}
+
+/// A name of a list behind the first, and before it the span of its comma.
+pub type FurtherName = (Span, Name);
+
+/// One or more names in parentheses, with commas between them.
+#[derive(Drop)]
+pub struct NameList {
+    pub open_paren: Span,
+    pub first: Name,
+    pub rest: Seq<FurtherName>,
+    pub close_paren: Span,
 }

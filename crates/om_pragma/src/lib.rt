@@ -16,11 +16,8 @@ mod argument;
 mod before;
 mod clause;
 mod filling;
-mod kind;
 mod laws;
-mod name;
 mod reading;
-mod stop;
 mod table;
 mod token;
 mod tree;
@@ -28,12 +25,11 @@ mod word;
 
 pub use before::expression_before;
 pub use clause::{
-    Clause, ClauseItem, ClauseKind, DataSharing, DefaultArgument, PlainClause, Reduction,
-    ReductionOperator, Schedule, ScheduleKind, Sharing, Value, ValueClause,
+    Clause, ClauseItem, ClauseKind, DataSharing, DefaultArgument, FurtherName, Name, NameList,
+    Number, PlainClause, Reduction, ReductionOperator, Schedule, ScheduleKind, Sharing, Value,
+    ValueClause,
 };
-pub use kind::DirectiveKind;
 pub use laws::{clauses_stand, first_value, one_answer, one_directive, one_expression, one_fault};
-pub use name::{FurtherName, Name, NameList, Number};
 pub use reading::directive;
-pub use tree::{AtomicKind, Directive, DirectiveName};
+pub use tree::{AtomicKind, Directive, DirectiveKind, DirectiveName};
 pub use word::begun_by;

@@ -10,13 +10,12 @@ ghost use Rattle.om_pragma.specs.Table.{IsDirectiveOf};
 ghost use Rattle.om_pragma.specs.Views.{part_and_rest, clause_and_rest, item_and_rest, seen_items, seen_kinds};
 
 use crate::argument::{clause_after, list_after};
-use crate::clause::{Clause, ClauseItem};
-use crate::kind::DirectiveKind;
-use crate::name::Name;
-use crate::stop::Stop;
+use crate::clause::{Clause, ClauseItem, Name};
 use crate::table::may_stand;
-use crate::token::{mark, name, place, take_begin, take_end, take_keyword, take_mark, take_named};
-use crate::tree::{Directive, DirectiveName};
+use crate::token::{
+    Stop, mark, name, place, take_begin, take_end, take_keyword, take_mark, take_named,
+};
+use crate::tree::{Directive, DirectiveKind, DirectiveName};
 use crate::word::{begun_by, clause_word, no_word};
 use om_lexer::{FaultCode, Keyword, Punctuator, SourceFault, SourceResult, Span, Token};
 use om_seq::Seq;

@@ -8,8 +8,7 @@ ghost use Rattle.om_pragma.specs.Table.{clauses_of, may_repeat, group_of, same_c
 ghost use Rattle.om_pragma.specs.Views.{seen_kinds};
 
 use crate::clause::{ClauseItem, ClauseKind};
-use crate::kind::DirectiveKind;
-use crate::tree::DirectiveName;
+use crate::tree::{DirectiveKind, DirectiveName};
 use om_lexer::Token;
 
 const NO_CLAUSES: [ClauseKind; 0] = [];

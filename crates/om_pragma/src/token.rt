@@ -1,16 +1,45 @@
-//! The token that stands first, taken from those that are left.
+//! The token that stands first, taken from those that are left, or why reading stops there.
 
 ghost use Rattle.std.specs.Prelude.{◌≡◌, [], option_map};
 ghost use Rattle.om_lexer.specs.declared.token.TokenKind.TheVariants as kinds;
-ghost use Rattle.om_pragma.specs.Reading.{take_first, take_kind, take_chunk, take_end, mark_at, name_at, place, Gets, GetsAlways};
+ghost use Rattle.om_pragma.specs.Reading.{take_first, take_kind, take_chunk, take_end, mark_at, name_at, place, Gets};
+ghost use Rattle.om_pragma.specs.Reading.{GetsAlways};
 ghost use Rattle.om_pragma.specs.Views.{part_and_rest};
 
-use crate::name::{Name, Number};
-use crate::stop::Stop;
+use crate::clause::{Name, Number};
 use crate::word::{is_keyword, is_mark, is_named};
 use om_lexer::{Keyword, Punctuator, Span, Token, TokenKind};
 use om_seq::Seq;
-use std::alloc::Global;
+use std::alloc::{AllocError, AllocFailed, Global};
+
+/// Why the part that was asked for is not read.
+#[derive(Clone, Copy, Drop)]
+pub enum Stop {
+    /// No memory.
+    Memory,
+    /// A token that no such part has there; the byte where it starts.
+    Token(u32),
+}
+
+impl From<AllocError> for Stop {
+    ghost use Rattle.om_pragma.specs.declared.token.Stop.{Stop};
+
+    ghost from_gives = { λ _ stop. stop ≡ Stop.Memory };
+
+    fn from(_error: AllocError) -> Stop {
+        Stop::Memory
+    }
+}
+
+impl<T: Drop> From<AllocFailed<T>> for Stop {
+    ghost use Rattle.om_pragma.specs.declared.token.Stop.{Stop};
+
+    ghost from_gives = { λ _ stop. stop ≡ Stop.Memory };
+
+    fn from(_error: AllocFailed<T>) -> Stop {
+        Stop::Memory
+    }
+}
 
 /// Where the first token starts. None are left only where the end of the run is lacking.
 pub fn place(tokens: &[Token]) -> u32

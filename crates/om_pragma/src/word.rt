@@ -6,7 +6,7 @@ ghost use Rattle.om_pragma.specs.Reading.{all_clauses, reduction_operators, sche
 ghost use Rattle.om_pragma.specs.Words.{same_kind, among, begun_by, clause_word, operator_word, schedule_word, sharing_word};
 
 use crate::clause::{ClauseKind, ReductionOperator, ScheduleKind, Sharing};
-use crate::kind::DirectiveKind;
+use crate::tree::DirectiveKind;
 use om_lexer::{FaultCode, Keyword, Punctuator, SourceFault, Token, TokenKind};
 
 /// The directive that a token is alone, as the first word of its line. A combined directive may go

@@ -4,7 +4,7 @@ use Rattle.om_lexer.specs.declared.fault.SourceFault.{SourceFault}
 use Rattle.om_parser_tree.specs.Tree.{ForStartTree, Nothing, StartExpression, StartDeclaration, StatementTree}
 use Rattle.om_parser_tree.specs.Tree.{StatementsTree, NoStatements}
 use Rattle.om_parser_tree.specs.Tree.{Statement, PartsTree, Part, PartTree}
-use Rattle.om_scope_rules.specs.declared.flow.Flow.{Flow}
+use Rattle.om_scope_rules.specs.declared.region.Flow.{Flow}
 use Rattle.om_scope_rules.specs.declared.region.Region.{Region}
 use Rattle.om_scope_rules.specs.Faults.{first_of}
 use Rattle.om_scope_rules.specs.Outcomes.{Refuses}

@@ -3,7 +3,7 @@ use Rattle.std.proofs.Common.{◌≡◌, List, [], ◌∷◌, ◌++◌, Some}
 use Rattle.om_lexer.specs.declared.fault.SourceFault.{SourceFault}
 use Rattle.om_parser_tree.specs.Tree.{ExpressionTree, StatementTree}
 use Rattle.om_pragma.specs.declared.tree.Directive.{Directive}
-use Rattle.om_scope_rules.specs.declared.flow.Flow.{Flow}
+use Rattle.om_scope_rules.specs.declared.region.Flow.{Flow}
 use Rattle.om_scope_rules.specs.DirectiveRules.{constructing, directive_breaches, in_construct}
 use Rattle.om_scope_rules.specs.Faults.{first_of}
 use Rattle.om_scope_rules.specs.Loops.{Loop}

@@ -1,10 +1,10 @@
 -- What a function's head declares is forgotten behind it.
 use Rattle.std.proofs.Common.{◌≡◌, List, [], ◌∷◌, ◌++◌, Option, None, Some, refl, ap, ◌∙◌}
 use Rattle.om_parser_tree.specs.Tree.{StatementTree}
-use Rattle.om_pragma.specs.declared.name.Name as names
+use Rattle.om_pragma.specs.declared.clause.Name as names
 use Rattle.om_parser_tree.specs.declared.tree.Parameter.{Parameter}
 use Rattle.om_scope_tree.specs.declared.resolved.Variable.TheVariants as variables
-use Rattle.om_scope_rules.specs.declared.meaning.Meaning.TheVariants as meanings
+use Rattle.om_scope_rules.specs.declared.names.Meaning.TheVariants as meanings
 use Rattle.om_scope_rules.specs.declared.region.Region.{Region}
 use Rattle.om_scope_tree.specs.declared.resolved.Shape.TheVariants as shapes
 use Rattle.om_scope_rules.specs.Scopes.{Scope, Scopes, inside, outside, plain, within}

@@ -4,7 +4,7 @@ use Rattle.std.specs.Prelude.{◌≡◌, ℕ, [], Bool, List, Option, Result, So
 use Rattle.std.specs.declared.alloc.Global.{Global}
 use Rattle.om_lexer.specs.declared.fault.SourceFault.{SourceFault}
 use Rattle.om_lexer.specs.declared.token.Span.{Span}
-use Rattle.om_pragma.specs.declared.name.Name as names
+use Rattle.om_pragma.specs.declared.clause.Name as names
 use Rattle.om_pragma.specs.declared.tree.AtomicKind.{AtomicKind}
 use Rattle.om_pragma.specs.declared.tree.Directive.{Directive}
 use Rattle.om_parser_tree.specs.declared.tree.Expression.{Expression}

@@ -8,7 +8,7 @@ use Rattle.om_parser_tree.specs.declared.tree.Expression.{Expression}
 use Rattle.om_parser_tree.specs.View.{view_directive}
 use Rattle.om_scope_tree.specs.declared.resolved.ResolvedClause.{ResolvedClause}
 use Rattle.om_scope_tree.specs.declared.resolved.ResolvedLoop.{ResolvedLoop}
-use Rattle.om_scope_rules.specs.declared.flow.Flow.{Flow}
+use Rattle.om_scope_rules.specs.declared.region.Flow.{Flow}
 use Rattle.om_scope_rules.specs.declared.region.SharingKind.{SharingKind}
 use Rattle.om_scope_rules.specs.Checks.{Checks}
 use Rattle.om_scope_rules.specs.DirectiveRules.{Listed, directive_breaches, in_kind, traits_of}

@@ -3,7 +3,7 @@ use Rattle.std.specs.Prelude.{◌≡◌, [], ◌∷◌, List, OnOk, Option, Resu
 use Rattle.std.specs.declared.alloc.Global.{Global}
 use Rattle.om_lexer.specs.declared.fault.SourceFault.{SourceFault}
 use Rattle.om_lexer.specs.declared.token.Span.{Span}
-use Rattle.om_pragma.specs.declared.name.Name as names
+use Rattle.om_pragma.specs.declared.clause.Name as names
 use Rattle.om_parser_tree.specs.declared.tree.Parameter.{Parameter}
 use Rattle.om_parser_tree.specs.declared.tree.Parameters.{Parameters}
 use Rattle.om_parser_tree.specs.Tree.{FunctionTree}

@@ -4,7 +4,7 @@ use Rattle.std.specs.Prelude.{◌≡◌, ◌++◌, List, OnOk, Option, Result, V
 use Rattle.std.specs.declared.alloc.Global.{Global}
 use Rattle.om_lexer.specs.declared.fault.SourceFault.{SourceFault}
 use Rattle.om_lexer.specs.declared.token.Span.{Span}
-use Rattle.om_pragma.specs.declared.name.Name as names
+use Rattle.om_pragma.specs.declared.clause.Name as names
 use Rattle.om_pragma.specs.declared.tree.Directive.{Directive}
 use Rattle.om_parser_tree.specs.declared.tree.Expression.{Expression}
 use Rattle.om_parser_tree.specs.declared.tree.ForStart.{ForStart}
@@ -26,7 +26,7 @@ use Rattle.om_scope_tree.specs.ResolvedTree as resolved
 use Rattle.om_scope_tree.specs.ResolvedTree.{ResolvedClauseTree, ResolvedPartsTree, ResolvedStatementTree}
 use Rattle.om_scope_tree.specs.ResolvedTree.{ResolvedStatementsTree}
 use Rattle.om_scope_tree.specs.ResolvedView as view
-use Rattle.om_scope_rules.specs.declared.flow.Flow.{Flow}
+use Rattle.om_scope_rules.specs.declared.region.Flow.{Flow}
 use Rattle.om_scope_rules.specs.Checks.{Checks}
 use Rattle.om_scope_rules.specs.DirectiveRules.{in_construct}
 use Rattle.om_scope_rules.specs.Outcomes.{Finds}

@@ -15,7 +15,7 @@ use Rattle.om_scope_tree.specs.declared.resolved.ResolvedStatement.{ResolvedStat
 use Rattle.om_scope_tree.specs.ResolvedTree as resolved
 use Rattle.om_scope_tree.specs.ResolvedTree.{ResolvedExpressionTree}
 use Rattle.om_scope_tree.specs.ResolvedView as view
-use Rattle.om_scope_rules.specs.declared.flow.Flow.{Flow}
+use Rattle.om_scope_rules.specs.declared.region.Flow.{Flow}
 use Rattle.om_scope_rules.specs.DirectiveRules.{flush_breaches}
 use Rattle.om_scope_rules.specs.ExpressionRules.{expression_breaches}
 use Rattle.om_scope_rules.specs.Resolves.{Resolves}

@@ -13,7 +13,7 @@ use Rattle.om_parser_tree.specs.View.{view_directive, view_for_head, view_part, 
 use Rattle.om_scope_tree.specs.declared.resolved.ResolvedPart.{ResolvedPart}
 use Rattle.om_scope_tree.specs.declared.resolved.ResolvedStatement.{ResolvedStatement}
 use Rattle.om_scope_tree.specs.ResolvedView as view
-use Rattle.om_scope_rules.specs.declared.flow.Flow.{Flow}
+use Rattle.om_scope_rules.specs.declared.region.Flow.{Flow}
 use Rattle.om_scope_rules.specs.Loops.{Loop, loop_in}
 use Rattle.om_scope_rules.specs.Resolves.{Resolves}
 use Rattle.om_scope_rules.specs.Scopes.{Scopes, inside}

@@ -4,7 +4,7 @@ use Rattle.om_parser_tree.specs.Tree.{DeclaratorTree, ExpressionTree, StatementT
 use Rattle.om_parser_tree.specs.Tree.{LocalDeclaration, Block, Empty, Expression, If, IfElse, While, Do, For, Return, Break}
 use Rattle.om_parser_tree.specs.Tree.{Continue, Construct, StandAlone, Sections}
 use Rattle.om_scope_tree.specs.declared.resolved.Variable.TheVariants as variables
-use Rattle.om_scope_rules.specs.declared.meaning.Meaning.TheVariants as meanings
+use Rattle.om_scope_rules.specs.declared.names.Meaning.TheVariants as meanings
 use Rattle.om_scope_rules.specs.declared.region.Region.{Region}
 use Rattle.om_scope_rules.specs.Scopes.{Scope, Scopes, within, declarators_of, shape_of, after_locals}
 use Rattle.om_scope_rules.specs.StatementRules.{after_statement, after_statements}

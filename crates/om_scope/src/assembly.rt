@@ -13,7 +13,7 @@ ghost use Rattle.om_scope_rules.specs.Updates.{update_of};
 ghost use Rattle.om_scope.specs.Resolving.{view_body, view_clauses};
 
 use om_lexer::{SourceResult, Span};
-use om_parser_tree::boxed::boxed;
+use om_parser_tree::assembly::boxed;
 use om_parser_tree::{Expression, Name};
 use om_pragma::{
     AtomicKind, Clause, ClauseItem, ClauseKind, Directive, DirectiveName, Schedule, ScheduleKind,

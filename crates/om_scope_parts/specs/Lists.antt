@@ -7,8 +7,8 @@ use Rattle.om_lexer.specs.declared.token.Span.{Span}
 use Rattle.om_pragma.specs.declared.clause.Clause.{Clause}
 use Rattle.om_pragma.specs.declared.clause.ClauseItem.{ClauseItem}
 use Rattle.om_pragma.specs.declared.clause.DataSharing.{DataSharing}
-use Rattle.om_pragma.specs.declared.name.Name as names
-use Rattle.om_pragma.specs.declared.name.NameList.{NameList}
+use Rattle.om_pragma.specs.declared.clause.Name as names
+use Rattle.om_pragma.specs.declared.clause.NameList.{NameList}
 use Rattle.om_pragma.specs.declared.tree.Directive.{Directive}
 use Rattle.om_pragma.specs.Expressions.{map_clause, map_item}
 use Rattle.om_parser_tree.specs.declared.tree.Expression.{Expression}
@@ -18,7 +18,7 @@ use Rattle.om_scope_tree.specs.declared.resolved.ResolvedClause.{ResolvedClause}
 use Rattle.om_scope_tree.specs.declared.resolved.Variable.{Variable}
 use Rattle.om_scope_tree.specs.ResolvedTree.{ResolvedClauseTree}
 use Rattle.om_scope_tree.specs.ResolvedView as view
-use Rattle.om_scope_rules.specs.declared.flow.Flow.{Flow}
+use Rattle.om_scope_rules.specs.declared.region.Flow.{Flow}
 use Rattle.om_scope_rules.specs.Checks.{Checks, ChecksExactly}
 use Rattle.om_scope_rules.specs.DirectiveRules.{Listed, after_item, after_name, after_names, clause_breaches}
 use Rattle.om_scope_rules.specs.DirectiveRules.{directive_breaches, flushed_breaches, item_breaches, list_breaches}

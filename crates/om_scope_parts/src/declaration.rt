@@ -9,8 +9,7 @@ ghost use Rattle.om_scope_parts.specs.Declares.{AddsFurtherLocals, AddsLocalsOf,
 ghost use Rattle.om_scope_parts.specs.Declares.{ResolvesInitial, ResolvesLocal, ResolvesLocals, bare_tree, further_locals};
 ghost use Rattle.om_scope_parts.specs.Declares.{local_name_breaches, local_tree, locals_in};
 
-use crate::expression::{boxed_expression, unboxed};
-use crate::kept::add;
+use crate::expression::{add, boxed_expression, unboxed};
 use om_lexer::{FaultCode, SourceResult, Span};
 use om_parser_tree::{ArrayLength, Declaration, Declarator, Expression, Initializer, Name};
 use om_scope_symbols::{Symbols, refuse_if};

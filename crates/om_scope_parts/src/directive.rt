@@ -14,8 +14,7 @@ ghost use Rattle.om_scope_parts.specs.Lists.{ResolvesDirective, ResolvesFlush, R
 ghost use Rattle.om_scope_parts.specs.Lists.{listed_in, view_clause, view_items};
 
 use crate::declaration::local_of;
-use crate::expression::boxed_expression;
-use crate::kept::add;
+use crate::expression::{add, boxed_expression};
 use om_lexer::{FaultCode, SourceResult};
 use om_parser_tree::{Expression, Name};
 use om_pragma::{Clause, ClauseItem, DataSharing, Directive, DirectiveName, FurtherName, NameList};

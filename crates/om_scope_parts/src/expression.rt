@@ -1,6 +1,6 @@
-//! Expressions: their rules, and the variable of each use.
+//! Expressions: their rules, and the variable of each use. What was found is kept in a box or in a list.
 
-ghost use Rattle.std.specs.Prelude.{◌≡◌, ◌<◌, pos, IfOk, option_map};
+ghost use Rattle.std.specs.Prelude.{◌≡◌, ◌<◌, pos, IfOk, option_map, OnOk, Ok};
 ghost use Rattle.om_scope_tree.specs.ResolvedView as view;
 ghost use Rattle.om_scope_rules.specs.Checks.{ChecksExactly};
 ghost use Rattle.om_scope_rules.specs.ExpressionRules.{constant_breaches};
@@ -10,9 +10,9 @@ ghost use Rattle.om_scope_parts.specs.Expressions.{ResolvesArgument, ResolvesCal
 ghost use Rattle.om_scope_parts.specs.Expressions.{ResolvesPrefix, ResolvesPrint, ResolvesPrinted, ResolvesStep};
 ghost use Rattle.om_scope_parts.specs.Expressions.{ResolvesTarget, ResolvesUnary, ResolvesValues};
 ghost use Rattle.om_scope_parts.specs.Views.{ResolvesExpression, view_boxed};
+ghost use Rattle.om_scope_parts.specs.Keeps.{IsPushed, KeepsRefusals};
 
 use crate::call::{argument_count, call_of, resolve_format};
-use crate::kept::{add, boxed};
 use crate::target::{Target, assigned, is_target, misplaced, stepped};
 use om_lexer::{FaultCode, SourceFault, SourceResult};
 use om_parser_tree::{Argument, AssignOperator, Expression, Name, Number, PrefixOperator};
@@ -335,4 +335,23 @@ fn resolve_values(
         add(&mut resolved, value)?;
     }
     Ok(resolved)
+}
+
+/// What was found, in a box. A refusal stays; S0 is out of memory.
+pub fn boxed<T: Drop>(alloc: Global, found: SourceResult<T>) -> SourceResult<Box<T>>
+    ensures checked { KeepsRefusals found result }
+    ensures kept { IfOk result (λ made. found ≡ Ok made.value) }
+{
+    let item = found?;
+    Ok(Box::new(alloc, item)?)
+}
+
+/// Adds what was found behind the items of a list. A refusal stays; S0 is out of memory.
+pub fn add<T: Drop>(items: &mut Vec<T>, found: SourceResult<T>) -> SourceResult<()>
+    ensures checked { KeepsRefusals found result }
+    ensures added { OnOk result (IsPushed found items.old.items items.new.items) }
+{
+    let item = found?;
+    items.push(item)?;
+    Ok(())
 }

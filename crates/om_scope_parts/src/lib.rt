@@ -20,14 +20,12 @@ mod declaration;
 mod directive;
 mod expression;
 mod globals;
-mod kept;
 mod target;
 
 pub use bounds::{enter_loop, resolve_loop};
 pub use declaration::{check_new, copy_of, local_of, resolve_locals};
 pub use directive::{resolve_directive, resolve_flush};
-pub use expression::{boxed_expression, unboxed};
+pub use expression::{add, boxed, boxed_expression, unboxed};
 pub use globals::declare_globals;
-pub use kept::{add, boxed};
 pub use om_scope_symbols::refuse_if;
 pub use target::misplaced;

@@ -4,7 +4,7 @@ use Rattle.om_lexer.specs.declared.token.Token.{Token}
 use Rattle.om_lexer.specs.declared.token.TokenKind.TheVariants as kinds
 use Rattle.om_lexer.specs.declared.token.Span.{Span}
 use Rattle.om_scope_rules.specs.TreePlaces.{Place, Declared, Begun, AreAmong}
-use Rattle.om_pragma.specs.declared.name.Name as names
+use Rattle.om_pragma.specs.declared.clause.Name as names
 use Rattle.om_scope_rules.specs.StatementResolution.{local_of}
 use Rattle.om_parser_tree.specs.Spelling.{name, token}
 

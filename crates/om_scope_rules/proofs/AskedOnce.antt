@@ -9,7 +9,7 @@ use Rattle.om_pragma.specs.declared.clause.ClauseItem.{ClauseItem}
 use Rattle.om_pragma.specs.declared.clause.ClauseKind.{ClauseKind}
 use Rattle.om_pragma.specs.declared.clause.ValueClause.{ValueClause}
 use Rattle.om_pragma.specs.declared.clause.ValueClause.TheVariants as values
-use Rattle.om_pragma.specs.declared.name.Name as names
+use Rattle.om_pragma.specs.declared.clause.Name as names
 use Rattle.om_pragma.specs.declared.tree.DirectiveName.{DirectiveName}
 use Rattle.om_pragma.specs.Kinds.{directive_kind}
 use Rattle.om_pragma.specs.Spelling.{kind_of, value_kind}

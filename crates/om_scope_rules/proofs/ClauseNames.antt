@@ -9,7 +9,7 @@ use Rattle.om_scope_rules.specs.Behind.{HasNamesBehind, IsNameBehind, listed_nam
 use Rattle.om_pragma.specs.declared.clause.Clause.{Clause}
 use Rattle.om_pragma.specs.declared.clause.Clause.TheVariants as clauses
 use Rattle.om_pragma.specs.declared.clause.ClauseItem.{ClauseItem}
-use Rattle.om_pragma.specs.declared.name.Name as names
+use Rattle.om_pragma.specs.declared.clause.Name as names
 use Rattle.om_pragma.specs.declared.tree.Directive.{Directive}
 use Rattle.om_pragma.specs.Spelling.{argument_spelling, clause_spelling, comma_spelling, directive_spelling}
 use Rattle.om_pragma.specs.Spelling.{further_spelling, item_spelling, list_spelling, name_spelling, names_spelling}

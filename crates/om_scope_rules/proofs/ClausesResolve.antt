@@ -6,20 +6,20 @@ use Rattle.om_pragma.specs.declared.clause.Clause.{Clause}
 use Rattle.om_pragma.specs.declared.clause.Clause.TheVariants as clauses
 use Rattle.om_pragma.specs.declared.clause.DataSharing.{DataSharing}
 use Rattle.om_pragma.specs.declared.clause.DataSharing.TheVariants as lists
-use Rattle.om_pragma.specs.declared.name.Name as names
-use Rattle.om_pragma.specs.declared.name.NameList.{NameList}
+use Rattle.om_pragma.specs.declared.clause.Name as names
+use Rattle.om_pragma.specs.declared.clause.NameList.{NameList}
 use Rattle.om_pragma.specs.declared.tree.Directive.{Directive}
 use Rattle.om_pragma.specs.declared.tree.DirectiveName.{DirectiveName}
 use Rattle.om_pragma.specs.declared.tree.DirectiveName.TheVariants as directives
 use Rattle.om_pragma.specs.Questions.{is_stand_alone}
 use Rattle.om_parser_tree.specs.Tree.{ExpressionTree, InitializerTree, DeclaratorTree, ForStartTree, Nothing, StartExpression}
 use Rattle.om_parser_tree.specs.Tree.{StartDeclaration}
-use Rattle.om_scope_rules.specs.declared.flow.Flow.{Flow}
+use Rattle.om_scope_rules.specs.declared.region.Flow.{Flow}
 use Rattle.om_scope_tree.specs.declared.resolved.CopyKind.{CopyKind}
 use Rattle.om_scope_tree.specs.declared.resolved.CopyKind.TheVariants as copies
 use Rattle.om_scope_tree.specs.declared.resolved.ResolvedSchedule.{ResolvedSchedule}
-use Rattle.om_scope_rules.specs.declared.meaning.Meaning.{Meaning}
-use Rattle.om_scope_rules.specs.declared.meaning.Meaning.TheVariants as meanings
+use Rattle.om_scope_rules.specs.declared.names.Meaning.{Meaning}
+use Rattle.om_scope_rules.specs.declared.names.Meaning.TheVariants as meanings
 use Rattle.om_scope_rules.specs.DirectiveRules.{Listed, nothing_listed, is_listed, after_name, is_variable, is_mislisted}
 use Rattle.om_scope_rules.specs.DirectiveRules.{uses_original, listed_breaches, names_in, names_breaches, clause_breaches}
 use Rattle.om_scope_rules.specs.DirectiveRules.{item_breaches, after_item, directive_breaches, nesting_breaches}

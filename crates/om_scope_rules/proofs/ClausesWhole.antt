@@ -15,7 +15,7 @@ use Rattle.om_pragma.specs.declared.clause.ClauseKind.{ClauseKind}
 use Rattle.om_pragma.specs.declared.clause.DataSharing.{DataSharing}
 use Rattle.om_pragma.specs.declared.clause.DataSharing.TheVariants as lists
 use Rattle.om_pragma.specs.declared.clause.ValueClause.TheVariants as values
-use Rattle.om_pragma.specs.declared.name.Name as names
+use Rattle.om_pragma.specs.declared.clause.Name as names
 use Rattle.om_pragma.specs.declared.tree.Directive.{Directive}
 use Rattle.om_pragma.specs.declared.tree.DirectiveName.{DirectiveName}
 use Rattle.om_pragma.specs.declared.tree.DirectiveName.TheVariants as directives
@@ -32,8 +32,8 @@ use Rattle.om_scope_tree.specs.ResolvedTree as resolved
 use Rattle.om_scope_tree.specs.ResolvedTree.{ResolvedClauseTree}
 use Rattle.om_scope_tree.specs.Whole.{Around, Local, IsInScope, IsWhole, Admitted, of_parallel, of_task, of_worksharing}
 use Rattle.om_scope_tree.specs.Whole.{of_construct, nothing, IsAdmittedCopy, IsShared, IsWholeClause, copies_in}
-use Rattle.om_scope_rules.specs.declared.meaning.Meaning.{Meaning}
-use Rattle.om_scope_rules.specs.declared.meaning.Meaning.TheVariants as meanings
+use Rattle.om_scope_rules.specs.declared.names.Meaning.{Meaning}
+use Rattle.om_scope_rules.specs.declared.names.Meaning.TheVariants as meanings
 use Rattle.om_scope_rules.specs.DirectiveRules.{Listed, nothing_listed, is_listed, copy_of, after_name, after_names}
 use Rattle.om_scope_rules.specs.DirectiveRules.{is_variable, is_mislisted, uses_original, sharing_of, listed_breaches}
 use Rattle.om_scope_rules.specs.DirectiveRules.{names_in, names_breaches, clause_breaches, item_breaches, after_clause}

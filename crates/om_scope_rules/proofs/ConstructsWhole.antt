@@ -5,8 +5,8 @@ use Rattle.std.specs.Prelude.{IfSome}
 use Rattle.std.specs.List.{flat_map}
 use Rattle.std.proofs.lemmas.List.Elements.{All-nil, All-cons}
 use Rattle.om_lexer.specs.declared.token.Span.{Span}
-use Rattle.om_pragma.specs.declared.name.Name as names
-use Rattle.om_pragma.specs.declared.name.NameList.{NameList}
+use Rattle.om_pragma.specs.declared.clause.Name as names
+use Rattle.om_pragma.specs.declared.clause.NameList.{NameList}
 use Rattle.om_pragma.specs.declared.tree.AtomicKind.{AtomicKind}
 use Rattle.om_pragma.specs.declared.tree.AtomicKind.TheVariants as atomics
 use Rattle.om_pragma.specs.declared.tree.Directive.{Directive}

@@ -9,7 +9,7 @@ use Rattle.om_scope_rules.specs.TreePlaces.{AreAmong}
 use Rattle.om_scope_rules.proofs.Steps.{if_then}
 use Rattle.om_scope_rules.proofs.StepsFrom.{if_behind, if_weaker}
 use Rattle.om_scope_rules.specs.TreePlaces.{Declared, declarator_place, start_places}
-use Rattle.om_pragma.specs.declared.name.Name as names
+use Rattle.om_pragma.specs.declared.clause.Name as names
 use Rattle.om_scope_tree.specs.ResolvedTree.{ResolvedDeclaratorTree, ResolvedStartTree}
 use Rattle.om_scope_rules.specs.Resolution.{resolved_expression}
 use Rattle.om_scope_rules.specs.Scopes.{Scopes, after_local, behind_commas, declarators_of, parameters_of}

@@ -7,18 +7,18 @@ use Rattle.std.proofs.lemmas.Bool.Decides.{nat_tests}
 use Rattle.om_lexer.specs.declared.fault.FaultCode.{FaultCode}
 use Rattle.om_lexer.specs.declared.fault.FaultCode.TheVariants as faults
 use Rattle.om_lexer.specs.declared.fault.SourceFault.{SourceFault}
-use Rattle.om_pragma.specs.declared.name.Name as names
+use Rattle.om_pragma.specs.declared.clause.Name as names
 use Rattle.om_scope_tree.specs.declared.resolved.Shape.TheVariants as shapes
 use Rattle.om_scope_tree.specs.Formats.{Piece, Bytes, Value, with_byte, pieces_of, converted, value_count, IsFormat}
 use Rattle.om_scope_tree.specs.ResolvedTree as resolved
 use Rattle.om_scope_tree.specs.ResolvedTree.{ResolvedExpressionTree, ResolvedFunctionTree, ValuesTree}
 use Rattle.om_scope_tree.specs.Whole.{Around, IsInScope, IsCalled, IsWhole, AreWhole, count_of}
-use Rattle.om_scope_rules.specs.declared.reading.Reading.{Reading}
-use Rattle.om_scope_rules.specs.declared.reading.Reading.TheVariants as readings
+use Rattle.om_scope_rules.specs.declared.print.Reading.{Reading}
+use Rattle.om_scope_rules.specs.declared.print.Reading.TheVariants as readings
 use Rattle.om_scope_rules.specs.declared.limits.TheConstants.{PRINTED_LIMIT}
-use Rattle.om_scope_rules.specs.declared.meaning.Meaning.{Meaning}
-use Rattle.om_scope_rules.specs.declared.meaning.Meaning.TheVariants as meanings
-use Rattle.om_scope_rules.specs.declared.meaning.Signature.{Signature}
+use Rattle.om_scope_rules.specs.declared.names.Meaning.{Meaning}
+use Rattle.om_scope_rules.specs.declared.names.Meaning.TheVariants as meanings
+use Rattle.om_scope_rules.specs.declared.names.Signature.{Signature}
 use Rattle.om_scope_rules.specs.ExpressionRules.{undeclared_breaches, is_scalar, is_array, misused_scalar_breaches}
 use Rattle.om_scope_rules.specs.ExpressionRules.{scalar_breaches, misused_array_breaches, array_breaches, unlisted_breaches}
 use Rattle.om_scope_rules.specs.ExpressionRules.{is_miscalled, call_breaches, is_printf, argument_count, is_target, is_print}

@@ -20,8 +20,8 @@ use Rattle.om_parser_tree.specs.Formed.{IsFunction}
 use Rattle.om_parser_tree.specs.Tree.{FunctionTree, ItemTree, Declaration, Prototype, Function}
 use Rattle.om_scope_tree.specs.ResolvedTree.{ResolvedFunctionTree}
 use Rattle.om_scope_tree.specs.Whole.{IsMain, is_main, same_name}
-use Rattle.om_scope_rules.specs.declared.meaning.Meaning.TheVariants as meanings
-use Rattle.om_scope_rules.specs.declared.meaning.Signature.{Signature}
+use Rattle.om_scope_rules.specs.declared.names.Meaning.TheVariants as meanings
+use Rattle.om_scope_rules.specs.declared.names.Signature.{Signature}
 use Rattle.om_scope_rules.specs.Faults.{breach_if}
 use Rattle.om_scope_rules.specs.Knowing.{IsCallee, IsDefinition}
 use Rattle.om_scope_rules.specs.Perhaps.{all_along}

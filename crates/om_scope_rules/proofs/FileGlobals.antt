@@ -15,8 +15,8 @@ use Rattle.om_scope_tree.specs.declared.resolved.GlobalVariable.{GlobalVariable}
 use Rattle.om_scope_tree.specs.declared.resolved.Shape.{Shape}
 use Rattle.om_scope_tree.specs.declared.resolved.Variable.TheVariants as variables
 use Rattle.om_scope_tree.specs.Whole as whole
-use Rattle.om_scope_rules.specs.declared.meaning.Meaning.{Meaning}
-use Rattle.om_scope_rules.specs.declared.meaning.Meaning.TheVariants as meanings
+use Rattle.om_scope_rules.specs.declared.names.Meaning.{Meaning}
+use Rattle.om_scope_rules.specs.declared.names.Meaning.TheVariants as meanings
 use Rattle.om_scope_rules.specs.Scopes.{Binding, Scope, Scopes, is_declared, shape_of, cells_of, signature_of, with_function}
 use Rattle.om_scope_rules.specs.Scopes.{after_global, after_globals, after_prototype, after_function, after_item}
 use Rattle.om_scope_rules.specs.Scopes.{declarators_of}

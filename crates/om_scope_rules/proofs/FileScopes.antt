@@ -9,13 +9,13 @@ use Rattle.std.proofs.lemmas.List.Elements.{All-nil, All-cons, All-append, All-h
 use Rattle.std.proofs.lemmas.Slice.Eq.{bytes_eq-Decides}
 use Rattle.om_lexer.specs.declared.fault.FaultCode.TheVariants as faults
 use Rattle.om_parser_tree.specs.Formed.{IsFunction, IsItem}
-use Rattle.om_pragma.specs.declared.name.Name as names
+use Rattle.om_pragma.specs.declared.clause.Name as names
 use Rattle.om_parser_tree.specs.declared.tree.SignedNumber.{SignedNumber}
 use Rattle.om_parser_tree.specs.Tree.{DeclaratorTree, HeadTree, FunctionTree, ItemTree, Declaration, Prototype, Function}
 use Rattle.om_scope_tree.specs.ResolvedTree.{ResolvedFunctionTree}
-use Rattle.om_scope_rules.specs.declared.meaning.Meaning.{Meaning}
-use Rattle.om_scope_rules.specs.declared.meaning.Meaning.TheVariants as meanings
-use Rattle.om_scope_rules.specs.declared.meaning.Signature.{Signature}
+use Rattle.om_scope_rules.specs.declared.names.Meaning.{Meaning}
+use Rattle.om_scope_rules.specs.declared.names.Meaning.TheVariants as meanings
+use Rattle.om_scope_rules.specs.declared.names.Signature.{Signature}
 use Rattle.om_scope_rules.specs.Faults.{breach_if}
 use Rattle.om_scope_rules.specs.Perhaps.{all_along}
 use Rattle.om_scope_rules.specs.Scopes.{Binding, Scope, Scopes, is_declared, signature_of, signature_eq, with_function}

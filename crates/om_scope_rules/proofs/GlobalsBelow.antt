@@ -8,7 +8,7 @@ use Rattle.om_pragma.specs.declared.clause.Clause.TheVariants as clauses
 use Rattle.om_pragma.specs.declared.clause.ClauseItem.{ClauseItem}
 use Rattle.om_pragma.specs.declared.clause.DataSharing.{DataSharing}
 use Rattle.om_pragma.specs.declared.clause.DataSharing.TheVariants as lists
-use Rattle.om_pragma.specs.declared.name.Name as names
+use Rattle.om_pragma.specs.declared.clause.Name as names
 use Rattle.om_pragma.specs.declared.tree.Directive.{Directive}
 use Rattle.om_parser_tree.specs.declared.tree.Parameter.{Parameter}
 use Rattle.om_parser_tree.specs.Tree.{ExpressionTree, DeclaratorTree, ForStartTree, Nothing, StartExpression, StartDeclaration}
@@ -16,8 +16,8 @@ use Rattle.om_parser_tree.specs.Tree.{StatementTree, LocalDeclaration, Block, Em
 use Rattle.om_parser_tree.specs.Tree.{Return, Break, Continue, Construct, StandAlone, Sections, HeadTree}
 use Rattle.om_scope_tree.specs.declared.resolved.Variable.{Variable}
 use Rattle.om_scope_tree.specs.declared.resolved.Variable.TheVariants as variables
-use Rattle.om_scope_rules.specs.declared.meaning.Meaning.{Meaning}
-use Rattle.om_scope_rules.specs.declared.meaning.Meaning.TheVariants as meanings
+use Rattle.om_scope_rules.specs.declared.names.Meaning.{Meaning}
+use Rattle.om_scope_rules.specs.declared.names.Meaning.TheVariants as meanings
 use Rattle.om_scope_rules.specs.declared.region.Region.{Region}
 use Rattle.om_scope_tree.specs.declared.resolved.Shape.{Shape}
 use Rattle.om_scope_rules.specs.DirectiveRules.{Listed, nothing_listed, names_in, copy_of, after_name, after_names}

@@ -4,15 +4,15 @@ use Rattle.std.specs.Prelude.{IfSome, Contains}
 use Rattle.std.specs.Map.{lookup}
 use Rattle.std.specs.Str.{bytes_eq}
 use Rattle.std.proofs.lemmas.List.Elements.{Contains-append_left, Contains-append_right}
-use Rattle.om_pragma.specs.declared.name.Name as names
+use Rattle.om_pragma.specs.declared.clause.Name as names
 use Rattle.om_scope_tree.specs.declared.resolved.GlobalVariable.{GlobalVariable}
 use Rattle.om_scope_tree.specs.declared.resolved.Shape.{Shape}
 use Rattle.om_scope_tree.specs.declared.resolved.Variable as variables
 use Rattle.om_scope_tree.specs.declared.resolved.Variable.TheVariants as named
 use Rattle.om_scope_tree.specs.ResolvedTree.{ResolvedFunctionTree}
 use Rattle.om_scope_tree.specs.Whole.{Local, IsAmong}
-use Rattle.om_scope_rules.specs.declared.meaning.Meaning.{Meaning}
-use Rattle.om_scope_rules.specs.declared.meaning.Meaning.TheVariants as meanings
+use Rattle.om_scope_rules.specs.declared.names.Meaning.{Meaning}
+use Rattle.om_scope_rules.specs.declared.names.Meaning.TheVariants as meanings
 use Rattle.om_scope_rules.specs.declared.region.Region.{Region}
 use Rattle.om_scope_rules.specs.Knowing.{IsThere, Known}
 use Rattle.om_scope_rules.specs.Scopes.{Binding, Scope, Scopes, meaning_outside, meaning_of, with_local, within, plain}

@@ -8,10 +8,10 @@ use Rattle.om_scope_rules.specs.TreePlaces.{AreAmong}
 use Rattle.om_scope_rules.proofs.Steps.{if_either, if_then}
 use Rattle.om_scope_rules.proofs.StepsFrom.{if_behind, if_weaker}
 use Rattle.om_scope_rules.specs.TreePlaces.{Declared}
-use Rattle.om_pragma.specs.declared.name.Name as names
+use Rattle.om_pragma.specs.declared.clause.Name as names
 use Rattle.om_scope_tree.specs.declared.resolved.ResolvedSchedule.{ResolvedSchedule}
 use Rattle.om_scope_tree.specs.ResolvedTree.{ResolvedLoopTree}
-use Rattle.om_scope_rules.specs.declared.direction.Step.{Step}
+use Rattle.om_scope_rules.specs.declared.canonical.Step.{Step}
 use Rattle.om_scope_rules.specs.Loops.{Bound, Loop, LoopStart, assigned_start, bound_of, declared_start, initialized_start}
 use Rattle.om_scope_rules.specs.Loops.{loop_of, loop_to, name_in, same_direction, set_start, start_of, step_in}
 use Rattle.om_scope_rules.specs.Resolution.{resolved_expression}

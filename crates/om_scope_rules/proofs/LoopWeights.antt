@@ -3,7 +3,7 @@ use Rattle.std.proofs.Common.{◌≡◌, ℕ, ◌+◌, ◌≤◌, List, [], ◌�
 use Rattle.std.specs.Prelude.{IfSome}
 use Rattle.om_lexer.specs.declared.token.Span.{Span}
 use Rattle.om_lexer.specs.declared.token.Token.{Token}
-use Rattle.om_pragma.specs.declared.name.Name as names
+use Rattle.om_pragma.specs.declared.clause.Name as names
 use Rattle.om_scope_tree.specs.declared.resolved.ResolvedSchedule.{ResolvedSchedule}
 use Rattle.om_scope_tree.specs.ResolvedTree.{ResolvedLoopTree}
 use Rattle.om_scope_tree.specs.Weights.{expression_weight, loop_weight}
@@ -12,7 +12,7 @@ use Rattle.om_scope_rules.proofs.ExpressionWeights.{ExpressionFits, expression_f
 use Rattle.om_scope_rules.proofs.Fitting.{Fits, nothing, further, behind, before, itself, lighter, within}
 use Rattle.om_scope_rules.proofs.Steps.{if_either, if_then}
 use Rattle.om_scope_rules.proofs.StepsFrom.{if_behind, if_weaker}
-use Rattle.om_scope_rules.specs.declared.direction.Step.{Step}
+use Rattle.om_scope_rules.specs.declared.canonical.Step.{Step}
 use Rattle.om_scope_rules.specs.Loops.{Bound, Loop, LoopStart, assigned_start, bound_of, compared, comparison_direction}
 use Rattle.om_scope_rules.specs.Loops.{declared_start, initialized_start, is_named, loop_of, loop_to, name_in, same_direction}
 use Rattle.om_scope_rules.specs.Loops.{set_start, start_of, step_in}

@@ -7,7 +7,7 @@ use Rattle.std.proofs.lemmas.Bool.Decides.{nat_tests}
 use Rattle.om_pragma.specs.declared.clause.Clause.{Clause}
 use Rattle.om_pragma.specs.declared.clause.Clause.TheVariants as clauses
 use Rattle.om_pragma.specs.declared.clause.ClauseItem.{ClauseItem}
-use Rattle.om_pragma.specs.declared.name.Number.{Number}
+use Rattle.om_pragma.specs.declared.clause.Number.{Number}
 use Rattle.om_pragma.specs.declared.tree.Directive.{Directive}
 use Rattle.om_pragma.specs.declared.tree.DirectiveName.{DirectiveName}
 use Rattle.om_pragma.specs.Table.{IsChunk, IsClause, IsItem, EachBehind, IsDirective}
@@ -16,9 +16,9 @@ use Rattle.om_scope_tree.specs.declared.resolved.ResolvedSchedule.{ResolvedSched
 use Rattle.om_scope_tree.specs.declared.resolved.Shape.TheVariants as shapes
 use Rattle.om_scope_tree.specs.ResolvedTree.{ResolvedLoopTree}
 use Rattle.om_scope_tree.specs.Whole.{Around, IsWhole, IsStep, IsWholeLoop, scalar, with_locals}
-use Rattle.om_scope_rules.specs.declared.direction.Direction.{Direction}
-use Rattle.om_scope_rules.specs.declared.direction.Direction.TheVariants as directions
-use Rattle.om_scope_rules.specs.declared.direction.Step.{Step}
+use Rattle.om_scope_rules.specs.declared.canonical.Direction.{Direction}
+use Rattle.om_scope_rules.specs.declared.canonical.Direction.TheVariants as directions
+use Rattle.om_scope_rules.specs.declared.canonical.Step.{Step}
 use Rattle.om_scope_rules.specs.ExpressionRules.{expression_breaches}
 use Rattle.om_scope_rules.specs.Knowing.{Knows}
 use Rattle.om_scope_rules.specs.Loops.{is_named, signed, one_step, step_of, stride_in, LoopStart, Bound, bounded}

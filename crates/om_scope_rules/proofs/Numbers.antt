@@ -12,8 +12,8 @@ use Rattle.om_parser_tree.specs.declared.tree.SignedNumber.{SignedNumber}
 use Rattle.om_parser_tree.specs.Tree.{DeclaratorTree, HeadTree, ItemTree, Declaration, Prototype, Function}
 use Rattle.om_scope_tree.specs.declared.resolved.GlobalVariable.{GlobalVariable}
 use Rattle.om_scope_tree.specs.declared.resolved.Variable.TheVariants as variables
-use Rattle.om_scope_rules.specs.declared.meaning.Meaning.{Meaning}
-use Rattle.om_scope_rules.specs.declared.meaning.Meaning.TheVariants as meanings
+use Rattle.om_scope_rules.specs.declared.names.Meaning.{Meaning}
+use Rattle.om_scope_rules.specs.declared.names.Meaning.TheVariants as meanings
 use Rattle.om_scope_rules.specs.WholeLaws.{NumbersNameGlobals}
 use Rattle.om_scope_rules.specs.Scopes.{Binding, Scope, Scopes, file_scope, definitions_of, meaning_of, meaning_outside}
 use Rattle.om_scope_rules.specs.Scopes.{is_declared, shape_of, signature_of, with_function, after_global, after_globals}

@@ -6,7 +6,7 @@ use Rattle.om_lexer.specs.declared.fault.FaultCode.TheVariants as faults
 use Rattle.om_pragma.specs.declared.tree.Directive.{Directive}
 use Rattle.om_scope_tree.specs.ResolvedTree.{ResolvedPartsTree}
 use Rattle.om_scope_tree.specs.Whole.{part_count}
-use Rattle.om_scope_rules.specs.declared.flow.Flow.{Flow}
+use Rattle.om_scope_rules.specs.declared.region.Flow.{Flow}
 use Rattle.om_scope_rules.specs.declared.limits.TheConstants.{SECTION_LIMIT}
 use Rattle.om_scope_rules.specs.Scopes.{Scopes, inside}
 use Rattle.om_scope_rules.specs.StatementResolution.{resolved_parts, resolved_statements}

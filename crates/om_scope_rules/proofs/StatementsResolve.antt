@@ -10,7 +10,7 @@ use Rattle.om_parser_tree.specs.Sizes.{HasForms, HaveForms}
 use Rattle.om_parser_tree.specs.Tree.{ExpressionTree, StatementTree, LocalDeclaration, Block, Empty, Expression, If, IfElse}
 use Rattle.om_parser_tree.specs.Tree.{While, Do, For, Return, Break, Continue, Construct, StandAlone, Sections}
 use Rattle.om_parser_tree.specs.Tree.{StatementsTree, NoStatements, Statement, PartsTree, NoParts, Part}
-use Rattle.om_scope_rules.specs.declared.flow.Flow.{Flow}
+use Rattle.om_scope_rules.specs.declared.region.Flow.{Flow}
 use Rattle.om_scope_rules.specs.DirectiveRules.{constructing, directive_breaches, flush_breaches, in_construct, parallel_in}
 use Rattle.om_scope_rules.specs.DirectiveRules.{traits_of}
 use Rattle.om_scope_rules.specs.ExpressionRules.{expression_breaches}

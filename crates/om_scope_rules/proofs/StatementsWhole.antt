@@ -9,7 +9,7 @@ use Rattle.om_scope_tree.specs.ResolvedTree.{ResolvedLoopTree, ResolvedStartTree
 use Rattle.om_scope_tree.specs.Whole as whole
 use Rattle.om_scope_tree.specs.Whole.{Around, IsWhole, IsWholeIfAny, AreWholeDeclarators, declared, after_declarators}
 use Rattle.om_scope_tree.specs.Whole.{IsWholeStart, after_start, IsWholeReturn, repeated, within, iterated, after_item}
-use Rattle.om_scope_rules.specs.declared.flow.Flow.{Flow}
+use Rattle.om_scope_rules.specs.declared.region.Flow.{Flow}
 use Rattle.om_pragma.specs.declared.tree.Directive.{Directive}
 use Rattle.om_scope_rules.specs.DirectiveRules.{constructing}
 use Rattle.om_scope_rules.specs.ExpressionRules.{expression_breaches, misplaced_breaches}

@@ -19,7 +19,7 @@ use Rattle.om_scope_tree.specs.Whole.{Around, IsWhole, IsWholeIfAny, IsWholeClau
 use Rattle.om_scope_tree.specs.Whole.{of_worksharing, copies_in, scalar, within, with_locals, iterated, repeated}
 use Rattle.om_scope_tree.specs.Whole.{after_start, after_item, part_count, IsWholeStatement, AreWholeItems, AreWholeParts}
 use Rattle.om_scope_tree.specs.Whole.{HasItem}
-use Rattle.om_scope_rules.specs.declared.flow.Flow.{Flow}
+use Rattle.om_scope_rules.specs.declared.region.Flow.{Flow}
 use Rattle.om_scope_rules.specs.DirectiveRules.{constructing, parallel_in, nesting_breaches, nothing_listed, item_breaches}
 use Rattle.om_scope_rules.specs.DirectiveRules.{directive_breaches, flush_breaches, in_construct, traits_of}
 use Rattle.om_scope_rules.specs.DirectiveRules as directives

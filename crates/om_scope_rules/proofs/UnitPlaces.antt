@@ -10,7 +10,7 @@ use Rattle.om_scope_rules.proofs.DeclaredPlaces.{parameters_among}
 use Rattle.om_scope_rules.proofs.StatementPlaces.{AllAmong, statements_among}
 use Rattle.om_scope_rules.proofs.Steps.{if_then}
 use Rattle.om_scope_rules.specs.TreePlaces.{Place, Declared, function_places, statements_places, tree_places}
-use Rattle.om_pragma.specs.declared.name.Name as names
+use Rattle.om_pragma.specs.declared.clause.Name as names
 use Rattle.om_scope_tree.specs.ResolvedTree.{ResolvedFunctionTree, ResolvedTree}
 use Rattle.om_scope_rules.specs.Perhaps.{all_along}
 use Rattle.om_scope_rules.specs.Scopes.{Scopes, after_function, after_item, after_parameters, definitions_of, file_scope}

@@ -8,7 +8,7 @@ use Rattle.std.specs.Str.{bytes_eq}
 use Rattle.std.proofs.lemmas.Bool.Decides.{nat_tests}
 use Rattle.std.proofs.lemmas.List.{length-map}
 use Rattle.om_lexer.specs.declared.fault.FaultCode.TheVariants as faults
-use Rattle.om_pragma.specs.declared.name.Name as names
+use Rattle.om_pragma.specs.declared.clause.Name as names
 use Rattle.om_parser_tree.specs.declared.tree.Parameter.{Parameter}
 use Rattle.om_parser_tree.specs.Formed.{IsFunction, IsUnit}
 use Rattle.om_parser_tree.specs.Tree.{statements, FunctionTree, ItemTree, UnitTree}
@@ -18,8 +18,8 @@ use Rattle.om_scope_tree.specs.declared.resolved.Variable.TheVariants as variabl
 use Rattle.om_scope_tree.specs.ResolvedTree.{ResolvedFunctionTree}
 use Rattle.om_scope_tree.specs.Whole.{Around, AreWholeItems, IsMain, IsWholeFunction, IsWholeTree, Local, is_main, scalar}
 use Rattle.om_scope_rules.specs.declared.limits.TheConstants.{PARAMETER_LIMIT}
-use Rattle.om_scope_rules.specs.declared.meaning.Meaning.{Meaning}
-use Rattle.om_scope_rules.specs.declared.meaning.Meaning.TheVariants as meanings
+use Rattle.om_scope_rules.specs.declared.names.Meaning.{Meaning}
+use Rattle.om_scope_rules.specs.declared.names.Meaning.TheVariants as meanings
 use Rattle.om_scope_rules.specs.Breaches.{breaches_of, main_breaches, rule_breaches}
 use Rattle.om_scope_rules.specs.Faults.{breaches_along}
 use Rattle.om_scope_rules.specs.Knowing.{Agrees, IsThere, Known}

@@ -10,7 +10,7 @@ use Rattle.om_lexer.specs.declared.fault.FaultCode.TheVariants as faults
 use Rattle.om_parser_tree.specs.declared.tree.SignedNumber.{SignedNumber}
 use Rattle.om_parser_tree.specs.Tree.{statements, DeclaratorTree, HeadTree, FunctionTree, ItemTree, Declaration, Prototype}
 use Rattle.om_parser_tree.specs.Tree.{Function, UnitTree}
-use Rattle.om_scope_rules.specs.declared.meaning.Meaning.TheVariants as meanings
+use Rattle.om_scope_rules.specs.declared.names.Meaning.TheVariants as meanings
 use Rattle.om_scope_tree.specs.declared.resolved.Variable.TheVariants as variables
 use Rattle.om_scope_rules.specs.Breaches.{breaches_of, is_main, main_breaches, rule_breaches}
 use Rattle.om_scope_rules.specs.Faults.{breach_if}

@@ -2,7 +2,7 @@
 use Rattle.std.specs.Prelude.{ℕ, ◌≤◌, List, [], Option, Some, None, All}
 use Rattle.om_pragma.specs.declared.clause.Clause.{Clause}
 use Rattle.om_pragma.specs.declared.clause.Clause.TheVariants as clauses
-use Rattle.om_pragma.specs.declared.name.Name as names
+use Rattle.om_pragma.specs.declared.clause.Name as names
 use Rattle.om_pragma.specs.declared.tree.Directive.{Directive}
 use Rattle.om_scope_rules.specs.DirectiveRules.{names_in}
 use Rattle.om_parser_tree.specs.Tree.{StatementTree, LocalDeclaration, Block, Empty, Expression, If, IfElse, While, Do, For}

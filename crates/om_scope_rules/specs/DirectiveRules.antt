@@ -12,19 +12,19 @@ use Rattle.om_pragma.specs.declared.clause.ClauseItem.{ClauseItem}
 use Rattle.om_pragma.specs.declared.clause.DataSharing.{DataSharing}
 use Rattle.om_pragma.specs.declared.clause.DataSharing.TheVariants as lists
 use Rattle.om_pragma.specs.declared.clause.Sharing.{Sharing}
-use Rattle.om_pragma.specs.declared.name.Name as names
-use Rattle.om_pragma.specs.declared.name.NameList.{NameList}
+use Rattle.om_pragma.specs.declared.clause.Name as names
+use Rattle.om_pragma.specs.declared.clause.NameList.{NameList}
 use Rattle.om_pragma.specs.declared.tree.Directive.{Directive}
 use Rattle.om_pragma.specs.declared.tree.DirectiveName.{DirectiveName}
 use Rattle.om_pragma.specs.declared.tree.DirectiveName.TheVariants as directives
 use Rattle.om_pragma.specs.Questions.{word_span}
 use Rattle.om_parser_tree.specs.Tree.{ExpressionTree}
-use Rattle.om_scope_rules.specs.declared.traits.Inside.{Inside}
-use Rattle.om_scope_rules.specs.declared.traits.Inside.TheVariants as insides
-use Rattle.om_scope_rules.specs.declared.traits.Traits.{Traits}
-use Rattle.om_scope_rules.specs.declared.flow.Flow.{Flow}
-use Rattle.om_scope_rules.specs.declared.meaning.Meaning.{Meaning}
-use Rattle.om_scope_rules.specs.declared.meaning.Meaning.TheVariants as meanings
+use Rattle.om_scope_rules.specs.declared.region.Inside.{Inside}
+use Rattle.om_scope_rules.specs.declared.region.Inside.TheVariants as insides
+use Rattle.om_scope_rules.specs.declared.region.Traits.{Traits}
+use Rattle.om_scope_rules.specs.declared.region.Flow.{Flow}
+use Rattle.om_scope_rules.specs.declared.names.Meaning.{Meaning}
+use Rattle.om_scope_rules.specs.declared.names.Meaning.TheVariants as meanings
 use Rattle.om_scope_rules.specs.declared.region.SharingKind.{SharingKind}
 use Rattle.om_scope_rules.specs.declared.region.SharingKind.TheVariants as regions
 use Rattle.om_scope_tree.specs.declared.resolved.Shape.TheVariants as shapes

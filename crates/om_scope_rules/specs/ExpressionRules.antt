@@ -4,14 +4,14 @@ use Rattle.std.specs.Prelude.{nat_eq, if◌then◌else◌, not, ◌&&◌, ◌||�
 use Rattle.std.specs.Str.{bytes_eq}
 use Rattle.om_lexer.specs.declared.fault.FaultCode.TheVariants as faults
 use Rattle.om_lexer.specs.declared.fault.SourceFault.{SourceFault}
-use Rattle.om_pragma.specs.declared.name.Name as names
-use Rattle.om_pragma.specs.declared.name.Number.{Number}
+use Rattle.om_pragma.specs.declared.clause.Name as names
+use Rattle.om_pragma.specs.declared.clause.Number.{Number}
 use Rattle.om_parser_tree.specs.declared.tree.PrefixOperator.{PrefixOperator}
 use Rattle.om_parser_tree.specs.declared.tree.PrefixOperator.TheVariants as prefixes
 use Rattle.om_parser_tree.specs.Tree.{ExpressionTree, Name, Constant, Text, Paren, Index, Call, Prefix, Postfix, Binary}
 use Rattle.om_parser_tree.specs.Tree.{Conditional, Assign, ArgumentsTree, NoArguments, Argument}
-use Rattle.om_scope_rules.specs.declared.meaning.Meaning.{Meaning}
-use Rattle.om_scope_rules.specs.declared.meaning.Meaning.TheVariants as meanings
+use Rattle.om_scope_rules.specs.declared.names.Meaning.{Meaning}
+use Rattle.om_scope_rules.specs.declared.names.Meaning.TheVariants as meanings
 use Rattle.om_scope_tree.specs.declared.resolved.Shape.TheVariants as shapes
 use Rattle.om_scope_rules.specs.Faults.{breach_if, perhaps_with}
 use Rattle.om_scope_rules.specs.declared.limits.TheConstants.{PRINTED_LIMIT}

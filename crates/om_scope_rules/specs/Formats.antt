@@ -2,8 +2,8 @@
 use Rattle.std.specs.Prelude.{ℕ, ◌-◌, ◌==◌, List, Bool, false, fold, if◌then◌else◌}
 use Rattle.om_parser_tree.specs.Tree.{ExpressionTree, Name, Constant, Text, Paren, Index, Call, Prefix, Postfix, Binary}
 use Rattle.om_parser_tree.specs.Tree.{Conditional, Assign}
-use Rattle.om_scope_rules.specs.declared.reading.Reading.{Reading}
-use Rattle.om_scope_rules.specs.declared.reading.Reading.TheVariants as readings
+use Rattle.om_scope_rules.specs.declared.print.Reading.{Reading}
+use Rattle.om_scope_rules.specs.declared.print.Reading.TheVariants as readings
 
 -- `%d`, where so many values are left
 abbrev pub with_value : ℕ → Reading

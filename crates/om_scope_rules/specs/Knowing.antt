@@ -5,10 +5,10 @@ use Rattle.std.specs.Str.{bytes_eq}
 use Rattle.om_scope_tree.specs.declared.resolved.GlobalVariable.{GlobalVariable}
 use Rattle.om_scope_tree.specs.ResolvedTree.{ResolvedFunctionTree}
 use Rattle.om_scope_tree.specs.Whole.{Around, Local, IsAmong}
-use Rattle.om_scope_rules.specs.declared.flow.Flow.{Flow}
-use Rattle.om_scope_rules.specs.declared.meaning.Meaning.{Meaning}
-use Rattle.om_scope_rules.specs.declared.meaning.Meaning.TheVariants as meanings
-use Rattle.om_scope_rules.specs.declared.meaning.Signature.{Signature}
+use Rattle.om_scope_rules.specs.declared.region.Flow.{Flow}
+use Rattle.om_scope_rules.specs.declared.names.Meaning.{Meaning}
+use Rattle.om_scope_rules.specs.declared.names.Meaning.TheVariants as meanings
+use Rattle.om_scope_rules.specs.declared.names.Signature.{Signature}
 use Rattle.om_scope_rules.specs.Scopes.{Scopes, meaning_outside}
 
 -- the function of a name that has this signature

@@ -1,7 +1,7 @@
 -- Parts of a loop as trees.
 use Rattle.std.specs.Prelude.{◌≡◌, List, Option, map, option_map}
 use Rattle.om_lexer.specs.declared.token.Span.{Span}
-use Rattle.om_pragma.specs.declared.name.Name as names
+use Rattle.om_pragma.specs.declared.clause.Name as names
 use Rattle.om_parser_tree.specs.declared.tree.ArrayLength.{ArrayLength}
 use Rattle.om_parser_tree.specs.declared.tree.Declarator.{Declarator}
 use Rattle.om_parser_tree.specs.declared.tree.Expression.{Expression}

@@ -5,7 +5,7 @@ use Rattle.std.specs.Prelude.{ℕ, ℤ, pos, ◌-ℤ◌, List, [], ◌∷◌, Op
 use Rattle.std.specs.Prelude.{nat_le, if◌then◌else◌}
 use Rattle.std.specs.Str.{bytes_eq}
 use Rattle.om_lexer.specs.declared.token.Span.{Span}
-use Rattle.om_pragma.specs.declared.name.Name as names
+use Rattle.om_pragma.specs.declared.clause.Name as names
 use Rattle.om_parser_tree.specs.declared.tree.ArrayLength.{ArrayLength}
 use Rattle.om_parser_tree.specs.declared.tree.AssignOperator.{AssignOperator}
 use Rattle.om_parser_tree.specs.declared.tree.AssignOperator.TheVariants as assigns
@@ -20,9 +20,9 @@ use Rattle.om_parser_tree.specs.Tree.{Conditional, Assign, InitializerTree, Decl
 use Rattle.om_parser_tree.specs.Tree.{StartExpression, StartDeclaration, ForHeadTree, StatementTree, LocalDeclaration, Block}
 use Rattle.om_parser_tree.specs.Tree.{Empty, Expression, If, IfElse, While, Do, For, Return, Break, Continue, Construct}
 use Rattle.om_parser_tree.specs.Tree.{StandAlone, Sections}
-use Rattle.om_scope_rules.specs.declared.direction.Direction.{Direction}
-use Rattle.om_scope_rules.specs.declared.direction.Direction.TheVariants as directions
-use Rattle.om_scope_rules.specs.declared.direction.Step.{Step}
+use Rattle.om_scope_rules.specs.declared.canonical.Direction.{Direction}
+use Rattle.om_scope_rules.specs.declared.canonical.Direction.TheVariants as directions
+use Rattle.om_scope_rules.specs.declared.canonical.Step.{Step}
 use Rattle.om_scope_rules.specs.Perhaps.{◌>>=◌}
 
 -- the name that an expression is

@@ -9,11 +9,11 @@ use Rattle.om_parser_tree.specs.declared.tree.PrefixOperator.{PrefixOperator}
 use Rattle.om_parser_tree.specs.declared.tree.PrefixOperator.TheVariants as prefixes
 use Rattle.om_parser_tree.specs.Tree.{ExpressionTree, Name, Constant, Text, Paren, Index, Call, Prefix, Postfix, Binary}
 use Rattle.om_parser_tree.specs.Tree.{Conditional, Assign, ArgumentsTree, NoArguments, Argument}
-use Rattle.om_pragma.specs.declared.name.Name as names
+use Rattle.om_pragma.specs.declared.clause.Name as names
 use Rattle.om_scope_tree.specs.declared.resolved.UnaryOperator.TheVariants as unaries
 use Rattle.om_scope_tree.specs.declared.resolved.Variable.{Variable}
-use Rattle.om_scope_rules.specs.declared.meaning.Meaning.{Meaning}
-use Rattle.om_scope_rules.specs.declared.meaning.Meaning.TheVariants as meanings
+use Rattle.om_scope_rules.specs.declared.names.Meaning.{Meaning}
+use Rattle.om_scope_rules.specs.declared.names.Meaning.TheVariants as meanings
 use Rattle.om_scope_rules.specs.ExpressionRules.{is_printf}
 use Rattle.om_scope_rules.specs.Perhaps.{◌>>=◌}
 use Rattle.om_scope_tree.specs.ResolvedTree as resolved

@@ -7,7 +7,7 @@ use Rattle.std.specs.Str.{bytes_eq}
 use Rattle.std.specs.declared.alloc.Global.{Global}
 use Rattle.om_lexer.specs.declared.token.Span.{Span}
 use Rattle.om_parser_tree.specs.declared.tree.ArrayLength.{ArrayLength}
-use Rattle.om_pragma.specs.declared.name.Name as names
+use Rattle.om_pragma.specs.declared.clause.Name as names
 use Rattle.om_parser_tree.specs.declared.tree.Parameter.{Parameter}
 use Rattle.om_parser_tree.specs.declared.tree.ResultType.{ResultType}
 use Rattle.om_parser_tree.specs.declared.tree.ResultType.TheVariants as results
@@ -15,13 +15,13 @@ use Rattle.om_parser_tree.specs.declared.tree.SignedNumber.{SignedNumber}
 use Rattle.om_parser_tree.specs.Tree.{DeclaratorTree, DeclarationTree, ParametersTree, NoParameters, Void, Listed, HeadTree}
 use Rattle.om_parser_tree.specs.Tree.{ExpressionTree, ItemTree, Declaration, Prototype, Function}
 use Rattle.om_scope_tree.specs.declared.resolved.Variable.TheVariants as variables
-use Rattle.om_scope_rules.specs.declared.meaning.Meaning.{Meaning}
-use Rattle.om_scope_rules.specs.declared.meaning.Meaning.TheVariants as meanings
+use Rattle.om_scope_rules.specs.declared.names.Meaning.{Meaning}
+use Rattle.om_scope_rules.specs.declared.names.Meaning.TheVariants as meanings
 use Rattle.om_scope_rules.specs.declared.region.Region.{Region}
 use Rattle.om_scope_rules.specs.declared.region.SharingKind.TheVariants as regions
 use Rattle.om_scope_tree.specs.declared.resolved.Shape.{Shape}
 use Rattle.om_scope_tree.specs.declared.resolved.Shape.TheVariants as shapes
-use Rattle.om_scope_rules.specs.declared.meaning.Signature.{Signature}
+use Rattle.om_scope_rules.specs.declared.names.Signature.{Signature}
 pub use Rattle.om_scope_rules.specs.NameLists.{same_name, with_name}
 
 -- a name, and what it is declared as

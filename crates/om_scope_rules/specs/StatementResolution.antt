@@ -14,8 +14,8 @@ use Rattle.om_pragma.specs.declared.clause.DataSharing.{DataSharing}
 use Rattle.om_pragma.specs.declared.clause.DataSharing.TheVariants as lists
 use Rattle.om_pragma.specs.declared.clause.Schedule as schedules
 use Rattle.om_pragma.specs.declared.clause.ScheduleKind.TheVariants as ways
-use Rattle.om_pragma.specs.declared.name.Name as names
-use Rattle.om_pragma.specs.declared.name.NameList.{NameList}
+use Rattle.om_pragma.specs.declared.clause.Name as names
+use Rattle.om_pragma.specs.declared.clause.NameList.{NameList}
 use Rattle.om_pragma.specs.declared.tree.AtomicKind.{AtomicKind}
 use Rattle.om_pragma.specs.declared.tree.AtomicKind.TheVariants as atomics
 use Rattle.om_pragma.specs.declared.tree.Directive.{Directive}

@@ -4,13 +4,13 @@ use Rattle.std.specs.Prelude.{if◌then◌else◌, is_some, fold}
 use Rattle.om_lexer.specs.declared.fault.FaultCode.TheVariants as faults
 use Rattle.om_lexer.specs.declared.fault.SourceFault.{SourceFault}
 use Rattle.om_parser_tree.specs.declared.tree.ArrayLength.{ArrayLength}
-use Rattle.om_pragma.specs.declared.name.Name as names
+use Rattle.om_pragma.specs.declared.clause.Name as names
 use Rattle.om_parser_tree.specs.Tree.{ExpressionTree, InitializerTree, DeclaratorTree, ForStartTree, Nothing, StartExpression}
 use Rattle.om_parser_tree.specs.Tree.{StartDeclaration, ForHeadTree, StatementTree, LocalDeclaration, Block, Empty, Expression}
 use Rattle.om_parser_tree.specs.Tree.{If, IfElse, While, Do, For, Return, Break, Continue, Construct, StandAlone, Sections}
 use Rattle.om_parser_tree.specs.Tree.{StatementsTree, NoStatements, Statement, PartsTree, NoParts, Part, PartTree}
 use Rattle.om_pragma.specs.declared.tree.Directive.{Directive}
-use Rattle.om_scope_rules.specs.declared.flow.Flow.{Flow}
+use Rattle.om_scope_rules.specs.declared.region.Flow.{Flow}
 use Rattle.om_scope_rules.specs.declared.limits.TheConstants.{SECTION_LIMIT}
 use Rattle.om_scope_rules.specs.Faults.{breach_if, breaches_along, with_breach}
 use Rattle.om_scope_rules.specs.Places.{statement_start}

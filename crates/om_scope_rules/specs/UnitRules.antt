@@ -5,18 +5,18 @@ use Rattle.std.specs.List.{list_any}
 use Rattle.std.specs.Str.{bytes_eq}
 use Rattle.om_lexer.specs.declared.fault.FaultCode.TheVariants as faults
 use Rattle.om_lexer.specs.declared.fault.SourceFault.{SourceFault}
-use Rattle.om_pragma.specs.declared.name.Name as names
+use Rattle.om_pragma.specs.declared.clause.Name as names
 use Rattle.om_lexer.specs.declared.token.Span.{Span}
 use Rattle.om_parser_tree.specs.declared.tree.Parameter.{Parameter}
 use Rattle.om_parser_tree.specs.declared.tree.SignedNumber.{SignedNumber}
 use Rattle.om_parser_tree.specs.Tree.{InitializerTree, DeclaratorTree, statements, HeadTree, FunctionTree, ItemTree}
 use Rattle.om_parser_tree.specs.Tree.{Declaration, Prototype, Function}
-use Rattle.om_scope_rules.specs.declared.flow.Flow.{Flow}
+use Rattle.om_scope_rules.specs.declared.region.Flow.{Flow}
 use Rattle.om_scope_rules.specs.declared.limits.TheConstants.{GLOBAL_CELL_LIMIT}
 use Rattle.om_scope_rules.specs.declared.limits.TheConstants.{FUNCTION_LIMIT, PARAMETER_LIMIT}
-use Rattle.om_scope_rules.specs.declared.meaning.Meaning.{Meaning}
-use Rattle.om_scope_rules.specs.declared.meaning.Meaning.TheVariants as meanings
-use Rattle.om_scope_rules.specs.declared.meaning.Signature.{Signature}
+use Rattle.om_scope_rules.specs.declared.names.Meaning.{Meaning}
+use Rattle.om_scope_rules.specs.declared.names.Meaning.TheVariants as meanings
+use Rattle.om_scope_rules.specs.declared.names.Signature.{Signature}
 use Rattle.om_scope_rules.specs.Faults.{breach_if}
 use Rattle.om_scope_rules.specs.ExpressionRules.{constant_breaches}
 use Rattle.om_scope_rules.specs.Places.{head_start}

@@ -12,9 +12,9 @@ use Rattle.om_scope_rules.specs.ExpressionRules.{expression_breaches}
 use Rattle.om_scope_rules.specs.Knowing.{Agrees, Knows}
 use Rattle.om_scope_rules.specs.Resolution.{resolved_expression}
 use Rattle.om_scope_tree.specs.declared.resolved.Variable.TheVariants as variables
-use Rattle.om_scope_rules.specs.declared.meaning.Meaning.TheVariants as meanings
+use Rattle.om_scope_rules.specs.declared.names.Meaning.TheVariants as meanings
 use Rattle.om_scope_rules.specs.Breaches.{breaches_of}
-use Rattle.om_scope_rules.specs.declared.flow.Flow.{Flow}
+use Rattle.om_scope_rules.specs.declared.region.Flow.{Flow}
 use Rattle.om_scope_rules.specs.StatementResolution.{resolved_statements}
 use Rattle.om_scope_rules.specs.StatementRules.{statements_breaches}
 use Rattle.om_scope_tree.specs.declared.resolved.Shape.{Shape}

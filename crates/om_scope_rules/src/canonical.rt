@@ -1,17 +1,33 @@
-//! Canonical loops (OpenMP API 5.2, section 4.4.1), of the forms that are supported. That section also
-//! allows `!=`, the bound on the left of its comparison, and a step that is no constant.
+//! Canonical loops (OpenMP API 5.2, section 4.4.1), of the forms that are supported, and how each goes
+//! through its values. That section also allows `!=`, the bound on the left of its comparison, and a step
+//! that is no constant.
 
 ghost use Rattle.std.specs.Prelude.{◌≡◌, ◌≤◌, option_map};
 ghost use Rattle.om_parser_tree.specs.View.{view_for_head, view_for_start, view_statement};
+ghost use Rattle.om_scope_rules.specs.LoopViews.{StartsAs, begun_by_declarators, begun_by_variable, tree_of};
+ghost use Rattle.om_scope_rules.specs.LoopViews.{view_bound, view_loop};
 ghost use Rattle.om_scope_rules.specs.Loops as loops;
-ghost use Rattle.om_scope_rules.specs.LoopViews.{StartsAs, begun_by_declarators, begun_by_variable, tree_of, view_bound, view_loop};
 
-use crate::direction::{Direction, Step};
 use om_lexer::Span;
 use om_parser_tree::{
     ArrayLength, AssignOperator, BinaryOperator, Declarator, Expression, ForHead, ForStart,
     Initializer, Name, PostfixOperator, PrefixOperator, Statement,
 };
+
+/// Whether a loop's variable grows or shrinks.
+#[derive(Clone, Copy)]
+pub enum Direction {
+    Up,
+    Down,
+}
+
+/// What a loop adds to its variable.
+#[derive(Clone, Copy)]
+pub struct Step {
+    pub direction: Direction,
+    /// Above 0 where the variable grows, else below 0.
+    pub value: i32,
+}
 
 /// What a loop begins with.
 #[derive(Clone, Copy)]

@@ -27,32 +27,22 @@
 #![tactic(auto)]
 
 mod canonical;
-mod direction;
 mod fault;
-mod flow;
 pub mod laws;
 mod limits;
-mod meaning;
 mod names;
 mod place;
 mod print;
-mod reading;
 mod region;
-mod traits;
 mod update;
 
-pub use canonical::{Loop, LoopStart, loop_in};
-pub use direction::{Direction, Step};
+pub use canonical::{Direction, Loop, LoopStart, Step, loop_in};
 pub use fault::{loop_fault, refuse_among};
-pub use flow::Flow;
 pub use limits::{
     FUNCTION_LIMIT, GLOBAL_CELL_LIMIT, PARAMETER_LIMIT, PRINTED_LIMIT, SECTION_LIMIT,
 };
-pub use meaning::{Meaning, Signature};
-pub use names::Names;
+pub use names::{Meaning, Names, Signature};
 pub use place::{expression_first, expression_start, head_first, statement_first, statement_start};
-pub use print::is_format;
-pub use reading::Reading;
-pub use region::{Region, SharingKind};
-pub use traits::{Inside, Traits};
+pub use print::{Reading, is_format};
+pub use region::{Flow, Inside, Region, SharingKind, Traits};
 pub use update::{statement_side, update_of};

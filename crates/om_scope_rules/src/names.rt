@@ -1,10 +1,11 @@
-//! A set of names.
+//! A set of names, and what names are declared as.
 
 ghost use Rattle.std.specs.Prelude.{◌≡◌, [], OnErr, OnOk, length, map, position};
 ghost use Rattle.std.specs.List.{IsDistinct, list_any};
 ghost use Rattle.std.specs.Str.{bytes_eq};
 ghost use Rattle.om_scope_rules.specs.NameLists.{same_name, with_name};
 
+use om_scope_tree::{Shape, Variable};
 use om_seq::AllocResult;
 use std::alloc::Global;
 use std::collections::BTreeMap;
@@ -95,4 +96,23 @@ impl Names {
         self.names.push_reserved(name);
         Ok(())
     }
+}
+
+/// What a call of a function needs and gives.
+#[derive(Clone, Copy)]
+pub struct Signature {
+    /// Whether it returns an `int`; else nothing.
+    pub returns: bool,
+    /// How many parameters it has, each an `int`.
+    pub parameters: usize,
+}
+
+/// What a name is declared as.
+#[derive(Clone, Copy)]
+pub enum Meaning {
+    /// A global, a parameter or a variable of a function.
+    Variable(Variable, Shape),
+    Function(Signature),
+    /// The function `printf`, whose calls have rules of their own.
+    Printf,
 }

@@ -1,11 +1,21 @@
-//! The formats of `printf`.
+//! The formats of `printf`, and how far one is read.
 
 ghost use Rattle.std.specs.Prelude.{◌≡◌, fold};
 ghost use Rattle.om_parser_tree.specs.View.{view_expression};
 ghost use Rattle.om_scope_rules.specs.Formats.{after_character, is_format, is_whole, takes_values, with_value};
 
-use crate::reading::Reading;
 use om_parser_tree::Expression;
+
+/// What of a format is still to be read.
+#[derive(Clone, Copy)]
+pub enum Reading {
+    /// Text or a conversion, with so many values left.
+    Text(usize),
+    /// What stands behind a `%`, with so many values left.
+    Conversion(usize),
+    /// A conversion was none, or there was no value for it.
+    Wrong,
+}
 
 // Behind `%d`, where so many values are left.
 fn with_value(left: usize) -> Reading

@@ -9,8 +9,8 @@ use Rattle.std.specs.Map.{lookup}
 use Rattle.std.specs.Option.{option_or}
 use Rattle.std.specs.Str.{bytes_eq}
 use Rattle.om_scope_symbols.specs.declared.nesting.Construct.{Construct}
-use Rattle.om_scope_symbols.specs.declared.sightings.Sighting.{Sighting}
-use Rattle.om_scope_rules.specs.declared.meaning.Meaning.{Meaning}
+use Rattle.om_scope_symbols.specs.declared.symbols.Sighting.{Sighting}
+use Rattle.om_scope_rules.specs.declared.names.Meaning.{Meaning}
 use Rattle.om_scope_symbols.specs.Nesting.{AreNested, alone_since, copied_since, enclosing_of, outside_of, region_in}
 use Rattle.om_scope_symbols.specs.Nesting.{unlisted_since}
 use Rattle.om_scope_rules.specs.Scopes.{Scope, meaning_outside, plain}

@@ -8,7 +8,7 @@ use Rattle.std.specs.declared.alloc.Global.{Global}
 use Rattle.std.specs.List.{AllByRecursion, IsDistinct, list_any}
 use Rattle.std.specs.Map.{keys_of, lookup}
 use Rattle.std.specs.Str.{bytes_eq}
-use Rattle.om_scope_rules.specs.declared.meaning.Meaning.{Meaning}
+use Rattle.om_scope_rules.specs.declared.names.Meaning.{Meaning}
 use Rattle.om_scope_rules.specs.NameKeys.{no_names, same_name-equiv}
 use Rattle.om_scope_rules.specs.Scopes.{Scope, same_name, scope_of, with_name}
 use Rattle.om_scope_symbols.proofs.Stacked.{name_itself, same_names}

@@ -4,8 +4,8 @@ use Rattle.std.specs.Prelude.{nat_eq, reverse}
 use Rattle.std.specs.declared.alloc.Global.{Global}
 use Rattle.std.specs.Map.{lookup}
 use Rattle.std.specs.Str.{bytes_eq}
-use Rattle.om_scope_symbols.specs.declared.sightings.Sighting.{Sighting}
-use Rattle.om_scope_rules.specs.declared.meaning.Meaning.{Meaning}
+use Rattle.om_scope_symbols.specs.declared.symbols.Sighting.{Sighting}
+use Rattle.om_scope_rules.specs.declared.names.Meaning.{Meaning}
 use Rattle.om_scope_rules.specs.Scopes.{Scope}
 use Rattle.om_scope_symbols.specs.Stacks.{seen_in}
 

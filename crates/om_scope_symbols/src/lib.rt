@@ -17,11 +17,8 @@
 mod construct;
 mod landmark;
 mod listed;
-mod listing;
 mod name;
 mod nesting;
-mod refusal;
-mod sightings;
 mod stacks;
 mod symbols;
 mod table;
@@ -29,10 +26,9 @@ mod table;
 pub use construct::{constructing, traits_of};
 pub use listed::Listed;
 pub use name::{
-    check_declared, is_copied_array, is_printf, is_scalar, misuse, resolve_array, resolve_callee,
-    resolve_scalar,
+    check_declared, is_copied_array, is_printf, is_scalar, misuse, refuse_if, resolve_array,
+    resolve_callee, resolve_scalar,
 };
 pub use nesting::is_parallel;
-pub use refusal::refuse_if;
 pub use symbols::{Symbols, add_predeclared};
 pub use table::Table;

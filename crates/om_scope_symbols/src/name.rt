@@ -1,12 +1,16 @@
-//! Uses of names: what a name has to be declared as, and the variable or the function that it means.
+//! Uses of names: what a name has to be declared as, and the variable or the function that it means, or a
+//! refusal where a rule is broken.
 
-ghost use Rattle.std.specs.Prelude.{◌≡◌};
+ghost use Rattle.std.specs.Prelude.{◌≡◌, [], OnOk, IfErr, Some};
 ghost use Rattle.om_scope_rules.specs.Checks.{ChecksExactly};
-ghost use Rattle.om_scope_rules.specs.ExpressionRules.{array_breaches, call_breaches, is_array, is_copied_array, is_miscalled, is_printf, is_scalar, is_undeclared, misused_array_breaches, misused_scalar_breaches, scalar_breaches, undeclared_breaches, unlisted_breaches};
+ghost use Rattle.om_scope_rules.specs.ExpressionRules.{array_breaches, call_breaches, is_array, is_copied_array};
+ghost use Rattle.om_scope_rules.specs.ExpressionRules.{is_miscalled, is_printf, is_scalar, is_undeclared};
+ghost use Rattle.om_scope_rules.specs.ExpressionRules.{misused_array_breaches, misused_scalar_breaches};
+ghost use Rattle.om_scope_rules.specs.ExpressionRules.{scalar_breaches, undeclared_breaches, unlisted_breaches};
 ghost use Rattle.om_scope_rules.specs.Outcomes.{Finds};
 ghost use Rattle.om_scope_rules.specs.Resolution.{callee_named, variable_named, variable_of};
+ghost use Rattle.om_scope_rules.specs.Faults.{breach_if, first_of};
 
-use crate::refusal::refuse_if;
 use crate::symbols::Symbols;
 use om_lexer::{FaultCode, SourceFault, SourceResult};
 use om_parser_tree::Name;
@@ -171,4 +175,15 @@ fn is_miscalled(for_value: bool, name: &[u8], count: usize, meaning: Option<Mean
         }
         _ => true,
     }
+}
+
+/// A refusal with this code at a byte, where a rule is broken.
+pub fn refuse_if(broken: bool, code: FaultCode, at: u32) -> SourceResult<()>
+    ensures kept { OnOk result (breach_if broken code at ≡ []) }
+    ensures refused { IfErr result (λ fault. first_of (breach_if broken code at) ≡ Some fault) }
+{
+    if broken {
+        return Err(SourceFault { code, at });
+    }
+    Ok(())
 }

@@ -5,8 +5,7 @@ ghost use Rattle.std.specs.Prelude.{◌≡◌, ◌<◌, [], OnOk, reverse, suc, 
 ghost use Rattle.om_scope_symbols.specs.Nesting.{AreMarked, AreNested, StandsIn, copied_since, copies, entered, marks_in, marks_of, marks_without, outside_of, unlisted_since, with_parallel, without_parallel};
 ghost use Rattle.om_scope_rules.specs.Sharing.{asks_for_clauses, is_parallel, is_task};
 
-use crate::landmark::{Landmark, Marks, first_deeper, last_within, marks_behind};
-use crate::listing::{list, unlist};
+use crate::landmark::{Landmark, Marks, first_deeper, last_within, list, marks_behind, unlist};
 use crate::stacks::Stacks;
 use om_pragma::Sharing;
 use om_scope_rules::{Region, SharingKind};

@@ -1,13 +1,16 @@
-//! The names that are in scope at a place, and what they are declared as.
+//! The names that are in scope at a place, where they are declared, and as what. A look-up finds the
+//! innermost declaration at once, however deep a place is.
 
 ghost use Rattle.std.specs.Prelude.{◌≡◌, ◌+◌, ◌<◌, ◌^◌, [], ◌∷◌, false, OnOk, length, position};
 ghost use Rattle.std.specs.List.{list_any};
 ghost use Rattle.std.specs.Str.{bytes_eq};
 ghost use Rattle.om_scope_rules.specs.Sharing.{is_copied, is_unlisted};
-ghost use Rattle.om_scope_rules.specs.Scopes.{predeclared, nothing_declared, file_scope, inside, within, outside, meaning_of, meaning_here, is_declared, with_bindings, with_local, with_global, with_function, with_defined};
+ghost use Rattle.om_scope_rules.specs.Scopes.{predeclared, nothing_declared, file_scope, inside, within, outside};
+ghost use Rattle.om_scope_rules.specs.Scopes.{meaning_of, meaning_here, is_declared, with_bindings, with_local};
+ghost use Rattle.om_scope_rules.specs.Scopes.{with_global, with_function, with_defined};
+ghost use Rattle.om_scope_symbols.specs.Sightings.{ForgetsScope, depth_of, meaning_at};
 
 use crate::nesting::Nesting;
-use crate::sightings::{Sighting, depth_of, forget_scope, meaning_at};
 use crate::stacks::Stacks;
 use crate::table::{Table, enter_scope};
 use om_parser_tree::Name;
@@ -294,5 +297,46 @@ impl Symbols {
         ensures { OnOk result (self.new ≡ with_defined self.old name.now) }
     {
         self.defined.add(alloc, name)
+    }
+}
+
+/// A declaration of a name.
+#[derive(Clone, Copy)]
+pub struct Sighting {
+    /// How many scopes stand round the one that has it.
+    pub depth: usize,
+    /// What it declares the name as.
+    pub meaning: Meaning,
+}
+
+/// How deep the scope is that declares a name; nothing is declared round the file scope.
+pub fn depth_of(sighting: Option<Sighting>) -> usize
+    ensures { result ≡ depth_of sighting }
+{
+    match sighting {
+        Some(sighting) => sighting.depth,
+        None => 0,
+    }
+}
+
+/// What the scope of this depth declares a name as, where no deeper one declares it. This is its
+/// innermost declaration.
+pub fn meaning_at(sighting: Option<Sighting>, depth: usize) -> Option<Meaning>
+    ensures { result ≡ meaning_at sighting depth }
+{
+    let sighting = sighting?;
+    if sighting.depth == depth {
+        Some(sighting.meaning)
+    } else {
+        None
+    }
+}
+
+/// Forgets the declarations of the innermost scope.
+pub fn forget_scope(sightings: &mut Stacks<Sighting>, mut table: Table)
+    ensures { ForgetsScope table sightings.old sightings.new }
+{
+    while let Some(name) = table.pop() {
+        sightings.forget(name.as_slice());
     }
 }

@@ -11,8 +11,8 @@ use Rattle.om_shell_commands.specs.Commands.{request_of}
 use Rattle.om_shell_debugger.specs.declared.debugger.Debugger.{Debugger}
 use Rattle.om_shell_debugger.specs.Freed.{FreeRun}
 use Rattle.om_shell_debugger.specs.Views.{Answer, answered, IsAnswered}
-use Rattle.om_shell.specs.declared.fault.ShellFault.{ShellFault}
-use Rattle.om_shell.specs.declared.fault.ShellFault.TheVariants.{Read}
+use Rattle.om_shell.specs.declared.ended.ShellFault.{ShellFault}
+use Rattle.om_shell.specs.declared.ended.ShellFault.TheVariants.{Read}
 use Rattle.om_shell.specs.Lines.{HasNoLineEnd}
 use Rattle.om_shell.specs.Transcript.{Transcript, after_text}
 use Rattle.om_shell.specs.Progress.{Moment, moment_of, IsBeginning, AppendsPart, AreWholeLines, Advance}

@@ -1,8 +1,8 @@
 -- What one pass over the pending bytes does.
 use Rattle.std.specs.Prelude.{◌≡◌, ◌≢◌, ℕ, ◌≤◌, List, ◌++◌, take, length, Option}
 use Rattle.std.specs.Io.KnownBytes.{Appends}
-use Rattle.om_shell.specs.declared.fault.ShellFault.{ShellFault}
-use Rattle.om_shell.specs.declared.fault.ShellFault.TheVariants.{Read}
+use Rattle.om_shell.specs.declared.ended.ShellFault.{ShellFault}
+use Rattle.om_shell.specs.declared.ended.ShellFault.TheVariants.{Read}
 use Rattle.om_shell.specs.Transcript.{Transcript, after_text}
 use Rattle.om_shell.specs.Progress.{IsBeginning, AreWholeLines}
 

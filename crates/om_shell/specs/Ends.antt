@@ -6,8 +6,8 @@ use Rattle.om_code.specs.declared.raw.Raw.{Raw}
 use Rattle.om_book.specs.Books.{BookView}
 use Rattle.om_shell_debugger.specs.declared.debugger.Debugger.{Debugger}
 use Rattle.om_shell_debugger.specs.Freed.{FreeRun}
-use Rattle.om_shell.specs.declared.fault.ShellFault.{ShellFault}
-use Rattle.om_shell.specs.declared.fault.ShellFault.TheVariants.{Read}
+use Rattle.om_shell.specs.declared.ended.ShellFault.{ShellFault}
+use Rattle.om_shell.specs.declared.ended.ShellFault.TheVariants.{Read}
 use Rattle.om_shell.specs.Lines.{parts_of, has_mark}
 use Rattle.om_shell.specs.Progress.{Moment, IsBeginning, AnswersWholeLines}
 use Rattle.om_shell.specs.Script.{book_of, source_of, script_by, IsScript}

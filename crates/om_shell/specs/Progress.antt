@@ -1,8 +1,8 @@
 -- What has been read and written so far, against what is due for all that comes.
 use Rattle.std.specs.Prelude.{◌≡◌, ℕ, List, [], ◌∷◌, ◌++◌, Option, ◌⊎◌}
 use Rattle.std.specs.Io.KnownBytes.{Consumes, Appends, IsAtEnd}
-use Rattle.om_shell.specs.declared.fault.ShellFault.{ShellFault}
-use Rattle.om_shell.specs.declared.fault.ShellFault.TheVariants.{Read}
+use Rattle.om_shell.specs.declared.ended.ShellFault.{ShellFault}
+use Rattle.om_shell.specs.declared.ended.ShellFault.TheVariants.{Read}
 use Rattle.om_shell.specs.Transcript.{Transcript, after_text}
 use Rattle.om_shell.specs.Lines.{HasNoLineEnd}
 

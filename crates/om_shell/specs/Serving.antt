@@ -7,8 +7,8 @@ use Rattle.om_code.specs.declared.raw.Raw.{Raw}
 use Rattle.om_book.specs.Books.{BookView}
 use Rattle.om_shell_debugger.specs.declared.debugger.Debugger.{Debugger}
 use Rattle.om_shell_debugger.specs.Freed.{FreeRun}
-use Rattle.om_shell.specs.declared.fault.ShellFault.{ShellFault}
-use Rattle.om_shell.specs.declared.fault.ShellFault.TheVariants.{Read}
+use Rattle.om_shell.specs.declared.ended.ShellFault.{ShellFault}
+use Rattle.om_shell.specs.declared.ended.ShellFault.TheVariants.{Read}
 use Rattle.om_shell.specs.Ends.{status_of}
 use Rattle.om_shell.specs.Progress.{Moment, AppendsPart, BreaksOff, IsDone}
 use Rattle.om_shell.specs.Script.{book_of, transcript_of}

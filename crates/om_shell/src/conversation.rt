@@ -6,7 +6,7 @@ ghost use Rattle.om_shell.specs.Batch.{AnswersPart};
 ghost use Rattle.om_shell.specs.Sessions.{due, AnswersBatch};
 ghost use Rattle.om_shell_debugger.specs.Freed.{FreeRun};
 
-use crate::fault::ShellFault;
+use crate::ended::ShellFault;
 use crate::input::Input;
 use crate::session::Session;
 use std::io::{Read, Write};

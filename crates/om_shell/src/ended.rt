@@ -1,7 +1,38 @@
-//! How a run ended.
+//! Why a run stops before its end, how it ended, and how a program ends.
+
 ghost use Rattle.std.specs.Prelude.{◌≡◌, None, Some};
+ghost use Rattle.om_shell.specs.Outcomes.{status_of};
 
 use om_book::Book;
+use std::alloc::AllocError;
+use thiserror::Error;
+
+/// A fault of a run. The run is over then, and nothing of it is kept but what was written.
+///
+/// Its text is what the program writes on standard error.
+#[derive(Clone, Copy, Debug, Drop, PartialEq, Eq, Error)]
+pub enum ShellFault {
+    /// A read failed, or 2^32 reads were made in this run.
+    #[error("H3")]
+    Read,
+    /// A write or a flush failed, or a write took no byte.
+    #[error("H4")]
+    Write,
+    /// There was no memory, wherever it was asked for, no thread for a free run, or a receipt of one
+    /// did not stand.
+    #[error("H5")]
+    Memory,
+}
+
+impl From<AllocError> for ShellFault {
+    ghost use Rattle.om_shell.specs.declared.ended.ShellFault.{ShellFault};
+
+    ghost from_gives = { λ _ fault. fault ≡ ShellFault.Memory };
+
+    fn from(_error: AllocError) -> ShellFault {
+        ShellFault::Memory
+    }
+}
 
 // The exit status after an accepted source, and after a refused one.
 const ACCEPTED: u8 = 0;
@@ -47,5 +78,27 @@ impl Ended {
             status: REFUSED,
             book: None,
         }
+    }
+}
+
+/// How the program ends.
+#[derive(Clone, Copy)]
+pub enum Outcome {
+    /// The run came to its end, with this status: 0, or 1 where the source was refused.
+    Ran(u8),
+    /// The words were wrong, or asked for help, and nothing was run.
+    Words,
+    /// A fault broke the run off.
+    Fault(ShellFault),
+}
+
+/// The exit status: 0 or 1 of a run, 2 for words, 3 for a fault.
+pub fn status(outcome: Outcome) -> u8
+    ensures { result ≡ status_of outcome }
+{
+    match outcome {
+        Outcome::Ran(status) => status,
+        Outcome::Words => 2,
+        Outcome::Fault(_) => 3,
     }
 }

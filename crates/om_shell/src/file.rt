@@ -1,11 +1,14 @@
-//! A file, read whole.
+//! A file, read whole, and the words that a program is called with.
+
 ghost use Rattle.std.specs.Prelude.{IfOk};
 ghost use Rattle.om_shell.specs.Files.{ReadsAll};
 
-use crate::fault::ShellFault;
-use std::alloc::Global;
+use crate::ended::ShellFault;
+use om_seq::AllocResult;
+use std::alloc::{AllocError, Global};
+use std::io;
 use std::io::{ErrorKind, Read};
-use std::rt::Files;
+use std::rt::{Files, Runtime};
 
 // How many reads of a file there are at most.
 const MOST_READS: u64 = 1 << 32;
@@ -52,4 +55,20 @@ pub fn read_named<R: Files>(
     file: Option<&str>,
 ) -> Result<Option<Vec<u8>>, ShellFault> {
     file.map(|path| read_file(rt, alloc, path)).transpose()
+}
+
+/// The words that the program is called with, its name first. `None` where they can't be had, or one of them is no
+/// text: standard error tells why then. Its only error is out of memory.
+pub fn words_of<R: Runtime + AllocGlobal>(
+    rt: &R,
+    alloc: Global,
+) -> AllocResult<Option<Vec<String>>> {
+    match std::env::args(rt) {
+        Ok(args) => Ok(Some(args.collect(alloc)?)),
+        Err(error) if error.kind() == io::ErrorKind::OutOfMemory => Err(AllocError),
+        Err(error) => {
+            let _ = rt.eprintln(error);
+            Ok(None)
+        }
+    }
 }

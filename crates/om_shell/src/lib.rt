@@ -16,34 +16,21 @@
 #![tactic(auto)]
 
 mod conversation;
-mod cut;
 mod ended;
-mod fault;
 mod file;
-mod host;
 mod input;
 pub mod laws;
-mod lines;
-mod options;
-mod outcome;
 mod output;
-mod place;
 mod refusal;
 mod serve;
 mod session;
 mod shell;
 mod source;
-mod words;
 
-pub use cut::{SessionBytes, session_bytes};
-pub use ended::Ended;
-pub use fault::ShellFault;
-pub use file::{read_all, read_named};
-pub use input::Input;
-pub use lines::first_line_end;
-pub use options::Options;
-pub use outcome::{Outcome, status};
+pub use ended::{Ended, Outcome, ShellFault, status};
+pub use file::{read_all, read_named, words_of};
+pub use input::{Input, first_line_end};
 pub use output::send;
-pub use place::{column_behind, front_of, line_behind};
-pub use shell::run;
-pub use words::words_of;
+pub use refusal::{column_behind, front_of, line_behind};
+pub use shell::{Options, run};
+pub use source::{SessionBytes, session_bytes};

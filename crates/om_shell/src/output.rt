@@ -3,7 +3,7 @@ ghost use Rattle.std.specs.Prelude.{◌≡◌, ◌≤◌, ◌+◌, length, take,
 ghost use Rattle.std.specs.Io.KnownBytes.{Appends};
 ghost use Rattle.om_shell.specs.Progress.{AppendsPart};
 
-use crate::fault::ShellFault;
+use crate::ended::ShellFault;
 use std::io::{ErrorKind, Write};
 
 // Writes the bytes, and answers how many the writer took and whether these are all.

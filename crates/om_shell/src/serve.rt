@@ -10,13 +10,11 @@ ghost use Rattle.om_shell_debugger.specs.Views.{opened};
 ghost use Rattle.om_shell.specs.Serving.{DoneWith, Serves, BreaksOffServing, ServesAlone, BreaksOffAlone};
 
 use crate::conversation::converse;
-use crate::ended::Ended;
-use crate::fault::ShellFault;
-use crate::host::Host;
+use crate::ended::{Ended, ShellFault};
 use crate::input::Input;
 use crate::output::send;
 use crate::refusal::push_refusal;
-use crate::session::Session;
+use crate::session::{Host, Session};
 use om_code::Program;
 use om_frontend::program_of;
 use om_lexer::{FaultCode, SourceFault};

@@ -1,16 +1,17 @@
 //! A session: a debugger, what it runs on, and the answers that are not written yet.
-ghost use Rattle.std.specs.Prelude.{◌≡◌, ◌≢◌, ◌<◌, ◌≤◌, ◌++◌, ℕ, List, [], Some, take, drop, length, true, false, nat_le, IfOk, IfErr, OnOk, OnErr};
+
+ghost use Rattle.std.specs.Prelude.{◌≡◌, ◌≢◌, ◌<◌, ◌≤◌, ◌++◌, ℕ, List, [], Some, take, drop, length, true, false};
+ghost use Rattle.std.specs.Prelude.{nat_le, IfOk, IfErr, OnOk, OnErr};
 ghost use Rattle.std.specs.Io.KnownBytes.{Appends};
+ghost use Rattle.om_shell_debugger.specs.Freed.{FreeRun};
+ghost use Rattle.om_shell_debugger.specs.Views.{answered, opened, IsAnswered};
 ghost use Rattle.om_shell.specs.Batch.{AnswersPart};
 ghost use Rattle.om_shell.specs.Lines.{HasNoLineEnd};
 ghost use Rattle.om_shell.specs.Progress.{AppendsPart};
 ghost use Rattle.om_shell.specs.Sessions.{due, AnswersBatch};
-ghost use Rattle.om_shell_debugger.specs.Freed.{FreeRun};
-ghost use Rattle.om_shell_debugger.specs.Views.{answered, opened, IsAnswered};
 
-use crate::fault::ShellFault;
-use crate::host::Host;
-use crate::lines::{line_end, without_carriage_return};
+use crate::ended::ShellFault;
+use crate::input::{line_end, without_carriage_return};
 use crate::output::send;
 use om_book::Book;
 use om_code::Program;
@@ -20,6 +21,15 @@ use std::alloc::Global;
 use std::io::Write;
 use std::sync::Wait;
 use std::thread::Threads;
+
+/// The handle of the runtime, by which free runs start threads, the allocator, and how many workers
+/// there are, 1 to 32.
+#[derive(Drop)]
+pub(crate) struct Host<'a, R> {
+    pub(crate) rt: &'a R,
+    pub(crate) alloc: Global,
+    pub(crate) workers: u8,
+}
 
 // So many bytes of answers are written before more lines are answered.
 const ENOUGH: usize = 16_384;

@@ -1,20 +1,29 @@
-//! A run: a source, and then commands, each answered before more is read.
+//! A run: a source, and then commands, each answered before more is read. It is told options besides its
+//! input.
+
 ghost use Rattle.std.specs.Prelude.{◌≡◌, ◌<◌, ◌≤◌, [], None, take, length, IfOk, IfErr, OnOk, IfSome, option_copied};
 ghost use Rattle.std.specs.Io.KnownBytes.{Appends};
 ghost use Rattle.om_shell.specs.Ends.{RunsToEnd, BreaksOffRun, WritesScript};
 ghost use Rattle.om_shell.specs.Progress.{moment_of};
 
-use crate::ended::Ended;
-use crate::fault::ShellFault;
-use crate::host::Host;
+use crate::ended::{Ended, ShellFault};
 use crate::input::Input;
-use crate::options::Options;
 use crate::serve::serve_alone;
+use crate::session::Host;
 use crate::source::read_source;
 use std::alloc::Global;
 use std::io::{Read, Write};
 use std::sync::Wait;
 use std::thread::Threads;
+
+/// What a run is told besides its input.
+#[derive(Clone, Copy)]
+pub struct Options<'a> {
+    /// How many workers there are, 1 to 32.
+    pub workers: u8,
+    /// The source; where there is none, it stands at the front of the input, up to a line `%%`.
+    pub source: Option<&'a [u8]>,
+}
 
 // A copy of the first bytes.
 fn source_bytes(alloc: Global, bytes: &[u8], end: usize) -> Result<Vec<u8>, ShellFault>

@@ -15,6 +15,5 @@
 //!   serial instruction is also a case of `proofs/Instructions` and of `proofs/Table`.
 #![tactic(auto)]
 
-pub mod alone;
 pub mod laws;
 pub mod programs;

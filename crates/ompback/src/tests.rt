@@ -5,8 +5,8 @@ use crate::{outcome_for, run_over, version};
 use om_seq::AllocResult;
 use om_shell::{Options, Outcome, ShellFault, status};
 use std::alloc::Global;
-use std::io::{ErrorKind, Read, Write};
 use std::io;
+use std::io::{ErrorKind, Read, Write};
 use std::test::Fail;
 
 // A source that is accepted, and its mark.

@@ -11,7 +11,6 @@
 ghost use Rattle.std.specs.Prelude.{◌<◌, ◌≤◌};
 
 mod command;
-mod meter;
 mod subcommands;
 mod words;
 

@@ -1,9 +1,9 @@
 //! What the words of the command line ask for.
 ghost use Rattle.std.specs.Prelude.{◌<◌, ◌≤◌, IfOk, IfSome};
 
+use crate::command::omplab;
 use clap::error::ErrorKind;
 use clap::{ArgMatches, Command, Error};
-use crate::command::omplab;
 use std::alloc::Global;
 
 /// What the words ask for.

@@ -6,7 +6,7 @@ use Rattle.om_task.specs.Rules.{rules_of}
 use Rattle.om_undo_history.specs.Runs.{label_of}
 use Rattle.om_undo_history.specs.Records.{entries_of}
 use Rattle.om_undo_history.specs.Pasts.{Past}
-use Rattle.lab_graph.specs.declared.traced.Traced.{Traced}
+use Rattle.lab_graph.specs.declared.sketch.Traced.{Traced}
 use Rattle.lab_replay.specs.Traces.{transition_of, IsRemade}
 use Rattle.lab_replay.proofs.Replays.{can_be_made, remade_more, split_at, taken_more}
 use Rattle.lab_replay.proofs.replay.retraced.Goals as goal

@@ -5,7 +5,7 @@ use Rattle.om_scope_tree.specs.ResolvedView as view
 use Rattle.om_scope_tree.specs.ResolvedTree.{ResolvedFunctionTree}
 use Rattle.om_scope_tree.specs.Weights.{function_weight}
 use Rattle.om_lower_tables.specs.Room.{HasNumbers, IsRoomFor}
-use Rattle.om_lower_rules.specs.declared.numbers.Numbers as numbers
+use Rattle.om_lower_rules.specs.declared.tables.Numbers as numbers
 use Rattle.om_lower_rules.specs.Bodies.{first_numbers, function_bodies}
 use Rattle.om_lower_rules.specs.Coded.{BodyHasCode}
 use Rattle.om_lower_rules.specs.Numbering.{numbers_of}

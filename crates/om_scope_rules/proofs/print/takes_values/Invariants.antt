@@ -1,6 +1,6 @@
 use Rattle.std.proofs.Common.{◌≡◌, drop, fold}
 use Rattle.om_scope_rules.specs.Formats.{after_character}
-use Rattle.om_scope_rules.specs.declared.reading.Reading.TheVariants as readings
+use Rattle.om_scope_rules.specs.declared.print.Reading.TheVariants as readings
 use Rattle.om_scope_rules.proofs.print.takes_values.Given as goal
 
 -- reading what is left gives what reading all gives

@@ -1,7 +1,7 @@
 use Rattle.std.proofs.Common.{arith, rules, ◌≢◌, [], drop-drop, length-drop, true, false, refl, sym, subst, ◌∙◌}
 use Rattle.std.proofs.lemmas.Result.{err_from_is_err_and}
 use Rattle.std.proofs.KnownBytes.{Appends-nil}
-use Rattle.om_shell.specs.declared.fault.ShellFault.TheVariants.{Memory, Read}
+use Rattle.om_shell.specs.declared.ended.ShellFault.TheVariants.{Memory, Read}
 use Rattle.om_shell.specs.Lines.{HasNoLineEnd}
 use Rattle.om_shell.proofs.Bytes.{slice_to_end}
 use Rattle.om_shell.proofs.SessionLaws.{Batch_none, Batch_further, Batch_breaks, all_begins}

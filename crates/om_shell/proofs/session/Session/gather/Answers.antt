@@ -1,7 +1,7 @@
 use Rattle.std.proofs.Common.{arith, rules, ◌≡◌, ◌≢◌, ◌+◌, ◌-◌, [], Some, drop, take, false, true, refl, sym, ap, ◌∙◌}
 use Rattle.std.specs.Str.Lines.{strip_carriage_return}
 use Rattle.std.proofs.KnownBytes.{Appends-nil}
-use Rattle.om_shell.specs.declared.fault.ShellFault.TheVariants.{Memory, Read}
+use Rattle.om_shell.specs.declared.ended.ShellFault.TheVariants.{Memory, Read}
 use Rattle.om_shell.proofs.Bytes.{slice_to_end}
 use Rattle.om_shell.proofs.LineEnds.{position_some, position_none}
 use Rattle.om_shell.proofs.SessionLaws.{Batch_none, Batch_next, Batch_begins, within_next}

@@ -1,5 +1,0 @@
-use Rattle.om_soundness.proofs.Following.{frames_follow}
-use Rattle.om_soundness.proofs.alone.frames_follow.Goals as goal
-
-pub returns : goal.returns
-returns c = frames_follow

@@ -1,5 +1,0 @@
-use Rattle.om_soundness.proofs.AlonePrograms.{programs_run}
-use Rattle.om_soundness.proofs.alone.programs_run.Goals as goal
-
-pub returns : goal.returns
-returns c = programs_run c.serial_meaning.ensures
