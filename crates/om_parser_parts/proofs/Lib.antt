@@ -1,3 +1,4 @@
+mod Auto
 mod ExpressionSound
 mod Chains
 mod Prefixes
