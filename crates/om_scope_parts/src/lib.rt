@@ -12,7 +12,7 @@
 //! - A new rule adds a check here of the same name as its breaches.
 //!
 //! Cases: gate_cases, "== resolver".
-#![tactic(auto, unfolding(om_scope_rules::specs::ExpressionRules::is_target, om_scope_rules::specs::ExpressionRules::leading_breaches, om_scope_rules::specs::DirectiveRules::clause_breaches, om_scope_rules::specs::DirectiveRules::after_clause, om_scope_rules::specs::StatementRules::local_breaches, om_scope_rules::specs::StatementResolution::resolved_clause, om_scope_rules::specs::StatementResolution::resolved_declarator, om_scope_rules::specs::StatementResolution::resolved_loop, om_scope_rules::specs::ExpressionRules::expression_breaches, om_scope_rules::specs::Resolution::resolved_expression, om_scope_rules::specs::ExpressionRules::target_breaches, om_scope_rules::specs::Resolution::resolved_target, om_scope_rules::specs::ExpressionRules::printed_breaches, om_scope_rules::specs::ExpressionRules::arguments_breaches))]
+#![tactic(auto, unfolding(crate::proofs::Auto::definitions))]
 
 mod bounds;
 mod call;
