@@ -1,3 +1,4 @@
+mod Auto
 pub mod Cells
 pub mod Copied
 pub mod Noting
