@@ -1,3 +1,4 @@
+mod Auto
 mod LineStarts
 mod Begins
 mod OneOrMore
