@@ -12,7 +12,7 @@
 //! - A new rule adds a check here, or in om_scope_parts, of the same name as its breaches.
 //!
 //! Cases: gate_cases, "== resolver".
-#![tactic(auto, unfolding(om_scope_rules::specs::Breaches::breaches_of, om_scope_rules::specs::StatementResolution::construct_of, om_scope_rules::specs::StatementResolution::resolved_start, om_scope_rules::specs::UnitResolution::item_functions, om_scope_rules::specs::UnitResolution::resolution_of, om_scope_rules::specs::UnitResolution::resolved_function, om_parser_tree::specs::Formed::IsFunction, om_parser_tree::specs::Formed::IsItem, om_scope_rules::specs::StatementRules::statements_breaches, om_scope_rules::specs::StatementResolution::resolved_statements, om_scope_rules::specs::StatementRules::statement_breaches, om_scope_rules::specs::StatementResolution::resolved_statement, om_parser_tree::specs::Formed::IsStatement, om_parser_tree::specs::Sizes::HasForms, om_scope_rules::specs::StatementRules::body_breaches, om_scope_rules::specs::StatementResolution::resolved_repeated, om_scope_rules::specs::StatementRules::parts_breaches, om_scope_rules::specs::StatementResolution::resolved_parts))]
+#![tactic(auto, unfolding(crate::proofs::Auto::definitions))]
 
 mod assembly;
 mod entering;
