@@ -1,5 +1,5 @@
 -- What is promised of what stands in the place of a `parallel` or a `task`.
-use Rattle.std.specs.Prelude.{◌≡◌, ℕ, List, IfOk, OnOk, Result, map}
+use Rattle.std.specs.Prelude.{◌≡◌, ℕ, List, false, IfOk, OnOk, Result, map}
 use Rattle.om_scope_tree.specs.declared.resolved.RegionKind.{RegionKind}
 use Rattle.om_scope_tree.specs.declared.resolved.RegionKind.TheVariants as kinds
 use Rattle.om_scope_tree.specs.declared.resolved.ResolvedClause.{ResolvedClause}

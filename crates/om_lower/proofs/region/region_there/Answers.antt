@@ -1,4 +1,4 @@
-use Rattle.std.proofs.Common.{sym, subst}
+use Rattle.std.proofs.Common.{false, sym, subst}
 use Rattle.om_lower.specs.Regions.{EmitsRegion, clauses_of, tree_as}
 use Rattle.om_lower_rules.specs.Coded.{RegionIsCoded}
 use Rattle.om_lower.proofs.region.region_there.Goals as goal
