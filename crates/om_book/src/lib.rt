@@ -1,4 +1,4 @@
-//! Sessions: a machine beside the journal of its calls; seats that share it under a lock; orders, answers, receipts.
+//! Sessions: a machine beside the journal of its calls; seats that share it under a lock; rounds of orders; receipts.
 //!
 //! - `book` has the journal over a machine: 200,000 records at most. `call` and `undo` answer by the record
 //!   alone, where the caller reads the reply. `take` makes a planned step, and answers its reply too.

@@ -1,4 +1,4 @@
-//! Lowering: writes code for statements, loops, regions, whole bodies, within limits; makes the program and its texts.
+//! Lowering: puts the code of statements, regions and bodies together, within limits; makes the program and its texts.
 //!
 //! `lower` turns a `Resolved` into a `Program`. The code is that of om_lower_rules, with a line for each
 //! instruction and the scopes of its names. The first function that passes a limit is refused with S11 at its

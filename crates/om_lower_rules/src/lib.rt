@@ -1,4 +1,4 @@
-//! Lowering: which code a tree has, as a relation with laws; tables of slots, cells, formats, locks and bodies for it.
+//! Lowering: the code of a tree, as a relation with laws; slots of variables, copies that a region is given, tables.
 //!
 //! A row of code is the code that a form of the tree has, as a relation that knows no emitter. So the crates
 //! that find tables and those that write code are proved side by side.

@@ -1,4 +1,4 @@
-//! Text, tokens, trees: the upper half of the parser: reads statements, constructs, functions and a whole source.
+//! Text, tokens, trees: the upper half of the parser: reads statements, functions, sources; what a directive begins.
 //!
 //! `parse` turns tokens into a `Unit` (C17 6.8 and 6.9). But for memory, it is Ok exactly where a well-formed
 //! tree with these tokens keeps the limits and has the forms of `atomic`. No second tree has these tokens.

@@ -1,4 +1,4 @@
-//! Commands and answers: carries out each command on a book: steps, undos, runs, breaks, watches, values of variables.
+//! Commands and answers: carries out each command on a book: steps, undos, rolls, runs, breaks, watches, prints.
 //!
 //! A `Debugger` is a book with its breaks and watches. A line comes in, and a text goes out.
 //!

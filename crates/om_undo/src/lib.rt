@@ -1,4 +1,4 @@
-//! History: the machine of a program: plans and makes steps, undoes, rolls, looks; the laws of its runs.
+//! History: the machine of a program: plans, answers and makes steps, undoes, rolls, looks; the laws of its runs.
 //!
 //! A `Machine` is a `Program`, a number of workers and a `History`. Its state is always the replay of the
 //! entries that stand.
