@@ -1,4 +1,4 @@
-//! Sessions: threads: free runs, where each worker steps in a thread of its own; drives, which carry orders to seats.
+//! Sessions: threads: free runs, where each worker steps in a thread of its own; drives, rounds of orders for seats.
 //!
 //! - `free_run` opens a session over a book, lets its workers make their rounds, and closes it
 //!   (`run_freely`). `freely` does that over the seats of a session (`free`). `runner` is a worker that makes

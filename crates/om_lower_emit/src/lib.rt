@@ -1,4 +1,4 @@
-//! Lowering: writes code for expressions, tests, declarations, clauses, jumps, begins and ends of loops and constructs.
+//! Lowering: writes code for expressions, tests, declarations, clauses, jumps, ends of loops and constructs; scopes.
 //!
 //! om_lower has the recursion over statements, and the begins and ends of worksharing loops and `sections`. A
 //! construct with a statement in it is written by a begin, the statement and an end. The begin makes the

@@ -1,4 +1,4 @@
-//! The store: what each object holds.
+//! The memory of a run: what each object holds, the controls of the workers among them.
 
 ghost use Rattle.std.specs.Prelude.{◌≡◌, ◌<◌, [], All, true, false, IfOk, OnOk, OnErr, unwrap_or, neg_ℤ, length};
 ghost use Rattle.std.specs.Option.{option_copied};
@@ -29,7 +29,7 @@ use std::mem;
 /// A total map from objects to values: an object that isn't kept holds its default.
 ///
 /// The workers' controls are changed in place, and their trails keep what takes each change back.
-/// Contracts see the store as the state `state_of`, whether an object is kept as `is_kept`, and what
+/// Contracts see it as the state `state_of`, whether an object is kept as `is_kept`, and what
 /// the controls were before their changes as `pasts_of`. What is kept can be put back without a
 /// request for memory.
 pub struct Memory {
@@ -71,7 +71,7 @@ fn grow(alloc: Global, trails: &mut Vec<Trail>, worker: u8) -> AllocResult<()>
 }
 
 impl Memory {
-    /// The store in which each object holds its default. It takes no memory.
+    /// The memory in which each object holds its default. It takes no memory.
     pub fn new(alloc: Global) -> Memory
         ensures state { state_of result ≡ default_of }
         ensures pasts { pasts_of result ≡ (λ q. []) }

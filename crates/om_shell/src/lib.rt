@@ -1,4 +1,4 @@
-//! Commands and answers: a session over byte streams: reads files, source and lines, writes answers; exit status.
+//! Commands and answers: a session over streams: reads files, source, lines; writes answers, refusals; exit status.
 //!
 //! `run` reads a source and then commands, and writes each answer before it reads on. It answers how the run
 //! ended (`Ended`), or what broke it off (`ShellFault`).

@@ -1,4 +1,4 @@
-//! History: the steps that stand, with their undo records: step, undo, roll, causal cones, under any rules; laws.
+//! History: the steps that stand, each with its choice and undo record: step, undo, roll, cones, under any rules; laws.
 //!
 //! A `History` is a `Memory` with the entries that led to it. It makes a step (`take`), takes one back
 //! (`undo`), and takes a causal cone back (`cone`, `roll`). It serves every program: om_undo hands it the
