@@ -16,7 +16,7 @@ struct Count {
     seeds: u64,
     // The last seed that was told; 0 where none was.
     last: u64,
-    // Whether each was the one behind the last, and the hunt told how many there are.
+    // Whether each was the one after the last, and the hunt told how many there are.
     is_in_turn: bool,
 }
 
@@ -29,7 +29,7 @@ impl Progress for Count {
 }
 
 impl Count {
-    // The last seed that was told, behind all from 1 on unless the line says otherwise.
+    // The last seed that was told. All from 1 on were told in turn, unless the line says otherwise.
     fn line(&self, alloc: Global) -> AllocResult<String> {
         let last = self.last;
         let order = if self.is_in_turn { "" } else { ", out of turn" };
@@ -37,8 +37,8 @@ impl Count {
     }
 }
 
-/// What a hunt writes: the seeds that it told, and its report. Where it finds nothing, what ompback answers to
-/// `run` and `output` alone stands behind.
+/// What a hunt writes: the last seed that it told, and its report. Where it finds nothing, there follows what
+/// ompback answers to `run` and `output` alone.
 ///
 /// What the program is to print is the input of the section, if it has one.
 pub(crate) fn hunted<R: Threads + Wait + Sync>(

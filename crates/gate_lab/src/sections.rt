@@ -1,9 +1,9 @@
 //! The sections of the input, and what is told of each.
 //!
 //! A section begins with a line `== HEAD`. The next line is a subcommand with its numbers: `check`, `script`,
-//! `cone SERIAL`, `notes`, `draw` or `hunt SEEDS STEPS`. Below stands a C source, and behind a line `%%` the
-//! input: commands, answers, or what the program is to print in a hunt. The line end before the next head is no
-//! part of the input, so an input that ends with a line end is followed by an empty line.
+//! `cone SERIAL`, `notes`, `draw` or `hunt SEEDS STEPS`. Below it stands a C source. After a line `%%` stands the
+//! input: commands, answers, or what the program of a hunt is to print. The line end before the next head is no
+//! part of the input. So an empty line follows an input that ends with a line end.
 //!
 //! What is told has the same form: the head, the exit status, and the text that was written.
 
@@ -62,7 +62,7 @@ fn given_in(rest: &str) -> Given<'_> {
     }
 }
 
-/// What stands before and behind a character; nothing behind, where a text does not have it.
+/// What stands before and after a character; nothing after it, where a text does not have it.
 pub(crate) fn cut(text: &str, mark: char) -> (&str, &str) {
     text.split_once(mark).unwrap_or((text, ""))
 }
