@@ -135,9 +135,9 @@ note_statement-note_statement-requires-in-Loop t c = (
     weight_loop _ _ _ _ _ _ c.in-Loop.is,
     ap all_weight_of c.deref-in-Loop-2.ensures,
     ap (λ xs. sum (map clause_weight (map view.clause xs))) c.as_slice-in-Loop.ensures.value,
-    clauses_behind (map view.clause c.as_slice-in-Loop.result.now) c.args.walk.now.found c.note_clauses.new.found c.in_ok-note_clauses-in-Loop.ensures,
+    clauses_behind (map view.clause c.as_slice-in-Loop.result.now) c.args.walk.now.found c.note_clauses-in-Loop.new.found c.in_ok-note_clauses-in-Loop.ensures,
     ap (λ l. loop_weight (view.loop l)) c.deref-in-Loop.ensures,
-    loop_behind (view.loop c.deref-in-Loop.result.now) c.note_clauses.new.found c.note_loop.new.found c.in_ok-note_loop-in-Loop.ensures,
+    loop_behind (view.loop c.deref-in-Loop.result.now) c.note_clauses-in-Loop.new.found c.note_loop.new.found c.in_ok-note_loop-in-Loop.ensures,
     c.requires.room,
   ),
 )
@@ -210,7 +210,7 @@ note_statement-note_loop-requires t c =
       weight_loop _ _ _ _ _ _ c.in-Loop.is,
       ap (λ l. loop_weight (view.loop l)) c.deref-in-Loop.ensures,
       ap (λ xs. sum (map clause_weight (map view.clause xs))) c.as_slice-in-Loop.ensures.value,
-      clauses_behind (map view.clause c.as_slice-in-Loop.result.now) c.args.walk.now.found c.note_clauses.new.found c.in_ok-note_clauses-in-Loop.ensures,
+      clauses_behind (map view.clause c.as_slice-in-Loop.result.now) c.args.walk.now.found c.note_clauses-in-Loop.new.found c.in_ok-note_clauses-in-Loop.ensures,
       c.requires.room,
     )
 
@@ -272,9 +272,9 @@ note_statement-note_perhaps-requires t c =
       c.requires.room,
     )
 
-pub note_statement-note_clauses-requires : goal.note_statement-note_clauses-requires
+pub note_statement-note_clauses-requires-in-Loop : goal.note_statement-note_clauses-requires-in-Loop
 unfolding IsRoomFor
-note_statement-note_clauses-requires t c =
+note_statement-note_clauses-requires-in-Loop t c =
     omega (
       arith,
       weight_loop _ _ _ _ _ _ c.in-Loop.is,
@@ -320,9 +320,9 @@ note_statement-note_update-requires t c =
       c.requires.room,
     )
 
-pub note_statement-note_clauses-requires-in-Region : goal.note_statement-note_clauses-requires-in-Region
+pub note_statement-note_clauses-requires : goal.note_statement-note_clauses-requires
 unfolding IsRoomFor
-note_statement-note_clauses-requires-in-Region t c =
+note_statement-note_clauses-requires t c =
     omega (
       arith,
       weight_region _ _ _ _ _ _ c.in-Region.is,
@@ -345,7 +345,7 @@ note_statement-note_region-requires t c = (
     weight_region _ _ _ _ _ _ c.in-Region.is,
     ap (λ xs. sum (map clause_weight (map view.clause xs))) c.as_slice-in-Region.ensures.value,
     ap all_weight_of c.deref-in-Region.ensures,
-    clauses_behind (map view.clause c.as_slice-in-Region.result.now) c.args.walk.now.found c.note_clauses-in-Region.new.found c.in_ok-note_clauses-in-Region.ensures,
+    clauses_behind (map view.clause c.as_slice-in-Region.result.now) c.args.walk.now.found c.note_clauses.new.found c.in_ok-note_clauses-in-Region.ensures,
     c.requires.room,
   ),
 )
