@@ -5,13 +5,13 @@ use Rattle.om_code.specs.declared.raw.Raw.{Raw}
 use Rattle.om_undo_history.specs.Cones.{transitions}
 use Rattle.om_undo.specs.Machines.{MachineView, rules_for}
 use Rattle.om_book.specs.Books.{BookView}
-use Rattle.lab_graph.specs.declared.sketch.Traced.{Traced}
+use Rattle.lab_graph.specs.declared.traced.Traced.{Traced}
 use Rattle.lab_graph.specs.declared.picture.StepBox.{StepBox}
 use Rattle.lab_graph.specs.declared.picture.Arrow.{Arrow}
 use Rattle.lab_graph.specs.Pictures.{box_of, IsArrow}
 use Rattle.lab_replay.specs.Traces.{transition_of}
 use Rattle.lab_draw.specs.declared.scale.Scale.{Scale}
-use Rattle.lab_draw.specs.declared.drawing.Page as outcome
+use Rattle.lab_draw.specs.declared.outcome.Page as outcome
 use Rattle.lab_draw.specs.Marks.{boxes_text}
 use Rattle.lab_draw.specs.Strokes.{arrows_text}
 use Rattle.lab_draw.specs.Pages.{Leaves, IsDrawing, IsShown, IsPage}

@@ -6,16 +6,16 @@ use Rattle.om_undo_history.specs.Cones.{transitions}
 use Rattle.om_undo.specs.Machines.{MachineView, rules_for}
 use Rattle.om_book.specs.Books.{BookView, machine_of}
 use Rattle.om_shell.specs.declared.ended.Ended.{Ended}
-use Rattle.om_shell.specs.declared.shell.Options.{Options}
+use Rattle.om_shell.specs.declared.options.Options.{Options}
 use Rattle.om_shell.specs.Files.{ReadsAll}
 use Rattle.om_shell.specs.Ends.{RunsToEnd}
 use Rattle.om_shell.specs.Progress.{moment_of}
-use Rattle.lab_graph.specs.declared.sketch.Traced.{Traced}
+use Rattle.lab_graph.specs.declared.traced.Traced.{Traced}
 use Rattle.lab_graph.specs.declared.picture.Arrow.{Arrow}
 use Rattle.lab_graph.specs.declared.picture.Picture.{Picture}
 use Rattle.lab_draw.specs.declared.scale.Scale.{Scale}
-use Rattle.lab_draw.specs.declared.drawing.Page as outcome
-use Rattle.lab_draw.specs.declared.drawing.Page.TheVariants.{Drawn, Refused}
+use Rattle.lab_draw.specs.declared.outcome.Page as outcome
+use Rattle.lab_draw.specs.declared.outcome.Page.TheVariants.{Drawn, Refused}
 use Rattle.lab_graph.specs.Pictures.{box_of, IsArrow}
 use Rattle.lab_replay.specs.Traces.{transition_of}
 use Rattle.lab_draw.specs.Marks.{boxes_text}

@@ -7,6 +7,7 @@ ghost use Rattle.lab_draw.specs.Pages.{EndsSo, HasElements, IsDrawing, IsShown, 
 use crate::beside::{Beside, beside_of, push_beside};
 use crate::front::push_front;
 use crate::marks::push_boxes;
+use crate::outcome::Page;
 use crate::scale::Scale;
 use crate::strokes::push_arrows;
 use crate::style::FOOT;
@@ -20,15 +21,6 @@ use std::alloc::Global;
 use std::io::Read;
 use std::sync::Wait;
 use std::thread::Threads;
-
-/// What comes of a session.
-#[derive(Drop)]
-pub enum Page {
-    /// The page, as HTML.
-    Drawn(Vec<u8>),
-    /// The source was refused: the line that tells why and where, with its line feed.
-    Refused(Vec<u8>),
-}
 
 /// The page of a session: its source beside its causal history.
 ///

@@ -13,10 +13,12 @@ mod escape;
 mod front;
 mod marks;
 mod object;
+mod outcome;
 mod scale;
 mod story;
 mod strokes;
 mod style;
 
-pub use drawing::{Page, page};
+pub use drawing::page;
+pub use outcome::Page;
 pub use scale::Scale;

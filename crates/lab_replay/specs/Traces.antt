@@ -10,7 +10,7 @@ use Rattle.om_undo_history.specs.declared.history.History.{History}
 use Rattle.om_undo_history.specs.Runs.{label_of}
 use Rattle.om_undo_history.specs.Cones.{Transition, transitions}
 use Rattle.om_undo_history.specs.Pasts.{past_in, history_in, IsHeld}
-use Rattle.om_task.specs.declared.planning.Plan.{Plan}
+use Rattle.om_task.specs.declared.planned.Plan.{Plan}
 use Rattle.om_task.specs.Rules.{rules_of}
 use Rattle.om_undo.specs.Machines.{IsPlan, MachineView, rules_for}
 use Rattle.lab_graph.specs.declared.sketch.Traced.{Traced}

@@ -16,8 +16,8 @@ use Rattle.om_state.specs.State.{State, values_read}
 use Rattle.om_team_serial.specs.declared.row.Answer.{Answer}
 use Rattle.om_team_serial.specs.declared.row.Row.{Row}
 use Rattle.om_team_serial.specs.declared.row.Row.TheVariants.{Goes}
-use Rattle.om_task.specs.declared.planning.Plan.{Plan}
-use Rattle.om_task.specs.declared.planning.Plan.TheVariants as plan
+use Rattle.om_task.specs.declared.planned.Plan.{Plan}
+use Rattle.om_task.specs.declared.planned.Plan.TheVariants as plan
 use Rattle.om_task.specs.Rules.{further_in, row_in, outcome_after, line_in}
 
 -- the label of a worker by a choice

@@ -15,6 +15,7 @@ ghost use Rattle.om_task.specs.Plans.{label_at, RowHasRoom, names_of, effect_at,
 ghost use Rattle.om_task.specs.Rules.{is_at_scheduling_point, line_in, rules_of};
 
 use crate::admit::{admits, instruction, leaving};
+use crate::planned::Plan;
 use crate::table::answer;
 use crate::task_start::{Starting, start};
 use om_code::Program;
@@ -27,18 +28,6 @@ use om_team::answers::footprint;
 use om_team::table::instruction_of;
 use om_team_serial::{Answer, Row};
 use std::alloc::Global;
-
-/// What comes of a worker's choice: the plan of its step.
-#[derive(Drop)]
-pub enum Plan {
-    /// It can be taken.
-    Updates(Change),
-    /// It can't be taken now.
-    Blocked(Blocked),
-    /// The worker has nothing more to do: its program has ended, it met a fault, or its code lacks
-    /// what the instruction needs.
-    Ended,
-}
 
 /// A choice of one of so many workers. A choice is large, so it stays where it is.
 #[derive(Clone, Copy)]

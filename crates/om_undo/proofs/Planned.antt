@@ -14,8 +14,8 @@ use Rattle.om_state.specs.Edits.{HaveRoom}
 use Rattle.om_state.specs.Rules.{Rules, step_at}
 use Rattle.om_state.specs.State.{State}
 use Rattle.om_state.specs.Values.{control_in}
-use Rattle.om_task.specs.declared.planning.Plan.{Plan}
-use Rattle.om_task.specs.declared.planning.Plan.TheVariants as plan
+use Rattle.om_task.specs.declared.planned.Plan.{Plan}
+use Rattle.om_task.specs.declared.planned.Plan.TheVariants as plan
 use Rattle.om_task.specs.Plans.{PlanHasRoom}
 use Rattle.om_undo_history.specs.declared.history.History as kept
 use Rattle.om_undo_history.specs.declared.reply.StepReply.{StepReply}

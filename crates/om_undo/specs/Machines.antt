@@ -7,7 +7,7 @@ use Rattle.om_state.specs.Values.{control_in}
 use Rattle.om_state.specs.declared.control.Control.{Control}
 use Rattle.om_state.specs.declared.step.Label.{Label}
 use Rattle.om_state.specs.Rules.{Rules, step_at, replay}
-use Rattle.om_task.specs.declared.planning.Plan.{Plan}
+use Rattle.om_task.specs.declared.planned.Plan.{Plan}
 use Rattle.om_task.specs.Plans.{StandsFor, PlanHasRoom}
 use Rattle.om_task.specs.Rules.{rules_of}
 use Rattle.om_undo_history.specs.declared.history.History as kept

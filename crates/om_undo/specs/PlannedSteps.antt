@@ -3,7 +3,7 @@ use Rattle.std.specs.Prelude.{Bool, true, false}
 use Rattle.om_foot.specs.declared.object.Obj.TheVariants as obj
 use Rattle.om_state.specs.Values.{control_in}
 use Rattle.om_state.specs.declared.step.Label.{Label}
-use Rattle.om_task.specs.declared.planning.Plan.{Plan}
+use Rattle.om_task.specs.declared.planned.Plan.{Plan}
 use Rattle.om_task.specs.Plans.{PlanHasRoom}
 use Rattle.om_undo_history.specs.declared.reply.StepReply.{StepReply}
 use Rattle.om_undo_history.specs.declared.reply.StepReply.TheVariants as step_reply
