@@ -6,11 +6,11 @@ use Rattle.om_undo_history.specs.Cones.{transitions}
 use Rattle.om_undo.specs.Machines.{MachineView, rules_for}
 use Rattle.om_book.specs.Books.{BookView, machine_of}
 use Rattle.om_shell.specs.declared.ended.Ended.{Ended}
-use Rattle.om_shell.specs.declared.options.Options.{Options}
+use Rattle.om_shell.specs.declared.shell.Options.{Options}
 use Rattle.om_shell.specs.Files.{ReadsAll}
 use Rattle.om_shell.specs.Ends.{RunsToEnd}
 use Rattle.om_shell.specs.Progress.{moment_of}
-use Rattle.lab_graph.specs.declared.traced.Traced.{Traced}
+use Rattle.lab_graph.specs.declared.sketch.Traced.{Traced}
 use Rattle.lab_graph.specs.declared.picture.Arrow.{Arrow}
 use Rattle.lab_graph.specs.declared.picture.Picture.{Picture}
 use Rattle.lab_draw.specs.declared.scale.Scale.{Scale}
