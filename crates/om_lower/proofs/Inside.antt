@@ -17,11 +17,11 @@ use Rattle.om_scope_tree.specs.ResolvedTree.{ResolvedPartsTree, ResolvedStatemen
 use Rattle.om_scope_tree.specs.ResolvedView as view
 use Rattle.om_scope_tree.specs.Whole.{part_count}
 use Rattle.om_lower_rules.specs.Bodies.{Numbers, behind}
-use Rattle.om_lower_rules.specs.Coded.{AssignmentHasCode, EffectHasCode, LoopHasCode, PartsHaveCode, StartHasCode}
-use Rattle.om_lower_rules.specs.Coded.{StatementHasCode, StatementsHaveCode, ValueHasCode}
+use Rattle.om_lower_rules.specs.Coded.{AssignmentHasCode, EffectHasCode, LoopHasCode, PartsHaveCode, RegionIsCoded}
+use Rattle.om_lower_rules.specs.Coded.{StartHasCode, StatementHasCode, StatementsHaveCode, ValueHasCode}
 use Rattle.om_lower_rules.specs.declared.tables.Numbers as tables
 use Rattle.om_lower.proofs.Views.{view_construct, view_do, view_for, view_if, view_if_else, view_loop, view_sections}
-use Rattle.om_lower.proofs.Views.{view_while}
+use Rattle.om_lower.proofs.Views.{view_region, view_while}
 
 -- ---- smaller
 
@@ -89,6 +89,15 @@ pub while_code : (breaks continues : Bool) (tree : ResolvedStatement) (at : _) (
     → ValueHasCode (view.expression c) × StatementHasCode true true (view.statement s.value)
 while_code breaks continues tree at c s is code =
     subst (λ z. StatementHasCode breaks continues z) (ap view.statement is ∙ view_while at c s) code
+
+pub region_code : (breaks continues : Bool) (tree : ResolvedStatement) (at : _) (kind : _) (clauses : _) (captures : _)
+    (s : _) (xs : _) → tree ≡ v.Region at kind clauses captures s → xs ≡ clauses.items
+    → StatementHasCode breaks continues (view.statement tree)
+    → RegionIsCoded true kind (map view.clause xs)
+region_code breaks continues tree at kind clauses captures s xs is listed code =
+    subst (λ ys. RegionIsCoded true kind (map view.clause ys)) (sym listed)
+    (subst (λ z. StatementHasCode breaks continues z) (ap view.statement is
+    ∙ view_region at kind clauses captures s) code)
 
 pub do_code : (breaks continues : Bool) (tree : ResolvedStatement) (at : _) (s : _) (c : _) → tree ≡ v.Do at s c
     → StatementHasCode breaks continues (view.statement tree)

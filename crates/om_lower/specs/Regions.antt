@@ -1,5 +1,5 @@
 -- What is promised of what stands in the place of a `parallel` or a `task`.
-use Rattle.std.specs.Prelude.{◌≡◌, ℕ, List, false, IfOk, OnOk, Result, map}
+use Rattle.std.specs.Prelude.{◌≡◌, ℕ, List, true, IfOk, OnOk, Result, map}
 use Rattle.om_scope_tree.specs.declared.resolved.RegionKind.{RegionKind}
 use Rattle.om_scope_tree.specs.declared.resolved.RegionKind.TheVariants as kinds
 use Rattle.om_scope_tree.specs.declared.resolved.ResolvedClause.{ResolvedClause}
@@ -47,7 +47,7 @@ task_of region = tree_as kinds.Task region
 
 -- what stands in its place has code
 abbrev pub RegionHasCode : Region → Type 0
-RegionHasCode region = RegionIsCoded false region.kind (clauses_of region)
+RegionHasCode region = RegionIsCoded true region.kind (clauses_of region)
 
 -- the slots of its body, by the variables that they hold
 abbrev pub slots_of : Region → List ℕ

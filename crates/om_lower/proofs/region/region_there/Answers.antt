@@ -1,11 +1,11 @@
-use Rattle.std.proofs.Common.{false, sym, subst}
+use Rattle.std.proofs.Common.{true, sym, subst}
 use Rattle.om_lower.specs.Regions.{EmitsRegion, clauses_of, tree_as}
 use Rattle.om_lower_rules.specs.Coded.{RegionIsCoded}
 use Rattle.om_lower.proofs.region.region_there.Goals as goal
 
 pub parallel-requires-clause-code : goal.parallel-requires-clause-code
 parallel-requires-clause-code c =
-    subst (λ kind. RegionIsCoded false kind (clauses_of c.args.region.now)) c.in-Parallel.is c.requires.code
+    subst (λ kind. RegionIsCoded true kind (clauses_of c.args.region.now)) c.in-Parallel.is c.requires.code
 
 pub returns-in-Parallel-clause-emitted : goal.returns-in-Parallel-clause-emitted
 returns-in-Parallel-clause-emitted c =

@@ -30,7 +30,7 @@ use Rattle.om_lower.proofs.PartLists.{free_first, free_start, items_are, left_co
 use Rattle.om_lower.proofs.PartLists.{onward_parts_done, opens_are, parts_are, parts_next}
 use Rattle.om_lower.proofs.SectionsRow.{emits_sections, labels_are}
 use Rattle.om_lower.proofs.Inside.{atomic_ends, code_here, if_code, if_else_code, parts_code_here, sections_few}
-use Rattle.om_lower.proofs.Inside.{while_code}
+use Rattle.om_lower.proofs.Inside.{region_code, while_code}
 use Rattle.om_lower.proofs.Within.{block_within, construct_within, do_within, else_within, for_within, if_within}
 use Rattle.om_lower.proofs.Within.{loop_within, parts_within, then_within, while_within, with_depth}
 use Rattle.om_lower_rules.specs.Scopes.{all_scopes, scopes}
@@ -561,6 +561,11 @@ statement-begin_if-requires-in-IfElse t c =
 pub statement-begin_while-requires : goal.statement-begin_while-requires
 statement-begin_while-requires t c =
     (while_code _ _ c.args.tree.now c.in-While.at c.in-While.condition c.in-While.body c.in-While.is c.requires.code).0
+
+pub statement-region_there-requires-clause-code : goal.statement-region_there-requires-clause-code
+statement-region_there-requires-clause-code t c =
+    region_code _ _ c.args.tree.now c.in-Region.at c.in-Region.kind c.in-Region.clauses c.in-Region.captures
+    c.in-Region.body _ c.in-Region.is c.as_slice-in-Region.ensures.value c.requires.code
 
 pub statement-region_there-requires-clause-known : goal.statement-region_there-requires-clause-known
 statement-region_there-requires-clause-known t c =
