@@ -1,9 +1,9 @@
 //! A stack of items: contracts see them from the top down.
 
-ghost use Rattle.std.specs.Prelude.{◌≡◌, ◌++◌, ◌↔◌, ◌≤◌, [], ◌∷◌, IsTrue, IfOk, OnOk, OnErr, length, drop, slice_get, reverse, option_map};
+ghost use Rattle.std.specs.Prelude.{◌≡◌, ◌++◌, ◌↔◌, ◌≤◌, [], ◌∷◌, IsTrue, IfOk, IfErr, OnOk, OnErr, length, drop, slice_get, reverse, option_map};
 
 use crate::AllocResult;
-use std::alloc::Global;
+use std::alloc::{AllocFailed, Global};
 use std::marker::Model;
 
 /// A stack of items, kept as a vector whose last item is the top.
@@ -60,18 +60,16 @@ impl<T> Pile<T> {
         self.items.as_slice()
     }
 
-    /// Pushes an item. When out of memory, the stack is unchanged and the item is gone.
-    pub fn push(&mut self, item: T) -> AllocResult<()>
-    where
-        T: Drop,
+    /// Pushes an item. When out of memory, the stack is unchanged, and the item comes back.
+    pub fn push(&mut self, item: T) -> Result<(), AllocFailed<T>>
         ensures pushed { OnOk result (self.new ≡ item ∷ self.old) }
         ensures unchanged_on_error { OnErr result (self.new ≡ self.old) }
+        ensures item_back { IfErr result (λ failed. failed.value ≡ item) }
     {
-        self.items.push(item)?;
-        Ok(())
+        self.items.push(item)
     }
 
-    /// Takes the top item off; `None` exactly where there is none.
+    /// Takes the top item off; `None` exactly where there is none. It takes no memory.
     pub fn pop(&mut self) -> Option<T>
         ensures top { result ≡ slice_get self.old 0 }
         ensures rest { self.new ≡ drop 1 self.old }
