@@ -136,15 +136,7 @@ comparison_direction binaries.Less = Some directions.Up
 comparison_direction binaries.LessEqual = Some directions.Up
 comparison_direction binaries.Greater = Some directions.Down
 comparison_direction binaries.GreaterEqual = Some directions.Down
-comparison_direction binaries.Or = None
-comparison_direction binaries.And = None
-comparison_direction binaries.Equal = None
-comparison_direction binaries.NotEqual = None
-comparison_direction binaries.Add = None
-comparison_direction binaries.Subtract = None
-comparison_direction binaries.Multiply = None
-comparison_direction binaries.Divide = None
-comparison_direction binaries.Remainder = None
+comparison_direction _ = None
 
 -- where the variable is bounded, and by what
 pub record Bound : Type 0 where
@@ -160,16 +152,7 @@ compared o b = comparison_direction o >>= λ direction. Some (bounded o b direct
 
 abbrev pub bound_of : ExpressionTree → List ℕ → Option Bound
 bound_of (Binary a o at b) name = if is_named a name then compared o b else None
-bound_of (Name n) name = None
-bound_of (Constant n) name = None
-bound_of (Text t) name = None
-bound_of (Paren left e right) name = None
-bound_of (Index n left e right) name = None
-bound_of (Call n left values right) name = None
-bound_of (Prefix o at e) name = None
-bound_of (Postfix e o at) name = None
-bound_of (Conditional c question a colon b) name = None
-bound_of (Assign a o at b) name = None
+bound_of _ _ = None
 
 -- ---- `i++`, `i += c`, `i = i + c` and their kin
 
@@ -196,51 +179,23 @@ subtracted_step a b name = if is_named a name then stride_in directions.Down b e
 abbrev pub sum_step : BinaryOperator → ExpressionTree → ExpressionTree → List ℕ → Option Step
 sum_step binaries.Add a b name = added_step a b name
 sum_step binaries.Subtract a b name = subtracted_step a b name
-sum_step binaries.Or a b name = None
-sum_step binaries.And a b name = None
-sum_step binaries.Equal a b name = None
-sum_step binaries.NotEqual a b name = None
-sum_step binaries.Less a b name = None
-sum_step binaries.Greater a b name = None
-sum_step binaries.LessEqual a b name = None
-sum_step binaries.GreaterEqual a b name = None
-sum_step binaries.Multiply a b name = None
-sum_step binaries.Divide a b name = None
-sum_step binaries.Remainder a b name = None
+sum_step _ _ _ _ = None
 
 abbrev pub value_step : ExpressionTree → List ℕ → Option Step
 value_step (Binary a o at b) name = sum_step o a b name
-value_step (Name n) name = None
-value_step (Constant n) name = None
-value_step (Text t) name = None
-value_step (Paren left e right) name = None
-value_step (Index n left e right) name = None
-value_step (Call n left values right) name = None
-value_step (Prefix o at e) name = None
-value_step (Postfix e o at) name = None
-value_step (Conditional c question a colon b) name = None
-value_step (Assign a o at b) name = None
+value_step _ _ = None
 
 abbrev pub assigned_step : AssignOperator → ExpressionTree → List ℕ → Option Step
 assigned_step assigns.Set value name = value_step value name
 assigned_step assigns.Add value name = stride_in directions.Up value
 assigned_step assigns.Subtract value name = stride_in directions.Down value
-assigned_step assigns.Multiply value name = None
-assigned_step assigns.Divide value name = None
-assigned_step assigns.Remainder value name = None
+assigned_step _ _ _ = None
 
 abbrev pub step_in : ExpressionTree → List ℕ → Option Step
 step_in (Prefix o at e) name = if is_named e name then prefix_step o else None
 step_in (Postfix e o at) name = if is_named e name then Some (postfix_step o) else None
 step_in (Assign a o at b) name = if is_named a name then assigned_step o b name else None
-step_in (Name n) name = None
-step_in (Constant n) name = None
-step_in (Text t) name = None
-step_in (Paren left e right) name = None
-step_in (Index n left e right) name = None
-step_in (Call n left values right) name = None
-step_in (Binary a o at b) name = None
-step_in (Conditional c question a colon b) name = None
+step_in _ _ = None
 
 abbrev pub is_up : Direction → Bool
 is_up directions.Up = true
