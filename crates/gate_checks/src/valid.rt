@@ -131,6 +131,7 @@ fn body_of(alloc: Global, code: &[Instr], slots: u32) -> AllocResult<Body> {
         slots: Seq::of(slots),
         given: Seq::new(alloc),
         names: Names {
+            function: Seq::new(alloc),
             scopes: Seq::new(alloc),
             outer: Seq::new(alloc),
         },

@@ -72,7 +72,7 @@ over_code tree b fits = long fits.0 fits.1 fits.2 fits.3
 pub made_body : (tree : ResolvedTree) (b : BodySite) (made : Emitted) (slots : List Slot)
     (given : List ℕ) (names : raws.Names)
     → FitsFrame (variables_of b) (slots_of b) (Some slots) → FitsCode tree b (Some made)
-    → given ≡ given_of b → names ≡ names_with (variables_of b) b.outer made.scopes.items
+    → given ≡ given_of b → names ≡ names_with b.function.name (variables_of b) b.outer made.scopes.items
     → IsMade tree made.lists.items b (record { code = made.code; slots = slots; given = given; names = names })
 made_body tree b made slots given names frame fits same named = record {
   code = fits.0;

@@ -35,12 +35,12 @@ use Rattle.om_lower_rules.specs.Ends.{function_ends}
 use Rattle.om_lower_rules.specs.Numbering.{numbers_of}
 use Rattle.om_lower_rules.specs.ProgramTables.{AreCellsOf, ends_in}
 
--- what names mean in a body, by its scopes, in every program that has these lists of PICK
+-- what names mean in a body, by its function and its scopes, in every program that has these lists of PICK
 pub record AreNames (tree : ResolvedTree) (lists : List PickList) (b : BodySite) (code : List Line) (names : Names)
     : Type 0 where
   pub scopes : List VariableScope
   pub stand : (picks : List (List ℕ)) → ListsStand lists picks → AreScopesAt tree picks b code scopes
-  pub named : names ≡ names_with (variables_of b) b.outer scopes
+  pub named : names ≡ names_with b.function.name (variables_of b) b.outer scopes
 
 -- a body of the tree, in every program that has these lists of PICK
 pub record IsMade (tree : ResolvedTree) (lists : List PickList) (b : BodySite) (body : Body) : Type 0 where

@@ -32,18 +32,18 @@ abbrev pub clauses_of : Region → List ResolvedClauseTree
 clauses_of region = map view.clause region.clauses.now
 
 -- the statement that has these parts, as a region of this kind
-abbrev pub tree_as : RegionKind → Region → ResolvedStatementTree
-tree_as kind region =
+abbrev pub statement_as : RegionKind → Region → ResolvedStatementTree
+statement_as kind region =
     trees.Region region.at kind (clauses_of region) region.captures.now (view.statement region.statement.now)
 
-abbrev pub tree_of : Region → ResolvedStatementTree
-tree_of region = tree_as region.kind region
+abbrev pub region_statement : Region → ResolvedStatementTree
+region_statement region = statement_as region.kind region
 
 abbrev pub parallel_of : Region → ResolvedStatementTree
-parallel_of region = tree_as kinds.Parallel region
+parallel_of region = statement_as kinds.Parallel region
 
 abbrev pub task_of : Region → ResolvedStatementTree
-task_of region = tree_as kinds.Task region
+task_of region = statement_as kinds.Task region
 
 -- what stands in its place has code
 abbrev pub RegionHasCode : Region → Type 0

@@ -190,7 +190,9 @@ fn add_with(made: &mut Bodies, seen: &SeenBody<'_>, slots: Seq<Slot>) -> AllocRe
         lists,
         scopes,
     } = emitted;
-    let names = names_with(seen.known.input.alloc, scopes, seen.variables, seen.outer)?;
+    let alloc = seen.known.input.alloc;
+    let function = seen.site.function.name.as_slice();
+    let names = names_with(alloc, function, scopes, seen.variables, seen.outer)?;
     let body = Body {
         code,
         slots,

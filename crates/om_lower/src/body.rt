@@ -15,8 +15,8 @@ use om_code::Instr;
 use om_code::instruction::Barrier;
 use om_code::raw::Line;
 use om_lower_emit::Here;
-use om_lower_emit::clause::{parameters, reduction_starts, reductions, task_copies};
-use om_lower_emit::declaration::last_instruction;
+use om_lower_emit::clause::{reduction_starts, reductions, task_copies};
+use om_lower_emit::declaration::{begin_parameters, last_instruction};
 use om_lower_emit::draft::PickList;
 use om_lower_emit::spot::Spot;
 use om_lower_emit::writing::Writing;
@@ -86,7 +86,7 @@ fn write_function(
     ensures scopes { WritesOwnScopes result tables.now function.now writing.old writing.new }
 {
     let height = writing.scopes.height();
-    parameters(&mut writing.scopes, function.parameters.as_slice())?;
+    begin_parameters(&mut writing.scopes, function.parameters.as_slice())?;
     let spot = Spot::outside(numbers);
     statements(alloc, writing, tables, spot, function.body.as_slice())?;
     let last = last_instruction(tables.is_main, false);

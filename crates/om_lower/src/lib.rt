@@ -1,8 +1,8 @@
 //! Lowering: puts the code of statements, regions and bodies together, within limits; makes the program and its texts.
 //!
 //! `lower` turns a `Resolved` into a `Program`. The code is that of om_lower_rules, with a line for each
-//! instruction and the scopes of its names. The first function that passes a limit is refused with S11 at its
-//! name.
+//! instruction, the scopes of its names, and the name of its function. The first function that passes a limit
+//! is refused with S11 at its name.
 //!
 //! - After it is resolved, a statement is looked at four times: `tables_of` gives things their numbers,
 //!   `sites_of` finds the bodies, `add_slots` the variables of each body, and `statement` writes the code.

@@ -8,10 +8,11 @@ use om_lower_rules::{VariableScope, Variables};
 use om_seq::{AllocResult, Seq};
 use std::alloc::Global;
 
-/// What names mean in a body with these scopes and variables, in a body with those: by their slots.
-/// Its only error is out of memory.
+/// What names mean in a body of a function of this name, with these scopes and variables, in a body with
+/// those: by their slots. Its only error is out of memory.
 pub(crate) fn names_with(
     alloc: Global,
+    function: &[u8],
     named: Vec<VariableScope>,
     variables: &Variables,
     outer: &Variables,
@@ -20,11 +21,16 @@ pub(crate) fn names_with(
     requires few { length variables.now ≤ 256 }
     requires round { length outer.now ≤ 256 }
     ensures { IfOk result
-        (λ names. names ≡ names_with variables.now outer.now named.items) }
+        (λ names. names ≡ names_with function.now variables.now outer.now named.items) }
 {
     let scopes = scopes_in(alloc, named, variables)?;
     let outer = slots_among(alloc, outer, variables)?;
-    Ok(Names { scopes, outer })
+    let function = function.to_vec(alloc)?;
+    Ok(Names {
+        function: Seq::of(function),
+        scopes,
+        outer,
+    })
 }
 
 // Scopes, by the slots of a body with these variables.

@@ -2,7 +2,8 @@
 
 ghost use Rattle.std.specs.Prelude.{◌≡◌, ◌≤◌, IfOk, IfSome, OnOk, is_some, length};
 ghost use Rattle.om_lower.specs.Regions.{AppendsTeamSize, EmitsRegion, IsKnownThere, LoadsGiven, LoadsOriginals};
-ghost use Rattle.om_lower.specs.Regions.{RegionHasCode, given_to, parallel_of, slots_of, task_of, tree_of};
+ghost use Rattle.om_lower.specs.Regions.{RegionHasCode, given_to, parallel_of, region_statement, slots_of};
+ghost use Rattle.om_lower.specs.Regions.{task_of};
 ghost use Rattle.om_lower.specs.Words.{GivesBehind, ValueHasCode, value_in};
 
 use om_code::Instr;
@@ -25,8 +26,8 @@ pub(crate) fn region_there(
 ) -> AllocResult<Numbers>
     requires code { RegionHasCode region.now }
     requires known { IsKnownThere tables.now numbers region.now }
-    ensures behind { GivesBehind result numbers (tree_of region.now) }
-    ensures emitted { EmitsRegion result tables.now numbers (tree_of region.now) draft.old draft.new }
+    ensures behind { GivesBehind result numbers (region_statement region.now) }
+    ensures emitted { EmitsRegion result tables.now numbers (region_statement region.now) draft.old draft.new }
 {
     match region.kind {
         RegionKind::Parallel => parallel(alloc, draft, tables, numbers, region),

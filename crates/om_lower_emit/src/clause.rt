@@ -4,7 +4,7 @@ ghost use Rattle.std.specs.Prelude.{◌≡◌, OnOk, map, option_map};
 ghost use Rattle.om_lower_emit.specs.Words.{Appends, AppendsBy, AppendsClause, AppendsClauses, BeginsCopy};
 ghost use Rattle.om_lower_emit.specs.Words.{BeginsEach, BeginsReduction, BeginsReductions, ScopesClause, ScopesClauses};
 ghost use Rattle.om_lower_emit.specs.Words.{clause_scope, clause_start, combine_clause, identity_start};
-ghost use Rattle.om_lower_emit.specs.Words.{original_start, parameter_scope, reductions, starts, task_scope};
+ghost use Rattle.om_lower_emit.specs.Words.{original_start, reductions, starts, task_scope};
 ghost use Rattle.om_lower_emit.specs.Words.{team_from, team_scope, value_in};
 ghost use Rattle.om_scope_tree.specs.ResolvedView as view;
 
@@ -188,16 +188,6 @@ pub fn task_copies(scopes: &mut ScopeStack, clauses: &[ResolvedClause]) -> Alloc
 {
     for clause in clauses {
         begin_scope(scopes, 0, clause)?;
-    }
-    Ok(())
-}
-
-/// Begins the scopes of parameters, in the body of their function.
-pub fn parameters(scopes: &mut ScopeStack, variables: &[LocalVariable]) -> AllocResult<()>
-    ensures { BeginsEach result parameter_scope variables.now scopes.old scopes.new }
-{
-    for variable in variables {
-        scopes.begin(0, None, variable)?;
     }
     Ok(())
 }

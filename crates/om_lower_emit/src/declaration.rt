@@ -1,10 +1,10 @@
-//! Declarations, tests, and what leaves a function.
+//! Declarations, parameters, tests, and what leaves a function.
 
 ghost use Rattle.std.specs.Prelude.{◌≡◌, All, IfSome, map, option_map};
 ghost use Rattle.om_lower_emit.specs.Words.{AppendsPerhapsEffect, AppendsPerhapsTest, AppendsReturn, AppendsStart};
-ghost use Rattle.om_lower_emit.specs.Words.{AppendsTest, DeclaratorHasCode, EffectHasCode, HasNoTarget, Initializes};
+ghost use Rattle.om_lower_emit.specs.Words.{AppendsTest, BeginsEach, DeclaratorHasCode, EffectHasCode, HasNoTarget, Initializes};
 ghost use Rattle.om_lower_emit.specs.Words.{InitializesAll, ScopesDeclarator, ScopesDeclarators, ScopesStart};
-ghost use Rattle.om_lower_emit.specs.Words.{StartHasCode, ValueHasCode};
+ghost use Rattle.om_lower_emit.specs.Words.{StartHasCode, ValueHasCode, parameter_scope};
 ghost use Rattle.om_scope_tree.specs.ResolvedView as view;
 ghost use Rattle.om_lower_rules.specs.Statements as rows;
 
@@ -13,10 +13,24 @@ use crate::expression::value;
 use crate::single::store;
 use crate::spot::Here;
 use crate::unused::effect;
-use crate::writing::Writing;
+use crate::writing::{ScopeStack, Writing};
 use om_code::Instr;
-use om_scope_tree::{ResolvedDeclarator, ResolvedExpression, ResolvedStart, Variable};
+use om_scope_tree::{LocalVariable, ResolvedDeclarator, ResolvedExpression, ResolvedStart, Variable};
 use om_seq::AllocResult;
+
+/// Begins the scopes of the parameters of a function, which are in scope in all of its body (C17 6.2.1p4). They
+/// need no code: a call gives them their values.
+pub fn begin_parameters(
+    scopes: &mut ScopeStack,
+    parameters: &[LocalVariable],
+) -> AllocResult<()>
+    ensures { BeginsEach result parameter_scope parameters.now scopes.old scopes.new }
+{
+    for parameter in parameters {
+        scopes.begin(0, None, parameter)?;
+    }
+    Ok(())
+}
 
 // Writes the code of a declared name: it is made unset, or gets its initializer (C17 6.7.9).
 fn initialize(draft: &mut Draft, here: &Here<'_>, declared: &ResolvedDeclarator) -> AllocResult<()>

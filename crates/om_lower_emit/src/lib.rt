@@ -9,9 +9,9 @@
 //!   names in it (`Writing`).
 //! - `expression` writes an expression for its value, `unused` one whose value nothing uses, and `single`
 //!   what no expression stands in. `operator` has the operators of instructions.
-//! - `declaration` has declarations, tests and `return`, `clause` what copies begin with and reductions,
-//!   `construct` the begins and ends of constructs, `repeated` those of `if` and of loops. `alone` has
-//!   barriers, `atomic`, and jumps out of a loop.
+//! - `declaration` has declarations, the scopes of parameters, tests and `return`, `clause` what copies begin
+//!   with and reductions, `construct` the begins and ends of constructs, `repeated` those of `if` and of
+//!   loops. `alone` has barriers, `atomic`, and jumps out of a loop.
 //! - `Here` says where code is written: the tables of the body, and where the construct stands in the source.
 //!   `spot` says where a statement stands: the numbers of the next body and list, and the labels to which
 //!   jumps go.

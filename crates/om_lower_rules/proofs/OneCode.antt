@@ -174,7 +174,7 @@ module _ (tree : ResolvedTree) (raw other : Raw) where
       let scopes = (body_match base x.code y.code raw.picks other.picks c.function c.tree 0 (length x.code)
       (length y.code) (all_closed a.names.scopes) (all_closed b.names.scopes) a.names.stand b.names.stand).1 in
       let names = a.names.named
-      ∙ ap (λ (found : Found). names_with (variables_of c) c.outer found.closed) scopes
+      ∙ ap (λ (found : Found). names_with c.function.name (variables_of c) c.outer found.closed) scopes
       ∙ sym b.names.named in
       λ i. record { code = code i; slots = slots i; given = given i; names = names i }
 

@@ -65,11 +65,12 @@ site_of tree raw b body = record {
   is_main = is_main_function b.function;
 }
 
--- what names mean in a body: its scopes are those of its code, all of which end with it, by its slots
+-- what names mean in a body: its function has the name that the tree gives it; its scopes are those of its code, all
+-- of which end with it, by its slots
 pub record HasScopes (at : Site) (b : BodySite) (names : Names) : Type 0 where
   pub scopes : List VariableScope
   pub stand : body_scopes at b.function b.tree 0 (length at.code) (record { opened = []; closed = scopes })
-  pub named : names ≡ names_with (variables_of b) b.outer scopes
+  pub named : names ≡ names_with b.function.name (variables_of b) b.outer scopes
 
 -- a body of the program is the code of this one of the tree
 pub record IsBodyOf (tree : ResolvedTree) (raw : Raw) (b : BodySite) (body : Body) : Type 0 where

@@ -263,9 +263,11 @@ scope_in variables v = record {
   to = v.to;
 }
 
--- what names mean in a body with these variables, in a body with those, where it has these scopes
-abbrev pub names_with : (variables outer : List ℕ) → List VariableScope → Names
-names_with variables outer found = record {
+-- what names mean in a body of a function of this name, with these variables, in a body with those, where it has
+-- these scopes
+abbrev pub names_with : (function : List ℕ) → (variables outer : List ℕ) → List VariableScope → Names
+names_with function variables outer found = record {
+  function = function;
   scopes = map (scope_in variables) found;
   outer = map (slot_among outer) variables;
 }

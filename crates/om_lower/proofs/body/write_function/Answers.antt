@@ -23,6 +23,6 @@ returns-clause-scopes c =
     (λ h. function_scopes (numbered_by c.args.tables.now) (view.function c.args.function.now) _ _ _ _ _ _ _ _ _ _ _ _
     (ap (λ items. trees.statements (map view.statement items)) c.as_slice-2.ensures.value)
     c.as_slice.ensures c.height-height.ensures c.place-to.ensures
-    (c.in_ok-parameters.ensures (numbered_by c.args.tables.now) _) c.in_ok-statements.ensures.scopes c.in_ok-put.ensures
+    (c.in_ok-begin_parameters.ensures (numbered_by c.args.tables.now) _) c.in_ok-statements.ensures.scopes c.in_ok-put.ensures
     h)
     c.end.ensures
