@@ -19,6 +19,8 @@ pub mod NamedBodies
 pub mod Placed
 pub mod Given
 pub mod KnownBodies
+pub mod Asked
+pub mod TrueLayouts
 pub mod Valid
 pub mod Acting
 pub mod Stepping

@@ -18,6 +18,7 @@ pub mod Serial
 pub mod Ints
 pub mod Running
 pub mod MeaningLaws
+pub mod Layouts
 pub mod BodyTables
 pub mod Numbering
 pub mod Ends

@@ -1,5 +1,6 @@
 //! Laws of the code of a tree, whoever made it, and of the serial meaning.
 
+ghost use Rattle.om_lower_rules.specs.Layouts.{TrueLayouts};
 ghost use Rattle.om_lower_rules.specs.Laws.{BodyIsLevel, CodeFaults, CodeIsLevel, CodeIsValid, EffectRowsHaveCode};
 ghost use Rattle.om_lower_rules.specs.Laws.{FormatsAreNumbered, FunctionBodies, OneBodyCode, OneCode, RowsHaveCode};
 ghost use Rattle.om_lower_rules.specs.Laws.{StatementRowsHaveCode, ValueRowsHaveCode, WholeHasCode};
@@ -83,6 +84,13 @@ pub fn serial_meaning()
     function_bodies();
     formats_are_numbered();
 }
+
+/// In each body of the code of a whole tree, two different variables that it names have two different
+/// places, and a global is the global of its number. Each has the cells that are declared. What the
+/// body means asks for no other variables.
+pub fn true_layouts()
+    ensures { TrueLayouts }
+{}
 
 /// The value of `x++`, `x--`, `a[j]++` and `a[j]--` is the old one, where variables hold ints.
 pub fn postfix_gives_old()
