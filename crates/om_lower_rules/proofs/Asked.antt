@@ -30,7 +30,7 @@ use Rattle.om_lower_rules.specs.Meaning.{stepped_back, one, value_of, values_of,
 use Rattle.om_lower_rules.specs.Meaning.{turns, turns_first, tested, tested_if_any, effect_flow, effect_if_any, slot_number}
 use Rattle.om_lower_rules.specs.Meaning.{declared, all_declared, begun, returned, meaning, meanings}
 use Rattle.om_lower_rules.specs.Meaning as flows
-use Rattle.om_lower_rules.specs.Operators.{form_of, compound_of, step_of, inverse_step_of}
+use Rattle.om_lower_rules.specs.SourceOperators.{binary_meaning, compound_meaning, step_meaning, inverse_step_meaning}
 use Rattle.om_lower_rules.specs.Slots.{declarator_sights, start_sights, statement_sights, statements_sights}
 use Rattle.om_lower_rules.specs.Tables.{number_in}
 use Rattle.om_lower_rules.specs.Worlds.{World, Layout, with_value, after_value, with_first, load, store, clear}
@@ -100,7 +100,7 @@ module _ (tree : ResolvedTree) (b : BodySite) (at other : Layout)
     value_same (Binary a o c) around used g h s w =
         let first = value_same a around true g h.0 (front (expression_uses a) (expression_uses c) s) w in
         let second = value_same c around true g h.1 (back (expression_uses a) (expression_uses c) s) in
-        λ i. binary_value (form_of o) (first i) (λ u. second u i)
+        λ i. binary_value (binary_meaning o) (first i) (λ u. second u i)
     value_same (Conditional c x y) around used g h s w =
         let rest = back (expression_uses c) (expression_uses x ++ expression_uses y) s in
         let test = value_same c around true g h.0 (front (expression_uses c)
@@ -111,23 +111,23 @@ module _ (tree : ResolvedTree) (b : BodySite) (at other : Layout)
     value_same (Assign x o e) around used g h s w =
         let a = (same_place around _ x g h.0 (front (variable_uses x) (expression_uses e) s)).0 in
         let v = value_same e around true g h.1 (back (variable_uses x) (expression_uses e) s) in
-        λ i. assigned (a i) (compound_of o) (λ u. v u i) w
+        λ i. assigned (a i) (compound_meaning o) (λ u. v u i) w
     value_same (AssignElement x j o e) around used g h s w =
         let rest = back (variable_uses x) (expression_uses j ++ expression_uses e) s in
         let a = same_place around _ x g h.0 (front (variable_uses x) (expression_uses j ++ expression_uses e) s) in
         let place = a.0 in let cells = a.1 in
         let index = value_same j around true g h.1 (front (expression_uses j) (expression_uses e) rest) in
         let v = value_same e around true g h.2 (back (expression_uses j) (expression_uses e) rest) in
-        λ i. element_assigned (place i) (cells i) (λ u. index u i) (compound_of o) (λ u. v u i) w
+        λ i. element_assigned (place i) (cells i) (λ u. index u i) (compound_meaning o) (λ u. v u i) w
     value_same (Postfix x o) around used g h s w =
         let a = (same_place around _ x g h s).0 in
-        λ i. stepped_back (inverse_step_of o) (assigned (a i) (Some (step_of o)) one w)
+        λ i. stepped_back (inverse_step_meaning o) (assigned (a i) (Some (step_meaning o)) one w)
     value_same (PostfixElement x j o) around used g h s w =
         let a = same_place around _ x g h.0 (front (variable_uses x) (expression_uses j) s) in
         let place = a.0 in let cells = a.1 in
         let index = value_same j around true g h.1 (back (variable_uses x) (expression_uses j) s) in
-        λ i. stepped_back (inverse_step_of o) (element_assigned (place i) (cells i) (λ u. index u i)
-        (Some (step_of o)) one w)
+        λ i. stepped_back (inverse_step_meaning o) (element_assigned (place i) (cells i) (λ u. index u i)
+        (Some (step_meaning o)) one w)
 
     values_same : (es : ValuesTree) (around : Around) → IsHere around → AreWhole around es
         → Sees (values_uses es) → (w : World) → values_of at es w ≡ values_of other es w
@@ -141,12 +141,12 @@ module _ (tree : ResolvedTree) (b : BodySite) (at other : Layout)
       → Sees (expression_uses e) → (w : World) → effect_of at e w ≡ effect_of other e w
   unfolding expression_uses
   effect_same (Postfix x o) around g h s w =
-      let a = (same_place around _ x g h s).0 in λ i. assigned (a i) (Some (step_of o)) one w
+      let a = (same_place around _ x g h s).0 in λ i. assigned (a i) (Some (step_meaning o)) one w
   effect_same (PostfixElement x j o) around g h s w =
       let a = same_place around _ x g h.0 (front (variable_uses x) (expression_uses j) s) in
       let place = a.0 in let cells = a.1 in
       let index = value_same j around true g h.1 (back (variable_uses x) (expression_uses j) s) in
-      λ i. element_assigned (place i) (cells i) (λ u. index u i) (Some (step_of o)) one w
+      λ i. element_assigned (place i) (cells i) (λ u. index u i) (Some (step_meaning o)) one w
   effect_same (Print format es) around g h s w =
       let all = values_same es around g h.3 s w in λ i. printed format (all i)
   effect_same (Constant n) around g h s w = refl

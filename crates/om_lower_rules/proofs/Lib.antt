@@ -23,6 +23,7 @@ pub mod Asked
 pub mod TrueLayouts
 pub mod Valid
 pub mod Acting
+pub mod OperatorsAgree
 pub mod Stepping
 pub mod Expressions
 pub mod Printing

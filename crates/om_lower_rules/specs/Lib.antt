@@ -1,5 +1,6 @@
 pub mod Rows
 pub mod Operators
+pub mod SourceOperators
 pub mod Tables
 pub mod Slots
 pub mod Bodies
