@@ -36,6 +36,7 @@ pub use Rattle.om_lower_rules.specs.Coded.{BodyHasCode, PartsHaveCode, Statement
 pub use Rattle.om_lower_rules.specs.Coded.{LoopHasCode, ValueHasCode}
 pub use Rattle.om_lower_rules.specs.Copies.{GivesSlots, copied_variables}
 pub use Rattle.om_lower_rules.specs.Ends.{HasEnds}
+pub use Rattle.om_lower_rules.specs.Layouts.{HasTrueLayouts}
 pub use Rattle.om_lower_rules.specs.MeaningLaws.{KeepsMeaning}
 pub use Rattle.om_lower_rules.specs.Mentions.{IsTextOf}
 pub use Rattle.om_lower_rules.specs.Numbering.{numbers_of}

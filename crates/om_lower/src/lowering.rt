@@ -3,8 +3,8 @@
 ghost use Rattle.std.specs.Prelude.{◌≡◌, ◌<◌, IfErr, IfOk, OnOk, length, map, slice_set, All, false, true};
 ghost use Rattle.om_scope_tree.specs.ResolvedView as view;
 ghost use Rattle.om_code.specs.Validity.{IsLow};
-ghost use Rattle.om_lower.specs.Words.{ArePlaced, AreWithin, HasSmallWeight, IsCodeOf, IsEachOnce, IsIndexIn};
-ghost use Rattle.om_lower.specs.Words.{IsInput, IsOverIn, IsRefusal, IsWholeTree, KeepsMeaning, ListsStand};
+ghost use Rattle.om_lower.specs.Words.{ArePlaced, AreWithin, HasSmallWeight, HasTrueLayouts, IsCodeOf, IsEachOnce};
+ghost use Rattle.om_lower.specs.Words.{IsIndexIn, IsInput, IsOverIn, IsRefusal, IsWholeTree, KeepsMeaning, ListsStand};
 ghost use Rattle.om_lower.specs.Words.{TreeAtomicsAssign, TreeCopiesBehind, number_of, too_many, tree_of};
 ghost use Rattle.om_lower.specs.Heights.{AreLevel, AreLow, IsFirstHigh, IsHigh, IsLevelBody};
 
@@ -15,7 +15,7 @@ use om_code::height::check_heights;
 use om_code::{Body, CodeFault, Program};
 use om_lexer::{FaultCode, SourceFault, SourceResult};
 use om_lower_emit::draft::PickList;
-use om_lower_rules::laws::{body_is_level, serial_meaning, whole_has_code};
+use om_lower_rules::laws::{body_is_level, serial_meaning, true_layouts, whole_has_code};
 use om_lower_tables::tables_of;
 use om_scope_tree::{Resolved, ResolvedFunction};
 use om_seq::{AllocResult, Seq};
@@ -31,6 +31,10 @@ use std::alloc::{AllocError, Global};
 /// means. It ends with its value, its globals and its output exactly where the meaning does, and faults
 /// exactly where that does.
 ///
+/// In each body, two different variables that it names have two different places (C17 6.2.2p2), and a
+/// global is the global of its number. Each has as many cells as its declaration says. What a body means
+/// asks for no variables but those that it names.
+///
 /// Refusals:
 /// - S0 at byte 0: no memory.
 /// - S11 at a function's name: a body of it has more than 256 slots, more than 4,096 cells of its
@@ -43,11 +47,13 @@ pub fn lower(alloc: Global, resolved: &Resolved) -> SourceResult<Program>
     requires small { HasSmallWeight (view.resolved resolved.now) }
     ensures code { IfOk result (λ program. IsCodeOf (view.resolved resolved.now) program) }
     ensures means { IfOk result (λ program. KeepsMeaning (view.resolved resolved.now) program) }
+    ensures layout { IfOk result (λ program. HasTrueLayouts (view.resolved resolved.now) program) }
     ensures within { OnOk result (AreWithin (view.resolved resolved.now)) }
     ensures refused { IfErr result (IsRefusal (view.resolved resolved.now)) }
 {
     whole_has_code();
     serial_meaning();
+    true_layouts();
     let tables = tables_of(alloc, resolved)?;
     lower_input(&Input {
         alloc,

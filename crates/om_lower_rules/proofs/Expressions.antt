@@ -1,6 +1,7 @@
 -- The code of an expression does what the expression means.
 use Rattle.std.proofs.Common.{◌≡◌, ℕ, ◌+◌, ℤ, pos, Bool, true, false, List, Option, Some, None, refl, sym, ap, ◌∙◌}
-use Rattle.std.specs.Prelude.{slice_get, not, if◌then◌else◌}
+use Rattle.std.proofs.Common.{subst}
+use Rattle.std.specs.Prelude.{slice_get, not, option_map, if◌then◌else◌}
 use Rattle.om_code.specs.declared.frame.Operand.{Operand}
 use Rattle.om_code.specs.declared.instruction.BinaryOperator as machine
 use Rattle.om_code.specs.declared.instruction.Instr.{Instr}
@@ -8,7 +9,7 @@ use Rattle.om_code.specs.declared.instruction.Instr.TheVariants as i
 use Rattle.om_code.specs.declared.instruction.UnaryOperator.TheVariants as unary
 use Rattle.om_code.specs.declared.raw.Body.{Body}
 use Rattle.om_code.specs.declared.raw.Raw.{Raw}
-use Rattle.om_code.specs.Arithmetic.{operate, truth}
+use Rattle.om_code.specs.Arithmetic.{operate}
 use Rattle.om_code.specs.Frames as frames
 use Rattle.om_code.specs.Frames.{Frame, cells_in}
 use Rattle.om_scope_tree.specs.declared.resolved.UnaryOperator.{UnaryOperator}
@@ -20,6 +21,7 @@ use Rattle.om_scope_tree.specs.ResolvedTree.{PostfixElement}
 use Rattle.om_lower_rules.specs.Expressions.{constant, unary_row, binary_row, conditional_row, assigned, element_assigned}
 use Rattle.om_lower_rules.specs.Expressions.{stepped_back, value}
 use Rattle.om_lower_rules.specs.Operators.{BinaryForm, Both, Either, Plain, form_of, compound_of, step_of, inverse_step_of}
+use Rattle.om_lower_rules.specs.SourceOperators.{Operation, one_if, form_meaning}
 use Rattle.om_lower_rules.specs.Rows.{Site, Row, end, ins, part, here, ◌▸◌}
 use Rattle.om_lower_rules.specs.Slots.{place}
 use Rattle.om_lower_rules.specs.Meaning as means
@@ -29,8 +31,10 @@ use Rattle.om_lower_rules.specs.Running.{frame, with_int, Leads, Gives, Drops}
 use Rattle.om_lower_rules.specs.Serial.{IsSerial}
 use Rattle.om_lower_rules.specs.Worlds.{World, Outcome, Got, Faulty, with_value, result, load, store}
 use Rattle.om_lower_rules.specs.MeaningLaws.{layout_of}
-use Rattle.om_lower_rules.proofs.Acting.{unary_acts, binary_acts, load_acts, load_element_acts, store_keeps, store_drops}
+use Rattle.om_lower_rules.proofs.Acting.{Pushed, turn_on, unary_acts, binary_acts, load_acts, load_element_acts}
+use Rattle.om_lower_rules.proofs.Acting.{store_keeps, store_drops}
 use Rattle.om_lower_rules.proofs.Acting.{store_element_keeps, store_element_drops}
+use Rattle.om_lower_rules.proofs.OperatorsAgree.{binaries_agree, unaries_agree, compounds_agree, step_pair}
 use Rattle.om_lower_rules.proofs.Stepping as steps
 
 module _ (raw : Raw) (body : Body) (at : Site) (same : at.code ≡ body.code) where
@@ -61,12 +65,14 @@ module _ (raw : Raw) (body : Body) (at : Site) (same : at.code ≡ body.code) wh
       steps.gives_then raw body _ h.0 q s s (f w) (λ v u. unary_value unaries.Negate v u) (ha p h.0 s w h.1)
       (λ v u. steps.pushes raw body h.0 l q (i.Unary unary.Negate) (with_int v s) s u
       (unary_value unaries.Negate v u) (has _ h.2.0)
-      (unary_acts raw body.slots unary.Negate h.0 v s u) h.2.1)
+      (subst (λ r. Pushed (turn_on raw body.slots (i.Unary unary.Negate) h.0 (with_int v s) u) (h.0 + 1) s
+      (result r u)) (sym (unaries_agree v).0) (unary_acts raw body.slots unary.Negate h.0 v s u)) h.2.1)
   unary_means l unaries.Not a f ha p q s w h =
       steps.gives_then raw body _ h.0 q s s (f w) (λ v u. unary_value unaries.Not v u) (ha p h.0 s w h.1)
       (λ v u. steps.pushes raw body h.0 l q (i.Unary unary.Not) (with_int v s) s u (unary_value unaries.Not v u)
       (has _ h.2.0)
-      (unary_acts raw body.slots unary.Not h.0 v s u) h.2.1)
+      (subst (λ r. Pushed (turn_on raw body.slots (i.Unary unary.Not) h.0 (with_int v s) u) (h.0 + 1) s
+      (result r u)) (sym (unaries_agree v).1) (unary_acts raw body.slots unary.Not h.0 v s u)) h.2.1)
 
   -- ---- `&&`, `||` and `? :`
 
@@ -78,7 +84,7 @@ module _ (raw : Raw) (body : Body) (at : Site) (same : at.code ≡ body.code) wh
 
   truth_at : (b : Bool) (l f e p q : ℕ) (c : Frame) (s : List Operand) (w : World) → TruthRow l f e p q
       → Leads raw body c (frame (if b then f else p + 1) s w) → Leads raw body c
-      (frame q (with_int (truth (not b)) s) w)
+      (frame q (with_int (one_if (not b)) s) w)
   truth_at true l f e p q c s w h go =
       steps.leads_on raw body c _ _ go
       (steps.leads_from raw body f _ s w _ h.1.1.1.0
@@ -130,7 +136,7 @@ module _ (raw : Raw) (body : Body) (at : Site) (same : at.code ≡ body.code) wh
   choice_at false l f e m n q s w c (Faulty x u) rb go ga over ee fe gb = steps.leads_end raw body c _ _ u go ga
 
   binary_means : (l : ℕ) (form : BinaryForm) (a b : Row) (f g : World → Outcome) → Means a f → Means b g
-      → Means (binary_row at l form a b) (λ w. binary_value form (f w) g)
+      → Means (binary_row at l form a b) (λ w. binary_value (form_meaning form) (f w) g)
   binary_means l Both a b f g ha hb p q s w h =
       steps.gives_then raw body _ h.2.0 q s s (f w) (λ x u. if is_zero x then Got (pos 0) u else with_value (g u)
       (λ y t. Got (truth_of y) t)) (ha p h.2.0 s w h.2.1)
@@ -163,7 +169,7 @@ module _ (raw : Raw) (body : Body) (at : Site) (same : at.code ≡ body.code) wh
 
   assigned_means : (l : ℕ) (x : variables.Variable) (o : Option machine.BinaryOperator) (e : Row)
       (f : World → Outcome) → Means e f
-      → Means (assigned at l true x o e) (λ w. means.assigned (place at x) o f w)
+      → Means (assigned at l true x o e) (λ w. means.assigned (place at x) (option_map operate o) f w)
   assigned_means l x None e f he p q s w h =
       steps.gives_then raw body _ h.0 q s s (f w) (λ v u. store (place at x) 0 v u) (he p h.0 s w h.1)
       (λ v u. steps.pushes raw body _ l q (i.Store (place at x) true) (with_int v s) s u (store (place at x) 0 v u)
@@ -185,7 +191,7 @@ module _ (raw : Raw) (body : Body) (at : Site) (same : at.code ≡ body.code) wh
 
   pub assigned_spends : (l : ℕ) (x : variables.Variable) (o : Option machine.BinaryOperator) (e : Row)
       (f : World → Outcome) → Means e f
-      → Spends (assigned at l false x o e) (λ w. means.assigned (place at x) o f w)
+      → Spends (assigned at l false x o e) (λ w. means.assigned (place at x) (option_map operate o) f w)
   assigned_spends l x None e f he p q s w h =
       steps.drops_then raw body _ h.0 q s s (f w) (λ v u. store (place at x) 0 v u) (he p h.0 s w h.1)
       (λ v u. steps.drops raw body _ l q (i.Store (place at x) false) (with_int v s) s u (store (place at x) 0 v u)
@@ -216,7 +222,7 @@ module _ (raw : Raw) (body : Body) (at : Site) (same : at.code ≡ body.code) wh
 
   element_assigned_means : (l : ℕ) (a : variables.Variable) (j : Row) (o : Option machine.BinaryOperator) (e : Row)
       (fj f : World → Outcome) → Means j fj → Means e f
-      → Means (element_assigned at l true a j o e) (λ w. means.element_assigned (place at a) (Cells a) fj o f w)
+      → Means (element_assigned at l true a j o e) (λ w. means.element_assigned (place at a) (Cells a) fj (option_map operate o) f w)
   element_assigned_means l a j None e fj f hj he p q s w h =
       steps.gives_then raw body _ h.0 q s s (fj w)
       (λ n u. with_value (f u) (λ v t. store_element (place at a) (Cells a) n v t)) (hj p h.0 s w h.1)
@@ -250,7 +256,7 @@ module _ (raw : Raw) (body : Body) (at : Site) (same : at.code ≡ body.code) wh
 
   pub element_assigned_spends : (l : ℕ) (a : variables.Variable) (j : Row) (o : Option machine.BinaryOperator)
       (e : Row) (fj f : World → Outcome) → Means j fj → Means e f
-      → Spends (element_assigned at l false a j o e) (λ w. means.element_assigned (place at a) (Cells a) fj o f w)
+      → Spends (element_assigned at l false a j o e) (λ w. means.element_assigned (place at a) (Cells a) fj (option_map operate o) f w)
   element_assigned_spends l a j None e fj f hj he p q s w h =
       steps.drops_then raw body _ h.0 q s s (fj w)
       (λ n u. with_value (f u) (λ v t. store_element (place at a) (Cells a) n v t)) (hj p h.0 s w h.1)
@@ -284,7 +290,7 @@ module _ (raw : Raw) (body : Body) (at : Site) (same : at.code ≡ body.code) wh
 
   -- the step of a postfix operator, taken back
   stepped_back_means : (l : ℕ) (o : machine.BinaryOperator) (a : Row) (f : World → Outcome) → Means a f
-      → Means (part a ▸ stepped_back at l o) (λ w. means.stepped_back o (f w))
+      → Means (part a ▸ stepped_back at l o) (λ w. means.stepped_back (operate o) (f w))
   stepped_back_means l o a f ha p q s w h =
       steps.gives_then raw body _ h.0 q s s (f w) (λ z u. result (operate o z (pos 1)) u) (ha p h.0 s w h.1)
       (λ z u. steps.leads_gives raw body _ _ q s (result (operate o z (pos 1)) u)
@@ -312,30 +318,42 @@ module _ (raw : Raw) (body : Body) (at : Site) (same : at.code ≡ body.code) wh
   value_means (Unary o e) l g p q s w h = unary_means l o (value at l e)
       (λ u. value_of (layout_of raw body at.slots) e u) (value_means e l g) p q s w h
   value_means (Binary a o b) l g p q s w h =
-      binary_means l (form_of o) (value at l a) (value at l b) (λ u. value_of (layout_of raw body at.slots) a u)
+      subst (λ z. Gives raw body (frame p s w) q s (binary_value z (value_of (layout_of raw body at.slots) a w)
+      (λ u. value_of (layout_of raw body at.slots) b u))) (sym (binaries_agree o))
+      (binary_means l (form_of o) (value at l a) (value at l b) (λ u. value_of (layout_of raw body at.slots) a u)
       (λ u. value_of (layout_of raw body at.slots) b u)
-      (value_means a l g.0) (value_means b l g.1) p q s w h
+      (value_means a l g.0) (value_means b l g.1) p q s w h)
   value_means (Conditional c a b) l g p q s w h =
       conditional_means l (value at l c) (value at l a) (value at l b) (λ u. value_of (layout_of raw body at.slots)
       c u) (λ u. value_of (layout_of raw body at.slots) a u)
       (λ u. value_of (layout_of raw body at.slots) b u) (value_means c l g.0) (value_means a l g.1)
       (value_means b l g.2) p q s w h
   value_means (Assign x o e) l g p q s w h =
-      assigned_means l x (compound_of o) (value at l e) (λ u. value_of (layout_of raw body at.slots) e u)
-      (value_means e l g) p q s w h
+      subst (λ z. Gives raw body (frame p s w) q s (means.assigned (place at x) z
+      (λ u. value_of (layout_of raw body at.slots) e u) w)) (sym (compounds_agree o))
+      (assigned_means l x (compound_of o) (value at l e) (λ u. value_of (layout_of raw body at.slots) e u)
+      (value_means e l g) p q s w h)
   value_means (AssignElement a j o e) l g p q s w h =
-      element_assigned_means l a (value at l j) (compound_of o) (value at l e)
+      subst (λ z. Gives raw body (frame p s w) q s (means.element_assigned (place at a) (Cells a)
+      (λ u. value_of (layout_of raw body at.slots) j u) z (λ u. value_of (layout_of raw body at.slots) e u) w))
+      (sym (compounds_agree o))
+      (element_assigned_means l a (value at l j) (compound_of o) (value at l e)
       (λ u. value_of (layout_of raw body at.slots) j u) (λ u. value_of (layout_of raw body at.slots) e u)
-      (value_means j l g.0) (value_means e l g.1) p q s w h
+      (value_means j l g.0) (value_means e l g.1) p q s w h)
   value_means (Postfix x o) l g p q s w h =
-      stepped_back_means l (inverse_step_of o) (assigned at l true x (Some (step_of o)) (constant at l (pos 1)))
-      (λ u. means.assigned (place at x) (Some (step_of o)) means.one u)
-      (assigned_means l x (Some (step_of o)) (constant at l (pos 1)) means.one (constant_means l (pos 1))) p q s w h
+      subst (λ (z : Operation × Operation). Gives raw body (frame p s w) q s
+      (means.stepped_back z.1 (means.assigned (place at x) (Some z.0) means.one w))) (sym (step_pair o))
+      (stepped_back_means l (inverse_step_of o) (assigned at l true x (Some (step_of o)) (constant at l (pos 1)))
+      (λ u. means.assigned (place at x) (Some (operate (step_of o))) means.one u)
+      (assigned_means l x (Some (step_of o)) (constant at l (pos 1)) means.one (constant_means l (pos 1))) p q s w h)
   value_means (PostfixElement a j o) l g p q s w h =
-      stepped_back_means l (inverse_step_of o) (element_assigned at l true a (value at l j) (Some (step_of o))
+      subst (λ (z : Operation × Operation). Gives raw body (frame p s w) q s
+      (means.stepped_back z.1 (means.element_assigned (place at a) (Cells a)
+      (λ t. value_of (layout_of raw body at.slots) j t) (Some z.0) means.one w))) (sym (step_pair o))
+      (stepped_back_means l (inverse_step_of o) (element_assigned at l true a (value at l j) (Some (step_of o))
       (constant at l (pos 1)))
       (λ u. means.element_assigned (place at a) (Cells a) (λ t. value_of (layout_of raw body at.slots) j t)
-      (Some (step_of o)) means.one u)
+      (Some (operate (step_of o))) means.one u)
       (element_assigned_means l a (value at l j) (Some (step_of o)) (constant at l (pos 1))
       (λ t. value_of (layout_of raw body at.slots) j t) means.one
-      (value_means j l g) (constant_means l (pos 1))) p q s w h
+      (value_means j l g) (constant_means l (pos 1))) p q s w h)

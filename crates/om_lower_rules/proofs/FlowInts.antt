@@ -1,5 +1,6 @@
 -- From variables that hold ints a statement leaves variables that hold ints.
 use Rattle.std.proofs.Common.{ℕ, zero, suc, ℤ, Bool, true, false, List, [], ◌∷◌, Option, Some, None, refl}
+use Rattle.std.proofs.Common.{sym, subst}
 use Rattle.std.specs.Prelude.{All, IfSome, nat_eq, if◌then◌else◌}
 use Rattle.std.proofs.lemmas.List.Elements.{All-head, All-tail}
 use Rattle.om_code.specs.declared.frame.Cell.TheVariants as cell
@@ -18,13 +19,15 @@ use Rattle.om_lower_rules.specs.Operators.{step_of}
 use Rattle.om_lower_rules.specs.Ints.{IsInt, HoldsInt, HoldsInts, LeavesInts, HasInts, AllHaveInts, EffectHasInts}
 use Rattle.om_lower_rules.specs.Ints.{DeclaratorHasInts, StartHasInts, StatementHasInts, StatementsHaveInts, FlowLeavesInts}
 use Rattle.om_lower_rules.specs.MeaningLaws.{IntsStayBehind}
-use Rattle.om_lower_rules.specs.Meaning.{is_zero, one, value_of, values_of, effect_of, printed, Flow, Onward, Broke}
+use Rattle.om_lower_rules.specs.Meaning.{is_zero, assigned, element_assigned, one, value_of, values_of, effect_of, printed}
+use Rattle.om_lower_rules.specs.Meaning.{Flow, Onward, Broke}
 use Rattle.om_lower_rules.specs.Meaning.{Continued, Returned, Failed, OutOfTurns, flow_value, then_do, after_turn, turns}
 use Rattle.om_lower_rules.specs.Meaning.{turns_first, tested, tested_if_any, effect_flow, effect_if_any, slot_number}
 use Rattle.om_lower_rules.specs.Meaning.{declared, all_declared, begun, returned, meaning, meanings}
 use Rattle.om_lower_rules.specs.Worlds.{World, Layout, Outcome, Got, Faulty, Values, GotAll, FaultyAt, after_value}
 use Rattle.om_lower_rules.specs.Worlds.{with_first, store, clear, print}
 use Rattle.om_lower_rules.proofs.Ints.{Stays, value_ints, store_ints, assigned_ints, element_assigned_ints, one_ints}
+use Rattle.om_lower_rules.proofs.OperatorsAgree.{steps_agree}
 
 -- from a world of ints it leaves ints
 abbrev Keeps : (World → Flow) → Type 0
@@ -112,10 +115,14 @@ module _ (at : Layout) where
   printed_ints format (FaultyAt f w) h = h
 
   effect_ints : (e : ResolvedExpressionTree) → EffectHasInts e → Stays (λ w. effect_of at e w)
-  effect_ints (Postfix x o) g w h = assigned_ints (at.place x) (Some (step_of o)) one one_ints w h
+  effect_ints (Postfix x o) g w h =
+      subst (λ z. LeavesInts (assigned (at.place x) (Some z) one w)) (sym (steps_agree o).0)
+      (assigned_ints (at.place x) (Some (step_of o)) one one_ints w h)
   effect_ints (PostfixElement a j o) g w h =
-      element_assigned_ints (at.place a) (at.cells (at.place a)) (λ u. value_of at j u) (Some (step_of o)) one
-      (value_ints at j g) one_ints w h
+      subst (λ z. LeavesInts (element_assigned (at.place a) (at.cells (at.place a)) (λ u. value_of at j u) (Some z) one
+      w)) (sym (steps_agree o).0)
+      (element_assigned_ints (at.place a) (at.cells (at.place a)) (λ u. value_of at j u) (Some (step_of o)) one
+      (value_ints at j g) one_ints w h)
   effect_ints (Print format es) g w h = printed_ints format (values_of at es w) (values_ints es g w h)
   effect_ints (Constant c) g w h = value_ints at (Constant c) g w h
   effect_ints (Variable x) g w h = value_ints at (Variable x) g w h

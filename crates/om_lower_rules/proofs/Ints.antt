@@ -1,8 +1,8 @@
 -- Each value is an int, and what is stored is one.
 use Rattle.std.proofs.Common.{◌≡◌, ℕ, zero, suc, ◌<◌, ◌≤◌, ◌^◌, ℤ, pos, negsuc, Bool, true, false, Option, Some, None}
-use Rattle.std.proofs.Common.{refl, arith}
+use Rattle.std.proofs.Common.{refl, sym, subst, arith}
 use Rattle.std.specs.Prelude.{Result, Ok, Err, nat_eq, not, int_div, int_rem, unsigned_abs, ◌+ℤ◌, ◌-ℤ◌, ◌*ℤ◌, neg_ℤ}
-use Rattle.std.specs.Prelude.{◌&&◌, if◌then◌else◌}
+use Rattle.std.specs.Prelude.{◌&&◌, option_map, if◌then◌else◌}
 use Rattle.std.specs.Ordering.{int_eq}
 use Rattle.std.proofs.lemmas.Bool.{ltb-true, lt-ltb}
 use Rattle.std.proofs.lemmas.Int.{rem_below}
@@ -14,8 +14,7 @@ use Rattle.om_code.specs.declared.instruction.BinaryOperator as machine
 use Rattle.om_code.specs.declared.instruction.BinaryOperator.TheVariants as binary
 use Rattle.om_code.specs.declared.instruction.Place.{Place}
 use Rattle.om_code.specs.declared.instruction.Place.TheVariants as place
-use Rattle.om_code.specs.declared.instruction.UnaryOperator.TheVariants as unary
-use Rattle.om_code.specs.Arithmetic.{is_int, in_range, divided, remaining, truth, operate, operate_on_one}
+use Rattle.om_code.specs.Arithmetic.{is_int, in_range, divided, remaining, truth, operate}
 use Rattle.om_code.specs.Frames.{index_in}
 use Rattle.om_scope_tree.specs.declared.resolved.UnaryOperator.{UnaryOperator}
 use Rattle.om_scope_tree.specs.declared.resolved.UnaryOperator.TheVariants as unaries
@@ -23,12 +22,14 @@ use Rattle.om_scope_tree.specs.ResolvedTree.{ResolvedExpressionTree, Constant, V
 use Rattle.om_scope_tree.specs.ResolvedTree.{TeamSize, Print, Unary, Binary, Conditional, Assign, AssignElement, Postfix}
 use Rattle.om_scope_tree.specs.ResolvedTree.{PostfixElement}
 use Rattle.om_lower_rules.specs.Operators.{BinaryForm, Both, Either, Plain, form_of, compound_of, step_of, inverse_step_of}
+use Rattle.om_lower_rules.specs.SourceOperators.{Operation, int_value, one_if, form_meaning}
 use Rattle.om_lower_rules.specs.Ints.{IsInt, HoldsInt, HoldsInts, LeavesInts, HasInts}
 use Rattle.om_lower_rules.specs.MeaningLaws.{IntsStay}
 use Rattle.om_lower_rules.specs.Meaning.{is_zero, unary_value, binary_value, assigned, load_element, store_element}
 use Rattle.om_lower_rules.specs.Meaning.{element_assigned, stepped_back, one, value_of}
 use Rattle.om_lower_rules.specs.Worlds.{World, Layout, Outcome, Got, Faulty, with_value, result, held, with_held, found}
 use Rattle.om_lower_rules.specs.Worlds.{put_into, load, store, at_index}
+use Rattle.om_lower_rules.proofs.OperatorsAgree.{value_is, binaries_agree, compounds_agree, step_pair}
 
 -- ---- operators
 
@@ -47,6 +48,10 @@ in_range_int z = tested (is_int z) refl
 truth_int : (b : Bool) → IsInt (truth b)
 truth_int true = refl
 truth_int false = refl
+
+one_if_int : (b : Bool) → IsInt (one_if b)
+one_if_int true = refl
+one_if_int false = refl
 
 size_of : (d : ℤ) → IsInt d → unsigned_abs d ≤ 2 ^ 31
 size_of (pos n) e = let lt = ltb-true n (2 ^ 31) e in omega (arith, lt)
@@ -163,23 +168,24 @@ Stays f = (w : World) → HoldsInts w → LeavesInts (f w)
 
 unary_ints : (o : UnaryOperator) (v : ℤ) (w : World) → IsInt v → HoldsInts w → LeavesInts (unary_value o v w)
 unary_ints unaries.Plus v w int h = (int, h)
-unary_ints unaries.Negate v w int h = result_ints (operate_on_one unary.Negate v) w (in_range_int (neg_ℤ v)) h
-unary_ints unaries.Not v w int h = result_ints (operate_on_one unary.Not v) w (truth_int _) h
+unary_ints unaries.Negate v w int h =
+    result_ints (int_value (neg_ℤ v)) w (subst IsIntResult (sym (value_is (neg_ℤ v))) (in_range_int (neg_ℤ v))) h
+unary_ints unaries.Not v w int h = (one_if_int (int_eq v (pos 0)), h)
 
 binary_ints : (form : BinaryForm) (a : Outcome) (b : World → Outcome) → LeavesInts a → Stays b
-    → LeavesInts (binary_value form a b)
+    → LeavesInts (binary_value (form_meaning form) a b)
 binary_ints Both a b ha hb =
     with_ints_of a _ ha (λ x u int h. chosen_ints (is_zero x) _ _ (refl, h)
-    (with_ints_of (b u) _ (hb u h) (λ y t int h. (truth_int (not (is_zero y)), h))))
+    (with_ints_of (b u) _ (hb u h) (λ y t int h. (one_if_int (not (is_zero y)), h))))
 binary_ints Either a b ha hb =
     with_ints_of a _ ha (λ x u int h. chosen_ints (is_zero x) _ _
-    (with_ints_of (b u) _ (hb u h) (λ y t int h. (truth_int (not (is_zero y)), h))) (refl, h))
+    (with_ints_of (b u) _ (hb u h) (λ y t int h. (one_if_int (not (is_zero y)), h))) (refl, h))
 binary_ints (Plain o) a b ha hb =
     with_ints_of a _ ha (λ x u int h. with_ints_of (b u) _ (hb u h) (λ y t int h. result_ints (operate o x y) t
     (operate_int o x y int) h))
 
 pub assigned_ints : (at : Place) (o : Option machine.BinaryOperator) (e : World → Outcome) → Stays e
-    → Stays (λ w. assigned at o e w)
+    → Stays (λ w. assigned at (option_map operate o) e w)
 assigned_ints at None e he w h = with_ints_of (e w) _ (he w h) (λ v u int h. store_ints at 0 v u int h)
 assigned_ints at (Some o) e he w h =
     with_ints_of (load at 0 w) _ (load_ints at 0 w h) (λ x u int h. with_ints_of (e u) _ (he u h) (λ y t int h.
@@ -188,7 +194,7 @@ assigned_ints at (Some o) e he w h =
 
 pub element_assigned_ints : (at : Place) (cells : ℕ) (j : World → Outcome) (o : Option machine.BinaryOperator)
     (e : World → Outcome) → Stays j → Stays e
-    → Stays (λ w. element_assigned at cells j o e w)
+    → Stays (λ w. element_assigned at cells j (option_map operate o) e w)
 element_assigned_ints at cells j None e hj he w h =
     with_ints_of (j w) _ (hj w h) (λ n u int h. with_ints_of (e u) _ (he u h) (λ v t int h. store_element_ints at
     cells n v t int h))
@@ -202,7 +208,7 @@ element_assigned_ints at cells j (Some o) e hj he w h =
 pub one_ints : Stays one
 one_ints w h = (refl, h)
 
-stepped_back_ints : (o : machine.BinaryOperator) (r : Outcome) → LeavesInts r → LeavesInts (stepped_back o r)
+stepped_back_ints : (o : machine.BinaryOperator) (r : Outcome) → LeavesInts r → LeavesInts (stepped_back (operate o) r)
 stepped_back_ints o r h = with_ints_of r _ h (λ z w int h. result_ints (operate o z (pos 1)) w
     (operate_int o z (pos 1) refl) h)
 
@@ -217,24 +223,32 @@ value_ints at TeamSize g w h = h
 value_ints at (Print format es) g w h = h
 value_ints at (Unary o e) g w h = with_ints_of (value_of at e w) _ (value_ints at e g w h)
     (λ v u int h. unary_ints o v u int h)
-value_ints at (Binary a o b) g w h = binary_ints (form_of o) (value_of at a w) (λ u. value_of at b u)
-    (value_ints at a g.0 w h) (value_ints at b g.1)
+value_ints at (Binary a o b) g w h =
+    subst (λ z. LeavesInts (binary_value z (value_of at a w) (λ u. value_of at b u))) (sym (binaries_agree o))
+    (binary_ints (form_of o) (value_of at a w) (λ u. value_of at b u) (value_ints at a g.0 w h) (value_ints at b g.1))
 value_ints at (Conditional c a b) g w h =
     with_ints_of (value_of at c w) _ (value_ints at c g.0 w h)
     (λ v u int h. chosen_ints (is_zero v) (value_of at b u) (value_of at a u) (value_ints at b g.2 u h)
     (value_ints at a g.1 u h))
-value_ints at (Assign x o e) g w h = assigned_ints (at.place x) (compound_of o) (λ u. value_of at e u)
-    (value_ints at e g) w h
+value_ints at (Assign x o e) g w h =
+    subst (λ z. LeavesInts (assigned (at.place x) z (λ u. value_of at e u) w)) (sym (compounds_agree o))
+    (assigned_ints (at.place x) (compound_of o) (λ u. value_of at e u) (value_ints at e g) w h)
 value_ints at (AssignElement a j o e) g w h =
-    element_assigned_ints (at.place a) (at.cells (at.place a)) (λ u. value_of at j u) (compound_of o)
-    (λ u. value_of at e u) (value_ints at j g.0) (value_ints at e g.1) w h
+    subst (λ z. LeavesInts (element_assigned (at.place a) (at.cells (at.place a)) (λ u. value_of at j u) z
+    (λ u. value_of at e u) w)) (sym (compounds_agree o))
+    (element_assigned_ints (at.place a) (at.cells (at.place a)) (λ u. value_of at j u) (compound_of o)
+    (λ u. value_of at e u) (value_ints at j g.0) (value_ints at e g.1) w h)
 value_ints at (Postfix x o) g w h =
-    stepped_back_ints (inverse_step_of o) _ (assigned_ints (at.place x) (Some (step_of o)) one
-    one_ints w h)
+    subst (λ (z : Operation × Operation). LeavesInts (stepped_back z.1 (assigned (at.place x) (Some z.0) one w)))
+    (sym (step_pair o))
+    (stepped_back_ints (inverse_step_of o) _ (assigned_ints (at.place x) (Some (step_of o)) one one_ints w h))
 value_ints at (PostfixElement a j o) g w h =
-    stepped_back_ints (inverse_step_of o) _
+    subst (λ (z : Operation × Operation). LeavesInts (stepped_back z.1
+    (element_assigned (at.place a) (at.cells (at.place a)) (λ u. value_of at j u) (Some z.0) one w)))
+    (sym (step_pair o))
+    (stepped_back_ints (inverse_step_of o) _
     (element_assigned_ints (at.place a) (at.cells (at.place a)) (λ u. value_of at j u)
-    (Some (step_of o)) one (value_ints at j g) one_ints w h)
+    (Some (step_of o)) one (value_ints at j g) one_ints w h))
 
 pub ints_stay : IntsStay
 ints_stay at e w g h = value_ints at e g w h

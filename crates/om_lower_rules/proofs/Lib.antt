@@ -19,8 +19,11 @@ pub mod NamedBodies
 pub mod Placed
 pub mod Given
 pub mod KnownBodies
+pub mod Asked
+pub mod TrueLayouts
 pub mod Valid
 pub mod Acting
+pub mod OperatorsAgree
 pub mod Stepping
 pub mod Expressions
 pub mod Printing

@@ -42,6 +42,7 @@ use Rattle.om_lower_rules.specs.Worlds.{with_first, store, clear, print}
 use Rattle.om_lower_rules.proofs.Acting.{store_drops, clear_acts}
 use Rattle.om_lower_rules.proofs.Expressions as expressions
 use Rattle.om_lower_rules.proofs.Flows as runs
+use Rattle.om_lower_rules.proofs.OperatorsAgree.{compounds_agree, steps_agree}
 use Rattle.om_lower_rules.proofs.Printing.{with_ints, prints}
 use Rattle.om_lower_rules.proofs.Spoken.{IsSpokenEffect, IsSpokenStart, IsSpokenStatement, AreSpoken}
 use Rattle.om_lower_rules.proofs.Stepping as steps
@@ -131,19 +132,27 @@ module _ (raw : Raw) (body : Body) (at : Site) (same : at.code ≡ body.code) (t
       → IsSpokenEffect at.formats e → effect at l e p q
       → Drops raw body (frame p s w) q s (effect_of L e w)
   effect_drops (Assign x o e) l p q s w g h =
-      expressions.assigned_spends raw body at same l x (compound_of o) (value at l e) (λ u. value_of L e u)
-      (expressions.value_means raw body at same e l g) p q s w h
+      subst (λ z. Drops raw body (frame p s w) q s (flows.assigned (place at x) z (λ u. value_of L e u) w))
+      (sym (compounds_agree o))
+      (expressions.assigned_spends raw body at same l x (compound_of o) (value at l e) (λ u. value_of L e u)
+      (expressions.value_means raw body at same e l g) p q s w h)
   effect_drops (AssignElement a j o e) l p q s w g h =
-      expressions.element_assigned_spends raw body at same l a (value at l j) (compound_of o) (value at l e)
+      subst (λ z. Drops raw body (frame p s w) q s (flows.element_assigned (place at a) (L.cells (place at a))
+      (λ u. value_of L j u) z (λ u. value_of L e u) w)) (sym (compounds_agree o))
+      (expressions.element_assigned_spends raw body at same l a (value at l j) (compound_of o) (value at l e)
       (λ u. value_of L j u) (λ u. value_of L e u)
-      (expressions.value_means raw body at same j l g.0) (expressions.value_means raw body at same e l g.1) p q s w h
+      (expressions.value_means raw body at same j l g.0) (expressions.value_means raw body at same e l g.1) p q s w h)
   effect_drops (Postfix x o) l p q s w g h =
-      expressions.assigned_spends raw body at same l x (Some (step_of o)) (constant at l (pos 1)) flows.one
-      (expressions.constant_means raw body at same l (pos 1)) p q s w h
+      subst (λ z. Drops raw body (frame p s w) q s (flows.assigned (place at x) (Some z) flows.one w))
+      (sym (steps_agree o).0)
+      (expressions.assigned_spends raw body at same l x (Some (step_of o)) (constant at l (pos 1)) flows.one
+      (expressions.constant_means raw body at same l (pos 1)) p q s w h)
   effect_drops (PostfixElement a j o) l p q s w g h =
-      expressions.element_assigned_spends raw body at same l a (value at l j) (Some (step_of o))
+      subst (λ z. Drops raw body (frame p s w) q s (flows.element_assigned (place at a) (L.cells (place at a))
+      (λ u. value_of L j u) (Some z) flows.one w)) (sym (steps_agree o).0)
+      (expressions.element_assigned_spends raw body at same l a (value at l j) (Some (step_of o))
       (constant at l (pos 1)) (λ u. value_of L j u) flows.one
-      (expressions.value_means raw body at same j l g) (expressions.constant_means raw body at same l (pos 1)) p q s w h
+      (expressions.value_means raw body at same j l g) (expressions.constant_means raw body at same l (pos 1)) p q s w h)
   effect_drops (Print format es) l p q s w g h =
       printed_drops format (value_count es) l h.0 q _ s (values_of L es w) g.0 (values_give es l p h.0 s w g.1 h.1) h.2
   effect_drops (Call f es) l p q s w g h = absurd g

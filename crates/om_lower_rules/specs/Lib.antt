@@ -1,5 +1,6 @@
 pub mod Rows
 pub mod Operators
+pub mod SourceOperators
 pub mod Tables
 pub mod Slots
 pub mod Bodies
@@ -18,6 +19,7 @@ pub mod Serial
 pub mod Ints
 pub mod Running
 pub mod MeaningLaws
+pub mod Layouts
 pub mod BodyTables
 pub mod Numbering
 pub mod Ends

@@ -7,15 +7,11 @@ use Rattle.std.specs.Prelude.{ℕ, zero, suc, ℤ, pos, Bool, not, Option, None,
 use Rattle.std.specs.Ordering.{int_eq}
 use Rattle.om_code.specs.declared.frame.Fault.{Fault}
 use Rattle.om_code.specs.declared.frame.Fault.TheVariants as fault
-use Rattle.om_code.specs.declared.instruction.BinaryOperator as machine
 use Rattle.om_code.specs.declared.instruction.Place.{Place}
 use Rattle.om_code.specs.declared.instruction.Place.TheVariants as place
-use Rattle.om_code.specs.declared.instruction.UnaryOperator.TheVariants as unary
-use Rattle.om_code.specs.Arithmetic.{operate, operate_on_one, truth}
 use Rattle.om_code.specs.Frames.{index_in}
 use Rattle.om_scope_tree.specs.declared.resolved.LocalVariable.{LocalVariable}
 use Rattle.om_scope_tree.specs.declared.resolved.UnaryOperator.{UnaryOperator}
-use Rattle.om_scope_tree.specs.declared.resolved.UnaryOperator.TheVariants as unaries
 use Rattle.om_scope_tree.specs.declared.resolved.Variable.TheVariants.{Local}
 use Rattle.om_scope_tree.specs.ResolvedTree as trees
 use Rattle.om_scope_tree.specs.ResolvedTree.{ResolvedExpressionTree, Constant, Element, Print, Unary, Binary, Conditional}
@@ -24,7 +20,8 @@ use Rattle.om_scope_tree.specs.ResolvedTree.{ResolvedDeclaratorTree, ResolvedSta
 use Rattle.om_scope_tree.specs.ResolvedTree.{StartDeclaration, ResolvedStatementTree, Declaration, Block, Empty}
 use Rattle.om_scope_tree.specs.ResolvedTree.{Expression, If, IfElse, While, Do, For, Return, Break, Continue}
 use Rattle.om_scope_tree.specs.ResolvedTree.{ResolvedStatementsTree, NoStatements, Statement}
-use Rattle.om_lower_rules.specs.Operators.{BinaryForm, Both, Either, Plain, form_of, compound_of, step_of, inverse_step_of}
+use Rattle.om_lower_rules.specs.SourceOperators.{Operation, BinaryMeaning, And, Or, OfBoth, one_if, binary_meaning}
+use Rattle.om_lower_rules.specs.SourceOperators.{unary_meaning, compound_meaning, step_meaning, inverse_step_meaning}
 use Rattle.om_lower_rules.specs.Worlds.{World, Layout, Outcome, Got, Faulty, with_value, result, Values, GotAll, FaultyAt}
 use Rattle.om_lower_rules.specs.Worlds.{after_value, with_first, load, store, at_index, clear, print}
 
@@ -33,31 +30,29 @@ is_zero v = int_eq v (pos 0)
 
 -- C17 6.5.13, 6.5.14: 1 unless it is 0
 abbrev pub truth_of : ℤ → ℤ
-truth_of v = truth (not (is_zero v))
+truth_of v = one_if (not (is_zero v))
 
 -- ---- expressions
 
 abbrev pub unary_value : UnaryOperator → ℤ → World → Outcome
-unary_value unaries.Plus v w = Got v w
-unary_value unaries.Negate v w = result (operate_on_one unary.Negate v) w
-unary_value unaries.Not v w = result (operate_on_one unary.Not v) w
+unary_value operator v w = result (unary_meaning operator v) w
 
 -- the second operand of `&&` and `||` is evaluated only where the first leaves it open (C17 6.5.13p4,
 -- 6.5.14p4)
-abbrev pub binary_value : BinaryForm → Outcome → (World → Outcome) → Outcome
-binary_value Both a b =
+abbrev pub binary_value : BinaryMeaning → Outcome → (World → Outcome) → Outcome
+binary_value And a b =
     with_value a (λ x u. if is_zero x then Got (pos 0) u else with_value (b u) (λ y t. Got (truth_of y) t))
-binary_value Either a b =
+binary_value Or a b =
     with_value a (λ x u. if is_zero x then with_value (b u) (λ y t. Got (truth_of y) t) else Got (pos 1) u)
-binary_value (Plain operator) a b =
-    with_value a (λ x u. with_value (b u) (λ y t. result (operate operator x y) t))
+binary_value (OfBoth of) a b =
+    with_value a (λ x u. with_value (b u) (λ y t. result (of x y) t))
 
 -- a variable, by its place, gets a value, with its old one or not; the value is that of the assignment (C17
 -- 6.5.16p3)
-abbrev pub assigned : Place → Option machine.BinaryOperator → (World → Outcome) → World → Outcome
+abbrev pub assigned : Place → Option Operation → (World → Outcome) → World → Outcome
 assigned at None e w = with_value (e w) (λ v u. store at 0 v u)
-assigned at (Some operator) e w =
-    with_value (load at 0 w) (λ x u. with_value (e u) (λ y t. with_value (result (operate operator x y) t)
+assigned at (Some of) e w =
+    with_value (load at 0 w) (λ x u. with_value (e u) (λ y t. with_value (result (of x y) t)
     (λ z s. store at 0 z s)))
 
 -- an element of an array of so many cells
@@ -67,17 +62,16 @@ load_element at cells n w = at_index (index_in cells n) w (λ k. load at k w)
 abbrev pub store_element : Place → ℕ → ℤ → ℤ → World → Outcome
 store_element at cells n v w = at_index (index_in cells n) w (λ k. store at k v w)
 
-abbrev pub element_assigned : Place → ℕ → (World → Outcome) → Option machine.BinaryOperator →
-    (World → Outcome) → World → Outcome
+abbrev pub element_assigned : Place → ℕ → (World → Outcome) → Option Operation → (World → Outcome) → World → Outcome
 element_assigned at cells j None e w =
     with_value (j w) (λ n u. with_value (e u) (λ v t. store_element at cells n v t))
-element_assigned at cells j (Some operator) e w =
+element_assigned at cells j (Some of) e w =
     with_value (j w) (λ n u. with_value (load_element at cells n u) (λ x t. with_value (e t) (λ y s.
-    with_value (result (operate operator x y) s) (λ z r. store_element at cells n z r))))
+    with_value (result (of x y) s) (λ z r. store_element at cells n z r))))
 
 -- the step of `x++` is taken back from its value: for an int that is the old one (C17 6.5.2.4p2), as a law says
-abbrev pub stepped_back : machine.BinaryOperator → Outcome → Outcome
-stepped_back operator r = with_value r (λ z w. result (operate operator z (pos 1)) w)
+abbrev pub stepped_back : Operation → Outcome → Outcome
+stepped_back of r = with_value r (λ z w. result (of z (pos 1)) w)
 
 abbrev pub one : World → Outcome
 one w = Got (pos 1) w
@@ -95,18 +89,18 @@ abbrev mutual
       with_value (value_of at j w) (λ n u. load_element (at.place a) (at.cells (at.place a)) n u)
   value_of at (Unary operator e) w = with_value (value_of at e w) (λ v u. unary_value operator v u)
   value_of at (Binary a operator b) w =
-      binary_value (form_of operator) (value_of at a w) (λ u. value_of at b u)
+      binary_value (binary_meaning operator) (value_of at a w) (λ u. value_of at b u)
   value_of at (Conditional c a b) w =
       with_value (value_of at c w) (λ v u. if is_zero v then value_of at b u else value_of at a u)
-  value_of at (Assign x operator e) w = assigned (at.place x) (compound_of operator) (λ u. value_of at e u) w
+  value_of at (Assign x operator e) w = assigned (at.place x) (compound_meaning operator) (λ u. value_of at e u) w
   value_of at (AssignElement a j operator e) w =
-      element_assigned (at.place a) (at.cells (at.place a)) (λ u. value_of at j u) (compound_of operator)
+      element_assigned (at.place a) (at.cells (at.place a)) (λ u. value_of at j u) (compound_meaning operator)
       (λ u. value_of at e u) w
   value_of at (Postfix x operator) w =
-      stepped_back (inverse_step_of operator) (assigned (at.place x) (Some (step_of operator)) one w)
+      stepped_back (inverse_step_meaning operator) (assigned (at.place x) (Some (step_meaning operator)) one w)
   value_of at (PostfixElement a j operator) w =
-      stepped_back (inverse_step_of operator) (element_assigned (at.place a) (at.cells (at.place a))
-      (λ u. value_of at j u) (Some (step_of operator)) one w)
+      stepped_back (inverse_step_meaning operator) (element_assigned (at.place a) (at.cells (at.place a))
+      (λ u. value_of at j u) (Some (step_meaning operator)) one w)
   value_of at _ w = meaningless w
 
   pub values_of : Layout → ValuesTree → World → Values
@@ -120,10 +114,10 @@ printed format (FaultyAt f w) = Faulty f w
 
 -- an expression whose value nothing uses; `printf` is one
 abbrev pub effect_of : Layout → ResolvedExpressionTree → World → Outcome
-effect_of at (Postfix x operator) w = assigned (at.place x) (Some (step_of operator)) one w
+effect_of at (Postfix x operator) w = assigned (at.place x) (Some (step_meaning operator)) one w
 effect_of at (PostfixElement a j operator) w =
     element_assigned (at.place a) (at.cells (at.place a))
-    (λ u. value_of at j u) (Some (step_of operator)) one w
+    (λ u. value_of at j u) (Some (step_meaning operator)) one w
 effect_of at (Print format es) w = printed format (values_of at es w)
 effect_of at e w = value_of at e w
 

@@ -1,10 +1,12 @@
 //! Laws of the code of a tree, whoever made it, and of the serial meaning.
 
+ghost use Rattle.om_lower_rules.specs.Layouts.{TrueLayouts};
 ghost use Rattle.om_lower_rules.specs.Laws.{BodyIsLevel, CodeFaults, CodeIsLevel, CodeIsValid, EffectRowsHaveCode};
 ghost use Rattle.om_lower_rules.specs.Laws.{FormatsAreNumbered, FunctionBodies, OneBodyCode, OneCode, RowsHaveCode};
 ghost use Rattle.om_lower_rules.specs.Laws.{StatementRowsHaveCode, ValueRowsHaveCode, WholeHasCode};
 ghost use Rattle.om_lower_rules.specs.MeaningLaws.{ElementGivesOld, IntsStay, IntsStayBehind, PostfixGivesOld};
 ghost use Rattle.om_lower_rules.specs.MeaningLaws.{SerialMeaning, StatementMeans, ValueMeans};
+ghost use Rattle.om_lower_rules.specs.SourceOperators.{BinariesAgree, CompoundsAgree, StepsAgree, UnariesAgree};
 
 /// A tree has at most one code.
 pub fn one_code()
@@ -83,6 +85,23 @@ pub fn serial_meaning()
     function_bodies();
     formats_are_numbered();
 }
+
+/// In each body of the code of a whole tree, two different variables that it names have two different
+/// places, and a global is the global of its number. Each has the cells that are declared. What the
+/// body means asks for no other variables.
+pub fn true_layouts()
+    ensures { TrueLayouts }
+{}
+
+/// What the instruction of an operator gives is what the operator of the source gives, and it meets the
+/// same fault. So it is for operators of one operand and of two, for compound assignments, and for the
+/// step of `x++` and `x--` and what takes it back.
+pub fn operators_agree()
+    ensures binaries { BinariesAgree }
+    ensures unaries { UnariesAgree }
+    ensures compounds { CompoundsAgree }
+    ensures steps { StepsAgree }
+{}
 
 /// The value of `x++`, `x--`, `a[j]++` and `a[j]--` is the old one, where variables hold ints.
 pub fn postfix_gives_old()

@@ -7,7 +7,8 @@
 //!   `laws` has the laws of both: a tree has at most one code, and that of a whole tree is valid where its
 //!   numbers and operands are few enough.
 //! - `specs/Meaning` says what serial code means: expressions and statements without calls and directives.
-//!   `value_means` and `statement_means` are its laws.
+//!   `value_means` and `statement_means` are its laws. `specs/SourceOperators` has what operators give, and
+//!   `specs/Layouts` where variables are.
 //! - `tables` has the tables of a program; `texts` (formats, names of critical regions), `extents` (cells of
 //!   declared variables) and `variables` (of a body, by slots) are what they hold. `body` answers what the
 //!   instructions of a body name by numbers (`BodyTables`).

@@ -18,3 +18,10 @@ returns-clause-means c =
     IfOk-weaker c.lower_input.result _ _
     (λ program code. c.serial_meaning.ensures (view.resolved c.args.resolved.now) program code)
     c.lower_input.ensures.code
+
+pub returns-clause-layout : goal.returns-clause-layout
+returns-clause-layout c =
+    IfOk-weaker c.lower_input.result _ _
+    (λ program code. c.true_layouts.ensures (view.resolved c.args.resolved.now) program c.requires.whole
+    c.requires.copies code)
+    c.lower_input.ensures.code
